@@ -1,0 +1,54 @@
+-- The names that mean something, and what tokens mean.
+use Rattle.std.specs.Prelude.{ℕ, ◌==◌, Bool, true, List, [], codes, bytes_eq, if◌then◌else◌}
+use Rattle.tex_defs.specs.declared.Token.{Token}
+use Rattle.tex_defs.specs.declared.Token.TheVariants as token
+use Rattle.tex_defs.specs.declared.Name.{Name}
+use Rattle.tex_defs.specs.declared.Name.TheVariants.{Word}
+use Rattle.tex_defs.specs.declared.Name.TheVariants as name
+use Rattle.tex_defs.specs.declared.Frozen.TheVariants.{Unknown}
+use Rattle.tex_defs.specs.declared.Meaning.{Meaning}
+use Rattle.tex_defs.specs.declared.Meaning.TheVariants as means
+use Rattle.tex_defs.specs.declared.Seen.{Seen}
+
+-- the numbers of the primitives, as the table of all primitives has them
+abbrev pub end_primitive : ℕ
+end_primitive = 6
+
+abbrev pub message_primitive : ℕ
+message_primitive = 9
+
+abbrev pub catcode_primitive : ℕ
+catcode_primitive = 35
+
+-- A name of two or more characters. One that isn't entered is met and undefined.
+abbrev pub word : List ℕ → Name
+word bytes =
+    if bytes_eq bytes (codes "end") then Word end_primitive
+    else if bytes_eq bytes (codes "message") then Word message_primitive
+    else if bytes_eq bytes (codes "catcode") then Word catcode_primitive
+    else name.Frozen Unknown
+
+-- the characters of a name, by its number
+abbrev pub spelling_of : ℕ → List ℕ
+spelling_of number =
+    if number == end_primitive then codes "end"
+    else if number == message_primitive then codes "message"
+    else if number == catcode_primitive then codes "catcode"
+    else []
+
+abbrev pub is_primitive : ℕ → Bool
+is_primitive number = if number == end_primitive then true else if number == message_primitive then true else number == catcode_primitive
+
+abbrev pub name_meaning : Name → Meaning Unit
+name_meaning (Word number) = if is_primitive number then means.Prim number else means.Undefined
+name_meaning n = means.Undefined
+
+abbrev pub meaning : Token → Meaning Unit
+meaning (token.Char category c) = means.Char category c
+meaning (token.Named name) = name_meaning name
+meaning (token.Marked name) = name_meaning name
+meaning t = means.Undefined
+
+-- a token with what it means now
+abbrev pub seen : Token → Seen
+seen t = record { token = t; meaning = meaning t }
