@@ -1,0 +1,5 @@
+use Rattle.plain_machine.proofs.Sums.{joined, parted}
+use Rattle.plain_machine.proofs.sums_of_steps.Goals as goal
+
+pub returns : goal.returns
+returns c = λ s j k ms t. (parted s j k ms t, joined s j k ms t)

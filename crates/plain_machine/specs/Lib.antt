@@ -1,0 +1,6 @@
+pub mod Plan
+pub mod Runs
+pub mod Does
+pub mod Words
+pub mod Meaning
+pub mod Rows

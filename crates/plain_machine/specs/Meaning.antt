@@ -1,0 +1,114 @@
+-- What the program writes and answers, by the plain machine.
+use Rattle.std.specs.Prelude.{◌≡◌, ℕ, ◌+◌, ◌≤◌, List, [], ◌∷◌, ◌++◌, Option, Some, None, take, length, codes, decimal, ◌⊎◌}
+use Rattle.tex_defs.specs.declared.Fatal.TheVariants.{NotBuilt}
+use Rattle.tex_defs.specs.Places.{World, Rose, Transcript, File, Untold, NotHeld, Holds}
+use Rattle.plain_state.specs.Categories.{initial_categories}
+use Rattle.plain_state.specs.States.{State, Move, Written, Outcome, Finished, AtFatal}
+use Rattle.plain_machine.specs.Plan.{fresh_line, first_state}
+use Rattle.plain_machine.specs.Runs.{Trace, NeedsStep, Wrote}
+use Rattle.plain_machine.specs.Does.{Why, IsFault, IsWant, IsLost, CutAt}
+use Rattle.plain_machine.specs.Words.{Command, Init, NoCommand}
+
+-- the steps that a run may take
+abbrev pub step_bound : ℕ
+step_bound = 10000000
+
+-- THE STOP LINES
+
+abbrev pub usage_line : List ℕ
+usage_line = codes "usage: texmac init FILE, run --fmt NAME FILE, drill SEED SIZE\n"
+
+abbrev pub steps_line : ℕ → List ℕ
+steps_line n = codes "! Step limit reached [steps=" ++ (decimal n ++ codes "].\n")
+
+abbrev pub read_fault_line : List ℕ
+read_fault_line = codes "! Read fault.\n"
+
+abbrev pub write_fault_line : List ℕ
+write_fault_line = codes "! Write fault.\n"
+
+abbrev pub no_memory_line : List ℕ
+no_memory_line = codes "! Out of memory.\n"
+
+-- A stop line on a fresh line: the first of its bytes, and all of them unless a write of them failed or wanted memory.
+pub record Line (w w' : World) (line : List ℕ) : Type 0 where
+  pub count : ℕ
+  pub written : Wrote w w' (Written Transcript (take count (fresh_line w.in_line ++ line)) ∷ [])
+  pub whole : (length (fresh_line w.in_line ++ line) ≤ count) ⊎ (Rose w.sink_faults w'.sink_faults ⊎ Rose w.sink_wants w'.sink_wants)
+
+-- THE RUN
+
+-- INITEX's first state, with the job's file opened where it is held
+abbrev pub First : Option (List ℕ) → State
+First job = first_state initial_categories job
+
+-- The machine's whole run ended so, and all that it writes is written.
+pub record Whole (s : State) (n : ℕ) (w w' : World) (o : Outcome) : Type 0 where
+  pub ms : List Move
+  pub t : State
+  pub trace : Trace s n ms t
+  pub stopped : t.stopped ≡ Some o
+  pub written : Wrote w w' ms
+
+-- The machine took n steps and needs one more. All that it writes is written, and then the stop line.
+pub record OutOfSteps (s : State) (n : ℕ) (w w' : World) : Type 0 where
+  pub ms : List Move
+  pub t : State
+  pub between : World
+  pub trace : Trace s n ms t
+  pub needs : NeedsStep t
+  pub written : Wrote w between ms
+  pub last : Line between w' (steps_line n)
+
+-- A moment of the run is written, of its next move at most a front in that one place, and then a stop line.
+pub record CutShort (s : State) (n : ℕ) (w w' : World) (why : Why) (line : List ℕ) : Type 0 where
+  pub between : World
+  pub cut : CutAt s n w between why
+  pub last : Line between w' line
+
+-- Nothing of the run is written, and then a stop line.
+pub record NotBegun (w w' : World) (line : List ℕ) : Type 0 where
+  pub between : World
+  pub written : Wrote w between []
+  pub last : Line between w' line
+
+-- The exit statuses.
+pub data Status : ℕ → Type 0 where
+  IsFinished : Status 0
+  IsFatal : Status 2
+  IsSteps : Status 4
+  IsReadFault : Status 5
+  IsWriteFault : Status 6
+  IsNoMemory : Status 7
+
+-- What a status says of a run from s of at most n steps.
+abbrev pub Says : State → ℕ → World → World → (status : ℕ) → Status status → Type 0
+Says s n w w' _ IsFinished = Whole s n w w' Finished
+Says s n w w' _ IsFatal = Whole s n w w' (AtFatal NotBuilt)
+Says s n w w' _ IsSteps = OutOfSteps s n w w'
+Says s n w w' _ IsReadFault = NotBegun w w' read_fault_line
+Says s n w w' _ IsWriteFault = CutShort s n w w' IsFault write_fault_line
+Says s n w w' _ IsNoMemory = CutShort s n w w' IsWant no_memory_line ⊎ (CutShort s n w w' IsLost no_memory_line ⊎ NotBegun w w' no_memory_line)
+
+-- what is told of the job's file may be this
+abbrev pub IsJob : File → Option (List ℕ) → Type 0
+IsJob Untold job = Unit {0}
+IsJob NotHeld job = job ≡ None
+IsJob (Holds bytes) job = job ≡ Some bytes
+
+-- The run of a job's file: of a file that is told the machine's run, of another the machine's run over some content.
+pub record MeansRun (file : File) (n : ℕ) (w w' : World) (status : ℕ) : Type 0 where
+  pub job : Option (List ℕ)
+  pub is_job : IsJob file job
+  pub is : Status status
+  pub says : Says (First job) n w w' status is
+
+-- Words that are no command: the usage line alone.
+pub record MeansUsage (w w' : World) (status : ℕ) : Type 0 where
+  pub is : status ≡ 9
+  pub line : Line w w' usage_line
+
+-- What the program writes and answers for its words.
+abbrev pub Means : Command → (List ℕ → File) → ℕ → World → World → ℕ → Type 0
+Means (Init name) file n w w' status = MeansRun (file name) n w w' status
+Means NoCommand file n w w' status = MeansUsage w w' status

@@ -1,0 +1,90 @@
+-- Runs of the machine, and what they write.
+use Rattle.std.specs.Prelude.{◌≡◌, ◌⊎◌, ℕ, ◌+◌, ◌≤◌, Bool, List, [], ◌∷◌, ◌++◌, if◌then◌else◌}
+use Rattle.tex_defs.specs.Places.{Place, Transcript, File, World, Later, is_at, grown}
+use Rattle.plain_state.specs.States.{State, Move, Handed, Taken, Feeds, Put, SetCategoryOf, Written, Begun, BegunWith, Ended, Stopped, made, column_after}
+use Rattle.plain_machine.specs.Plan.{Ends, Goes, next}
+
+-- a token handed on and a line taken are the steps
+abbrev pub step_of : Move → ℕ
+step_of (Handed t) = 1
+step_of (Taken line) = 1
+step_of m = 0
+
+abbrev pub steps : List Move → ℕ
+steps [] = 0
+steps (m ∷ ms) = step_of m + steps ms
+
+-- what a move makes of what stands at a place
+abbrev pub changed : Move → Place → File → File
+changed (Written q bs) p f = if is_at p q then grown f bs else f
+changed m p f = f
+
+abbrev pub after : List Move → Place → File → File
+after [] p f = f
+after (m ∷ ms) p f = after ms p (changed m p f)
+
+-- and of the transcript's column
+abbrev pub column_changed : Move → Bool → Bool
+column_changed (Written q bs) b = column_after q b bs
+column_changed m b = b
+
+abbrev pub columns_after : List Move → Bool → Bool
+columns_after [] b = b
+columns_after (m ∷ ms) b = columns_after ms (column_changed m b)
+
+-- what stands everywhere is what these moves have written
+pub record Wrote (w w' : World) (ms : List Move) : Type 0 where
+  pub told : (p : Place) → w'.at p ≡ after ms p (w.at p)
+  pub column : w'.in_line ≡ columns_after ms w.in_line
+  pub later : Later w w'
+
+-- the machine makes these moves from s and is then at t
+abbrev pub Moves : State → List Move → State → Type 0
+Moves s [] t = s ≡ t
+Moves s (m ∷ ms) t = (u : State) × ((next s ≡ Goes m u) × Moves u ms t)
+
+-- its next move is a step
+abbrev pub NeedsStep : State → Type 0
+NeedsStep t = (m : Move) × ((u : State) × ((next t ≡ Goes m u) × (step_of m ≡ 1)))
+
+-- the machine's run of at most k steps: to its end, or to where it needs one step more
+pub record Trace (s : State) (k : ℕ) (ms : List Move) (t : State) : Type 0 where
+  pub moves : Moves s ms t
+  pub within : steps ms ≤ k
+  pub whole : (next t ≡ Ends) ⊎ ((steps ms ≡ k) × NeedsStep t)
+
+pub record Same (ms ms' : List Move) (t t' : State) : Type 0 where
+  pub moves : ms ≡ ms'
+  pub state : t ≡ t'
+
+-- the state after these moves, which are made one after another
+abbrev pub all_made : List Move → State → State
+all_made [] s = s
+all_made (m ∷ ms) s = all_made ms (made m (record s { due = ms }))
+
+-- a run of s within k steps
+pub record HasRun (s : State) (k : ℕ) : Type 0 where
+  pub ms : List Move
+  pub t : State
+  pub trace : Trace s k ms t
+
+-- a run of s within j steps, and one of k steps from where it led, which are these moves
+pub record TwoRuns (s : State) (j k : ℕ) (ms : List Move) (t : State) : Type 0 where
+  pub first : List Move
+  pub between : State
+  pub second : List Move
+  pub moves : ms ≡ first ++ second
+  pub before : Trace s j first between
+  pub behind : Trace between k second t
+
+-- two runs of one state with one bound are equal
+abbrev pub RunsAreOne : Type 0
+RunsAreOne = (s : State) (k : ℕ) (ms ms' : List Move) (t t' : State) → Trace s k ms t → Trace s k ms' t' → Same ms ms' t t'
+
+abbrev pub EachHasRun : Type 0
+EachHasRun = (s : State) (k : ℕ) → HasRun s k
+
+abbrev pub SumsOfSteps : Type 0
+SumsOfSteps =
+    (s : State) (j k : ℕ) (ms : List Move) (t : State) →
+    (Trace s (j + k) ms t → TwoRuns s j k ms t) × (TwoRuns s j k ms t → Trace s (j + k) ms t)
