@@ -35,3 +35,6 @@ first_line_usual = codes "\\catcode`\\{=1 \\catcode`\\}=2 \\catcode`\\#=6 \\catc
 
 abbrev pub Writes : List ℕ → List ℕ → Outcome → Type 0
 Writes file text outcome = ((job_of file).text ≡ text) × ((job_of file).stopped ≡ Some outcome)
+
+abbrev pub Runs : List ℕ → List ℕ → ℕ → Outcome → Type 0
+Runs file text steps outcome = Writes file text outcome × ((job_of file).steps ≡ steps)

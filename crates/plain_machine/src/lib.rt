@@ -3,9 +3,10 @@
 //! Everything here is definition. The functions have no bodies: their contracts are laws.
 #![tactic(auto)]
 
-ghost use Rattle.std.specs.Prelude.{codes, ◌++◌};
-ghost use Rattle.plain_state.specs.States.{Finished};
-ghost use Rattle.plain_machine.specs.Rows.{Writes, first_line_usual};
+ghost use Rattle.std.specs.Prelude.{codes, ◌++◌, ◌∷◌, []};
+ghost use Rattle.tex_defs.specs.declared.Fatal.TheVariants.{NotBuilt};
+ghost use Rattle.plain_state.specs.States.{Finished, AtFatal};
+ghost use Rattle.plain_machine.specs.Rows.{Writes, Runs as RunsSo, first_line_usual};
 ghost use Rattle.plain_machine.specs.Runs.{RunsAreOne, EachHasRun, SumsOfSteps};
 
 /// Two runs of one state with one bound are equal: their moves, and the state to which they lead.
@@ -26,8 +27,27 @@ pub fn sums_of_steps()
 {
 }
 
-/// The machine run on small files: what it writes, and how it ends.
+/// The machine run on small files: what it writes, the steps it takes, and how it ends.
 pub fn worked_rows()
-    ensures hi { Writes (first_line_usual ++ codes "\\message{hi}\\end\n") (codes "hi\n") Finished }
+    ensures usual { RunsSo (first_line_usual ++ codes "\\end\n") (codes "") 31 Finished }
+    ensures hi { RunsSo (first_line_usual ++ codes "\\message{hi}\\end\n") (codes "hi\n") 36 Finished }
+    ensures letter { Writes (first_line_usual ++ codes "\\message{hi}x\\end\n") (codes "hi\n! Not built yet.\n") (AtFatal NotBuilt) }
+    ensures empty { RunsSo [] (codes "! Not built yet.\n") 2 (AtFatal NotBuilt) }
+    ensures no_end { Writes (first_line_usual ++ codes "\\message{hi}%\n") (codes "hi\n! Not built yet.\n") (AtFatal NotBuilt) }
+    ensures two { Writes (first_line_usual ++ codes "\\message{a}%\n\\message{b}%\n\\end") (codes "a b\n") Finished }
+    ensures blank { Writes (first_line_usual ++ codes "\\message{a}\n\\end\n") (codes "a\n! Not built yet.\n") (AtFatal NotBuilt) }
+    ensures carriage_returns { Writes (codes "\\catcode`\\{=1 \\catcode`\\}=2 \r\n\\message{x}%\r\n\\end \r\n") (codes "x\n") Finished }
+    ensures long_text { Writes (first_line_usual ++ codes "\\message{a  \n\tb{c\n}d{}}\\end\n") (codes "a ^^Ib{c }d{}\n") Finished }
+    ensures octal { Writes (codes "\\catcode'173='1\\catcode\"7D=\"2\\message{o}\\end") (codes "o\n") Finished }
+    ensures signs { Writes (codes "\\catcode - -123 1\\catcode`}+2 \\message{s}\\end") (codes "s\n") Finished }
+    ensures shown { Writes (first_line_usual ++ codes "\\message{#^%\n\\end\\message a\\catcode 1}\\end\n") (codes "##^\\end \\message a\\catcode 1\n") Finished }
+    ensures active { Writes (first_line_usual ++ codes "\\catcode`\\~=13 \\message{a~}\\end\n") (codes "! Not built yet.\n") (AtFatal NotBuilt) }
+    ensures ignored { Writes (first_line_usual ++ codes "\\catcode`\\x=9 \\message{axbx}\\end\n") (codes "ab\n") Finished }
+    ensures comment { Writes (first_line_usual ++ codes "\\catcode`\\x=14 \\message{a}xb\n\\end\n") (codes "a\n") Finished }
+    ensures other_escape { Writes (first_line_usual ++ codes "\\catcode`\\|=0 |message{|end}|end\n") (codes "\\end \n") Finished }
+    ensures null_printed { Writes (codes "\\catcode`\\{=1 \\catcode`\\}=2 \\catcode0=12 \\message{" ++ (0 ∷ 255 ∷ 127 ∷ [])) (codes "! Not built yet.\n") (AtFatal NotBuilt) }
+    ensures line_feed_printed { Writes (codes "\\catcode`\\{=1 \\catcode`\\}=2 \\catcode0=12 \\message{a" ++ (0 ∷ 255 ∷ codes "}\\end")) (codes "a\n^^ff\n") Finished }
+    ensures too_great { Writes (codes "\\catcode2147483648=1 ") (codes "! Not built yet.\n") (AtFatal NotBuilt) }
+    ensures no_category { Writes (codes "\\catcode`\\x=16 ") (codes "! Not built yet.\n") (AtFatal NotBuilt) }
 {
 }

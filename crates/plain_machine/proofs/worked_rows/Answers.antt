@@ -5,4 +5,25 @@ use Rattle.plain_machine.proofs.worked_rows.Goals as goal
 
 pub returns : goal.returns
 unfolding job_of run_of initial_categories
-returns c = record { hi = (refl, refl) }
+returns c = record {
+  usual = ((refl, refl), refl);
+  hi = ((refl, refl), refl);
+  letter = (refl, refl);
+  empty = ((refl, refl), refl);
+  no_end = (refl, refl);
+  two = (refl, refl);
+  blank = (refl, refl);
+  carriage_returns = (refl, refl);
+  long_text = (refl, refl);
+  octal = (refl, refl);
+  signs = (refl, refl);
+  shown = (refl, refl);
+  active = (refl, refl);
+  ignored = (refl, refl);
+  comment = (refl, refl);
+  other_escape = (refl, refl);
+  null_printed = (refl, refl);
+  line_feed_printed = (refl, refl);
+  too_great = (refl, refl);
+  no_category = (refl, refl);
+}
