@@ -6,7 +6,7 @@ use Rattle.plain_state.specs.Categories.{initial_categories}
 use Rattle.plain_state.specs.States.{State, Move, Written, Outcome, Finished, AtFatal}
 use Rattle.plain_machine.specs.Plan.{fresh_line, first_state}
 use Rattle.plain_machine.specs.Runs.{Trace, NeedsStep, Wrote}
-use Rattle.plain_machine.specs.Does.{Why, IsFault, IsWant, IsLost, CutAt}
+use Rattle.plain_machine.specs.Does.{Why, IsFault, IsWant, CutAt, MomentWritten}
 use Rattle.plain_machine.specs.Words.{Command, Init, NoCommand}
 
 -- the steps that a run may take
@@ -66,6 +66,12 @@ pub record CutShort (s : State) (n : ℕ) (w w' : World) (why : Why) (line : Lis
   pub cut : CutAt s n w between why
   pub last : Line between w' line
 
+-- A moment of the run is written, and then a stop line.
+pub record AtMoment (s : State) (n : ℕ) (w w' : World) (line : List ℕ) : Type 0 where
+  pub between : World
+  pub moment : MomentWritten s n w between
+  pub last : Line between w' line
+
 -- Nothing of the run is written, and then a stop line.
 pub record NotBegun (w w' : World) (line : List ℕ) : Type 0 where
   pub between : World
@@ -88,7 +94,7 @@ Says s n w w' _ IsFatal = Whole s n w w' (AtFatal NotBuilt)
 Says s n w w' _ IsSteps = OutOfSteps s n w w'
 Says s n w w' _ IsReadFault = NotBegun w w' read_fault_line
 Says s n w w' _ IsWriteFault = CutShort s n w w' IsFault write_fault_line
-Says s n w w' _ IsNoMemory = CutShort s n w w' IsWant no_memory_line ⊎ (CutShort s n w w' IsLost no_memory_line ⊎ NotBegun w w' no_memory_line)
+Says s n w w' _ IsNoMemory = CutShort s n w w' IsWant no_memory_line ⊎ AtMoment s n w w' no_memory_line
 
 -- what is told of the job's file may be this
 abbrev pub IsJob : File → Option (List ℕ) → Type 0

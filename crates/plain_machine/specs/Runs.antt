@@ -62,6 +62,11 @@ abbrev pub all_made : List Move → State → State
 all_made [] s = s
 all_made (m ∷ ms) s = all_made ms (made m (record s { due = ms }))
 
+-- the state after these moves, but for what is due
+abbrev pub made_all : List Move → State → State
+made_all [] s = s
+made_all (m ∷ ms) s = made_all ms (made m s)
+
 -- a run of s within k steps
 pub record HasRun (s : State) (k : ℕ) : Type 0 where
   pub ms : List Move

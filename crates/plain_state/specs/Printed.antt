@@ -1,5 +1,6 @@
 -- How characters and tokens are printed.
 use Rattle.std.specs.Prelude.{ℕ, ◌+◌, ◌-◌, ◌/◌, ◌%◌, ◌==◌, List, [], ◌∷◌, ◌++◌, nat_lt, codes, slice_index, if◌then◌else◌}
+use Rattle.std.specs.List.{flat_map}
 use Rattle.tex_defs.specs.declared.Token.{Token}
 use Rattle.tex_defs.specs.declared.Token.TheVariants.{Char, Named, Marked, Place, Number, EndPlaces}
 use Rattle.tex_defs.specs.declared.Name.{Name}
@@ -34,8 +35,7 @@ printed c =
     else double_hat c
 
 abbrev pub printed_all : List ℕ → List ℕ
-printed_all [] = []
-printed_all (c ∷ cs) = printed c ++ printed_all cs
+printed_all cs = flat_map printed cs
 
 -- A space behind a name as a list shows it, but for a name of one character that isn't a letter now.
 abbrev pub space_behind : List ℕ → ℕ → List ℕ
@@ -59,5 +59,4 @@ shown categories (Number n) = []
 shown categories EndPlaces = codes "->"
 
 abbrev pub shown_all : List ℕ → List Token → List ℕ
-shown_all categories [] = []
-shown_all categories (t ∷ ts) = shown categories t ++ shown_all categories ts
+shown_all categories ts = flat_map (shown categories) ts

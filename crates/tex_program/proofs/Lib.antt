@@ -1,0 +1,13 @@
+pub mod LineRests
+pub mod LineEnds
+pub mod InputLetters
+pub mod InputHeads
+pub mod InputPulls
+pub mod InputReady
+pub mod ScanSigns
+pub mod Columns
+pub mod Feeding
+pub mod Writing
+pub mod Ruling
+pub mod Stepping
+pub mod Running

@@ -1,0 +1,13 @@
+pub mod Sees
+pub mod Resumes
+pub mod Weights
+pub mod Bounds
+pub mod Reads
+pub mod Views
+pub mod Lexes
+pub mod Begins
+pub mod Stands
+pub mod Rules
+pub mod Steps
+pub mod Ran
+pub mod Faults

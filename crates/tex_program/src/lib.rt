@@ -1,0 +1,14 @@
+//! The program over any files and sink: `top`, and for now the engine below it.
+#![tactic(auto)]
+
+mod broken;
+mod engine;
+mod frame;
+mod input;
+mod lexer;
+mod lines;
+mod meaning;
+mod print;
+mod reactions;
+mod scan;
+mod text;

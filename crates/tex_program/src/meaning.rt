@@ -1,0 +1,58 @@
+// What tokens mean, and how names are spelt.
+ghost use Rattle.std.specs.Prelude.{◌≡◌};
+ghost use Rattle.plain_state.specs.Names as names;
+
+use tex_defs::{Meaning, Name, Seen, Token};
+
+pub const END: u16 = 6;
+
+pub const MESSAGE: u16 = 9;
+
+pub const CATCODE: u16 = 35;
+
+/// What a name means.
+fn name_meaning(name: Name) -> Meaning<()>
+    ensures { result ≡ names.name_meaning name }
+{
+    match name {
+        Name::Word(number) if number == END || number == MESSAGE || number == CATCODE => {
+            Meaning::Prim(number)
+        }
+        _ => Meaning::Undefined,
+    }
+}
+
+/// What a token means.
+fn meaning_of(token: Token) -> Meaning<()>
+    ensures { result ≡ names.meaning token }
+{
+    match token {
+        Token::Char { cat, code } => Meaning::Char { cat, code },
+        Token::Named(name) => name_meaning(name),
+        Token::Marked(name) => name_meaning(name),
+        _ => Meaning::Undefined,
+    }
+}
+
+/// A token with what it means now.
+pub fn seen(token: Token) -> Seen
+    ensures { result ≡ names.seen token }
+{
+    let meaning = meaning_of(token);
+    Seen { token, meaning }
+}
+
+/// The characters of a name, by its number.
+pub fn spelling(number: u16) -> &'static [u8]
+    ensures { result.now ≡ names.spelling_of number }
+{
+    if number == END {
+        b"end"
+    } else if number == MESSAGE {
+        b"message"
+    } else if number == CATCODE {
+        b"catcode"
+    } else {
+        b""
+    }
+}
