@@ -1,0 +1,3 @@
+pub mod Lexes
+pub mod Views
+pub mod Reads
