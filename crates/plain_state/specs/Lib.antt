@@ -6,3 +6,5 @@ pub mod Names
 pub mod Pending
 pub mod Readings
 pub mod States
+pub mod LineLaws
+pub mod LexLaws

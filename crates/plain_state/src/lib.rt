@@ -1,2 +1,8 @@
 //! The plain machine's parts: what a reader has to believe of tokens, lines, readings and printed text.
 #![tactic(auto)]
+
+mod laws;
+
+pub use laws::{
+    lexing_consumes, lines_are_the_file, lines_come_in_turn, names_are_longest_runs, names_are_read,
+};

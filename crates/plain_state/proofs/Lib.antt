@@ -1,0 +1,4 @@
+pub mod LineEnds
+pub mod LineCuts
+pub mod LineRuns
+pub mod LexRuns

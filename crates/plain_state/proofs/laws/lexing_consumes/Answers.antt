@@ -1,0 +1,5 @@
+use Rattle.plain_state.proofs.LexRuns.{less}
+use Rattle.plain_state.proofs.laws.lexing_consumes.Goals as goal
+
+pub returns : goal.returns
+returns c = less

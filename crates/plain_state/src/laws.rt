@@ -1,0 +1,28 @@
+// Laws of the lines and of the lexer: the functions have no bodies, their contracts are the laws.
+ghost use Rattle.plain_state.specs.LexLaws.{LexingConsumes, NamesAreLongestRuns, NamesAreRead};
+ghost use Rattle.plain_state.specs.LineLaws.{LinesAreTheFile, LinesComeInTurn};
+
+/// The lines of a file, each with the spaces behind it and its ending, are the whole file, and no other lines are.
+pub fn lines_are_the_file()
+    ensures { LinesAreTheFile }
+{}
+
+/// The first line of a file, and then the lines of what is behind it, are its lines.
+pub fn lines_come_in_turn()
+    ensures { LinesComeInTurn }
+{}
+
+/// A name of letters is the longest run of letters.
+pub fn names_are_longest_runs()
+    ensures { NamesAreLongestRuns }
+{}
+
+/// A name written behind an escape character is read back as that name.
+pub fn names_are_read()
+    ensures { NamesAreRead }
+{}
+
+/// What the lexer leaves of a line is a shorter end of it.
+pub fn lexing_consumes()
+    ensures { LexingConsumes }
+{}
