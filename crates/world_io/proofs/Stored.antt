@@ -2,7 +2,7 @@ use Rattle.std.proofs.Common.{rules, ◌≡◌, ℕ, zero, suc, ◌<◌, List, [
 use Rattle.std.specs.Prelude.{bytes_eq, if◌then◌else◌}
 use Rattle.std.proofs.lemmas.Slice.Eq.{bytes_eq-Decides}
 use Rattle.std.proofs.lemmas.Grind.{common_steps}
-use Rattle.tex_defs.specs.Places.{File, Untold, NotHeld, Holds, grown}
+use Rattle.tex_defs.specs.Places.{File, Untold, NotHeld, Holds, grown, emptied}
 use Rattle.world_io.specs.declared.store.Held.{Held}
 use Rattle.world_io.specs.Store.{look_up, Skips, IsFirst}
 
@@ -93,3 +93,15 @@ look_up_unheld hs name piece e n =
 pub look_up_put : (hs : List Held) (name bytes : List ℕ) (i : ℕ) (h0 h : Held) → i < length hs → Skips hs name i → h0 ≡ get_or hs i h0 → h0.name ≡ name → h.name ≡ name → h.bytes ≡ bytes → (n : List ℕ) → look_up (set hs i h) n ≡ (if bytes_eq n name then Holds bytes else look_up hs n)
 look_up_put hs name bytes i h0 h lt s e e0 e1 eb n =
     subst (λ (b : List ℕ). look_up (set hs i h) n ≡ (if bytes_eq n name then Holds b else look_up hs n)) eb (look_up_set hs name i h0 h lt s e e0 e1 n)
+
+emptied_held : (b : Bool) (bytes : List ℕ) (f : File) → emptied f ≡ Holds [] → emptied (if b then Holds bytes else f) ≡ Holds []
+emptied_held true bytes f e = refl
+emptied_held false bytes f e = e
+
+always_told : (hs : List Held) (n : List ℕ) → emptied (look_up hs n) ≡ Holds []
+always_told [] n = refl
+always_told (h ∷ hs) n = emptied_held (bytes_eq n h.name) h.bytes (look_up hs n) (always_told hs n)
+
+-- an empty file stands under the name
+pub look_up_empty : (hs hs' : List Held) (name n : List ℕ) → look_up hs' n ≡ (if bytes_eq n name then Holds [] else look_up hs n) → look_up hs' n ≡ (if bytes_eq n name then emptied (look_up hs n) else look_up hs n)
+look_up_empty hs hs' name n e = e ∙ ap (λ (f : File). if bytes_eq n name then f else look_up hs n) (sym (always_told hs n))

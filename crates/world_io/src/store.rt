@@ -1,6 +1,6 @@
 // The files in memory.
 ghost use Rattle.std.specs.Prelude.{◌≡◌, ◌<◌, ℕ, List, [], bytes_eq, if◌then◌else◌, MatchOption, OnOk, OnErr};
-ghost use Rattle.tex_defs.specs.Places.{NotHeld, Holds, grown};
+ghost use Rattle.tex_defs.specs.Places.{NotHeld, Holds, grown, emptied};
 ghost use Rattle.world_io.specs.Store.{look_up, IsFirst};
 
 use crate::text::Text;
@@ -29,7 +29,7 @@ impl Model for Store {
     ghost view = { λ s. s.files.items };
 }
 
-#[tactic(auto, using(crate::proofs::Stored::look_up_none, crate::proofs::Stored::look_up_first, crate::proofs::Stored::look_up_put, crate::proofs::Stored::look_up_push, crate::proofs::Stored::look_up_append, crate::proofs::Stored::look_up_unheld))]
+#[tactic(auto, using(crate::proofs::Stored::look_up_none, crate::proofs::Stored::look_up_first, crate::proofs::Stored::look_up_put, crate::proofs::Stored::look_up_push, crate::proofs::Stored::look_up_append, crate::proofs::Stored::look_up_unheld, crate::proofs::Stored::look_up_empty))]
 impl Store {
     pub(crate) fn new(alloc: Global) -> Self
         ensures { result ≡ [] }
@@ -72,6 +72,14 @@ impl Store {
             }
         }
         Ok(())
+    }
+
+    /// Leaves an empty file of this name.
+    pub(crate) fn empty(&mut self, alloc: Global, name: &[u8]) -> Result<(), AllocError>
+        ensures ok { OnOk result ((n : List ℕ) → look_up self.new n ≡ (if bytes_eq n name.now then emptied (look_up self.old n) else look_up self.old n)) }
+        ensures err { OnErr result (self.new ≡ self.old) }
+    {
+        self.put(alloc, name, b"")
     }
 
     /// Writes the piece behind the bytes of the file of this name, if there is one.
