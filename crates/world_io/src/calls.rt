@@ -1,19 +1,10 @@
 // The calls on memory that are to fail.
-ghost use Rattle.std.specs.Prelude.{◌≡◌, ◌≤◌, [], ◌++◌, ◌∷◌, OnOk, OnErr};
-ghost use Rattle.tex_defs.specs.Places.{Rose};
-ghost use Rattle.world_io.specs.Calls.{Plan, one_more_than, counted, fails_next};
+ghost use Rattle.std.specs.Prelude.{◌≡◌, [], ◌++◌, ◌∷◌, OnOk, OnErr};
+ghost use Rattle.world_io.specs.Calls.{Plan, counted, fails_next};
 
+use crate::counts::one_more;
 use std::alloc::{AllocError, Global};
 use std::marker::Model;
-
-/// One more, but for a count at its last value, which stands still.
-pub(crate) fn one_more(count: u64) -> u64
-    ensures value { result ≡ one_more_than count }
-    ensures rose { Rose count result }
-    ensures later { count ≤ result }
-{
-    count.saturating_add(1)
-}
 
 /// How many calls were made, and the numbers of those that are to fail, the first call being 1.
 #[derive(Drop)]

@@ -2,8 +2,12 @@
 #![tactic(auto)]
 
 mod calls;
+mod counts;
 mod mem_files;
 mod mem_sink;
+mod numbers;
+mod real_files;
+mod real_sink;
 mod store;
 mod text;
 mod traits;
@@ -11,5 +15,7 @@ mod whole;
 
 pub use mem_files::MemFiles;
 pub use mem_sink::MemSink;
+pub use real_files::RealFiles;
+pub use real_sink::RealSink;
 pub use traits::{Fault, Files, InId, OutId, Sink};
 pub use whole::{Unfinished, read_file, write_all, write_file};

@@ -1,8 +1,7 @@
 // Files in memory.
-ghost use Rattle.std.specs.Prelude.{◌≡◌, ℕ, Some, None, nat_eq, if◌then◌else◌, IfOk, OnErr};
-ghost use Rattle.slab.specs.Slab.{get};
-
-use crate::calls::{Calls, one_more};
+use crate::calls::Calls;
+use crate::counts::raise;
+use crate::numbers::place;
 use crate::store::Store;
 use crate::text::{Reader, Text};
 use crate::{Fault, Files, InId, OutId};
@@ -147,15 +146,11 @@ impl Files for MemFiles {
         ensures plan { files_plan self.new ≡ counted (files_plan self.old) }
     {
         if self.calls.begin() {
-            self.read_faults = one_more(self.read_faults);
-            return Err(Fault::Failed);
+            return Err(raise(Fault::Failed, &mut self.read_faults, &mut self.wants));
         }
         match self.open_reader(name) {
             Ok(reader) => Ok(reader),
-            Err(_) => {
-                self.wants = one_more(self.wants);
-                Err(Fault::NoMemory)
-            }
+            Err(_) => Err(raise(Fault::NoMemory, &mut self.read_faults, &mut self.wants)),
         }
     }
 
@@ -171,8 +166,7 @@ impl Files for MemFiles {
         ensures plan { files_plan self.new ≡ counted (files_plan self.old) }
     {
         if self.calls.begin() {
-            self.read_faults = one_more(self.read_faults);
-            return Err(Fault::Failed);
+            return Err(raise(Fault::Failed, &mut self.read_faults, &mut self.wants));
         }
         Ok(self.readers[id.number as usize].take(piece))
     }
@@ -195,15 +189,11 @@ impl Files for MemFiles {
         ensures plan { files_plan self.new ≡ counted (files_plan self.old) }
     {
         if self.calls.begin() {
-            self.write_faults = one_more(self.write_faults);
-            return Err(Fault::Failed);
+            return Err(raise(Fault::Failed, &mut self.write_faults, &mut self.wants));
         }
         match self.open_writer(name) {
             Ok(writer) => Ok(writer),
-            Err(_) => {
-                self.wants = one_more(self.wants);
-                Err(Fault::NoMemory)
-            }
+            Err(_) => Err(raise(Fault::NoMemory, &mut self.write_faults, &mut self.wants)),
         }
     }
 
@@ -219,15 +209,11 @@ impl Files for MemFiles {
         ensures plan { files_plan self.new ≡ counted (files_plan self.old) }
     {
         if self.calls.begin() {
-            self.write_faults = one_more(self.write_faults);
-            return Err(Fault::Failed);
+            return Err(raise(Fault::Failed, &mut self.write_faults, &mut self.wants));
         }
         match self.append(id, piece) {
             Ok(()) => Ok(piece.len()),
-            Err(_) => {
-                self.wants = one_more(self.wants);
-                Err(Fault::NoMemory)
-            }
+            Err(_) => Err(raise(Fault::NoMemory, &mut self.write_faults, &mut self.wants)),
         }
     }
 
@@ -239,18 +225,4 @@ impl Files for MemFiles {
     {
         self.writers.remove(id.number as usize);
     }
-}
-
-#[tactic(auto, using(crate::proofs::Places::updates_at))]
-/// Gives the value the number of a free place.
-fn place<T: Drop>(slab: &mut Slab<T>, value: T) -> Result<u32, AllocError>
-    ensures vacant { IfOk result (λ n. get slab.old n ≡ None) }
-    ensures placed { IfOk result (λ n. (i : ℕ) → get slab.new i ≡ (if nat_eq i n then Some value else get slab.old i)) }
-    ensures err { OnErr result (slab.new.slots ≡ slab.old.slots) }
-{
-    let Ok(number) = u32::try_from(slab.vacant_key()) else {
-        return Err(AllocError);
-    };
-    slab.insert(value)?;
-    Ok(number)
 }

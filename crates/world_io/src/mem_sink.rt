@@ -1,5 +1,6 @@
 // A sink in memory.
-use crate::calls::{Calls, one_more};
+use crate::calls::Calls;
+use crate::counts::raise;
 use crate::text::Text;
 use crate::{Fault, Sink};
 use std::alloc::{AllocError, Global};
@@ -73,12 +74,10 @@ impl Sink for MemSink {
         ensures plan { sink_plan self.new ≡ counted (sink_plan self.old) }
     {
         if self.calls.begin() {
-            self.faults = one_more(self.faults);
-            return Err(Fault::Failed);
+            return Err(raise(Fault::Failed, &mut self.faults, &mut self.wants));
         }
         if self.bytes.append(piece).is_err() {
-            self.wants = one_more(self.wants);
-            return Err(Fault::NoMemory);
+            return Err(raise(Fault::NoMemory, &mut self.faults, &mut self.wants));
         }
         Ok(piece.len())
     }
