@@ -20,6 +20,8 @@ pub(crate) fn raise(fault: Fault, faults: &mut u64, wants: &mut u64) -> Fault
     ensures same { result ≡ fault }
     ensures failed { fault ≡ Fault.Failed → Rose faults.old faults.new }
     ensures wanted { fault ≡ Fault.NoMemory → Rose wants.old wants.new }
+    ensures no_want { fault ≡ Fault.Failed → wants.new ≡ wants.old }
+    ensures no_fault { fault ≡ Fault.NoMemory → faults.new ≡ faults.old }
     ensures later { faults.old ≤ faults.new }
     ensures later_wants { wants.old ≤ wants.new }
 {

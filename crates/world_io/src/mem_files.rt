@@ -128,7 +128,7 @@ impl MemFiles {
 }
 
 impl Files for MemFiles {
-    ghost use Rattle.std.specs.Prelude.{◌≡◌, ◌<◌, ◌≤◌, ◌↔◌, ℕ, List, length, take, true, Some, IfOk, OnErr, IfNone, IfSome, IsSome, IsErrOf, IsTrue};
+    ghost use Rattle.std.specs.Prelude.{◌≡◌, ◌<◌, ◌≤◌, ◌↔◌, ℕ, List, length, take, true, Some, IfOk, OnOk, OnErr, IfNone, IfSome, IsSome, IsErrOf, IsTrue};
     ghost use Rattle.world_io.specs.Calls.{counted, fails_next};
     ghost use Rattle.world_io.specs.Told.{HasCause, SameFiles, SameCounts, Grew, NotFound, OpensReader, ClosesReader, OpensWriter, ClosesWriter, ReadFrom, IsAtEnd};
     ghost use Rattle.world_io.specs.Memory.{files_told, files_plan};
@@ -142,6 +142,7 @@ impl Files for MemFiles {
         ensures err { OnErr result (SameFiles (files_told self.old) (files_told self.new)) }
         ensures writes { (files_told self.new).write_faults ≡ (files_told self.old).write_faults }
         ensures cause { HasCause (files_told self.old).read_faults (files_told self.new).read_faults (files_told self.old).wants (files_told self.new).wants result }
+        ensures calm { OnOk result (SameCounts (files_told self.old) (files_told self.new)) }
         ensures fails { IsErrOf result Fault.Failed ↔ IsTrue (fails_next (files_plan self.old)) }
         ensures plan { files_plan self.new ≡ counted (files_plan self.old) }
     {
@@ -162,6 +163,7 @@ impl Files for MemFiles {
         ensures err { OnErr result (SameFiles (files_told self.old) (files_told self.new)) }
         ensures writes { (files_told self.new).write_faults ≡ (files_told self.old).write_faults }
         ensures cause { HasCause (files_told self.old).read_faults (files_told self.new).read_faults (files_told self.old).wants (files_told self.new).wants result }
+        ensures calm { OnOk result (SameCounts (files_told self.old) (files_told self.new)) }
         ensures fails { IsErrOf result Fault.Failed ↔ IsTrue (fails_next (files_plan self.old)) }
         ensures plan { files_plan self.new ≡ counted (files_plan self.old) }
     {
@@ -185,6 +187,7 @@ impl Files for MemFiles {
         ensures err { OnErr result (SameFiles (files_told self.old) (files_told self.new)) }
         ensures reads { (files_told self.new).read_faults ≡ (files_told self.old).read_faults }
         ensures cause { HasCause (files_told self.old).write_faults (files_told self.new).write_faults (files_told self.old).wants (files_told self.new).wants result }
+        ensures calm { OnOk result (SameCounts (files_told self.old) (files_told self.new)) }
         ensures fails { IsErrOf result Fault.Failed ↔ IsTrue (fails_next (files_plan self.old)) }
         ensures plan { files_plan self.new ≡ counted (files_plan self.old) }
     {
@@ -205,6 +208,7 @@ impl Files for MemFiles {
         ensures err { OnErr result (SameFiles (files_told self.old) (files_told self.new)) }
         ensures reads { (files_told self.new).read_faults ≡ (files_told self.old).read_faults }
         ensures cause { HasCause (files_told self.old).write_faults (files_told self.new).write_faults (files_told self.old).wants (files_told self.new).wants result }
+        ensures calm { OnOk result (SameCounts (files_told self.old) (files_told self.new)) }
         ensures fails { IsErrOf result Fault.Failed ↔ IsTrue (fails_next (files_plan self.old)) }
         ensures plan { files_plan self.new ≡ counted (files_plan self.old) }
     {

@@ -56,7 +56,7 @@ impl MemSink {
 }
 
 impl Sink for MemSink {
-    ghost use Rattle.std.specs.Prelude.{◌≡◌, ◌<◌, ◌≤◌, ◌↔◌, length, take, IfOk, OnErr, IsErrOf, IsTrue};
+    ghost use Rattle.std.specs.Prelude.{◌≡◌, ◌<◌, ◌≤◌, ◌↔◌, length, take, IfOk, OnOk, OnErr, IsErrOf, IsTrue};
     ghost use Rattle.tex_defs.specs.Places.{grown};
     ghost use Rattle.world_io.specs.Calls.{counted, fails_next};
     ghost use Rattle.world_io.specs.Told.{HasCause};
@@ -70,6 +70,7 @@ impl Sink for MemSink {
         ensures written { IfOk result (λ n. (sink_told self.new).bytes ≡ grown (sink_told self.old).bytes (take n piece.now)) }
         ensures err { OnErr result ((sink_told self.new).bytes ≡ (sink_told self.old).bytes) }
         ensures cause { HasCause (sink_told self.old).faults (sink_told self.new).faults (sink_told self.old).wants (sink_told self.new).wants result }
+        ensures calm { OnOk result (((sink_told self.new).faults ≡ (sink_told self.old).faults) × ((sink_told self.new).wants ≡ (sink_told self.old).wants)) }
         ensures fails { IsErrOf result Fault.Failed ↔ IsTrue (fails_next (sink_plan self.old)) }
         ensures plan { sink_plan self.new ≡ counted (sink_plan self.old) }
     {
