@@ -1,2 +1,4 @@
 pub mod Fronts
+pub mod Places
 pub mod Reading
+pub mod Stored

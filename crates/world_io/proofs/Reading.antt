@@ -3,7 +3,7 @@ use Rattle.std.specs.Prelude.{Option, Some, None, option_map, nat_eq, if◌then�
 use Rattle.std.proofs.lemmas.List.{append-nil, take-append-drop}
 use Rattle.std.proofs.lemmas.Grind.{common_steps}
 use Rattle.tex_defs.specs.Places.{File, Untold, NotHeld, Holds}
-use Rattle.world_io.specs.Told.{FilesTold, SameFiles, OpensReader, ClosesReader, ReadFrom, OnlyReads, SoFar, IsAll, IsContent, IsAtEnd, HasFront, MayHold, content}
+use Rattle.world_io.specs.Told.{FilesTold, SameFiles, OpensReader, OpensWriter, ClosesReader, ReadFrom, OnlyReads, SoFar, IsAll, IsContent, IsAtEnd, HasFront, MayHold, content}
 
 pub so_far_none : (rest : Option (List ℕ)) → SoFar rest [] rest
 so_far_none None = refl
@@ -76,3 +76,6 @@ all_content (Holds b) bytes m h = h
 pub opened_content : (id : ℕ) (name bytes : List ℕ) (f f' : FilesTold) → OpensReader id name f f' → IsAll (f'.rest id) bytes → IsContent (f.file name) bytes
 opened_content id name bytes f f' o h =
     all_content (f.file name) bytes o.held (subst (λ (x : Option (List ℕ)). IsAll x bytes) (o.rest id ∙ same_id id _ _) h)
+
+pub still_writing : (id : ℕ) (name : List ℕ) (f f' : FilesTold) → OpensWriter id name f f' → f'.writer id ≡ Some name
+still_writing id name f f' o = o.writer id ∙ same_id id _ _

@@ -68,6 +68,33 @@ pub record GrewFront (name bytes : List ℕ) (f f' : FilesTold) : Type 0 where
   pub count : ℕ
   pub grew : Grew name (take count bytes) f f'
 
+-- these are the bytes of the file of this name, and nothing else has changed
+pub record Puts (name bytes : List ℕ) (f f' : FilesTold) : Type 0 where
+  pub file : (n : List ℕ) → f'.file n ≡ (if bytes_eq n name then Holds bytes else f.file n)
+  pub reading : (i : ℕ) → f'.reading i ≡ f.reading i
+  pub rest : (i : ℕ) → f'.rest i ≡ f.rest i
+  pub writer : (i : ℕ) → f'.writer i ≡ f.writer i
+
+-- no name is held, nothing is open, and no count has risen
+pub record IsEmpty (f : FilesTold) : Type 0 where
+  pub file : (n : List ℕ) → f.file n ≡ NotHeld
+  pub reading : (i : ℕ) → f.reading i ≡ false
+  pub rest : (i : ℕ) → f.rest i ≡ None
+  pub writer : (i : ℕ) → f.writer i ≡ None
+  pub read_faults : f.read_faults ≡ 0
+  pub write_faults : f.write_faults ≡ 0
+  pub wants : f.wants ≡ 0
+
+-- no content is told, nothing is open, and no count has risen
+pub record IsFresh (f : FilesTold) : Type 0 where
+  pub file : (n : List ℕ) → f.file n ≡ Untold
+  pub reading : (i : ℕ) → f.reading i ≡ false
+  pub rest : (i : ℕ) → f.rest i ≡ None
+  pub writer : (i : ℕ) → f.writer i ≡ None
+  pub read_faults : f.read_faults ≡ 0
+  pub write_faults : f.write_faults ≡ 0
+  pub wants : f.wants ≡ 0
+
 -- no file of this name is told to be held
 abbrev pub NotFound : File → Type 0
 NotFound Untold = Unit {0}

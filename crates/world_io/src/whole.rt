@@ -40,6 +40,7 @@ pub fn write_file<F: Files>(files: &mut F, id: OutId, bytes: &[u8]) -> Result<()
     ensures written { OnOk result ((name : List ℕ) → (F.told files.old).writer id.number ≡ Some name → Grew name bytes.now (F.told files.old) (F.told files.new)) }
     ensures front { IfErr result (λ e. (name : List ℕ) → (F.told files.old).writer id.number ≡ Some name → Grew name (take e.written bytes.now) (F.told files.old) (F.told files.new)) }
     ensures short { IfErr result (λ e. e.written < length bytes.now) }
+    ensures open { (F.told files.new).writer id.number ≡ (F.told files.old).writer id.number }
     ensures failed { IfErr result (λ e. e.fault ≡ Fault.Failed → Rose (F.told files.old).write_faults (F.told files.new).write_faults) }
     ensures wanted { IfErr result (λ e. e.fault ≡ Fault.NoMemory → Rose (F.told files.old).wants (F.told files.new).wants) }
     ensures reads { (F.told files.new).read_faults ≡ (F.told files.old).read_faults }
