@@ -1,0 +1,5 @@
+pub mod Chains
+pub mod Codes
+pub mod Ids
+pub mod Refusals
+pub mod Table
