@@ -35,7 +35,7 @@ pub last_append : (d p : ℕ) (ps : List ℕ) → last_or d (ps ++ p ∷ []) ≡
 last_append d p [] = refl
 last_append d p (q ∷ ps) = last_append q p ps
 
-last_steps : (cells : List (Option Word)) (h a n : ℕ) → last_or (step cells a h) (map (λ i. step cells (suc i) h) (range_with_len a n)) ≡ step cells (a + n) h
+pub last_steps : (cells : List (Option Word)) (h a n : ℕ) → last_or (step cells a h) (map (λ i. step cells (suc i) h) (range_with_len a n)) ≡ step cells (a + n) h
 last_steps cells h a zero = ap (λ (k : ℕ). step cells k h) (omega arith)
 last_steps cells h a (suc n) =
     let next : suc a ≡ a + 1 = omega arith in

@@ -220,6 +220,39 @@ impl Lists {
         Ok(())
     }
 
+    /// Takes the first token off a list that is being built, and frees its word: the `{` of an argument's outer
+    /// braces, which the value loses (*The TeXbook*, chapter 20).
+    pub fn drop_first(&mut self, build: &mut Build)
+        requires building { IsBuilding self.old build.old }
+        requires some { 0 < length (tokens_at self.old (build_id build.old)) }
+        ensures same { build_id build.new ≡ build_id build.old }
+        ensures building { IsBuilding self.new build.new }
+        ensures after { self.new ≡ slice_set self.old (build_id build.old) (without_first (entry_at self.old (build_id build.old))) }
+    {
+        let first = self.mem.link(build.id);
+        let next = self.mem.link(first);
+        self.mem.set_link(build.id, next);
+        self.mem.give(first);
+        if next == NIL {
+            build.last = build.id;
+        }
+    }
+
+    /// Takes the last token off a list that is being built, and frees its word: the `}` of an argument's outer
+    /// braces. The call walks along the tokens.
+    pub fn drop_last(&mut self, build: &mut Build)
+        requires building { IsBuilding self.old build.old }
+        requires some { 0 < length (tokens_at self.old (build_id build.old)) }
+        ensures same { build_id build.new ≡ build_id build.old }
+        ensures building { IsBuilding self.new build.new }
+        ensures after { self.new ≡ slice_set self.old (build_id build.old) (without_last (entry_at self.old (build_id build.old))) }
+    {
+        let place = before_last(&self.mem, build.id, build.last);
+        self.mem.set_link(place, NIL);
+        self.mem.give(build.last);
+        build.last = place;
+    }
+
     /// The holder of the list that was built. The list keeps its one word though it has no token: whoever builds
     /// a value abandons an empty one.
     pub fn finish(&self, build: Build) -> ListRef
