@@ -1,6 +1,7 @@
 pub mod Builds
 pub mod Chain
 pub mod Copies
+pub mod Counts
 pub mod Shrink
 pub mod Shrunk
 pub mod Sound

@@ -76,7 +76,8 @@ module _ (old new : List (Option Word)) (heads : List (Option Head)) (s : IsSoun
       same_length = same_length;
       frame = λ q taken other. (
         others q (λ at. other (ap s.owner at ∙ chain.owned n (omega arith))) (λ at. other (ap s.owner at ∙ chain.owned (suc n) (omega arith))),
-        refl, refl,
+        refl,
+        refl,
       );
       own_chain = λ f there.
           let it : IsChain new s.owner s.rank h (record { holders = e.holders; len = n; mark = e.mark }) =

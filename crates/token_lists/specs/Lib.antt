@@ -1,3 +1,4 @@
+pub mod Accounts
 pub mod Chains
 pub mod Codes
 pub mod Ids

@@ -8,11 +8,14 @@
 ghost use Rattle.std.specs.Prelude.{◌≡◌, ℕ, ◌+◌, ◌-◌, ◌<◌, ◌≤◌, ◌^◌, ◌≢◌, length, slice_set, slice_get, replicate, MatchResult, IfOk, IfErr, OnOk, OnErr, None, Some, IsSome, ◌↔◌};
 ghost use Rattle.mem_words.specs.Words.{IsTaken};
 ghost use Rattle.token_lists.specs.Table.{entry_at, tokens_at, places_at, holders_at, mark_at, end_at, words, words_of, empty, IsHeld, IsPlace, grown, without_first, without_last, marked, Extends, ExtendsByPart, one_more, one_less};
+ghost use Rattle.token_lists.specs.Accounts.{Moves, none, holds};
 ghost use Rattle.token_lists.specs.Ids.{id_of, build_id, build_end, IsBuilding};
 ghost use Rattle.token_lists.specs.Refusals.{IsFull};
 ghost use Rattle.token_lists.specs.Chains.{noted_at, step, freed, len_of, IsWay};
 
 pub mod codes;
+#[cfg(test)]
+mod tests;
 
 use codes::{decode, encode};
 use mem_words::{Mem, Place};
@@ -162,6 +165,7 @@ impl Lists {
         ensures fresh { IfOk result (λ b. entry_at self.old (build_id b) ≡ None) }
         ensures within { IfOk result (λ b. build_id b < length self.old) }
         ensures ok { IfOk result (λ b. self.new ≡ slice_set self.old (build_id b) (Some empty)) }
+        ensures account { IfOk result (λ b. Moves self.old self.new none (holds (build_id b))) }
         ensures err { OnErr result (self.new ≡ self.old) }
         ensures full { IfErr result (λ f. IsFull f self.old) }
     {
@@ -276,7 +280,8 @@ impl Lists {
     /// Frees all words of a list that was being built.
     pub fn abandon(&mut self, build: Build)
         requires { IsBuilding self.old build }
-        ensures { self.new ≡ slice_set self.old (build_id build) None }
+        ensures after { self.new ≡ slice_set self.old (build_id build) None }
+        ensures account { Moves self.old self.new (holds (build_id build)) none }
     {
         let Build { id, last: _ } = build;
         self.drop_list(id);
@@ -288,6 +293,7 @@ impl Lists {
         requires countable { holders_at self.old (id_of list.now) + 1 < 2 ^ 32 }
         ensures same_list { id_of result ≡ id_of list.now }
         ensures after { self.new ≡ slice_set self.old (id_of list.now) (one_more (entry_at self.old (id_of list.now))) }
+        ensures account { Moves self.old self.new none (holds (id_of list.now)) }
     {
         let holders = self.mem.info(list.id);
         self.mem.set_info(list.id, holders + 1);
@@ -297,7 +303,8 @@ impl Lists {
     /// Lets a holder go. With the last one all words of the list are freed.
     pub fn release(&mut self, list: ListRef)
         requires { IsHeld self.old (id_of list) }
-        ensures { self.new ≡ slice_set self.old (id_of list) (one_less (entry_at self.old (id_of list))) }
+        ensures after { self.new ≡ slice_set self.old (id_of list) (one_less (entry_at self.old (id_of list))) }
+        ensures account { Moves self.old self.new (holds (id_of list)) none }
     {
         let ListRef { id } = list;
         let holders = self.mem.info(id);
@@ -338,7 +345,8 @@ impl Lists {
     /// Changes the list's mark, and no more.
     pub fn set_mark(&mut self, list: &ListRef, mark: u32)
         requires { IsHeld self.old (id_of list.now) }
-        ensures { self.new ≡ slice_set self.old (id_of list.now) (marked mark (entry_at self.old (id_of list.now))) }
+        ensures after { self.new ≡ slice_set self.old (id_of list.now) (marked mark (entry_at self.old (id_of list.now))) }
+        ensures account { Moves self.old self.new none none }
     {
         self.marks[list.id as usize] = Some(mark);
     }

@@ -16,8 +16,7 @@ returns-then-next c =
 
 pub loop-i-preserved : goal.loop-i-preserved
 loop-i-preserved c =
-    let on : c.loop-i._i < len_of c.args.mem.now.cells c.args.first = way_goes c.args.mem.now.cells c.args.first (len_of c.args.mem.now.cells c.args.first) c.requires c.loop-i._i c.loop-i.invariant.2 (λ end. c.if-next.false (c.link-next.ensures ∙ next_is c.args.mem.now.cells c.args.first (len_of c.args.mem.now.cells c.args.first) c.requires c.loop-i.mem.cells c.loop-i._i c.loop-i.place c.loop-i.invariant.2 c.loop-i.invariant.0 c.loop-i.invariant.1 ∙ end)) in
-    (
+    let on : c.loop-i._i < len_of c.args.mem.now.cells c.args.first = way_goes c.args.mem.now.cells c.args.first (len_of c.args.mem.now.cells c.args.first) c.requires c.loop-i._i c.loop-i.invariant.2 (λ end. c.if-next.false (c.link-next.ensures ∙ next_is c.args.mem.now.cells c.args.first (len_of c.args.mem.now.cells c.args.first) c.requires c.loop-i.mem.cells c.loop-i._i c.loop-i.place c.loop-i.invariant.2 c.loop-i.invariant.0 c.loop-i.invariant.1 ∙ end)) in (
       give_more c.args.mem.now.cells c.args.first (len_of c.args.mem.now.cells c.args.first) c.requires c.loop-i.mem.cells c.loop-i._i c.loop-i.place c.loop-i.invariant.2 c.loop-i.invariant.0 c.loop-i.invariant.1 _ c.give.ensures,
       rw add-one (c.link-next.ensures ∙ next_is c.args.mem.now.cells c.args.first (len_of c.args.mem.now.cells c.args.first) c.requires c.loop-i.mem.cells c.loop-i._i c.loop-i.place c.loop-i.invariant.2 c.loop-i.invariant.0 c.loop-i.invariant.1),
       omega (arith, on),
