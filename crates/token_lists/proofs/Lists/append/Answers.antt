@@ -1,4 +1,4 @@
-use Rattle.std.proofs.Common.{◌≡◌, ◌<◌, ◌+◌, arith, length, sym, ap, ◌∙◌, subst, List, Option}
+use Rattle.std.proofs.Common.{◌≡◌, ◌+◌, arith, length, sym, ◌∙◌, subst, List, Option}
 use Rattle.mem_words.specs.declared.Word.{Word}
 use Rattle.token_lists.specs.Table.{Entry, words}
 use Rattle.token_lists.specs.Chains.{step, heads_of, table_of}

@@ -1,8 +1,8 @@
-use Rattle.std.proofs.Common.{◌≡◌, ◌<◌, ℕ, ◌-◌, suc, set, None, Some, Option, refl, sym, ap, ◌∙◌, subst, arith}
+use Rattle.std.proofs.Common.{◌≡◌, ℕ, ◌-◌, suc, set, None, Some, refl, sym, ap, ◌∙◌, subst, arith}
 use Rattle.mem_words.specs.Words.{with_link, link_at, IsTaken}
 use Rattle.token_lists.specs.declared.Build.{Build}
 use Rattle.token_lists.specs.Ids.{IsBuilding}
-use Rattle.token_lists.specs.Chains.{nil, step, heads_of, table_of}
+use Rattle.token_lists.specs.Chains.{step, heads_of, table_of}
 use Rattle.token_lists.proofs.Chain.{head_below}
 use Rattle.token_lists.proofs.Views.{known_head, length_tokens, end_now, keep_sound, keep_now}
 use Rattle.token_lists.proofs.Shrunk.{first_still, first_sound, first_now, none_left, some_left, emptied_building, first_building}

@@ -1,6 +1,5 @@
-use Rattle.std.proofs.Common.{◌≡◌, ◌<◌, ℕ, ◌-◌, suc, set, None, Some, Option, refl, sym, ap, ◌∙◌, subst, arith}
-use Rattle.mem_words.specs.declared.Word.{Word}
-use Rattle.mem_words.specs.Words.{with_link, link_at, IsTaken}
+use Rattle.std.proofs.Common.{◌≡◌, ℕ, ◌-◌, suc, set, None, Some, refl, sym, ap, ◌∙◌, subst, arith}
+use Rattle.mem_words.specs.Words.{with_link, IsTaken}
 use Rattle.token_lists.specs.Chains.{nil, step, heads_of}
 use Rattle.token_lists.proofs.Chain.{head_below, chain_way, chain_len}
 use Rattle.token_lists.proofs.Views.{known_head, length_tokens, end_now, keep_sound, keep_now}
