@@ -1,5 +1,5 @@
 -- What the checker computes over the whole table, and the rule that it gives at each number.
-use Rattle.std.proofs.Common.{◌≡◌, ℕ, zero, suc, ◌+◌, ◌-◌, ◌<◌, ◌≤◌, ◌&&◌, ◌==◌, nat_lt, nat_le, Bool, true, false, not, List, [], ◌∷◌, length, map, replicate, get_or, slice_get, Option, Some, bytes_eq, refl, ap, sym, ◌∙◌, arith}
+use Rattle.std.proofs.Common.{◌≡◌, ℕ, zero, suc, ◌+◌, ◌-◌, ◌<◌, ◌≤◌, ◌&&◌, ◌==◌, nat_lt, nat_le, Bool, true, false, not, List, [], ◌∷◌, length, map, replicate, get_or, slice_get, Some, bytes_eq, refl, ap, sym, ◌∙◌, arith}
 use Rattle.std.specs.List.{range_with_len, IsDistinct, AllByRecursion}
 use Rattle.std.proofs.lemmas.Bool.{false≢true, ltb-true, leb-true, le-leb, eqb-true}
 use Rattle.std.proofs.lemmas.List.{get_or-replicate}
@@ -7,7 +7,7 @@ use Rattle.std.proofs.lemmas.List.FromFn.{get_or-map-range_with_len}
 use Rattle.prim_table.specs.declared.TheConstants.{TEXT, STARTS}
 use Rattle.prim_table.specs.declared.Class.{Class}
 use Rattle.prim_table.specs.declared.Class.TheVariants.{Command, Assignment, Expandable, Conditional, IntegerParameter, DimensionParameter, GlueParameter, TokenParameter}
-use Rattle.prim_table.specs.Words.{words, are_in_place}
+use Rattle.prim_table.specs.Words.{words}
 use Rattle.prim_table.specs.Primitives.{primitive_name, primitive_names, row_of, row_size, class_of, place_of, numbers_before, IsPlaced, command_names, assignment_names, expandable_names, conditional_names, integer_names, dimension_names, glue_names, token_names}
 
 pub table_is : words TEXT.now STARTS ≡ primitive_names

@@ -1,5 +1,5 @@
 -- The primitives: the eight rows of their names, and what their numbers mean.
-use Rattle.std.specs.Prelude.{◌≡◌, ℕ, ◌+◌, ◌-◌, ◌<◌, ◌≤◌, nat_le, List, [], ◌∷◌, ◌++◌, codes, length, slice_index_or, slice_get, Some, if◌then◌else◌}
+use Rattle.std.specs.Prelude.{◌≡◌, ℕ, ◌+◌, ◌-◌, ◌<◌, ◌≤◌, nat_le, List, [], ◌∷◌, ◌++◌, codes, slice_index_or, slice_get, Some, if◌then◌else◌}
 use Rattle.prim_table.specs.declared.Class.{Class}
 use Rattle.prim_table.specs.declared.Class.TheVariants.{Command, Assignment, Expandable, Conditional, IntegerParameter, DimensionParameter, GlueParameter, TokenParameter}
 

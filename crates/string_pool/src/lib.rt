@@ -5,7 +5,7 @@
 //! [`StringPool::new`] takes memory.
 #![tactic(auto)]
 
-ghost use Rattle.std.specs.Prelude.{◌≡◌, ◌+◌, ◌<◌, length, [], ◌∷◌, None, Some, IfOk, IsSome, is_ok, MatchResult, slice_get, if◌then◌else◌};
+ghost use Rattle.std.specs.Prelude.{◌≡◌, ◌+◌, ◌<◌, ◌≤◌, length, [], ◌∷◌, None, Some, IfOk, IsSome, is_ok, MatchResult, slice_get, if◌then◌else◌};
 ghost use Rattle.string_pool.specs.Pieces.{start_of};
 ghost use Rattle.string_pool.specs.Pool.{kept_bytes, append_refusal, close_refusal, begun, with_byte, closed, dropped, empty_pool};
 
@@ -70,7 +70,8 @@ impl StringPool {
     /// Begins a string without bytes.
     pub fn begin_string(&mut self)
         requires { self.old.opened ≡ None }
-        ensures { self.new ≡ begun self.old }
+        ensures after { self.new ≡ begun self.old }
+        ensures fits { kept_bytes self.old ≤ self.old.pool_size }
     {
         self.is_open = true;
     }

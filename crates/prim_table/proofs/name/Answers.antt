@@ -1,6 +1,5 @@
-use Rattle.std.proofs.Common.{arith, ◌≡◌, ◌-◌, ◌+◌, ◌<◌, suc, length, get_or, ap, sym, ◌∙◌, ℕ, List, []}
-use Rattle.prim_table.specs.Primitives.{primitive_name, primitive_names}
-use Rattle.prim_table.specs.Words.{word_at, words}
+use Rattle.std.proofs.Common.{arith, ◌-◌, ◌<◌, suc, get_or, ap, sym, ◌∙◌, ℕ, List, []}
+use Rattle.prim_table.specs.Primitives.{primitive_name}
 use Rattle.prim_table.specs.declared.TheConstants.{TEXT, STARTS}
 use Rattle.prim_table.proofs.Table.{table_is}
 use Rattle.prim_table.proofs.WordLemmas.{word_of}

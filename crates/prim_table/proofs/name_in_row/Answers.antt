@@ -1,5 +1,5 @@
-use Rattle.std.proofs.Common.{arith, ◌≡◌, ◌<◌, ap, sym, ◌∙◌, ℕ, List, Some, slice_get, ◌-◌}
-use Rattle.prim_table.specs.Primitives.{class_of, place_of, row_of, IsPlaced, primitive_name}
+use Rattle.std.proofs.Common.{arith, ◌<◌}
+use Rattle.prim_table.specs.Primitives.{IsPlaced}
 use Rattle.prim_table.proofs.Table.{placed}
 use Rattle.prim_table.proofs.name_in_row.Goals as goal
 

@@ -1,5 +1,4 @@
-use Rattle.std.proofs.Common.{arith, ◌≡◌, ◌+◌, ◌≤◌, ap, ◌∙◌, ℕ}
-use Rattle.prim_table.specs.Primitives.{class_of, numbers_before}
+use Rattle.std.proofs.Common.{arith}
 use Rattle.prim_table.proofs.Table.{class_of-number, number-within}
 use Rattle.prim_table.proofs.number.Goals as goal
 

@@ -1,4 +1,4 @@
-use Rattle.std.proofs.Common.{arith, add-one, refl, List, ◌+◌, ◌≡◌, ◌<◌, suc, length, get_or, ap, ◌∙◌, ℕ}
+use Rattle.std.proofs.Common.{arith, add-one, refl, List, ◌+◌, ◌≡◌, suc, length, get_or, ℕ}
 use Rattle.prim_table.proofs.WordLemmas.{IsInPlace, in_place}
 use Rattle.prim_table.specs.Words.{word_at}
 use Rattle.prim_table.proofs.word.Goals as goal
