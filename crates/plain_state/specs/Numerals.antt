@@ -20,7 +20,7 @@ digits_until (suc more) t d =
     s / 65536 ∷ (if nat_le rest (10 * d) then [] else digits_until more rest (10 * d))
 
 -- the digits of f/65536, f below 65536, from t = 10·f + 5 and d = 10: there are at most 5
-abbrev pub fraction_digits : ℕ → List ℕ
+unfoldable pub fraction_digits : ℕ → List ℕ
 fraction_digits f = digits_until 5 (10 * f + 5) 10
 
 -- n/65536 of a point: the integer part, `.` and the digits of the fraction
