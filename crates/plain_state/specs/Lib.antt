@@ -1,3 +1,4 @@
+<<<<<<< HEAD
 pub mod Categories
 pub mod Printed
 pub mod Lines
@@ -8,3 +9,6 @@ pub mod Readings
 pub mod States
 pub mod LineLaws
 pub mod LexLaws
+=======
+pub mod Numerals
+>>>>>>> 1cda214fd49e7aa541c618b9b760b43fb21994e4
