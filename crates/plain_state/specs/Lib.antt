@@ -1,6 +1,6 @@
-<<<<<<< HEAD
 pub mod Categories
 pub mod Printed
+pub mod Numerals
 pub mod Lines
 pub mod Lex
 pub mod Names
@@ -9,6 +9,3 @@ pub mod Readings
 pub mod States
 pub mod LineLaws
 pub mod LexLaws
-=======
-pub mod Numerals
->>>>>>> 1cda214fd49e7aa541c618b9b760b43fb21994e4
