@@ -11,3 +11,5 @@ pub mod Writing
 pub mod Ruling
 pub mod Stepping
 pub mod Running
+pub mod Extensions
+pub mod Telling

@@ -11,3 +11,4 @@ pub mod Rules
 pub mod Steps
 pub mod Ran
 pub mod Faults
+pub mod Tells

@@ -11,4 +11,6 @@ mod meaning;
 mod print;
 mod reactions;
 mod scan;
+mod tell;
 mod text;
+mod words;
