@@ -1,10 +1,9 @@
 use Rattle.std.proofs.Common.{rules, ◌≡◌, ℕ, zero, suc, ◌<◌, List, [], ◌∷◌, ◌++◌, sym, ap, ◌∙◌, refl, Bool, true, false, arith, length, get_or, set, subst}
 use Rattle.std.specs.Prelude.{bytes_eq, if◌then◌else◌}
 use Rattle.std.proofs.lemmas.Slice.Eq.{bytes_eq-Decides}
-use Rattle.std.proofs.lemmas.Grind.{common_steps}
-use Rattle.tex_defs.specs.Places.{File, Untold, NotHeld, Holds, grown, emptied}
+use Rattle.tex_defs.specs.Places.{File, NotHeld, Holds, grown, emptied}
 use Rattle.world_io.specs.declared.store.Held.{Held}
-use Rattle.world_io.specs.Store.{look_up, Skips, IsFirst}
+use Rattle.world_io.specs.Store.{look_up, Skips}
 
 -- a test of names, turned round
 other_name : (h : Held) (hs : List Held) (name : List ℕ) (m : ℕ) → Skips (h ∷ hs) name (suc m) → bytes_eq name h.name ≡ false
@@ -53,8 +52,8 @@ look_up_set [] name i h0 h lt s e e0 e1 n = absurd (omega arith)
 look_up_set (x ∷ hs) name zero h0 h lt s e e0 e1 n =
     let en : x.name ≡ name = sym (ap (λ (y : Held). y.name) e) ∙ e0 in
     subst (λ (m : List ℕ). look_up (h ∷ hs) n ≡ (if bytes_eq n name then Holds h.bytes else (if bytes_eq n m then Holds x.bytes else look_up hs n))) (sym en)
-      (subst (λ (m : List ℕ). (if bytes_eq n m then Holds h.bytes else look_up hs n) ≡ (if bytes_eq n name then Holds h.bytes else (if bytes_eq n name then Holds x.bytes else look_up hs n))) (sym e1)
-        (pick_same (bytes_eq n name) (Holds h.bytes) (Holds x.bytes) (look_up hs n)))
+    (subst (λ (m : List ℕ). (if bytes_eq n m then Holds h.bytes else look_up hs n) ≡ (if bytes_eq n name then Holds h.bytes else (if bytes_eq n name then Holds x.bytes else look_up hs n))) (sym e1)
+    (pick_same (bytes_eq n name) (Holds h.bytes) (Holds x.bytes) (look_up hs n)))
 look_up_set (x ∷ hs) name (suc i) h0 h lt s e e0 e1 n =
     pick_later (bytes_eq n name) (bytes_eq n x.name) _ _ _ _ (apart n name x.name (other_name x hs name i s)) (look_up_set hs name i h0 h (omega arith) (later x hs name i s) e e0 e1 n)
 
@@ -77,8 +76,8 @@ grown_at false f g bytes piece h e = e
 pub look_up_append : (hs : List Held) (name piece : List ℕ) (i : ℕ) (h0 h : Held) → i < length hs → Skips hs name i → h0 ≡ get_or hs i h0 → h0.name ≡ name → h.name ≡ name → h.bytes ≡ h0.bytes ++ piece → (n : List ℕ) → look_up (set hs i h) n ≡ (if bytes_eq n name then grown (look_up hs n) piece else look_up hs n)
 look_up_append hs name piece i h0 h lt s e e0 e1 eb n =
     grown_at (bytes_eq n name) _ (look_up hs n) h0.bytes piece
-      (λ t. subst (λ (m : List ℕ). look_up hs m ≡ Holds h0.bytes) (sym ((bytes_eq-Decides n name).0 t)) (look_up_first hs name i h0 lt s e e0))
-      (subst (λ (b : List ℕ). look_up (set hs i h) n ≡ (if bytes_eq n name then Holds b else look_up hs n)) eb (look_up_set hs name i h0 h lt s e e0 e1 n))
+    (λ t. subst (λ (m : List ℕ). look_up hs m ≡ Holds h0.bytes) (sym ((bytes_eq-Decides n name).0 t)) (look_up_first hs name i h0 lt s e e0))
+    (subst (λ (b : List ℕ). look_up (set hs i h) n ≡ (if bytes_eq n name then Holds b else look_up hs n)) eb (look_up_set hs name i h0 h lt s e e0 e1 n))
 
 grown_unheld : (b : Bool) (f : File) (piece : List ℕ) → (b ≡ true → f ≡ NotHeld) → f ≡ (if b then grown f piece else f)
 grown_unheld true f piece h = h refl ∙ sym (ap (λ (x : File). grown x piece) (h refl))

@@ -1,5 +1,5 @@
 -- What files and a sink in memory tell: all that they hold.
-use Rattle.std.specs.Prelude.{ℕ, Bool, List, Option, is_some}
+use Rattle.std.specs.Prelude.{is_some}
 use Rattle.slab.specs.Slab.{get}
 use Rattle.tex_defs.specs.Places.{Holds}
 use Rattle.world_io.specs.declared.mem_files.MemFiles.{MemFiles}

@@ -1,5 +1,5 @@
 -- Files in memory: a list of names and bytes, of which the first of a name counts.
-use Rattle.std.specs.Prelude.{◌≡◌, ◌<◌, ℕ, Bool, false, List, [], ◌∷◌, length, bytes_eq, slice_index_or, if◌then◌else◌}
+use Rattle.std.specs.Prelude.{◌≡◌, ◌<◌, ℕ, false, List, [], ◌∷◌, length, bytes_eq, slice_index_or, if◌then◌else◌}
 use Rattle.tex_defs.specs.Places.{File, NotHeld, Holds}
 use Rattle.world_io.specs.declared.store.Held.{Held}
 

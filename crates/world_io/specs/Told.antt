@@ -85,6 +85,16 @@ pub record IsEmpty (f : FilesTold) : Type 0 where
   pub write_faults : f.write_faults ≡ 0
   pub wants : f.wants ≡ 0
 
+-- no content is told, nothing is open, and no count has risen
+pub record IsFresh (f : FilesTold) : Type 0 where
+  pub file : (n : List ℕ) → f.file n ≡ Untold
+  pub reading : (i : ℕ) → f.reading i ≡ false
+  pub rest : (i : ℕ) → f.rest i ≡ None
+  pub writer : (i : ℕ) → f.writer i ≡ None
+  pub read_faults : f.read_faults ≡ 0
+  pub write_faults : f.write_faults ≡ 0
+  pub wants : f.wants ≡ 0
+
 -- no file of this name is told to be held
 abbrev pub NotFound : File → Type 0
 NotFound Untold = Unit {0}

@@ -212,7 +212,8 @@ impl Files for MemFiles {
         ensures fails { IsErrOf result Fault.Failed ↔ IsTrue (fails_next (files_plan self.old)) }
         ensures plan { files_plan self.new ≡ counted (files_plan self.old) }
     {
-        if self.calls.begin() {
+        let fails = self.calls.begin();
+        if fails {
             return Err(raise(Fault::Failed, &mut self.write_faults, &mut self.wants));
         }
         match self.append(id, piece) {

@@ -5,9 +5,8 @@ use crate::text::Text;
 use crate::{Fault, Files, InId, OutId};
 use slab::Slab;
 use std::alloc::Global;
-use std::fs;
 use std::io::{ErrorKind, Read, Write};
-use std::rt;
+use std::{fs, rt};
 
 /// An open file and its name.
 #[derive(Drop)]
@@ -29,7 +28,11 @@ pub struct RealFiles<'a, R: rt::Files> {
 }
 
 impl<'a, R: rt::Files + AllocGlobal> RealFiles<'a, R> {
-    pub fn new(rt: &'a R) -> Self {
+    ghost use Rattle.world_io.specs.Told.{IsFresh};
+
+    pub fn new(rt: &'a R) -> Self
+        ensures { IsFresh (⟦<RealFiles<'a, R> as Files>⟧.told result) }
+    {
         RealFiles {
             rt,
             alloc: rt.alloc(),
@@ -45,7 +48,7 @@ impl<'a, R: rt::Files + AllocGlobal> RealFiles<'a, R> {
 impl<R: rt::Files> RealFiles<'_, R> {
     ghost use Rattle.std.specs.Prelude.{◌≡◌, IfOk};
 
-    /// Makes an empty file of this name, and room for its writer.
+    /// Makes an empty file of this name.
     fn create(&self, name: &[u8]) -> Result<Writer<R::File>, Fault>
         ensures { IfOk result (λ w. w.name ≡ name.now) }
     {
@@ -96,11 +99,7 @@ impl<R: rt::Files> Files for RealFiles<'_, R> {
     fn read(&mut self, id: InId, piece: &mut [u8]) -> Result<usize, Fault> {
         match self.readers[id.number as usize].read(piece) {
             Ok(n) => Ok(n),
-            Err(error) => Err(raise(
-                fault_of(&error),
-                &mut self.read_faults,
-                &mut self.wants,
-            )),
+            Err(error) => Err(raise(fault_of(&error), &mut self.read_faults, &mut self.wants)),
         }
     }
 
