@@ -5,4 +5,5 @@ use Rattle.cs_hash.proofs.tests.refuses_in_order.Given as goal
 abbrev pub invariant-loop-name : goal.invariant-loop-name
 invariant-loop-name g l = record {
   knows : Knows l.hash l.pool.kept;
-  closed : l.pool.opened ≡ None }
+  closed : l.pool.opened ≡ None;
+}
