@@ -1,13 +1,13 @@
 -- What entering a name keeps and changes.
-use Rattle.std.proofs.Common.{◌≡◌, ◌≢◌, ℕ, zero, suc, ◌+◌, ◌-◌, ◌*◌, ◌<◌, ◌≤◌, ◌==◌, nat_lt, map, Bool, true, false, List, [], ◌∷◌, ◌++◌, length, get_or, set, Option, Some, None, Ok, Err, Result, ◌⊎◌, refl, ap, sym, ◌∙◌, subst, eq-eqb, arith, inl, inr, if◌then◌else◌}
+use Rattle.std.proofs.Common.{◌≡◌, ◌≢◌, ℕ, zero, suc, ◌+◌, ◌<◌, ◌≤◌, ◌==◌, nat_lt, map, Bool, true, false, List, [], ◌∷◌, ◌++◌, length, get_or, set, Option, Some, None, Ok, Err, Result, ◌⊎◌, refl, ap, sym, ◌∙◌, subst, eq-eqb, arith, inl, inr, if◌then◌else◌}
 use Rattle.std.proofs.lemmas.Bool.{cases_lt}
 use Rattle.std.proofs.lemmas.List.{length-append, get_or_append_left, get_or_push, length_push, map_push}
 use Rattle.tex_defs.specs.declared.Full.{Full}
 use Rattle.tex_defs.specs.declared.Table.TheVariants.{PoolSize, NumberOfStrings, HashSize}
 use Rattle.string_pool.specs.Pool.{Pool, kept_bytes}
 use Rattle.cs_hash.specs.Names.{Names, string_at, entered, number_of, Knows}
-use Rattle.cs_hash.specs.Index.{slot_at, Leads}
-use Rattle.cs_hash.specs.Entry.{IsEntered, IsVacant, Enters, Stays, Gains, string_refusal, hash_refusal, entry_refusal, with_string}
+use Rattle.cs_hash.specs.Index.{Leads}
+use Rattle.cs_hash.specs.Entry.{IsEntered, IsVacant, Enters, hash_refusal, entry_refusal, with_string}
 use Rattle.cs_hash.proofs.Paths.{Leads-set, Leads-new, not_there, absent, present}
 
 abbrev as_ok : ℕ → Result ℕ Full

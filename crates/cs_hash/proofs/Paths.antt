@@ -1,11 +1,11 @@
 -- The way of a search, before and after a number was put into a vacant slot; numbers and names.
-use Rattle.std.proofs.Common.{◌≡◌, ◌≢◌, ℕ, zero, suc, ◌+◌, ◌-◌, ◌*◌, ◌<◌, ◌≤◌, Bool, true, false, List, [], ◌∷◌, ◌++◌, length, map, get_or, set, slice_index, Option, Some, None, bytes_eq, refl, ap, sym, ◌∙◌, subst, arith, ◌⊎◌, inl, inr}
-use Rattle.std.proofs.lemmas.List.{get_or-set_other, get_or-set_same, get_or-map, length-map, get_or_append_left}
+use Rattle.std.proofs.Common.{◌≡◌, ◌≢◌, ℕ, zero, suc, ◌+◌, ◌-◌, ◌*◌, ◌<◌, ◌≤◌, true, false, List, [], ◌∷◌, length, get_or, set, Some, None, bytes_eq, refl, ap, sym, ◌∙◌, subst, arith, ◌⊎◌, inl, inr}
+use Rattle.std.proofs.lemmas.List.{get_or-set_other, get_or-set_same, get_or-map, length-map}
 use Rattle.std.proofs.lemmas.Slice.Eq.{bytes_eq-Decides}
 use Rattle.std.proofs.lemmas.Bool.{cases_lt, false≢true}
 use Rattle.cs_hash.specs.Names.{Names, string_at, entered, number_from, number_of, Knows}
 use Rattle.cs_hash.specs.Entry.{IsVacant, IsEntered}
-use Rattle.cs_hash.specs.Index.{slot_at, bucket_of, turn_of, Leads, IsTable}
+use Rattle.cs_hash.specs.Index.{slot_at, turn_of, Leads}
 
 -- a write into a vacant slot changes no way that passes no vacant slot
 pub slot_at-set : (size : ℕ) (index name : List ℕ) (s v depth : ℕ) → get_or index s 0 ≡ 0 → ((i : ℕ) → i < depth → get_or index (slot_at size index name i) 0 ≢ 0) → slot_at size (set index s v) name depth ≡ slot_at size index name depth

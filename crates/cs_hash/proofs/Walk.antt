@@ -1,11 +1,11 @@
 -- The steps of a search.
-use Rattle.std.proofs.Common.{◌≡◌, ◌≢◌, ℕ, zero, suc, ◌+◌, ◌-◌, ◌*◌, ◌<◌, ◌≤◌, List, [], subst, length, get_or, slice_index, Option, Some, slice_get, refl, ap, sym, ◌∙◌, arith, add-one, inl, inr}
+use Rattle.std.proofs.Common.{◌≡◌, ◌≢◌, ℕ, suc, ◌+◌, ◌-◌, ◌*◌, ◌<◌, ◌≤◌, List, [], subst, length, get_or, slice_index, Some, slice_get, refl, ap, sym, ◌∙◌, arith, add-one, inl, inr}
 use Rattle.std.proofs.lemmas.Bool.{cases_eq}
 use Rattle.std.proofs.lemmas.List.{get_or_read}
 use Rattle.std.proofs.lemmas.Option.{get_or_from_slice_get}
 use Rattle.cs_hash.specs.Names.{Names, string_at}
 use Rattle.cs_hash.specs.Index.{slot_at, bucket_of, turn_of, IsTable}
-use Rattle.cs_hash.specs.Entry.{IsAt, IsEntered}
+use Rattle.cs_hash.specs.Entry.{IsAt}
 
 pub at_start : (hash : Names) (kept : List (List ℕ)) (name : List ℕ) (slot : ℕ) → slot ≡ bucket_of name hash.hash_size → slot < hash.hash_size → IsAt hash kept name slot 0
 unfolding slot_at

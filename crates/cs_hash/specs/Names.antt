@@ -1,5 +1,5 @@
 -- The names that were entered, in order: of each the number of its string, and the table that finds them.
-use Rattle.std.specs.Prelude.{◌≡◌, ℕ, zero, suc, ◌+◌, ◌-◌, ◌<◌, ◌≤◌, List, [], ◌∷◌, length, map, slice_index, slice_index_or, Option, Some, None, bytes_eq, if◌then◌else◌}
+use Rattle.std.specs.Prelude.{◌≡◌, ℕ, suc, ◌<◌, List, [], ◌∷◌, length, map, slice_index, slice_index_or, Option, Some, None, bytes_eq, if◌then◌else◌}
 use Rattle.cs_hash.specs.Index.{Leads}
 
 -- `index` is the table inside, of which `Knows` alone speaks

@@ -1,4 +1,4 @@
-use Rattle.std.proofs.Common.{◌≡◌, ◌<◌, Option, None, Some, sym, ◌∙◌, ap, arith}
+use Rattle.std.proofs.Common.{◌≡◌, Option, Some, sym, ◌∙◌, ap, arith}
 use Rattle.tex_defs.specs.declared.Full.{Full}
 use Rattle.string_pool.specs.Pool.{Pool}
 use Rattle.cs_hash.specs.Entry.{string_refusal, entry_refusal}

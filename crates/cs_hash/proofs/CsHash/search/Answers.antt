@@ -1,8 +1,6 @@
-use Rattle.std.proofs.Common.{◌≡◌, ◌≢◌, ◌+◌, ◌-◌, ◌*◌, ◌<◌, ◌≤◌, ℕ, List, length, subst, ap, sym, ◌∙◌, arith, slice_index}
-use Rattle.std.specs.Prelude.{vec_capacity}
-use Rattle.cs_hash.specs.Names.{Names, string_at}
-use Rattle.cs_hash.specs.Index.{IsTable, bucket_of}
-use Rattle.cs_hash.specs.Entry.{IsAt, IsEntered}
+use Rattle.std.proofs.Common.{◌≡◌, ◌≢◌, ℕ, ap, sym, ◌∙◌, arith}
+use Rattle.cs_hash.specs.Names.{Names}
+use Rattle.cs_hash.specs.Index.{bucket_of}
 use Rattle.cs_hash.proofs.Paths.{bytes_from, bytes_apart}
 use Rattle.cs_hash.proofs.Walk.{at_start, at_next, IsRead, is_read, table_seen}
 use Rattle.cs_hash.proofs.CsHash.search.Goals as goal

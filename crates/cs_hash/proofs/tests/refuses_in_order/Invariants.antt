@@ -3,6 +3,7 @@ use Rattle.cs_hash.specs.Names.{Knows}
 use Rattle.cs_hash.proofs.tests.refuses_in_order.Given as goal
 
 abbrev pub invariant-loop-name : goal.invariant-loop-name
-invariant-loop-name l = record {
+invariant-loop-name g l = record {
   knows : Knows l.hash l.pool.kept;
-  closed : l.pool.opened ≡ None }
+  closed : l.pool.opened ≡ None;
+}
