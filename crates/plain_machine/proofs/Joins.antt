@@ -38,7 +38,7 @@ pub next_plan : (s : State) (m : Move) (ms : List Move) → s.due ≡ [] → pla
 unfolding next
 next_plan s m ms e f = rw e (rw f refl)
 
-moves_due : (s : State) (ms : List Move) → s.due ≡ ms → Moves s ms (all_made ms s)
+pub moves_due : (s : State) (ms : List Move) → s.due ≡ ms → Moves s ms (all_made ms s)
 moves_due s [] e = refl
 moves_due s (m ∷ ms) e = (_, (next_due s m ms e, moves_due (made m (record s { due = ms })) ms (due_kept m (record s { due = ms }))))
 
@@ -55,11 +55,11 @@ all_due_kept : (ms : List Move) (s : State) → (made_all ms s).due ≡ s.due
 all_due_kept [] s = refl
 all_due_kept (m ∷ ms) s = all_due_kept ms (made m s) ∙ due_kept m s
 
-all_made_due : (ms : List Move) (s : State) → all_made ms (record s { due = ms }) ≡ record (made_all ms s) { due = [] }
+pub all_made_due : (ms : List Move) (s : State) → all_made ms (record s { due = ms }) ≡ record (made_all ms s) { due = [] }
 all_made_due [] s = refl
 all_made_due (m ∷ ms) s = ap (all_made ms) (made_due m s ms) ∙ all_made_due ms (made m s)
 
-due_none : (s : State) → s.due ≡ [] → record s { due = [] } ≡ s
+pub due_none : (s : State) → s.due ≡ [] → record s { due = [] } ≡ s
 due_none s e = ap (λ (x : List Move). record s { due = x }) (sym e)
 
 all_made_is : (ms : List Move) (s : State) → s.due ≡ [] → all_made ms s ≡ made_all ms s
@@ -78,7 +78,7 @@ pub record Moment (s : State) (done : List Move) (m : Move) : Type 0 where
   pub moves : Moves s done t
   pub goes : next t ≡ Goes m u
 
-moment_due : (s : State) (done : List Move) (m : Move) (rest : List Move) → s.due ≡ done ++ m ∷ rest → Moment s done m
+pub moment_due : (s : State) (done : List Move) (m : Move) (rest : List Move) → s.due ≡ done ++ m ∷ rest → Moment s done m
 moment_due s [] m rest e = record { t = s; u = _; moves = refl; goes = next_due s m rest e }
 moment_due s (d ∷ ds) m rest e =
     let u : State = made d (record s { due = ds ++ m ∷ rest }) in

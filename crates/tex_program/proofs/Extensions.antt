@@ -30,7 +30,7 @@ has_if d false xs ys = refl
 pub dotted_on : (b : Bool) (c : ℕ) (cs : List ℕ) → dotted b (c ∷ cs) ≡ dotted (dot_after b c) cs
 dotted_on b c cs =
     ap (λ (x : Bool). if (if c == 47 then true else has 47 cs) then x else (b || (if c == 46 then true else has 46 cs)))
-      (has_if 46 (has 47 cs) (behind_area cs) (if c == 47 then cs else c ∷ cs) ∙ ap (λ (y : Bool). if has 47 cs then has 46 (behind_area cs) else y) (has_if 46 (c == 47) cs (c ∷ cs)))
+    (has_if 46 (has 47 cs) (behind_area cs) (if c == 47 then cs else c ∷ cs) ∙ ap (λ (y : Bool). if has 47 cs then has 46 (behind_area cs) else y) (has_if 46 (c == 47) cs (c ∷ cs)))
     ∙ by_tests (c == 47) (c == 46) (has 47 cs) b (has 46 (behind_area cs)) (has 46 cs)
 
 -- a name without a `/` is behind its area

@@ -13,3 +13,4 @@ pub mod Stepping
 pub mod Running
 pub mod Extensions
 pub mod Telling
+pub mod Meanings

@@ -1,5 +1,5 @@
 -- A stop line, whole or cut off.
-use Rattle.std.proofs.Common.{◌≡◌, inl, inr, ℕ, ◌≤◌, List, ◌++◌, sym, ◌∙◌, arith, take, length}
+use Rattle.std.proofs.Common.{◌≡◌, inl, inr, ℕ, ◌≤◌, List, ◌++◌, refl, sym, ◌∙◌, arith, take, length}
 use Rattle.std.specs.Prelude.{Bool}
 use Rattle.std.proofs.lemmas.List.{take_all}
 use Rattle.tex_defs.specs.Places.{Rose, grown}

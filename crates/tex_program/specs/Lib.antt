@@ -12,3 +12,4 @@ pub mod Steps
 pub mod Ran
 pub mod Faults
 pub mod Tells
+pub mod Says

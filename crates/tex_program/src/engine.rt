@@ -420,13 +420,7 @@ fn last_text(in_line: bool, outcome: Outcome) -> &'static [u8]
     ensures { result.now ≡ text_at_halt in_line outcome }
 {
     match outcome {
-        Outcome::Finished => {
-            if in_line {
-                b"\n"
-            } else {
-                b""
-            }
-        }
+        Outcome::Finished => { if in_line { b"\n" } else { b"" } }
         Outcome::NotBuilt => {
             if in_line {
                 b"\n! Not built yet.\n"

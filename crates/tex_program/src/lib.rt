@@ -9,8 +9,12 @@ mod lexer;
 mod lines;
 mod meaning;
 mod print;
+mod program;
 mod reactions;
+mod run;
 mod scan;
 mod tell;
 mod text;
 mod words;
+
+pub use program::top;

@@ -1,8 +1,7 @@
 // The run of a job whose file has been read, and what is told of it.
-ghost use Rattle.std.specs.Prelude.{◌≡◌, ◌≤◌, ℕ, List, ⊥, option_map, Option, Some, None};
+ghost use Rattle.std.specs.Prelude.{◌≡◌, ℕ, Some, None, false};
 ghost use Rattle.plain_state.specs.States.{State};
 ghost use Rattle.plain_machine.specs.Meaning.{First, step_bound};
-ghost use Rattle.tex_defs.specs.Places.{Rose};
 ghost use Rattle.world_io.specs.Told.{FilesTold, world};
 ghost use Rattle.tex_program.specs.Ran.{CutBy};
 ghost use Rattle.tex_program.specs.Says.{SaysSo};
@@ -48,7 +47,7 @@ fn tell_broken<S: Sink>(out: &mut S, in_line: bool, broken: Broken) -> Told
 }
 
 /// Runs a job's file, of these bytes, for at most the bound's steps.
-fn run_file<S: Sink>(alloc: Global, bytes: Vec<u8>, out: &mut S) -> Told
+pub fn run_file<S: Sink>(alloc: Global, bytes: Vec<u8>, out: &mut S) -> Told
     ensures says { (f : FilesTold) → SaysSo (First (Some bytes.items)) step_bound (world f (S.told out.old) false) (world f (S.told out.new) result.in_line) result.status }
     ensures no_read { result.status ≡ 5 → ⊥ }
     ensures not_usage { result.status ≡ 9 → ⊥ }
@@ -72,7 +71,7 @@ fn run_file<S: Sink>(alloc: Global, bytes: Vec<u8>, out: &mut S) -> Told
 }
 
 /// A job whose file isn't held: the machine isn't built for its report.
-fn run_missing<S: Sink>(alloc: Global, out: &mut S) -> Told
+pub fn run_missing<S: Sink>(alloc: Global, out: &mut S) -> Told
     ensures says { (f : FilesTold) → SaysSo (First None) step_bound (world f (S.told out.old) false) (world f (S.told out.new) result.in_line) result.status }
     ensures no_read { result.status ≡ 5 → ⊥ }
     ensures not_usage { result.status ≡ 9 → ⊥ }
@@ -84,17 +83,5 @@ fn run_missing<S: Sink>(alloc: Global, out: &mut S) -> Told
             status: 2,
         },
         Err(broken) => tell_broken(out, engine.is_in_line(), broken),
-    }
-}
-
-/// Runs a job's file, if there is one.
-pub fn run<S: Sink>(alloc: Global, job: Option<Vec<u8>>, out: &mut S) -> Told
-    ensures says { (f : FilesTold) → SaysSo (First (bytes_of job)) step_bound (world f (S.told out.old) false) (world f (S.told out.new) result.in_line) result.status }
-    ensures no_read { result.status ≡ 5 → ⊥ }
-    ensures not_usage { result.status ≡ 9 → ⊥ }
-{
-    match job {
-        Some(bytes) => run_file(alloc, bytes, out),
-        None => run_missing(alloc, out),
     }
 }

@@ -41,7 +41,7 @@ returns-in_ok-begin_with-in-Inner-default-Some-clause-rule g c =
     let is : Inner i.kind (Some i.seen) ≡ e.ask = rw i.field-1-is at i.ensures.value in
     λ f. by_is e c.in-Some.field-0 (Inner i.kind (Some i.seen)) (λ work plan. Went (state_of e work) c.begin_with.new.self (world_of f (g.S.Sink.told c.args.out.now) e) (world_of f (g.S.Sink.told c.args.out.now) c.begin_with.new.self) plan 0) c.in-Some.is is
     (λ r rs st inn below. begin_with_onward (record e { ask = c.replace.new.dest }) c.begin_with.new.self (r ∷ rs) f _ b.same (kind_of i.kind) i.seen _ (with_is (kind_of i.kind) r i.seen inn.not_lent inn.last)
-      (b.stands (lending (r ∷ rs)) (lends_now (record e { ask = c.replace.new.dest }) c.in-Some.field-0 r rs c.in-Some.is (inn.open_frame tt) below)))
+    (b.stands (lending (r ∷ rs)) (lends_now (record e { ask = c.replace.new.dest }) c.in-Some.field-0 r rs c.in-Some.is (inn.open_frame tt) below)))
 
 pub returns-in_ok-done-in-Done-clause-rule : goal.returns-in_ok-done-in-Done-clause-rule
 returns-in_ok-done-in-Done-clause-rule g c =

@@ -1,0 +1,144 @@
+-- From the engine's run to what the program means.
+use Rattle.std.proofs.Common.{◌≡◌, ◌⊎◌, inl, inr, ℕ, ◌+◌, ◌≤◌, List, [], ◌∷◌, ◌++◌, refl, sym, ap, subst, ◌∙◌, arith, Bool, false}
+use Rattle.std.specs.Prelude.{Option, Some, None}
+use Rattle.tex_defs.specs.Places.{World, File, Untold, NotHeld, Holds, Place, Transcript, OfFile}
+use Rattle.tex_defs.specs.declared.Fatal.TheVariants as fatal
+use Rattle.plain_state.specs.States.{State, Move, Outcome as MachineOutcome, AtFatal}
+use Rattle.plain_machine.specs.Plan.{not_built}
+use Rattle.plain_machine.specs.Runs.{Moves, Wrote, steps, step_of, made_all, all_made}
+use Rattle.plain_machine.specs.Does.{Cut, CutAt, MomentWritten, Why, IsFault, IsWant}
+use Rattle.plain_machine.specs.Meaning.{First, Line, Whole, Status, IsFinished, IsFatal, IsSteps, IsReadFault, IsWriteFault, IsNoMemory, Says, IsJob, MeansRun, steps_line, read_fault_line, write_fault_line, no_memory_line}
+use Rattle.plain_machine.proofs.Doing.{wrote_join, wrote_none, cause_on}
+use Rattle.plain_machine.proofs.Joins.{moves_due, all_made_due, due_none, moment_due, Moment, stopped_ends, steps_join}
+use Rattle.world_io.specs.Told.{FilesTold, SinkTold, SameFiles, NotFound, IsContent, world}
+use Rattle.tex_program.specs.declared.engine.Engine.{Engine}
+use Rattle.tex_program.specs.declared.engine.Ended.{Ended}
+use Rattle.tex_program.specs.declared.engine.Ended.TheVariants.{Halted, Steps}
+use Rattle.tex_program.specs.declared.reactions.Outcome.{Outcome}
+use Rattle.tex_program.specs.declared.reactions.Outcome.TheVariants.{Finished, NotBuilt}
+use Rattle.tex_program.specs.declared.broken.Broken.{Broken}
+use Rattle.tex_program.specs.declared.broken.Broken.TheVariants.{WriteFault, Want, NoRoom}
+use Rattle.tex_program.specs.Stands.{Stands, state_of}
+use Rattle.tex_program.specs.Rules.{Halts, Cuts}
+use Rattle.tex_program.specs.Ran.{Ran, CutBy, EndsAs}
+use Rattle.tex_program.specs.Says.{SaysSo}
+
+module _ (s : State) (n : ℕ) (w m w' : World) where
+  pub broken_fault : (b : Broken) → b ≡ WriteFault → CutBy s n w m b → Line m w' write_fault_line → SaysSo s n w w' 6
+  broken_fault b is cut last = record { is = IsWriteFault; says = record { between = m; cut = subst (λ (x : Broken). CutBy s n w m x) is cut; last = last } }
+
+  pub broken_want : (b : Broken) → b ≡ Want → CutBy s n w m b → Line m w' no_memory_line → SaysSo s n w w' 7
+  broken_want b is cut last = record { is = IsNoMemory; says = inl (record { between = m; cut = subst (λ (x : Broken). CutBy s n w m x) is cut; last = last }) }
+
+  pub broken_lost : (b : Broken) → b ≡ NoRoom → CutBy s n w m b → Line m w' no_memory_line → SaysSo s n w w' 7
+  broken_lost b is cut last = record { is = IsNoMemory; says = inr (record { between = m; moment = subst (λ (x : Broken). CutBy s n w m x) is cut; last = last }) }
+
+  pub ran_finished : (ended : Ended) (o : Outcome) → ended ≡ Halted o → o ≡ Finished → Ran s n w w' ended → SaysSo s n w w' 0
+  ran_finished ended o is this ran =
+      let whole : ended ≡ Halted Finished = cc (is, this) in
+      record { is = IsFinished; says = record { ms = ran.ms; t = ran.t; trace = ran.trace; stopped = subst (λ (x : Ended). EndsAs x ran.t) whole ran.ends; written = ran.written } }
+
+  pub ran_fatal : (ended : Ended) (o : Outcome) → ended ≡ Halted o → o ≡ NotBuilt → Ran s n w w' ended → SaysSo s n w w' 2
+  ran_fatal ended o is this ran =
+      let whole : ended ≡ Halted NotBuilt = cc (is, this) in
+      record { is = IsFatal; says = record { ms = ran.ms; t = ran.t; trace = ran.trace; stopped = subst (λ (x : Ended). EndsAs x ran.t) whole ran.ends; written = ran.written } }
+
+  pub ran_steps : (ended : Ended) → ended ≡ Steps → Ran s n w m ended → Line m w' (steps_line n) → SaysSo s n w w' 4
+  ran_steps ended is ran last =
+      record { is = IsSteps; says = record { ms = ran.ms; t = ran.t; between = m; trace = ran.trace; needs = subst (λ (x : Ended). EndsAs x ran.t) is ran.ends; written = ran.written; last = last } }
+
+-- an engine that was just made stands for the first state
+pub at_first : (e : Engine) (job : Option (List ℕ)) → state_of e [] ≡ First job → e.in_line ≡ false → (Q : State → Bool → Type 0) → Q (state_of e []) e.in_line → Q (First job) false
+at_first e job state column Q h = subst (λ (b : Bool). Q (First job) b) column (subst (λ (s : State). Q s e.in_line) state h)
+
+-- moves that are due from the start
+module _ (s : State) (ms : List Move) (n : ℕ) (w w' : World) (none : s.due ≡ []) where
+  due_moves : (t : State) → made_all ms s ≡ t → t.due ≡ [] → Moves (record s { due = ms }) ms t
+  due_moves t is due = subst (λ (x : State). Moves (record s { due = ms }) ms x) (all_made_due ms s ∙ ap (λ (x : State). record x { due = [] }) is ∙ due_none t due) (moves_due (record s { due = ms }) ms refl)
+
+  pub due_whole : (o : MachineOutcome) → steps ms ≤ n → Halts s w w' ms o → Whole (record s { due = ms }) n w w' o
+  due_whole o le h = record {
+    ms = ms;
+    t = h.t;
+    trace = record { moves = due_moves h.t h.did.state h.due; within = le; whole = inl (stopped_ends h.t o h.due h.stopped) };
+    stopped = h.stopped;
+    written = h.did.written;
+  }
+
+  due_cut_at : (why : Why) → steps ms ≤ n → Cut s w w' ms why → CutAt (record s { due = ms }) n w w' why
+  due_cut_at why le cut =
+      let moment : Moment (record s { due = ms }) cut.done cut.m = moment_due (record s { due = ms }) cut.done cut.m cut.rest cut.all in
+      let count : steps ms ≡ steps cut.done + (step_of cut.m + steps cut.rest) = ap steps cut.all ∙ steps_join cut.done (cut.m ∷ cut.rest) in
+      record { ms = cut.done; t = moment.t; m = cut.m; u = moment.u; count = cut.count; moves = moment.moves; goes = moment.goes; room = omega (arith, count, le); refuses = cut.refuses; cause = cut.cause; written = cut.written }
+
+  pub due_cut : (b : Broken) → steps ms ≤ n → Cuts s w w' ms b → CutBy (record s { due = ms }) n w w' b
+  due_cut WriteFault le h = due_cut_at IsFault le h
+  due_cut Want le h = due_cut_at IsWant le h
+  due_cut NoRoom le h = record { ms = []; t = record s { due = ms }; moves = refl; within = omega arith; written = h }
+
+-- behind what has written nothing
+module _ (s : State) (n : ℕ) (w m w' : World) (quiet : Wrote w m []) where
+  cut_behind : (between : World) (why : Why) → CutAt s n m between why → CutAt s n w between why
+  cut_behind between why c = record {
+    ms = c.ms; t = c.t; m = c.m; u = c.u; count = c.count; moves = c.moves; goes = c.goes; room = c.room; refuses = c.refuses;
+    cause = cause_on why w m between quiet.later c.cause;
+    written = wrote_join w m between [] _ quiet c.written;
+  }
+
+  behind : (status : ℕ) (is : Status status) → Says s n m w' status is → Says s n w w' status is
+  behind _ IsFinished h = record { ms = h.ms; t = h.t; trace = h.trace; stopped = h.stopped; written = wrote_join w m w' [] h.ms quiet h.written }
+  behind _ IsFatal h = record { ms = h.ms; t = h.t; trace = h.trace; stopped = h.stopped; written = wrote_join w m w' [] h.ms quiet h.written }
+  behind _ IsSteps h = record { ms = h.ms; t = h.t; between = h.between; trace = h.trace; needs = h.needs; written = wrote_join w m h.between [] h.ms quiet h.written; last = h.last }
+  behind _ IsReadFault h = record { between = h.between; written = wrote_join w m h.between [] [] quiet h.written; last = h.last }
+  behind _ IsWriteFault h = record { between = h.between; cut = cut_behind h.between IsFault h.cut; last = h.last }
+  behind _ IsNoMemory (inl h) = inl (record { between = h.between; cut = cut_behind h.between IsWant h.cut; last = h.last })
+  behind _ IsNoMemory (inr h) = inr (record {
+    between = h.between;
+    moment = record { ms = h.moment.ms; t = h.moment.t; moves = h.moment.moves; within = h.moment.within; written = wrote_join w m h.between [] h.moment.ms quiet h.moment.written };
+    last = h.last;
+  })
+
+  pub says_behind : (status : ℕ) → SaysSo s n m w' status → SaysSo s n w w' status
+  says_behind status h = record { is = h.is; says = behind status h.is h.says }
+
+-- reading a file writes nothing
+same_at : (f f' : FilesTold) (s : SinkTold) (b : Bool) → SameFiles f f' → (p : Place) → (world f' s b).at p ≡ (world f s b).at p
+same_at f f' s b h Transcript = refl
+same_at f f' s b h (OfFile name) = h.file name
+
+pub read_quiet : (f f' : FilesTold) (s : SinkTold) (b : Bool) → SameFiles f f' → f'.write_faults ≡ f.write_faults → f.wants ≤ f'.wants → Wrote (world f s b) (world f' s b) []
+read_quiet f f' s b h e lw = record {
+  told = same_at f f' s b h;
+  column = refl;
+  later = record { file_faults = omega (arith, e); sink_faults = omega arith; file_wants = lw; sink_wants = omega arith };
+}
+
+pub missing_job : (f : File) → NotFound f → IsJob f None
+missing_job Untold h = tt
+missing_job NotHeld h = refl
+missing_job (Holds b) h = absurd h
+
+pub content_job : (f : File) (bytes : List ℕ) → IsContent f bytes → IsJob f (Some bytes)
+content_job Untold bytes h = tt
+content_job NotHeld bytes h = absurd h
+content_job (Holds b) bytes h = ap Some h
+
+record SomeJob (f : File) : Type 0 where
+  job : Option (List ℕ)
+  is_job : IsJob f job
+
+some_job : (f : File) → SomeJob f
+some_job Untold = record { job = None; is_job = tt }
+some_job NotHeld = record { job = None; is_job = refl }
+some_job (Holds b) = record { job = Some b; is_job = refl }
+
+pub means_says : (file : File) (job : Option (List ℕ)) (n : ℕ) (w w' : World) (status : ℕ) → IsJob file job → SaysSo (First job) n w w' status → MeansRun file n w w' status
+means_says file job n w w' status is says = record { job = job; is_job = is; is = says.is; says = says.says }
+
+pub means_unread : (file : File) (n : ℕ) (w m w' : World) → Wrote w m [] → Line m w' read_fault_line → MeansRun file n w w' 5
+means_unread file n w m w' quiet last = let j = some_job file in
+    record { job = j.job; is_job = j.is_job; is = IsReadFault; says = record { between = m; written = quiet; last = last } }
+
+pub means_no_room : (file : File) (n : ℕ) (w m w' : World) → Wrote w m [] → Line m w' no_memory_line → MeansRun file n w w' 7
+means_no_room file n w m w' quiet last = let j = some_job file in
+    record { job = j.job; is_job = j.is_job; is = IsNoMemory; says = inr (record { between = m; moment = record { ms = []; t = First j.job; moves = refl; within = omega arith; written = quiet }; last = last }) }

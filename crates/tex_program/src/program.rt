@@ -1,0 +1,66 @@
+// The program, over any files and sink.
+ghost use Rattle.std.specs.Prelude.{◌≡◌, ◌↔◌, Bool, false, map};
+ghost use Rattle.std.specs.String.{string_bytes};
+ghost use Rattle.tex_defs.specs.Places.{Rose};
+ghost use Rattle.plain_machine.specs.Words.{command_of, NoCommand};
+ghost use Rattle.plain_machine.specs.Meaning.{Means, MeansRun, step_bound};
+ghost use Rattle.plain_machine.specs.Words as words_specs;
+ghost use Rattle.world_io.specs.Told.{world};
+
+use crate::run::{run_file, run_missing};
+use crate::tell::{Telling, tell};
+use crate::words::{file_name, job_word};
+use std::alloc::Global;
+use world_io::{Fault, Files, Sink, read_file};
+
+/// Runs the job of a file's word.
+fn run_job<F: Files, S: Sink>(alloc: Global, word: &str, files: &mut F, out: &mut S) -> u8
+    ensures meaning { (b : Bool) × MeansRun ((F.told files.old).file (words_specs.file_name word.now)) step_bound (world (F.told files.old) (S.told out.old) false) (world (F.told files.new) (S.told out.new) b) result }
+    ensures read_fault { result ≡ 5 → Rose (F.told files.old).read_faults (F.told files.new).read_faults }
+    ensures not_usage { result ≡ 9 → ⊥ }
+{
+    let Ok(name) = file_name(alloc, word.as_bytes()) else {
+        tell(out, false, Telling::NoMemory);
+        return 7;
+    };
+    match read_file(alloc, files, name.as_slice()) {
+        Ok(Some(bytes)) => run_file(alloc, bytes, out).status,
+        Ok(None) => run_missing(alloc, out).status,
+        Err(Fault::Failed) => {
+            tell(out, false, Telling::ReadFault);
+            5
+        }
+        Err(Fault::NoMemory) => {
+            tell(out, false, Telling::NoMemory);
+            7
+        }
+    }
+}
+
+/// The program: does what its words say, over these files and this sink, and answers its exit status.
+///
+/// The first word is the program's name. The only command today is `init FILE`, which runs the job of a file
+/// from INITEX's first state in nonstop mode, for at most 10000000 steps.
+///
+/// | Status | Comes |
+/// |---|---|
+/// | 0 | where the run has ended |
+/// | 2 | where the run is at a part of TeX that isn't built yet, also where the file isn't held |
+/// | 4 | where the steps were taken and the machine needs one more |
+/// | 5, 6 | where a read, a write failed |
+/// | 7 | where memory was wanted |
+/// | 9 | where the words are no command |
+pub fn top<F: Files, S: Sink>(alloc: Global, words: &[String], files: &mut F, out: &mut S) -> u8
+    // What is written to the transcript and to each file, and the status, are the plain machine's.
+    ensures meaning { (b : Bool) × Means (command_of (map string_bytes words.now)) (F.told files.old).file step_bound (world (F.told files.old) (S.told out.old) false) (world (F.told files.new) (S.told out.new) b) result }
+    ensures usage { (result ≡ 9) ↔ (command_of (map string_bytes words.now) ≡ NoCommand) }
+    ensures read_fault { result ≡ 5 → Rose (F.told files.old).read_faults (F.told files.new).read_faults }
+{
+    match job_word(words) {
+        Some(word) => run_job(alloc, word, files, out),
+        None => {
+            tell(out, false, Telling::Usage);
+            9
+        }
+    }
+}
