@@ -1,12 +1,12 @@
 -- From the engine's run to what the program means.
 use Rattle.std.proofs.Common.{◌≡◌, ◌⊎◌, inl, inr, ℕ, ◌+◌, ◌≤◌, List, [], ◌∷◌, ◌++◌, refl, sym, ap, subst, ◌∙◌, arith, Bool, false}
 use Rattle.std.specs.Prelude.{Option, Some, None}
-use Rattle.tex_defs.specs.Places.{World, File, Untold, NotHeld, Holds, Place, Transcript, OfFile}
+use Rattle.tex_defs.specs.Places.{World, Rose, Later, File, Untold, NotHeld, Holds, Place, Transcript, OfFile}
 use Rattle.tex_defs.specs.declared.Fatal.TheVariants as fatal
 use Rattle.plain_state.specs.States.{State, Move, Outcome as MachineOutcome, AtFatal}
 use Rattle.plain_machine.specs.Plan.{not_built}
 use Rattle.plain_machine.specs.Runs.{Moves, Wrote, steps, step_of, made_all, all_made}
-use Rattle.plain_machine.specs.Does.{Cut, CutAt, MomentWritten, Why, IsFault, IsWant}
+use Rattle.plain_machine.specs.Does.{IsCause, Cut, CutAt, MomentWritten, Why, IsFault, IsWant}
 use Rattle.plain_machine.specs.Meaning.{First, Line, Whole, Status, IsFinished, IsFatal, IsSteps, IsReadFault, IsWriteFault, IsNoMemory, Says, IsJob, MeansRun, steps_line, read_fault_line, write_fault_line, no_memory_line}
 use Rattle.plain_machine.proofs.Doing.{wrote_join, wrote_none, cause_on}
 use Rattle.plain_machine.proofs.Joins.{moves_due, all_made_due, due_none, moment_due, Moment, stopped_ends, steps_join}
@@ -142,3 +142,26 @@ means_unread file n w m w' quiet last = let j = some_job file in
 pub means_no_room : (file : File) (n : ℕ) (w m w' : World) → Wrote w m [] → Line m w' no_memory_line → MeansRun file n w w' 7
 means_no_room file n w m w' quiet last = let j = some_job file in
     record { job = j.job; is_job = j.is_job; is = IsNoMemory; says = inr (record { between = m; moment = record { ms = []; t = First j.job; moves = refl; within = omega arith; written = quiet }; last = last }) }
+
+-- a run that ended at a failed write, over whatever files: a write to the transcript failed
+bare : FilesTold
+bare = record { file = λ name. Untold; reading = λ id. false; rest = λ id. None; writer = λ id. None; read_faults = 0; write_faults = 0; wants = 0 }
+
+of_cause : (a b : SinkTold) (c d : Bool) (m : World) → IsCause IsFault (world bare a c) m → Later m (world bare b d) → Rose a.faults b.faults
+unfolding bare
+of_cause a b c d m (inl h) later =
+    let rose : Rose 0 m.file_faults = h in
+    let none : m.file_faults ≤ 0 = later.file_faults in
+    absurd (omega (arith, rose, none))
+of_cause a b c d m (inr h) later =
+    let rose : Rose a.faults m.sink_faults = h in
+    let on : m.sink_faults ≤ b.faults = later.sink_faults in
+    omega (arith, rose, on)
+
+of_fault : (s : State) (n : ℕ) (a b : SinkTold) (c d : Bool) (is : Status 6) → Says s n (world bare a c) (world bare b d) 6 is → Rose a.faults b.faults
+of_fault s n a b c d IsWriteFault h = of_cause a b c d h.between h.cut.cause h.last.written.later
+
+pub fault_rose : (s : State) (n : ℕ) (a b : SinkTold) (c d : Bool) (status : ℕ) → ((f : FilesTold) → SaysSo s n (world f a c) (world f b d) status) → status ≡ 6 → Rose a.faults b.faults
+fault_rose s n a b c d status h is =
+    let x : SaysSo s n (world bare a c) (world bare b d) 6 = subst (λ (k : ℕ). SaysSo s n (world bare a c) (world bare b d) k) is (h bare) in
+    of_fault s n a b c d x.is x.says

@@ -17,6 +17,7 @@ use world_io::{Fault, Files, Sink, read_file};
 fn run_job<F: Files, S: Sink>(alloc: Global, word: &str, files: &mut F, out: &mut S) -> u8
     ensures meaning { (b : Bool) × MeansRun ((F.told files.old).file (words_specs.file_name word.now)) step_bound (world (F.told files.old) (S.told out.old) false) (world (F.told files.new) (S.told out.new) b) result }
     ensures read_fault { result ≡ 5 → Rose (F.told files.old).read_faults (F.told files.new).read_faults }
+    ensures write_fault { result ≡ 6 → Rose (S.told out.old).faults (S.told out.new).faults }
     ensures not_usage { result ≡ 9 → ⊥ }
 {
     let Ok(name) = file_name(alloc, word.as_bytes()) else {
@@ -51,10 +52,12 @@ fn run_job<F: Files, S: Sink>(alloc: Global, word: &str, files: &mut F, out: &mu
 /// | 7 | where memory was wanted |
 /// | 9 | where the words are no command |
 pub fn top<F: Files, S: Sink>(alloc: Global, words: &[String], files: &mut F, out: &mut S) -> u8
-    // What is written to the transcript and to each file, and the status, are the plain machine's.
+    // What is written to the transcript and to each file, and the status, are the plain machine's. Only the statuses
+    // 0, 2, 4, 5, 6, 7 and 9 come.
     ensures meaning { (b : Bool) × Means (command_of (map string_bytes words.now)) (F.told files.old).file step_bound (world (F.told files.old) (S.told out.old) false) (world (F.told files.new) (S.told out.new) b) result }
     ensures usage { (result ≡ 9) ↔ (command_of (map string_bytes words.now) ≡ NoCommand) }
     ensures read_fault { result ≡ 5 → Rose (F.told files.old).read_faults (F.told files.new).read_faults }
+    ensures write_fault { result ≡ 6 → Rose (S.told out.old).faults (S.told out.new).faults }
 {
     match job_word(words) {
         Some(word) => run_job(alloc, word, files, out),

@@ -1,5 +1,6 @@
 // The run of a job whose file has been read, and what is told of it.
 ghost use Rattle.std.specs.Prelude.{◌≡◌, ℕ, Some, None, false};
+ghost use Rattle.tex_defs.specs.Places.{Rose};
 ghost use Rattle.plain_state.specs.States.{State};
 ghost use Rattle.plain_machine.specs.Meaning.{First, step_bound};
 ghost use Rattle.world_io.specs.Told.{FilesTold, world};
@@ -27,7 +28,6 @@ pub struct Told {
 fn tell_broken<S: Sink>(out: &mut S, in_line: bool, broken: Broken) -> Told
     ensures says { (f : FilesTold) (s : State) (n : ℕ) (w : _) → CutBy s n w (world f (S.told out.old) in_line) broken → SaysSo s n w (world f (S.told out.new) result.in_line) result.status }
     ensures no_read { result.status ≡ 5 → ⊥ }
-    ensures fault { result.status ≡ 6 → broken ≡ Broken.WriteFault }
     ensures not_usage { result.status ≡ 9 → ⊥ }
 {
     match broken {
@@ -49,6 +49,7 @@ fn tell_broken<S: Sink>(out: &mut S, in_line: bool, broken: Broken) -> Told
 /// Runs a job's file, of these bytes, for at most the bound's steps.
 pub fn run_file<S: Sink>(alloc: Global, bytes: Vec<u8>, out: &mut S) -> Told
     ensures says { (f : FilesTold) → SaysSo (First (Some bytes.items)) step_bound (world f (S.told out.old) false) (world f (S.told out.new) result.in_line) result.status }
+    ensures fault { result.status ≡ 6 → Rose (S.told out.old).faults (S.told out.new).faults }
     ensures no_read { result.status ≡ 5 → ⊥ }
     ensures not_usage { result.status ≡ 9 → ⊥ }
 {
@@ -73,6 +74,7 @@ pub fn run_file<S: Sink>(alloc: Global, bytes: Vec<u8>, out: &mut S) -> Told
 /// A job whose file isn't held: the machine isn't built for its report.
 pub fn run_missing<S: Sink>(alloc: Global, out: &mut S) -> Told
     ensures says { (f : FilesTold) → SaysSo (First None) step_bound (world f (S.told out.old) false) (world f (S.told out.new) result.in_line) result.status }
+    ensures fault { result.status ≡ 6 → Rose (S.told out.old).faults (S.told out.new).faults }
     ensures no_read { result.status ≡ 5 → ⊥ }
     ensures not_usage { result.status ≡ 9 → ⊥ }
 {

@@ -3,7 +3,7 @@ use Rattle.plain_state.specs.States.{State}
 use Rattle.plain_machine.specs.Meaning.{First, Line, step_bound, steps_line}
 use Rattle.world_io.specs.Told.{world}
 use Rattle.tex_program.specs.Ran.{Ran, CutBy}
-use Rattle.tex_program.proofs.Meanings.{ran_finished, ran_fatal, ran_steps, at_first}
+use Rattle.tex_program.proofs.Meanings.{ran_finished, ran_fatal, ran_steps, at_first, fault_rose}
 use Rattle.tex_program.proofs.run.run_file.Goals as goal
 
 pub returns-in-Ok-Halted-Finished-clause-says : goal.returns-in-Ok-Halted-Finished-clause-says
@@ -54,3 +54,6 @@ returns-clause-says g c = λ f.
       at_first e.result (Some c.args.bytes.items) e.ensures.state e.ensures.column (λ (s : State) (b : Bool). CutBy s step_bound (world f (g.S.Sink.told c.args.out.now) b) (after c.run_steps.new.self.in_line) i.broken) (i.ensures.err f [] e.ensures.stands) in
     c.tell_broken.ensures.says f first step_bound w
     (subst (λ (b : Bool). CutBy first step_bound w (after b) i.broken) (sym c.is_in_line-in-Err.ensures) cut)
+
+pub returns-clause-fault : goal.returns-clause-fault
+returns-clause-fault g c = fault_rose (First (Some c.args.bytes.items)) step_bound _ _ false c.tell_broken.result.in_line c.tell_broken.result.status (returns-clause-says g c)

@@ -7,7 +7,7 @@ use Rattle.world_io.specs.Told.{world}
 use Rattle.tex_program.specs.Stands.{state_of}
 use Rattle.tex_program.specs.Rules.{Halts, Cuts}
 use Rattle.tex_program.specs.Ran.{CutBy}
-use Rattle.tex_program.proofs.Meanings.{at_first, due_whole, due_cut}
+use Rattle.tex_program.proofs.Meanings.{at_first, due_whole, due_cut, fault_rose}
 use Rattle.tex_program.proofs.run.run_missing.Goals as goal
 
 pub returns-in-Ok-clause-says : goal.returns-in-Ok-clause-says
@@ -33,3 +33,6 @@ returns-clause-says g c = λ f.
       due_cut (First (Some [])) (not_built false) step_bound w (after c.halt.new.self.in_line) refl i.broken (omega arith) cut in
     c.tell_broken.ensures.says f (First None) step_bound w
     (subst (λ (b : Bool). CutBy (First None) step_bound w (after b) i.broken) (sym c.is_in_line-in-Err.ensures) whole)
+
+pub returns-clause-fault : goal.returns-clause-fault
+returns-clause-fault g c = fault_rose (First None) step_bound _ _ false c.tell_broken.result.in_line c.tell_broken.result.status (returns-clause-says g c)
