@@ -12,20 +12,17 @@ ghost use Rattle.plain_machine.specs.Runs.{RunsAreOne, EachHasRun, SumsOfSteps};
 /// Two runs of one state with one bound are equal: their moves, and the state to which they lead.
 pub fn runs_are_one()
     ensures { RunsAreOne }
-{
-}
+{}
 
 /// Each state has a run within each bound: moves without a step never go on for ever.
 pub fn each_has_run()
     ensures { EachHasRun }
-{
-}
+{}
 
 /// A run within j + k steps is a run within j steps, and then one within k steps from where it led.
 pub fn sums_of_steps()
     ensures { SumsOfSteps }
-{
-}
+{}
 
 /// The machine run on small files: what it writes, the steps it takes, and how it ends.
 pub fn worked_rows()
@@ -49,5 +46,4 @@ pub fn worked_rows()
     ensures line_feed_printed { Writes (codes "\\catcode`\\{=1 \\catcode`\\}=2 \\catcode0=12 \\message{a" ++ (0 ∷ 255 ∷ codes "}\\end")) (codes "a\n^^ff\n") Finished }
     ensures too_great { Writes (codes "\\catcode2147483648=1 ") (codes "! Not built yet.\n") (AtFatal NotBuilt) }
     ensures no_category { Writes (codes "\\catcode`\\x=16 ") (codes "! Not built yet.\n") (AtFatal NotBuilt) }
-{
-}
+{}

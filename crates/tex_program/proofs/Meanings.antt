@@ -80,7 +80,15 @@ module _ (s : State) (ms : List Move) (n : ℕ) (w w' : World) (none : s.due ≡
 module _ (s : State) (n : ℕ) (w m w' : World) (quiet : Wrote w m []) where
   cut_behind : (between : World) (why : Why) → CutAt s n m between why → CutAt s n w between why
   cut_behind between why c = record {
-    ms = c.ms; t = c.t; m = c.m; u = c.u; count = c.count; moves = c.moves; goes = c.goes; room = c.room; refuses = c.refuses;
+    ms = c.ms;
+    t = c.t;
+    m = c.m;
+    u = c.u;
+    count = c.count;
+    moves = c.moves;
+    goes = c.goes;
+    room = c.room;
+    refuses = c.refuses;
     cause = cause_on why w m between quiet.later c.cause;
     written = wrote_join w m between [] _ quiet c.written;
   }

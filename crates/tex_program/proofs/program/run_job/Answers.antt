@@ -23,11 +23,10 @@ returns-in-Ok-Some-clause-meaning g c =
     let w' = world f' (g.S.Sink.told c.run_file.new.out) c.run_file.result.in_line in
     let name : c.as_slice.result.now ≡ words_specs.file_name c.args.word.now = cc (c.as_slice.ensures.value, c.in-Ok.ensures, c.as_bytes.ensures.value) in
     let content : IsContent (f.file c.as_slice.result.now) i.bytes.items = subst (λ (o : Option (Vec ℕ Global)). IfSome o (λ v. IsContent (f.file c.as_slice.result.now) v.items)) i.field-0-is i.ensures.content in
-    let held : IsContent (f.file (words_specs.file_name c.args.word.now)) i.bytes.items = subst (λ (n : List ℕ). IsContent (f.file n) i.bytes.items) name content in
-    (
+    let held : IsContent (f.file (words_specs.file_name c.args.word.now)) i.bytes.items = subst (λ (n : List ℕ). IsContent (f.file n) i.bytes.items) name content in (
       c.run_file.result.in_line,
       means_says (f.file (words_specs.file_name c.args.word.now)) (Some i.bytes.items) step_bound (world f s false) w' c.run_file.result.status (content_job _ _ held)
-      (says_behind (First (Some i.bytes.items)) step_bound (world f s false) (world f' s false) w' (read_quiet f f' s false r.ensures.same r.ensures.writes r.ensures.later_wants) c.run_file.result.status (c.run_file.ensures.says f')),
+          (says_behind (First (Some i.bytes.items)) step_bound (world f s false) (world f' s false) w' (read_quiet f f' s false r.ensures.same r.ensures.writes r.ensures.later_wants) c.run_file.result.status (c.run_file.ensures.says f')),
     )
 
 pub returns-in-Ok-None-clause-meaning : goal.returns-in-Ok-None-clause-meaning
@@ -40,11 +39,10 @@ returns-in-Ok-None-clause-meaning g c =
     let w' = world f' (g.S.Sink.told c.run_missing.new.out) c.run_missing.result.in_line in
     let name : c.as_slice.result.now ≡ words_specs.file_name c.args.word.now = cc (c.as_slice.ensures.value, c.in-Ok.ensures, c.as_bytes.ensures.value) in
     let missing : NotFound (f.file c.as_slice.result.now) = subst (λ (o : Option (Vec ℕ Global)). IfNone o (NotFound (f.file c.as_slice.result.now))) i.field-0-is i.ensures.missing in
-    let not_held : NotFound (f.file (words_specs.file_name c.args.word.now)) = subst (λ (n : List ℕ). NotFound (f.file n)) name missing in
-    (
+    let not_held : NotFound (f.file (words_specs.file_name c.args.word.now)) = subst (λ (n : List ℕ). NotFound (f.file n)) name missing in (
       c.run_missing.result.in_line,
       means_says (f.file (words_specs.file_name c.args.word.now)) None step_bound (world f s false) w' c.run_missing.result.status (missing_job _ not_held)
-      (says_behind (First None) step_bound (world f s false) (world f' s false) w' (read_quiet f f' s false r.ensures.same r.ensures.writes r.ensures.later_wants) c.run_missing.result.status (c.run_missing.ensures.says f')),
+          (says_behind (First None) step_bound (world f s false) (world f' s false) w' (read_quiet f f' s false r.ensures.same r.ensures.writes r.ensures.later_wants) c.run_missing.result.status (c.run_missing.ensures.says f')),
     )
 
 pub returns-in-Err-Failed-clause-meaning : goal.returns-in-Err-Failed-clause-meaning

@@ -14,7 +14,7 @@ returns-in-Ok-Halted-Finished-clause-says g c = λ f.
     let w = world f (g.S.Sink.told c.args.out.now) false in
     let after = (λ (b : Bool). world f (g.S.Sink.told c.run_steps.new.out) b) in
     let ran : Ran first step_bound w (after c.run_steps.new.self.in_line) i.field-0 =
-      at_first e.result (Some c.args.bytes.items) e.ensures.state e.ensures.column (λ (s : State) (b : Bool). Ran s step_bound (world f (g.S.Sink.told c.args.out.now) b) (after c.run_steps.new.self.in_line) i.field-0) (i.ensures.run f [] e.ensures.stands) in
+    at_first e.result (Some c.args.bytes.items) e.ensures.state e.ensures.column (λ (s : State) (b : Bool). Ran s step_bound (world f (g.S.Sink.told c.args.out.now) b) (after c.run_steps.new.self.in_line) i.field-0) (i.ensures.run f [] e.ensures.stands) in
     ran_finished first step_bound w w (after c.is_in_line.result) i.field-0 i.field-0-0 i.field-0-is i.field-0-0-is
     (subst (λ (b : Bool). Ran first step_bound w (after b) i.field-0) (sym c.is_in_line.ensures) ran)
 
@@ -26,7 +26,7 @@ returns-in-Ok-Halted-NotBuilt-clause-says g c = λ f.
     let w = world f (g.S.Sink.told c.args.out.now) false in
     let after = (λ (b : Bool). world f (g.S.Sink.told c.run_steps.new.out) b) in
     let ran : Ran first step_bound w (after c.run_steps.new.self.in_line) i.field-0 =
-      at_first e.result (Some c.args.bytes.items) e.ensures.state e.ensures.column (λ (s : State) (b : Bool). Ran s step_bound (world f (g.S.Sink.told c.args.out.now) b) (after c.run_steps.new.self.in_line) i.field-0) (i.ensures.run f [] e.ensures.stands) in
+    at_first e.result (Some c.args.bytes.items) e.ensures.state e.ensures.column (λ (s : State) (b : Bool). Ran s step_bound (world f (g.S.Sink.told c.args.out.now) b) (after c.run_steps.new.self.in_line) i.field-0) (i.ensures.run f [] e.ensures.stands) in
     ran_fatal first step_bound w w (after c.is_in_line-in-Ok-Halted-NotBuilt.result) i.field-0 i.field-0-0 i.field-0-is i.field-0-0-is
     (subst (λ (b : Bool). Ran first step_bound w (after b) i.field-0) (sym c.is_in_line-in-Ok-Halted-NotBuilt.ensures) ran)
 
@@ -39,7 +39,7 @@ returns-in-Ok-Steps-clause-says g c = λ f.
     let after = (λ (b : Bool). world f (g.S.Sink.told c.run_steps.new.out) b) in
     let end = world f (g.S.Sink.told c.tell.new.out) c.tell.result in
     let ran : Ran first step_bound w (after c.run_steps.new.self.in_line) i.field-0 =
-      at_first e.result (Some c.args.bytes.items) e.ensures.state e.ensures.column (λ (s : State) (b : Bool). Ran s step_bound (world f (g.S.Sink.told c.args.out.now) b) (after c.run_steps.new.self.in_line) i.field-0) (i.ensures.run f [] e.ensures.stands) in
+    at_first e.result (Some c.args.bytes.items) e.ensures.state e.ensures.column (λ (s : State) (b : Bool). Ran s step_bound (world f (g.S.Sink.told c.args.out.now) b) (after c.run_steps.new.self.in_line) i.field-0) (i.ensures.run f [] e.ensures.stands) in
     ran_steps first step_bound w (after c.run_steps.new.self.in_line) end i.field-0 i.field-0-is ran
     (subst (λ (b : Bool). Line (after b) end (steps_line step_bound)) c.is_in_line-in-Ok-Steps.ensures (c.tell.ensures.line f))
 
@@ -51,7 +51,7 @@ returns-clause-says g c = λ f.
     let w = world f (g.S.Sink.told c.args.out.now) false in
     let after = (λ (b : Bool). world f (g.S.Sink.told c.run_steps.new.out) b) in
     let cut : CutBy first step_bound w (after c.run_steps.new.self.in_line) i.broken =
-      at_first e.result (Some c.args.bytes.items) e.ensures.state e.ensures.column (λ (s : State) (b : Bool). CutBy s step_bound (world f (g.S.Sink.told c.args.out.now) b) (after c.run_steps.new.self.in_line) i.broken) (i.ensures.err f [] e.ensures.stands) in
+    at_first e.result (Some c.args.bytes.items) e.ensures.state e.ensures.column (λ (s : State) (b : Bool). CutBy s step_bound (world f (g.S.Sink.told c.args.out.now) b) (after c.run_steps.new.self.in_line) i.broken) (i.ensures.err f [] e.ensures.stands) in
     c.tell_broken.ensures.says f first step_bound w
     (subst (λ (b : Bool). CutBy first step_bound w (after b) i.broken) (sym c.is_in_line-in-Err.ensures) cut)
 
