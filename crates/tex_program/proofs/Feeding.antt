@@ -1,11 +1,11 @@
 -- A reading that is fed goes on.
-use Rattle.std.proofs.Common.{◌≡◌, ◌≤◌, List, [], ◌∷◌, ◌++◌, refl, sym, ap, ◌∙◌, append_assoc, subst, reverse, arith}
+use Rattle.std.proofs.Common.{◌≡◌, List, [], ◌∷◌, ◌++◌, refl, sym, ap, ◌∙◌, append_assoc, subst, reverse}
 use Rattle.std.specs.Prelude.{Option, Some, None}
 use Rattle.std.proofs.lemmas.List.{reverse-append}
 use Rattle.tex_defs.specs.declared.Seen.{Seen}
 use Rattle.plain_state.specs.Readings.{Fed, Tok, Val, Value}
 use Rattle.plain_state.specs.Readings as reading
-use Rattle.plain_state.specs.States.{Reading, fed_with, fresh, lending}
+use Rattle.plain_state.specs.States.{Reading, fed_with, fresh}
 use Rattle.plain_machine.specs.Plan.{last_seen}
 use Rattle.tex_program.specs.declared.scan.Ask.{Ask}
 use Rattle.tex_program.specs.declared.scan.Ask.TheVariants.{More, Inner, Done, Act, Halt}

@@ -1,14 +1,12 @@
 -- From the engine's run to what the program means.
-use Rattle.std.proofs.Common.{◌≡◌, ◌⊎◌, inl, inr, ℕ, ◌+◌, ◌≤◌, List, [], ◌∷◌, ◌++◌, refl, sym, ap, subst, ◌∙◌, arith, Bool, false}
+use Rattle.std.proofs.Common.{◌≡◌, inl, inr, ℕ, ◌+◌, ◌≤◌, List, [], ◌∷◌, refl, ap, subst, ◌∙◌, arith, Bool, false}
 use Rattle.std.specs.Prelude.{Option, Some, None}
 use Rattle.tex_defs.specs.Places.{World, Rose, Later, File, Untold, NotHeld, Holds, Place, Transcript, OfFile}
-use Rattle.tex_defs.specs.declared.Fatal.TheVariants as fatal
-use Rattle.plain_state.specs.States.{State, Move, Outcome as MachineOutcome, AtFatal}
-use Rattle.plain_machine.specs.Plan.{not_built}
-use Rattle.plain_machine.specs.Runs.{Moves, Wrote, steps, step_of, made_all, all_made}
-use Rattle.plain_machine.specs.Does.{IsCause, Cut, CutAt, MomentWritten, Why, IsFault, IsWant}
+use Rattle.plain_state.specs.States.{State, Move, Outcome as MachineOutcome}
+use Rattle.plain_machine.specs.Runs.{Moves, Wrote, steps, step_of, made_all}
+use Rattle.plain_machine.specs.Does.{IsCause, Cut, CutAt, Why, IsFault, IsWant}
 use Rattle.plain_machine.specs.Meaning.{First, Line, Whole, Status, IsFinished, IsFatal, IsSteps, IsReadFault, IsWriteFault, IsNoMemory, Says, IsJob, MeansRun, steps_line, read_fault_line, write_fault_line, no_memory_line}
-use Rattle.plain_machine.proofs.Doing.{wrote_join, wrote_none, cause_on}
+use Rattle.plain_machine.proofs.Doing.{wrote_join, cause_on}
 use Rattle.plain_machine.proofs.Joins.{moves_due, all_made_due, due_none, moment_due, Moment, stopped_ends, steps_join}
 use Rattle.world_io.specs.Told.{FilesTold, SinkTold, SameFiles, NotFound, IsContent, world}
 use Rattle.tex_program.specs.declared.engine.Engine.{Engine}
@@ -18,7 +16,7 @@ use Rattle.tex_program.specs.declared.reactions.Outcome.{Outcome}
 use Rattle.tex_program.specs.declared.reactions.Outcome.TheVariants.{Finished, NotBuilt}
 use Rattle.tex_program.specs.declared.broken.Broken.{Broken}
 use Rattle.tex_program.specs.declared.broken.Broken.TheVariants.{WriteFault, Want, NoRoom}
-use Rattle.tex_program.specs.Stands.{Stands, state_of}
+use Rattle.tex_program.specs.Stands.{state_of}
 use Rattle.tex_program.specs.Rules.{Halts, Cuts}
 use Rattle.tex_program.specs.Ran.{Ran, CutBy, EndsAs}
 use Rattle.tex_program.specs.Says.{SaysSo}

@@ -1,6 +1,6 @@
 -- What the engine does for a rule is the rule, or its front where it is cut off.
 use Rattle.std.proofs.Common.{◌≡◌, ℕ, ◌+◌, ◌≤◌, ◌<◌, ◌*◌, List, [], ◌∷◌, ◌++◌, refl, sym, ap, ◌∙◌, subst, Bool, true, false, arith, reverse}
-use Rattle.std.specs.Prelude.{Option, Some, None, Result, Ok, Err, IfOk, IfErr, OnOk, IsErrAnd, IsSome, if◌then◌else◌, is_some}
+use Rattle.std.specs.Prelude.{Option, Some, None, Result, Ok, Err, IfOk, IfErr, OnOk, IsErrAnd, IsSome}
 use Rattle.tex_defs.specs.declared.Token.{Token}
 use Rattle.tex_defs.specs.declared.Seen.{Seen}
 use Rattle.tex_defs.specs.Places.{World, Transcript}
@@ -10,18 +10,15 @@ use Rattle.plain_state.specs.Readings as reading
 use Rattle.plain_state.specs.Readings.{Fed, Tok, Val}
 use Rattle.plain_state.specs.States as machine
 use Rattle.plain_state.specs.States.{State, Reading, Move, Handed, Taken, Feeds, Put, SetCategoryOf, Written, Begun, BegunWith, Ended, Stopped, made, fed_with, fresh, lending}
-use Rattle.plain_machine.specs.Plan.{answered, handed, not_built, begun, begun_with, given_back, put_all, last_seen, effect}
+use Rattle.plain_machine.specs.Plan.{answered, handed, not_built, begun, given_back, put_all, last_seen, effect}
 use Rattle.plain_machine.specs.Runs.{Wrote, step_of, steps}
-use Rattle.plain_machine.specs.Does.{Did, Cut, Why, IsFault, IsWant}
+use Rattle.plain_machine.specs.Does.{Did, IsFault, IsWant}
 use Rattle.plain_machine.proofs.Doing.{did_join, did_one, cut_first, cut_later, wrote_none, wrote_join, same_later}
 use Rattle.plain_machine.proofs.Joins.{steps_join}
 use Rattle.world_io.specs.Told.{FilesTold, SinkTold, world}
 use Rattle.tex_program.specs.declared.scan.Ask.{Ask}
-use Rattle.tex_program.specs.declared.scan.Ask.TheVariants.{More, Inner, Done, Act, Halt}
 use Rattle.tex_program.specs.declared.scan.Kind.{Kind}
-use Rattle.tex_program.specs.declared.scan.Value.{Value}
 use Rattle.tex_program.specs.declared.scan.Want.{Want as ScanWant}
-use Rattle.tex_program.specs.declared.scan.Effect.{Effect}
 use Rattle.tex_program.specs.declared.frame.Frame.{Frame}
 use Rattle.tex_program.specs.declared.reactions.Outcome.{Outcome}
 use Rattle.tex_program.specs.declared.reactions.Outcome.TheVariants as outcome
@@ -30,12 +27,11 @@ use Rattle.tex_program.specs.declared.broken.Broken.TheVariants.{WriteFault, Wan
 use Rattle.tex_program.specs.declared.engine.Engine.{Engine}
 use Rattle.tex_program.specs.declared.engine.Ruled.{Ruled}
 use Rattle.tex_program.specs.declared.engine.Ruled.TheVariants.{Step, Free, Halted}
-use Rattle.tex_program.specs.Sees.{ask_of, kind_of, value_of, effect_of}
-use Rattle.tex_program.specs.Resumes.{IsOpen}
+use Rattle.tex_program.specs.Sees.{ask_of, kind_of}
 use Rattle.tex_program.specs.Begins.{outcome_of, halted, text_at_halt}
-use Rattle.tex_program.specs.Stands.{Stands, WorkStands, WaitStands, Waits, FramesStand, FrameStands, Innermost, IsLast, SameState, SameFrames, state_of}
+use Rattle.tex_program.specs.Stands.{Stands, WorkStands, WaitStands, Waits, FramesStand, FrameStands, Innermost, SameState, state_of}
 use Rattle.tex_program.specs.declared.frame.Frame.TheVariants as frame
-use Rattle.tex_program.specs.Weights.{frame_rank, ask_weight}
+use Rattle.tex_program.specs.Weights.{frame_rank}
 use Rattle.tex_program.specs.Steps.{frames, weight}
 use Rattle.tex_program.specs.declared.input.Pulled as input
 use Rattle.tex_program.specs.declared.input.Pulled.TheVariants as pulls

@@ -1,6 +1,5 @@
 -- A run, rule by rule.
 use Rattle.std.proofs.Common.{◌≡◌, ℕ, ◌+◌, ◌≤◌, List, [], ◌∷◌, ◌++◌, refl, sym, ap, subst, inl, inr, ◌∙◌, arith, Bool, true, false, append_assoc}
-use Rattle.std.specs.Prelude.{Some}
 use Rattle.tex_defs.specs.Places.{World}
 use Rattle.plain_state.specs.States.{State, Move, Reading}
 use Rattle.plain_machine.specs.Runs.{Moves, NeedsStep, Wrote, steps, step_of, made_all}

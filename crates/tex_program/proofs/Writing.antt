@@ -1,10 +1,10 @@
 -- What is written to the transcript, and where a write is cut off.
-use Rattle.std.proofs.Common.{◌≡◌, inl, inr, ℕ, ◌≤◌, List, [], ◌∷◌, refl, subst, sym, arith, take}
+use Rattle.std.proofs.Common.{◌≡◌, inr, ℕ, ◌≤◌, List, [], ◌∷◌, refl, subst, sym, arith, take}
 use Rattle.std.specs.Prelude.{Bool}
-use Rattle.tex_defs.specs.Places.{Place, Transcript, OfFile, World, Later, Rose, grown}
+use Rattle.tex_defs.specs.Places.{Place, Transcript, OfFile, Rose, grown}
 use Rattle.plain_state.specs.States.{State, Move, Written, in_line_after}
 use Rattle.plain_machine.specs.Runs.{Wrote, after}
-use Rattle.plain_machine.specs.Does.{Cut, IsFault, IsWant}
+use Rattle.plain_machine.specs.Does.{IsFault, IsWant}
 use Rattle.plain_machine.proofs.Doing.{cut_in}
 use Rattle.world_io.specs.Told.{FilesTold, SinkTold, world}
 use Rattle.world_io.specs.declared.traits.Fault.{Fault}

@@ -1,5 +1,5 @@
 -- What the engine does for one rule of the machine.
-use Rattle.std.specs.Prelude.{◌≡◌, ℕ, ◌≤◌, List, [], ◌∷◌, Option, Some, None, Bool}
+use Rattle.std.specs.Prelude.{◌≡◌, ℕ, ◌≤◌, List, [], Option, Some, None, Bool}
 use Rattle.tex_defs.specs.Places.{World}
 use Rattle.plain_state.specs.States.{Reading, State, Move}
 use Rattle.plain_state.specs.States as machine
@@ -8,7 +8,6 @@ use Rattle.plain_machine.specs.Plan.{planned, stomach, wanted}
 use Rattle.plain_machine.specs.Runs.{steps, Wrote}
 use Rattle.plain_machine.specs.Does.{Did, Cut, IsFault, IsWant}
 use Rattle.world_io.specs.Told.{FilesTold, SinkTold, world}
-use Rattle.tex_program.specs.declared.reactions.Outcome.{Outcome}
 use Rattle.tex_program.specs.declared.broken.Broken.{Broken}
 use Rattle.tex_program.specs.declared.broken.Broken.TheVariants.{WriteFault, Want, NoRoom}
 use Rattle.tex_program.specs.declared.engine.Engine.{Engine}

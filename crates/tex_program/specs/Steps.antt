@@ -4,7 +4,7 @@ use Rattle.plain_state.specs.Pending.{pulled}
 use Rattle.tex_program.specs.Reads.{gives_step}
 use Rattle.tex_program.specs.Weights.{ask_weight}
 use Rattle.tex_program.specs.declared.scan.Ask.{Ask}
-use Rattle.tex_program.specs.declared.scan.Ask.TheVariants.{More, Inner, Done, Act, Halt}
+use Rattle.tex_program.specs.declared.scan.Ask.TheVariants.{More}
 use Rattle.tex_program.specs.declared.frame.Frame.{Frame}
 use Rattle.tex_program.specs.declared.engine.Engine.{Engine}
 use Rattle.tex_program.specs.declared.engine.Ruled.{Ruled}

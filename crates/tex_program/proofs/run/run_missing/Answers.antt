@@ -4,7 +4,6 @@ use Rattle.plain_state.specs.States.{State, AtFatal}
 use Rattle.plain_machine.specs.Plan.{not_built}
 use Rattle.plain_machine.specs.Meaning.{First, Whole, step_bound, IsFatal}
 use Rattle.world_io.specs.Told.{world}
-use Rattle.tex_program.specs.Stands.{state_of}
 use Rattle.tex_program.specs.Rules.{Halts, Cuts}
 use Rattle.tex_program.specs.Ran.{CutBy}
 use Rattle.tex_program.proofs.Meanings.{at_first, due_whole, due_cut, fault_rose}

@@ -5,7 +5,7 @@ use Rattle.plain_machine.specs.Plan.{effect}
 use Rattle.tex_program.specs.declared.frame.Frame.{Frame}
 use Rattle.tex_program.specs.Sees.{effect_of}
 use Rattle.tex_program.specs.Stands.{FramesStand, state_of}
-use Rattle.tex_program.proofs.Ruling.{ends_went, effect_none, quiet_wrote, same_err, first_cuts}
+use Rattle.tex_program.proofs.Ruling.{ends_went, effect_none, quiet_wrote, same_err}
 use Rattle.tex_program.proofs.engine.Engine.act_and_end.Goals as goal
 
 pub returns-in_err-act-clause-err : goal.returns-in_err-act-clause-err

@@ -1,4 +1,4 @@
-use Rattle.std.proofs.Common.{[], ◌∷◌}
+use Rattle.std.proofs.Common.{[]}
 use Rattle.tex_program.specs.Sees.{kind_of}
 use Rattle.tex_program.specs.Begins.{halted}
 use Rattle.tex_program.specs.Stands.{state_of}

@@ -1,4 +1,4 @@
-use Rattle.std.proofs.Common.{[], ◌∷◌, sym, ap, ◌∙◌, subst, reverse, List, refl}
+use Rattle.std.proofs.Common.{◌∷◌, sym, ap, subst, reverse, List}
 use Rattle.std.specs.Prelude.{is_some}
 use Rattle.plain_state.specs.States.{Ended}
 use Rattle.plain_machine.specs.Plan.{given_back}

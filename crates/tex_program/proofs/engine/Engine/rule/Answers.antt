@@ -1,12 +1,10 @@
-use Rattle.std.proofs.Common.{◌≡◌, List, [], ◌∷◌, ◌++◌, refl, sym, true}
-use Rattle.std.specs.Prelude.{None, Some, is_some}
-use Rattle.plain_state.specs.States.{Reading, Move, Begun, BegunWith, Ended, lending}
-use Rattle.plain_machine.specs.Plan.{effect, given_back}
-use Rattle.plain_state.specs.Readings.{Flag}
+use Rattle.std.proofs.Common.{◌≡◌, ◌∷◌, refl, sym}
+use Rattle.std.specs.Prelude.{None, Some}
+use Rattle.plain_state.specs.States.{lending}
 use Rattle.tex_program.specs.declared.scan.Ask.TheVariants.{More, Inner, Done, Act, Halt}
-use Rattle.tex_program.specs.Sees.{kind_of, value_of, effect_of}
+use Rattle.tex_program.specs.Sees.{kind_of}
 use Rattle.tex_program.specs.Stands.{state_of}
-use Rattle.tex_program.specs.Rules.{world_of, plan_of, DoesRule, Cuts, Went}
+use Rattle.tex_program.specs.Rules.{world_of, DoesRule, Cuts, Went}
 use Rattle.tex_program.proofs.Ruling.{ok_to, err_to, same_err, by_none, by_is, begin_onward, begin_with_onward, waits_now, lends_now, with_is, same_column}
 use Rattle.tex_program.proofs.engine.Engine.rule.Goals as goal
 
