@@ -1,8 +1,9 @@
 -- How a change of one list changes the counts of all.
-use Rattle.std.proofs.Common.{◌≡◌, ℕ, ◌+◌, ◌-◌, ◌<◌, inl, inr, List, Bool, true, false, eqb, cond, length, set, Option, None, Some, refl, sym, ap, ◌∙◌, subst, arith}
+use Rattle.std.proofs.Common.{◌≡◌, ℕ, ◌+◌, ◌-◌, ◌<◌, inl, inr, List, [], ◌∷◌, Bool, true, false, eqb, cond, length, set, Option, None, Some, refl, sym, ap, ◌∙◌, subst, arith}
 use Rattle.std.proofs.lemmas.List.{get_or-set_same, get_or-set_other}
 use Rattle.std.proofs.lemmas.Bool.{cases_lt, cases_eq, eq-eqb, ne_eqb, lt-leb, le-leb}
-use Rattle.token_lists.specs.Table.{Entry, entry_at, holders_at, holders_of, one_more, one_less, marked, with_others}
+use Rattle.tex_defs.specs.declared.Token.{Token}
+use Rattle.token_lists.specs.Table.{Entry, entry_at, holders_at, holders_of, grown, extended, without_first, without_last, one_more, one_less, marked, with_others}
 use Rattle.token_lists.specs.Accounts.{Moves, none, holds}
 use Rattle.token_lists.proofs.Builds.{there_below}
 
@@ -72,3 +73,27 @@ marked_holders mark (Some e) = refl
 
 pub remarked : (old new : List (Option Entry)) (id mark : ℕ) → 0 < holders_at old id → new ≡ set old id (marked mark (entry_at old id)) → Moves old new none none
 remarked old new id mark held after = keeps old new id _ (held_below old id held) after (marked_holders mark (entry_at old id))
+
+pub unchanged : (old new : List (Option Entry)) → new ≡ old → Moves old new none none
+unchanged old new same = λ h. ap (λ (t : List (Option Entry)). holders_at t h + 0) same
+
+extended_holders : (places : List ℕ) (tokens : List Token) (o : Option Entry) → holders_of (extended places tokens o) ≡ holders_of o
+extended_holders places tokens None = refl
+extended_holders places tokens (Some e) = refl
+
+first_holders : (o : Option Entry) → holders_of (without_first o) ≡ holders_of o
+first_holders None = refl
+first_holders (Some e) = refl
+
+last_holders : (o : Option Entry) → holders_of (without_last o) ≡ holders_of o
+last_holders None = refl
+last_holders (Some e) = refl
+
+pub appended : (old new : List (Option Entry)) (id place : ℕ) (token : Token) → holders_at old id ≡ 1 → new ≡ set old id (grown place token (entry_at old id)) → Moves old new none none
+appended old new id place token sole after = keeps old new id _ (held_below old id (omega (arith, sole))) after (extended_holders (place ∷ []) (token ∷ []) (entry_at old id))
+
+pub lost_first : (old new : List (Option Entry)) (id : ℕ) → holders_at old id ≡ 1 → new ≡ set old id (without_first (entry_at old id)) → Moves old new none none
+lost_first old new id sole after = keeps old new id _ (held_below old id (omega (arith, sole))) after (first_holders (entry_at old id))
+
+pub lost_last : (old new : List (Option Entry)) (id : ℕ) → holders_at old id ≡ 1 → new ≡ set old id (without_last (entry_at old id)) → Moves old new none none
+lost_last old new id sole after = keeps old new id _ (held_below old id (omega (arith, sole))) after (last_holders (entry_at old id))

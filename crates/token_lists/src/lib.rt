@@ -187,6 +187,7 @@ impl Lists {
         ensures same { build_id build.new ≡ build_id build.old }
         ensures building { IsBuilding self.new build.new }
         ensures ok { OnOk result (self.new ≡ slice_set self.old (build_id build.old) (grown (build_end build.new) token (entry_at self.old (build_id build.old)))) }
+        ensures account { Moves self.old self.new none none }
         ensures err { OnErr result (self.new ≡ self.old) }
         ensures full { IfErr result (λ f. IsFull f self.old) }
     {
@@ -211,6 +212,7 @@ impl Lists {
         ensures same { build_id build.new ≡ build_id build.old }
         ensures building { IsBuilding self.new build.new }
         ensures ok { OnOk result (Extends self.old self.new (build_id build.old) (tokens_at self.old (id_of list.now))) }
+        ensures account { Moves self.old self.new none none }
         ensures err { OnErr result (ExtendsByPart self.old self.new (build_id build.old) (tokens_at self.old (id_of list.now))) }
         ensures full { IfErr result (λ f. IsFull f self.new) }
     {
@@ -232,6 +234,7 @@ impl Lists {
         ensures same { build_id build.new ≡ build_id build.old }
         ensures building { IsBuilding self.new build.new }
         ensures after { self.new ≡ slice_set self.old (build_id build.old) (without_first (entry_at self.old (build_id build.old))) }
+        ensures account { Moves self.old self.new none none }
     {
         let first = self.mem.link(build.id);
         let next = self.mem.link(first);
@@ -250,6 +253,7 @@ impl Lists {
         ensures same { build_id build.new ≡ build_id build.old }
         ensures building { IsBuilding self.new build.new }
         ensures after { self.new ≡ slice_set self.old (build_id build.old) (without_last (entry_at self.old (build_id build.old))) }
+        ensures account { Moves self.old self.new none none }
     {
         let place = before_last(&self.mem, build.id, build.last);
         self.mem.set_link(place, NIL);
@@ -263,6 +267,7 @@ impl Lists {
         requires { IsBuilding self.now build }
         ensures same { id_of result ≡ build_id build }
         ensures held { IsHeld self.now (id_of result) }
+        ensures account { holds (id_of result) ≡ holds (build_id build) }
     {
         let Build { id, last: _ } = build;
         ListRef { id }

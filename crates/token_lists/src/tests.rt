@@ -1,12 +1,13 @@
 //! Parts that hold lists and read them, as the crates above do, and one life of a list.
 
-ghost use Rattle.std.specs.Prelude.{◌≡◌, ℕ, ◌+◌, ◌<◌, ◌^◌, slice_get, IfOk, None, Some};
-ghost use Rattle.token_lists.specs.Accounts.{IsReading, Moves, holds};
+ghost use Rattle.std.specs.Prelude.{◌≡◌, ℕ, ◌+◌, ◌<◌, ◌^◌, length, slice_get, slice_set, slice_index_or, IfOk, IfSome, IsSome, ◌↔◌, None, Some};
+ghost use Rattle.token_lists.specs.Accounts.{IsReading, Moves, Covers, Keeps, none, holds, cell_holds, cells_hold};
 ghost use Rattle.token_lists.specs.Table.{tokens_at, holders_at, IsHeld};
 ghost use Rattle.token_lists.specs.Ids.{id_of, IsBuilding};
 
 use crate::{Build, ListRef, Lists};
 use mem_words::Place;
+use std::mem;
 use std::test::Fail;
 use tex_defs::{Full, Name, Table, Token};
 
@@ -30,6 +31,112 @@ fn set_register(lists: &mut Lists, from: &ListRef, register: ListRef) -> ListRef
     let shared = lists.share(from);
     lists.release(register);
     shared
+}
+
+// A list that is read, the place of its next token, and how many tokens were read. It holds its list once.
+struct Level {
+    list: ListRef,
+    at: Option<Place>,
+    index: usize,
+}
+
+impl Level {
+    // A level at the first token of a list, of which it is one more holder.
+    fn enter(lists: &mut Lists, list: &ListRef) -> Level
+        requires held { IsHeld lists.old (id_of list.now) }
+        requires countable { holders_at lists.old (id_of list.now) + 1 < 2 ^ 32 }
+        ensures same { id_of result.list ≡ id_of list.now }
+        ensures reading { IsReading lists.new (id_of result.list) result.at result.index }
+        ensures account { Moves lists.old lists.new none (holds (id_of result.list)) }
+    {
+        let list = lists.share(list);
+        let at = lists.first(&list);
+        Level { list, at, index: 0 }
+    }
+
+    // The next token, if one is left.
+    fn pull(&mut self, lists: &Lists) -> Option<Token>
+        requires { IsReading lists.now (id_of self.old.list) self.old.at self.old.index }
+        ensures same { id_of self.new.list ≡ id_of self.old.list }
+        ensures reading { IsReading lists.now (id_of self.new.list) self.new.at self.new.index }
+        ensures ends { IsSome result ↔ (self.old.index < length (tokens_at lists.now (id_of self.old.list))) }
+        ensures token { IfSome result (λ t. slice_get (tokens_at lists.now (id_of self.old.list)) self.old.index ≡ Some t) }
+        ensures steps { IfSome result (λ t. self.new.index ≡ self.old.index + 1) }
+    {
+        let Some(place) = self.at else { return None };
+        // A list is no longer than a u32 tells, so that the index goes on.
+        let _len = lists.len(&self.list);
+        let (token, next) = pull(lists, &self.list, place, self.index);
+        self.at = next;
+        self.index += 1;
+        Some(token)
+    }
+}
+
+// Registers, each with a list or none. They hold together what their cells hold.
+struct Registers {
+    cells: Vec<Option<ListRef>>,
+}
+
+fn share_cell(lists: &mut Lists, cell: &Option<ListRef>) -> Option<ListRef>
+    requires held { IfSome cell.now (λ r. IsHeld lists.old (id_of r)) }
+    requires countable { IfSome cell.now (λ r. holders_at lists.old (id_of r) + 1 < 2 ^ 32) }
+    ensures same { result ≡ cell.now }
+    ensures account { Moves lists.old lists.new none (cell_holds cell.now) }
+    ensures kept { Keeps lists.old lists.new none }
+{
+    match cell {
+        Some(list) => Some(lists.share(list)),
+        None => None,
+    }
+}
+
+fn release_cell(lists: &mut Lists, cell: Option<ListRef>)
+    requires { IfSome cell (λ r. IsHeld lists.old (id_of r)) }
+    ensures account { Moves lists.old lists.new (cell_holds cell) none }
+    ensures kept { Keeps lists.old lists.new (cell_holds cell) }
+{
+    if let Some(list) = cell {
+        lists.release(list);
+    }
+}
+
+impl Registers {
+    // Gives one register the list of another.
+    fn assign(&mut self, lists: &mut Lists, from: usize, to: usize)
+        requires from_in { from < length self.old.cells.items }
+        requires to_in { to < length self.old.cells.items }
+        requires covered { Covers lists.old (cells_hold self.old.cells.items) }
+        requires few { (h : ℕ) → holders_at lists.old h + 1 < 2 ^ 32 }
+        ensures after { self.new.cells.items ≡ slice_set self.old.cells.items to (slice_index_or self.old.cells.items from None) }
+        ensures account { Moves lists.old lists.new (cells_hold self.old.cells.items) (cells_hold self.new.cells.items) }
+        ensures covered { Covers lists.new (cells_hold self.new.cells.items) }
+        ensures kept { Keeps lists.old lists.new (cells_hold self.old.cells.items) }
+    {
+        let shared = share_cell(lists, &self.cells[from]);
+        let old = mem::replace(&mut self.cells[to], shared);
+        release_cell(lists, old);
+    }
+}
+
+// A level goes on reading its list where the register that has it gets another.
+fn assign_while_read(
+    registers: &mut Registers,
+    level: &Level,
+    lists: &mut Lists,
+    from: usize,
+    to: usize,
+)
+    requires from_in { from < length registers.old.cells.items }
+    requires to_in { to < length registers.old.cells.items }
+    requires covered { Covers lists.old (λ h. holds (id_of level.now.list) h + cells_hold registers.old.cells.items h) }
+    requires few { (h : ℕ) → holders_at lists.old h + 1 < 2 ^ 32 }
+    requires reading { IsReading lists.old (id_of level.now.list) level.now.at level.now.index }
+    ensures covered { Covers lists.new (λ h. holds (id_of level.now.list) h + cells_hold registers.new.cells.items h) }
+    ensures reading { IsReading lists.new (id_of level.now.list) level.now.at level.now.index }
+    ensures same { tokens_at lists.new (id_of level.now.list) ≡ tokens_at lists.old (id_of level.now.list) }
+{
+    registers.assign(lists, from, to);
 }
 
 // Appends a word in braces.
