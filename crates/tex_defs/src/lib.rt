@@ -273,8 +273,6 @@ pub enum Fatal {
     DumpInGroup,
     /// The format's file isn't held.
     NoFormat,
-    /// The run is where a part of TeX comes that isn't built yet.
-    NotBuilt,
 }
 
 /// Why a call stopped.

@@ -30,6 +30,7 @@ abbrev pub world : FilesTold → SinkTold → Bool → World
 world f s in_line = record {
   at = stands_at f s;
   in_line = in_line;
+  read_faults = f.read_faults;
   file_faults = f.write_faults;
   sink_faults = s.faults;
   file_wants = f.wants;
