@@ -9,10 +9,10 @@ use Rattle.plain_machine.specs.Does.{Did, Cut, Why, IsFault, IsWant, Refuses, Is
 use Rattle.plain_machine.proofs.Joins.{after_join, columns_join, made_all_join}
 
 pub same_later : (w : World) → Later w w
-same_later w = record { file_faults = omega arith; sink_faults = omega arith; file_wants = omega arith; sink_wants = omega arith }
+same_later w = record { read_faults = omega arith; file_faults = omega arith; sink_faults = omega arith; file_wants = omega arith; sink_wants = omega arith }
 
 pub later_on : (w w' w'' : World) → Later w w' → Later w' w'' → Later w w''
-later_on w w' w'' a b = record { file_faults = omega (arith, a.file_faults, b.file_faults); sink_faults = omega (arith, a.sink_faults, b.sink_faults); file_wants = omega (arith, a.file_wants, b.file_wants); sink_wants = omega (arith, a.sink_wants, b.sink_wants) }
+later_on w w' w'' a b = record { read_faults = omega (arith, a.read_faults, b.read_faults); file_faults = omega (arith, a.file_faults, b.file_faults); sink_faults = omega (arith, a.sink_faults, b.sink_faults); file_wants = omega (arith, a.file_wants, b.file_wants); sink_wants = omega (arith, a.sink_wants, b.sink_wants) }
 
 pub rose_on : (a b c : ℕ) → a ≤ b → Rose b c → Rose a c
 rose_on a b c le h = omega (arith, le, h)

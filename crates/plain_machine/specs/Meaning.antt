@@ -1,17 +1,14 @@
 -- What the program writes and answers, by the plain machine.
-use Rattle.std.specs.Prelude.{◌≡◌, ℕ, ◌+◌, ◌≤◌, List, [], ◌∷◌, ◌++◌, Option, Some, None, take, length, codes, decimal, ◌⊎◌}
-use Rattle.tex_defs.specs.declared.Fatal.TheVariants.{NotBuilt}
+use Rattle.std.specs.Prelude.{◌≡◌, ℕ, ◌+◌, ◌≤◌, Bool, true, false, nat_lt, List, [], ◌∷◌, ◌++◌, Option, Some, None, take, length, codes, decimal, ◌⊎◌}
+use Rattle.tex_defs.specs.declared.Fatal.{Fatal}
 use Rattle.tex_defs.specs.Places.{World, Rose, Transcript, File, Untold, NotHeld, Holds}
 use Rattle.plain_state.specs.Categories.{initial_categories}
 use Rattle.plain_state.specs.States.{State, Move, Written, Outcome, Finished, AtFatal}
-use Rattle.plain_machine.specs.Plan.{fresh_line, first_state}
+use Rattle.plain_state.specs.Reports.{fresh_line}
+use Rattle.plain_machine.specs.Plan.{first_state}
 use Rattle.plain_machine.specs.Runs.{Trace, NeedsStep, Wrote}
 use Rattle.plain_machine.specs.Does.{Why, IsFault, IsWant, CutAt, MomentWritten}
 use Rattle.plain_machine.specs.Words.{Command, Init, NoCommand}
-
--- the steps that a run may take
-abbrev pub step_bound : ℕ
-step_bound = 10000000
 
 -- THE STOP LINES
 
@@ -38,9 +35,9 @@ pub record Line (w w' : World) (line : List ℕ) : Type 0 where
 
 -- THE RUN
 
--- INITEX's first state, with the job's file opened where it is held
-abbrev pub First : Option (List ℕ) → State
-First job = first_state initial_categories job
+-- INITEX's first state, with the job's file opened where it is held; token lines may be left out
+abbrev pub First : (quiet : Bool) → (file : List ℕ) → (job : Option (List ℕ)) → State
+First quiet file job = first_state initial_categories quiet file job
 
 -- The machine's whole run ended so, and all that it writes is written.
 pub record Whole (s : State) (n : ℕ) (w w' : World) (o : Outcome) : Type 0 where
@@ -49,6 +46,16 @@ pub record Whole (s : State) (n : ℕ) (w w' : World) (o : Outcome) : Type 0 whe
   pub trace : Trace s n ms t
   pub stopped : t.stopped ≡ Some o
   pub written : Wrote w w' ms
+
+-- It ended at `\\end`, without or with a report before it.
+pub record Ending (s : State) (n : ℕ) (w w' : World) (flawed : Bool) : Type 0 where
+  pub whole : Whole s n w w' Finished
+  pub reports : nat_lt 0 whole.t.reports ≡ flawed
+
+-- It ended at something fatal.
+pub record Fails (s : State) (n : ℕ) (w w' : World) : Type 0 where
+  pub fatal : Fatal
+  pub whole : Whole s n w w' (AtFatal fatal)
 
 -- The machine took n steps and needs one more. All that it writes is written, and then the stop line.
 pub record OutOfSteps (s : State) (n : ℕ) (w w' : World) : Type 0 where
@@ -81,6 +88,7 @@ pub record NotBegun (w w' : World) (line : List ℕ) : Type 0 where
 -- The exit statuses.
 pub data Status : ℕ → Type 0 where
   IsFinished : Status 0
+  IsFlawed : Status 1
   IsFatal : Status 2
   IsSteps : Status 4
   IsReadFault : Status 5
@@ -89,8 +97,9 @@ pub data Status : ℕ → Type 0 where
 
 -- What a status says of a run from s of at most n steps.
 abbrev pub Says : State → ℕ → World → World → (status : ℕ) → Status status → Type 0
-Says s n w w' _ IsFinished = Whole s n w w' Finished
-Says s n w w' _ IsFatal = Whole s n w w' (AtFatal NotBuilt)
+Says s n w w' _ IsFinished = Ending s n w w' false
+Says s n w w' _ IsFlawed = Ending s n w w' true
+Says s n w w' _ IsFatal = Fails s n w w'
 Says s n w w' _ IsSteps = OutOfSteps s n w w'
 Says s n w w' _ IsReadFault = NotBegun w w' read_fault_line
 Says s n w w' _ IsWriteFault = CutShort s n w w' IsFault write_fault_line
@@ -103,11 +112,11 @@ IsJob NotHeld job = job ≡ None
 IsJob (Holds bytes) job = job ≡ Some bytes
 
 -- The run of a job's file: of a file that is told the machine's run, of another the machine's run over some content.
-pub record MeansRun (file : File) (n : ℕ) (w w' : World) (status : ℕ) : Type 0 where
+pub record MeansRun (quiet : Bool) (name : List ℕ) (file : File) (n : ℕ) (w w' : World) (status : ℕ) : Type 0 where
   pub job : Option (List ℕ)
   pub is_job : IsJob file job
   pub is : Status status
-  pub says : Says (First job) n w w' status is
+  pub says : Says (First quiet name job) n w w' status is
 
 -- Words that are no command: the usage line alone.
 pub record MeansUsage (w w' : World) (status : ℕ) : Type 0 where
@@ -115,6 +124,6 @@ pub record MeansUsage (w w' : World) (status : ℕ) : Type 0 where
   pub line : Line w w' usage_line
 
 -- What the program writes and answers for its words.
-abbrev pub Means : Command → (List ℕ → File) → ℕ → World → World → ℕ → Type 0
-Means (Init name) file n w w' status = MeansRun (file name) n w w' status
-Means NoCommand file n w w' status = MeansUsage w w' status
+abbrev pub Means : Command → (List ℕ → File) → World → World → ℕ → Type 0
+Means (Init name options) file w w' status = MeansRun options.quiet name (file name) options.steps w w' status
+Means NoCommand file w w' status = MeansUsage w w' status

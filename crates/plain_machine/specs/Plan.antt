@@ -1,64 +1,115 @@
 -- The plain machine: the moves of the rule that comes next, and the next move.
-use Rattle.std.specs.Prelude.{ℕ, Bool, true, false, not, ◌==◌, ◌&&◌, List, [], ◌∷◌, ◌++◌, codes, if◌then◌else◌, Option, Some, None}
+use Rattle.std.specs.Prelude.{ℕ, Bool, true, false, ◌==◌, List, [], ◌∷◌, ◌++◌, nat_lt, if◌then◌else◌, Option, Some, None}
 use Rattle.tex_defs.specs.declared.Token.{Token}
+use Rattle.tex_defs.specs.declared.Token.TheVariants as token
 use Rattle.tex_defs.specs.declared.Meaning.{Meaning}
 use Rattle.tex_defs.specs.declared.Meaning.TheVariants as means
 use Rattle.tex_defs.specs.declared.Seen.{Seen}
-use Rattle.tex_defs.specs.declared.Fatal.TheVariants.{NotBuilt}
+use Rattle.tex_defs.specs.declared.Fatal.TheVariants.{NoEnd, NoFile, HundredErrors}
 use Rattle.tex_defs.specs.Places.{Transcript}
-use Rattle.plain_state.specs.Categories.{space}
-use Rattle.plain_state.specs.Names.{seen, end_primitive, message_primitive, catcode_primitive}
+use Rattle.plain_state.specs.Categories.{end_group}
+use Rattle.plain_state.specs.Names.{seen, name_of, end_primitive, message_primitive, catcode_primitive}
 use Rattle.plain_state.specs.Printed.{shown_all}
+use Rattle.plain_state.specs.Reports.{Report, UndefinedName, InvalidCharacter, FileEndedInText, NoSuchFile, fresh_line, report_bytes, hundred_line, emergency, no_end_line, no_file_line, token_line_bytes, runaway_bytes}
 use Rattle.plain_state.specs.Lex.{NewLine}
-use Rattle.plain_state.specs.Pending.{Pulled, TokenFrom, LineTaken, InvalidMet, NothingLeft, pulled}
-use Rattle.plain_state.specs.Readings.{Kind, Catcode, Message, Want, Raw, Expanded, Nonblank, Effect, SetCategory, Say, Fed, Tok, Val, Value, Flag, Ask, More, Inner, Done, Act, Halt, ask, is_space, is_undefined}
-use Rattle.plain_state.specs.States.{Reading, Outcome, Finished, AtFatal, Move, Handed, Taken, Feeds, Put, SetCategoryOf, Written, Begun, BegunWith, Ended, Stopped, State, made}
+use Rattle.plain_state.specs.Pending.{Pulled, TokenFrom, LineTaken, InvalidMet, FileOver, NothingLeft, Progress, NotBegun, Closed, pulled}
+use Rattle.plain_state.specs.Readings.{Kind, Catcode, Message, Integer, Text, Want, Raw, Expanded, Nonblank, Effect, SetCategory, Say, Fed, Tok, Val, Told, Value, Flag, Ask, More, Inner, Done, Act, Tells, ask, so_far, is_space, is_undefined}
+use Rattle.plain_state.specs.States.{Reading, Outcome, Finished, AtFatal, Move, Handed, Taken, Skipped, FileClosed, Feeds, Noted, Put, SetCategoryOf, Written, Begun, BegunWith, Ended, Reported, Stopped, State, made, in_line_after}
 
--- a line feed, where the column isn't 0
-abbrev pub fresh_line : Bool → List ℕ
-fresh_line in_line = if in_line then 10 ∷ [] else []
+-- What the texts of a rule depend on: whether the transcript's column isn't 0, the number of the line that is read,
+-- the reports so far, and whether token lines are left out.
+pub record Page : Type 0 where
+  pub in_line : Bool
+  pub line : ℕ
+  pub reports : ℕ
+  pub quiet : Bool
 
-abbrev pub not_built_line : List ℕ
-not_built_line = codes "! Not built yet.\n"
+abbrev pub page_of : State → Page
+page_of s = record { in_line = s.in_line; line = s.pending.number; reports = s.reports; quiet = s.quiet }
 
 -- `\end`: the run ends on a fresh line
 abbrev pub finish : Bool → List Move
 finish in_line = Written Transcript (fresh_line in_line) ∷ Stopped Finished ∷ []
 
--- where a report would come, a token line, or the end of a run without `\end`
-abbrev pub not_built : Bool → List Move
-not_built in_line = Written Transcript (fresh_line in_line ++ not_built_line) ∷ Stopped (AtFatal NotBuilt) ∷ []
+-- nothing is left to be read
+abbrev pub no_end : Bool → List Move
+no_end in_line = Written Transcript (fresh_line in_line ++ (emergency ++ no_end_line)) ∷ Stopped (AtFatal NoEnd) ∷ []
 
-abbrev pub primitive : Bool → ℕ → List Move
-primitive in_line number =
+-- the reports that a run may have, but for the last
+abbrev pub reports_room : ℕ
+reports_room = 99
+
+-- Behind a report the rule goes on, but behind the hundredth the run ends.
+abbrev pub behind_report : ℕ → List Move → List Move
+behind_report reports rest =
+    if nat_lt reports reports_room then rest else Written Transcript hundred_line ∷ Stopped (AtFatal HundredErrors) ∷ []
+
+-- a report, and the moves behind it
+abbrev pub reported : Page → Report → List Move → List Move
+reported page report rest = Written Transcript (report_bytes page.in_line page.line report) ∷ Reported ∷ behind_report page.reports rest
+
+-- a token that only typesetting would use
+abbrev pub token_line : Page → Meaning Unit → List Move
+token_line page m = if page.quiet then [] else Written Transcript (token_line_bytes page.in_line m) ∷ []
+
+abbrev pub primitive : Page → Token → ℕ → List Move
+primitive page t number =
     if number == catcode_primitive then Begun Catcode ∷ []
-    else if number == message_primitive then Begun Message ∷ []
-    else if number == end_primitive then finish in_line
-    else not_built in_line
+    else if number == message_primitive then Begun (Message (name_of t)) ∷ []
+    else if number == end_primitive then finish page.in_line
+    else token_line page (means.Prim number)
 
 -- a token where no reading is open
-abbrev pub command : Bool → Meaning Unit → List Move
-command in_line (means.Prim number) = primitive in_line number
-command in_line m = not_built in_line
+abbrev pub command : Page → Token → Meaning Unit → List Move
+command page t (means.Prim number) = primitive page t number
+command page t means.Undefined = reported page UndefinedName []
+command page t m = token_line page m
 
--- a token read by X: an undefined name is reported
-abbrev pub expanded : Bool → Seen → List Move
-expanded in_line x = if is_undefined x.meaning then not_built in_line else Feeds x ∷ []
+-- a token read by X: an undefined name is reported, and dropped
+abbrev pub expanded : Page → Seen → List Move
+expanded page x = if is_undefined x.meaning then reported page UndefinedName [] else Feeds x ∷ []
 
-abbrev pub wanted : Bool → Want → Seen → List Move
-wanted in_line Raw x = Feeds x ∷ []
-wanted in_line Expanded x = expanded in_line x
-wanted in_line Nonblank x = if is_space x then [] else expanded in_line x
+abbrev pub wanted : Page → Want → Seen → List Move
+wanted page Raw x = Feeds x ∷ []
+wanted page Expanded x = expanded page x
+wanted page Nonblank x = if is_space x then [] else expanded page x
 
-abbrev pub stomach : Bool → Seen → List Move
-stomach in_line x = command in_line x.meaning
+abbrev pub stomach : Page → Seen → List Move
+stomach page x = command page x.token x.meaning
+
+abbrev pub right_brace : Token
+right_brace = token.Char end_group 125
+
+-- where the file has ended
+abbrev pub without_file : Page → Page
+without_file page = record { in_line = page.in_line; line = 0; reports = page.reports; quiet = page.quiet }
+
+-- behind a text
+abbrev pub page_behind : Page → List ℕ → Page
+page_behind page text = record { in_line = in_line_after page.in_line text; line = page.line; reports = page.reports; quiet = page.quiet }
+
+-- A text runs away: the list so far is shown, `}` inserted, and the report comes.
+abbrev pub ran_away : List ℕ → Page → Report → List Token → List Move
+ran_away categories page report list =
+    Written Transcript (runaway_bytes categories page.in_line list) ∷ Put (right_brace ∷ [])
+    ∷ reported (page_behind page (runaway_bytes categories page.in_line list)) report []
+
+-- the check where a file has ended while a reading goes on
+abbrev pub checked_reading : List ℕ → Page → Reading → Kind → List Move
+checked_reading categories page r (Text name) = ran_away categories page (FileEndedInText name) (so_far r.kind r.fed)
+checked_reading categories page r k = []
+
+abbrev pub checked : List ℕ → Page → List Reading → List Move
+checked categories page [] = []
+checked categories page (r ∷ rs) = checked_reading categories page r r.kind
 
 -- the next token or line, and what is made of the token
-abbrev pub handed : Bool → (Seen → List Move) → Pulled → List Move
-handed in_line onward (TokenFrom t p) = Handed t ∷ onward (seen t)
-handed in_line onward (LineTaken line p) = Taken line ∷ []
-handed in_line onward InvalidMet = not_built in_line
-handed in_line onward NothingLeft = not_built in_line
+abbrev pub handed : Page → (Seen → List Move) → List Move → Pulled → List Move
+handed page onward check (TokenFrom t p) = Handed t ∷ onward (seen t)
+handed page onward check (LineTaken line p) = Taken line ∷ []
+handed page onward check (InvalidMet p) = Skipped ∷ reported page InvalidCharacter []
+handed page onward check (FileOver p) = FileClosed ∷ check
+handed page onward check NothingLeft = no_end page.in_line
 
 -- A message: a space where the column isn't 0, and the list shown.
 abbrev pub message_text : List ℕ → Bool → List Token → List ℕ
@@ -73,7 +124,15 @@ abbrev pub last_seen : List Fed → List Seen
 last_seen [] = []
 last_seen (Tok x ∷ []) = x ∷ []
 last_seen (Val v ∷ []) = []
+last_seen (Told ∷ []) = []
 last_seen (x ∷ y ∷ fed) = last_seen (y ∷ fed)
+
+-- a report was the last
+abbrev pub is_told : List Fed → Bool
+is_told [] = false
+is_told (Told ∷ []) = true
+is_told (x ∷ []) = false
+is_told (x ∷ y ∷ fed) = is_told (y ∷ fed)
 
 abbrev pub put_all : List Seen → List Move
 put_all [] = []
@@ -91,17 +150,23 @@ begun_with k lent (x ∷ xs) = if lent then Begun k ∷ [] else BegunWith k x �
 abbrev pub begun : Kind → Bool → Reading → List Move
 begun k begins r = if begins then begun_with k r.lent (last_seen r.fed) else Begun k ∷ []
 
+-- A reading reports once, and then goes on; one that would report again for nothing new ends.
+abbrev pub told : Page → Report → Bool → List Fed → List Move
+told page report back fed =
+    if is_told fed then Ended (Flag false) ∷ []
+    else given_back back fed ++ reported page report (Noted ∷ [])
+
 -- what comes of an answer
-abbrev pub answered : State → Reading → Ask → List Move
-answered s r (More want) = handed s.in_line (wanted s.in_line want) (pulled s.categories s.pending)
-answered s r (Inner k begins) = begun k begins r
-answered s r (Done v back) = given_back back r.fed ++ Ended v ∷ []
-answered s r (Act e) = effect s e ++ Ended (Flag true) ∷ []
-answered s r Halt = not_built s.in_line
+abbrev pub answered : State → List Reading → Reading → Ask → List Move
+answered s work r (More want) = handed (page_of s) (wanted (page_of s) want) (checked s.categories (without_file (page_of s)) work) (pulled s.categories s.pending)
+answered s work r (Inner k begins) = begun k begins r
+answered s work r (Done v back) = given_back back r.fed ++ Ended v ∷ []
+answered s work r (Act e) = effect s e ++ Ended (Flag true) ∷ []
+answered s work r (Tells report back) = told (page_of s) report back r.fed
 
 abbrev pub planned : State → List Reading → List Move
-planned s [] = handed s.in_line (stomach s.in_line) (pulled s.categories s.pending)
-planned s (r ∷ rs) = answered s r (ask r.kind r.fed)
+planned s [] = handed (page_of s) (stomach (page_of s)) [] (pulled s.categories s.pending)
+planned s (r ∷ rs) = answered s (r ∷ rs) r (ask r.kind r.fed)
 
 -- the moves of the next rule
 abbrev pub plan : State → Option Outcome → List Move
@@ -129,16 +194,29 @@ abbrev pub file_opened : Option (List ℕ) → List ℕ
 file_opened None = []
 file_opened (Some bytes) = bytes
 
-abbrev pub job_due : Option (List ℕ) → List Move
-job_due None = not_built false
-job_due (Some bytes) = []
+-- a job whose file isn't held
+abbrev pub no_file : List ℕ → List Move
+no_file file =
+    Written Transcript (report_bytes false 0 (NoSuchFile file)) ∷ Reported
+    ∷ Written Transcript (emergency ++ no_file_line) ∷ Stopped (AtFatal NoFile) ∷ []
 
-abbrev pub first_state : List ℕ → Option (List ℕ) → State
-first_state categories job = record {
-  pending = record { front = []; line = []; lex = NewLine; rest = file_opened job; begun = false };
+abbrev pub job_due : List ℕ → Option (List ℕ) → List Move
+job_due file None = no_file file
+job_due file (Some bytes) = []
+
+abbrev pub job_progress : Option (List ℕ) → Progress
+job_progress None = Closed
+job_progress (Some bytes) = NotBegun
+
+-- where the job of a file begins, which has these bytes, if it is held
+abbrev pub first_state : List ℕ → Bool → List ℕ → Option (List ℕ) → State
+first_state categories quiet file job = record {
+  pending = record { front = []; line = []; lex = NewLine; rest = file_opened job; file = job_progress job; number = 0 };
   categories = categories;
   work = [];
   in_line = false;
+  reports = 0;
+  quiet = quiet;
   stopped = None;
-  due = job_due job;
+  due = job_due file job;
 }

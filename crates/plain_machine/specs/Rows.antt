@@ -1,5 +1,5 @@
 -- The machine run on small files: what it writes to the transcript within so many moves, and its status.
-use Rattle.std.specs.Prelude.{ℕ, zero, suc, ◌+◌, List, [], ◌∷◌, ◌++◌, Option, Some, None, ◌≡◌, codes}
+use Rattle.std.specs.Prelude.{ℕ, zero, suc, ◌+◌, false, List, [], ◌∷◌, ◌++◌, Option, Some, None, ◌≡◌, codes}
 use Rattle.plain_state.specs.Categories.{initial_categories}
 use Rattle.plain_state.specs.States.{State, Move, Written, Outcome, Finished, AtFatal}
 use Rattle.plain_machine.specs.Plan.{Next, Ends, Goes, next, next_of, first_state}
@@ -27,7 +27,7 @@ run_of zero s = record { text = []; steps = 0; stopped = s.stopped }
 run_of (suc n) s = went s (λ u. run_of n u) (next_of s s.due)
 
 unfoldable pub job_of : List ℕ → Result
-job_of bytes = run_of 300 (first_state initial_categories (Some bytes))
+job_of bytes = run_of 300 (first_state initial_categories false [] (Some bytes))
 
 -- `{`, `}`, `#` and `^` get their usual categories
 abbrev pub first_line_usual : List ℕ

@@ -4,7 +4,7 @@
 #![tactic(auto)]
 
 ghost use Rattle.std.specs.Prelude.{codes, ◌++◌, ◌∷◌, []};
-ghost use Rattle.tex_defs.specs.declared.Fatal.TheVariants.{NotBuilt};
+ghost use Rattle.tex_defs.specs.declared.Fatal.TheVariants.{NoEnd};
 ghost use Rattle.plain_state.specs.States.{Finished, AtFatal};
 ghost use Rattle.plain_machine.specs.Rows.{Writes, Runs as RunsSo, first_line_usual};
 ghost use Rattle.plain_machine.specs.Runs.{RunsAreOne, EachHasRun, SumsOfSteps};
@@ -28,22 +28,27 @@ pub fn sums_of_steps()
 pub fn worked_rows()
     ensures usual { RunsSo (first_line_usual ++ codes "\\end\n") (codes "") 31 Finished }
     ensures hi { RunsSo (first_line_usual ++ codes "\\message{hi}\\end\n") (codes "hi\n") 36 Finished }
-    ensures letter { Writes (first_line_usual ++ codes "\\message{hi}x\\end\n") (codes "hi\n! Not built yet.\n") (AtFatal NotBuilt) }
-    ensures empty { RunsSo [] (codes "! Not built yet.\n") 2 (AtFatal NotBuilt) }
-    ensures no_end { Writes (first_line_usual ++ codes "\\message{hi}%\n") (codes "hi\n! Not built yet.\n") (AtFatal NotBuilt) }
+    ensures letter { Writes (first_line_usual ++ codes "\\message{hi}x\\end\n") (codes "hi\n{the letter x}\n") Finished }
+    ensures empty { RunsSo [] (codes "{\\par}\n! Emergency stop.\n*** (job aborted, no legal \\end found)\n") 2 (AtFatal NoEnd) }
+    ensures no_end { Writes (first_line_usual ++ codes "\\message{hi}%\n") (codes "hi\n! Emergency stop.\n*** (job aborted, no legal \\end found)\n") (AtFatal NoEnd) }
     ensures two { Writes (first_line_usual ++ codes "\\message{a}%\n\\message{b}%\n\\end") (codes "a b\n") Finished }
-    ensures blank { Writes (first_line_usual ++ codes "\\message{a}\n\\end\n") (codes "a\n! Not built yet.\n") (AtFatal NotBuilt) }
+    ensures blank { Writes (first_line_usual ++ codes "\\message{a}\n\\end\n") (codes "a\n{blank space  }\n") Finished }
     ensures carriage_returns { Writes (codes "\\catcode`\\{=1 \\catcode`\\}=2 \r\n\\message{x}%\r\n\\end \r\n") (codes "x\n") Finished }
     ensures long_text { Writes (first_line_usual ++ codes "\\message{a  \n\tb{c\n}d{}}\\end\n") (codes "a ^^Ib{c }d{}\n") Finished }
     ensures octal { Writes (codes "\\catcode'173='1\\catcode\"7D=\"2\\message{o}\\end") (codes "o\n") Finished }
     ensures signs { Writes (codes "\\catcode - -123 1\\catcode`}+2 \\message{s}\\end") (codes "s\n") Finished }
     ensures shown { Writes (first_line_usual ++ codes "\\message{#^%\n\\end\\message a\\catcode 1}\\end\n") (codes "##^\\end \\message a\\catcode 1\n") Finished }
-    ensures active { Writes (first_line_usual ++ codes "\\catcode`\\~=13 \\message{a~}\\end\n") (codes "! Not built yet.\n") (AtFatal NotBuilt) }
+    ensures active { Writes (first_line_usual ++ codes "\\catcode`\\~=13 \\message{a~}\\end\n") (codes "! Undefined control sequence.\nl.2\na\n") Finished }
     ensures ignored { Writes (first_line_usual ++ codes "\\catcode`\\x=9 \\message{axbx}\\end\n") (codes "ab\n") Finished }
     ensures comment { Writes (first_line_usual ++ codes "\\catcode`\\x=14 \\message{a}xb\n\\end\n") (codes "a\n") Finished }
     ensures other_escape { Writes (first_line_usual ++ codes "\\catcode`\\|=0 |message{|end}|end\n") (codes "\\end \n") Finished }
-    ensures null_printed { Writes (codes "\\catcode`\\{=1 \\catcode`\\}=2 \\catcode0=12 \\message{" ++ (0 ∷ 255 ∷ 127 ∷ [])) (codes "! Not built yet.\n") (AtFatal NotBuilt) }
+    ensures null_printed { Writes (codes "\\catcode`\\{=1 \\catcode`\\}=2 \\catcode0=12 \\message{" ++ (0 ∷ 255 ∷ 127 ∷ [])) (codes "! Text line contains an invalid character.\nl.1\nRunaway text?\n\n^^ff \n! File ended while scanning text of \\message.\nl.0\n\n^^ff \n! Emergency stop.\n*** (job aborted, no legal \\end found)\n") (AtFatal NoEnd) }
     ensures line_feed_printed { Writes (codes "\\catcode`\\{=1 \\catcode`\\}=2 \\catcode0=12 \\message{a" ++ (0 ∷ 255 ∷ codes "}\\end")) (codes "a\n^^ff\n") Finished }
-    ensures too_great { Writes (codes "\\catcode2147483648=1 ") (codes "! Not built yet.\n") (AtFatal NotBuilt) }
-    ensures no_category { Writes (codes "\\catcode`\\x=16 ") (codes "! Not built yet.\n") (AtFatal NotBuilt) }
+    ensures too_great { Writes (codes "\\catcode2147483648=1 ") (codes "! Number too big.\nl.1\n! Bad character code (2147483647).\nl.1\n! Emergency stop.\n*** (job aborted, no legal \\end found)\n") (AtFatal NoEnd) }
+    ensures undefined { Writes (codes "\\foo\\end") (codes "! Undefined control sequence.\nl.1\n") Finished }
+    ensures brace_missing { Writes (first_line_usual ++ codes "\\message x}\\end") (codes "! Missing { inserted.\nl.2\nx\n") Finished }
+    ensures run_away { Writes (first_line_usual ++ codes "\\message{hi") (codes "Runaway text?\nhi \n! File ended while scanning text of \\message.\nl.0\nhi \n! Emergency stop.\n*** (job aborted, no legal \\end found)\n") (AtFatal NoEnd) }
+    ensures improper { Writes (codes "\\catcode`\\foo 5 \\end") (codes "! Improper alphabetic constant.\nl.1\n! Undefined control sequence.\nl.1\n") Finished }
+    ensures missing { Writes (codes "\\catcode`\\x=\\end\\end") (codes "! Missing number, treated as zero.\nl.1\n") Finished }
+    ensures no_category { Writes (codes "\\catcode`\\x=16 ") (codes "! Invalid code (16), should be in the range 0..15.\nl.1\n! Emergency stop.\n*** (job aborted, no legal \\end found)\n") (AtFatal NoEnd) }
 {}

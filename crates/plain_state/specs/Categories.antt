@@ -10,11 +10,23 @@ begin_group = 1
 abbrev pub end_group : ℕ
 end_group = 2
 
+abbrev pub math_shift : ℕ
+math_shift = 3
+
+abbrev pub alignment_tab : ℕ
+alignment_tab = 4
+
 abbrev pub end_of_line : ℕ
 end_of_line = 5
 
 abbrev pub parameter : ℕ
 parameter = 6
+
+abbrev pub superscript : ℕ
+superscript = 7
+
+abbrev pub subscript : ℕ
+subscript = 8
 
 abbrev pub ignored : ℕ
 ignored = 9

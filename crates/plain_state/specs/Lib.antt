@@ -5,6 +5,7 @@ pub mod Lines
 pub mod Lex
 pub mod Names
 pub mod Pending
+pub mod Reports
 pub mod Readings
 pub mod States
 pub mod LineLaws

@@ -14,6 +14,9 @@ use Rattle.tex_defs.specs.declared.Seen.{Seen}
 abbrev pub end_primitive : ℕ
 end_primitive = 6
 
+abbrev pub par_primitive : ℕ
+par_primitive = 5
+
 abbrev pub message_primitive : ℕ
 message_primitive = 9
 
@@ -23,7 +26,8 @@ catcode_primitive = 35
 -- A name of two or more characters. One that isn't entered is met and undefined.
 abbrev pub word : List ℕ → Name
 word bytes =
-    if bytes_eq bytes (codes "end") then Word end_primitive
+    if bytes_eq bytes (codes "par") then Word par_primitive
+    else if bytes_eq bytes (codes "end") then Word end_primitive
     else if bytes_eq bytes (codes "message") then Word message_primitive
     else if bytes_eq bytes (codes "catcode") then Word catcode_primitive
     else name.Frozen Unknown
@@ -31,13 +35,14 @@ word bytes =
 -- the characters of a name, by its number
 abbrev pub spelling_of : ℕ → List ℕ
 spelling_of number =
-    if number == end_primitive then codes "end"
+    if number == par_primitive then codes "par"
+    else if number == end_primitive then codes "end"
     else if number == message_primitive then codes "message"
     else if number == catcode_primitive then codes "catcode"
     else []
 
 abbrev pub is_primitive : ℕ → Bool
-is_primitive number = if number == end_primitive then true else if number == message_primitive then true else number == catcode_primitive
+is_primitive number = if number == par_primitive then true else if number == end_primitive then true else if number == message_primitive then true else number == catcode_primitive
 
 abbrev pub name_meaning : Name → Meaning Unit
 name_meaning (Word number) = if is_primitive number then means.Prim number else means.Undefined
@@ -48,6 +53,12 @@ meaning (token.Char category c) = means.Char category c
 meaning (token.Named name) = name_meaning name
 meaning (token.Marked name) = name_meaning name
 meaning t = means.Undefined
+
+-- the name that a token is
+abbrev pub name_of : Token → Name
+name_of (token.Named name) = name
+name_of (token.Marked name) = name
+name_of t = name.Empty
 
 -- a token with what it means now
 abbrev pub seen : Token → Seen

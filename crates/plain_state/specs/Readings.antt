@@ -1,5 +1,5 @@
 -- The readings: what each asks for after all that it was fed with.
-use Rattle.std.specs.Prelude.{ℕ, ℤ, pos, negsuc, ◌-ℤ◌, ◌+◌, ◌-◌, ◌*◌, Bool, List, [], ◌∷◌, ◌==◌, true, false, not, if◌then◌else◌, ◌&&◌, ◌||◌, nat_le, fold, Option, Some, None}
+use Rattle.std.specs.Prelude.{ℕ, ℤ, pos, negsuc, ◌-ℤ◌, ◌+◌, ◌-◌, ◌*◌, Bool, List, [], ◌∷◌, ◌==◌, true, false, not, if◌then◌else◌, ◌&&◌, ◌||◌, nat_le, Option, Some, None}
 use Rattle.tex_defs.specs.declared.Token.{Token}
 use Rattle.tex_defs.specs.declared.Token.TheVariants as token
 use Rattle.tex_defs.specs.declared.Name.{Name}
@@ -8,13 +8,14 @@ use Rattle.tex_defs.specs.declared.Meaning.{Meaning}
 use Rattle.tex_defs.specs.declared.Meaning.TheVariants as means
 use Rattle.tex_defs.specs.declared.Seen.{Seen}
 use Rattle.plain_state.specs.Categories.{begin_group, end_group, space, letter, other, is_between}
+use Rattle.plain_state.specs.Reports.{Report, ImproperConstant, MissingNumber, NumberTooBig, BadCharacterCode, InvalidCode, MissingBrace}
 
--- the commands of the stomach, an integer, a balanced text
+-- the commands of the stomach, an integer, a balanced text; a name is that of the command, as it was written
 pub data Kind : Type 0 where
   Catcode : Kind
-  Message : Kind
+  Message : Name → Kind
   Integer : Kind
-  Text : Kind
+  Text : Name → Kind
 
 -- the value of a reading
 pub data Value : Type 0 where
@@ -23,10 +24,11 @@ pub data Value : Type 0 where
   -- a command is done
   Flag : Bool → Value
 
--- what a reading is fed with: a token, or the value of an inner reading
+-- what a reading is fed with: a token, the value of an inner reading, or a note that its report was written
 pub data Fed : Type 0 where
   Tok : Seen → Fed
   Val : Value → Fed
+  Told : Fed
 
 -- a token raw, by X, or by X with spaces skipped
 pub data Want : Type 0 where
@@ -40,18 +42,17 @@ pub data Effect : Type 0 where
   Say : List Token → Effect
 
 -- What a reading asks for: a token; an inner reading, which may begin with the last token; to end with a value,
--- where the last token may be given back; to act and end; or a report comes, which isn't built yet.
+-- or to report, where the last token may be given back before; to act and end.
 pub data Ask : Type 0 where
   More : Want → Ask
   Inner : Kind → (begins : Bool) → Ask
   Done : Value → (give_back : Bool) → Ask
   Act : Effect → Ask
-  Halt : Ask
+  Tells : Report → (give_back : Bool) → Ask
 
-abbrev pub tokens_of : List Fed → List Seen
-tokens_of [] = []
-tokens_of (Tok x ∷ fed) = x ∷ tokens_of fed
-tokens_of (Val v ∷ fed) = tokens_of fed
+-- The end of a reading that was fed with what it didn't ask for, to which no run comes.
+abbrev pub senseless : Ask
+senseless = Done (Flag false) false
 
 -- an explicit character of this category
 abbrev pub has_category : ℕ → Token → Bool
@@ -75,26 +76,13 @@ is_undefined m = false
 abbrev pub is_space : Seen → Bool
 is_space x = means_category space x.meaning
 
-abbrev pub seen_while : (Seen → Bool) → List Seen → List Seen
-seen_while p [] = []
-seen_while p (x ∷ xs) = if p x then x ∷ seen_while p xs else []
-
-abbrev pub seen_after : (Seen → Bool) → List Seen → List Seen
-seen_after p [] = []
-seen_after p (x ∷ xs) = if p x then seen_after p xs else x ∷ xs
-
 -- INTEGERS. Signs, then a constant or digits, then one space.
 
 abbrev pub is_minus : Seen → Bool
 is_minus x = is_other 45 x.token
 
-abbrev pub is_sign : Seen → Bool
-is_sign x = is_other 43 x.token || is_minus x
-
--- an odd number of minus signs
-abbrev pub is_negative : List Seen → Bool
-is_negative [] = false
-is_negative (x ∷ xs) = if is_minus x then not (is_negative xs) else is_negative xs
+abbrev pub is_plus : Seen → Bool
+is_plus x = is_other 43 x.token
 
 -- 0 to 9 of category 12, and in hexadecimal constants A to F of category 11 or 12
 abbrev pub is_digit_code : ℕ → ℕ → ℕ → Bool
@@ -116,33 +104,55 @@ abbrev pub digit_of_token : Token → ℕ
 digit_of_token (token.Char category code) = digit_value code
 digit_of_token t = 0
 
-abbrev pub with_digit : ℕ → ℕ → Seen → ℕ
-with_digit radix value x = value * radix + digit_of_token x.token
-
 abbrev pub greatest_integer : ℕ
 greatest_integer = 2147483647
 
 abbrev pub signed : Bool → ℕ → ℤ
 signed negative n = if negative then (pos 0 -ℤ pos n) else pos n
 
--- one space goes; another token is given back
-abbrev pub behind_number : Bool → ℕ → List Seen → Ask
+-- the token behind a number: one space goes, another token is given back
+abbrev pub number_ended : Bool → ℕ → Seen → Ask
+number_ended negative value x = Done (Int (signed negative value)) (not (is_space x))
+
+-- behind a code
+abbrev pub behind_number : Bool → ℕ → List Fed → Ask
 behind_number negative value [] = More Expanded
-behind_number negative value (x ∷ xs) = Done (Int (signed negative value)) (not (is_space x))
+behind_number negative value (Tok x ∷ fed) = number_ended negative value x
+behind_number negative value (x ∷ fed) = senseless
 
--- A value above the greatest integer is reported at its digit.
-abbrev pub with_value : Bool → ℕ → List Seen → Ask
-with_value negative value rest = if nat_le value greatest_integer then behind_number negative value rest else Halt
+-- more digits, behind a number that was too big: they are dropped
+abbrev pub digits_dropped : Bool → ℕ → List Fed → Ask
+digits_dropped negative radix [] = More Expanded
+digits_dropped negative radix (Tok x ∷ fed) = if is_digit radix x then digits_dropped negative radix fed else number_ended negative greatest_integer x
+digits_dropped negative radix (x ∷ fed) = senseless
 
--- digits behind those of this value
-abbrev pub digits : Bool → ℕ → ℕ → List Seen → Ask
-digits negative radix value xs =
-    with_value negative (fold (with_digit radix) value (seen_while (is_digit radix) xs)) (seen_after (is_digit radix) xs)
+-- a value above the greatest integer is reported at its digit
+abbrev pub too_big : Bool → ℕ → List Fed → Ask
+too_big negative radix [] = Tells NumberTooBig false
+too_big negative radix (Told ∷ fed) = digits_dropped negative radix fed
+too_big negative radix (x ∷ fed) = senseless
+
+-- digits behind those of this value, and the token behind the last
+abbrev pub digits : Bool → ℕ → ℕ → List Fed → Ask
+digits negative radix value [] = More Expanded
+digits negative radix value (Tok x ∷ fed) =
+    if is_digit radix x then (
+      if nat_le (value * radix + digit_of_token x.token) greatest_integer then digits negative radix (value * radix + digit_of_token x.token) fed
+      else too_big negative radix fed
+    ) else number_ended negative value x
+digits negative radix value (x ∷ fed) = senseless
+
+-- in place of a number, where there is none: the token is given back and the report written
+abbrev pub missing : ℤ → Report → List Fed → Ask
+missing value report [] = Tells report true
+missing value report (Told ∷ fed) = Done (Int value) false
+missing value report (x ∷ fed) = senseless
 
 -- the first digit behind ' or "
-abbrev pub first_digit : Bool → ℕ → List Seen → Ask
+abbrev pub first_digit : Bool → ℕ → List Fed → Ask
 first_digit negative radix [] = More Expanded
-first_digit negative radix (x ∷ xs) = if is_digit radix x then digits negative radix 0 (x ∷ xs) else Halt
+first_digit negative radix (Tok x ∷ fed) = if is_digit radix x then digits negative radix (digit_of_token x.token) fed else missing (pos 0) MissingNumber fed
+first_digit negative radix (x ∷ fed) = senseless
 
 -- the code of a character, an active character or a name of one character
 abbrev pub name_code : Name → Option ℕ
@@ -156,28 +166,37 @@ code_of (token.Named name) = name_code name
 code_of (token.Marked name) = name_code name
 code_of t = None
 
-abbrev pub behind_code : Bool → Option ℕ → List Seen → Ask
-behind_code negative None xs = Halt
-behind_code negative (Some c) xs = behind_number negative c xs
+-- in place of a code that no token gives
+abbrev pub improper_code : ℕ
+improper_code = 48
+
+abbrev pub behind_code : Bool → Option ℕ → List Fed → Ask
+behind_code negative None fed = missing (signed negative improper_code) ImproperConstant fed
+behind_code negative (Some c) fed = behind_number negative c fed
 
 -- behind a backquote
-abbrev pub constant : Bool → List Seen → Ask
+abbrev pub constant : Bool → List Fed → Ask
 constant negative [] = More Raw
-constant negative (x ∷ xs) = behind_code negative (code_of x.token) xs
+constant negative (Tok x ∷ fed) = behind_code negative (code_of x.token) fed
+constant negative (x ∷ fed) = senseless
 
--- behind the signs
-abbrev pub unsigned : Bool → List Seen → Ask
-unsigned negative [] = More Nonblank
-unsigned negative (x ∷ xs) =
-    if is_other 96 x.token then constant negative xs
-    else if is_other 39 x.token then first_digit negative 8 xs
-    else if is_other 34 x.token then first_digit negative 16 xs
-    else if is_digit 10 x then digits negative 10 0 (x ∷ xs)
-    else Halt
+-- the first token behind the signs
+abbrev pub unsigned : Bool → Seen → List Fed → Ask
+unsigned negative x fed =
+    if is_other 96 x.token then constant negative fed
+    else if is_other 39 x.token then first_digit negative 8 fed
+    else if is_other 34 x.token then first_digit negative 16 fed
+    else if is_digit 10 x then digits negative 10 (digit_of_token x.token) fed
+    else missing (pos 0) MissingNumber fed
 
--- with a sign that stands already
-abbrev pub integer : Bool → List Seen → Ask
-integer negative xs = unsigned (if is_negative (seen_while is_sign xs) then not negative else negative) (seen_after is_sign xs)
+-- with the sign so far
+abbrev pub integer : Bool → List Fed → Ask
+integer negative [] = More Nonblank
+integer negative (Tok x ∷ fed) =
+    if is_minus x then integer (not negative) fed
+    else if is_plus x then integer negative fed
+    else unsigned negative x fed
+integer negative (x ∷ fed) = senseless
 
 -- BALANCED TEXTS
 
@@ -185,22 +204,40 @@ abbrev pub with_front : Token → Option (List Token) → Option (List Token)
 with_front t None = None
 with_front t (Some ts) = Some (t ∷ ts)
 
--- The least front, of the tokens behind the opening brace, in which the braces close: without the last brace.
-abbrev pub closes_at : ℕ → List Seen → Option (List Token)
+-- The least front, of what comes behind the opening brace, in which the braces close: its tokens without the last brace.
+abbrev pub closes_at : ℕ → List Fed → Option (List Token)
 closes_at depth [] = None
-closes_at depth (x ∷ xs) =
-    if has_category begin_group x.token then with_front x.token (closes_at (depth + 1) xs)
-    else if has_category end_group x.token then (if depth == 0 then Some [] else with_front x.token (closes_at (depth - 1) xs))
-    else with_front x.token (closes_at depth xs)
+closes_at depth (Tok x ∷ fed) =
+    if has_category begin_group x.token then with_front x.token (closes_at (depth + 1) fed)
+    else if has_category end_group x.token then (if depth == 0 then Some [] else with_front x.token (closes_at (depth - 1) fed))
+    else with_front x.token (closes_at depth fed)
+closes_at depth (x ∷ fed) = closes_at depth fed
 
 abbrev pub text_done : Option (List Token) → Ask
 text_done None = More Expanded
 text_done (Some ts) = Done (Toks ts) false
 
+-- in place of the first brace, where another token comes: it is given back, and a brace taken
+abbrev pub brace_missing : List Fed → Ask
+brace_missing [] = Tells MissingBrace true
+brace_missing (Told ∷ fed) = text_done (closes_at 0 fed)
+brace_missing (x ∷ fed) = senseless
+
 -- the first brace, perhaps implicit, and then the text
-abbrev pub text : List Seen → Ask
+abbrev pub text : List Fed → Ask
 text [] = More Nonblank
-text (x ∷ xs) = if means_category begin_group x.meaning then text_done (closes_at 0 xs) else Halt
+text (Tok x ∷ fed) = if means_category begin_group x.meaning then text_done (closes_at 0 fed) else brace_missing fed
+text (x ∷ fed) = senseless
+
+abbrev pub tokens_of : List Fed → List Token
+tokens_of [] = []
+tokens_of (Tok x ∷ fed) = x.token ∷ tokens_of fed
+tokens_of (x ∷ fed) = tokens_of fed
+
+-- the list built so far of a text that isn't closed
+abbrev pub text_so_far : List Fed → List Token
+text_so_far [] = []
+text_so_far (x ∷ fed) = tokens_of fed
 
 -- COMMANDS
 
@@ -212,14 +249,23 @@ abbrev pub is_at_most : ℕ → ℤ → Bool
 is_at_most n (pos m) = nat_le m n
 is_at_most n (negsuc m) = false
 
--- the new category, in the range 0..15
-abbrev pub set_category : ℕ → ℤ → Ask
-set_category code category = if is_at_most 15 category then Act (SetCategory code (natural category)) else Halt
+abbrev pub greatest_category : ℕ
+greatest_category = 15
+
+abbrev pub greatest_character : ℕ
+greatest_character = 255
+
+-- a category out of its range is reported, and 0 taken
+abbrev pub bad_category : ℕ → ℤ → List Fed → Ask
+bad_category code category [] = Tells (InvalidCode category greatest_category) false
+bad_category code category (Told ∷ fed) = Act (SetCategory code 0)
+bad_category code category (x ∷ fed) = senseless
 
 -- the value of the integer behind an optional equals sign
 abbrev pub category_behind : ℕ → List Fed → Ask
-category_behind code (Val (Int category) ∷ fed) = set_category code category
-category_behind code fed = Halt
+category_behind code (Val (Int category) ∷ fed) =
+    if is_at_most greatest_category category then Act (SetCategory code (natural category)) else bad_category code category fed
+category_behind code fed = senseless
 
 -- the integer that comes next begins with this token, or behind it where it is an equals sign
 abbrev pub value_begun : Seen → Ask
@@ -233,32 +279,39 @@ behind_equals code x (y ∷ fed) = category_behind code (y ∷ fed)
 abbrev pub equals_behind : ℕ → List Fed → Ask
 equals_behind code [] = More Nonblank
 equals_behind code (Tok x ∷ fed) = behind_equals code x fed
-equals_behind code (Val v ∷ fed) = Halt
+equals_behind code (x ∷ fed) = senseless
 
--- the character's code, in the range 0..255
-abbrev pub code_behind : ℤ → List Fed → Ask
-code_behind code fed = if is_at_most 255 code then equals_behind (natural code) fed else Halt
+-- a code out of its range is reported, and 0 taken
+abbrev pub bad_code : ℤ → List Fed → Ask
+bad_code code [] = Tells (BadCharacterCode code) false
+bad_code code (Told ∷ fed) = equals_behind 0 fed
+bad_code code (x ∷ fed) = senseless
 
 abbrev pub catcode : List Fed → Ask
 catcode [] = Inner Integer false
-catcode (Val (Int code) ∷ fed) = code_behind code fed
-catcode fed = Halt
+catcode (Val (Int code) ∷ fed) = if is_at_most greatest_character code then equals_behind (natural code) fed else bad_code code fed
+catcode fed = senseless
 
-abbrev pub message : List Fed → Ask
-message [] = Inner Text false
-message (Val (Toks ts) ∷ fed) = Act (Say ts)
-message fed = Halt
+abbrev pub message : Name → List Fed → Ask
+message name [] = Inner (Text name) false
+message name (Val (Toks ts) ∷ fed) = Act (Say ts)
+message name fed = senseless
 
 -- What a reading of this kind asks for after all that it was fed with.
 abbrev pub ask : Kind → List Fed → Ask
 ask Catcode fed = catcode fed
-ask Message fed = message fed
-ask Integer fed = integer false (tokens_of fed)
-ask Text fed = text (tokens_of fed)
+ask (Message name) fed = message name fed
+ask Integer fed = integer false fed
+ask (Text name) fed = text fed
+
+-- the list that it has built so far
+abbrev pub so_far : Kind → List Fed → List Token
+so_far (Text name) fed = text_so_far fed
+so_far k fed = []
 
 -- A reading begins only readings of a lower rank before a token comes.
 abbrev pub rank : Kind → ℕ
 rank Catcode = 1
-rank Message = 1
+rank (Message name) = 1
 rank Integer = 0
-rank Text = 0
+rank (Text name) = 0

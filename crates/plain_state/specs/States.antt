@@ -1,11 +1,11 @@
 -- The plain machine's state, and its moves.
-use Rattle.std.specs.Prelude.{ℕ, Bool, true, false, not, ◌==◌, List, [], ◌∷◌, ◌++◌, Option, Some, None, slice_set}
+use Rattle.std.specs.Prelude.{ℕ, ◌+◌, Bool, true, false, not, ◌==◌, List, [], ◌∷◌, ◌++◌, Option, Some, None, slice_set}
 use Rattle.tex_defs.specs.declared.Token.{Token}
 use Rattle.tex_defs.specs.declared.Seen.{Seen}
 use Rattle.tex_defs.specs.declared.Fatal.{Fatal}
 use Rattle.tex_defs.specs.Places.{Place, Transcript, OfFile}
 use Rattle.plain_state.specs.Pending.{Pending, pulled, after_pull, put_front}
-use Rattle.plain_state.specs.Readings.{Kind, Value, Fed, Tok, Val}
+use Rattle.plain_state.specs.Readings.{Kind, Value, Fed, Tok, Val, Told}
 
 pub record Reading : Type 0 where
   pub kind : Kind
@@ -23,8 +23,14 @@ pub data Move : Type 0 where
   -- the two steps: a token handed on, a line taken
   Handed : Token → Move
   Taken : List ℕ → Move
+  -- an invalid character is skipped
+  Skipped : Move
+  -- the file goes behind its last line
+  FileClosed : Move
   -- the innermost reading is fed with a token
   Feeds : Seen → Move
+  -- and with the note that its report was written
+  Noted : Move
   -- a list put in front
   Put : List Token → Move
   SetCategoryOf : (code category : ℕ) → Move
@@ -34,6 +40,8 @@ pub data Move : Type 0 where
   BegunWith : Kind → Seen → Move
   -- the innermost reading ended, and its value fed to the one beneath
   Ended : Value → Move
+  -- a report is counted
+  Reported : Move
   Stopped : Outcome → Move
 
 pub record State : Type 0 where
@@ -44,6 +52,10 @@ pub record State : Type 0 where
   pub work : List Reading
   -- whether the transcript's column isn't 0
   pub in_line : Bool
+  -- the reports so far
+  pub reports : ℕ
+  -- whether token lines are left out
+  pub quiet : Bool
   pub stopped : Option Outcome
   -- the moves of the present rule that are still to be made
   pub due : List Move
@@ -76,6 +88,10 @@ ended_with v (r ∷ rs) = fed_with (Val v) rs
 abbrev pub made : Move → State → State
 made (Handed t) s = record s { pending = after_pull s.pending (pulled s.categories s.pending) }
 made (Taken line) s = record s { pending = after_pull s.pending (pulled s.categories s.pending) }
+made Skipped s = record s { pending = after_pull s.pending (pulled s.categories s.pending) }
+made FileClosed s = record s { pending = after_pull s.pending (pulled s.categories s.pending) }
+made Noted s = record s { work = fed_with Told s.work }
+made Reported s = record s { reports = s.reports + 1 }
 made (Feeds x) s = record s { work = fed_with (Tok x) s.work }
 made (Put ts) s = record s { pending = put_front ts s.pending }
 made (SetCategoryOf code category) s = record s { categories = slice_set s.categories code category }

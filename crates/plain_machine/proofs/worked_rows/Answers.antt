@@ -1,10 +1,11 @@
 use Rattle.std.proofs.Common.{refl}
+use Rattle.std.specs.Fmt.{digits}
 use Rattle.plain_machine.specs.Rows.{job_of, run_of}
 use Rattle.plain_state.specs.Categories.{initial_categories}
 use Rattle.plain_machine.proofs.worked_rows.Goals as goal
 
 pub returns : goal.returns
-unfolding job_of run_of initial_categories
+unfolding job_of run_of initial_categories digits
 returns c = record {
   usual = ((refl, refl), refl);
   hi = ((refl, refl), refl);
@@ -26,4 +27,9 @@ returns c = record {
   line_feed_printed = (refl, refl);
   too_great = (refl, refl);
   no_category = (refl, refl);
+  undefined = (refl, refl);
+  brace_missing = (refl, refl);
+  run_away = (refl, refl);
+  improper = (refl, refl);
+  missing = (refl, refl);
 }
