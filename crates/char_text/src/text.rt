@@ -53,7 +53,7 @@ impl Text {
         ensures { self.new ≡ self.old ++ whole_number n }
     {
         let mut buffer = Buffer::new();
-        self.put(buffer.format(n).as_bytes());
+        self.put_bytes(buffer.format(n).as_bytes());
     }
 
     /// Puts a count, such as a line number.
@@ -62,7 +62,7 @@ impl Text {
         ensures { self.new ≡ self.old ++ decimal n }
     {
         let mut buffer = Buffer::new();
-        self.put(buffer.format(n).as_bytes());
+        self.put_bytes(buffer.format(n).as_bytes());
     }
 
     /// Puts a scaled number, without its unit: `s` sp as points, or `s`/65536 of another unit.
@@ -99,7 +99,7 @@ impl Text {
                 break;
             }
         }
-        self.put(&digits[start..]);
+        self.put_bytes(&digits[start..]);
     }
 
     // Puts the digits of fraction/65536.
@@ -125,7 +125,8 @@ impl Text {
         }
     }
 
-    fn put(&mut self, text: &[u8])
+    /// Puts bytes as they are.
+    pub fn put_bytes(&mut self, text: &[u8])
         requires { length self.old + length text.now ≤ 80 }
         ensures { self.new ≡ self.old ++ text.now }
     {

@@ -1,6 +1,7 @@
 -- Runs one after another, and a rule as a run.
 use Rattle.std.proofs.Common.{◌≡◌, ℕ, ◌+◌, List, [], ◌∷◌, ◌++◌, refl, sym, ap, ◌∙◌, subst, arith}
 use Rattle.std.specs.Prelude.{Bool, Some}
+use Rattle.std.proofs.lemmas.List.{append-nil}
 use Rattle.tex_defs.specs.Places.{Place, File}
 use Rattle.plain_state.specs.States.{State, Move, Handed, Outcome, made}
 use Rattle.plain_machine.specs.Plan.{Ends, Goes, next, plan}
@@ -101,3 +102,20 @@ stopped_ends s o e f = rw e (rw f refl)
 -- A rule that begins with a step needs one.
 pub plan_needs : (s : State) (m : Move) (ms : List Move) → s.due ≡ [] → plan s s.stopped ≡ m ∷ ms → step_of m ≡ 1 → NeedsStep s
 plan_needs s m ms e f one = (m, (_, (next_plan s m ms e f, one)))
+
+-- the state behind some first moves
+pub record Front (s : State) (done : List Move) : Type 0 where
+  pub t : State
+  pub moves : Moves s done t
+
+pub plan_front : (s : State) (done rest : List Move) → s.due ≡ [] → plan s s.stopped ≡ done ++ rest → Front s done
+plan_front s done [] e f = record { t = made_all done s; moves = moves_made s done e (f ∙ append-nil done) }
+plan_front s done (m ∷ rest) e f = let moment : Moment s done m = plan_moment s done m rest e f in record { t = moment.t; moves = moment.moves }
+
+-- the same of moves that are due
+pub due_front : (s : State) (done rest : List Move) → s.due ≡ done ++ rest → Front s done
+due_front s [] rest e = record { t = s; moves = refl }
+due_front s (d ∷ ds) rest e =
+    let u : State = made d (record s { due = ds ++ rest }) in
+    let later : Front u ds = due_front u ds rest (due_kept d (record s { due = ds ++ rest })) in
+    record { t = later.t; moves = (u, (next_due s d (ds ++ rest) e, later.moves)) }

@@ -114,7 +114,7 @@ last_untold (Told ∷ []) y ys h = cc
 last_untold (x ∷ z ∷ fed) y ys h = last_untold (z ∷ fed) y ys h
 
 -- what a pull that gives nothing leaves weighs less
-abbrev Lighter : Pending → Pulled → Type 0
+abbrev pub Lighter : Pending → Pulled → Type 0
 Lighter p (InvalidMet q) = pending_weight q < pending_weight p
 Lighter p (FileOver q) = pending_weight q < pending_weight p
 Lighter p r = Unit {0}
@@ -141,7 +141,7 @@ lighter_front : (categories : List ℕ) (p : Pending) (ts : List Token) → Ligh
 lighter_front categories p (t ∷ ts) = tt
 lighter_front categories p [] = lighter_line p (lexed categories p.lex p.line) (less categories p.lex p.line)
 
-lighter : (categories : List ℕ) (p : Pending) → Lighter p (pulled categories p)
+pub lighter : (categories : List ℕ) (p : Pending) → Lighter p (pulled categories p)
 lighter categories p = lighter_front categories p p.front
 
 -- moves that leave the readings and the file, and go on

@@ -4,7 +4,7 @@ use Rattle.std.specs.Prelude.{nat_lt}
 use Rattle.std.proofs.lemmas.Bool.{cases_order}
 use Rattle.std.proofs.lemmas.Grind.{common_steps}
 use Rattle.plain_state.specs.Lex.{lexed, UsedUp}
-use Rattle.plain_state.specs.Pending.{Pending, pulled, from_file}
+use Rattle.plain_state.specs.Pending.{Pending, Begun, pulled, from_file}
 use Rattle.tex_defs.specs.declared.Token.{Token}
 use Rattle.tex_program.specs.Reads.{gives_step}
 use Rattle.tex_program.proofs.LineRests.{drop_at, drop_end}
@@ -18,17 +18,17 @@ is_below h = grind (arith, common_steps)
 not_below : {a b : ℕ} → b ≤ a → nat_lt a b ≡ false
 not_below h = grind (arith, common_steps)
 
-file_left : (bytes : List ℕ) (at : ℕ) → gives_step (from_file true (drop at bytes)) ≡ nat_lt at (length bytes)
-file_left bytes at =
+file_left : (n : ℕ) (bytes : List ℕ) (at : ℕ) → gives_step (from_file Begun n (drop at bytes)) ≡ nat_lt at (length bytes)
+file_left n bytes at =
     elim (order at (length bytes)) [
       | inl lt ↦ rw (drop_at bytes at lt) (sym (is_below lt))
       | inr ge ↦ rw (drop_end bytes at ge) (sym (not_below ge))
     ]
 
 -- with nothing in front, a line used up and a file that is begun
-pub ready_in_rest : (cats : List ℕ) (p : Pending) (bytes : List ℕ) (at : ℕ) → [] ≡ p.front → lexed cats p.lex p.line ≡ UsedUp → true ≡ p.begun → drop at bytes ≡ p.rest →
+pub ready_in_rest : (cats : List ℕ) (p : Pending) (bytes : List ℕ) (at : ℕ) → [] ≡ p.front → lexed cats p.lex p.line ≡ UsedUp → Begun ≡ p.file → drop at bytes ≡ p.rest →
     nat_lt at (length bytes) ≡ gives_step (pulled cats p)
-ready_in_rest cats p bytes at e l b r = sym (rw (← e) (rw l (rw (← b, ← r) (file_left bytes at))))
+ready_in_rest cats p bytes at e l b r = sym (rw (← e) (rw l (rw (← b, ← r) (file_left p.number bytes at))))
 
 pub none_in_front : (ts : List Token) → ts ≡ [] → [] ≡ reverse ts
 none_in_front ts e = rw e refl

@@ -4,7 +4,6 @@ pub mod InputLetters
 pub mod InputHeads
 pub mod InputPulls
 pub mod InputReady
-pub mod ScanSigns
 pub mod Columns
 pub mod Feeding
 pub mod Writing
@@ -14,3 +13,4 @@ pub mod Running
 pub mod Extensions
 pub mod Telling
 pub mod Meanings
+pub mod Texts

@@ -1,25 +1,28 @@
 -- From the engine's run to what the program means.
-use Rattle.std.proofs.Common.{◌≡◌, inl, inr, ℕ, ◌+◌, ◌≤◌, List, [], ◌∷◌, refl, ap, subst, ◌∙◌, arith, Bool, false}
-use Rattle.std.specs.Prelude.{Option, Some, None}
+use Rattle.std.proofs.Common.{◌≡◌, inl, inr, ℕ, ◌+◌, ◌≤◌, List, [], ◌∷◌, refl, ap, subst, ◌∙◌, arith, Bool, true, false}
+use Rattle.std.specs.Prelude.{Option, Some, None, nat_lt, if◌then◌else◌}
 use Rattle.tex_defs.specs.Places.{World, Rose, Later, File, Untold, NotHeld, Holds, Place, Transcript, OfFile}
-use Rattle.plain_state.specs.States.{State, Move, Outcome as MachineOutcome}
+use Rattle.tex_defs.specs.declared.Fatal.{Fatal as FatalStop}
+use Rattle.plain_state.specs.States as machine
+use Rattle.plain_state.specs.States.{State, Move, AtFatal, Outcome as MachineOutcome}
 use Rattle.plain_machine.specs.Runs.{Moves, Wrote, steps, step_of, made_all}
-use Rattle.plain_machine.specs.Does.{IsCause, Cut, CutAt, Why, IsFault, IsWant}
-use Rattle.plain_machine.specs.Meaning.{First, Line, Whole, Status, IsFinished, IsFatal, IsSteps, IsReadFault, IsWriteFault, IsNoMemory, Says, IsJob, MeansRun, steps_line, read_fault_line, write_fault_line, no_memory_line}
+use Rattle.plain_machine.specs.Does.{IsCause, Cut, CutAt, MomentWritten, Why, IsFault, IsWant}
+use Rattle.plain_machine.specs.Meaning.{First, Line, Whole, Ending, Status, IsFinished, IsFlawed, IsFatal, IsSteps, IsReadFault, IsWriteFault, IsNoMemory, Says, IsJob, MeansRun, steps_line, read_fault_line, write_fault_line, no_memory_line}
 use Rattle.plain_machine.proofs.Doing.{wrote_join, cause_on}
-use Rattle.plain_machine.proofs.Joins.{moves_due, all_made_due, due_none, moment_due, Moment, stopped_ends, steps_join}
+use Rattle.plain_machine.proofs.Joins.{moves_due, all_made_due, due_none, moment_due, Moment, due_front, Front, stopped_ends, steps_join}
 use Rattle.world_io.specs.Told.{FilesTold, SinkTold, SameFiles, NotFound, IsContent, world}
 use Rattle.tex_program.specs.declared.engine.Engine.{Engine}
 use Rattle.tex_program.specs.declared.engine.Ended.{Ended}
 use Rattle.tex_program.specs.declared.engine.Ended.TheVariants.{Halted, Steps}
 use Rattle.tex_program.specs.declared.reactions.Outcome.{Outcome}
-use Rattle.tex_program.specs.declared.reactions.Outcome.TheVariants.{Finished, NotBuilt}
+use Rattle.tex_program.specs.declared.reactions.Outcome.TheVariants.{Finished, Fatal}
 use Rattle.tex_program.specs.declared.broken.Broken.{Broken}
 use Rattle.tex_program.specs.declared.broken.Broken.TheVariants.{WriteFault, Want, NoRoom}
 use Rattle.tex_program.specs.Stands.{state_of}
-use Rattle.tex_program.specs.Rules.{Halts, Cuts}
+use Rattle.tex_program.specs.Begins.{outcome_of}
+use Rattle.tex_program.specs.Rules.{Halts, Part, Cuts}
 use Rattle.tex_program.specs.Ran.{Ran, CutBy, EndsAs}
-use Rattle.tex_program.specs.Says.{SaysSo}
+use Rattle.tex_program.specs.Says.{SaysSo, end_status}
 
 module _ (s : State) (n : ℕ) (w m w' : World) where
   pub broken_fault : (b : Broken) → b ≡ WriteFault → CutBy s n w m b → Line m w' write_fault_line → SaysSo s n w w' 6
@@ -31,37 +34,41 @@ module _ (s : State) (n : ℕ) (w m w' : World) where
   pub broken_lost : (b : Broken) → b ≡ NoRoom → CutBy s n w m b → Line m w' no_memory_line → SaysSo s n w w' 7
   broken_lost b is cut last = record { is = IsNoMemory; says = inr (record { between = m; moment = subst (λ (x : Broken). CutBy s n w m x) is cut; last = last }) }
 
-  pub ran_finished : (ended : Ended) (o : Outcome) → ended ≡ Halted o → o ≡ Finished → Ran s n w w' ended → SaysSo s n w w' 0
-  ran_finished ended o is this ran =
-      let whole : ended ≡ Halted Finished = cc (is, this) in
-      record { is = IsFinished; says = record { ms = ran.ms; t = ran.t; trace = ran.trace; stopped = subst (λ (x : Ended). EndsAs x ran.t) whole ran.ends; written = ran.written } }
+  whole_of : (e' : Engine) (o : Outcome) (ran : Ran s n e' w w' (Halted o)) → Whole s n w w' (outcome_of o)
+  whole_of e' o ran = record { ms = ran.ms; t = ran.t; trace = ran.trace; stopped = ran.ends.0; written = ran.written }
 
-  pub ran_fatal : (ended : Ended) (o : Outcome) → ended ≡ Halted o → o ≡ NotBuilt → Ran s n w w' ended → SaysSo s n w w' 2
-  ran_fatal ended o is this ran =
-      let whole : ended ≡ Halted NotBuilt = cc (is, this) in
-      record { is = IsFatal; says = record { ms = ran.ms; t = ran.t; trace = ran.trace; stopped = subst (λ (x : Ended). EndsAs x ran.t) whole ran.ends; written = ran.written } }
+  ending_of : (e' : Engine) (ran : Ran s n e' w w' (Halted Finished)) (b : Bool) → nat_lt 0 e'.reports ≡ b → Ending s n w w' b
+  ending_of e' ran b is = record { whole = whole_of e' Finished ran; reports = ap (nat_lt 0) ran.ends.1 ∙ is }
 
-  pub ran_steps : (ended : Ended) → ended ≡ Steps → Ran s n w m ended → Line m w' (steps_line n) → SaysSo s n w w' 4
-  ran_steps ended is ran last =
-      record { is = IsSteps; says = record { ms = ran.ms; t = ran.t; between = m; trace = ran.trace; needs = subst (λ (x : Ended). EndsAs x ran.t) is ran.ends; written = ran.written; last = last } }
+  -- a run that has ended, with a report or without
+  ended_with : (e' : Engine) (ran : Ran s n e' w w' (Halted Finished)) (b : Bool) → nat_lt 0 e'.reports ≡ b → SaysSo s n w w' (if b then 1 else 0)
+  ended_with e' ran true is = record { is = IsFlawed; says = ending_of e' ran true is }
+  ended_with e' ran false is = record { is = IsFinished; says = ending_of e' ran false is }
 
--- an engine that was just made stands for the first state
-pub at_first : (e : Engine) (job : Option (List ℕ)) → state_of e [] ≡ First job → e.in_line ≡ false → (Q : State → Bool → Type 0) → Q (state_of e []) e.in_line → Q (First job) false
-at_first e job state column Q h = subst (λ (b : Bool). Q (First job) b) column (subst (λ (s : State). Q s e.in_line) state h)
+  pub ran_halted : (e' : Engine) (o : Outcome) → Ran s n e' w w' (Halted o) → SaysSo s n w w' (end_status o e'.reports)
+  ran_halted e' Finished ran = ended_with e' ran (nat_lt 0 e'.reports) refl
+  ran_halted e' (Fatal f) ran = record { is = IsFatal; says = record { fatal = f; whole = whole_of e' (Fatal f) ran } }
+
+  pub ran_ended : (e' : Engine) (ended : Ended) (o : Outcome) (status : ℕ) → ended ≡ Halted o → status ≡ end_status o e'.reports → Ran s n e' w w' ended → SaysSo s n w w' status
+  ran_ended e' ended o status is this ran = rw this (ran_halted e' o (subst (λ (x : Ended). Ran s n e' w w' x) is ran))
+
+  pub ran_steps : (e' : Engine) (ended : Ended) → ended ≡ Steps → Ran s n e' w m ended → Line m w' (steps_line n) → SaysSo s n w w' 4
+  ran_steps e' ended is ran last =
+      record { is = IsSteps; says = record { ms = ran.ms; t = ran.t; between = m; trace = ran.trace; needs = subst (λ (x : Ended). EndsAs x e' ran.t) is ran.ends; written = ran.written; last = last } }
 
 -- moves that are due from the start
 module _ (s : State) (ms : List Move) (n : ℕ) (w w' : World) (none : s.due ≡ []) where
   due_moves : (t : State) → made_all ms s ≡ t → t.due ≡ [] → Moves (record s { due = ms }) ms t
   due_moves t is due = subst (λ (x : State). Moves (record s { due = ms }) ms x) (all_made_due ms s ∙ ap (λ (x : State). record x { due = [] }) is ∙ due_none t due) (moves_due (record s { due = ms }) ms refl)
 
-  pub due_whole : (o : MachineOutcome) → steps ms ≤ n → Halts s w w' ms o → Whole (record s { due = ms }) n w w' o
-  due_whole o le h = record {
+  pub due_fails : (e' : Engine) (f : FatalStop) → Halts s e' w w' ms (AtFatal f) 0 → SaysSo (record s { due = ms }) n w w' 2
+  due_fails e' f h = record { is = IsFatal; says = record { fatal = f; whole = record {
     ms = ms;
     t = h.t;
-    trace = record { moves = due_moves h.t h.did.state h.due; within = le; whole = inl (stopped_ends h.t o h.due h.stopped) };
+    trace = record { moves = due_moves h.t h.did.state h.due; within = omega (arith, h.count); whole = inl (stopped_ends h.t (AtFatal f) h.due h.stopped) };
     stopped = h.stopped;
     written = h.did.written;
-  }
+  } } }
 
   due_cut_at : (why : Why) → steps ms ≤ n → Cut s w w' ms why → CutAt (record s { due = ms }) n w w' why
   due_cut_at why le cut =
@@ -69,10 +76,16 @@ module _ (s : State) (ms : List Move) (n : ℕ) (w w' : World) (none : s.due ≡
       let count : steps ms ≡ steps cut.done + (step_of cut.m + steps cut.rest) = ap steps cut.all ∙ steps_join cut.done (cut.m ∷ cut.rest) in
       record { ms = cut.done; t = moment.t; m = cut.m; u = moment.u; count = cut.count; moves = moment.moves; goes = moment.goes; room = omega (arith, count, le); refuses = cut.refuses; cause = cut.cause; written = cut.written }
 
+  due_moment : steps ms ≤ n → Part w w' ms → MomentWritten (record s { due = ms }) n w w'
+  due_moment le part =
+      let front : Front (record s { due = ms }) part.done = due_front (record s { due = ms }) part.done part.rest part.all in
+      let count : steps ms ≡ steps part.done + steps part.rest = ap steps part.all ∙ steps_join part.done part.rest in
+      record { ms = part.done; t = front.t; moves = front.moves; within = omega (arith, count, le); written = part.written }
+
   pub due_cut : (b : Broken) → steps ms ≤ n → Cuts s w w' ms b → CutBy (record s { due = ms }) n w w' b
   due_cut WriteFault le h = due_cut_at IsFault le h
   due_cut Want le h = due_cut_at IsWant le h
-  due_cut NoRoom le h = record { ms = []; t = record s { due = ms }; moves = refl; within = omega arith; written = h }
+  due_cut NoRoom le h = due_moment le h
 
 -- behind what has written nothing
 module _ (s : State) (n : ℕ) (w m w' : World) (quiet : Wrote w m []) where
@@ -91,9 +104,13 @@ module _ (s : State) (n : ℕ) (w m w' : World) (quiet : Wrote w m []) where
     written = wrote_join w m between [] _ quiet c.written;
   }
 
+  whole_behind : (o : MachineOutcome) → Whole s n m w' o → Whole s n w w' o
+  whole_behind o h = record { ms = h.ms; t = h.t; trace = h.trace; stopped = h.stopped; written = wrote_join w m w' [] h.ms quiet h.written }
+
   behind : (status : ℕ) (is : Status status) → Says s n m w' status is → Says s n w w' status is
-  behind _ IsFinished h = record { ms = h.ms; t = h.t; trace = h.trace; stopped = h.stopped; written = wrote_join w m w' [] h.ms quiet h.written }
-  behind _ IsFatal h = record { ms = h.ms; t = h.t; trace = h.trace; stopped = h.stopped; written = wrote_join w m w' [] h.ms quiet h.written }
+  behind _ IsFinished h = record { whole = whole_behind machine.Finished h.whole; reports = h.reports }
+  behind _ IsFlawed h = record { whole = whole_behind machine.Finished h.whole; reports = h.reports }
+  behind _ IsFatal h = record { fatal = h.fatal; whole = whole_behind (AtFatal h.fatal) h.whole }
   behind _ IsSteps h = record { ms = h.ms; t = h.t; between = h.between; trace = h.trace; needs = h.needs; written = wrote_join w m h.between [] h.ms quiet h.written; last = h.last }
   behind _ IsReadFault h = record { between = h.between; written = wrote_join w m h.between [] [] quiet h.written; last = h.last }
   behind _ IsWriteFault h = record { between = h.between; cut = cut_behind h.between IsFault h.cut; last = h.last }
@@ -112,11 +129,11 @@ same_at : (f f' : FilesTold) (s : SinkTold) (b : Bool) → SameFiles f f' → (p
 same_at f f' s b h Transcript = refl
 same_at f f' s b h (OfFile name) = h.file name
 
-pub read_quiet : (f f' : FilesTold) (s : SinkTold) (b : Bool) → SameFiles f f' → f'.write_faults ≡ f.write_faults → f.wants ≤ f'.wants → Wrote (world f s b) (world f' s b) []
-read_quiet f f' s b h e lw = record {
+pub read_quiet : (f f' : FilesTold) (s : SinkTold) (b : Bool) → SameFiles f f' → f.read_faults ≤ f'.read_faults → f'.write_faults ≡ f.write_faults → f.wants ≤ f'.wants → Wrote (world f s b) (world f' s b) []
+read_quiet f f' s b h lr e lw = record {
   told = same_at f f' s b h;
   column = refl;
-  later = record { file_faults = omega (arith, e); sink_faults = omega arith; file_wants = lw; sink_wants = omega arith };
+  later = record { read_faults = lr; file_faults = omega (arith, e); sink_faults = omega arith; file_wants = lw; sink_wants = omega arith };
 }
 
 pub missing_job : (f : File) → NotFound f → IsJob f None
@@ -138,16 +155,17 @@ some_job Untold = record { job = None; is_job = tt }
 some_job NotHeld = record { job = None; is_job = refl }
 some_job (Holds b) = record { job = Some b; is_job = refl }
 
-pub means_says : (file : File) (job : Option (List ℕ)) (n : ℕ) (w w' : World) (status : ℕ) → IsJob file job → SaysSo (First job) n w w' status → MeansRun file n w w' status
-means_says file job n w w' status is says = record { job = job; is_job = is; is = says.is; says = says.says }
+module _ (quiet : Bool) (name : List ℕ) (file : File) (n : ℕ) where
+  pub means_says : (job : Option (List ℕ)) (w w' : World) (status : ℕ) → IsJob file job → SaysSo (First quiet name job) n w w' status → MeansRun quiet name file n w w' status
+  means_says job w w' status is says = record { job = job; is_job = is; is = says.is; says = says.says }
 
-pub means_unread : (file : File) (n : ℕ) (w m w' : World) → Wrote w m [] → Line m w' read_fault_line → MeansRun file n w w' 5
-means_unread file n w m w' quiet last = let j = some_job file in
-    record { job = j.job; is_job = j.is_job; is = IsReadFault; says = record { between = m; written = quiet; last = last } }
+  pub means_unread : (w m w' : World) → Wrote w m [] → Line m w' read_fault_line → MeansRun quiet name file n w w' 5
+  means_unread w m w' wrote last = let j = some_job file in
+      record { job = j.job; is_job = j.is_job; is = IsReadFault; says = record { between = m; written = wrote; last = last } }
 
-pub means_no_room : (file : File) (n : ℕ) (w m w' : World) → Wrote w m [] → Line m w' no_memory_line → MeansRun file n w w' 7
-means_no_room file n w m w' quiet last = let j = some_job file in
-    record { job = j.job; is_job = j.is_job; is = IsNoMemory; says = inr (record { between = m; moment = record { ms = []; t = First j.job; moves = refl; within = omega arith; written = quiet }; last = last }) }
+  pub means_no_room : (w m w' : World) → Wrote w m [] → Line m w' no_memory_line → MeansRun quiet name file n w w' 7
+  means_no_room w m w' wrote last = let j = some_job file in
+      record { job = j.job; is_job = j.is_job; is = IsNoMemory; says = inr (record { between = m; moment = record { ms = []; t = First quiet name j.job; moves = refl; within = omega arith; written = wrote }; last = last }) }
 
 -- a run that ended at a failed write, over whatever files: a write to the transcript failed
 bare : FilesTold

@@ -1,22 +1,28 @@
 -- The next rule has a step exactly where the engine says so.
-use Rattle.std.proofs.Common.{◌≡◌, ℕ, ◌+◌, ◌≤◌, ◌<◌, List, [], ◌∷◌, refl, sym, ap, ◌∙◌, arith, Bool, true, false}
-use Rattle.std.specs.Prelude.{Option, Some, None, if◌then◌else◌, ◌&&◌, is_some, nat_eq}
+use Rattle.std.proofs.Common.{◌≡◌, ℕ, ◌+◌, ◌≤◌, ◌<◌, List, [], ◌∷◌, ◌++◌, refl, sym, ap, ◌∙◌, arith, Bool, true, false}
+use Rattle.std.specs.Prelude.{Option, Some, None, if◌then◌else◌, ◌&&◌, is_some, nat_eq, nat_lt}
 use Rattle.tex_defs.specs.declared.Seen.{Seen}
 use Rattle.tex_defs.specs.declared.Meaning.{Meaning}
 use Rattle.tex_defs.specs.declared.Meaning.TheVariants as means
 use Rattle.plain_state.specs.Names.{seen, catcode_primitive, message_primitive, end_primitive}
 use Rattle.plain_state.specs.Readings as reading
 use Rattle.plain_state.specs.Readings.{is_space, is_undefined}
-use Rattle.plain_state.specs.Pending.{Pulled, TokenFrom, LineTaken, InvalidMet, NothingLeft, pulled}
-use Rattle.plain_state.specs.States.{State, Move, Reading, Handed, Taken, Feeds, Begun, Ended}
-use Rattle.plain_machine.specs.Plan.{plan, handed, not_built, finish, stomach, command, primitive, wanted, expanded, answered, begun, begun_with, last_seen, given_back, effect}
+use Rattle.plain_state.specs.Pending.{Pulled, TokenFrom, LineTaken, InvalidMet, FileOver, NothingLeft, pulled}
+use Rattle.plain_state.specs.States.{State, Move, Reading, Handed, Taken, Feeds, Noted, Begun, Ended, Written, Stopped, AtFatal}
+use Rattle.tex_defs.specs.declared.Token.{Token}
+use Rattle.plain_state.specs.Names.{name_of}
+use Rattle.plain_state.specs.Reports as reports
+use Rattle.plain_state.specs.Reports.{hundred_line}
+use Rattle.tex_defs.specs.Places.{Transcript}
+use Rattle.tex_defs.specs.declared.Fatal.TheVariants.{HundredErrors}
+use Rattle.plain_machine.specs.Plan.{Page, page_of, plan, handed, checked, checked_reading, without_file, page_behind, reported, reports_room, told, is_told, token_line, finish, stomach, command, primitive, wanted, expanded, answered, begun, begun_with, last_seen, given_back, effect}
 use Rattle.plain_machine.specs.Runs.{NeedsStep, steps}
 use Rattle.plain_machine.proofs.Joins.{plan_needs, steps_join}
 use Rattle.tex_program.specs.declared.scan.Ask.{Ask}
-use Rattle.tex_program.specs.declared.scan.Ask.TheVariants.{More, Inner, Done, Act, Halt}
+use Rattle.tex_program.specs.declared.scan.Ask.TheVariants.{More, Inner, Done, Act, Tells}
 use Rattle.tex_program.specs.declared.frame.Frame.{Frame}
 use Rattle.tex_program.specs.declared.engine.Engine.{Engine}
-use Rattle.tex_program.specs.Sees.{ask_of, want_of, effect_of, value_of, kind_of}
+use Rattle.tex_program.specs.Sees.{ask_of, want_of, effect_of, value_of, kind_of, report_of}
 use Rattle.tex_program.specs.Reads.{gives_step}
 use Rattle.tex_program.specs.Stands.{Stands, WorkStands, state_of}
 use Rattle.tex_program.specs.Steps.{stepping, wants_token}
@@ -30,35 +36,60 @@ none_if : (b : Bool) (x y : List Move) → steps x ≡ 0 → steps y ≡ 0 → s
 none_if true x y h i = h
 none_if false x y h i = i
 
-primitive_none : (b : Bool) (n : ℕ) → steps (primitive b n) ≡ 0
-primitive_none b n =
-    none_if (nat_eq n catcode_primitive) (Begun reading.Catcode ∷ []) (if nat_eq n message_primitive then Begun reading.Message ∷ [] else if nat_eq n end_primitive then finish b else not_built b) refl
-    (none_if (nat_eq n message_primitive) (Begun reading.Message ∷ []) (if nat_eq n end_primitive then finish b else not_built b) refl
-    (none_if (nat_eq n end_primitive) (finish b) (not_built b) refl refl))
+reported_none : (page : Page) (report : reports.Report) (rest : List Move) → steps rest ≡ 0 → steps (reported page report rest) ≡ 0
+reported_none page report rest h =
+    let last : steps (if nat_lt page.reports reports_room then rest else Written Transcript hundred_line ∷ Stopped (AtFatal HundredErrors) ∷ []) ≡ 0 =
+    none_if (nat_lt page.reports reports_room) rest (Written Transcript hundred_line ∷ Stopped (AtFatal HundredErrors) ∷ []) h refl in
+    omega (arith, last)
 
-command_none : (b : Bool) (m : Meaning Unit) → steps (command b m) ≡ 0
-command_none b (means.Prim n) = primitive_none b n
-command_none b means.Undefined = refl
-command_none b means.RelaxMarked = refl
-command_none b (means.Char category code) = refl
-command_none b (means.CharGiven code) = refl
-command_none b (means.MathGiven code) = refl
-command_none b (means.Register kind number) = refl
-command_none b (means.Macro long outer list) = refl
+line_none : (page : Page) (m : Meaning Unit) → steps (token_line page m) ≡ 0
+line_none page m = none_if page.quiet [] (Written Transcript (reports.token_line_bytes page.in_line m) ∷ []) refl refl
 
-expanded_none : (b : Bool) (x : Seen) → steps (expanded b x) ≡ 0
-expanded_none b x = none_if (is_undefined x.meaning) (not_built b) (Feeds x ∷ []) refl refl
+primitive_none : (page : Page) (t : Token) (n : ℕ) → steps (primitive page t n) ≡ 0
+primitive_none page t n =
+    none_if (nat_eq n catcode_primitive) (Begun reading.Catcode ∷ [])
+    (if nat_eq n message_primitive then Begun (reading.Message (name_of t)) ∷ [] else if nat_eq n end_primitive then finish page.in_line else token_line page (means.Prim n)) refl
+    (none_if (nat_eq n message_primitive) (Begun (reading.Message (name_of t)) ∷ []) (if nat_eq n end_primitive then finish page.in_line else token_line page (means.Prim n)) refl
+    (none_if (nat_eq n end_primitive) (finish page.in_line) (token_line page (means.Prim n)) refl (line_none page (means.Prim n))))
 
-wanted_none : (b : Bool) (w : reading.Want) (x : Seen) → steps (wanted b w x) ≡ 0
-wanted_none b reading.Raw x = refl
-wanted_none b reading.Expanded x = expanded_none b x
-wanted_none b reading.Nonblank x = none_if (is_space x) [] (expanded b x) refl (expanded_none b x)
+command_none : (page : Page) (t : Token) (m : Meaning Unit) → steps (command page t m) ≡ 0
+command_none page t (means.Prim n) = primitive_none page t n
+command_none page t means.Undefined = reported_none page reports.UndefinedName [] refl
+command_none page t means.RelaxMarked = line_none page means.RelaxMarked
+command_none page t (means.Char category code) = line_none page (means.Char category code)
+command_none page t (means.CharGiven code) = line_none page (means.CharGiven code)
+command_none page t (means.MathGiven code) = line_none page (means.MathGiven code)
+command_none page t (means.Register kind number) = line_none page (means.Register kind number)
+command_none page t (means.Macro long outer list) = line_none page (means.Macro long outer list)
 
-handed_steps : (b : Bool) (onward : Seen → List Move) (p : Pulled) → ((x : Seen) → steps (onward x) ≡ 0) → steps (handed b onward p) ≡ one_if (gives_step p)
-handed_steps b onward (TokenFrom t q) h = omega (arith, h (seen t))
-handed_steps b onward (LineTaken l q) h = refl
-handed_steps b onward InvalidMet h = refl
-handed_steps b onward NothingLeft h = refl
+expanded_none : (page : Page) (x : Seen) → steps (expanded page x) ≡ 0
+expanded_none page x = none_if (is_undefined x.meaning) (reported page reports.UndefinedName []) (Feeds x ∷ []) (reported_none page reports.UndefinedName [] refl) refl
+
+wanted_none : (page : Page) (w : reading.Want) (x : Seen) → steps (wanted page w x) ≡ 0
+wanted_none page reading.Raw x = refl
+wanted_none page reading.Expanded x = expanded_none page x
+wanted_none page reading.Nonblank x = none_if (is_space x) [] (expanded page x) refl (expanded_none page x)
+
+checked_none : (categories : List ℕ) (page : Page) (work : List Reading) → steps (checked categories page work) ≡ 0
+checked_none categories page [] = refl
+checked_none categories page (r ∷ rs) = by_kind r.kind where
+  by_kind : (k : reading.Kind) → steps (checked_reading categories page r k) ≡ 0
+  by_kind (reading.Text name) = let none = reported_none (page_behind page (reports.runaway_bytes categories page.in_line (reading.so_far r.kind r.fed))) (reports.FileEndedInText name) [] refl in omega (arith, none)
+  by_kind reading.Catcode = refl
+  by_kind (reading.Message name) = refl
+  by_kind reading.Integer = refl
+
+handed_steps : (page : Page) (onward : Seen → List Move) (check : List Move) (p : Pulled) → ((x : Seen) → steps (onward x) ≡ 0) → steps check ≡ 0 → steps (handed page onward check p) ≡ one_if (gives_step p)
+handed_steps page onward check (TokenFrom t q) h k = omega (arith, h (seen t))
+handed_steps page onward check (LineTaken l q) h k = refl
+handed_steps page onward check (InvalidMet q) h k = omega (arith, reported_none page reports.InvalidCharacter [] refl)
+handed_steps page onward check (FileOver q) h k = omega (arith, k)
+handed_steps page onward check NothingLeft h k = refl
+
+told_none : (page : Page) (report : reports.Report) (back : Bool) (fed : List reading.Fed) → steps (told page report back fed) ≡ 0
+told_none page report back fed =
+    none_if (is_told fed) (Ended (reading.Flag false) ∷ []) (given_back back fed ++ reported page report (Noted ∷ [])) refl
+    (steps_join (given_back back fed) (reported page report (Noted ∷ [])) ∙ omega (arith, back_none back fed, reported_none page report (Noted ∷ []) refl))
 
 with_none : (k : reading.Kind) (lent : Bool) (xs : List Seen) → steps (begun_with k lent xs) ≡ 0
 with_none k lent [] = refl
@@ -70,15 +101,15 @@ begun_none k true r = with_none k r.lent (last_seen r.fed)
 begun_none k false r = refl
 
 answer_steps : (e : Engine) (work : List Reading) (r : Reading) (f : Frame) (a : Ask) →
-    steps (answered (state_of e work) r (ask_of a)) ≡ one_if (wants_token (Some f) a && gives_step (pulled e.categories e.input))
-answer_steps e work r f (More w) = handed_steps e.in_line (wanted e.in_line (want_of w)) (pulled e.categories e.input) (wanted_none e.in_line (want_of w))
+    steps (answered (state_of e work) work r (ask_of a)) ≡ one_if (wants_token (Some f) a && gives_step (pulled e.categories e.input))
+answer_steps e work r f (More w) = let page = page_of (state_of e work) in handed_steps page (wanted page (want_of w)) (checked e.categories (without_file page) work) (pulled e.categories e.input) (wanted_none page (want_of w)) (checked_none e.categories (without_file (page_of (state_of e work))) work)
 answer_steps e work r f (Inner k begins) = begun_none (kind_of k) (is_some begins) r
 answer_steps e work r f (Done v back) = steps_join (given_back (is_some back) r.fed) (Ended (value_of v) ∷ []) ∙ omega (arith, back_none (is_some back) r.fed)
 answer_steps e work r f (Act ef) = steps_join (effect (state_of e work) (effect_of ef)) (Ended (reading.Flag true) ∷ []) ∙ omega (arith, effect_none (state_of e work) (effect_of ef))
-answer_steps e work r f Halt = refl
+answer_steps e work r f (Tells report back) = told_none (page_of (state_of e work)) (report_of report) (is_some back) r.fed
 
 steps_at : (e : Engine) (x : Option Frame) (work : List Reading) → WorkStands e.ask x e.outer.items work → steps (plan_of e work) ≡ one_if (wants_token x e.ask && gives_step (pulled e.categories e.input))
-steps_at e None [] h = handed_steps e.in_line (stomach e.in_line) (pulled e.categories e.input) (λ x. command_none e.in_line x.meaning)
+steps_at e None [] h = let page = page_of (state_of e []) in handed_steps page (stomach page) [] (pulled e.categories e.input) (λ x. command_none page x.token x.meaning) refl
 steps_at e None (r ∷ rs) h = absurd h
 steps_at e (Some f) [] h = absurd h
 steps_at e (Some f) (r ∷ rs) h = rw (← h.0.asked) (answer_steps e (r ∷ rs) r f e.ask)
@@ -86,37 +117,33 @@ steps_at e (Some f) (r ∷ rs) h = rw (← h.0.asked) (answer_steps e (r ∷ rs)
 pub plan_steps : (e : Engine) (work : List Reading) → Stands e work → steps (plan_of e work) ≡ one_if (stepping e)
 plan_steps e work h = steps_at e e.top work h
 
-needs_of : (s : State) (b : Bool) (onward : Seen → List Move) (p : Pulled) → s.due ≡ [] → plan s s.stopped ≡ handed b onward p → gives_step p ≡ true → NeedsStep s
-needs_of s b onward (TokenFrom t q) e f g = plan_needs s (Handed t) _ e f refl
-needs_of s b onward (LineTaken l q) e f g = plan_needs s (Taken l) _ e f refl
-needs_of s b onward InvalidMet e f g = cc
-needs_of s b onward NothingLeft e f g = cc
+needs_of : (s : State) (page : Page) (onward : Seen → List Move) (check : List Move) (p : Pulled) → s.due ≡ [] → plan s s.stopped ≡ handed page onward check p → gives_step p ≡ true → NeedsStep s
+needs_of s page onward check (TokenFrom t q) e f g = plan_needs s (Handed t) _ e f refl
+needs_of s page onward check (LineTaken l q) e f g = plan_needs s (Taken l) _ e f refl
+needs_of s page onward check (InvalidMet q) e f g = cc
+needs_of s page onward check (FileOver q) e f g = cc
+needs_of s page onward check NothingLeft e f g = cc
 
-answer_needs : (e : Engine) (work : List Reading) (r : Reading) (f : Frame) (a : Ask) → plan_of e work ≡ answered (state_of e work) r (ask_of a) → (wants_token (Some f) a && gives_step (pulled e.categories e.input)) ≡ true → NeedsStep (state_of e work)
-answer_needs e work r f (More w) h g = needs_of (state_of e work) e.in_line (wanted e.in_line (want_of w)) (pulled e.categories e.input) refl h g
+answer_needs : (e : Engine) (work : List Reading) (r : Reading) (f : Frame) (a : Ask) → plan_of e work ≡ answered (state_of e work) work r (ask_of a) → (wants_token (Some f) a && gives_step (pulled e.categories e.input)) ≡ true → NeedsStep (state_of e work)
+answer_needs e work r f (More w) h g = let page = page_of (state_of e work) in needs_of (state_of e work) page (wanted page (want_of w)) (checked e.categories (without_file page) work) (pulled e.categories e.input) refl h g
 answer_needs e work r f (Inner k begins) h g = cc
 answer_needs e work r f (Done v back) h g = cc
 answer_needs e work r f (Act ef) h g = cc
-answer_needs e work r f Halt h g = cc
+answer_needs e work r f (Tells report back) h g = cc
 
 needs_at : (e : Engine) (x : Option Frame) (work : List Reading) → WorkStands e.ask x e.outer.items work → (wants_token x e.ask && gives_step (pulled e.categories e.input)) ≡ true → NeedsStep (state_of e work)
-needs_at e None [] h g = needs_of (state_of e []) e.in_line (stomach e.in_line) (pulled e.categories e.input) refl refl g
+needs_at e None [] h g = needs_of (state_of e []) (page_of (state_of e [])) (stomach (page_of (state_of e []))) [] (pulled e.categories e.input) refl refl g
 needs_at e None (r ∷ rs) h g = absurd h
 needs_at e (Some f) [] h g = absurd h
-needs_at e (Some f) (r ∷ rs) h g = answer_needs e (r ∷ rs) r f e.ask (ap (answered (state_of e (r ∷ rs)) r) (sym h.0.asked)) g
+needs_at e (Some f) (r ∷ rs) h g = answer_needs e (r ∷ rs) r f e.ask (ap (answered (state_of e (r ∷ rs)) (r ∷ rs) r) (sym h.0.asked)) g
 
 pub stepping_needs : (e : Engine) → stepping e ≡ true → (work : List Reading) → Stands e work → NeedsStep (state_of e work)
 stepping_needs e g work h = needs_at e e.top work h g
 
-le_one : (b : Bool) (k n m : ℕ) → k < n → m ≡ one_if b → k + m ≤ n
-le_one true k n m lt e = omega arith
-le_one false k n m lt e = omega arith
+-- a rule that begins with no step has none
+pub plan_silent : (e : Engine) → stepping e ≡ false → (work : List Reading) → Stands e work → steps (plan_of e work) ≡ 0
+plan_silent e g work h = plan_steps e work h ∙ ap one_if g
 
--- with room for a step, or none to come
-pub fits_step : (e : Engine) (k n : ℕ) → k < n → (work : List Reading) → Stands e work → k + steps (plan_of e work) ≤ n
-fits_step e k n lt work h = le_one (stepping e) k n (steps (plan_of e work)) lt (plan_steps e work h)
-
-pub fits_none : (e : Engine) (k n : ℕ) → k ≤ n → stepping e ≡ false → (work : List Reading) → Stands e work → k + steps (plan_of e work) ≤ n
-fits_none e k n le g work h =
-    let none : steps (plan_of e work) ≡ one_if false = plan_steps e work h ∙ ap one_if g in
-    omega (arith, none)
+-- and one that does has one
+pub plan_one : (e : Engine) → stepping e ≡ true → (work : List Reading) → Stands e work → steps (plan_of e work) ≡ 1
+plan_one e g work h = plan_steps e work h ∙ ap one_if g

@@ -4,7 +4,7 @@ use Rattle.std.specs.Prelude.{Bool}
 use Rattle.std.proofs.lemmas.List.{take_all}
 use Rattle.tex_defs.specs.Places.{Rose, grown}
 use Rattle.plain_state.specs.States.{in_line_after}
-use Rattle.plain_machine.specs.Plan.{fresh_line}
+use Rattle.plain_state.specs.Reports.{fresh_line}
 use Rattle.plain_machine.specs.Meaning.{Line}
 use Rattle.world_io.specs.Told.{FilesTold, SinkTold, world}
 use Rattle.world_io.specs.declared.traits.Fault.{Fault}

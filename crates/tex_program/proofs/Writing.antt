@@ -22,7 +22,7 @@ pub wrote_out : (f : FilesTold) (s s' : SinkTold) (b b' : Bool) (bs : List ℕ) 
 wrote_out f s s' b b' bs h e lf lw = record {
   told = out_told f s s' b b' bs h;
   column = e;
-  later = record { file_faults = omega arith; sink_faults = lf; file_wants = omega arith; sink_wants = lw };
+  later = record { read_faults = omega arith; file_faults = omega arith; sink_faults = lf; file_wants = omega arith; sink_wants = lw };
 }
 
 cut_by : (fault : Fault) (f : FilesTold) (s s' : SinkTold) (b b' : Bool) (st : State) (bs : List ℕ) (n : ℕ) (more : List Move) →

@@ -13,10 +13,10 @@ state_of Middle = plain.Middle
 state_of SkipBlanks = plain.SkipBlanks
 
 -- the answer on this line is the plain one
-abbrev pub Lexes : plain.Lexed → List ℕ → Lexed → Type 0
-Lexes answer line (Gives t state at) = (answer ≡ plain.Gives t (state_of state) (drop at line)) × (at ≤ length line)
-Lexes answer line Invalid = (state : plain.LineState) × ((rest : List ℕ) × (answer ≡ plain.Invalid state rest))
-Lexes answer line UsedUp = answer ≡ plain.UsedUp
+abbrev pub Lexes : plain.Lexed → plain.LineState → List ℕ → Lexed → Type 0
+Lexes answer old line (Gives t state at) = (answer ≡ plain.Gives t (state_of state) (drop at line)) × (at ≤ length line)
+Lexes answer old line (Invalid at) = (answer ≡ plain.Invalid old (drop at line)) × (at ≤ length line)
+Lexes answer old line UsedUp = answer ≡ plain.UsedUp
 
 -- the character here begins what the line gives
 pub record IsHere (categories : List ℕ) (state : LineState) (at : ℕ) (line : List ℕ) : Type 0 where

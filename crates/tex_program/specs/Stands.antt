@@ -4,17 +4,19 @@ use Rattle.tex_defs.specs.declared.Seen.{Seen}
 use Rattle.plain_state.specs.Readings as reading
 use Rattle.plain_state.specs.Readings.{Fed}
 use Rattle.plain_state.specs.States.{Reading, State}
-use Rattle.plain_machine.specs.Plan.{last_seen}
+use Rattle.plain_machine.specs.Plan.{Page, last_seen, is_told}
 use Rattle.tex_program.specs.declared.scan.Ask.{Ask}
-use Rattle.tex_program.specs.declared.scan.Ask.TheVariants.{More, Inner, Done, Act, Halt}
+use Rattle.tex_program.specs.declared.scan.Ask.TheVariants.{More, Inner, Done, Act, Tells}
 use Rattle.tex_program.specs.declared.frame.Frame.{Frame}
 use Rattle.tex_program.specs.Sees.{ask_of}
-use Rattle.tex_program.specs.Resumes.{resume, IsOpen}
+use Rattle.tex_program.specs.Resumes.{resume, frame_list, frame_kind, IsOpen}
 use Rattle.tex_program.specs.declared.engine.Engine.{Engine}
 
 -- The frame stands behind all that the reading was fed with.
 pub record FrameStands (frame : Frame) (r : Reading) : Type 0 where
   pub goes_on : (fed : List Fed) → reading.ask r.kind (r.fed ++ fed) ≡ resume frame fed
+  pub list : (fed : List Fed) → reading.so_far r.kind (r.fed ++ fed) ≡ frame_list frame fed
+  pub kind : r.kind ≡ frame_kind frame
 
 -- innermost first
 abbrev pub FramesStand : List Frame → List Reading → Type 0
@@ -33,12 +35,18 @@ GivesLast (More want) fed = Unit {0}
 GivesLast (Inner kind begins) fed = IsLast begins fed
 GivesLast (Done v back) fed = IsLast back fed
 GivesLast (Act e) fed = Unit {0}
-GivesLast Halt fed = Unit {0}
+GivesLast (Tells report back) fed = IsLast back fed
+
+-- a report comes only where none was the last
+abbrev pub TellsOnce : Ask → List Fed → Type 0
+TellsOnce (Tells report back) fed = is_told fed ≡ false
+TellsOnce a fed = Unit {0}
 
 pub record Innermost (a : Ask) (frame : Frame) (r : Reading) : Type 0 where
   pub asked : ask_of a ≡ reading.ask r.kind r.fed
   pub open_frame : IsOpen a → FrameStands frame r
   pub last : GivesLast a r.fed
+  pub once : TellsOnce a r.fed
   pub not_lent : r.lent ≡ false
 
 abbrev pub WorkStands : Ask → Option Frame → List Frame → List Reading → Type 0
@@ -67,18 +75,34 @@ state_of e work = record {
   categories = e.categories;
   work = work;
   in_line = e.in_line;
+  reports = e.reports;
+  quiet = e.quiet;
   stopped = None;
   due = [];
 }
+
+-- what the texts of a rule depend on
+abbrev pub page_of : Engine → Page
+page_of e = record { in_line = e.in_line; line = e.input.number; reports = e.reports; quiet = e.quiet }
 
 -- all but the readings is as it was
 pub record SameState (e e' : Engine) : Type 0 where
   pub input : e'.input ≡ e.input
   pub categories : e'.categories ≡ e.categories
   pub in_line : e'.in_line ≡ e.in_line
+  pub reports : e'.reports ≡ e.reports
+  pub quiet : e'.quiet ≡ e.quiet
 
 -- the readings are as they were
 pub record SameFrames (e e' : Engine) : Type 0 where
   pub outer : e'.outer ≡ e.outer
   pub top : e'.top ≡ e.top
   pub ask : e'.ask ≡ e.ask
+
+-- nothing but the column has changed
+pub record OnlyColumn (e e' : Engine) : Type 0 where
+  pub frames : SameFrames e e'
+  pub input : e'.input ≡ e.input
+  pub categories : e'.categories ≡ e.categories
+  pub reports : e'.reports ≡ e.reports
+  pub quiet : e'.quiet ≡ e.quiet

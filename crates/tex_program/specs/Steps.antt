@@ -1,6 +1,6 @@
 -- Whether the next rule needs a step, and how many rules without a step may follow.
-use Rattle.std.specs.Prelude.{ℕ, ◌+◌, ◌*◌, ◌≤◌, ◌<◌, length, Bool, true, false, ◌&&◌, Option, Some, None}
-use Rattle.plain_state.specs.Pending.{pulled}
+use Rattle.std.specs.Prelude.{◌≡◌, ℕ, ◌+◌, ◌*◌, length, Bool, true, false, ◌&&◌, Option, Some, None}
+use Rattle.plain_state.specs.Pending.{Pending, Progress, Closed, pulled}
 use Rattle.tex_program.specs.Reads.{gives_step}
 use Rattle.tex_program.specs.Weights.{ask_weight}
 use Rattle.tex_program.specs.declared.scan.Ask.{Ask}
@@ -35,11 +35,28 @@ top_frames (Some f) = 1
 abbrev pub frames : Engine → ℕ
 frames e = length e.outer.items + top_frames e.top
 
-abbrev pub weight : Engine → ℕ
-weight e = 2 * frames e + ask_weight e.ask
+-- an invalid character may still be skipped, and the file may still end
+abbrev pub file_weight : Progress → ℕ
+file_weight Closed = 0
+file_weight p = 1
+
+abbrev pub pending_weight : Pending → ℕ
+pending_weight p = length p.line + file_weight p.file
 
 -- a rule without a step makes the engine lighter
-abbrev pub WeighsAfter : Ruled → ℕ → ℕ → Type 0
-WeighsAfter Step before now = now ≤ before + 14
-WeighsAfter Free before now = now < before
-WeighsAfter (Halted o) before now = Unit {0}
+abbrev pub weight : Engine → ℕ
+weight e = 2 * frames e + ask_weight e.ask + pending_weight e.input
+
+abbrev pub IsFree : Ruled → Type 0
+IsFree Free = Unit {0}
+IsFree r = ⊥
+
+-- a rule that goes on has a step exactly where one comes next
+abbrev pub StepsIf : Ruled → Bool → Type 0
+StepsIf Step b = b ≡ true
+StepsIf Free b = b ≡ false
+StepsIf (Halted o) b = Unit {0}
+
+abbrev pub freed : Ruled → Ruled
+freed Step = Free
+freed r = r

@@ -1,8 +1,16 @@
 -- What the input's parts stand for.
-use Rattle.std.specs.Prelude.{◌≤◌, reverse, length, drop}
+use Rattle.std.specs.Prelude.{ℕ, ◌≤◌, ◌+◌, reverse, length, drop}
 use Rattle.plain_state.specs.Pending.{Pending}
+use Rattle.plain_state.specs.Pending as plain
+use Rattle.tex_program.specs.declared.input.Progress.{Progress}
+use Rattle.tex_program.specs.declared.input.Progress.TheVariants.{NotBegun, Begun, Closed}
 use Rattle.tex_program.specs.Lexes.{state_of}
 use Rattle.tex_program.specs.declared.input.Input.TheInside.{Inside}
+
+abbrev pub progress_of : Progress → plain.Progress
+progress_of NotBegun = plain.NotBegun
+progress_of Begun = plain.Begun
+progress_of Closed = plain.Closed
 
 -- the tokens put in front, the last one first, then the rest of the line, then the rest of the file
 abbrev pub pending_of : Inside → Pending
@@ -11,9 +19,16 @@ pending_of i = record {
   line = drop i.at i.line.items;
   lex = state_of i.state;
   rest = drop i.next i.bytes.items;
-  begun = i.begun;
+  file = progress_of i.progress;
+  number = i.number;
 }
+
+-- each line but the first has a byte of the file
+abbrev pub first_lines : Progress → ℕ
+first_lines Begun = 1
+first_lines p = 0
 
 pub record IsWithin (i : Inside) : Type 0 where
   pub at : i.at ≤ length i.line.items
   pub next : i.next ≤ length i.bytes.items
+  pub number : i.number ≤ i.next + first_lines i.progress

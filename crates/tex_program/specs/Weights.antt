@@ -3,20 +3,20 @@ use Rattle.std.specs.Prelude.{ℕ, ◌+◌, ◌*◌, Some, None}
 use Rattle.plain_state.specs.Readings.{rank}
 use Rattle.tex_program.specs.Sees.{kind_of}
 use Rattle.tex_program.specs.declared.scan.Ask.{Ask}
-use Rattle.tex_program.specs.declared.scan.Ask.TheVariants.{More, Inner, Done, Act, Halt}
+use Rattle.tex_program.specs.declared.scan.Ask.TheVariants.{More, Inner, Done, Act, Tells}
 use Rattle.tex_program.specs.declared.frame.Frame.{Frame}
 use Rattle.tex_program.specs.declared.frame.Frame.TheVariants as frame
 
 abbrev pub ask_weight : Ask → ℕ
 ask_weight (More want) = 0
 ask_weight (Inner k None) = 3 * (rank (kind_of k) + 1)
-ask_weight (Inner k (Some x)) = 9 + 3 * rank (kind_of k)
+ask_weight (Inner k (Some x)) = 10 + 3 * rank (kind_of k)
 ask_weight (Done v back) = 6
 ask_weight (Act e) = 6
-ask_weight Halt = 0
+ask_weight (Tells report back) = 7
 
 abbrev pub frame_rank : Frame → ℕ
 frame_rank (frame.Catcode scan) = 1
-frame_rank frame.Message = 1
+frame_rank (frame.Message name) = 1
 frame_rank (frame.Integer scan) = 0
-frame_rank (frame.Text scan) = 0
+frame_rank (frame.Text name scan) = 0

@@ -1,34 +1,37 @@
 // The engine: the machine's rules, one at a time.
-ghost use Rattle.std.specs.Prelude.{◌≡◌, ◌≤◌, ◌<◌, ◌+◌, ◌*◌, ℕ, List, [], ◌∷◌, ◌++◌, reverse, IfOk, IfErr, OnOk, OnErr, Option, Some, None, Bool, true, false, is_some, IsSome};
+ghost use Rattle.std.specs.Prelude.{◌≡◌, ◌≤◌, ◌<◌, ◌+◌, ◌*◌, ℕ, List, [], ◌∷◌, ◌++◌, reverse, IfOk, IfErr, OnOk, OnErr, Option, Some, None, Bool, true, false, is_some, IsSome, option_map};
 ghost use Rattle.tex_defs.specs.Places.{Transcript, World};
-ghost use Rattle.tex_defs.specs.declared.Token.{Token as PlainToken};
+ghost use Rattle.tex_defs.specs.declared.Fatal.TheVariants as fatal;
 ghost use Rattle.plain_state.specs.Categories.{initial_categories as first_categories};
 ghost use Rattle.plain_state.specs.Pending.{pulled};
 ghost use Rattle.plain_state.specs.Names as names;
-ghost use Rattle.plain_state.specs.Readings.{Fed, Tok, Val, rank, Flag as FlagValue};
-ghost use Rattle.plain_state.specs.States.{State, Reading, Move, Written, Begun, BegunWith, Feeds, Ended as EndedMove, fresh, fed_with, lending, in_line_after};
-ghost use Rattle.plain_machine.specs.Plan.{handed, wanted, stomach, answered, effect as effect_moves, first_state, given_back, not_built};
+ghost use Rattle.plain_state.specs.Readings.{Fed, Tok, Val, Told, rank, Flag as FlagValue};
+ghost use Rattle.plain_state.specs.States.{State, Reading, Move, Put, Written, Ended as EndedMove, AtFatal, fresh, fed_with, in_line_after};
+ghost use Rattle.plain_machine.specs.Plan.{handed, effect as effect_moves, first_state, job_due, given_back, reported, token_line, checked, told, is_told, no_file};
 ghost use Rattle.plain_machine.specs.Does.{Did};
 ghost use Rattle.world_io.specs.Told.{FilesTold};
-ghost use Rattle.tex_program.specs.Sees.{value_of, kind_of, ask_of, want_of, effect_of};
+ghost use Rattle.tex_program.specs.Sees.{value_of, kind_of, want_of, effect_of, report_of};
 ghost use Rattle.tex_program.specs.Resumes.{IsOpen};
-ghost use Rattle.tex_program.specs.Weights.{ask_weight, frame_rank};
+ghost use Rattle.tex_program.specs.Weights.{frame_rank};
 ghost use Rattle.tex_program.specs.Reads.{gives_step};
-ghost use Rattle.tex_program.specs.Begins.{outcome_of, halted, text_at_halt};
-ghost use Rattle.tex_program.specs.Stands.{Stands, Waits, FramesStand, Innermost, IsLast, SameState, SameFrames, state_of};
-ghost use Rattle.tex_program.specs.Rules.{world_of, plan_of, onward_of, Takes, Cuts, Went, Halts, DoesRule, DoesOnward};
-ghost use Rattle.tex_program.specs.Steps.{stepping, IsStep, frames, weight, WeighsAfter};
-ghost use Rattle.tex_program.specs.Ran.{Ran, CutBy};
+ghost use Rattle.tex_program.specs.Begins.{outcome_of, outcome_of_last, last_moves, last_bytes, away_moves, onward_moves};
+ghost use Rattle.tex_program.specs.Stands.{Stands, Waits, FramesStand, IsLast, SameState, SameFrames, OnlyColumn, state_of, page_of};
+ghost use Rattle.tex_program.specs.Rules.{world_of, plan_of, onward_of, check_of, Takes, Wants, FitsOnward, RunsAway, Cuts, Went, Reports, Halts, DoesRule, DoesOnward};
+ghost use Rattle.tex_program.specs.Steps.{stepping, IsStep, IsFree, StepsIf, freed, frames, pending_weight, weight};
+ghost use Rattle.tex_program.specs.Ran.{Ran, Settled, CutBy};
+ghost use Rattle.tex_program.specs.declared.reactions.Outcome.TheVariants as outcomes;
+ghost use Rattle.tex_program.specs.declared.engine.Ruled.TheVariants.{Halted};
 
 use crate::broken::Broken;
 use crate::frame::{Frame, first_ask};
 use crate::input::{Input, Pulled};
 use crate::meaning::seen;
 use crate::print::message_text;
-use crate::reactions::{Begins, Outcome, Reaction, obey, react};
+use crate::reactions::{Last, Onward, Outcome, obey, react};
+use crate::report::{Report, no_file_text, report_text, runaway_text, token_line_text};
 use crate::scan::{Ask, Effect, Kind, Value, Want};
 use std::alloc::{AllocError, Global};
-use tex_defs::{Seen, Token};
+use tex_defs::{Fatal, Meaning, Name, Seen, Token};
 use world_io::{Sink, write_all};
 
 /// What a rule did.
@@ -46,6 +49,13 @@ pub enum Ended {
     Steps,
 }
 
+/// Where a text runs away: the command that reads it, and what is shown of it.
+#[derive(Drop)]
+struct Away {
+    name: Name,
+    text: Vec<u8>,
+}
+
 /// The machine's state, kept in tables.
 #[derive(Drop)]
 pub struct Engine {
@@ -60,7 +70,14 @@ pub struct Engine {
     ask: Ask,
     /// Whether the last byte that the transcript took isn't a line feed.
     in_line: bool,
+    /// The reports so far.
+    reports: u32,
+    /// Whether token lines are left out.
+    quiet: bool,
 }
+
+/// The reports that a run may have, but for the last.
+const REPORTS_ROOM: u32 = 99;
 
 const INITIAL: [u8; 256] = [
     9, 12, 12, 12, 12, 12, 12, 12, 12, 12, 12, 12, 12, 5, 12, 12, 12, 12, 12, 12, 12, 12, 12, 12,
@@ -97,20 +114,27 @@ pub fn ends_in_line(before: bool, text: &[u8]) -> bool
 }
 
 impl Engine {
-    /// An engine at the beginning of a job with these bytes.
-    pub fn new(alloc: Global, bytes: Vec<u8>) -> Self
+    /// An engine at the beginning of a job, whose bytes are these where its file is held.
+    pub fn new(alloc: Global, quiet: bool, bytes: Option<Vec<u8>>) -> Self
         ensures stands { Stands result [] }
-        ensures state { state_of result [] ≡ first_state first_categories (Some bytes.items) }
+        ensures state { (file : List ℕ) → record (state_of result []) { due = job_due file (option_map (λ v. v.items) bytes) } ≡ first_state first_categories quiet file (option_map (λ v. v.items) bytes) }
         ensures column { result.in_line ≡ false }
+        ensures reports { result.reports ≡ 0 }
     {
+        let input = match bytes {
+            Some(bytes) => Input::new(alloc, bytes),
+            None => Input::closed(alloc),
+        };
         Engine {
             alloc,
-            input: Input::new(alloc, bytes),
+            input,
             categories: initial_categories(),
             outer: Vec::new(alloc),
             top: None,
             ask: Ask::More(Want::Expanded),
             in_line: false,
+            reports: 0,
+            quiet,
         }
     }
 
@@ -121,11 +145,18 @@ impl Engine {
         self.in_line
     }
 
+    /// The reports so far.
+    pub fn reports(&self) -> u32
+        ensures { result ≡ self.now.reports }
+    {
+        self.reports
+    }
+
     /// Writes text to the transcript.
     fn write_text<S: Sink>(&mut self, out: &mut S, text: &[u8]) -> Result<(), Broken>
         ensures did { OnOk result ((f : FilesTold) (work : List Reading) → Did (state_of self.old work) (state_of self.new work) (world_of f (S.told out.old) self.old) (world_of f (S.told out.new) self.new) (Written Transcript text.now ∷ [])) }
         ensures err { IfErr result (λ b. (f : FilesTold) (s : State) (more : List Move) → Cuts s (world_of f (S.told out.old) self.old) (world_of f (S.told out.new) self.new) (Written Transcript text.now ∷ more) b) }
-        ensures frames { SameFrames self.old self.new }
+        ensures only { OnlyColumn self.old self.new }
     {
         match write_all(out, text) {
             Ok(()) => {
@@ -141,7 +172,7 @@ impl Engine {
 
     /// Begins a reading.
     fn begin(&mut self, kind: Kind) -> Result<(), AllocError>
-        ensures light { OnOk result (weight self.new < 2 * frames self.old + 3 * (rank (kind_of kind) + 1)) }
+        ensures light { OnOk result (weight self.new < 2 * frames self.old + 3 * (rank (kind_of kind) + 1) + pending_weight self.old.input) }
         ensures one { OnOk result (frames self.new ≡ frames self.old + 1) }
         ensures same { SameState self.old self.new }
         ensures open_ask { OnOk result (IsOpen self.new.ask) }
@@ -159,7 +190,7 @@ impl Engine {
 
     /// Feeds the innermost reading.
     fn feed(&mut self, seen: Seen) -> Result<(), AllocError>
-        ensures light { OnOk result ((f : _) → self.old.top ≡ Some f → weight self.new ≤ 2 * frames self.old + (6 + 3 * frame_rank f)) }
+        ensures light { OnOk result ((f : _) → self.old.top ≡ Some f → weight self.new ≤ 2 * frames self.old + (7 + 3 * frame_rank f) + pending_weight self.old.input) }
         ensures light_none { OnOk result (self.old.top ≡ None → weight self.new ≡ weight self.old) }
         ensures same { SameState self.old self.new }
         ensures stands { OnOk result ((work : List Reading) → IsOpen self.old.ask → Stands self.old work → Stands self.new (fed_with (Tok seen) work)) }
@@ -172,7 +203,7 @@ impl Engine {
 
     /// Ends the innermost reading, whose value goes to the one beneath.
     fn end(&mut self, value: Value)
-        ensures light { (f : _) → self.old.top ≡ Some f → weight self.new < 2 * frames self.old + 6 }
+        ensures light { (f : _) → self.old.top ≡ Some f → weight self.new < 2 * frames self.old + 6 + pending_weight self.old.input }
         ensures same { SameState self.old self.new }
         ensures stands { (work : List Reading) → FramesStand (reverse self.old.outer.items) work → Stands self.new (fed_with (Val (value_of value)) work) }
     {
@@ -186,7 +217,7 @@ impl Engine {
 
     /// Begins a reading with the token that the innermost one looked at.
     fn begin_with(&mut self, kind: Kind, seen: Seen) -> Result<(), AllocError>
-        ensures light { OnOk result (weight self.new < 2 * frames self.old + (9 + 3 * rank (kind_of kind))) }
+        ensures light { OnOk result (weight self.new < 2 * frames self.old + (10 + 3 * rank (kind_of kind)) + pending_weight self.old.input) }
         ensures same { SameState self.old self.new }
         ensures stands { OnOk result ((work : List Reading) → Waits self.old work → Stands self.new (fed_with (Tok seen) (fresh (kind_of kind) ∷ work))) }
     {
@@ -199,6 +230,8 @@ impl Engine {
         ensures did { OnOk result ((w : World) (work : List Reading) (fed : List Fed) → IsLast back fed → Did (state_of self.old work) (state_of self.new work) w w (given_back (is_some back) fed)) }
         ensures frames { SameFrames self.old self.new }
         ensures column { self.new.in_line ≡ self.old.in_line }
+        ensures light { pending_weight self.new.input ≡ pending_weight self.old.input }
+        ensures page { page_of self.new ≡ page_of self.old }
     {
         if let Some(seen) = back {
             self.input.back(seen.token)?;
@@ -208,7 +241,7 @@ impl Engine {
 
     /// The innermost reading is done.
     fn done(&mut self, value: Value, back: Option<Seen>) -> Result<(), AllocError>
-        ensures light { OnOk result ((f : _) → self.old.top ≡ Some f → weight self.new < 2 * frames self.old + 6) }
+        ensures light { OnOk result ((f : _) → self.old.top ≡ Some f → weight self.new < 2 * frames self.old + 6 + pending_weight self.old.input) }
         ensures rule { OnOk result ((w : World) (r : Reading) (rs : List Reading) → FramesStand (reverse self.old.outer.items) rs → IsLast back r.fed →
             Went (state_of self.old (r ∷ rs)) self.new w w (given_back (is_some back) r.fed ++ EndedMove (value_of value) ∷ []) 0) }
         ensures column { self.new.in_line ≡ self.old.in_line }
@@ -223,6 +256,7 @@ impl Engine {
         ensures did { OnOk result ((f : FilesTold) (work : List Reading) → Did (state_of self.old work) (state_of self.new work) (world_of f (S.told out.old) self.old) (world_of f (S.told out.new) self.new) (effect_moves (state_of self.old work) (effect_of effect.now))) }
         ensures err { IfErr result (λ b. (f : FilesTold) (work : List Reading) (more : List Move) → Cuts (state_of self.old work) (world_of f (S.told out.old) self.old) (world_of f (S.told out.new) self.new) (effect_moves (state_of self.old work) (effect_of effect.now) ++ more) b) }
         ensures frames { SameFrames self.old self.new }
+        ensures input { self.new.input ≡ self.old.input }
     {
         match effect {
             Effect::SetCategory(code, category) => {
@@ -240,7 +274,7 @@ impl Engine {
 
     /// A command acts, and ends.
     fn act_and_end<S: Sink>(&mut self, out: &mut S, effect: &Effect) -> Result<(), Broken>
-        ensures light { OnOk result ((f : _) → self.old.top ≡ Some f → weight self.new < 2 * frames self.old + 6) }
+        ensures light { OnOk result ((f : _) → self.old.top ≡ Some f → weight self.new < 2 * frames self.old + 6 + pending_weight self.old.input) }
         ensures rule { OnOk result ((f : FilesTold) (r : Reading) (rs : List Reading) → FramesStand (reverse self.old.outer.items) rs →
             Went (state_of self.old (r ∷ rs)) self.new (world_of f (S.told out.old) self.old) (world_of f (S.told out.new) self.new) (effect_moves (state_of self.old (r ∷ rs)) (effect_of effect.now) ++ EndedMove (FlagValue true) ∷ []) 0) }
         ensures err { IfErr result (λ b. (f : FilesTold) (work : List Reading) → Cuts (state_of self.old work) (world_of f (S.told out.old) self.old) (world_of f (S.told out.new) self.new) (effect_moves (state_of self.old work) (effect_of effect.now) ++ EndedMove (FlagValue true) ∷ []) b) }
@@ -250,103 +284,246 @@ impl Engine {
         Ok(())
     }
 
-    /// Writes what the machine writes where it stops.
-    pub fn halt<S: Sink>(&mut self, out: &mut S, outcome: Outcome) -> Result<(), Broken>
-        ensures did { OnOk result ((f : FilesTold) (work : List Reading) → Halts (state_of self.old work) (world_of f (S.told out.old) self.old) (world_of f (S.told out.new) self.new) (halted self.old.in_line outcome) (outcome_of outcome)) }
-        ensures err { IfErr result (λ b. (f : FilesTold) (s : State) → Cuts s (world_of f (S.told out.old) self.old) (world_of f (S.told out.new) self.new) (halted self.old.in_line outcome) b) }
+    /// Writes a report on a fresh line, and counts it. Answers whether the run goes on behind it.
+    fn report<S: Sink>(&mut self, out: &mut S, report: Report) -> Result<bool, Broken>
+        ensures on { IfOk result (λ on. on ≡ true → (f : FilesTold) (work : List Reading) (rest : List Move) →
+            Reports (state_of self.old work) (state_of self.new work) (world_of f (S.told out.old) self.old) (world_of f (S.told out.new) self.new) (page_of self.old) (report_of report) rest) }
+        ensures last { IfOk result (λ on. on ≡ false → (f : FilesTold) (work : List Reading) (rest : List Move) →
+            Halts (state_of self.old work) self.new (world_of f (S.told out.old) self.old) (world_of f (S.told out.new) self.new) (reported (page_of self.old) (report_of report) rest) (AtFatal fatal.HundredErrors) 0) }
+        ensures err { IfErr result (λ b. (f : FilesTold) (s : State) (rest : List Move) → Cuts s (world_of f (S.told out.old) self.old) (world_of f (S.told out.new) self.new) (reported (page_of self.old) (report_of report) rest) b) }
+        ensures frames { SameFrames self.old self.new }
+        ensures input { self.new.input ≡ self.old.input }
+        ensures categories { self.new.categories ≡ self.old.categories }
+        ensures quiet { self.new.quiet ≡ self.old.quiet }
     {
-        self.write_text(out, last_text(self.in_line, outcome))
+        let line = self.input.line_number();
+        let text = report_text(self.alloc, self.in_line, line, report)?;
+        self.write_text(out, text.as_slice())?;
+        if self.reports < REPORTS_ROOM {
+            self.reports += 1;
+            return Ok(true);
+        }
+        self.write_text(out, HUNDRED_LINE)?;
+        Ok(false)
     }
 
-    /// The machine is where a part comes that isn't built.
-    fn refuse<S: Sink>(&mut self, out: &mut S) -> Result<Ruled, Broken>
-        ensures light { IfOk result (λ ruled. WeighsAfter ruled (weight self.old) (weight self.new)) }
-        ensures step { IfOk result (λ ruled. IsStep ruled → ⊥) }
+    /// A report, behind which the rule ends.
+    fn report_only<S: Sink>(&mut self, out: &mut S, report: Report) -> Result<Ruled, Broken>
+        ensures rule { IfOk result (λ ruled. (f : FilesTold) (work : List Reading) → Stands self.old work →
+            DoesOnward (state_of self.old work) self.new (world_of f (S.told out.old) self.old) (world_of f (S.told out.new) self.new) (reported (page_of self.old) (report_of report) []) ruled) }
+        ensures err { IfErr result (λ b. (f : FilesTold) (s : State) → Cuts s (world_of f (S.told out.old) self.old) (world_of f (S.told out.new) self.new) (reported (page_of self.old) (report_of report) []) b) }
+        ensures frames { SameFrames self.old self.new }
+        ensures input { self.new.input ≡ self.old.input }
+        ensures on { IfOk result (λ ruled. IsFree ruled → ⊥) }
+    {
+        if self.report(out, report)? {
+            Ok(Ruled::Step)
+        } else {
+            Ok(Ruled::Halted(Outcome::Fatal(Fatal::HundredErrors)))
+        }
+    }
+
+    /// Writes what the machine writes where it stops, and ends the run.
+    fn halt<S: Sink>(&mut self, out: &mut S, last: Last) -> Result<Ruled, Broken>
         ensures rule { IfOk result (λ ruled. (f : FilesTold) (work : List Reading) →
-            DoesRule (state_of self.old work) self.new (world_of f (S.told out.old) self.old) (world_of f (S.told out.new) self.new) (not_built self.old.in_line) ruled) }
-        ensures err { IfErr result (λ b. (f : FilesTold) (s : State) → Cuts s (world_of f (S.told out.old) self.old) (world_of f (S.told out.new) self.new) (not_built self.old.in_line) b) }
+            DoesOnward (state_of self.old work) self.new (world_of f (S.told out.old) self.old) (world_of f (S.told out.new) self.new) (last_moves self.old.in_line last) ruled) }
+        ensures err { IfErr result (λ b. (f : FilesTold) (s : State) → Cuts s (world_of f (S.told out.old) self.old) (world_of f (S.told out.new) self.new) (last_moves self.old.in_line last) b) }
+        ensures ends { IfOk result (λ ruled. ruled ≡ Halted (outcome_of_last last)) }
     {
-        self.halt(out, Outcome::NotBuilt)?;
-        Ok(Ruled::Halted(Outcome::NotBuilt))
+        self.write_text(out, last_text(self.in_line, last))?;
+        Ok(Ruled::Halted(last.outcome()))
     }
 
-    /// What becomes of a token where no reading is open.
-    fn command<S: Sink>(&mut self, out: &mut S, seen: Seen) -> Result<Ruled, Broken>
-        ensures light { IfOk result (λ ruled. WeighsAfter ruled (weight self.old) (weight self.new)) }
-        ensures rule { IfOk result (λ ruled. (f : FilesTold) → self.old.top ≡ None → self.old.outer.items ≡ [] →
-            DoesOnward (state_of self.old []) self.new (world_of f (S.told out.old) self.old) (world_of f (S.told out.new) self.new) (stomach self.old.in_line seen) ruled) }
-        ensures err { IfErr result (λ b. (f : FilesTold) (s : State) → Cuts s (world_of f (S.told out.old) self.old) (world_of f (S.told out.new) self.new) (stomach self.old.in_line seen) b) }
+    /// The line of a token that only typesetting would use.
+    fn token_line<S: Sink>(&mut self, out: &mut S, meaning: Meaning<()>) -> Result<(), Broken>
+        ensures did { OnOk result ((f : FilesTold) (work : List Reading) →
+            Did (state_of self.old work) (state_of self.new work) (world_of f (S.told out.old) self.old) (world_of f (S.told out.new) self.new) (token_line (page_of self.old) meaning)) }
+        ensures err { IfErr result (λ b. (f : FilesTold) (s : State) → Cuts s (world_of f (S.told out.old) self.old) (world_of f (S.told out.new) self.new) (token_line (page_of self.old) meaning) b) }
+        ensures only { OnlyColumn self.old self.new }
     {
-        match obey(seen) {
-            Begins::Reading(kind) => {
-                self.begin(kind)?;
-                Ok(Ruled::Step)
-            }
-            Begins::End(outcome) => {
-                self.halt(out, outcome)?;
-                Ok(Ruled::Halted(outcome))
-            }
+        if self.quiet {
+            return Ok(());
         }
-    }
-
-    /// What becomes of a token that the innermost reading wants.
-    fn take<S: Sink>(&mut self, out: &mut S, want: Want, seen: Seen) -> Result<Ruled, Broken>
-        ensures light { IfOk result (λ ruled. WeighsAfter ruled (weight self.old) (weight self.new)) }
-        ensures rule { IfOk result (λ ruled. (f : FilesTold) (work : List Reading) → IsOpen self.old.ask → Stands self.old work →
-            DoesOnward (state_of self.old work) self.new (world_of f (S.told out.old) self.old) (world_of f (S.told out.new) self.new) (wanted self.old.in_line (want_of want) seen) ruled) }
-        ensures err { IfErr result (λ b. (f : FilesTold) (s : State) → Cuts s (world_of f (S.told out.old) self.old) (world_of f (S.told out.new) self.new) (wanted self.old.in_line (want_of want) seen) b) }
-    {
-        match react(want, seen) {
-            Reaction::Skip => Ok(Ruled::Step),
-            Reaction::Feed => {
-                self.feed(seen)?;
-                Ok(Ruled::Step)
-            }
-            Reaction::Refuse => {
-                self.halt(out, Outcome::NotBuilt)?;
-                Ok(Ruled::Halted(Outcome::NotBuilt))
-            }
-        }
+        let text = token_line_text(self.alloc, self.in_line, meaning)?;
+        self.write_text(out, text.as_slice())
     }
 
     /// What becomes of a token that was handed on.
+    fn go_on<S: Sink>(
+        &mut self,
+        out: &mut S,
+        seen: Seen,
+        onward: Onward,
+    ) -> Result<Ruled, Broken>
+        ensures rule { IfOk result (λ ruled. (f : FilesTold) (work : List Reading) → FitsOnward onward self.old work →
+            DoesOnward (state_of self.old work) self.new (world_of f (S.told out.old) self.old) (world_of f (S.told out.new) self.new) (onward_moves (page_of self.old) seen onward) ruled) }
+        ensures err { IfErr result (λ b. (f : FilesTold) (s : State) → Cuts s (world_of f (S.told out.old) self.old) (world_of f (S.told out.new) self.new) (onward_moves (page_of self.old) seen onward) b) }
+        ensures on { IfOk result (λ ruled. IsFree ruled → ⊥) }
+    {
+        match onward {
+            Onward::Skip => Ok(Ruled::Step),
+            Onward::Feed => {
+                self.feed(seen)?;
+                Ok(Ruled::Step)
+            }
+            Onward::Begin(kind) => {
+                self.begin(kind)?;
+                Ok(Ruled::Step)
+            }
+            Onward::Report(report) => self.report_only(out, report),
+            Onward::Line => {
+                self.token_line(out, seen.meaning)?;
+                Ok(Ruled::Step)
+            }
+            Onward::Finish => self.halt(out, Last::End),
+        }
+    }
+
+    /// What becomes of a token that was handed on to where it is wanted.
     fn hand_on<S: Sink>(
         &mut self,
         out: &mut S,
         want: Option<Want>,
         token: Token,
     ) -> Result<Ruled, Broken>
-        ensures light { IfOk result (λ ruled. WeighsAfter ruled (weight self.old) (weight self.new)) }
         ensures rule { IfOk result (λ ruled. (f : FilesTold) (work : List Reading) → Takes want self.old work →
-            DoesOnward (state_of self.old work) self.new (world_of f (S.told out.old) self.old) (world_of f (S.told out.new) self.new) (onward_of self.old.in_line want (names.seen token)) ruled) }
-        ensures err { IfErr result (λ b. (f : FilesTold) (s : State) → Cuts s (world_of f (S.told out.old) self.old) (world_of f (S.told out.new) self.new) (onward_of self.old.in_line want (names.seen token)) b) }
+            DoesOnward (state_of self.old work) self.new (world_of f (S.told out.old) self.old) (world_of f (S.told out.new) self.new) (onward_of (page_of self.old) want (names.seen token)) ruled) }
+        ensures err { IfErr result (λ b. (f : FilesTold) (s : State) → Cuts s (world_of f (S.told out.old) self.old) (world_of f (S.told out.new) self.new) (onward_of (page_of self.old) want (names.seen token)) b) }
+        ensures on { IfOk result (λ ruled. IsFree ruled → ⊥) }
     {
+        let seen = seen(token);
         match want {
-            None => self.command(out, seen(token)),
-            Some(want) => self.take(out, want, seen(token)),
+            None => self.go_on(out, seen, obey(seen)),
+            Some(want) => self.go_on(out, seen, react(want, seen)),
+        }
+    }
+
+    /// Where a text is read, its command, and what is written where it runs away.
+    fn runaway(&self) -> Result<Option<Away>, AllocError>
+        ensures { IfOk result (λ r. RunsAway self.now r) }
+    {
+        let Some(frame) = &self.top else {
+            return Ok(None);
+        };
+        match frame.text() {
+            Some((name, tokens)) => {
+                let text = runaway_text(self.alloc, &self.categories, self.in_line, tokens)?;
+                Ok(Some(Away { name, text }))
+            }
+            None => Ok(None),
+        }
+    }
+
+    /// Puts a token in front.
+    fn insert(&mut self, token: Token) -> Result<(), AllocError>
+        ensures did { OnOk result ((w : World) (work : List Reading) → Did (state_of self.old work) (state_of self.new work) w w (Put (token ∷ []) ∷ [])) }
+        ensures frames { SameFrames self.old self.new }
+        ensures column { self.new.in_line ≡ self.old.in_line }
+        ensures light { pending_weight self.new.input ≡ pending_weight self.old.input }
+        ensures page { page_of self.new ≡ page_of self.old }
+    {
+        self.input.back(token)
+    }
+
+    /// A text runs away.
+    fn run_away<S: Sink>(
+        &mut self,
+        out: &mut S,
+        text: &[u8],
+        report: Report,
+    ) -> Result<Ruled, Broken>
+        ensures rule { IfOk result (λ ruled. (f : FilesTold) (work : List Reading) → Stands self.old work →
+            DoesOnward (state_of self.old work) self.new (world_of f (S.told out.old) self.old) (world_of f (S.told out.new) self.new) (away_moves (page_of self.old) text.now (report_of report)) ruled) }
+        ensures err { IfErr result (λ b. (f : FilesTold) (s : State) → Cuts s (world_of f (S.told out.old) self.old) (world_of f (S.told out.new) self.new) (away_moves (page_of self.old) text.now (report_of report)) b) }
+        ensures frames { SameFrames self.old self.new }
+        ensures light { pending_weight self.new.input ≡ pending_weight self.old.input }
+        ensures on { IfOk result (λ ruled. IsFree ruled → ⊥) }
+    {
+        self.write_text(out, text)?;
+        self.insert(RIGHT_BRACE)?;
+        self.report_only(out, report)
+    }
+
+    /// The check where the file has ended.
+    fn check<S: Sink>(&mut self, out: &mut S) -> Result<Ruled, Broken>
+        ensures rule { IfOk result (λ ruled. (f : FilesTold) (work : List Reading) → Wants self.old work →
+            DoesOnward (state_of self.old work) self.new (world_of f (S.told out.old) self.old) (world_of f (S.told out.new) self.new) (checked self.old.categories (page_of self.old) work) ruled) }
+        ensures err { IfErr result (λ b. (f : FilesTold) (work : List Reading) (s : State) → Wants self.old work →
+            Cuts s (world_of f (S.told out.old) self.old) (world_of f (S.told out.new) self.new) (checked self.old.categories (page_of self.old) work) b) }
+        ensures frames { SameFrames self.old self.new }
+        ensures light { pending_weight self.new.input ≡ pending_weight self.old.input }
+        ensures on { IfOk result (λ ruled. IsFree ruled → ⊥) }
+    {
+        match self.runaway()? {
+            Some(away) => {
+                let report = Report::FileEndedInText(away.name);
+                self.run_away(out, away.text.as_slice(), report)
+            }
+            None => Ok(Ruled::Step),
         }
     }
 
     /// The next token or line.
     fn next_token<S: Sink>(&mut self, out: &mut S, want: Option<Want>) -> Result<Ruled, Broken>
-        ensures light { IfOk result (λ ruled. WeighsAfter ruled (weight self.old) (weight self.new)) }
-        ensures step { IfOk result (λ ruled. IsStep ruled → gives_step (pulled self.old.categories self.old.input) ≡ true) }
+        ensures light { IfOk result (λ ruled. IsFree ruled → weight self.new < weight self.old) }
+        ensures step { IfOk result (λ ruled. StepsIf ruled (gives_step (pulled self.old.categories self.old.input))) }
         ensures rule { IfOk result (λ ruled. (f : FilesTold) (work : List Reading) → Takes want self.old work →
-            DoesRule (state_of self.old work) self.new (world_of f (S.told out.old) self.old) (world_of f (S.told out.new) self.new) (handed self.old.in_line (onward_of self.old.in_line want) (pulled self.old.categories self.old.input)) ruled) }
-        ensures err { IfErr result (λ b. (f : FilesTold) (s : State) → Cuts s (world_of f (S.told out.old) self.old) (world_of f (S.told out.new) self.new) (handed self.old.in_line (onward_of self.old.in_line want) (pulled self.old.categories self.old.input)) b) }
+            DoesRule (state_of self.old work) self.new (world_of f (S.told out.old) self.old) (world_of f (S.told out.new) self.new) (handed (page_of self.old) (onward_of (page_of self.old) want) (check_of self.old work) (pulled self.old.categories self.old.input)) ruled) }
+        ensures err { IfErr result (λ b. (f : FilesTold) (work : List Reading) → Takes want self.old work →
+            Cuts (state_of self.old work) (world_of f (S.told out.old) self.old) (world_of f (S.told out.new) self.new) (handed (page_of self.old) (onward_of (page_of self.old) want) (check_of self.old work) (pulled self.old.categories self.old.input)) b) }
     {
         match self.input.pull(&self.categories)? {
             Pulled::Handed(token) => self.hand_on(out, want, token),
             Pulled::Taken => Ok(Ruled::Step),
-            Pulled::Invalid => self.refuse(out),
-            Pulled::Nothing => self.refuse(out),
+            Pulled::Invalid => {
+                let ruled = self.report_only(out, Report::InvalidCharacter)?;
+                Ok(freely(ruled))
+            }
+            Pulled::FileOver => {
+                let ruled = self.check(out)?;
+                Ok(freely(ruled))
+            }
+            Pulled::Nothing => self.halt(out, Last::NoEnd),
+        }
+    }
+
+    /// The innermost reading reports, and goes on.
+    fn tell<S: Sink>(
+        &mut self,
+        out: &mut S,
+        report: Report,
+        back: Option<Seen>,
+    ) -> Result<Ruled, Broken>
+        ensures light { IfOk result (λ ruled. IsFree ruled → (f : _) → self.old.top ≡ Some f → weight self.new < 2 * frames self.old + 7 + pending_weight self.old.input) }
+        ensures step { IfOk result (λ ruled. IsStep ruled → ⊥) }
+        ensures rule { IfOk result (λ ruled. (f : FilesTold) (r : Reading) (rs : List Reading) → Waits self.old (r ∷ rs) → IsLast back r.fed → is_told r.fed ≡ false →
+            DoesRule (state_of self.old (r ∷ rs)) self.new (world_of f (S.told out.old) self.old) (world_of f (S.told out.new) self.new) (told (page_of self.old) (report_of report) (is_some back) r.fed) ruled) }
+        ensures err { IfErr result (λ b. (f : FilesTold) (r : Reading) (s : State) → IsLast back r.fed → is_told r.fed ≡ false →
+            Cuts s (world_of f (S.told out.old) self.old) (world_of f (S.told out.new) self.new) (told (page_of self.old) (report_of report) (is_some back) r.fed) b) }
+    {
+        self.put_back(back)?;
+        if self.report(out, report)? {
+            self.note();
+            return Ok(Ruled::Free);
+        }
+        Ok(Ruled::Halted(Outcome::Fatal(Fatal::HundredErrors)))
+    }
+
+    /// The innermost reading is fed with the note that its report was written.
+    fn note(&mut self)
+        ensures light { (f : _) → self.old.top ≡ Some f → weight self.new ≤ 2 * frames self.old + 6 + pending_weight self.old.input }
+        ensures same { SameState self.old self.new }
+        ensures stands { (work : List Reading) → Waits self.old work → Stands self.new (fed_with Told work) }
+    {
+        if let Some(frame) = &mut self.top {
+            self.ask = frame.feed_told(self.alloc);
         }
     }
 
     /// Does one rule of the machine, with at most one step.
     fn rule<S: Sink>(&mut self, out: &mut S) -> Result<Ruled, Broken>
-        ensures light { IfOk result (λ ruled. WeighsAfter ruled (weight self.old) (weight self.new)) }
-        ensures step { IfOk result (λ ruled. IsStep ruled → stepping self.old ≡ true) }
+        ensures light { IfOk result (λ ruled. IsFree ruled → weight self.new < weight self.old) }
+        ensures step { IfOk result (λ ruled. StepsIf ruled (stepping self.old)) }
         ensures rule { IfOk result (λ ruled. (f : FilesTold) (work : List Reading) → Stands self.old work →
             DoesRule (state_of self.old work) self.new (world_of f (S.told out.old) self.old) (world_of f (S.told out.new) self.new) (plan_of self.old work) ruled) }
         ensures err { IfErr result (λ b. (f : FilesTold) (work : List Reading) → Stands self.old work →
@@ -356,7 +533,7 @@ impl Engine {
             None => return self.next_token(out, None),
             Some(_) => {}
         }
-        match std::mem::replace(&mut self.ask, Ask::Halt) {
+        match std::mem::replace(&mut self.ask, Ask::More(Want::Raw)) {
             Ask::More(want) => {
                 self.ask = Ask::More(want);
                 self.next_token(out, Some(want))
@@ -377,7 +554,7 @@ impl Engine {
                 self.act_and_end(out, &effect)?;
                 Ok(Ruled::Free)
             }
-            Ask::Halt => self.refuse(out),
+            Ask::Tells(report, back) => self.tell(out, report, back),
         }
     }
 
@@ -394,39 +571,89 @@ impl Engine {
         }
     }
 
+    /// Makes the rules that need no step, until the next one needs one or the run ends.
+    fn settle<S: Sink>(&mut self, out: &mut S) -> Result<Option<Outcome>, Broken>
+        ensures waits { IfOk result (λ o. o ≡ None → stepping self.new ≡ true) }
+        ensures run { IfOk result (λ o. (f : FilesTold) (work : List Reading) → Stands self.old work →
+            Settled (state_of self.old work) self.new (world_of f (S.told out.old) self.old) (world_of f (S.told out.new) self.new) o) }
+        ensures err { IfErr result (λ b. (f : FilesTold) (work : List Reading) → Stands self.old work →
+            CutBy (state_of self.old work) 0 (world_of f (S.told out.old) self.old) (world_of f (S.told out.new) self.new) b) }
+    {
+        while !self.needs_step() {
+            match self.rule(out)? {
+                Ruled::Halted(outcome) => return Ok(Some(outcome)),
+                Ruled::Step => unreachable!(),
+                Ruled::Free => {}
+            }
+        }
+        Ok(None)
+    }
+
     /// Goes on for at most n steps.
     pub fn run_steps<S: Sink>(&mut self, out: &mut S, n: u64) -> Result<Ended, Broken>
         ensures run { IfOk result (λ ended. (f : FilesTold) (work : List Reading) → Stands self.old work →
-            Ran (state_of self.old work) n (world_of f (S.told out.old) self.old) (world_of f (S.told out.new) self.new) ended) }
+            Ran (state_of self.old work) n self.new (world_of f (S.told out.old) self.old) (world_of f (S.told out.new) self.new) ended) }
         ensures err { IfErr result (λ b. (f : FilesTold) (work : List Reading) → Stands self.old work →
             CutBy (state_of self.old work) n (world_of f (S.told out.old) self.old) (world_of f (S.told out.new) self.new) b) }
     {
         let mut taken = 0;
         loop {
-            if taken == n && self.needs_step() {
+            if let Some(outcome) = self.settle(out)? {
+                return Ok(Ended::Halted(outcome));
+            }
+            if taken == n {
                 return Ok(Ended::Steps);
             }
             match self.rule(out)? {
                 Ruled::Halted(outcome) => return Ok(Ended::Halted(outcome)),
                 Ruled::Step => taken += 1,
-                Ruled::Free => {}
+                Ruled::Free => unreachable!(),
             }
         }
+    }
+
+    /// The report that a job's file isn't held, and what comes behind it.
+    pub fn refuse_job<S: Sink>(&mut self, out: &mut S, file: &[u8]) -> Result<Outcome, Broken>
+        ensures run { IfOk result (λ o. (f : FilesTold) (work : List Reading) → self.old.in_line ≡ false →
+            Halts (state_of self.old work) self.new (world_of f (S.told out.old) self.old) (world_of f (S.told out.new) self.new) (no_file file.now) (outcome_of o) 0) }
+        ensures err { IfErr result (λ b. (f : FilesTold) (s : State) → Cuts s (world_of f (S.told out.old) self.old) (world_of f (S.told out.new) self.new) (no_file file.now) b) }
+        ensures no_file { IfOk result (λ o. o ≡ outcomes.Fatal fatal.NoFile) }
+    {
+        let text = no_file_text(self.alloc, file)?;
+        self.write_text(out, text.as_slice())?;
+        self.write_text(out, NO_FILE_LINES)?;
+        Ok(Outcome::Fatal(Fatal::NoFile))
+    }
+}
+
+/// A `}`, as it is inserted.
+const RIGHT_BRACE: Token = Token::Char { cat: 2, code: 125 };
+
+/// What comes behind the hundredth report.
+const HUNDRED_LINE: &[u8] = b"(That makes 100 errors; please try again.)\n";
+
+/// What comes behind the report that a job's file isn't held.
+const NO_FILE_LINES: &[u8] =
+    b"! Emergency stop.\n*** (job aborted, file error in nonstop mode)\n";
+
+/// A rule without a step that goes on.
+fn freely(ruled: Ruled) -> Ruled
+    ensures { result ≡ freed ruled }
+{
+    match ruled {
+        Ruled::Step => Ruled::Free,
+        other => other,
     }
 }
 
 /// The text that the machine writes where it stops.
-fn last_text(in_line: bool, outcome: Outcome) -> &'static [u8]
-    ensures { result.now ≡ text_at_halt in_line outcome }
+fn last_text(in_line: bool, last: Last) -> &'static [u8]
+    ensures { result.now ≡ last_bytes in_line last }
 {
-    match outcome {
-        Outcome::Finished => { if in_line { b"\n" } else { b"" } }
-        Outcome::NotBuilt => {
-            if in_line {
-                b"\n! Not built yet.\n"
-            } else {
-                b"! Not built yet.\n"
-            }
-        }
+    match (last, in_line) {
+        (Last::End, true) => b"\n",
+        (Last::End, false) => b"",
+        (Last::NoEnd, true) => b"\n! Emergency stop.\n*** (job aborted, no legal \\end found)\n",
+        (Last::NoEnd, false) => b"! Emergency stop.\n*** (job aborted, no legal \\end found)\n",
     }
 }

@@ -1,7 +1,8 @@
 // All that is still to be read.
-ghost use Rattle.std.specs.Prelude.{◌≡◌, false, List, [], ◌∷◌, IfOk, OnOk, OnErr};
+ghost use Rattle.std.specs.Prelude.{◌≡◌, ◌<◌, List, [], ◌∷◌, length, IfOk, OnOk, OnErr};
 ghost use Rattle.plain_state.specs.Lex as lex_specs;
-ghost use Rattle.plain_state.specs.Pending.{Pending, pulled, put_front};
+ghost use Rattle.plain_state.specs.Pending.{Pending, LineTaken, FileOver, pulled, put_front, line_taken, taken_line, file_over};
+ghost use Rattle.plain_state.specs.Pending as pending;
 ghost use Rattle.tex_program.specs.Reads.{Pulls, gives_step};
 
 use crate::lexer::{Lexed, LineState, lex};
@@ -17,10 +18,20 @@ pub enum Pulled {
     Handed(Token),
     /// The next line was taken.
     Taken,
-    /// An invalid character stands next.
+    /// An invalid character stood next, and is skipped.
     Invalid,
+    /// The file ended, and is closed.
+    FileOver,
     /// Nothing is left.
     Nothing,
+}
+
+/// How far a file is read: not at all, in its lines, or behind its last.
+#[derive(Clone, Copy, Debug, PartialEq, Eq)]
+pub enum Progress {
+    NotBegun,
+    Begun,
+    Closed,
 }
 
 /// Tokens put in front, the rest of a line, the rest of a file.
@@ -33,7 +44,9 @@ pub struct Input {
     state: LineState,
     bytes: Vec<u8>,
     next: usize,
-    begun: bool,
+    progress: Progress,
+    /// The number of the line in its file, 0 where no file is open.
+    number: u64,
 }
 
 impl Model for Input {
@@ -51,7 +64,7 @@ impl Model for Input {
 impl Input {
     /// The bytes of a file, none of them read.
     pub fn new(alloc: Global, bytes: Vec<u8>) -> Self
-        ensures { result ≡ record { front = []; line = []; lex = lex_specs.NewLine; rest = bytes.items; begun = false } }
+        ensures { result ≡ record { front = []; line = []; lex = lex_specs.NewLine; rest = bytes.items; file = pending.NotBegun; number = 0 } }
     {
         Input {
             alloc,
@@ -61,8 +74,33 @@ impl Input {
             state: LineState::NewLine,
             bytes,
             next: 0,
-            begun: false,
+            progress: Progress::NotBegun,
+            number: 0,
         }
+    }
+
+    /// No file.
+    pub fn closed(alloc: Global) -> Self
+        ensures { result ≡ record { front = []; line = []; lex = lex_specs.NewLine; rest = []; file = pending.Closed; number = 0 } }
+    {
+        Input {
+            alloc,
+            back: Vec::new(alloc),
+            line: Vec::new(alloc),
+            at: 0,
+            state: LineState::NewLine,
+            bytes: Vec::new(alloc),
+            next: 0,
+            progress: Progress::Closed,
+            number: 0,
+        }
+    }
+
+    /// The number of the line that is being read, 0 where no file is open.
+    pub fn line_number(&self) -> u64
+        ensures { result ≡ self.now.number }
+    {
+        self.number
     }
 
     /// Puts a token in front.
@@ -73,6 +111,44 @@ impl Input {
     {
         self.back.push(token)?;
         Ok(())
+    }
+
+    /// What is left of the file.
+    fn rest(&self) -> &[u8]
+        ensures { result.now ≡ self.now.rest }
+    {
+        &self.bytes[self.next..]
+    }
+
+    /// Takes the next line of the file.
+    fn take_line(&mut self) -> Result<(), AllocError>
+        requires front { self.old.front ≡ [] }
+        requires some { self.old.file ≡ pending.Begun → 0 < length self.old.rest }
+        ensures ok { OnOk result (line_taken self.old.number self.old.rest ≡ LineTaken (taken_line self.old.rest) self.new) }
+        ensures err { OnErr result (self.new ≡ self.old) }
+    {
+        let (line, used) = take_line(self.alloc, self.rest())?;
+        self.line = line;
+        self.at = 0;
+        self.state = LineState::NewLine;
+        self.next += used;
+        self.progress = Progress::Begun;
+        self.number += 1;
+        Ok(())
+    }
+
+    /// The file is closed.
+    fn close(&mut self)
+        requires { self.old.front ≡ [] }
+        ensures { file_over ≡ FileOver self.new }
+    {
+        self.line.clear();
+        self.at = 0;
+        self.state = LineState::NewLine;
+        self.bytes.clear();
+        self.next = 0;
+        self.progress = Progress::Closed;
+        self.number = 0;
     }
 
     /// The next token, or the next line where the line is used up. *The TeXbook*, chapters 7 and 8.
@@ -90,19 +166,23 @@ impl Input {
                 self.at = at;
                 return Ok(Pulled::Handed(token));
             }
-            Lexed::Invalid => return Ok(Pulled::Invalid),
+            Lexed::Invalid(at) => {
+                self.at = at;
+                return Ok(Pulled::Invalid);
+            }
             Lexed::UsedUp => {}
         }
-        if self.begun && self.next == self.bytes.len() {
-            return Ok(Pulled::Nothing);
+        match self.progress {
+            Progress::Closed => Ok(Pulled::Nothing),
+            Progress::Begun if self.next == self.bytes.len() => {
+                self.close();
+                Ok(Pulled::FileOver)
+            }
+            _ => {
+                self.take_line()?;
+                Ok(Pulled::Taken)
+            }
         }
-        let (line, used) = take_line(self.alloc, &self.bytes[self.next..])?;
-        self.line = line;
-        self.at = 0;
-        self.state = LineState::NewLine;
-        self.next += used;
-        self.begun = true;
-        Ok(Pulled::Taken)
     }
 
     /// Whether the next reading gives a token or a line.
@@ -114,8 +194,12 @@ impl Input {
         }
         match lex(&self.line, self.at, self.state, categories) {
             Lexed::Gives(..) => true,
-            Lexed::Invalid => false,
-            Lexed::UsedUp => !self.begun || self.next < self.bytes.len(),
+            Lexed::Invalid(_) => false,
+            Lexed::UsedUp => match self.progress {
+                Progress::NotBegun => true,
+                Progress::Begun => self.next < self.bytes.len(),
+                Progress::Closed => false,
+            },
         }
     }
 }

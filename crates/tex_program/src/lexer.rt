@@ -15,12 +15,13 @@ pub enum LineState {
     SkipBlanks,
 }
 
-/// What the rest of a line gives: a token, with the state and the place behind it, an invalid character, or
-/// nothing more.
+/// What the rest of a line gives: a token, with the state and the place behind it, an invalid character, which
+/// leaves the state, or nothing more.
 #[derive(Clone, Copy)]
 pub enum Lexed {
     Gives(Token, LineState, usize),
-    Invalid,
+    /// The place behind the invalid character.
+    Invalid(usize),
     UsedUp,
 }
 
@@ -28,7 +29,9 @@ pub enum Lexed {
 pub fn word(bytes: &[u8]) -> Name
     ensures { result ≡ names.word bytes.now }
 {
-    if bytes == b"end".as_slice() {
+    if bytes == b"par".as_slice() {
+        Name::Word(5)
+    } else if bytes == b"end".as_slice() {
         Name::Word(6)
     } else if bytes == b"message".as_slice() {
         Name::Word(9)
@@ -100,7 +103,7 @@ fn name_of(letters: &[u8]) -> Token
 #[tactic(auto, using(crate::proofs::LineRests::drop_at, crate::proofs::LineRests::drop_end))]
 fn escape(line: &[u8], at: usize, state: LineState, categories: &[u8; 256]) -> Lexed
     requires { at ≤ length line.now }
-    ensures { Lexes (escaped categories.now (state_of state) (drop at line.now)) line.now result }
+    ensures { Lexes (escaped categories.now (state_of state) (drop at line.now)) (state_of state) line.now result }
 {
     if at == line.len() {
         return Lexed::Gives(Token::Named(Name::Empty), state, at);
@@ -126,7 +129,7 @@ fn escape(line: &[u8], at: usize, state: LineState, categories: &[u8; 256]) -> L
 /// What the end of a line gives.
 #[tactic(auto, using(crate::proofs::LineRests::drop_end))]
 fn end_of_line(line: &[u8], state: LineState) -> Lexed
-    ensures { Lexes (line_ended (state_of state)) line.now result }
+    ensures { Lexes (line_ended (state_of state)) (state_of state) line.now result }
 {
     match state {
         LineState::NewLine => Lexed::Gives(Token::Named(word(b"par")), state, line.len()),
@@ -141,7 +144,7 @@ fn end_of_line(line: &[u8], state: LineState) -> Lexed
 #[tactic(auto, using(crate::proofs::InputHeads::at_escape, crate::proofs::InputHeads::at_end, crate::proofs::InputHeads::at_space, crate::proofs::InputHeads::at_active, crate::proofs::InputHeads::at_invalid, crate::proofs::InputHeads::at_other))]
 pub fn lex(line: &[u8], at: usize, state: LineState, categories: &[u8; 256]) -> Lexed
     requires { at ≤ length line.now }
-    ensures { Lexes (lexed categories.now (state_of state) (drop at line.now)) line.now result }
+    ensures { Lexes (lexed categories.now (state_of state) (drop at line.now)) (state_of state) line.now result }
 {
     let Some(k) = begin(line, at, state, categories) else {
         return Lexed::UsedUp;
@@ -156,7 +159,7 @@ pub fn lex(line: &[u8], at: usize, state: LineState, categories: &[u8; 256]) -> 
             k + 1,
         ),
         13 => Lexed::Gives(Token::Named(Name::Active(c)), LineState::Middle, k + 1),
-        15 => Lexed::Invalid,
+        15 => Lexed::Invalid(k + 1),
         category => {
             let token = Token::Char {
                 cat: category,

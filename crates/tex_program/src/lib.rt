@@ -11,6 +11,7 @@ mod meaning;
 mod print;
 mod program;
 mod reactions;
+mod report;
 mod run;
 mod scan;
 mod tell;

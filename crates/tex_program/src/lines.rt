@@ -54,6 +54,7 @@ pub fn first_line(bytes: &[u8]) -> Cut
     ensures used_within { result.used ≤ length bytes.now }
     ensures kept { take result.kept bytes.now ≡ plain.first_line bytes.now }
     ensures used { drop result.used bytes.now ≡ behind_feed bytes.now }
+    ensures some { 0 < length bytes.now → 0 < result.used }
 {
     let feed = find_feed(bytes);
     if feed == bytes.len() {
@@ -74,6 +75,7 @@ pub fn take_line(alloc: Global, bytes: &[u8]) -> Result<(Vec<u8>, usize), AllocE
     ensures line { IfOk result (λ r. r.0.items ≡ taken_line bytes.now) }
     ensures rest { IfOk result (λ r. drop r.1 bytes.now ≡ behind_feed bytes.now) }
     ensures within { IfOk result (λ r. r.1 ≤ length bytes.now) }
+    ensures some { IfOk result (λ r. 0 < length bytes.now → 0 < r.1) }
 {
     let cut = first_line(bytes);
     let mut line = bytes[..cut.kept].to_vec(alloc)?;

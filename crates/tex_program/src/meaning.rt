@@ -4,6 +4,8 @@ ghost use Rattle.plain_state.specs.Names as names;
 
 use tex_defs::{Meaning, Name, Seen, Token};
 
+pub const PAR: u16 = 5;
+
 pub const END: u16 = 6;
 
 pub const MESSAGE: u16 = 9;
@@ -15,7 +17,9 @@ fn name_meaning(name: Name) -> Meaning<()>
     ensures { result ≡ names.name_meaning name }
 {
     match name {
-        Name::Word(number) if number == END || number == MESSAGE || number == CATCODE => {
+        Name::Word(number)
+            if number == PAR || number == END || number == MESSAGE || number == CATCODE =>
+        {
             Meaning::Prim(number)
         }
         _ => Meaning::Undefined,
@@ -34,6 +38,17 @@ fn meaning_of(token: Token) -> Meaning<()>
     }
 }
 
+/// The name that a token is.
+pub fn name_of(token: Token) -> Name
+    ensures { result ≡ names.name_of token }
+{
+    match token {
+        Token::Named(name) => name,
+        Token::Marked(name) => name,
+        _ => Name::Empty,
+    }
+}
+
 /// A token with what it means now.
 pub fn seen(token: Token) -> Seen
     ensures { result ≡ names.seen token }
@@ -46,7 +61,9 @@ pub fn seen(token: Token) -> Seen
 pub fn spelling(number: u16) -> &'static [u8]
     ensures { result.now ≡ names.spelling_of number }
 {
-    if number == END {
+    if number == PAR {
+        b"par"
+    } else if number == END {
         b"end"
     } else if number == MESSAGE {
         b"message"

@@ -16,7 +16,7 @@ fn small_hex_digit(d: u8) -> u8
 }
 
 /// Prints a character.
-fn put_char(text: &mut Vec<u8>, c: u8) -> Result<(), AllocError>
+pub fn put_char(text: &mut Vec<u8>, c: u8) -> Result<(), AllocError>
     ensures { OnOk result (text.new.items ≡ text.old.items ++ printed.printed c) }
 {
     if c == 0 {
@@ -34,7 +34,7 @@ fn put_char(text: &mut Vec<u8>, c: u8) -> Result<(), AllocError>
 }
 
 /// Prints characters.
-fn put_all(text: &mut Vec<u8>, bytes: &[u8]) -> Result<(), AllocError>
+pub fn put_all(text: &mut Vec<u8>, bytes: &[u8]) -> Result<(), AllocError>
     ensures { OnOk result (text.new.items ≡ text.old.items ++ printed.printed_all bytes.now) }
 {
     for c in bytes {
@@ -68,7 +68,7 @@ fn put_name(text: &mut Vec<u8>, categories: &[u8; 256], name: Name) -> Result<()
 }
 
 /// Prints a token as a list shows it.
-fn put_token(text: &mut Vec<u8>, categories: &[u8; 256], token: Token) -> Result<(), AllocError>
+pub fn put_token(text: &mut Vec<u8>, categories: &[u8; 256], token: Token) -> Result<(), AllocError>
     ensures { OnOk result (text.new.items ≡ text.old.items ++ printed.shown categories.now token) }
 {
     match token {

@@ -3,7 +3,7 @@ ghost use Rattle.std.specs.Prelude.{◌≡◌, ◌↔◌, Bool, false, map};
 ghost use Rattle.std.specs.String.{string_bytes};
 ghost use Rattle.tex_defs.specs.Places.{Rose};
 ghost use Rattle.plain_machine.specs.Words.{command_of, NoCommand};
-ghost use Rattle.plain_machine.specs.Meaning.{Means, MeansRun, step_bound};
+ghost use Rattle.plain_machine.specs.Meaning.{Means, MeansRun};
 ghost use Rattle.plain_machine.specs.Words as words_specs;
 ghost use Rattle.world_io.specs.Told.{world};
 
@@ -13,20 +13,29 @@ use crate::words::{file_name, job_word};
 use std::alloc::Global;
 use world_io::{Fault, Files, Sink, read_file};
 
-/// Runs the job of a file's word.
-fn run_job<F: Files, S: Sink>(alloc: Global, word: &str, files: &mut F, out: &mut S) -> u8
-    ensures meaning { (b : Bool) × MeansRun ((F.told files.old).file (words_specs.file_name word.now)) step_bound (world (F.told files.old) (S.told out.old) false) (world (F.told files.new) (S.told out.new) b) result }
+/// What a run may do: how many steps, and whether token lines are left out.
+#[derive(Clone, Copy)]
+struct Options {
+    steps: u64,
+    quiet: bool,
+}
+
+/// Runs the job of a file of this name.
+fn run_job<F: Files, S: Sink>(
+    alloc: Global,
+    name: &[u8],
+    options: Options,
+    files: &mut F,
+    out: &mut S,
+) -> u8
+    ensures meaning { (b : Bool) × MeansRun options.quiet name.now ((F.told files.old).file name.now) options.steps (world (F.told files.old) (S.told out.old) false) (world (F.told files.new) (S.told out.new) b) result }
     ensures read_fault { result ≡ 5 → Rose (F.told files.old).read_faults (F.told files.new).read_faults }
     ensures write_fault { result ≡ 6 → Rose (S.told out.old).faults (S.told out.new).faults }
     ensures not_usage { result ≡ 9 → ⊥ }
 {
-    let Ok(name) = file_name(alloc, word.as_bytes()) else {
-        tell(out, false, Telling::NoMemory);
-        return 7;
-    };
-    match read_file(alloc, files, name.as_slice()) {
-        Ok(Some(bytes)) => run_file(alloc, bytes, out).status,
-        Ok(None) => run_missing(alloc, out).status,
+    match read_file(alloc, files, name) {
+        Ok(Some(bytes)) => run_file(alloc, options.quiet, options.steps, bytes, out).status,
+        Ok(None) => run_missing(alloc, options.quiet, options.steps, name, out).status,
         Err(Fault::Failed) => {
             tell(out, false, Telling::ReadFault);
             5
@@ -38,29 +47,47 @@ fn run_job<F: Files, S: Sink>(alloc: Global, word: &str, files: &mut F, out: &mu
     }
 }
 
+/// Runs the job of a file's word.
+fn run_word<F: Files, S: Sink>(alloc: Global, word: &str, files: &mut F, out: &mut S) -> u8
+    ensures meaning { (b : Bool) × MeansRun false (words_specs.file_name word.now) ((F.told files.old).file (words_specs.file_name word.now)) 10000000 (world (F.told files.old) (S.told out.old) false) (world (F.told files.new) (S.told out.new) b) result }
+    ensures read_fault { result ≡ 5 → Rose (F.told files.old).read_faults (F.told files.new).read_faults }
+    ensures write_fault { result ≡ 6 → Rose (S.told out.old).faults (S.told out.new).faults }
+    ensures not_usage { result ≡ 9 → ⊥ }
+{
+    let Ok(name) = file_name(alloc, word.as_bytes()) else {
+        tell(out, false, Telling::NoMemory);
+        return 7;
+    };
+    let options = Options {
+        steps: 10000000,
+        quiet: false,
+    };
+    run_job(alloc, name.as_slice(), options, files, out)
+}
+
 /// The program: does what its words say, over these files and this sink, and answers its exit status.
 ///
 /// The first word is the program's name. The only command today is `init FILE`, which runs the job of a file
-/// from INITEX's first state in nonstop mode, for at most 10000000 steps.
+/// from INITEX's first state in nonstop mode.
 ///
 /// | Status | Comes |
 /// |---|---|
-/// | 0 | where the run has ended |
-/// | 2 | where the run is at a part of TeX that isn't built yet, also where the file isn't held |
+/// | 0, 1 | where the run has ended, without and with a report |
+/// | 2 | where the run is at something fatal |
 /// | 4 | where the steps were taken and the machine needs one more |
 /// | 5, 6 | where a read, a write failed |
 /// | 7 | where memory was wanted |
 /// | 9 | where the words are no command |
 pub fn top<F: Files, S: Sink>(alloc: Global, words: &[String], files: &mut F, out: &mut S) -> u8
     // What is written to the transcript and to each file, and the status, are the plain machine's. Only the statuses
-    // 0, 2, 4, 5, 6, 7 and 9 come.
-    ensures meaning { (b : Bool) × Means (command_of (map string_bytes words.now)) (F.told files.old).file step_bound (world (F.told files.old) (S.told out.old) false) (world (F.told files.new) (S.told out.new) b) result }
+    // 0, 1, 2, 4, 5, 6, 7 and 9 come.
+    ensures meaning { (b : Bool) × Means (command_of (map string_bytes words.now)) (F.told files.old).file (world (F.told files.old) (S.told out.old) false) (world (F.told files.new) (S.told out.new) b) result }
     ensures usage { (result ≡ 9) ↔ (command_of (map string_bytes words.now) ≡ NoCommand) }
     ensures read_fault { result ≡ 5 → Rose (F.told files.old).read_faults (F.told files.new).read_faults }
     ensures write_fault { result ≡ 6 → Rose (S.told out.old).faults (S.told out.new).faults }
 {
     match job_word(words) {
-        Some(word) => run_job(alloc, word, files, out),
+        Some(word) => run_word(alloc, word, files, out),
         None => {
             tell(out, false, Telling::Usage);
             9

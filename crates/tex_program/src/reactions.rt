@@ -1,59 +1,83 @@
 // What the engine makes of a token.
-ghost use Rattle.std.specs.Prelude.{◌≡◌, Bool};
-ghost use Rattle.plain_machine.specs.Plan.{wanted, stomach};
+ghost use Rattle.std.specs.Prelude.{◌≡◌};
+ghost use Rattle.plain_machine.specs.Plan.{Page, wanted, stomach};
 ghost use Rattle.tex_program.specs.Sees.{want_of};
-ghost use Rattle.tex_program.specs.Begins.{reaction_moves, begins_moves};
+ghost use Rattle.tex_program.specs.Begins.{onward_moves, outcome_of_last, IsNoFeed, IsNoBegin};
 
-use crate::meaning::{CATCODE, END, MESSAGE};
+use crate::meaning::{CATCODE, END, MESSAGE, name_of};
+use crate::report::Report;
 use crate::scan::{Kind, Want};
-use tex_defs::{Meaning, Seen};
+use tex_defs::{Fatal, Meaning, Seen};
 
 /// How the machine stops.
 #[derive(Clone, Copy, Debug, PartialEq, Eq)]
 pub enum Outcome {
     Finished,
-    NotBuilt,
+    Fatal(Fatal),
 }
 
-/// What is made of a token that comes to a reading.
-#[derive(Clone, Copy)]
-pub enum Reaction {
-    /// A report comes.
-    Refuse,
-    /// A space that isn't wanted.
-    Skip,
-    Feed,
+/// Where the machine stops of itself.
+#[derive(Clone, Copy, Debug, PartialEq, Eq)]
+pub enum Last {
+    /// At `\\end`.
+    End,
+    /// Where nothing is left to be read.
+    NoEnd,
 }
 
-/// What is made of a token where no reading is open.
-#[derive(Clone, Copy)]
-pub enum Begins {
-    Reading(Kind),
-    End(Outcome),
-}
-
-/// What becomes of a token that a reading wants.
-pub fn react(want: Want, seen: Seen) -> Reaction
-    ensures { (in_line : Bool) → wanted in_line (want_of want) seen ≡ reaction_moves in_line seen result }
-{
-    match (want, seen.meaning) {
-        (Want::Raw, _) => Reaction::Feed,
-        (Want::Expanded, Meaning::Undefined) => Reaction::Refuse,
-        (Want::Expanded, _) => Reaction::Feed,
-        (Want::Nonblank, Meaning::Undefined) => Reaction::Refuse,
-        (Want::Nonblank, Meaning::Char { cat: 10, code: _ }) => Reaction::Skip,
-        (Want::Nonblank, _) => Reaction::Feed,
+impl Last {
+    /// How it stops there.
+    pub fn outcome(self) -> Outcome
+        ensures { result ≡ outcome_of_last self }
+    {
+        match self {
+            Last::End => Outcome::Finished,
+            Last::NoEnd => Outcome::Fatal(Fatal::NoEnd),
+        }
     }
 }
 
-/// What a token begins where no reading is open.
-pub fn obey(seen: Seen) -> Begins
-    ensures { (in_line : Bool) → stomach in_line seen ≡ begins_moves in_line result }
+/// What is made of a token.
+#[derive(Clone, Copy)]
+pub enum Onward {
+    /// It is dropped: a space that isn't wanted.
+    Skip,
+    /// The innermost reading is fed with it.
+    Feed,
+    /// It begins a reading.
+    Begin(Kind),
+    Report(Report),
+    /// Only typesetting would use it.
+    Line,
+    /// The run ends.
+    Finish,
+}
+
+/// What becomes of a token that a reading wants.
+pub fn react(want: Want, seen: Seen) -> Onward
+    ensures moves { (page : Page) → wanted page (want_of want) seen ≡ onward_moves page seen result }
+    ensures kind { IsNoBegin result }
+{
+    match (want, seen.meaning) {
+        (Want::Raw, _) => Onward::Feed,
+        (Want::Expanded, Meaning::Undefined) => Onward::Report(Report::UndefinedName),
+        (Want::Expanded, _) => Onward::Feed,
+        (Want::Nonblank, Meaning::Undefined) => Onward::Report(Report::UndefinedName),
+        (Want::Nonblank, Meaning::Char { cat: 10, code: _ }) => Onward::Skip,
+        (Want::Nonblank, _) => Onward::Feed,
+    }
+}
+
+/// What becomes of a token where no reading is open.
+pub fn obey(seen: Seen) -> Onward
+    ensures moves { (page : Page) → stomach page seen ≡ onward_moves page seen result }
+    ensures kind { IsNoFeed result }
 {
     match seen.meaning {
-        Meaning::Prim(CATCODE) => Begins::Reading(Kind::Catcode),
-        Meaning::Prim(MESSAGE) => Begins::Reading(Kind::Message),
-        Meaning::Prim(END) => Begins::End(Outcome::Finished),
-        _ => Begins::End(Outcome::NotBuilt),
+        Meaning::Prim(CATCODE) => Onward::Begin(Kind::Catcode),
+        Meaning::Prim(MESSAGE) => Onward::Begin(Kind::Message(name_of(seen.token))),
+        Meaning::Prim(END) => Onward::Finish,
+        Meaning::Undefined => Onward::Report(Report::UndefinedName),
+        _ => Onward::Line,
     }
 }

@@ -1,22 +1,25 @@
 // What the readings ask for, and the scanner of an integer.
 // *The TeXbook*, chapter 24; *TeX: The Program*, part 26.
-ghost use Rattle.std.specs.Prelude.{◌≡◌, ◌≤◌, ◌+◌, ◌*◌, List, [], ◌∷◌, MatchOption, true, false};
+ghost use Rattle.std.specs.Prelude.{◌≡◌, ◌≤◌, ◌+◌, ◌*◌, List, [], ◌∷◌, MatchOption, true, false, nat_le, if◌then◌else◌};
 ghost use Rattle.tex_defs.specs.declared.Seen.{Seen};
-ghost use Rattle.plain_state.specs.Readings.{has_category, is_other, means_category, is_space, is_digit, digit_of_token, with_value};
+ghost use Rattle.plain_state.specs.Readings.{Fed, Tok, Told, has_category, is_other, means_category, is_digit, digit_of_token, number_ended, greatest_integer};
 ghost use Rattle.plain_state.specs.Readings as reading;
-ghost use Rattle.tex_program.specs.Sees.{ask_of};
+ghost use Rattle.plain_state.specs.Reports as reports;
+ghost use Rattle.tex_program.specs.Sees.{ask_of, report_of};
 ghost use Rattle.tex_program.specs.Weights.{ask_weight};
-ghost use Rattle.tex_program.specs.declared.scan.NumberScan.TheVariants.{Digits};
-ghost use Rattle.tex_program.specs.Resumes.{radix, resume_number, IsOpen, GivesBack, GivesNone};
+ghost use Rattle.tex_program.specs.declared.scan.NumberScan.TheVariants.{Digits, TooBig, Missing};
+ghost use Rattle.tex_program.specs.Resumes.{radix, resume_number, IsOpen, IsUntold, GivesBack, GivesNone};
 
+use crate::report::Report;
 use tex_defs::{Meaning, Name, Seen, Token};
 
+/// The kinds of readings; a name is that of the command, as it was written.
 #[derive(Clone, Copy)]
 pub enum Kind {
     Catcode,
-    Message,
+    Message(Name),
     Integer,
-    Text,
+    Text(Name),
 }
 
 #[derive(Clone, Copy)]
@@ -48,7 +51,8 @@ pub enum Ask {
     /// The value, and the token that is given back.
     Done(Value, Option<Seen>),
     Act(Effect),
-    Halt,
+    /// A report, and the token that is given back before it.
+    Tells(Report, Option<Seen>),
 }
 
 #[derive(Clone, Copy)]
@@ -69,11 +73,20 @@ pub enum NumberScan {
     First(bool, Radix),
     /// Behind digits of this value.
     Digits(bool, Radix, u32),
+    /// The report of a number that is too big comes.
+    TooBig(bool, Radix),
+    /// Behind digits of a number that was too big.
+    Dropped(bool, Radix),
     /// Behind a character's code.
     Behind(bool, u8),
+    /// In place of a number, behind its report.
+    Missing(i32, Report),
 }
 
-const GREATEST: u64 = 2147483647;
+const GREATEST: u32 = 2147483647;
+
+/// The code that is taken for an improper constant.
+const IMPROPER_CODE: u32 = 48;
 
 /// Whether it is an explicit character of this category.
 pub fn has_category(x: Seen, category: u8) -> bool
@@ -151,72 +164,123 @@ fn code_of(token: Token) -> Option<u8>
     }
 }
 
+/// The integer with its sign.
+fn signed(negative: bool, value: u32) -> i32
+    requires { value ≤ greatest_integer }
+    ensures { result ≡ reading.signed negative value }
+{
+    let magnitude = value as i32;
+    if negative { 0 - magnitude } else { magnitude }
+}
+
 /// The integer is read: one space goes, another token is given back.
 fn finished(negative: bool, value: u32, x: Seen) -> Ask
-    ensures answer { ask_of result ≡ with_value negative value (x ∷ []) }
+    requires { value ≤ greatest_integer }
+    ensures answer { ask_of result ≡ number_ended negative value x }
     ensures closed { IsOpen result → ⊥ }
     ensures back { GivesBack result x }
-    ensures light { ask_weight result ≤ 6 }
+    ensures light { ask_weight result ≤ 7 }
 {
-    if value as u64 > GREATEST {
-        return Ask::Halt;
-    }
-    let magnitude = value as i32;
-    let integer = if negative { 0 - magnitude } else { magnitude };
     let back = if means_category(x, 10) { None } else { Some(x) };
-    Ask::Done(Value::Int(integer), back)
+    Ask::Done(Value::Int(signed(negative, value)), back)
+}
+
+/// What a reading ends with that was fed with what it didn't ask for.
+pub fn senseless() -> Ask
+    ensures answer { ask_of result ≡ reading.senseless }
+    ensures closed { IsOpen result → ⊥ }
+    ensures none { GivesNone result }
+    ensures light { ask_weight result ≤ 6 }
+    ensures untold { IsUntold result }
+{
+    Ask::Done(Value::Flag(false), None)
 }
 
 impl NumberScan {
-    /// What it asks for now.
-    pub fn ask(&self) -> Ask
-        ensures answer { ask_of result ≡ resume_number self.now [] }
+    /// Goes on behind its report.
+    pub fn feed_told(&mut self) -> Ask
+        ensures answer { ask_of result ≡ resume_number self.old (Told ∷ []) }
+        ensures goes_on { IsOpen result → (fed : List Fed) → resume_number self.old (Told ∷ fed) ≡ resume_number self.new fed }
         ensures none { GivesNone result }
-        ensures light { ask_weight result ≡ 0 }
+        ensures light { ask_weight result ≤ 6 }
+        ensures untold { IsUntold result }
     {
         match *self {
-            NumberScan::Signs(_) => Ask::More(Want::Nonblank),
-            NumberScan::Quote(_) => Ask::More(Want::Raw),
-            NumberScan::Digits(_, _, value) if value as u64 > GREATEST => Ask::Halt,
-            _ => Ask::More(Want::Expanded),
+            NumberScan::TooBig(negative, radix) => {
+                *self = NumberScan::Dropped(negative, radix);
+                Ask::More(Want::Expanded)
+            }
+            NumberScan::Missing(value, _) => Ask::Done(Value::Int(value), None),
+            _ => senseless(),
         }
     }
 
     /// Takes one token: the scanner stands behind it.
     pub fn feed(&mut self, x: Seen) -> Ask
-        ensures answer { ask_of result ≡ resume_number self.old (x ∷ []) }
-        ensures goes_on { IsOpen result → (xs : List Seen) → resume_number self.old (x ∷ xs) ≡ resume_number self.new xs }
+        ensures answer { ask_of result ≡ resume_number self.old (Tok x ∷ []) }
+        ensures goes_on { IsOpen result → (fed : List Fed) → resume_number self.old (Tok x ∷ fed) ≡ resume_number self.new fed }
         ensures back { GivesBack result x }
-        ensures light { ask_weight result ≤ 6 }
+        ensures light { ask_weight result ≤ 7 }
     {
         match *self {
             NumberScan::Signs(negative) => self.feed_sign(negative, x),
-            NumberScan::Quote(negative) => match code_of(x.token) {
-                Some(code) => {
-                    *self = NumberScan::Behind(negative, code);
+            NumberScan::Quote(negative) => self.feed_code(negative, x),
+            NumberScan::First(negative, radix) => match radix.digit(x) {
+                Some(d) => {
+                    *self = NumberScan::Digits(negative, radix, u32::from(d));
                     Ask::More(Want::Expanded)
                 }
-                None => Ask::Halt,
+                None => self.miss(0, Report::MissingNumber, x),
             },
-            NumberScan::First(negative, radix) => match radix.digit(x) {
-                Some(d) => self.take_digit(negative, radix, 0, d),
-                None => Ask::Halt,
+            NumberScan::Digits(negative, radix, value) => {
+                let value = value.min(GREATEST);
+                match radix.digit(x) {
+                    Some(d) => self.take_digit(negative, radix, value, d),
+                    None => finished(negative, value, x),
+                }
+            }
+            NumberScan::Dropped(negative, radix) => match radix.digit(x) {
+                Some(_) => Ask::More(Want::Expanded),
+                None => finished(negative, GREATEST, x),
             },
-            NumberScan::Digits(negative, radix, value) => match radix.digit(x) {
-                Some(d) => self.take_digit(negative, radix, value, d),
-                None => finished(negative, value, x),
-            },
-            NumberScan::Behind(negative, code) => finished(negative, code as u32, x),
+            NumberScan::Behind(negative, code) => finished(negative, u32::from(code), x),
+            NumberScan::TooBig(..) | NumberScan::Missing(..) => senseless(),
+        }
+    }
+
+    /// Where a number is missing: the token is given back, and the report comes.
+    fn miss(&mut self, value: i32, report: Report, x: Seen) -> Ask
+        ensures answer { ask_of result ≡ reading.Tells (report_of report) true }
+        ensures now { self.new ≡ Missing value report }
+        ensures back { GivesBack result x }
+        ensures light { ask_weight result ≤ 7 }
+    {
+        *self = NumberScan::Missing(value, report);
+        Ask::Tells(report, Some(x))
+    }
+
+    /// Behind a backquote.
+    fn feed_code(&mut self, negative: bool, x: Seen) -> Ask
+        ensures answer { ask_of result ≡ reading.constant negative (Tok x ∷ []) }
+        ensures goes_on { IsOpen result → (fed : List Fed) → reading.constant negative (Tok x ∷ fed) ≡ resume_number self.new fed }
+        ensures back { GivesBack result x }
+        ensures light { ask_weight result ≤ 7 }
+    {
+        match code_of(x.token) {
+            Some(code) => {
+                *self = NumberScan::Behind(negative, code);
+                Ask::More(Want::Expanded)
+            }
+            None => self.miss(signed(negative, IMPROPER_CODE), Report::ImproperConstant, x),
         }
     }
 
     /// Among the signs.
-    #[tactic(auto, using(crate::proofs::ScanSigns::minus_turns))]
     fn feed_sign(&mut self, negative: bool, x: Seen) -> Ask
-        ensures answer { ask_of result ≡ reading.integer negative (x ∷ []) }
-        ensures goes_on { IsOpen result → (xs : List Seen) → reading.integer negative (x ∷ xs) ≡ resume_number self.new xs }
-        ensures none { GivesNone result }
-        ensures light { ask_weight result ≡ 0 }
+        ensures answer { ask_of result ≡ reading.integer negative (Tok x ∷ []) }
+        ensures goes_on { IsOpen result → (fed : List Fed) → reading.integer negative (Tok x ∷ fed) ≡ resume_number self.new fed }
+        ensures back { GivesBack result x }
+        ensures light { ask_weight result ≤ 7 }
     {
         if is_other(x, 45) {
             *self = NumberScan::Signs(!negative);
@@ -239,21 +303,25 @@ impl NumberScan {
             return Ask::More(Want::Expanded);
         }
         match Radix::Decimal.digit(x) {
-            Some(d) => self.take_digit(negative, Radix::Decimal, 0, d),
-            None => Ask::Halt,
+            Some(d) => {
+                *self = NumberScan::Digits(negative, Radix::Decimal, u32::from(d));
+                Ask::More(Want::Expanded)
+            }
+            None => self.miss(0, Report::MissingNumber, x),
         }
     }
 
     /// Takes a digit behind digits of this value.
     fn take_digit(&mut self, negative: bool, base: Radix, value: u32, d: u8) -> Ask
-        ensures answer { ask_of result ≡ with_value negative (value * radix base + d) [] }
-        ensures goes_on { IsOpen result → self.new ≡ Digits negative base (value * radix base + d) }
+        ensures answer { ask_of result ≡ (if nat_le (value * radix base + d) greatest_integer then reading.More reading.Expanded else reading.Tells reports.NumberTooBig false) }
+        ensures goes_on { self.new ≡ (if nat_le (value * radix base + d) greatest_integer then Digits negative base (value * radix base + d) else TooBig negative base) }
         ensures none { GivesNone result }
-        ensures light { ask_weight result ≡ 0 }
+        ensures light { ask_weight result ≤ 7 }
     {
-        let next = value as u64 * base.number() as u64 + d as u64;
-        if next > GREATEST {
-            return Ask::Halt;
+        let next = u64::from(value) * u64::from(base.number()) + u64::from(d);
+        if next > u64::from(GREATEST) {
+            *self = NumberScan::TooBig(negative, base);
+            return Ask::Tells(Report::NumberTooBig, None);
         }
         *self = NumberScan::Digits(negative, base, next as u32);
         Ask::More(Want::Expanded)

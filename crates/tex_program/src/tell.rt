@@ -1,42 +1,63 @@
 // The program's own stop lines.
-ghost use Rattle.std.specs.Prelude.{◌≡◌, ◌≤◌, ◌∷◌, ◌++◌};
+ghost use Rattle.std.specs.Prelude.{◌≡◌, ◌≤◌, ◌++◌, length};
+ghost use Rattle.plain_state.specs.Reports.{fresh_line};
 ghost use Rattle.plain_machine.specs.Meaning.{Line};
-ghost use Rattle.plain_machine.specs.Plan.{fresh_line};
 ghost use Rattle.world_io.specs.Told.{FilesTold, world};
 ghost use Rattle.tex_program.specs.Tells.{line_of};
+ghost use Rattle.tex_program.specs.declared.tell.Telling.TheVariants.{Steps};
 
 use crate::engine::ends_in_line;
+use char_text::Text;
 use world_io::{Sink, write_all};
 
 /// What a stop line tells.
 #[derive(Clone, Copy, Debug, PartialEq, Eq)]
 pub enum Telling {
     Usage,
-    Steps,
+    /// The step bound.
+    Steps(u64),
     ReadFault,
     WriteFault,
     NoMemory,
 }
 
-/// A stop line behind a line feed.
-fn behind_line_feed(telling: Telling) -> &'static [u8]
-    ensures { result.now ≡ 10 ∷ line_of telling }
+/// A line feed, where the column isn't 0.
+fn fresh_text(in_line: bool) -> Text
+    ensures text { result ≡ fresh_line in_line }
+    ensures short { length result ≤ 1 }
 {
-    match telling {
-        Telling::Usage => b"\nusage: texmac init FILE, run --fmt NAME FILE, drill SEED SIZE\n",
-        Telling::Steps => b"\n! Step limit reached [steps=10000000].\n",
-        Telling::ReadFault => b"\n! Read fault.\n",
-        Telling::WriteFault => b"\n! Write fault.\n",
-        Telling::NoMemory => b"\n! Out of memory.\n",
+    let mut text = Text::new();
+    if in_line {
+        text.put_char(10);
     }
+    text
+}
+
+/// Puts the line of the step bound.
+fn put_steps(text: &mut Text, n: u64)
+    requires { length text.old ≤ 1 }
+    ensures { text.new ≡ text.old ++ line_of (Steps n) }
+{
+    text.put_bytes(b"! Step limit reached [steps=");
+    text.put_count(n);
+    text.put_bytes(b"].\n");
 }
 
 /// A stop line, behind a line feed where the column isn't 0.
-fn on_fresh_line(in_line: bool, telling: Telling) -> &'static [u8]
-    ensures { result.now ≡ fresh_line in_line ++ line_of telling }
+fn on_fresh_line(in_line: bool, telling: Telling) -> Text
+    ensures { result ≡ fresh_line in_line ++ line_of telling }
 {
-    let text = behind_line_feed(telling);
-    if in_line { text } else { &text[1..] }
+    let mut text = fresh_text(in_line);
+    match telling {
+        Telling::Usage => {
+            text.put_bytes(b"usage: texmac init FILE, run --fmt NAME FILE, drill SEED SIZE\n")
+        }
+        Telling::Steps(n) => put_steps(&mut text, n),
+        Telling::ReadFault => text.put_bytes(b"! Read fault.\n"),
+        Telling::WriteFault => text.put_bytes(b"! Write fault.\n"),
+        Telling::NoMemory => text.put_bytes(b"! Out of memory.\n"),
+    }
+    text
 }
 
 /// Writes a stop line on a fresh line, and answers whether the column isn't 0 then. A fault leaves its first bytes.
@@ -44,7 +65,8 @@ pub fn tell<S: Sink>(out: &mut S, in_line: bool, telling: Telling) -> bool
     ensures line { (f : FilesTold) → Line (world f (S.told out.old) in_line) (world f (S.told out.new) result) (line_of telling) }
     ensures later { (S.told out.old).faults ≤ (S.told out.new).faults }
 {
-    let text = on_fresh_line(in_line, telling);
+    let line = on_fresh_line(in_line, telling);
+    let text = line.bytes();
     match write_all(out, text) {
         Ok(()) => ends_in_line(in_line, text),
         Err(e) => ends_in_line(in_line, &text[..e.written]),

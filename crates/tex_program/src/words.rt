@@ -1,5 +1,5 @@
 // The command that the words spell.
-ghost use Rattle.std.specs.Prelude.{◌≡◌, ◌++◌, map, IfOk, MatchOption};
+ghost use Rattle.std.specs.Prelude.{◌≡◌, ◌++◌, map, false, IfOk, MatchOption};
 ghost use Rattle.std.specs.String.{string_bytes};
 ghost use Rattle.plain_machine.specs.Words as words_specs;
 ghost use Rattle.plain_machine.specs.Words.{Init, NoCommand};
@@ -10,7 +10,7 @@ use std::alloc::{AllocError, Global};
 pub fn job_word(words: &[String]) -> Option<&str>
     ensures { MatchOption result
         (words_specs.command_of (map string_bytes words.now) ≡ NoCommand)
-        (λ file. words_specs.command_of (map string_bytes words.now) ≡ Init (words_specs.file_name file.now)) }
+        (λ file. words_specs.command_of (map string_bytes words.now) ≡ Init (words_specs.file_name file.now) (record { steps = 10000000; quiet = false; mem = 30000 })) }
 {
     let [_, command, file] = words else {
         return None;
@@ -21,7 +21,7 @@ pub fn job_word(words: &[String]) -> Option<&str>
 fn job_of<'a>(command: &str, file: &'a str) -> Option<&'a str>
     ensures { MatchOption result
         (words_specs.init_command command.now file.now ≡ NoCommand)
-        (λ name. words_specs.init_command command.now file.now ≡ Init (words_specs.file_name name.now)) }
+        (λ name. words_specs.init_command command.now file.now ≡ Init (words_specs.file_name name.now) (record { steps = 10000000; quiet = false; mem = 30000 })) }
 {
     if command.as_bytes() != b"init".as_slice() {
         return None;

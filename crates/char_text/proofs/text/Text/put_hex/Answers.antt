@@ -21,8 +21,8 @@ loop-left-preserved c =
       ap (hex_onto (l.start - 1) (l.left / 16)) written ∙ sym (hex_step l.start l.left (drop l.start l.digits) l.invariant.0 more) ∙ l.invariant.4,
     )
 
-pub put-requires : goal.put-requires
-put-requires c =
+pub put_bytes-requires : goal.put_bytes-requires
+put_bytes-requires c =
     let l = c.loop-left in
     let i = l.invariant in
     let e = written_digits c.args.n l.left l.start c.hex_digit.result l.digits i.0 i.1 i.2 c.hex_digit.ensures c.if-left-eq0.true i.4 in
@@ -33,4 +33,4 @@ returns c =
     let l = c.loop-left in
     let i = l.invariant in
     let e = written_digits c.args.n l.left l.start c.hex_digit.result l.digits i.0 i.1 i.2 c.hex_digit.ensures c.if-left-eq0.true i.4 in
-    c.put.ensures ∙ ap (λ digits. c.args.self.now ++ digits) e
+    c.put_bytes.ensures ∙ ap (λ digits. c.args.self.now ++ digits) e

@@ -5,7 +5,9 @@ use Rattle.plain_machine.specs.Plan.{effect}
 use Rattle.tex_program.specs.declared.frame.Frame.{Frame}
 use Rattle.tex_program.specs.Sees.{effect_of}
 use Rattle.tex_program.specs.Stands.{FramesStand, state_of}
-use Rattle.tex_program.proofs.Ruling.{ends_went, effect_none, quiet_wrote, same_err}
+use Rattle.std.proofs.Common.{◌∙◌, arith}
+use Rattle.tex_program.proofs.Ruling.{same_frames, ends_went, effect_none, quiet_wrote, same_err}
+use Rattle.tex_program.specs.Steps.{pending_weight}
 use Rattle.tex_program.proofs.engine.Engine.act_and_end.Goals as goal
 
 pub returns-in_err-act-clause-err : goal.returns-in_err-act-clause-err
@@ -18,3 +20,9 @@ returns-clause-rule g c = λ f r rs below.
     (c.in_ok-act.ensures.did f (r ∷ rs)) (effect_none (state_of c.args.self.now (r ∷ rs)) (effect_of c.args.effect.now)) c.end.ensures.same
     (quiet_wrote (Ended (Flag true)) f _ c.act.new.self.in_line c.end.new.self.in_line tt c.end.ensures.same.in_line)
     (c.end.ensures.stands rs (subst (λ (x : List Frame). FramesStand (reverse x) rs) (sym (ap (λ (o : _). o.items) c.act.ensures.frames.outer)) below))
+
+pub returns-clause-light : goal.returns-clause-light
+returns-clause-light g c = λ f is.
+    let frames = c.act.ensures.frames in
+    let less = c.end.ensures.light f (frames.top ∙ is) in
+    omega (arith, less, same_frames c.args.self.now c.act.new.self frames, ap pending_weight c.act.ensures.input)

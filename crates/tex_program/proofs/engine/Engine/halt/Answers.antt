@@ -1,10 +1,12 @@
 use Rattle.std.proofs.Common.{refl}
 use Rattle.tex_program.specs.Stands.{state_of}
-use Rattle.tex_program.proofs.Ruling.{on_ok, err_to, halt_is, halt_cut}
+use Rattle.tex_program.proofs.Ruling.{same_err, last_is, last_cut}
 use Rattle.tex_program.proofs.engine.Engine.halt.Goals as goal
 
-pub returns-clause-did : goal.returns-clause-did
-returns-clause-did g c = on_ok c.write_text.result (λ h f work. halt_is f _ _ c.args.self.now.in_line _ (state_of c.args.self.now work) _ c.args.outcome refl (rw c.last_text.ensures at (h f work))) c.write_text.ensures.did
+pub returns-in_err-write_text-clause-err : goal.returns-in_err-write_text-clause-err
+returns-in_err-write_text-clause-err g c = let e = c.args.self.now in let i = c.in_err-write_text in
+    same_err c.from_residual.result i.field-0.0 _ c.from_residual.ensures.1 (λ f s. last_cut s _ _ e.in_line c.args.last i.field-0.0 (λ more. rw c.last_text.ensures at (i.ensures.err f s more)))
 
-pub returns-clause-err : goal.returns-clause-err
-returns-clause-err g c = err_to c.write_text.result (λ b h f s. halt_cut s _ _ c.args.self.now.in_line c.args.outcome b (λ more. rw c.last_text.ensures at (h f s more))) c.write_text.ensures.err
+pub returns-clause-rule : goal.returns-clause-rule
+returns-clause-rule g c = λ f work. let e = c.args.self.now in
+    rw c.outcome.ensures (last_is f _ _ e.in_line _ (state_of e work) _ _ c.args.last refl c.write_text.ensures.only.reports (rw c.last_text.ensures at (c.in_ok-write_text.ensures.did f work)))

@@ -1,7 +1,7 @@
 use Rattle.std.proofs.Common.{◌≡◌, ◌∷◌, refl, sym}
 use Rattle.std.specs.Prelude.{None, Some}
 use Rattle.plain_state.specs.States.{lending}
-use Rattle.tex_program.specs.declared.scan.Ask.TheVariants.{More, Inner, Done, Act, Halt}
+use Rattle.tex_program.specs.declared.scan.Ask.TheVariants.{More, Inner, Done, Act, Tells}
 use Rattle.tex_program.specs.Sees.{kind_of}
 use Rattle.tex_program.specs.Stands.{state_of}
 use Rattle.tex_program.specs.Rules.{world_of, DoesRule, Cuts, Went}
@@ -14,7 +14,7 @@ returns-in-None-clause-rule g c = let e = c.args.self.now in
 
 pub returns-in-None-clause-err : goal.returns-in-None-clause-err
 returns-in-None-clause-err g c = let e = c.args.self.now in
-    err_to c.next_token.result (λ b h f. by_none e (λ work plan. Cuts (state_of e work) (world_of f (g.S.Sink.told c.args.out.now) e) (world_of f (g.S.Sink.told c.next_token.new.out) c.next_token.new.self) plan b) (sym c.in-None.is) (λ work t. h f (state_of e work))) c.next_token.ensures.err
+    err_to c.next_token.result (λ b h f. by_none e (λ work plan. Cuts (state_of e work) (world_of f (g.S.Sink.told c.args.out.now) e) (world_of f (g.S.Sink.told c.next_token.new.out) c.next_token.new.self) plan b) (sym c.in-None.is) (λ work t. h f work t)) c.next_token.ensures.err
 
 pub returns-in-More-clause-rule : goal.returns-in-More-clause-rule
 returns-in-More-clause-rule g c = let e = c.args.self.now in let n = c.next_token-in-More in
@@ -24,7 +24,7 @@ returns-in-More-clause-rule g c = let e = c.args.self.now in let n = c.next_toke
 pub returns-in-More-clause-err : goal.returns-in-More-clause-err
 returns-in-More-clause-err g c = let e = c.args.self.now in let n = c.next_token-in-More in
     err_to n.result (λ b h f. by_is e c.in-Some.field-0 (More c.in-More.want) (λ work plan. Cuts (state_of e work) (world_of f (g.S.Sink.told c.args.out.now) e) (world_of f (g.S.Sink.told n.new.out) n.new.self) plan b) c.in-Some.is c.in-More.ensures.value
-    (λ r rs st inn below. h f (state_of e (r ∷ rs)))) n.ensures.err
+    (λ r rs st inn below. h f (r ∷ rs) (tt, st))) n.ensures.err
 
 pub returns-in_ok-begin-in-Inner-default-None-clause-rule : goal.returns-in_ok-begin-in-Inner-default-None-clause-rule
 returns-in_ok-begin-in-Inner-default-None-clause-rule g c =
@@ -60,12 +60,12 @@ returns-in_ok-act_and_end-in-Act-clause-rule g c =
     λ f. by_is e c.in-Some.field-0 (Act c.in-Act.effect) (λ work plan. Went (state_of e work) c.act_and_end.new.self (world_of f (g.S.Sink.told c.args.out.now) e) (world_of f (g.S.Sink.told c.act_and_end.new.out) c.act_and_end.new.self) plan 0) c.in-Some.is c.in-Act.ensures.value
     (λ r rs st inn below. c.in_ok-act_and_end-in-Act.ensures.rule f r rs below)
 
-pub returns-in-Halt-clause-rule : goal.returns-in-Halt-clause-rule
-returns-in-Halt-clause-rule g c = let e = c.args.self.now in
-    ok_to c.refuse.result (λ ruled h f. by_is e c.in-Some.field-0 Halt (λ work plan. DoesRule (state_of e work) c.refuse.new.self (world_of f (g.S.Sink.told c.args.out.now) e) (world_of f (g.S.Sink.told c.refuse.new.out) c.refuse.new.self) plan ruled) c.in-Some.is c.in-Halt.ensures.value
-    (λ r rs st inn below. h f (r ∷ rs))) c.refuse.ensures.rule
+pub returns-in-Tells-clause-rule : goal.returns-in-Tells-clause-rule
+returns-in-Tells-clause-rule g c = let e = c.args.self.now in let t = c.in-Tells in let e' = record e { ask = c.replace.new.dest } in
+    ok_to c.tell.result (λ ruled h f. by_is e c.in-Some.field-0 (Tells t.report t.back) (λ work plan. DoesRule (state_of e work) c.tell.new.self (world_of f (g.S.Sink.told c.args.out.now) e) (world_of f (g.S.Sink.told c.tell.new.out) c.tell.new.self) plan ruled) c.in-Some.is t.ensures.value
+    (λ r rs st inn below. h f r rs (waits_now e' c.in-Some.field-0 r rs c.in-Some.is (inn.open_frame tt) below) inn.last inn.once)) c.tell.ensures.rule
 
-pub returns-in-Halt-clause-err : goal.returns-in-Halt-clause-err
-returns-in-Halt-clause-err g c = let e = c.args.self.now in
-    err_to c.refuse.result (λ b h f. by_is e c.in-Some.field-0 Halt (λ work plan. Cuts (state_of e work) (world_of f (g.S.Sink.told c.args.out.now) e) (world_of f (g.S.Sink.told c.refuse.new.out) c.refuse.new.self) plan b) c.in-Some.is c.in-Halt.ensures.value
-    (λ r rs st inn below. h f (state_of e (r ∷ rs)))) c.refuse.ensures.err
+pub returns-in-Tells-clause-err : goal.returns-in-Tells-clause-err
+returns-in-Tells-clause-err g c = let e = c.args.self.now in let t = c.in-Tells in
+    err_to c.tell.result (λ b h f. by_is e c.in-Some.field-0 (Tells t.report t.back) (λ work plan. Cuts (state_of e work) (world_of f (g.S.Sink.told c.args.out.now) e) (world_of f (g.S.Sink.told c.tell.new.out) c.tell.new.self) plan b) c.in-Some.is t.ensures.value
+    (λ r rs st inn below. h f r (state_of e (r ∷ rs)) inn.last inn.once)) c.tell.ensures.err

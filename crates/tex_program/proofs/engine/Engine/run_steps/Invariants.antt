@@ -1,9 +1,8 @@
-use Rattle.std.proofs.Common.{◌≤◌, ◌+◌, ◌*◌, ◌-◌, List}
+use Rattle.std.proofs.Common.{◌≤◌, ◌-◌, List}
 use Rattle.plain_state.specs.States.{Reading}
 use Rattle.world_io.specs.Told.{FilesTold}
 use Rattle.tex_program.specs.Stands.{Stands, state_of}
 use Rattle.tex_program.specs.Rules.{world_of}
-use Rattle.tex_program.specs.Steps.{weight}
 use Rattle.tex_program.specs.Ran.{Came}
 use Rattle.tex_program.proofs.engine.Engine.run_steps.Given as goal
 
@@ -13,4 +12,4 @@ invariant-loop-taken g l =
     × ((f : FilesTold) (work : List Reading) → Stands l.fn.self work → Came (state_of l.fn.self work) l.self (world_of f (g.S.Sink.told l.fn.out) l.fn.self) (world_of f (g.S.Sink.told l.out) l.self) l.taken)
 
 abbrev pub decreases-loop-taken : goal.decreases-loop-taken
-decreases-loop-taken g l = 15 * (l.n - l.taken) + weight l.self
+decreases-loop-taken g l = l.n - l.taken

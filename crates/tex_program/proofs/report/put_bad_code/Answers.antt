@@ -1,0 +1,10 @@
+use Rattle.std.proofs.Common.{codes, w32}
+use Rattle.std.proofs.lemmas.Int.{to_z-of_z}
+use Rattle.std.specs.Fmt.{signed_decimal}
+use Rattle.tex_program.proofs.Texts.{three}
+use Rattle.tex_program.proofs.report.put_bad_code.Goals as goal
+
+pub returns : goal.returns
+returns c =
+    three c.args.text.now.items (codes "Bad character code (") (signed_decimal c.args.n) (codes ")") _ _ _
+    c.in_ok-extend_from_slice.ensures.items (rw (to_z-of_z w32 c.args.n c.ranges.n) at c.in_ok-put_int.ensures) c.in_ok-extend_from_slice-2.ensures.items
