@@ -9,8 +9,9 @@ ghost use Rattle.std.specs.String.{string_bytes};
 ghost use Rattle.clap.specs.Words.{app_of, fault_of, found_of, rows_of, rule_of, shape_of, subcommand_of, subcommand_rows_of};
 ghost use Rattle.clap.specs.declared.builder.command.Command.TheViews.{out-Command as fields_of};
 ghost use Rattle.command_words.specs.Words as spec;
-
+ghost use Rattle.command_words.specs.Taken.{IsTaken};
 ghost use Rattle.tex_defs.specs.Sizes.{is_in_range};
+ghost use Rattle.command_words.specs.declared.Unread.{Unread};
 
 use clap::builder::ValueParser;
 use clap::error::ErrorKind;
@@ -90,7 +91,7 @@ fn parse<'a>(alloc: Global, words: &'a [String]) -> Result<ArgMatches<'a>, Unrea
 
 /// The command `init` with what was matched behind it.
 fn read_init(alloc: Global, init: &ArgMatches) -> Result<Command, Unread>
-    requires { spec.IsTaken (rows_of (found_of init.now)) }
+    requires { IsTaken (rows_of (found_of init.now)) }
     ensures command { IfOk result (λ c. spec.command_in (rows_of (found_of init.now)) ≡ spec.spelt c) }
     ensures memory { IfErr result (λ e. e ≡ Unread.NoMemory) }
     ensures size { IfOk result (λ c. is_in_range Table.MainMemorySize (spec.memory_of c) ≡ true) }
@@ -100,7 +101,12 @@ fn read_init(alloc: Global, init: &ArgMatches) -> Result<Command, Unread>
     let mem = init.get_one::<u64>("mem").unwrap_or(0) as u32;
     let quiet = init.get_flag("quiet");
     let file = file_name(alloc, file.as_bytes())?;
-    Ok(Command::Init { file, steps, quiet, mem })
+    Ok(Command::Init {
+        file,
+        steps,
+        quiet,
+        mem,
+    })
 }
 
 /// Whether a `.` stands behind the area of a name.
@@ -131,7 +137,13 @@ fn file_name(alloc: Global, name: &[u8]) -> Result<Vec<u8>, AllocError>
 }
 
 /// An option with a number in its range.
-fn number_option<'a>(alloc: Global, name: &'a str, least: u64, most: u64, default: &'a str) -> Arg<'a>
+fn number_option<'a>(
+    alloc: Global,
+    name: &'a str,
+    least: u64,
+    most: u64,
+    default: &'a str,
+) -> Arg<'a>
     ensures rule { rule_of result ≡ spec.number_option name.entry.now least most default.entry.now }
     ensures local { result.global ≡ false }
 {
@@ -199,14 +211,34 @@ mod tests {
             ("t|init|a|--steps|+5", "a.tex", 5, false, 30000),
             ("t|init|--steps|007|a|--quiet", "a.tex", 7, true, 30000),
             ("t|init|--quiet|a|--mem|100", "a.tex", 10_000_000, true, 100),
-            ("t|init|a|--mem=16777216|--steps|0", "a.tex", 0, false, 16_777_216),
-            ("t|init|a|--steps|1000000000000000", "a.tex", 1_000_000_000_000_000, false, 30000),
+            (
+                "t|init|a|--mem=16777216|--steps|0",
+                "a.tex",
+                0,
+                false,
+                16_777_216,
+            ),
+            (
+                "t|init|a|--steps|1000000000000000",
+                "a.tex",
+                1_000_000_000_000_000,
+                false,
+                30000,
+            ),
             ("t|init|-", "-.tex", 10_000_000, false, 30000),
             ("t|init|--quiet|--|a", "a.tex", 10_000_000, true, 30000),
             ("t|init|init", "init.tex", 10_000_000, false, 30000),
         ];
         for (text, name, most, silent, words) in rows {
-            let Ok(Command::Init { file, steps, quiet, mem }) = read(rt.alloc(), text)? else {
+            let Ok(
+                Command::Init {
+                    file,
+                    steps,
+                    quiet,
+                    mem,
+                },
+            ) = read(rt.alloc(), text)?
+            else {
                 return Err("no command".into());
             };
             assert_eq!(rt; file.as_slice(), name.as_bytes());

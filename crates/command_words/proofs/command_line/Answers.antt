@@ -1,14 +1,15 @@
-use Rattle.std.proofs.Common.{rules, ap, ap₂, ◌∙◌, ◌≡◌, codes, true}
+use Rattle.std.proofs.Common.{ap, ap₂, ◌∙◌, ◌≡◌, true}
 use Rattle.std.proofs.lemmas.Result.{IfOk-weaker}
-use Rattle.clap.specs.Words.{App, Shape, app_of, with_subcommand}
+use Rattle.clap.specs.Words.{App, app_of, with_subcommand}
 use Rattle.clap.specs.Simple.{app_of_fields}
-use Rattle.command_words.specs.Words as spec
 use Rattle.command_words.proofs.command_line.Goals as goal
 
 abbrev no_help_flag : App → App
 no_help_flag a = record a { top = record a.top { disable_help_flag = true } }
+
 abbrev no_help : App → App
 no_help a = record a { top = record a.top { disable_help_subcommand = true } }
+
 abbrev needs_command : App → App
 needs_command a = record a { top = record a.top { subcommand_required = true } }
 
