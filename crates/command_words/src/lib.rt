@@ -53,7 +53,7 @@ impl From<AllocError> for Unread {
     }
 }
 
-/// The command that the words spell; the first word is the program's name.
+/// The command that the words spell; the first word is the program's name, whatever it is.
 ///
 /// The one command today is `init FILE`. Its options are `--steps N`, the greatest number of steps (0 to
 /// 10^15, 10000000 where it isn't given), `--mem N`, the main memory size in words (100 to 16777216, 30000
@@ -89,7 +89,7 @@ fn parse<'a>(alloc: Global, words: &'a [String]) -> Result<ArgMatches<'a>, Unrea
     }
 }
 
-/// The command `init` with what was matched behind it.
+/// The command `init` with what was matched behind it: each value is there and is in its range.
 fn read_init(alloc: Global, init: &ArgMatches) -> Result<Command, Unread>
     requires { IsTaken (rows_of (found_of init.now)) }
     ensures command { IfOk result (λ c. spec.command_in (rows_of (found_of init.now)) ≡ spec.spelt c) }
