@@ -1,0 +1,4 @@
+pub mod Extensions
+pub mod Rows
+pub mod Getters
+pub mod Taken

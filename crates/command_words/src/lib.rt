@@ -1,0 +1,291 @@
+//! The words of a command line, and the command that they spell.
+//!
+//! The command line is described to `clap`, whose specification says of all words whether they fit it, and
+//! what they match. This crate reads the file's name and the numbers off the matches.
+#![tactic(auto)]
+
+ghost use Rattle.std.specs.Prelude.{◌≡◌, ◌∷◌, [], IfErr, IfOk, false, map, true};
+ghost use Rattle.std.specs.String.{string_bytes};
+ghost use Rattle.clap.specs.Words.{app_of, fault_of, found_of, rows_of, rule_of, shape_of, subcommand_of, subcommand_rows_of};
+ghost use Rattle.clap.specs.declared.builder.command.Command.TheViews.{out-Command as fields_of};
+ghost use Rattle.command_words.specs.Words as spec;
+ghost use Rattle.command_words.specs.Taken.{IsTaken};
+ghost use Rattle.tex_defs.specs.Sizes.{is_in_range};
+ghost use Rattle.command_words.specs.declared.Unread.{Unread};
+
+use clap::builder::ValueParser;
+use clap::error::ErrorKind;
+use clap::{Arg, ArgAction, ArgMatches};
+use std::alloc::{AllocError, Global};
+use tex_defs::Table;
+use thiserror::Error;
+
+/// What the words ask for.
+#[derive(Debug, Drop)]
+pub enum Command {
+    /// `init FILE`: the job of a file, from INITEX's first state.
+    Init {
+        /// The file's name, with `.tex` where no `.` stood behind its area.
+        file: Vec<u8>,
+        /// The greatest number of steps.
+        steps: u64,
+        /// Whether token lines are left out.
+        quiet: bool,
+        /// Main memory size, in words.
+        mem: u32,
+    },
+}
+
+/// Why words were not read.
+#[derive(Clone, Copy, Debug, PartialEq, Eq, Error)]
+pub enum Unread {
+    #[error("the words are no command")]
+    Usage,
+    #[error("out of memory")]
+    NoMemory,
+}
+
+impl From<AllocError> for Unread {
+    ghost from_gives = { λ _ e. e ≡ Unread.NoMemory };
+
+    fn from(_error: AllocError) -> Unread {
+        Unread::NoMemory
+    }
+}
+
+/// The command that the words spell; the first word is the program's name, whatever it is.
+///
+/// The one command today is `init FILE`. Its options are `--steps N`, the greatest number of steps (0 to
+/// 10^15, 10000000 where it isn't given), `--mem N`, the main memory size in words (100 to 16777216, 30000
+/// where it isn't given), and `--quiet`. They stand before or behind the file.
+///
+/// # Errors
+/// `Usage` only where the words are no command, `NoMemory` where memory was wanted.
+pub fn read_words(alloc: Global, words: &[String]) -> Result<Command, Unread>
+    ensures command { IfOk result (λ c. spec.command_of (map string_bytes words.now) ≡ spec.spelt c) }
+    ensures usage { IfErr result (λ e. e ≡ Unread.Usage → spec.command_of (map string_bytes words.now) ≡ spec.NoCommand) }
+    ensures size { IfOk result (λ c. is_in_range Table.MainMemorySize (spec.memory_of c) ≡ true) }
+{
+    let matches = parse(alloc, words)?;
+    match matches.subcommand() {
+        Some((_, init)) => read_init(alloc, init),
+        None => Err(Unread::Usage),
+    }
+}
+
+/// What `clap` matches in the words.
+fn parse<'a>(alloc: Global, words: &'a [String]) -> Result<ArgMatches<'a>, Unread>
+    ensures taken { IfOk result (λ _. fault_of spec.command_line (map string_bytes words.entry.now) ≡ []) }
+    ensures rows { IfOk result (λ m. subcommand_rows_of m ≡ subcommand_of spec.command_line (map string_bytes words.entry.now)) }
+    ensures usage { IfErr result (λ e. e ≡ Unread.Usage → fault_of spec.command_line (map string_bytes words.entry.now) ≡ [] → ⊥) }
+{
+    let command = command_line(alloc)?;
+    match command.try_get_matches_from(words) {
+        Ok(matches) => Ok(matches),
+        Err(error) => match error.kind() {
+            ErrorKind::OutOfMemory => Err(Unread::NoMemory),
+            _ => Err(Unread::Usage),
+        },
+    }
+}
+
+/// The command `init` with what was matched behind it: each value is there and is in its range.
+fn read_init(alloc: Global, init: &ArgMatches) -> Result<Command, Unread>
+    requires { IsTaken (rows_of (found_of init.now)) }
+    ensures command { IfOk result (λ c. spec.command_in (rows_of (found_of init.now)) ≡ spec.spelt c) }
+    ensures memory { IfErr result (λ e. e ≡ Unread.NoMemory) }
+    ensures size { IfOk result (λ c. is_in_range Table.MainMemorySize (spec.memory_of c) ≡ true) }
+{
+    let file = init.get_str("file").unwrap_or("");
+    let steps = init.get_one::<u64>("steps").unwrap_or(0);
+    let mem = init.get_one::<u64>("mem").unwrap_or(0) as u32;
+    let quiet = init.get_flag("quiet");
+    let file = file_name(alloc, file.as_bytes())?;
+    Ok(Command::Init {
+        file,
+        steps,
+        quiet,
+        mem,
+    })
+}
+
+/// Whether a `.` stands behind the area of a name.
+#[tactic(auto, using(crate::proofs::Extensions::dotted_on, crate::proofs::Extensions::dotted_whole, std::proofs::lemmas::List::drop_more))]
+fn has_extension(name: &[u8]) -> bool
+    ensures { result ≡ spec.has 46 (spec.behind_area name.now) }
+{
+    let mut dotted = false;
+    for c in name {
+        if *c == b'/' {
+            dotted = false;
+        } else if *c == b'.' {
+            dotted = true;
+        }
+    }
+    dotted
+}
+
+/// The name of a file, with `.tex` where no `.` stands behind its area.
+fn file_name(alloc: Global, name: &[u8]) -> Result<Vec<u8>, AllocError>
+    ensures { IfOk result (λ r. r.items ≡ spec.file_name name.now) }
+{
+    let mut whole = Vec::from_slice(alloc, name)?;
+    if !has_extension(name) {
+        whole.extend_from_slice(b".tex")?;
+    }
+    Ok(whole)
+}
+
+/// An option with a number in its range.
+fn number_option<'a>(
+    alloc: Global,
+    name: &'a str,
+    least: u64,
+    most: u64,
+    default: &'a str,
+) -> Arg<'a>
+    ensures rule { rule_of result ≡ spec.number_option name.entry.now least most default.entry.now }
+    ensures local { result.global ≡ false }
+{
+    Arg::new(alloc, name)
+        .long(name)
+        .value_parser(ValueParser::unsigned(least, most))
+        .default_value(default)
+}
+
+/// The command `init`: a file, and the options in any order.
+fn init_command<'a>(alloc: Global) -> Result<clap::Command<'a>, AllocError>
+    ensures shape { IfOk result (λ c. shape_of c ≡ spec.init) }
+    ensures local { IfOk result (λ c. (fields_of c).has_globals ≡ false) }
+{
+    let file = Arg::new(alloc, "file").required(true);
+    let steps = number_option(alloc, "steps", 0, 1_000_000_000_000_000, "10000000");
+    let mem = number_option(alloc, "mem", 100, 16_777_216, "30000");
+    let quiet = Arg::new(alloc, "quiet")
+        .long("quiet")
+        .action(ArgAction::SetTrue);
+    clap::Command::new(alloc, "init")
+        .arg(file)?
+        .arg(steps)?
+        .arg(mem)?
+        .arg(quiet)
+}
+
+/// The command line of the program.
+fn command_line<'a>(alloc: Global) -> Result<clap::Command<'a>, AllocError>
+    ensures { IfOk result (λ c. app_of c ≡ spec.command_line) }
+{
+    let init = init_command(alloc)?;
+    clap::Command::new(alloc, "texmac")
+        .disable_help_flag(true)
+        .disable_help_subcommand(true)
+        .subcommand_required(true)
+        .subcommand(init)
+}
+
+#[cfg(test)]
+mod tests {
+    use super::*;
+    use std::test::Fail;
+
+    /// Words in one text, parted by `|`.
+    fn read(alloc: Global, text: &str) -> Result<Result<Command, Unread>, Fail> {
+        let mut words = Vec::new(alloc);
+        if text.len() > 0 {
+            for word in text.split('|') {
+                words.push(String::from_str(alloc, word)?)?;
+            }
+        }
+        Ok(read_words(alloc, words.as_slice()))
+    }
+
+    #[test]
+    fn reads_commands(rt: HostRuntime) -> Result<(), Fail> {
+        let rows = [
+            ("t|init|a", "a.tex", 10_000_000, false, 30000),
+            ("|init|a", "a.tex", 10_000_000, false, 30000),
+            ("t|init|a.b", "a.b", 10_000_000, false, 30000),
+            ("t|init|a.b/c", "a.b/c.tex", 10_000_000, false, 30000),
+            ("t|init|--steps|5|a", "a.tex", 5, false, 30000),
+            ("t|init|a|--steps=5", "a.tex", 5, false, 30000),
+            ("t|init|a|--steps|+5", "a.tex", 5, false, 30000),
+            ("t|init|--steps|007|a|--quiet", "a.tex", 7, true, 30000),
+            ("t|init|--quiet|a|--mem|100", "a.tex", 10_000_000, true, 100),
+            (
+                "t|init|a|--mem=16777216|--steps|0",
+                "a.tex",
+                0,
+                false,
+                16_777_216,
+            ),
+            (
+                "t|init|a|--steps|1000000000000000",
+                "a.tex",
+                1_000_000_000_000_000,
+                false,
+                30000,
+            ),
+            ("t|init|-", "-.tex", 10_000_000, false, 30000),
+            ("t|init|--quiet|--|a", "a.tex", 10_000_000, true, 30000),
+            ("t|init|init", "init.tex", 10_000_000, false, 30000),
+        ];
+        for (text, name, most, silent, words) in rows {
+            let Ok(
+                Command::Init {
+                    file,
+                    steps,
+                    quiet,
+                    mem,
+                },
+            ) = read(rt.alloc(), text)?
+            else {
+                return Err("no command".into());
+            };
+            assert_eq!(rt; file.as_slice(), name.as_bytes());
+            assert!(rt; steps == most && quiet == silent && mem == words);
+        }
+        Ok(())
+    }
+
+    #[test]
+    fn refuses_other_words(rt: HostRuntime) -> Result<(), Fail> {
+        let rows = [
+            "",
+            "t",
+            "t|init",
+            "t|a",
+            "t|run|a",
+            "t|init|a|b",
+            "t|init|a|--steps",
+            "t|init|a|--steps|5|--steps|5",
+            "t|init|a|--quiet|--quiet",
+            "t|init|a|--quiet=x",
+            "t|--quiet|init|a",
+            "t|init|a|-q",
+            "t|init|-x",
+            "t|init|a|--steps|-5",
+            "t|init|a|--steps=-5",
+            "t|init|a|--steps|1000000000000001",
+            "t|init|a|--steps|5x",
+            "t|init|a|--steps=",
+            "t|init|a|--steps|+",
+            "t|init|a|--mem|99",
+            "t|init|a|--mem|16777217",
+            "t|init|a|--mem|99999999999999999999",
+            "t|init|a|--pool|5000",
+            "t|init|a|--step|5",
+            "t|--help",
+            "t|-h",
+            "t|help",
+            "t|init|--help",
+            "t|init|a|--help",
+            "t|--version",
+            "t|init|a|--version",
+        ];
+        for text in rows {
+            let refused = matches!(read(rt.alloc(), text)?, Err(Unread::Usage));
+            assert_eq!(rt; (text, refused), (text, true));
+        }
+        Ok(())
+    }
+}
