@@ -1,6 +1,5 @@
 pub mod Plan
 pub mod Runs
 pub mod Does
-pub mod Words
 pub mod Meaning
 pub mod Rows

@@ -8,7 +8,7 @@ use Rattle.plain_state.specs.Reports.{fresh_line}
 use Rattle.plain_machine.specs.Plan.{first_state}
 use Rattle.plain_machine.specs.Runs.{Trace, NeedsStep, Wrote}
 use Rattle.plain_machine.specs.Does.{Why, IsFault, IsWant, CutAt, MomentWritten}
-use Rattle.plain_machine.specs.Words.{Command, Init, NoCommand}
+use Rattle.command_words.specs.Words.{Command, Init, NoCommand}
 
 -- THE STOP LINES
 
@@ -123,7 +123,12 @@ pub record MeansUsage (w w' : World) (status : ℕ) : Type 0 where
   pub is : status ≡ 9
   pub line : Line w w' usage_line
 
+-- Want of memory before there is a machine: its line alone.
+pub record MeansNoMemory (w w' : World) (status : ℕ) : Type 0 where
+  pub is : status ≡ 7
+  pub line : Line w w' no_memory_line
+
 -- What the program writes and answers for its words.
 abbrev pub Means : Command → (List ℕ → File) → World → World → ℕ → Type 0
 Means (Init name options) file w w' status = MeansRun options.quiet name (file name) options.steps w w' status
-Means NoCommand file w w' status = MeansUsage w w' status
+Means NoCommand file w w' status = MeansUsage w w' status ⊎ MeansNoMemory w w' status

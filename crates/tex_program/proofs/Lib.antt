@@ -10,7 +10,6 @@ pub mod Writing
 pub mod Ruling
 pub mod Stepping
 pub mod Running
-pub mod Extensions
 pub mod Telling
 pub mod Meanings
 pub mod Texts

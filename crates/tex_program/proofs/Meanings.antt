@@ -7,8 +7,11 @@ use Rattle.plain_state.specs.States as machine
 use Rattle.plain_state.specs.States.{State, Move, AtFatal, Outcome as MachineOutcome}
 use Rattle.plain_machine.specs.Runs.{Moves, Wrote, steps, step_of, made_all}
 use Rattle.plain_machine.specs.Does.{IsCause, Cut, CutAt, MomentWritten, Why, IsFault, IsWant}
-use Rattle.plain_machine.specs.Meaning.{First, Line, Whole, Ending, Status, IsFinished, IsFlawed, IsFatal, IsSteps, IsReadFault, IsWriteFault, IsNoMemory, Says, IsJob, MeansRun, steps_line, read_fault_line, write_fault_line, no_memory_line}
-use Rattle.plain_machine.proofs.Doing.{wrote_join, cause_on}
+use Rattle.plain_machine.specs.Meaning.{First, Line, Whole, Ending, Status, IsFinished, IsFlawed, IsFatal, IsSteps, IsReadFault, IsWriteFault, IsNoMemory, Says, IsJob, MeansRun, Means, steps_line, read_fault_line, write_fault_line, no_memory_line}
+use Rattle.tex_defs.specs.declared.Fatal.TheVariants.{NoFile}
+use Rattle.plain_machine.specs.Plan.{no_file}
+use Rattle.command_words.specs.Words.{Command, Init, NoCommand}
+use Rattle.plain_machine.proofs.Doing.{wrote_none, wrote_join, cause_on}
 use Rattle.plain_machine.proofs.Joins.{moves_due, all_made_due, due_none, moment_due, Moment, due_front, Front, stopped_ends, steps_join}
 use Rattle.world_io.specs.Told.{FilesTold, SinkTold, SameFiles, NotFound, IsContent, world}
 use Rattle.tex_program.specs.declared.engine.Engine.{Engine}
@@ -20,7 +23,7 @@ use Rattle.tex_program.specs.declared.broken.Broken.{Broken}
 use Rattle.tex_program.specs.declared.broken.Broken.TheVariants.{WriteFault, Want, NoRoom}
 use Rattle.tex_program.specs.Stands.{state_of}
 use Rattle.tex_program.specs.Begins.{outcome_of}
-use Rattle.tex_program.specs.Rules.{Halts, Part, Cuts}
+use Rattle.tex_program.specs.Rules.{world_of, Halts, Part, Cuts}
 use Rattle.tex_program.specs.Ran.{Ran, CutBy, EndsAs}
 use Rattle.tex_program.specs.Says.{SaysSo, end_status}
 
@@ -34,7 +37,7 @@ module _ (s : State) (n : ℕ) (w m w' : World) where
   pub broken_lost : (b : Broken) → b ≡ NoRoom → CutBy s n w m b → Line m w' no_memory_line → SaysSo s n w w' 7
   broken_lost b is cut last = record { is = IsNoMemory; says = inr (record { between = m; moment = subst (λ (x : Broken). CutBy s n w m x) is cut; last = last }) }
 
-  whole_of : (e' : Engine) (o : Outcome) (ran : Ran s n e' w w' (Halted o)) → Whole s n w w' (outcome_of o)
+  abbrev whole_of : (e' : Engine) (o : Outcome) (ran : Ran s n e' w w' (Halted o)) → Whole s n w w' (outcome_of o)
   whole_of e' o ran = record { ms = ran.ms; t = ran.t; trace = ran.trace; stopped = ran.ends.0; written = ran.written }
 
   ending_of : (e' : Engine) (ran : Ran s n e' w w' (Halted Finished)) (b : Bool) → nat_lt 0 e'.reports ≡ b → Ending s n w w' b
@@ -87,6 +90,22 @@ module _ (s : State) (ms : List Move) (n : ℕ) (w w' : World) (none : s.due ≡
   due_cut Want le h = due_cut_at IsWant le h
   due_cut NoRoom le h = due_moment le h
 
+-- an engine that was just made stands for the first state, but for what is due
+pub at_first : (e : Engine) (s : State) → record (state_of e []) { due = [] } ≡ s → e.in_line ≡ false → (Q : State → Bool → Type 0) → Q (state_of e []) e.in_line → Q s false
+at_first e s state column Q h = subst (λ (b : Bool). Q s b) column (subst (λ (s : State). Q s e.in_line) state h)
+
+-- a job whose file isn't held
+module _ (e : Engine) (quiet : Bool) (file : List ℕ) (n : ℕ) (f : FilesTold) (a b : SinkTold) where
+  pub missing_fails : (e' : Engine) → record (state_of e []) { due = no_file file } ≡ First quiet file None → e.in_line ≡ false → Halts (state_of e []) e' (world_of f a e) (world_of f b e') (no_file file) (AtFatal NoFile) 0 →
+      SaysSo (First quiet file None) n (world f a false) (world_of f b e') 2
+  missing_fails e' state column h = subst (λ (x : Bool). SaysSo (First quiet file None) n (world f a x) (world_of f b e') 2) column
+      (subst (λ (s : State). SaysSo s n (world_of f a e) (world_of f b e') 2) state (due_fails (state_of e []) (no_file file) n _ _ refl e' NoFile h))
+
+  pub missing_cut : (c : Bool) (k : Broken) → record (state_of e []) { due = no_file file } ≡ First quiet file None → e.in_line ≡ false → Cuts (state_of e []) (world_of f a e) (world f b c) (no_file file) k →
+      CutBy (First quiet file None) n (world f a false) (world f b c) k
+  missing_cut c k state column h = subst (λ (x : Bool). CutBy (First quiet file None) n (world f a x) (world f b c) k) column
+      (subst (λ (s : State). CutBy s n (world_of f a e) (world f b c) k) state (due_cut (state_of e []) (no_file file) n _ _ refl k (omega arith) h))
+
 -- behind what has written nothing
 module _ (s : State) (n : ℕ) (w m w' : World) (quiet : Wrote w m []) where
   cut_behind : (between : World) (why : Why) → CutAt s n m between why → CutAt s n w between why
@@ -104,7 +123,7 @@ module _ (s : State) (n : ℕ) (w m w' : World) (quiet : Wrote w m []) where
     written = wrote_join w m between [] _ quiet c.written;
   }
 
-  whole_behind : (o : MachineOutcome) → Whole s n m w' o → Whole s n w w' o
+  abbrev whole_behind : (o : MachineOutcome) → Whole s n m w' o → Whole s n w w' o
   whole_behind o h = record { ms = h.ms; t = h.t; trace = h.trace; stopped = h.stopped; written = wrote_join w m w' [] h.ms quiet h.written }
 
   behind : (status : ℕ) (is : Status status) → Says s n m w' status is → Says s n w w' status is
@@ -166,6 +185,11 @@ module _ (quiet : Bool) (name : List ℕ) (file : File) (n : ℕ) where
   pub means_no_room : (w m w' : World) → Wrote w m [] → Line m w' no_memory_line → MeansRun quiet name file n w w' 7
   means_no_room w m w' wrote last = let j = some_job file in
       record { job = j.job; is_job = j.is_job; is = IsNoMemory; says = inr (record { between = m; moment = record { ms = []; t = First quiet name j.job; moves = refl; within = omega arith; written = wrote }; last = last }) }
+
+-- want of memory before there is a machine, whatever the words
+pub no_memory_means : (k : Command) (f : FilesTold) (a b : SinkTold) (c : Bool) → Line (world f a false) (world f b c) no_memory_line → Means k f.file (world f a false) (world f b c) 7
+no_memory_means (Init name options) f a b c last = means_no_room options.quiet name (f.file name) options.steps _ _ _ (wrote_none (world f a false)) last
+no_memory_means NoCommand f a b c last = inr (record { is = refl; line = last })
 
 -- a run that ended at a failed write, over whatever files: a write to the transcript failed
 bare : FilesTold

@@ -200,3 +200,17 @@ module _ {P : Type 0} (r : Ruled) (b : Bool) where
 
   pub no_free : r ≡ ruled.Free → StepsIf r b → b ≡ true → P
   no_free is h f = let t : b ≡ false = subst (λ (x : Ruled). StepsIf x b) is h in absurd (cc (t, f))
+
+-- a rule that has no step fits within any bound
+pub silent_fits : (e : Engine) (work : List Reading) (k n : ℕ) → k ≤ n → steps (plan_of e work) ≡ 0 → k + steps (plan_of e work) ≤ n
+silent_fits e work k n le none = omega (arith, none, le)
+
+pub one_fits : (e : Engine) (work : List Reading) (k n : ℕ) → k + 1 ≤ n → steps (plan_of e work) ≡ 1 → k + steps (plan_of e work) ≤ n
+one_fits e work k n le one = omega (arith, one, le)
+
+pub same_stops : (s : State) (e' : Engine) (w w' : World) (k j : ℕ) (o : Outcome) → k ≡ j → Stops s e' w w' k o → Stops s e' w w' j o
+same_stops s e' w w' k j o is h = subst (λ (x : ℕ). Stops s e' w w' x o) is h
+
+pub no_some : {A : Type 0} → (o : Option A) → ((x : A) → o ≡ Some x → ⊥) → o ≡ None
+no_some None h = refl
+no_some (Some x) h = absurd (h x refl)

@@ -16,6 +16,5 @@ mod run;
 mod scan;
 mod tell;
 mod text;
-mod words;
 
 pub use program::top;

@@ -1,15 +1,14 @@
 // The program, over any files and sink.
-ghost use Rattle.std.specs.Prelude.{◌≡◌, ◌↔◌, Bool, false, map};
+ghost use Rattle.std.specs.Prelude.{◌≡◌, Bool, false, map};
 ghost use Rattle.std.specs.String.{string_bytes};
 ghost use Rattle.tex_defs.specs.Places.{Rose};
-ghost use Rattle.plain_machine.specs.Words.{command_of, NoCommand};
+ghost use Rattle.command_words.specs.Words.{command_of, NoCommand, spelt};
 ghost use Rattle.plain_machine.specs.Meaning.{Means, MeansRun};
-ghost use Rattle.plain_machine.specs.Words as words_specs;
 ghost use Rattle.world_io.specs.Told.{world};
 
 use crate::run::{run_file, run_missing};
 use crate::tell::{Telling, tell};
-use crate::words::{file_name, job_word};
+use command_words::{Command, Unread, read_words};
 use std::alloc::Global;
 use world_io::{Fault, Files, Sink, read_file};
 
@@ -47,22 +46,29 @@ fn run_job<F: Files, S: Sink>(
     }
 }
 
-/// Runs the job of a file's word.
-fn run_word<F: Files, S: Sink>(alloc: Global, word: &str, files: &mut F, out: &mut S) -> u8
-    ensures meaning { (b : Bool) × MeansRun false (words_specs.file_name word.now) ((F.told files.old).file (words_specs.file_name word.now)) 10000000 (world (F.told files.old) (S.told out.old) false) (world (F.told files.new) (S.told out.new) b) result }
+/// Does what a command says.
+fn run_command<F: Files, S: Sink>(
+    alloc: Global,
+    command: &Command,
+    files: &mut F,
+    out: &mut S,
+) -> u8
+    ensures meaning { (b : Bool) × Means (spelt command.now) (F.told files.old).file (world (F.told files.old) (S.told out.old) false) (world (F.told files.new) (S.told out.new) b) result }
     ensures read_fault { result ≡ 5 → Rose (F.told files.old).read_faults (F.told files.new).read_faults }
     ensures write_fault { result ≡ 6 → Rose (S.told out.old).faults (S.told out.new).faults }
     ensures not_usage { result ≡ 9 → ⊥ }
 {
-    let Ok(name) = file_name(alloc, word.as_bytes()) else {
-        tell(out, false, Telling::NoMemory);
-        return 7;
-    };
-    let options = Options {
-        steps: 10000000,
-        quiet: false,
-    };
-    run_job(alloc, name.as_slice(), options, files, out)
+    match command {
+        Command::Init {
+            file, steps, quiet, ..
+        } => {
+            let options = Options {
+                steps: *steps,
+                quiet: *quiet,
+            };
+            run_job(alloc, file.as_slice(), options, files, out)
+        }
+    }
 }
 
 /// The program: does what its words say, over these files and this sink, and answers its exit status.
@@ -82,15 +88,19 @@ pub fn top<F: Files, S: Sink>(alloc: Global, words: &[String], files: &mut F, ou
     // What is written to the transcript and to each file, and the status, are the plain machine's. Only the statuses
     // 0, 1, 2, 4, 5, 6, 7 and 9 come.
     ensures meaning { (b : Bool) × Means (command_of (map string_bytes words.now)) (F.told files.old).file (world (F.told files.old) (S.told out.old) false) (world (F.told files.new) (S.told out.new) b) result }
-    ensures usage { (result ≡ 9) ↔ (command_of (map string_bytes words.now) ≡ NoCommand) }
+    ensures usage { result ≡ 9 → command_of (map string_bytes words.now) ≡ NoCommand }
     ensures read_fault { result ≡ 5 → Rose (F.told files.old).read_faults (F.told files.new).read_faults }
     ensures write_fault { result ≡ 6 → Rose (S.told out.old).faults (S.told out.new).faults }
 {
-    match job_word(words) {
-        Some(word) => run_word(alloc, word, files, out),
-        None => {
+    match read_words(alloc, words) {
+        Ok(command) => run_command(alloc, &command, files, out),
+        Err(Unread::Usage) => {
             tell(out, false, Telling::Usage);
             9
+        }
+        Err(Unread::NoMemory) => {
+            tell(out, false, Telling::NoMemory);
+            7
         }
     }
 }

@@ -6,10 +6,10 @@ use Rattle.tex_program.specs.Rules.{world_of}
 use Rattle.tex_program.specs.Ran.{Came}
 use Rattle.tex_program.proofs.engine.Engine.run_steps.Given as goal
 
-abbrev pub invariant-loop-taken : goal.invariant-loop-taken
-invariant-loop-taken g l =
+abbrev pub invariant-loop-outcome : goal.invariant-loop-outcome
+invariant-loop-outcome g l =
     (l.taken ≤ l.n)
     × ((f : FilesTold) (work : List Reading) → Stands l.fn.self work → Came (state_of l.fn.self work) l.self (world_of f (g.S.Sink.told l.fn.out) l.fn.self) (world_of f (g.S.Sink.told l.out) l.self) l.taken)
 
-abbrev pub decreases-loop-taken : goal.decreases-loop-taken
-decreases-loop-taken g l = l.n - l.taken
+abbrev pub decreases-loop-outcome : goal.decreases-loop-outcome
+decreases-loop-outcome g l = l.n - l.taken
