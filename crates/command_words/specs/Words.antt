@@ -41,10 +41,9 @@ required_word name = record (new_rule name) { required = true }
 -- the command `init`: a file, and the options in any order
 abbrev pub init : Shape
 init =
-    (with_rule (with_rule (with_rule (with_rule (new_app (codes "init"))
+    (with_rule (with_rule (with_rule (new_app (codes "init"))
     (required_word (codes "file")))
     (number_option (codes "steps") 0 1000000000000000 (codes "10000000")))
-    (number_option (codes "mem") 100 16777216 (codes "30000")))
     (flag (codes "quiet"))).top
 
 -- the program, which wants a command, and has no `help` and no `--help`
@@ -61,8 +60,6 @@ pub record Options : Type 0 where
   pub steps : ℕ
   -- token lines are left out
   pub quiet : Bool
-  -- main memory size, in words
-  pub mem : ℕ
 
 pub data Command : Type 0 where
   -- run the job of this file from INITEX's first state
@@ -85,7 +82,7 @@ abbrev pub is_given : Text → List Row → Bool
 is_given name rows = bytes_eq (text_of name rows) (codes "true")
 
 abbrev pub options_of : List Row → Options
-options_of rows = record { steps = number_of (codes "steps") rows; quiet = is_given (codes "quiet") rows; mem = number_of (codes "mem") rows }
+options_of rows = record { steps = number_of (codes "steps") rows; quiet = is_given (codes "quiet") rows }
 
 abbrev pub command_in : List Row → Command
 command_in rows = Init (file_name (text_of (codes "file") rows)) (options_of rows)
@@ -97,7 +94,4 @@ command_of words = if is_empty (fault_of command_line words) then command_in (in
 -- ---- the command as the code has it
 
 abbrev pub spelt : Read → Command
-spelt (Read.Init file steps quiet mem) = Init file.items (record { steps = steps; quiet = quiet; mem = mem })
-
-abbrev pub memory_of : Read → ℕ
-memory_of (Read.Init file steps quiet mem) = mem
+spelt (Read.Init file steps quiet) = Init file.items (record { steps = steps; quiet = quiet })

@@ -10,14 +10,12 @@ ghost use Rattle.clap.specs.Words.{app_of, fault_of, found_of, rows_of, rule_of,
 ghost use Rattle.clap.specs.declared.builder.command.Command.TheViews.{out-Command as fields_of};
 ghost use Rattle.command_words.specs.Words as spec;
 ghost use Rattle.command_words.specs.Taken.{IsTaken};
-ghost use Rattle.tex_defs.specs.Sizes.{is_in_range};
 ghost use Rattle.command_words.specs.declared.Unread.{Unread};
 
 use clap::builder::ValueParser;
 use clap::error::ErrorKind;
 use clap::{Arg, ArgAction, ArgMatches};
 use std::alloc::{AllocError, Global};
-use tex_defs::Table;
 use thiserror::Error;
 
 /// What the words ask for.
@@ -31,8 +29,6 @@ pub enum Command {
         steps: u64,
         /// Whether token lines are left out.
         quiet: bool,
-        /// Main memory size, in words.
-        mem: u32,
     },
 }
 
@@ -56,15 +52,13 @@ impl From<AllocError> for Unread {
 /// The command that the words spell; the first word is the program's name, whatever it is.
 ///
 /// The one command today is `init FILE`. Its options are `--steps N`, the greatest number of steps (0 to
-/// 10^15, 10000000 where it isn't given), `--mem N`, the main memory size in words (100 to 16777216, 30000
-/// where it isn't given), and `--quiet`. They stand before or behind the file.
+/// 10^15, 10000000 where it isn't given), and `--quiet`. They stand before or behind the file.
 ///
 /// # Errors
 /// `Usage` only where the words are no command, `NoMemory` where memory was wanted.
 pub fn read_words(alloc: Global, words: &[String]) -> Result<Command, Unread>
     ensures command { IfOk result (λ c. spec.command_of (map string_bytes words.now) ≡ spec.spelt c) }
     ensures usage { IfErr result (λ e. e ≡ Unread.Usage → spec.command_of (map string_bytes words.now) ≡ spec.NoCommand) }
-    ensures size { IfOk result (λ c. is_in_range Table.MainMemorySize (spec.memory_of c) ≡ true) }
 {
     let matches = parse(alloc, words)?;
     match matches.subcommand() {
@@ -94,19 +88,12 @@ fn read_init(alloc: Global, init: &ArgMatches) -> Result<Command, Unread>
     requires { IsTaken (rows_of (found_of init.now)) }
     ensures command { IfOk result (λ c. spec.command_in (rows_of (found_of init.now)) ≡ spec.spelt c) }
     ensures memory { IfErr result (λ e. e ≡ Unread.NoMemory) }
-    ensures size { IfOk result (λ c. is_in_range Table.MainMemorySize (spec.memory_of c) ≡ true) }
 {
     let file = init.get_str("file").unwrap_or("");
     let steps = init.get_one::<u64>("steps").unwrap_or(0);
-    let mem = init.get_one::<u64>("mem").unwrap_or(0) as u32;
     let quiet = init.get_flag("quiet");
     let file = file_name(alloc, file.as_bytes())?;
-    Ok(Command::Init {
-        file,
-        steps,
-        quiet,
-        mem,
-    })
+    Ok(Command::Init { file, steps, quiet })
 }
 
 /// Whether a `.` stands behind the area of a name.
@@ -160,14 +147,12 @@ fn init_command<'a>(alloc: Global) -> Result<clap::Command<'a>, AllocError>
 {
     let file = Arg::new(alloc, "file").required(true);
     let steps = number_option(alloc, "steps", 0, 1_000_000_000_000_000, "10000000");
-    let mem = number_option(alloc, "mem", 100, 16_777_216, "30000");
     let quiet = Arg::new(alloc, "quiet")
         .long("quiet")
         .action(ArgAction::SetTrue);
     clap::Command::new(alloc, "init")
         .arg(file)?
         .arg(steps)?
-        .arg(mem)?
         .arg(quiet)
 }
 
@@ -202,47 +187,32 @@ mod tests {
     #[test]
     fn reads_commands(rt: HostRuntime) -> Result<(), Fail> {
         let rows = [
-            ("t|init|a", "a.tex", 10_000_000, false, 30000),
-            ("|init|a", "a.tex", 10_000_000, false, 30000),
-            ("t|init|a.b", "a.b", 10_000_000, false, 30000),
-            ("t|init|a.b/c", "a.b/c.tex", 10_000_000, false, 30000),
-            ("t|init|--steps|5|a", "a.tex", 5, false, 30000),
-            ("t|init|a|--steps=5", "a.tex", 5, false, 30000),
-            ("t|init|a|--steps|+5", "a.tex", 5, false, 30000),
-            ("t|init|--steps|007|a|--quiet", "a.tex", 7, true, 30000),
-            ("t|init|--quiet|a|--mem|100", "a.tex", 10_000_000, true, 100),
-            (
-                "t|init|a|--mem=16777216|--steps|0",
-                "a.tex",
-                0,
-                false,
-                16_777_216,
-            ),
+            ("t|init|a", "a.tex", 10_000_000, false),
+            ("|init|a", "a.tex", 10_000_000, false),
+            ("t|init|a.b", "a.b", 10_000_000, false),
+            ("t|init|a.b/c", "a.b/c.tex", 10_000_000, false),
+            ("t|init|--steps|5|a", "a.tex", 5, false),
+            ("t|init|a|--steps=5", "a.tex", 5, false),
+            ("t|init|a|--steps|+5", "a.tex", 5, false),
+            ("t|init|--steps|007|a|--quiet", "a.tex", 7, true),
+            ("t|init|--quiet|a", "a.tex", 10_000_000, true),
+            ("t|init|a|--steps|0", "a.tex", 0, false),
             (
                 "t|init|a|--steps|1000000000000000",
                 "a.tex",
                 1_000_000_000_000_000,
                 false,
-                30000,
             ),
-            ("t|init|-", "-.tex", 10_000_000, false, 30000),
-            ("t|init|--quiet|--|a", "a.tex", 10_000_000, true, 30000),
-            ("t|init|init", "init.tex", 10_000_000, false, 30000),
+            ("t|init|-", "-.tex", 10_000_000, false),
+            ("t|init|--quiet|--|a", "a.tex", 10_000_000, true),
+            ("t|init|init", "init.tex", 10_000_000, false),
         ];
-        for (text, name, most, silent, words) in rows {
-            let Ok(
-                Command::Init {
-                    file,
-                    steps,
-                    quiet,
-                    mem,
-                },
-            ) = read(rt.alloc(), text)?
-            else {
+        for (text, name, most, silent) in rows {
+            let Ok(Command::Init { file, steps, quiet }) = read(rt.alloc(), text)? else {
                 return Err("no command".into());
             };
             assert_eq!(rt; file.as_slice(), name.as_bytes());
-            assert!(rt; steps == most && quiet == silent && mem == words);
+            assert!(rt; steps == most && quiet == silent);
         }
         Ok(())
     }
@@ -269,9 +239,8 @@ mod tests {
             "t|init|a|--steps|5x",
             "t|init|a|--steps=",
             "t|init|a|--steps|+",
-            "t|init|a|--mem|99",
-            "t|init|a|--mem|16777217",
-            "t|init|a|--mem|99999999999999999999",
+            "t|init|a|--steps|99999999999999999999",
+            "t|init|a|--mem|100",
             "t|init|a|--pool|5000",
             "t|init|a|--step|5",
             "t|--help",
