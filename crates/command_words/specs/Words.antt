@@ -1,6 +1,6 @@
 -- The command that the words spell, by the function that `clap` states for this command line.
 use Rattle.std.specs.Prelude.{ℕ, ◌==◌, Bool, true, false, List, [], ◌∷◌, ◌++◌, Some, codes, bytes_eq, unwrap_or, if◌then◌else◌}
-use Rattle.command_words.specs.declared.Command.{Command as Read}
+use Rattle.command_words.specs.declared.Job.{Job}
 use Rattle.std.specs.Option.{option_map_or}
 use Rattle.std.specs.Str.Parse.{digits_value, without_leading_plus}
 use Rattle.clap.specs.Words.{App, Row, Rule, Shape, Text, fault_of, first_of, new_app, new_rule, subcommand_of, with_rule, with_subcommand}
@@ -93,5 +93,5 @@ command_of words = if is_empty (fault_of command_line words) then command_in (in
 
 -- ---- the command as the code has it
 
-abbrev pub spelt : Read → Command
-spelt (Read.Init file steps quiet) = Init file.items (record { steps = steps; quiet = quiet })
+abbrev pub spelt : Job → Command
+spelt job = Init job.file.items (record { steps = job.steps; quiet = job.quiet })

@@ -18,18 +18,15 @@ use clap::{Arg, ArgAction, ArgMatches};
 use std::alloc::{AllocError, Global};
 use thiserror::Error;
 
-/// What the words ask for.
+/// What `init FILE` asks for: the job of a file, from INITEX's first state.
 #[derive(Debug, Drop)]
-pub enum Command {
-    /// `init FILE`: the job of a file, from INITEX's first state.
-    Init {
-        /// The file's name, with `.tex` where no `.` stood behind its area.
-        file: Vec<u8>,
-        /// The greatest number of steps.
-        steps: u64,
-        /// Whether token lines are left out.
-        quiet: bool,
-    },
+pub struct Job {
+    /// The file's name, with `.tex` where no `.` stood behind its area.
+    pub file: Vec<u8>,
+    /// The greatest number of steps.
+    pub steps: u64,
+    /// Whether token lines are left out.
+    pub quiet: bool,
 }
 
 /// Why words were not read.
@@ -56,7 +53,7 @@ impl From<AllocError> for Unread {
 ///
 /// # Errors
 /// `Usage` only where the words are no command, `NoMemory` where memory was wanted.
-pub fn read_words(alloc: Global, words: &[String]) -> Result<Command, Unread>
+pub fn read_words(alloc: Global, words: &[String]) -> Result<Job, Unread>
     ensures command { IfOk result (λ c. spec.command_of (map string_bytes words.now) ≡ spec.spelt c) }
     ensures usage { IfErr result (λ e. e ≡ Unread.Usage → spec.command_of (map string_bytes words.now) ≡ spec.NoCommand) }
 {
@@ -84,7 +81,7 @@ fn parse<'a>(alloc: Global, words: &'a [String]) -> Result<ArgMatches<'a>, Unrea
 }
 
 /// The command `init` with what was matched behind it: each value is there and is in its range.
-fn read_init(alloc: Global, init: &ArgMatches) -> Result<Command, Unread>
+fn read_init(alloc: Global, init: &ArgMatches) -> Result<Job, Unread>
     requires { IsTaken (rows_of (found_of init.now)) }
     ensures command { IfOk result (λ c. spec.command_in (rows_of (found_of init.now)) ≡ spec.spelt c) }
     ensures memory { IfErr result (λ e. e ≡ Unread.NoMemory) }
@@ -93,7 +90,7 @@ fn read_init(alloc: Global, init: &ArgMatches) -> Result<Command, Unread>
     let steps = init.get_one::<u64>("steps").unwrap_or(0);
     let quiet = init.get_flag("quiet");
     let file = file_name(alloc, file.as_bytes())?;
-    Ok(Command::Init { file, steps, quiet })
+    Ok(Job { file, steps, quiet })
 }
 
 /// Whether a `.` stands behind the area of a name.
@@ -174,7 +171,7 @@ mod tests {
     use std::test::Fail;
 
     /// Words in one text, parted by `|`.
-    fn read(alloc: Global, text: &str) -> Result<Result<Command, Unread>, Fail> {
+    fn read(alloc: Global, text: &str) -> Result<Result<Job, Unread>, Fail> {
         let mut words = Vec::new(alloc);
         if text.len() > 0 {
             for word in text.split('|') {
@@ -208,7 +205,7 @@ mod tests {
             ("t|init|init", "init.tex", 10_000_000, false),
         ];
         for (text, name, most, silent) in rows {
-            let Ok(Command::Init { file, steps, quiet }) = read(rt.alloc(), text)? else {
+            let Ok(Job { file, steps, quiet }) = read(rt.alloc(), text)? else {
                 return Err("no command".into());
             };
             assert_eq!(rt; file.as_slice(), name.as_bytes());

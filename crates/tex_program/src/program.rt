@@ -3,38 +3,26 @@ ghost use Rattle.std.specs.Prelude.{◌≡◌, Bool, false, map};
 ghost use Rattle.std.specs.String.{string_bytes};
 ghost use Rattle.tex_defs.specs.Places.{Rose};
 ghost use Rattle.command_words.specs.Words.{command_of, NoCommand, spelt};
-ghost use Rattle.plain_machine.specs.Meaning.{Means, MeansRun};
+ghost use Rattle.plain_machine.specs.Meaning.{Means};
 ghost use Rattle.world_io.specs.Told.{world};
 
 use crate::run::{run_file, run_missing};
 use crate::tell::{Telling, tell};
-use command_words::{Command, Unread, read_words};
+use command_words::{Job, Unread, read_words};
 use std::alloc::Global;
 use world_io::{Fault, Files, Sink, read_file};
 
-/// What a run may do: how many steps, and whether token lines are left out.
-#[derive(Clone, Copy)]
-struct Options {
-    steps: u64,
-    quiet: bool,
-}
-
-/// Runs the job of a file of this name.
-fn run_job<F: Files, S: Sink>(
-    alloc: Global,
-    name: &[u8],
-    options: Options,
-    files: &mut F,
-    out: &mut S,
-) -> u8
-    ensures meaning { (b : Bool) × MeansRun options.quiet name.now ((F.told files.old).file name.now) options.steps (world (F.told files.old) (S.told out.old) false) (world (F.told files.new) (S.told out.new) b) result }
+/// Runs the job of a file.
+fn run_job<F: Files, S: Sink>(alloc: Global, job: &Job, files: &mut F, out: &mut S) -> u8
+    ensures meaning { (b : Bool) × Means (spelt job.now) (F.told files.old).file (world (F.told files.old) (S.told out.old) false) (world (F.told files.new) (S.told out.new) b) result }
     ensures read_fault { result ≡ 5 → Rose (F.told files.old).read_faults (F.told files.new).read_faults }
     ensures write_fault { result ≡ 6 → Rose (S.told out.old).faults (S.told out.new).faults }
     ensures not_usage { result ≡ 9 → ⊥ }
 {
+    let name = job.file.as_slice();
     match read_file(alloc, files, name) {
-        Ok(Some(bytes)) => run_file(alloc, options.quiet, options.steps, bytes, out).status,
-        Ok(None) => run_missing(alloc, options.quiet, options.steps, name, out).status,
+        Ok(Some(bytes)) => run_file(alloc, job.quiet, job.steps, bytes, out).status,
+        Ok(None) => run_missing(alloc, job.quiet, job.steps, name, out).status,
         Err(Fault::Failed) => {
             tell(out, false, Telling::ReadFault);
             5
@@ -42,31 +30,6 @@ fn run_job<F: Files, S: Sink>(
         Err(Fault::NoMemory) => {
             tell(out, false, Telling::NoMemory);
             7
-        }
-    }
-}
-
-/// Does what a command says.
-fn run_command<F: Files, S: Sink>(
-    alloc: Global,
-    command: &Command,
-    files: &mut F,
-    out: &mut S,
-) -> u8
-    ensures meaning { (b : Bool) × Means (spelt command.now) (F.told files.old).file (world (F.told files.old) (S.told out.old) false) (world (F.told files.new) (S.told out.new) b) result }
-    ensures read_fault { result ≡ 5 → Rose (F.told files.old).read_faults (F.told files.new).read_faults }
-    ensures write_fault { result ≡ 6 → Rose (S.told out.old).faults (S.told out.new).faults }
-    ensures not_usage { result ≡ 9 → ⊥ }
-{
-    match command {
-        Command::Init {
-            file, steps, quiet, ..
-        } => {
-            let options = Options {
-                steps: *steps,
-                quiet: *quiet,
-            };
-            run_job(alloc, file.as_slice(), options, files, out)
         }
     }
 }
@@ -93,7 +56,7 @@ pub fn top<F: Files, S: Sink>(alloc: Global, words: &[String], files: &mut F, ou
     ensures write_fault { result ≡ 6 → Rose (S.told out.old).faults (S.told out.new).faults }
 {
     match read_words(alloc, words) {
-        Ok(command) => run_command(alloc, &command, files, out),
+        Ok(job) => run_job(alloc, &job, files, out),
         Err(Unread::Usage) => {
             tell(out, false, Telling::Usage);
             9
