@@ -65,13 +65,19 @@ module _ (s : State) (ms : List Move) (n : ℕ) (w w' : World) (none : s.due ≡
   due_moves t is due = subst (λ (x : State). Moves (record s { due = ms }) ms x) (all_made_due ms s ∙ ap (λ (x : State). record x { due = [] }) is ∙ due_none t due) (moves_due (record s { due = ms }) ms refl)
 
   pub due_fails : (e' : Engine) (f : FatalStop) → Halts s e' w w' ms (AtFatal f) 0 → SaysSo (record s { due = ms }) n w w' 2
-  due_fails e' f h = record { is = IsFatal; says = record { fatal = f; whole = record {
-    ms = ms;
-    t = h.t;
-    trace = record { moves = due_moves h.t h.did.state h.due; within = omega (arith, h.count); whole = inl (stopped_ends h.t (AtFatal f) h.due h.stopped) };
-    stopped = h.stopped;
-    written = h.did.written;
-  } } }
+  due_fails e' f h = record {
+    is = IsFatal;
+    says = record {
+      fatal = f;
+      whole = record {
+        ms = ms;
+        t = h.t;
+        trace = record { moves = due_moves h.t h.did.state h.due; within = omega (arith, h.count); whole = inl (stopped_ends h.t (AtFatal f) h.due h.stopped) };
+        stopped = h.stopped;
+        written = h.did.written;
+      };
+    };
+  }
 
   due_cut_at : (why : Why) → steps ms ≤ n → Cut s w w' ms why → CutAt (record s { due = ms }) n w w' why
   due_cut_at why le cut =

@@ -194,7 +194,6 @@ pub on_ok : {T E : Type 0} {P Q : Type 0} → (r : Result T E) → (P → Q) →
 on_ok (Ok x) f h = f h
 on_ok (Err x) f h = tt
 
-
 -- A RUN THAT IS CUT OFF
 
 part_join : (w w' w'' : World) (ms ns : List Move) → Wrote w w' ms → Part w' w'' ns → Part w w'' (ms ++ ns)
@@ -668,7 +667,6 @@ gone_front categories p i [] h = gone_line p i (lexed categories p.lex p.line) h
 pub file_gone : (e : Engine) (i : Pending) → pulled e.categories e.input ≡ FileOver i → page_of (record e { input = i }) ≡ without_file (page_of e)
 file_gone e i is = let number : i.number ≡ 0 = gone_front e.categories e.input i e.input.front is in
     ap (λ (n : ℕ). record { in_line = e.in_line; line = n; reports = e.reports; quiet = e.quiet }) number
-
 
 -- a token or an invalid character leaves the line's number
 abbrev KeepsNumber : Pending → Pulled → Type 0

@@ -349,12 +349,7 @@ impl Engine {
     }
 
     /// What becomes of a token that was handed on.
-    fn go_on<S: Sink>(
-        &mut self,
-        out: &mut S,
-        seen: Seen,
-        onward: Onward,
-    ) -> Result<Ruled, Broken>
+    fn go_on<S: Sink>(&mut self, out: &mut S, seen: Seen, onward: Onward) -> Result<Ruled, Broken>
         ensures rule { IfOk result (λ ruled. (f : FilesTold) (work : List Reading) → FitsOnward onward self.old work →
             DoesOnward (state_of self.old work) self.new (world_of f (S.told out.old) self.old) (world_of f (S.told out.new) self.new) (onward_moves (page_of self.old) seen onward) ruled) }
         ensures err { IfErr result (λ b. (f : FilesTold) (s : State) → Cuts s (world_of f (S.told out.old) self.old) (world_of f (S.told out.new) self.new) (onward_moves (page_of self.old) seen onward) b) }
@@ -633,8 +628,7 @@ const RIGHT_BRACE: Token = Token::Char { cat: 2, code: 125 };
 const HUNDRED_LINE: &[u8] = b"(That makes 100 errors; please try again.)\n";
 
 /// What comes behind the report that a job's file isn't held.
-const NO_FILE_LINES: &[u8] =
-    b"! Emergency stop.\n*** (job aborted, file error in nonstop mode)\n";
+const NO_FILE_LINES: &[u8] = b"! Emergency stop.\n*** (job aborted, file error in nonstop mode)\n";
 
 /// A rule without a step that goes on.
 fn freely(ruled: Ruled) -> Ruled

@@ -18,8 +18,7 @@ fn name_meaning(name: Name) -> Meaning<()>
 {
     match name {
         Name::Word(number)
-            if number == PAR || number == END || number == MESSAGE || number == CATCODE =>
-        {
+            if number == PAR || number == END || number == MESSAGE || number == CATCODE => {
             Meaning::Prim(number)
         }
         _ => Meaning::Undefined,

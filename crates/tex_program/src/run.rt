@@ -55,7 +55,13 @@ fn status_of(outcome: Outcome, reports: u32) -> u8
 }
 
 /// Runs a job's file, of these bytes, for at most `steps` steps.
-pub fn run_file<S: Sink>(alloc: Global, quiet: bool, steps: u64, bytes: Vec<u8>, out: &mut S) -> Told
+pub fn run_file<S: Sink>(
+    alloc: Global,
+    quiet: bool,
+    steps: u64,
+    bytes: Vec<u8>,
+    out: &mut S,
+) -> Told
     ensures says { (f : FilesTold) (file : List ℕ) → SaysSo (First quiet file (Some bytes.items)) steps (world f (S.told out.old) false) (world f (S.told out.new) result.in_line) result.status }
     ensures fault { result.status ≡ 6 → Rose (S.told out.old).faults (S.told out.new).faults }
     ensures no_read { result.status ≡ 5 → ⊥ }
@@ -76,7 +82,13 @@ pub fn run_file<S: Sink>(alloc: Global, quiet: bool, steps: u64, bytes: Vec<u8>,
 }
 
 /// A job whose file isn't held.
-pub fn run_missing<S: Sink>(alloc: Global, quiet: bool, steps: u64, file: &[u8], out: &mut S) -> Told
+pub fn run_missing<S: Sink>(
+    alloc: Global,
+    quiet: bool,
+    steps: u64,
+    file: &[u8],
+    out: &mut S,
+) -> Told
     ensures says { (f : FilesTold) → SaysSo (First quiet file.now None) steps (world f (S.told out.old) false) (world f (S.told out.new) result.in_line) result.status }
     ensures fault { result.status ≡ 6 → Rose (S.told out.old).faults (S.told out.new).faults }
     ensures no_read { result.status ≡ 5 → ⊥ }

@@ -26,7 +26,7 @@ returns-clause-says g c = λ f.
     let e = c.new-engine.result in let e' = c.refuse_job.new.self in let i = c.in-Err in
     c.tell_broken.ensures.says f (First c.args.quiet c.args.file.now None) c.args.steps (world f (g.S.Sink.told c.args.out.now) false)
     (subst (λ (b : Bool). CutBy (First c.args.quiet c.args.file.now None) c.args.steps (world f (g.S.Sink.told c.args.out.now) false) (world f (g.S.Sink.told c.refuse_job.new.out) b) i.broken) (sym c.is_in_line-in-Err.ensures)
-      (missing_cut e c.args.quiet c.args.file.now c.args.steps f (g.S.Sink.told c.args.out.now) _ c.refuse_job.new.self.in_line i.broken (c.new-engine.ensures.state c.args.file.now) c.new-engine.ensures.column (i.ensures.err f (state_of e []))))
+    (missing_cut e c.args.quiet c.args.file.now c.args.steps f (g.S.Sink.told c.args.out.now) _ c.refuse_job.new.self.in_line i.broken (c.new-engine.ensures.state c.args.file.now) c.new-engine.ensures.column (i.ensures.err f (state_of e []))))
 
 pub returns-clause-fault : goal.returns-clause-fault
 returns-clause-fault g c = fault_rose (First c.args.quiet c.args.file.now None) c.args.steps _ _ false c.tell_broken.result.in_line c.tell_broken.result.status (returns-clause-says g c)

@@ -14,12 +14,12 @@ use Rattle.tex_program.proofs.engine.Engine.next_token.Goals as goal
 pub returns-in-Handed-clause-rule : goal.returns-in-Handed-clause-rule
 returns-in-Handed-clause-rule g c = let e = c.args.self.now in let e1 = c.hand_on.new.self in let t = c.in-Handed.token in let p = handed_at _ _ t _ _ c.in-Handed.is c.in_ok-token.ensures.ok in
     ok_to c.hand_on.result (λ ruled h f work takes. onward_rule e c.pull.new.self (page_of e) (onward_of (page_of e) c.args.want) (check_of e work) t p work _ _ e1 ruled
-      (onward_by _ e1 _ _ _ _ ruled (ap (λ (x : Page). onward_of x c.args.want (seen t)) (sym (token_page e c.pull.new.self t p))) (h f work (takes_still c.args.want e c.pull.new.self work takes)))) c.hand_on.ensures.rule
+    (onward_by _ e1 _ _ _ _ ruled (ap (λ (x : Page). onward_of x c.args.want (seen t)) (sym (token_page e c.pull.new.self t p))) (h f work (takes_still c.args.want e c.pull.new.self work takes)))) c.hand_on.ensures.rule
 
 pub returns-in-Handed-clause-err : goal.returns-in-Handed-clause-err
 returns-in-Handed-clause-err g c = let e = c.args.self.now in let t = c.in-Handed.token in let p = handed_at _ _ t _ _ c.in-Handed.is c.in_ok-token.ensures.ok in
     err_to c.hand_on.result (λ b h f work takes. onward_cuts e c.pull.new.self (page_of e) (onward_of (page_of e) c.args.want) (check_of e work) t p (state_of e work) _ _ b
-      (cuts_by (state_of e work) _ _ _ _ b (ap (λ (x : Page). onward_of x c.args.want (seen t)) (sym (token_page e c.pull.new.self t p))) (h f (state_of e work)))) c.hand_on.ensures.err
+    (cuts_by (state_of e work) _ _ _ _ b (ap (λ (x : Page). onward_of x c.args.want (seen t)) (sym (token_page e c.pull.new.self t p))) (h f (state_of e work)))) c.hand_on.ensures.err
 
 pub returns-in-Handed-clause-step : goal.returns-in-Handed-clause-step
 returns-in-Handed-clause-step g c = let e = c.args.self.now in let p = handed_at _ _ c.in-Handed.token _ _ c.in-Handed.is c.in_ok-token.ensures.ok in
@@ -39,12 +39,12 @@ pub returns-in_err-ruled-in-Invalid-clause-err : goal.returns-in_err-ruled-in-In
 returns-in_err-ruled-in-Invalid-clause-err g c = let e = c.args.self.now in let i = c.in_err-ruled-in-Invalid in let p = invalid_at _ _ _ _ c.in-Invalid.is c.in_ok-token.ensures.ok in
     same_err c.from_residual-in_err-ruled-in-Invalid.result i.field-0.0 _ c.from_residual-in_err-ruled-in-Invalid.ensures.1
     (λ f work takes. skipped_cuts e c.pull.new.self (page_of e) (onward_of (page_of e) c.args.want) (check_of e work) p (state_of e work) _ _ i.field-0.0
-      (cuts_by (state_of e work) _ _ _ _ i.field-0.0 (ap (λ (x : Page). reported x InvalidCharacter []) (sym (invalid_page e c.pull.new.self p))) (i.ensures.err f (state_of e work))))
+    (cuts_by (state_of e work) _ _ _ _ i.field-0.0 (ap (λ (x : Page). reported x InvalidCharacter []) (sym (invalid_page e c.pull.new.self p))) (i.ensures.err f (state_of e work))))
 
 pub returns-in_ok-ruled-in-Invalid-clause-rule : goal.returns-in_ok-ruled-in-Invalid-clause-rule
 returns-in_ok-ruled-in-Invalid-clause-rule g c = let e = c.args.self.now in let i = c.in_ok-ruled-in-Invalid in let e1 = c.report_only.new.self in let p = invalid_at _ _ _ _ c.in-Invalid.is c.in_ok-token.ensures.ok in
     λ f work takes. rule_as _ e1 _ _ _ (freed i.ruled) _ c.freely.ensures (skipped_rule e c.pull.new.self (page_of e) (onward_of (page_of e) c.args.want) (check_of e work) p work _ _ e1 i.ruled
-      (onward_by _ e1 _ _ _ _ i.ruled (ap (λ (x : Page). reported x InvalidCharacter []) (sym (invalid_page e c.pull.new.self p))) (i.ensures.rule f work (takes_stands c.args.want _ work (takes_still c.args.want e c.pull.new.self work takes)))))
+    (onward_by _ e1 _ _ _ _ i.ruled (ap (λ (x : Page). reported x InvalidCharacter []) (sym (invalid_page e c.pull.new.self p))) (i.ensures.rule f work (takes_stands c.args.want _ work (takes_still c.args.want e c.pull.new.self work takes)))))
 
 pub returns-in_ok-ruled-in-Invalid-clause-step : goal.returns-in_ok-ruled-in-Invalid-clause-step
 returns-in_ok-ruled-in-Invalid-clause-step g c = let i = c.in_ok-ruled-in-Invalid in
@@ -59,12 +59,12 @@ pub returns-in_err-ruled-in-FileOver-clause-err : goal.returns-in_err-ruled-in-F
 returns-in_err-ruled-in-FileOver-clause-err g c = let e = c.args.self.now in let i = c.in_err-ruled-in-FileOver in let p = over_at _ _ _ _ c.in-FileOver.is c.in_ok-token.ensures.ok in
     same_err c.from_residual-in_err-ruled-in-FileOver.result i.field-0.0 _ c.from_residual-in_err-ruled-in-FileOver.ensures.1
     (λ f work takes. closed_cuts e c.pull.new.self (page_of e) (onward_of (page_of e) c.args.want) (check_of e work) p (state_of e work) _ _ i.field-0.0
-      (cuts_by (state_of e work) _ _ _ _ i.field-0.0 (ap (λ (x : Page). checked e.categories x work) (sym (file_gone e c.pull.new.self p))) (i.ensures.err f work (state_of e work) (c.args.want, takes_still c.args.want e c.pull.new.self work takes))))
+    (cuts_by (state_of e work) _ _ _ _ i.field-0.0 (ap (λ (x : Page). checked e.categories x work) (sym (file_gone e c.pull.new.self p))) (i.ensures.err f work (state_of e work) (c.args.want, takes_still c.args.want e c.pull.new.self work takes))))
 
 pub returns-in_ok-ruled-in-FileOver-clause-rule : goal.returns-in_ok-ruled-in-FileOver-clause-rule
 returns-in_ok-ruled-in-FileOver-clause-rule g c = let e = c.args.self.now in let i = c.in_ok-ruled-in-FileOver in let e1 = c.check.new.self in let p = over_at _ _ _ _ c.in-FileOver.is c.in_ok-token.ensures.ok in
     λ f work takes. rule_as _ e1 _ _ _ (freed i.ruled) _ c.freely-in-FileOver.ensures (closed_rule e c.pull.new.self (page_of e) (onward_of (page_of e) c.args.want) (check_of e work) p work _ _ e1 i.ruled
-      (onward_by _ e1 _ _ _ _ i.ruled (ap (λ (x : Page). checked e.categories x work) (sym (file_gone e c.pull.new.self p))) (i.ensures.rule f work (c.args.want, takes_still c.args.want e c.pull.new.self work takes))))
+    (onward_by _ e1 _ _ _ _ i.ruled (ap (λ (x : Page). checked e.categories x work) (sym (file_gone e c.pull.new.self p))) (i.ensures.rule f work (c.args.want, takes_still c.args.want e c.pull.new.self work takes))))
 
 pub returns-in_ok-ruled-in-FileOver-clause-step : goal.returns-in_ok-ruled-in-FileOver-clause-step
 returns-in_ok-ruled-in-FileOver-clause-step g c = let i = c.in_ok-ruled-in-FileOver in

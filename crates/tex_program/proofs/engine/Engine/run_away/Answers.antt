@@ -27,12 +27,12 @@ returns-in_err-insert-clause-light g c = c.insert.ensures.light ∙ ap pending_w
 pub returns-clause-rule : goal.returns-clause-rule
 returns-clause-rule g c = let e = c.args.self.now in
     ok_to c.report_only.result (λ ruled h f work st. away_rule e c.write_text.new.self c.insert.new.self c.report_only.new.self f _ _ _ work c.args.text.now (report_of c.args.report) ruled
-      c.write_text.ensures.only c.insert.ensures.frames c.insert.ensures.page st (c.in_ok-write_text.ensures.did f work) (λ w. c.in_ok-insert.ensures.did w work) (h f work)) c.report_only.ensures.rule
+    c.write_text.ensures.only c.insert.ensures.frames c.insert.ensures.page st (c.in_ok-write_text.ensures.did f work) (λ w. c.in_ok-insert.ensures.did w work) (h f work)) c.report_only.ensures.rule
 
 pub returns-clause-err : goal.returns-clause-err
 returns-clause-err g c = let e = c.args.self.now in
     err_to c.report_only.result (λ b h f s. away_cuts e c.write_text.new.self c.insert.new.self c.report_only.new.self f _ _ _ s c.args.text.now (report_of c.args.report) b
-      c.write_text.ensures.only c.insert.ensures.page (c.in_ok-write_text.ensures.did f []).written (h f s)) c.report_only.ensures.err
+    c.write_text.ensures.only c.insert.ensures.page (c.in_ok-write_text.ensures.did f []).written (h f s)) c.report_only.ensures.err
 
 pub returns-clause-light : goal.returns-clause-light
 returns-clause-light g c = ap pending_weight c.report_only.ensures.input ∙ c.insert.ensures.light ∙ ap pending_weight c.write_text.ensures.only.input

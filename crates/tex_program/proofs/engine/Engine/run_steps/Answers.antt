@@ -39,8 +39,8 @@ returns-in_err-outcome-2-clause-err g c =
     let room : l.taken + 1 ≤ c.args.n = omega (arith, l.invariant.0, c.if-taken-n.false) in
     same_err c.from_residual-in_err-outcome-2.result i.field-0.0 _ c.from_residual-in_err-outcome-2.ensures.1
     (λ f work stands. came_cut (state_of c.args.self.now work) e _ _ _ (l.taken + 0) c.args.n i.field-0.0
-      (came_join (state_of c.args.self.now work) l.self e _ _ _ l.taken 0 (l.invariant.1 f work stands) (λ w h. as_none (state_of l.self w) e _ _ _ none (c.in_ok-outcome.ensures.run f w h)))
-      (i.ensures.err f) (λ w h. one_fits e w (l.taken + 0) c.args.n (omega (arith, room)) (plan_one e (c.in_ok-outcome.ensures.waits none) w h)))
+    (came_join (state_of c.args.self.now work) l.self e _ _ _ l.taken 0 (l.invariant.1 f work stands) (λ w h. as_none (state_of l.self w) e _ _ _ none (c.in_ok-outcome.ensures.run f w h)))
+    (i.ensures.err f) (λ w h. one_fits e w (l.taken + 0) c.args.n (omega (arith, room)) (plan_one e (c.in_ok-outcome.ensures.waits none) w h)))
 
 pub returns-in-Halted-clause-run : goal.returns-in-Halted-clause-run
 returns-in-Halted-clause-run g c = λ f work stands.
@@ -49,8 +49,8 @@ returns-in-Halted-clause-run g c = λ f work stands.
     let room : l.taken + 1 ≤ c.args.n = omega (arith, l.invariant.0, c.if-taken-n.false) in
     stops_whole (state_of c.args.self.now work) c.rule.new.self _ _ (l.taken + 0 + 1) c.args.n o (omega (arith, room))
     (came_halts (state_of c.args.self.now work) e c.rule.new.self _ _ _ (l.taken + 0) 1 o
-      (came_join (state_of c.args.self.now work) l.self e _ _ _ l.taken 0 (l.invariant.1 f work stands) (λ w h. as_none (state_of l.self w) e _ _ _ none (c.in_ok-outcome.ensures.run f w h)))
-      (λ w h. as_halted _ c.rule.new.self _ _ _ _ o c.in-Halted.is (c.in_ok-outcome-2.ensures.rule f w h)) (λ w h. plan_one e (c.in_ok-outcome.ensures.waits none) w h))
+    (came_join (state_of c.args.self.now work) l.self e _ _ _ l.taken 0 (l.invariant.1 f work stands) (λ w h. as_none (state_of l.self w) e _ _ _ none (c.in_ok-outcome.ensures.run f w h)))
+    (λ w h. as_halted _ c.rule.new.self _ _ _ _ o c.in-Halted.is (c.in_ok-outcome-2.ensures.rule f w h)) (λ w h. plan_one e (c.in_ok-outcome.ensures.waits none) w h))
 
 pub loop-outcome-preserved : goal.loop-outcome-preserved
 loop-outcome-preserved g c =

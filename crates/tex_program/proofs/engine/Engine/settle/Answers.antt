@@ -24,9 +24,9 @@ returns-in-Halted-clause-run g c = λ f work stands.
     let e = c.loop-self.self in let o = c.in-Halted.outcome in
     let silent : stepping e ≡ false = sym c.needs_step.ensures ∙ grind (arith, common_steps, c.loop-self-test.true) in
     same_stops _ _ _ _ _ _ o refl (came_halts (state_of c.args.self.now work) e c.rule.new.self _ _ _ 0 0 o (c.loop-self.invariant f work stands)
-      (λ w h. as_halted _ c.rule.new.self _ _ _ _ o c.in-Halted.is (c.in_ok-outcome.ensures.rule f w h)) (λ w h. plan_silent e silent w h))
+    (λ w h. as_halted _ c.rule.new.self _ _ _ _ o c.in-Halted.is (c.in_ok-outcome.ensures.rule f w h)) (λ w h. plan_silent e silent w h))
 
 pub loop-self-preserved : goal.loop-self-preserved
 loop-self-preserved g c = λ f work stands.
     same_count _ _ _ _ _ (came_on (state_of c.args.self.now work) c.loop-self.self c.rule.new.self _ _ _ 0 0 (c.loop-self.invariant f work stands)
-      (λ w h. as_free _ _ _ _ _ _ c.in-Free.is (c.in_ok-outcome.ensures.rule f w h)))
+    (λ w h. as_free _ _ _ _ _ _ c.in-Free.is (c.in_ok-outcome.ensures.rule f w h)))

@@ -11,7 +11,7 @@ pub returns-in_err-report-clause-err : goal.returns-in_err-report-clause-err
 returns-in_err-report-clause-err g c = let i = c.in_err-report in let e = c.args.self.now in
     same_err c.from_residual-in_err-report.result i.field-0.0 _ c.from_residual-in_err-report.ensures.1
     (λ f r s last once. told_cuts e c.put_back.new.self c.report.new.self f _ _ r (report_of c.args.report) (is_some c.args.back) once c.put_back.ensures.page s i.field-0.0
-      (c.in_ok-put_back.ensures.did (world_of f (g.S.Sink.told c.args.out.now) e) [] r.fed last).written (i.ensures.err f s (Noted ∷ [])))
+    (c.in_ok-put_back.ensures.did (world_of f (g.S.Sink.told c.args.out.now) e) [] r.fed last).written (i.ensures.err f s (Noted ∷ [])))
 
 pub returns-then-branch-clause-rule : goal.returns-then-branch-clause-rule
 returns-then-branch-clause-rule g c = λ f r rs waits last once. let e = c.args.self.now in

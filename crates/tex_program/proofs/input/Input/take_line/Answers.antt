@@ -22,8 +22,8 @@ invariant_of-self c =
     let within : c.in_ok-line.used ≤ length (drop i.next i.bytes.items) = rw (← left) ens.within in
     let takes : 0 < length (drop i.next i.bytes.items) → 0 < c.in_ok-line.used = rw (← left) ens.some in
     let some : progress_of i.progress ≡ plain.Begun → 0 < length (drop i.next i.bytes.items) = λ e.
-      let f : c.args.self.now.file ≡ plain.Begun = sym (ap (λ (p : Pending). p.file) c.self.view_is) ∙ e in
-      rw (ap (λ (p : Pending). p.rest) c.self.view_is) (c.requires.some f) in
+    let f : c.args.self.now.file ≡ plain.Begun = sym (ap (λ (p : Pending). p.file) c.self.view_is) ∙ e in
+    rw (ap (λ (p : Pending). p.rest) c.self.view_is) (c.requires.some f) in
     record {
       at = omega arith;
       next = omega (arith, c.self.invariant.next, within, rest);
