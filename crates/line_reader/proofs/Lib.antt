@@ -1,0 +1,4 @@
+pub mod LineEnds
+pub mod AheadOf
+pub mod Cutting
+pub mod Views

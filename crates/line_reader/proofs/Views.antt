@@ -1,0 +1,278 @@
+-- What each call makes of the lines, where they lie in memory as `Cuts` says.
+use Rattle.std.proofs.Common.{◌≡◌, ◌≢◌, ℕ, zero, suc, ◌+◌, ◌-◌, ◌<◌, ◌≤◌, ◌^◌, Bool, false, true, List, [], ◌∷◌, ◌++◌, length, take, drop, reverse, get_or, refl, ap, sym, ◌∙◌, subst, zero-add, arith, inl, inr}
+use Rattle.std.specs.Prelude.{Option, Some, None, is_some, nat_lt, if◌then◌else◌, nat_eq}
+use Rattle.std.proofs.lemmas.List.{take-append-le, drop-append-le, length-drop, take-append-drop, take-take, drop-take, take_all, drop_all, reverse-append, length-reverse, length_push, length-append, length-take-le}
+use Rattle.std.proofs.lemmas.Bool.{cases_order}
+use Rattle.std.proofs.lemmas.Grind.{common_steps}
+use Rattle.tex_defs.specs.declared.Full.{Full}
+use Rattle.tex_defs.specs.declared.Table.TheVariants.{BufferSize}
+use Rattle.plain_state.specs.Lines.{has_feed}
+use Rattle.line_reader.specs.Ahead.{Ahead}
+use Rattle.line_reader.specs.OpenLines.{OpenLines, used, no_lines, line_opened, line_dropped, refusal, buffer_full, byte_spelt, name_dropped, part_dropped, tail_without, part_without, reader_forgotten,  spelt_name, name_in, part_in, HoldsNoPart}
+use Rattle.line_reader.specs.Cuts.{cut, AreCut, lines_of, HasNoFeed, IsSound}
+use Rattle.line_reader.proofs.AheadOf.{is_same, is_other}
+use Rattle.line_reader.proofs.Cutting.{cut-same, used_is, used-cut}
+
+short : (n : ℕ) (bytes : List ℕ) → length (take n bytes) ≤ n
+short n bytes = grind (arith, common_steps)
+
+nothing_behind : (n : ℕ) (bytes : List ℕ) → drop n (take n bytes) ≡ []
+nothing_behind n bytes = drop_all n (take n bytes) (short n bytes)
+
+-- cutting what stands behind the lines off leaves the lines
+pub cut-take : (bytes : List ℕ) (last : ℕ) (starts : List ℕ) → AreCut last starts → cut (take last bytes) last starts ≡ cut bytes last starts
+cut-take bytes last starts are = cut-same (take last bytes) bytes last starts are (take-take last last bytes (omega arith))
+
+cut-take-more : (bytes : List ℕ) (n last : ℕ) (starts : List ℕ) → last ≤ n → AreCut last starts → cut (take n bytes) last starts ≡ cut bytes last starts
+cut-take-more bytes n last starts le are = cut-same (take n bytes) bytes last starts are (take-take last n bytes le)
+
+pub cut-append : (bytes more : List ℕ) (last : ℕ) (starts : List ℕ) → last ≤ length bytes → AreCut last starts → cut (bytes ++ more) last starts ≡ cut bytes last starts
+cut-append bytes more last starts le are = cut-same (bytes ++ more) bytes last starts are (take-append-le last bytes more le)
+
+reverse_push : (starts : List ℕ) (s : ℕ) → reverse (starts ++ s ∷ []) ≡ s ∷ reverse starts
+reverse_push starts s = reverse-append starts (s ∷ [])
+
+new_line : (bytes : List ℕ) (behind count : ℕ) → take (behind + count - behind) (drop behind (take (behind + count) bytes)) ≡ take count (drop behind bytes)
+new_line bytes behind count =
+    let n : behind + count - behind ≡ count = omega arith in
+    ap (λ (k : ℕ). take k (drop behind (take (behind + count) bytes))) n ∙ ap (take count) (drop-take behind count bytes) ∙ take-take count count (drop behind bytes) (omega arith)
+
+opened_cut : (bytes starts : List ℕ) (behind count : ℕ) → AreCut behind (reverse starts) →
+    cut (take (behind + count) bytes) (behind + count) (reverse (starts ++ behind ∷ [])) ≡ take count (drop behind bytes) ∷ cut bytes behind (reverse starts)
+unfolding cut
+opened_cut bytes starts behind count are =
+    let e : cut (take (behind + count) bytes) (behind + count) (reverse (starts ++ behind ∷ [])) ≡ take (behind + count - behind) (drop behind (take (behind + count) bytes)) ∷ cut (take (behind + count) bytes) behind (reverse starts)
+        = ap (cut (take (behind + count) bytes) (behind + count)) (reverse_push starts behind) in
+    e ∙ ap (λ (line : List ℕ). line ∷ cut (take (behind + count) bytes) behind (reverse starts)) (new_line bytes behind count)
+    ∙ ap (λ (lines : List (List ℕ)). take count (drop behind bytes) ∷ lines) (cut-take-more bytes (behind + count) behind (reverse starts) (omega arith) are)
+
+opened_are : (starts : List ℕ) (behind count : ℕ) → AreCut behind (reverse starts) → AreCut (behind + count) (reverse (starts ++ behind ∷ []))
+unfolding AreCut
+opened_are starts behind count are = subst (AreCut (behind + count)) (sym (reverse_push starts behind)) (omega arith, are)
+
+dropped_are : (starts : List ℕ) (behind start : ℕ) → AreCut behind (reverse (starts ++ start ∷ [])) → (start ≤ behind) × AreCut start (reverse starts)
+unfolding AreCut
+dropped_are starts behind start are = subst (AreCut behind) (reverse_push starts start) are
+
+dropped_cut : (bytes starts : List ℕ) (behind start : ℕ) → cut bytes behind (reverse (starts ++ start ∷ [])) ≡ take (behind - start) (drop start bytes) ∷ cut bytes start (reverse starts)
+unfolding cut
+dropped_cut bytes starts behind start = ap (cut bytes behind) (reverse_push starts start)
+
+pub sound_empty : (size levels byte_room start_room window_room : ℕ) → size < 2 ^ 32 → size ≤ byte_room → size ≤ start_room → levels + 16 ≤ window_room →
+    IsSound [] [] 0 None [] size levels byte_room start_room window_room
+unfolding AreCut
+sound_empty size levels byte_room start_room window_room small b s w = record {
+  are_cut = refl; within = omega arith; fits = omega arith; no_feed = tt; readers_fit = omega arith; small = small; bytes_reserved = b; starts_reserved = s; windows_reserved = w;
+}
+
+pub empty_is : (size levels : ℕ) → lines_of [] [] 0 None [] size levels ≡ no_lines size levels
+unfolding cut
+empty_is size levels = refl
+
+pub no_feed_empty : (p : Option ℕ) → HasNoFeed p []
+no_feed_empty None = tt
+no_feed_empty (Some reader) = refl
+
+pub empty_of : (xs : List ℕ) → length xs ≡ 0 → xs ≡ []
+empty_of [] e = refl
+empty_of (x ∷ xs) e = absurd (omega arith)
+
+over : (b : OpenLines) (need : ℕ) → b.buffer_size < used b + need → refusal b need ≡ Some (buffer_full b)
+over b need lt =
+    let t : nat_lt b.buffer_size (used b + need) ≡ true = grind (arith, common_steps) in
+    ap (λ (x : Bool). if x then Some (buffer_full b) else None) t
+
+-- where nothing refuses there is room
+pub room : (b : OpenLines) (need : ℕ) → ((full : Full) → refusal b need ≡ Some full → ⊥) → used b + need ≤ b.buffer_size
+room b need none = elim (cases_order b.buffer_size (used b + need)) [
+  | inl e ↦ omega arith
+  | inr (inl lt) ↦ absurd (none (buffer_full b) (over b need lt))
+  | inr (inr gt) ↦ omega arith
+]
+
+pub full_is : (b : OpenLines) (u n : ℕ) → u ≡ used b → b.buffer_size ≡ n → (record { table = BufferSize; used = u; size = n }) ≡ buffer_full b
+full_is b u n e f = ap (λ (k : ℕ). record { table = BufferSize; used = k; size = n }) e ∙ ap (λ (k : ℕ). record { table = BufferSize; used = used b; size = k }) (sym f)
+
+pub none_of : (o : Option ℕ) → is_some o ≡ false → o ≡ None
+none_of None e = refl
+none_of (Some x) e = absurd (cc)
+
+same_parts : (b : OpenLines) (t : List ℕ) (q : Option ℕ) → t ≡ b.tail → q ≡ b.part_of → (record b { tail = t; part_of = q }) ≡ b
+same_parts b t q e f = ap (λ (xs : List ℕ). record b { tail = xs; part_of = q }) e ∙ ap (λ (p : Option ℕ). record b { part_of = p }) f
+
+module _ (b : OpenLines) (bytes starts : List ℕ) (behind : ℕ) (part_of : Option ℕ) (ahead : List Ahead) (size levels byte_room start_room window_room : ℕ)
+    (view : lines_of bytes starts behind part_of ahead size levels ≡ b) (s : IsSound bytes starts behind part_of ahead size levels byte_room start_room window_room) where
+
+  pub used_view : used b ≡ behind + length starts
+  used_view = ap used (sym view) ∙ used_is bytes starts behind part_of ahead size levels byte_room start_room window_room s
+
+  pub size_view : b.buffer_size ≡ size
+  size_view = ap (λ (x : OpenLines). x.buffer_size) (sym view)
+
+  pub tail_view : b.tail ≡ drop behind bytes
+  tail_view = ap (λ (x : OpenLines). x.tail) (sym view)
+
+  pub length_tail : length b.tail + behind ≡ length bytes
+  length_tail = ap (λ (xs : List ℕ). length xs + behind) tail_view ∙ omega (arith, length-drop behind bytes, s.within)
+
+  pub refused : (need : ℕ) → size < behind + length starts + need → Some (buffer_full b) ≡ refusal b need
+  refused need lt =
+      let t : nat_lt b.buffer_size (used b + need) ≡ true = grind (arith, common_steps, used_view, size_view) in
+      ap (λ (x : Bool). if x then Some (buffer_full b) else None) (sym t)
+
+  pub taken : (need : ℕ) → behind + length starts + need ≤ size → None ≡ refusal b need
+  taken need le =
+      let f : nat_lt b.buffer_size (used b + need) ≡ false = grind (arith, common_steps, used_view, size_view) in
+      ap (λ (x : Bool). if x then Some (buffer_full b) else None) (sym f)
+
+  pub opened_is : (count : ℕ) → lines_of (take (behind + count) bytes) (starts ++ behind ∷ []) (behind + count) None ahead size levels ≡ line_opened (take count b.tail) b
+  opened_is count =
+      let P : OpenLines → Type 0 = λ x. lines_of (take (behind + count) bytes) (starts ++ behind ∷ []) (behind + count) None ahead size levels ≡ line_opened (take count x.tail) x in
+      subst P view (rw (opened_cut bytes starts behind count s.are_cut, nothing_behind (behind + count) bytes) refl)
+
+  pub opened_sound : (count : ℕ) (start_room' : ℕ) → count ≤ length b.tail → used b + (count + 1) ≤ b.buffer_size → start_room ≤ start_room' →
+      IsSound (take (behind + count) bytes) (starts ++ behind ∷ []) (behind + count) None ahead size levels byte_room start_room' window_room
+  opened_sound count start_room' within room more =
+      let n : length (take (behind + count) bytes) ≡ behind + count = grind (arith, common_steps, length_tail) in
+      record {
+        are_cut = opened_are starts behind count s.are_cut;
+        within = omega (arith, n);
+        fits = omega (arith, n, length_push starts behind, room, used_view, size_view);
+        no_feed = tt;
+        readers_fit = s.readers_fit;
+        small = s.small;
+        bytes_reserved = s.bytes_reserved;
+        starts_reserved = omega (arith, s.starts_reserved, more);
+        windows_reserved = s.windows_reserved;
+      }
+
+  pub dropped_is : (front : List ℕ) (start : ℕ) → starts ≡ front ++ start ∷ [] → b.tail ≡ [] → lines_of (take start bytes) front start part_of ahead size levels ≡ line_dropped b
+  dropped_is front start e none =
+      let are : (start ≤ behind) × AreCut start (reverse front) = dropped_are front behind start (subst (λ (xs : List ℕ). AreCut behind (reverse xs)) e s.are_cut) in
+      let lines : cut bytes behind (reverse starts) ≡ take (behind - start) (drop start bytes) ∷ cut bytes start (reverse front) = ap (λ (xs : List ℕ). cut bytes behind (reverse xs)) e ∙ dropped_cut bytes front behind start in
+      let P : OpenLines → Type 0 = λ x. x.tail ≡ [] → lines_of (take start bytes) front start part_of ahead size levels ≡ line_dropped x in
+      subst P view (λ n. rw (lines, n, cut-take bytes start (reverse front) are.1, nothing_behind start bytes) refl) none
+
+  pub dropped_sound : (front : List ℕ) (start : ℕ) → starts ≡ front ++ start ∷ [] → IsSound (take start bytes) front start part_of ahead size levels byte_room start_room window_room
+  dropped_sound front start e =
+      let are : (start ≤ behind) × AreCut start (reverse front) = dropped_are front behind start (subst (λ (xs : List ℕ). AreCut behind (reverse xs)) e s.are_cut) in
+      let n : length (take start bytes) ≡ start = length-take-le start bytes (omega (arith, are.0, s.within)) in
+      let m : length starts ≡ length front + 1 = ap length e ∙ length_push front start in
+      record {
+        are_cut = are.1;
+        within = omega (arith, n);
+        fits = omega (arith, n, m, are.0, s.fits, s.within);
+        no_feed = subst (HasNoFeed part_of) (sym (nothing_behind start bytes)) (no_feed_empty part_of);
+        readers_fit = s.readers_fit;
+        small = s.small;
+        bytes_reserved = s.bytes_reserved;
+        starts_reserved = s.starts_reserved;
+        windows_reserved = s.windows_reserved;
+      }
+
+  -- what stands behind the lines goes
+  pub cleared_is : (p : Option ℕ) (ahead' : List Ahead) → lines_of (take behind bytes) starts behind p ahead' size levels ≡ record b { tail = []; part_of = p; ahead = ahead' }
+  cleared_is p ahead' =
+      let P : OpenLines → Type 0 = λ x. lines_of (take behind bytes) starts behind p ahead' size levels ≡ record x { tail = []; part_of = p; ahead = ahead' } in
+      subst P view (rw (cut-take bytes behind (reverse starts) s.are_cut, nothing_behind behind bytes) refl)
+
+  pub cleared_sound : (p : Option ℕ) (ahead' : List Ahead) → length ahead' ≤ length ahead → IsSound (take behind bytes) starts behind p ahead' size levels byte_room start_room window_room
+  cleared_sound p ahead' fewer =
+      let n : length (take behind bytes) ≡ behind = length-take-le behind bytes s.within in
+      record {
+        are_cut = s.are_cut;
+        within = omega (arith, n);
+        fits = omega (arith, n, s.fits, s.within);
+        no_feed = subst (HasNoFeed p) (sym (nothing_behind behind bytes)) (no_feed_empty p);
+        readers_fit = omega (arith, fewer, s.readers_fit);
+        small = s.small;
+        bytes_reserved = s.bytes_reserved;
+        starts_reserved = s.starts_reserved;
+        windows_reserved = s.windows_reserved;
+      }
+
+  -- bytes come behind
+  pub grown_is : (more : List ℕ) (p : Option ℕ) (ahead' : List Ahead) → lines_of (bytes ++ more) starts behind p ahead' size levels ≡ record b { tail = b.tail ++ more; part_of = p; ahead = ahead' }
+  grown_is more p ahead' =
+      let P : OpenLines → Type 0 = λ x. lines_of (bytes ++ more) starts behind p ahead' size levels ≡ record x { tail = x.tail ++ more; part_of = p; ahead = ahead' } in
+      subst P view (rw (cut-append bytes more behind (reverse starts) s.within s.are_cut, drop-append-le behind bytes more s.within) refl)
+
+  pub grown_sound : (more : List ℕ) (p : Option ℕ) (ahead' : List Ahead) (byte_room' window_room' : ℕ) → used b + (length b.tail + length more) ≤ b.buffer_size → HasNoFeed p (b.tail ++ more) → length ahead' ≤ levels + 16 →
+      byte_room ≤ byte_room' → window_room ≤ window_room' → IsSound (bytes ++ more) starts behind p ahead' size levels byte_room' start_room window_room'
+  grown_sound more p ahead' byte_room' window_room' room none fit br wr =
+      let n : length (bytes ++ more) ≡ length bytes + length more = length-append bytes more in
+      record {
+        are_cut = s.are_cut;
+        within = omega (arith, n, s.within);
+        fits = omega (arith, n, length_tail, used_view, size_view, room);
+        no_feed = subst (HasNoFeed p) (ap (λ (xs : List ℕ). xs ++ more) tail_view ∙ sym (drop-append-le behind bytes more s.within)) none;
+        readers_fit = fit;
+        small = s.small;
+        bytes_reserved = omega (arith, s.bytes_reserved, br);
+        starts_reserved = s.starts_reserved;
+        windows_reserved = omega (arith, s.windows_reserved, wr);
+      }
+
+  -- what is read ahead changes
+  pub ahead_is : (p : Option ℕ) (ahead' : List Ahead) → lines_of bytes starts behind p ahead' size levels ≡ record b { part_of = p; ahead = ahead' }
+  ahead_is p ahead' = ap (λ (x : OpenLines). record x { part_of = p; ahead = ahead' }) view
+
+  pub ahead_sound : (p : Option ℕ) (ahead' : List Ahead) (window_room' : ℕ) → HasNoFeed p b.tail → length ahead' ≤ levels + 16 → window_room ≤ window_room' → IsSound bytes starts behind p ahead' size levels byte_room start_room window_room'
+  ahead_sound p ahead' window_room' none fit wr = record {
+    are_cut = s.are_cut;
+    within = s.within;
+    fits = s.fits;
+    no_feed = subst (HasNoFeed p) tail_view none;
+    readers_fit = fit;
+    small = s.small;
+    bytes_reserved = s.bytes_reserved;
+    starts_reserved = s.starts_reserved;
+    windows_reserved = omega (arith, s.windows_reserved, wr);
+  }
+
+  pub no_starts : starts ≡ [] → b.lines ≡ []
+  unfolding cut
+  no_starts e = ap (λ (x : OpenLines). x.lines) (sym view) ∙ ap (λ (xs : List ℕ). cut bytes behind (reverse xs)) e
+
+  pub byte_is : (byte : ℕ) → lines_of (bytes ++ byte ∷ []) starts behind None ahead size levels ≡ byte_spelt byte b
+  byte_is byte =
+      let P : OpenLines → Type 0 = λ x. lines_of (bytes ++ byte ∷ []) starts behind None ahead size levels ≡ byte_spelt byte x in
+      subst P view (rw (cut-append bytes (byte ∷ []) behind (reverse starts) s.within s.are_cut, drop-append-le behind bytes (byte ∷ []) s.within) refl)
+
+  -- the same readers
+  pub cleared_same : (p : Option ℕ) → lines_of (take behind bytes) starts behind p ahead size levels ≡ record b { tail = []; part_of = p }
+  cleared_same p =
+      let P : OpenLines → Type 0 = λ x. lines_of (take behind bytes) starts behind p ahead size levels ≡ record x { tail = []; part_of = p } in
+      subst P view (rw (cut-take bytes behind (reverse starts) s.are_cut, nothing_behind behind bytes) refl)
+
+  pub name_cleared : part_of ≡ None → lines_of (take behind bytes) starts behind part_of ahead size levels ≡ name_dropped b
+  name_cleared e =
+      let p : b.part_of ≡ part_of = ap (λ (x : OpenLines). x.part_of) (sym view) in
+      cleared_same part_of ∙ ap (λ (q : Option ℕ). record b { tail = []; part_of = q }) (sym p) ∙ ap (λ (xs : List ℕ). record b { tail = xs }) (ap (λ (q : Option ℕ). part_in q b.tail) (sym (p ∙ e)))
+
+  pub part_of_view : b.part_of ≡ part_of
+  part_of_view = ap (λ (x : OpenLines). x.part_of) (sym view)
+
+  pub part_gone : (id : ℕ) → part_of ≡ Some id → lines_of (take behind bytes) starts behind None ahead size levels ≡ part_dropped id b
+  part_gone id e =
+      let p : b.part_of ≡ Some id = part_of_view ∙ e in
+      let t : tail_without b.part_of b.tail id ≡ [] = ap (λ (q : Option ℕ). tail_without q b.tail id) p ∙ ap (λ (x : Bool). if x then [] else b.tail) (is_same id id refl) in
+      let q : part_without b.part_of id ≡ None = ap (λ (q : Option ℕ). part_without q id) p ∙ ap (λ (x : Bool). if x then None else Some id) (is_same id id refl) in
+      cleared_same None ∙ rw (t, q) refl
+
+  pub none_gone : (id : ℕ) → part_of ≡ None → b ≡ part_dropped id b
+  none_gone id e =
+      let p : b.part_of ≡ None = part_of_view ∙ e in
+      let t : tail_without b.part_of b.tail id ≡ b.tail = ap (λ (q : Option ℕ). tail_without q b.tail id) p in
+      let q : part_without b.part_of id ≡ b.part_of = ap (λ (q : Option ℕ). part_without q id) p ∙ sym p in
+      sym (same_parts b _ _ t q)
+
+  pub other_gone : (id reader : ℕ) → part_of ≡ Some reader → reader ≢ id → b ≡ part_dropped id b
+  other_gone id reader e ne =
+      let p : b.part_of ≡ Some reader = part_of_view ∙ e in
+      let t : tail_without b.part_of b.tail id ≡ b.tail = ap (λ (q : Option ℕ). tail_without q b.tail id) p ∙ ap (λ (x : Bool). if x then [] else b.tail) (is_other reader id ne) in
+      let q : part_without b.part_of id ≡ b.part_of = ap (λ (q : Option ℕ). part_without q id) p ∙ ap (λ (x : Bool). if x then None else Some reader) (is_other reader id ne) ∙ sym p in
+      sym (same_parts b _ _ t q)
+
+  pub forgotten_is : (id : ℕ) (ahead' : List Ahead) → lines_of bytes starts behind part_of ahead' size levels ≡ record b { ahead = ahead' }
+  forgotten_is id ahead' = ap (λ (x : OpenLines). record x { ahead = ahead' }) view

@@ -1,0 +1,199 @@
+// The buffer: the open lines, what stands behind them, and the windows of the readers.
+ghost use Rattle.std.specs.Prelude.{◌≡◌, ◌≢◌, ◌≤◌, ◌<◌, ◌+◌, ℕ, [], ◌∷◌, ◌++◌, length, true, false, None, Some, IfOk, OnErr, MatchResult, is_ok, if◌then◌else◌, take, slice_set};
+ghost use Rattle.plain_state.specs.Lines.{has_feed, before_feed, behind_feed, without_last, trimmed};
+ghost use Rattle.world_io.specs.Told.{HasCause, SameFiles, IsAtEnd};
+ghost use Rattle.line_reader.specs.Ahead.{ahead_of, with_ahead, is_begun};
+ghost use Rattle.line_reader.specs.OpenLines.{no_lines, used, most_readers, part, spelt_name, HoldsNoOther, HoldsNoPart, line_opened, part_read, innermost, line_dropped, line_changed, reader_forgotten, part_dropped, byte_spelt, name_dropped, refusal};
+ghost use Rattle.line_reader.specs.Reading.{CameIn};
+
+use crate::ends::{find_feed, trimmed_len, without_return_len};
+use crate::window::Window;
+use crate::windows::{begin, find, forget};
+use std::alloc::{AllocError, Global};
+use std::marker::Model;
+use tex_defs::{Full, Sizes, Table};
+use world_io::{Fault, Files};
+
+/// How many readers may be begun beside those of the text input levels: the input streams.
+const STREAMS: usize = 16;
+
+/// The one buffer of all lines that are being read, with a window for each reader.
+///
+/// It holds the open lines, each as it was taken, and behind them at most one thing more: a name that is being
+/// spelt, or the part of a line that a refused call has read. *TeX: The Program*, part 3.
+#[derive(Debug, Drop)]
+pub struct Buffer {
+    bytes: Vec<u8>,
+    /// Where each open line begins, the outermost first.
+    starts: Vec<u32>,
+    /// Where the innermost line ends.
+    behind: usize,
+    /// The reader of whose line what stands behind the open lines is a part.
+    part_of: Option<u32>,
+    windows: Vec<Window>,
+    buffer_size: u32,
+    text_input_levels: u32,
+}
+
+// Clauses see the list of the open lines, innermost first, what stands behind them, and the bytes read ahead of
+// each reader.
+impl Model for Buffer {
+    ghost use Rattle.std.specs.Prelude.{vec_capacity};
+    ghost use Rattle.line_reader.specs.OpenLines.{OpenLines};
+    ghost use Rattle.line_reader.specs.Cuts.{lines_of, IsSound};
+
+    ghost Value = { OpenLines };
+
+    ghost view = { λ b. lines_of b.bytes.items b.starts.items b.behind b.part_of b.windows.items b.buffer_size b.text_input_levels };
+
+    ghost invariant = { λ b. IsSound b.bytes.items b.starts.items b.behind b.part_of b.windows.items b.buffer_size b.text_input_levels (vec_capacity b.bytes) (vec_capacity b.starts) (vec_capacity b.windows) };
+}
+
+impl Buffer {
+    /// A buffer without lines: room for `buffer_size` bytes, and windows of 256 bytes for `text_input_levels` + 16
+    /// readers, which no table counts.
+    ///
+    /// # Errors
+    /// Want of memory.
+    pub fn new(alloc: Global, sizes: &Sizes) -> Result<Buffer, AllocError>
+        ensures { IfOk result (λ buffer. buffer ≡ no_lines sizes.now.buffer_size sizes.now.text_input_levels) }
+    {
+        let bytes = Vec::with_capacity(alloc, sizes.buffer_size as usize)?;
+        let starts = Vec::with_capacity(alloc, sizes.buffer_size as usize)?;
+        let windows = Vec::with_capacity(alloc, sizes.text_input_levels as usize + STREAMS)?;
+        Ok(Buffer {
+            bytes,
+            starts,
+            behind: 0,
+            part_of: None,
+            windows,
+            buffer_size: sizes.buffer_size,
+            text_input_levels: sizes.text_input_levels,
+        })
+    }
+
+    /// The buffer size that is used: for each open line its bytes and 1.
+    pub fn used(&self) -> u32
+        ensures { result ≡ used self.now }
+    {
+        (self.behind + self.starts.len()) as u32
+    }
+
+    /// The refusal where `need` bytes more are wanted.
+    fn refusal(&self, need: usize) -> Option<Full>
+        requires { need < 9223372036854775808 }
+        ensures { result ≡ refusal self.now need }
+    {
+        if self.behind + self.starts.len() + need > self.buffer_size as usize {
+            Some(Full {
+                table: Table::BufferSize,
+                used: self.used(),
+                size: self.buffer_size,
+            })
+        } else {
+            None
+        }
+    }
+
+    /// The empty line, which is taken where no line is left, becomes the innermost.
+    ///
+    /// # Errors
+    /// Buffer size, exactly where the open lines and 1 pass it; nothing has changed then.
+    pub fn empty_line(&mut self) -> Result<(), Full>
+        requires { self.old.tail ≡ [] }
+        ensures answer { MatchResult result (λ _. refusal self.old 1 ≡ None) (λ full. refusal self.old 1 ≡ Some full) }
+        ensures after { self.new ≡ (if is_ok result then line_opened [] self.old else self.old) }
+    {
+        if let Some(full) = self.refusal(1) {
+            return Err(full);
+        }
+        self.open_line(0);
+        Ok(())
+    }
+
+    /// The first bytes of what stands behind the open lines become the innermost line, and the others go.
+    fn open_line(&mut self, count: usize)
+        requires within { count ≤ length self.old.tail }
+        requires room { used self.old + (count + 1) ≤ self.old.buffer_size }
+        ensures { self.new ≡ line_opened (take count self.old.tail) self.old }
+    {
+        let start = self.behind as u32;
+        let Ok(()) = self.starts.push(start) else {
+            unreachable!()
+        };
+        self.behind += count;
+        self.bytes.truncate(self.behind);
+        self.part_of = None;
+    }
+
+    /// The innermost line goes.
+    pub fn drop_line(&mut self)
+        requires open { self.old.lines ≢ [] }
+        requires none { self.old.tail ≡ [] }
+        ensures { self.new ≡ line_dropped self.old }
+    {
+        let Some(start) = self.starts.pop() else {
+            unreachable!()
+        };
+        self.behind = start as usize;
+        self.bytes.truncate(self.behind);
+    }
+
+    /// What is held of this reader's file goes.
+    pub fn forget(&mut self, id: u32)
+        ensures { self.new ≡ reader_forgotten id self.old }
+    {
+        self.drop_part(id);
+        forget(&mut self.windows, id);
+    }
+
+    /// The part of this reader's line goes, if there is one.
+    fn drop_part(&mut self, id: u32)
+        ensures { self.new ≡ part_dropped id self.old }
+    {
+        let Some(reader) = self.part_of else {
+            return;
+        };
+        if reader != id {
+            return;
+        }
+        self.bytes.truncate(self.behind);
+        self.part_of = None;
+    }
+
+    /// The name that is being spelt gets one byte more.
+    ///
+    /// # Errors
+    /// Buffer size, exactly where the open lines, the name and this byte pass it; nothing has changed then.
+    pub fn spell(&mut self, byte: u8) -> Result<(), Full>
+        requires { HoldsNoPart self.old }
+        ensures answer { MatchResult result (λ _. refusal self.old (length self.old.tail + 1) ≡ None) (λ full. refusal self.old (length self.old.tail + 1) ≡ Some full) }
+        ensures after { self.new ≡ (if is_ok result then byte_spelt byte self.old else self.old) }
+    {
+        if let Some(full) = self.refusal(self.bytes.len() - self.behind + 1) {
+            return Err(full);
+        }
+        let Ok(()) = self.bytes.push(byte) else {
+            unreachable!()
+        };
+        self.part_of = None;
+        Ok(())
+    }
+
+    /// The bytes of the name that is being spelt.
+    pub fn spelt(&self) -> &[u8]
+        requires { HoldsNoPart self.now }
+        ensures { result.now ≡ spelt_name self.now }
+    {
+        &self.bytes[self.behind..]
+    }
+
+    /// No name is being spelt.
+    pub fn drop_spelt(&mut self)
+        ensures { self.new ≡ name_dropped self.old }
+    {
+        if self.part_of.is_none() {
+            self.bytes.truncate(self.behind);
+        }
+    }
+}
