@@ -1,5 +1,5 @@
 -- What stands at the end of a line.
-use Rattle.std.proofs.Common.{◌≡◌, ℕ, ◌-◌, ◌<◌, ◌≤◌, List, [], ◌∷◌, ◌++◌, take, length, get_or, arith, take_all, refl, sym, ap, ◌∙◌, suc}
+use Rattle.std.proofs.Common.{◌≡◌, ℕ, ◌+◌, ◌-◌, ◌<◌, ◌≤◌, List, [], ◌∷◌, ◌++◌, take, length, get_or, arith, take_all, refl, sym, ap, ◌∙◌, suc}
 use Rattle.std.proofs.Math.Seq.{take-suc}
 use Rattle.std.proofs.lemmas.Grind.{common_steps}
 use Rattle.plain_state.specs.Lines.{trimmed, trimmed_on, without_last}
@@ -64,3 +64,19 @@ module _ (line : List ℕ) (d : ℕ) where
 pub empty_stays : (line : List ℕ) (d : ℕ) → length line ≤ 0 → take (length line) line ≡ without_last d line
 empty_stays [] d h = refl
 empty_stays (c ∷ cs) d h = absurd (omega arith)
+
+-- a last character that goes is one of the last piece
+pub without-append : (d : ℕ) (part : List ℕ) (c : ℕ) (more : List ℕ) → without_last d (part ++ c ∷ more) ≡ part ++ without_last d (c ∷ more)
+without-append d [] c more = refl
+without-append d (x ∷ []) c more = refl
+without-append d (x ∷ y ∷ ys) c more = ap (λ (zs : List ℕ). x ∷ zs) (without-append d (y ∷ ys) c more)
+
+pub without-some : (d : ℕ) (part more : List ℕ) → 0 < length more → without_last d (part ++ more) ≡ part ++ without_last d more
+without-some d part [] some = absurd (omega arith)
+without-some d part (c ∷ more) some = without-append d part c more
+
+-- at most one goes
+pub without_short : (d : ℕ) (xs : List ℕ) → length xs ≤ length (without_last d xs) + 1
+without_short d [] = omega arith
+without_short d (c ∷ []) = grind (arith, common_steps)
+without_short d (c ∷ e ∷ cs) = let h : length (e ∷ cs) ≤ length (without_last d (e ∷ cs)) + 1 = without_short d (e ∷ cs) in omega (arith, h)

@@ -7,10 +7,10 @@ use Rattle.std.proofs.lemmas.Grind.{common_steps}
 use Rattle.tex_defs.specs.declared.Full.{Full}
 use Rattle.tex_defs.specs.declared.Table.TheVariants.{BufferSize}
 use Rattle.plain_state.specs.Lines.{has_feed}
-use Rattle.line_reader.specs.Ahead.{Ahead}
-use Rattle.line_reader.specs.OpenLines.{OpenLines, used, no_lines, line_opened, line_dropped, refusal, buffer_full, byte_spelt, name_dropped, part_dropped, tail_without, part_without, reader_forgotten,  spelt_name, name_in, part_in, HoldsNoPart}
+use Rattle.line_reader.specs.Ahead.{Ahead, with_ahead, ahead_of}
+use Rattle.line_reader.specs.OpenLines.{OpenLines, used, no_lines, line_opened, line_dropped, refusal, buffer_full, byte_spelt, name_dropped, part_dropped, tail_without, part_without, reader_forgotten,  spelt_name, name_in, part_in, HoldsNoPart, HoldsNoOther, part_for}
 use Rattle.line_reader.specs.Cuts.{cut, AreCut, lines_of, HasNoFeed, IsSound}
-use Rattle.line_reader.proofs.AheadOf.{is_same, is_other}
+use Rattle.line_reader.proofs.AheadOf.{is_same, is_other, length-with}
 use Rattle.line_reader.proofs.Cutting.{cut-same, used_is, used-cut}
 
 short : (n : ℕ) (bytes : List ℕ) → length (take n bytes) ≤ n
@@ -276,3 +276,21 @@ module _ (b : OpenLines) (bytes starts : List ℕ) (behind : ℕ) (part_of : Opt
 
   pub forgotten_is : (id : ℕ) (ahead' : List Ahead) → lines_of bytes starts behind part_of ahead' size levels ≡ record b { ahead = ahead' }
   forgotten_is id ahead' = ap (λ (x : OpenLines). record x { ahead = ahead' }) view
+
+  fewer : (id : ℕ) (ws : List Ahead) → ws ≡ with_ahead id (ahead_of id ahead) ahead → length (with_ahead id [] b.ahead) ≤ b.text_input_levels + 16 → length ws ≤ levels + 16
+  fewer id ws is room =
+      let room' : length (with_ahead id [] ahead) ≤ levels + 16 = subst (λ (x : OpenLines). length (with_ahead id [] x.ahead) ≤ x.text_input_levels + 16) (sym view) room in
+      omega (arith, room', ap length is, length-with id (ahead_of id ahead) [] ahead)
+
+  pub few_readers : (id : ℕ) (ws : List Ahead) (window_room' : ℕ) → ws ≡ with_ahead id (ahead_of id ahead) ahead → length (with_ahead id [] b.ahead) ≤ b.text_input_levels + 16 → window_room ≤ window_room' →
+      IsSound bytes starts behind part_of ws size levels byte_room start_room window_room'
+  few_readers id ws window_room' is room more = ahead_sound part_of ws window_room' (subst (HasNoFeed part_of) (sym tail_view) s.no_feed) (fewer id ws is room) more
+
+  no_other : (id : ℕ) (p : Option ℕ) → HasNoFeed p b.tail → b.tail ≡ part_for p b.tail id → HasNoFeed (Some id) b.tail
+  no_other id None h e = ap has_feed e
+  no_other id (Some reader) h e = h
+
+  pub few_readers_part : (id : ℕ) (ws : List Ahead) (window_room' : ℕ) → ws ≡ with_ahead id (ahead_of id ahead) ahead → length (with_ahead id [] b.ahead) ≤ b.text_input_levels + 16 → HoldsNoOther b id → window_room ≤ window_room' →
+      IsSound bytes starts behind (Some id) ws size levels byte_room start_room window_room'
+  few_readers_part id ws window_room' is room other more =
+      ahead_sound (Some id) ws window_room' (no_other id part_of (subst (HasNoFeed part_of) (sym tail_view) s.no_feed) (subst (λ (p : Option ℕ). b.tail ≡ part_for p b.tail id) part_of_view other)) (fewer id ws is room) more

@@ -1,12 +1,12 @@
 // The buffer: the open lines, what stands behind them, and the windows of the readers.
-ghost use Rattle.std.specs.Prelude.{◌≡◌, ◌≢◌, ◌≤◌, ◌<◌, ◌+◌, ℕ, [], ◌∷◌, ◌++◌, length, true, false, None, Some, IfOk, OnErr, MatchResult, is_ok, if◌then◌else◌, take, slice_set};
+ghost use Rattle.std.specs.Prelude.{◌≡◌, ◌≢◌, ◌≤◌, ◌<◌, ◌+◌, ℕ, [], ◌∷◌, ◌++◌, length, true, false, None, Some, IfOk, OnErr, MatchResult, MatchBool, is_ok, if◌then◌else◌, take, slice_set};
 ghost use Rattle.plain_state.specs.Lines.{has_feed, before_feed, behind_feed, without_last, trimmed};
 ghost use Rattle.world_io.specs.Told.{HasCause, SameFiles, IsAtEnd};
 ghost use Rattle.line_reader.specs.Ahead.{ahead_of, with_ahead, is_begun};
 ghost use Rattle.line_reader.specs.OpenLines.{no_lines, used, most_readers, part, spelt_name, HoldsNoOther, HoldsNoPart, line_opened, part_read, innermost, line_dropped, line_changed, reader_forgotten, part_dropped, byte_spelt, name_dropped, refusal};
 ghost use Rattle.line_reader.specs.Reading.{CameIn};
 
-use crate::ends::{find_feed, trimmed_len, without_return_len};
+use crate::ends::{line_len, measure, trimmed_len};
 use crate::window::Window;
 use crate::windows::{begin, find, forget};
 use std::alloc::{AllocError, Global};
@@ -195,5 +195,99 @@ impl Buffer {
         if self.part_of.is_none() {
             self.bytes.truncate(self.behind);
         }
+    }
+
+    /// Gives the reader a window, if it has none.
+    pub(crate) fn begin_reader(&mut self, id: u32)
+        requires { length (with_ahead id [] self.old.ahead) ≤ most_readers self.old }
+        ensures { self.new ≡ record self.old { ahead = with_ahead id (ahead_of id self.old.ahead) self.old.ahead } }
+    {
+        begin(&mut self.windows, id);
+    }
+
+    /// Begins to read a line, or goes on with the part that a refused call has read.
+    pub(crate) fn begin_part(&mut self, id: u32)
+        requires room { length (with_ahead id [] self.old.ahead) ≤ most_readers self.old }
+        requires other { HoldsNoOther self.old id }
+        ensures after { self.new ≡ part_read id self.old.tail (ahead_of id self.old.ahead) self.old }
+        ensures no_feed { has_feed self.old.tail ≡ false }
+    {
+        begin(&mut self.windows, id);
+        self.part_of = Some(id);
+    }
+
+    /// Moves the bytes that are read ahead, up to a line feed, behind the part of the line. Whether there was one.
+    ///
+    /// # Errors
+    /// Buffer size, where the bytes known to be the line's are too many; nothing has changed then.
+    pub(crate) fn gather(&mut self, id: u32) -> Result<bool, Full>
+        requires begun { is_begun id self.old.ahead ≡ true }
+        requires part { self.old.part_of ≡ Some id }
+        ensures answer { MatchResult result (λ _. refusal self.old (length (without_last 13 (self.old.tail ++ before_feed (ahead_of id self.old.ahead))) + 1) ≡ None) (λ full. refusal self.old (length (without_last 13 (self.old.tail ++ before_feed (ahead_of id self.old.ahead))) + 1) ≡ Some full) }
+        ensures feed { IfOk result (λ feed. has_feed (ahead_of id self.old.ahead) ≡ feed) }
+        ensures after { self.new ≡ (if is_ok result then part_read id (self.old.tail ++ before_feed (ahead_of id self.old.ahead)) (behind_feed (ahead_of id self.old.ahead)) self.old else self.old) }
+    {
+        let Some(at) = find(&self.windows, id) else {
+            unreachable!()
+        };
+        let piece = measure(&self.bytes[self.behind..], self.windows[at].bytes());
+        if let Some(full) = self.refusal(piece.sure + 1) {
+            return Err(full);
+        }
+        let window = &mut self.windows[at];
+        window.move_to(&mut self.bytes, piece.count, piece.gone);
+        Ok(piece.ends)
+    }
+
+    /// What stands behind the open lines, which a line feed ends, becomes the innermost line.
+    pub(crate) fn end_line(&mut self)
+        requires { used self.old + (length (without_last 13 self.old.tail) + 1) ≤ self.old.buffer_size }
+        ensures { self.new ≡ line_opened (trimmed (without_last 13 self.old.tail)) self.old }
+    {
+        let count = line_len(&self.bytes[self.behind..]);
+        self.open_line(count);
+    }
+
+    /// What stands behind the open lines, which the file's end ends, becomes the innermost line, unless it is empty.
+    ///
+    /// # Errors
+    /// Buffer size, where its bytes are too many; nothing has changed then.
+    pub(crate) fn end_file(&mut self) -> Result<bool, Full>
+        ensures answer { MatchResult result (λ some. MatchBool some ((self.old.tail ≢ []) × (refusal self.old (length self.old.tail + 1) ≡ None)) (self.old.tail ≡ [])) (λ full. refusal self.old (length self.old.tail + 1) ≡ Some full) }
+        ensures after { IfOk result (λ some. self.new ≡ (if some then line_opened (trimmed self.old.tail) self.old else record self.old { tail = []; part_of = None })) }
+        ensures err { OnErr result (self.new ≡ self.old) }
+    {
+        let count = self.bytes.len() - self.behind;
+        if count == 0 {
+            self.part_of = None;
+            return Ok(false);
+        }
+        if let Some(full) = self.refusal(count + 1) {
+            return Err(full);
+        }
+        let line = trimmed_len(&self.bytes[self.behind..]);
+        self.open_line(line);
+        Ok(true)
+    }
+
+    /// Reads on, where nothing is read ahead. Whether there is more.
+    pub(crate) fn read_on<F: Files>(&mut self, files: &mut F, id: u32) -> Result<bool, Fault>
+        requires open { (F.told files.old).reading id ≡ true }
+        requires begun { is_begun id self.old.ahead ≡ true }
+        requires used { ahead_of id self.old.ahead ≡ [] }
+        ensures after { self.new ≡ record self.old { ahead = with_ahead id (ahead_of id self.new.ahead) self.old.ahead } }
+        ensures came { IfOk result (λ _. CameIn id (ahead_of id self.new.ahead) (F.told files.old) (F.told files.new)) }
+        ensures some { IfOk result (λ some. some ≡ true → 0 < length (ahead_of id self.new.ahead)) }
+        ensures none { IfOk result (λ some. some ≡ false → (ahead_of id self.new.ahead ≡ []) × IsAtEnd ((F.told files.new).rest id)) }
+        ensures err { OnErr result (self.new ≡ self.old) }
+        ensures same { OnErr result (SameFiles (F.told files.old) (F.told files.new)) }
+        ensures writes { (F.told files.new).write_faults ≡ (F.told files.old).write_faults }
+        ensures cause { HasCause (F.told files.old).read_faults (F.told files.new).read_faults (F.told files.old).wants (F.told files.new).wants result }
+    {
+        let Some(at) = find(&self.windows, id) else {
+            unreachable!()
+        };
+        let window = &mut self.windows[at];
+        window.fill(files)
     }
 }

@@ -1,5 +1,5 @@
 // The bytes that have been read ahead of one reader.
-ghost use Rattle.std.specs.Prelude.{◌≡◌, ◌≤◌, ◌<◌, ℕ, [], length, drop, true, false, IfOk, OnErr};
+ghost use Rattle.std.specs.Prelude.{◌≡◌, ◌≤◌, ◌<◌, ◌+◌, ℕ, [], ◌++◌, length, take, drop, true, false, IfOk, OnErr, vec_capacity};
 ghost use Rattle.tex_defs.specs.Places.{Rose};
 ghost use Rattle.world_io.specs.Told.{HasCause, SameFiles, IsAtEnd};
 ghost use Rattle.line_reader.specs.Reading.{CameIn};
@@ -54,13 +54,29 @@ impl Window {
 
     /// The bytes that are read ahead.
     pub fn bytes(&self) -> &[u8]
-        ensures { result.now ≡ self.now.bytes }
+        ensures bytes { result.now ≡ self.now.bytes }
+        ensures few { length result.now ≤ 256 }
     {
         &self.bytes[self.start..self.end]
     }
 
+    /// The first `count` bytes go behind those of the line, and the first `gone` bytes are used.
+    pub fn move_to(&mut self, line: &mut Vec<u8>, count: usize, gone: usize)
+        requires within { count ≤ length self.old.bytes }
+        requires known { gone ≤ length self.old.bytes }
+        requires room { length line.old.items + count ≤ vec_capacity line.old }
+        ensures left { self.new ≡ record self.old { bytes = drop gone self.old.bytes } }
+        ensures moved { line.new.items ≡ line.old.items ++ take count self.old.bytes }
+        ensures capacity { vec_capacity line.old ≤ vec_capacity line.new }
+    {
+        let Ok(()) = line.extend_from_slice(&self.bytes()[..count]) else {
+            unreachable!()
+        };
+        self.skip(gone);
+    }
+
     /// The first bytes are used.
-    pub fn skip(&mut self, count: usize)
+    fn skip(&mut self, count: usize)
         requires { count ≤ length self.old.bytes }
         ensures { self.new ≡ record self.old { bytes = drop count self.old.bytes } }
     {
