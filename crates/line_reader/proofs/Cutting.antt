@@ -26,7 +26,7 @@ cut-same bytes more last (start ∷ starts) are same =
     let others : cut bytes start starts ≡ cut more start starts = cut-same bytes more start starts are.1 before in
     cc
 
-length_line : (bytes : List ℕ) (start last : ℕ) → start ≤ last → last ≤ length bytes → length (take (last - start) (drop start bytes)) + start ≡ last
+pub length_line : (bytes : List ℕ) (start last : ℕ) → start ≤ last → last ≤ length bytes → length (take (last - start) (drop start bytes)) + start ≡ last
 length_line bytes start last le within = grind (arith, common_steps)
 
 pub used-cut : (bytes : List ℕ) (last : ℕ) (starts : List ℕ) → AreCut last starts → last ≤ length bytes → sum_by (λ line. length line + 1) (cut bytes last starts) ≡ last + length starts

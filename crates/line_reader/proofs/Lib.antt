@@ -3,3 +3,8 @@ pub mod AheadOf
 pub mod Cutting
 pub mod Views
 pub mod Gathering
+pub mod Parts
+pub mod Going
+pub mod Exits
+pub mod Knowing
+pub mod Looking

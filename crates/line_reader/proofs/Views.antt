@@ -1,17 +1,18 @@
 -- What each call makes of the lines, where they lie in memory as `Cuts` says.
-use Rattle.std.proofs.Common.{◌≡◌, ◌≢◌, ℕ, zero, suc, ◌+◌, ◌-◌, ◌<◌, ◌≤◌, ◌^◌, Bool, false, true, List, [], ◌∷◌, ◌++◌, length, take, drop, reverse, get_or, refl, ap, sym, ◌∙◌, subst, zero-add, arith, inl, inr}
-use Rattle.std.specs.Prelude.{Option, Some, None, is_some, nat_lt, if◌then◌else◌, nat_eq}
-use Rattle.std.proofs.lemmas.List.{take-append-le, drop-append-le, length-drop, take-append-drop, take-take, drop-take, take_all, drop_all, reverse-append, length-reverse, length_push, length-append, length-take-le}
+use Rattle.std.proofs.Common.{◌≡◌, ◌≢◌, ℕ, zero, suc, ◌+◌, ◌-◌, ◌<◌, ◌≤◌, ◌^◌, Bool, false, true, List, [], ◌∷◌, ◌++◌, length, take, drop, reverse, get_or, set, refl, ap, sym, ◌∙◌, subst, zero-add, arith, inl, inr}
+use Rattle.std.specs.Prelude.{Option, Some, None, is_some, MatchBool, nat_lt, if◌then◌else◌, nat_eq}
+use Rattle.std.proofs.lemmas.List.{take-append-le, drop-append-le, length-drop, take-append-drop, take-take, drop-take, take_all, drop_all, reverse-append, length-reverse, length_push, length-append, length-take-le, drop-set-add, drop-set-lt, take-set-le}
+use Rattle.std.proofs.Math.Seq.{take-set-lt}
 use Rattle.std.proofs.lemmas.Bool.{cases_order}
 use Rattle.std.proofs.lemmas.Grind.{common_steps}
 use Rattle.tex_defs.specs.declared.Full.{Full}
 use Rattle.tex_defs.specs.declared.Table.TheVariants.{BufferSize}
 use Rattle.plain_state.specs.Lines.{has_feed}
 use Rattle.line_reader.specs.Ahead.{Ahead, with_ahead, ahead_of}
-use Rattle.line_reader.specs.OpenLines.{OpenLines, used, no_lines, line_opened, line_dropped, refusal, buffer_full, byte_spelt, name_dropped, part_dropped, tail_without, part_without, reader_forgotten,  spelt_name, name_in, part_in, HoldsNoPart, HoldsNoOther, part_for}
+use Rattle.line_reader.specs.OpenLines.{OpenLines, used, no_lines, line_opened, line_dropped, refusal, buffer_full, byte_spelt, name_dropped, part_dropped, tail_without, part_without, reader_forgotten,  spelt_name, name_in, part_in, HoldsNoPart, HoldsNoOther, part_for, part, innermost, first, others, line_changed}
 use Rattle.line_reader.specs.Cuts.{cut, AreCut, lines_of, HasNoFeed, IsSound}
 use Rattle.line_reader.proofs.AheadOf.{is_same, is_other, length-with}
-use Rattle.line_reader.proofs.Cutting.{cut-same, used_is, used-cut}
+use Rattle.line_reader.proofs.Cutting.{cut-same, used_is, used-cut, length_line}
 
 short : (n : ℕ) (bytes : List ℕ) → length (take n bytes) ≤ n
 short n bytes = grind (arith, common_steps)
@@ -96,6 +97,10 @@ full_is b u n e f = ap (λ (k : ℕ). record { table = BufferSize; used = k; siz
 pub none_of : (o : Option ℕ) → is_some o ≡ false → o ≡ None
 none_of None e = refl
 none_of (Some x) e = absurd (cc)
+
+test_so : (x : Bool) (xs : List ℕ) → (x ≡ true → 0 < length xs) → (x ≡ false → length xs ≤ 0) → MatchBool x (xs ≢ []) (xs ≡ [])
+test_so true xs some none = λ e. let l : length xs ≡ 0 = ap length e in omega (arith, some refl, l)
+test_so false xs some none = empty_of xs (omega (arith, none refl))
 
 same_parts : (b : OpenLines) (t : List ℕ) (q : Option ℕ) → t ≡ b.tail → q ≡ b.part_of → (record b { tail = t; part_of = q }) ≡ b
 same_parts b t q e f = ap (λ (xs : List ℕ). record b { tail = xs; part_of = q }) e ∙ ap (λ (p : Option ℕ). record b { part_of = p }) f
@@ -294,3 +299,68 @@ module _ (b : OpenLines) (bytes starts : List ℕ) (behind : ℕ) (part_of : Opt
       IsSound bytes starts behind (Some id) ws size levels byte_room start_room window_room'
   few_readers_part id ws window_room' is room other more =
       ahead_sound (Some id) ws window_room' (no_other id part_of (subst (HasNoFeed part_of) (sym tail_view) s.no_feed) (subst (λ (p : Option ℕ). b.tail ≡ part_for p b.tail id) part_of_view other)) (fewer id ws is room) more
+
+  pub part_some : (id reader n : ℕ) → part_of ≡ Some reader → reader ≡ id → n ≡ length bytes → MatchBool (nat_lt behind n) (part b id ≢ []) (part b id ≡ [])
+  part_some id reader n e same count =
+      let p : part b id ≡ b.tail = ap (λ (q : Option ℕ). part_for q b.tail id) (part_of_view ∙ e) ∙ ap (λ (x : Bool). if x then b.tail else []) (is_same reader id same) in
+      test_so (nat_lt behind n) (part b id) (λ h. let lt : behind < n = grind (arith, common_steps) in omega (arith, lt, count, length_tail, ap length p)) (λ h. let le : n ≤ behind = grind (arith, common_steps) in omega (arith, le, count, length_tail, ap length p))
+
+  pub some_starts : b.lines ≢ [] → 0 < length starts
+  some_starts some = elim (cases_order (length starts) 0) [
+    | inl e ↦ absurd (some (no_starts (empty_of starts e)))
+    | inr (inl lt) ↦ absurd (omega (arith, lt))
+    | inr (inr gt) ↦ gt
+  ]
+
+  pub some_line : (at : ℕ) → at < length (innermost b) → b.lines ≢ []
+  some_line at lt e = let n : length (innermost b) ≡ 0 = ap (λ (ls : List (List ℕ)). length (first ls)) e in omega (arith, lt, n)
+
+  module _ (front : List ℕ) (start : ℕ) (e : starts ≡ front ++ start ∷ []) where
+    start_are : (start ≤ behind) × AreCut start (reverse front)
+    start_are = dropped_are front behind start (subst (λ (xs : List ℕ). AreCut behind (reverse xs)) e s.are_cut)
+
+    pub start_within : start ≤ behind
+    start_within = start_are.0
+
+    cut_is : (bs : List ℕ) → cut bs behind (reverse starts) ≡ take (behind - start) (drop start bs) ∷ cut bs start (reverse front)
+    cut_is bs = ap (λ (xs : List ℕ). cut bs behind (reverse xs)) e ∙ dropped_cut bs front behind start
+
+    pub innermost_is : take (behind - start) (drop start bytes) ≡ innermost b
+    innermost_is = sym (ap (λ (x : OpenLines). innermost x) (sym view) ∙ ap first (cut_is bytes))
+
+    pub length_innermost : length (innermost b) + start ≡ behind
+    length_innermost = ap (λ (xs : List ℕ). length xs + start) (sym innermost_is) ∙ length_line bytes start behind start_within s.within
+
+    set_front : (at byte : ℕ) → at < length (innermost b) → take (behind - start) (drop start (set bytes (start + at) byte)) ≡ set (innermost b) at byte
+    set_front at byte lt =
+        ap (take (behind - start)) (drop-set-add start bytes at byte) ∙ take-set-lt (behind - start) (drop start bytes) at byte (omega (arith, lt, length_innermost)) ∙ ap (λ (xs : List ℕ). set xs at byte) innermost_is
+
+    set_tail : (at byte : ℕ) → at < length (innermost b) → drop behind (set bytes (start + at) byte) ≡ drop behind bytes
+    set_tail at byte lt = drop-set-lt behind bytes (start + at) byte (omega (arith, lt, length_innermost))
+
+    set_lines : (at byte : ℕ) → at < length (innermost b) → cut (set bytes (start + at) byte) behind (reverse starts) ≡ set (innermost b) at byte ∷ others b.lines
+    set_lines at byte lt =
+        let below : cut (set bytes (start + at) byte) start (reverse front) ≡ cut bytes start (reverse front) = cut-same (set bytes (start + at) byte) bytes start (reverse front) start_are.1 (take-set-le start bytes (start + at) byte (omega arith)) in
+        let lower : cut bytes start (reverse front) ≡ others b.lines = sym (ap (λ (x : OpenLines). others x.lines) (sym view) ∙ ap others (cut_is bytes)) in
+        cut_is (set bytes (start + at) byte) ∙ ap (λ (line : List ℕ). line ∷ cut (set bytes (start + at) byte) start (reverse front)) (set_front at byte lt) ∙ ap (λ (ls : List (List ℕ)). set (innermost b) at byte ∷ ls) (below ∙ lower)
+
+    pub set_is : (at byte : ℕ) → at < length (innermost b) → lines_of (set bytes (start + at) byte) starts behind part_of ahead size levels ≡ line_changed (set (innermost b) at byte) b
+    set_is at byte lt =
+        let here : lines_of (set bytes (start + at) byte) starts behind part_of ahead size levels ≡ record (lines_of bytes starts behind part_of ahead size levels) { lines = set (innermost b) at byte ∷ others b.lines }
+            = rw (set_lines at byte lt, set_tail at byte lt) refl in
+        here ∙ ap (λ (x : OpenLines). record x { lines = set (innermost b) at byte ∷ others b.lines }) view
+
+    pub set_sound : (at byte : ℕ) → at < length (innermost b) → IsSound (set bytes (start + at) byte) starts behind part_of ahead size levels byte_room start_room window_room
+    set_sound at byte lt =
+        let n : length (set bytes (start + at) byte) ≡ length bytes = grind (arith, common_steps) in
+        record {
+          are_cut = s.are_cut;
+          within = omega (arith, n, s.within);
+          fits = omega (arith, n, s.fits);
+          no_feed = subst (HasNoFeed part_of) (sym (set_tail at byte lt)) s.no_feed;
+          readers_fit = s.readers_fit;
+          small = s.small;
+          bytes_reserved = s.bytes_reserved;
+          starts_reserved = s.starts_reserved;
+          windows_reserved = s.windows_reserved;
+        }

@@ -1,9 +1,10 @@
 -- What a call on a reader's file takes in, and what becomes of the lines.
-use Rattle.std.specs.Prelude.{◌≡◌, ◌≢◌, ℕ, ◌+◌, ◌<◌, ◌≤◌, Bool, true, false, List, [], ◌++◌, length, Option, option_map, if◌then◌else◌}
+use Rattle.std.specs.Prelude.{◌≡◌, ◌≢◌, ℕ, ◌+◌, ◌<◌, ◌≤◌, Bool, true, false, List, [], ◌∷◌, ◌++◌, length, Option, Some, option_map, MatchBool, if◌then◌else◌}
 use Rattle.tex_defs.specs.Places.{Rose}
+use Rattle.tex_defs.specs.declared.Full.{Full as FullTable}
 use Rattle.tex_defs.specs.declared.Stop.{Stop}
 use Rattle.tex_defs.specs.declared.Stop.TheVariants.{Full, ReadFault, NoMemory}
-use Rattle.world_io.specs.Told.{FilesTold, SoFar, OnlyReads, IsAtEnd}
+use Rattle.world_io.specs.Told.{FilesTold, SoFar, OnlyReads, SameFiles, IsAtEnd}
 use Rattle.plain_state.specs.Lines.{has_feed, before_feed, behind_feed, without_last, first_bytes, first_line}
 use Rattle.line_reader.specs.Ahead.{ahead_of, with_ahead}
 use Rattle.line_reader.specs.OpenLines.{OpenLines, held, used, line_opened, read_ahead, part_read, buffer_full}
@@ -67,10 +68,41 @@ pub record IsRefused (id : ℕ) (stop : Stop) (f : FilesTold) (b : OpenLines) (f
   pub at_end : ended ≡ true → IsAtEnd (f'.rest id)
   pub cause : Cause stop f f' b ended (held b id ++ got)
 
--- what came in is read ahead, and the lines and what stands behind them are as before
+-- What came in is read ahead, and all else is as before; nothing is left exactly where nothing is held then.
 pub record LooksAhead (id : ℕ) (none : Bool) (f : FilesTold) (b : OpenLines) (f' : FilesTold) (b' : OpenLines) : Type 0 where
   pub got : List ℕ
   pub came : CameIn id got f f'
   pub after : b' ≡ record b { ahead = with_ahead id (ahead_of id b.ahead ++ got) b.ahead }
-  pub some : none ≡ false → held b id ++ got ≢ []
-  pub nothing : none ≡ true → (held b id ++ got ≡ []) × IsAtEnd (f'.rest id)
+  pub answer : MatchBool none ((held b id ++ got ≡ []) × IsAtEnd (f'.rest id)) (held b id ++ got ≢ [])
+
+-- why it isn't known whether a line is left
+abbrev pub LookCause : Stop → FilesTold → FilesTold → Type 0
+LookCause ReadFault f f' = Rose f.read_faults f'.read_faults
+LookCause NoMemory f f' = Rose f.wants f'.wants
+LookCause other f f' = ⊥
+
+-- A call on the files failed or wanted memory: the files and all that is held are as before.
+pub record FailsToLook (id : ℕ) (stop : Stop) (f : FilesTold) (b : OpenLines) (f' : FilesTold) (b' : OpenLines) : Type 0 where
+  pub files : SameFiles f f'
+  pub after : b' ≡ record b { ahead = with_ahead id (ahead_of id b.ahead) b.ahead }
+  pub cause : LookCause stop f f'
+
+-- Where this is the rest of the file: its first line has become the innermost, and the rest is what is behind it.
+pub record TakesFirst (id : ℕ) (rest : List ℕ) (b : OpenLines) (f' : FilesTold) (b' : OpenLines) : Type 0 where
+  pub not_empty : rest ≢ []
+  pub line : b'.lines ≡ first_line rest ∷ b.lines
+  pub room : HasRoom b (first_bytes rest)
+  pub behind : rest_of id f' b' ≡ Some (behind_feed rest)
+
+-- Where this is the rest of the file: it is empty, and no line has been taken.
+pub record HasNone (id : ℕ) (rest : List ℕ) (b : OpenLines) (f' : FilesTold) (b' : OpenLines) : Type 0 where
+  pub empty : rest ≡ []
+  pub lines : b'.lines ≡ b.lines
+  pub behind : rest_of id f' b' ≡ Some []
+
+-- Where this is the rest of the file: it is as before, no line has been taken, and the buffer size comes only
+-- where the first line has no room.
+pub record KeepsRest (id : ℕ) (rest : List ℕ) (stop : Stop) (b : OpenLines) (f' : FilesTold) (b' : OpenLines) : Type 0 where
+  pub lines : b'.lines ≡ b.lines
+  pub behind : rest_of id f' b' ≡ Some rest
+  pub full : (full : FullTable) → stop ≡ Full full → LacksRoom b (first_bytes rest)

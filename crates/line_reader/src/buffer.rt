@@ -1,9 +1,9 @@
 // The buffer: the open lines, what stands behind them, and the windows of the readers.
-ghost use Rattle.std.specs.Prelude.{◌≡◌, ◌≢◌, ◌≤◌, ◌<◌, ◌+◌, ℕ, [], ◌∷◌, ◌++◌, length, true, false, None, Some, IfOk, OnErr, MatchResult, MatchBool, is_ok, if◌then◌else◌, take, slice_set};
+ghost use Rattle.std.specs.Prelude.{◌≡◌, ◌≢◌, ◌≤◌, ◌<◌, ◌+◌, ◌-◌, ℕ, [], ◌∷◌, ◌++◌, length, true, false, None, Some, IfOk, OnErr, MatchResult, MatchBool, is_ok, if◌then◌else◌, take, slice_set};
 ghost use Rattle.plain_state.specs.Lines.{has_feed, before_feed, behind_feed, without_last, trimmed};
 ghost use Rattle.world_io.specs.Told.{HasCause, SameFiles, IsAtEnd};
 ghost use Rattle.line_reader.specs.Ahead.{ahead_of, with_ahead, is_begun};
-ghost use Rattle.line_reader.specs.OpenLines.{no_lines, used, most_readers, part, spelt_name, HoldsNoOther, HoldsNoPart, line_opened, part_read, innermost, line_dropped, line_changed, reader_forgotten, part_dropped, byte_spelt, name_dropped, refusal};
+ghost use Rattle.line_reader.specs.OpenLines.{no_lines, used, most_readers, part, held, spelt_name, HoldsNoOther, HoldsNoPart, line_opened, part_read, innermost, line_dropped, line_changed, reader_forgotten, part_dropped, byte_spelt, name_dropped, refusal};
 ghost use Rattle.line_reader.specs.Reading.{CameIn};
 
 use crate::ends::{line_len, measure, trimmed_len};
@@ -124,6 +124,24 @@ impl Buffer {
         self.behind += count;
         self.bytes.truncate(self.behind);
         self.part_of = None;
+    }
+
+    /// The bytes of the innermost line.
+    pub fn line(&self) -> &[u8]
+        requires { self.now.lines ≢ [] }
+        ensures { result.now ≡ innermost self.now }
+    {
+        let start = last_start(&self.starts) as usize;
+        &self.bytes[start..self.behind]
+    }
+
+    /// Changes a byte of the innermost line: a `^^` form is reduced where it stands. *The TeXbook*, chapter 8.
+    pub fn set_byte(&mut self, at: usize, byte: u8)
+        requires { at < length (innermost self.old) }
+        ensures { self.new ≡ line_changed (slice_set (innermost self.old) at byte) self.old }
+    {
+        let start = last_start(&self.starts) as usize;
+        self.bytes[start + at] = byte;
     }
 
     /// The innermost line goes.
@@ -290,4 +308,33 @@ impl Buffer {
         let window = &mut self.windows[at];
         window.fill(files)
     }
+
+    /// Whether something is held of the file of this reader, which is begun.
+    pub(crate) fn holds(&self, id: u32) -> bool
+        requires { is_begun id self.now.ahead ≡ true }
+        ensures { MatchBool result (held self.now id ≢ []) ((held self.now id ≡ []) × (ahead_of id self.now.ahead ≡ [])) }
+    {
+        let Some(at) = find(&self.windows, id) else {
+            unreachable!()
+        };
+        self.has_part(id) || !self.windows[at].bytes().is_empty()
+    }
+
+    /// Whether the buffer holds a part of a line of this reader.
+    fn has_part(&self, id: u32) -> bool
+        ensures { MatchBool result (part self.now id ≢ []) (part self.now id ≡ []) }
+    {
+        match self.part_of {
+            Some(reader) => reader == id && self.behind < self.bytes.len(),
+            None => false,
+        }
+    }
+}
+
+/// Where the innermost line begins.
+fn last_start(starts: &[u32]) -> u32
+    requires { 0 < length starts.now }
+    ensures { starts.now ≡ take (length starts.now - 1) starts.now ++ result ∷ [] }
+{
+    starts[starts.len() - 1]
 }
