@@ -15,3 +15,6 @@ mod windows;
 
 pub use buffer::Buffer;
 pub use reading::{at_end, next_line};
+
+#[cfg(test)]
+mod tests;
