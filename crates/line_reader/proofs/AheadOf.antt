@@ -1,8 +1,8 @@
 -- Looking up and changing what is read ahead of a reader.
-use Rattle.std.proofs.Common.{◌≡◌, ◌≢◌, ℕ, zero, suc, ◌<◌, ◌≤◌, ◌+◌, Bool, true, false, List, [], ◌∷◌, ◌++◌, length, get_or, set, refl, sym, ap, ◌∙◌, arith}
-use Rattle.std.specs.Prelude.{nat_eq, if◌then◌else◌, not, filter}
+use Rattle.std.proofs.Common.{◌≡◌, ◌≢◌, ℕ, zero, suc, ◌<◌, Bool, true, false, List, [], ◌∷◌, ◌++◌, length, get_or, refl, sym, ap, ◌∙◌, arith}
+use Rattle.std.specs.Prelude.{nat_eq, if◌then◌else◌}
 use Rattle.std.proofs.lemmas.Grind.{common_steps}
-use Rattle.line_reader.specs.Ahead.{Ahead, StandsAt, is_begun, ahead_of, with_ahead, forgotten}
+use Rattle.line_reader.specs.Ahead.{Ahead, StandsAt, is_begun, ahead_of, with_ahead}
 
 pub is_same : (a b : ℕ) → a ≡ b → nat_eq a b ≡ true
 is_same a b e = grind (arith, common_steps)

@@ -1,14 +1,13 @@
 -- What holds of lines that are cut out of one list of bytes.
-use Rattle.std.proofs.Common.{◌≡◌, ℕ, zero, suc, ◌+◌, ◌-◌, ◌<◌, ◌≤◌, ◌^◌, Bool, false, true, List, [], ◌∷◌, ◌++◌, length, take, drop, reverse, get_or, refl, ap, sym, ◌∙◌, subst, zero-add, arith}
+use Rattle.std.proofs.Common.{◌≡◌, ℕ, ◌+◌, ◌-◌, ◌≤◌, List, [], ◌∷◌, length, take, drop, reverse, refl, ap, sym, ◌∙◌, arith}
 use Rattle.std.specs.List.{sum_by}
-use Rattle.std.specs.Prelude.{Option, Some, None, vec_capacity}
-use Rattle.std.proofs.lemmas.List.{take-append-le, drop-append-le, length-drop, take-append-drop, take-take, drop-take, take_all, drop_all, reverse-append, length-reverse, length_push}
+use Rattle.std.specs.Prelude.{Option}
+use Rattle.std.proofs.lemmas.List.{length-drop, take-take, drop-take, length-reverse}
 use Rattle.std.proofs.lemmas.List.Sums.{sum_by-cons}
 use Rattle.std.proofs.lemmas.Grind.{common_steps}
-use Rattle.plain_state.specs.Lines.{has_feed}
 use Rattle.line_reader.specs.Ahead.{Ahead}
-use Rattle.line_reader.specs.OpenLines.{OpenLines, used, no_lines}
-use Rattle.line_reader.specs.Cuts.{cut, AreCut, lines_of, HasNoFeed, IsSound}
+use Rattle.line_reader.specs.OpenLines.{OpenLines, used}
+use Rattle.line_reader.specs.Cuts.{cut, AreCut, lines_of, IsSound}
 
 -- the bytes of one line in the first bytes
 one : (bytes : List ℕ) (start last : ℕ) → start ≤ last → take (last - start) (drop start bytes) ≡ drop start (take last bytes)

@@ -1,17 +1,16 @@
 -- How the reading of a line ends.
-use Rattle.std.proofs.Common.{◌≡◌, ◌≢◌, ℕ, ◌+◌, ◌-◌, ◌*◌, ◌<◌, ◌≤◌, min, Bool, false, true, List, [], ◌∷◌, ◌++◌, length, refl, ap, sym, ◌∙◌, subst, arith, append_assoc, inl, inr}
-use Rattle.std.specs.Prelude.{Option, Some, None, if◌then◌else◌, MatchBool}
+use Rattle.std.proofs.Common.{◌≡◌, ◌≢◌, ℕ, ◌+◌, ◌-◌, ◌*◌, ◌<◌, ◌≤◌, Bool, false, true, List, [], ◌∷◌, ◌++◌, length, refl, ap, sym, ◌∙◌, subst, arith}
+use Rattle.std.specs.Prelude.{Some, None, if◌then◌else◌, MatchBool}
 use Rattle.std.proofs.lemmas.List.{append-nil, length-append}
-use Rattle.std.proofs.lemmas.Grind.{common_steps}
 use Rattle.tex_defs.specs.Places.{Rose}
 use Rattle.tex_defs.specs.declared.Full.{Full as FullTable}
 use Rattle.tex_defs.specs.declared.Stop.{Stop}
 use Rattle.tex_defs.specs.declared.Stop.TheVariants.{Full, ReadFault, NoMemory}
 use Rattle.plain_state.specs.Lines.{has_feed, before_feed, behind_feed, without_last, first_bytes, first_line, trimmed}
-use Rattle.world_io.specs.Told.{FilesTold, SoFar, OnlyReads, SameFiles, IsAtEnd}
-use Rattle.line_reader.specs.Ahead.{Ahead, ahead_of, with_ahead}
+use Rattle.world_io.specs.Told.{FilesTold, SameFiles, IsAtEnd}
+use Rattle.line_reader.specs.Ahead.{ahead_of, with_ahead}
 use Rattle.line_reader.specs.OpenLines.{OpenLines, used, held, part_read, line_opened, read_ahead, refusal, buffer_full}
-use Rattle.line_reader.specs.Reading.{CameIn, sure_bytes, HasRoom, LacksRoom, TakesLine, FindsEnd, Cause, IsRefused}
+use Rattle.line_reader.specs.Reading.{CameIn, sure_bytes, HasRoom, TakesLine, FindsEnd, Cause, IsRefused}
 use Rattle.line_reader.proofs.LineEnds.{without_short}
 use Rattle.line_reader.proofs.Parts.{has-append, before-append, behind-append, before-whole, behind-whole, first_with, first_without, came_same}
 use Rattle.line_reader.proofs.AheadOf.{ahead-with}

@@ -1,7 +1,7 @@
 -- What a window's bytes make of what stands behind the lines.
-use Rattle.std.proofs.Common.{◌≡◌, ◌≢◌, ℕ, ◌+◌, ◌-◌, ◌<◌, ◌≤◌, Bool, false, true, List, [], ◌∷◌, ◌++◌, length, take, drop, set, get_or, refl, ap, sym, ◌∙◌, subst, arith}
-use Rattle.std.specs.Prelude.{Option, Some, None, Result, Ok, Err, IfOk, OnErr}
-use Rattle.std.proofs.lemmas.List.{length-append, length-take-le, append-nil, take_rest}
+use Rattle.std.proofs.Common.{◌≡◌, ℕ, ◌+◌, ◌-◌, ◌<◌, ◌≤◌, Bool, false, true, List, [], ◌∷◌, ◌++◌, length, take, drop, set, get_or, refl, ap, sym, ◌∙◌, subst, arith}
+use Rattle.std.specs.Prelude.{Option, Some, Result, Ok, Err, IfOk, OnErr}
+use Rattle.std.proofs.lemmas.List.{length-append, take_rest}
 use Rattle.std.proofs.lemmas.Grind.{common_steps}
 use Rattle.plain_state.specs.Lines.{has_feed, before_feed, behind_feed, without_last}
 use Rattle.world_io.specs.declared.traits.Fault.{Fault}
@@ -10,9 +10,9 @@ use Rattle.line_reader.specs.Ahead.{Ahead, StandsAt, is_begun, ahead_of, with_ah
 use Rattle.line_reader.specs.OpenLines.{OpenLines, used, part_read}
 use Rattle.line_reader.specs.Cuts.{lines_of, HasNoFeed, IsSound}
 use Rattle.line_reader.specs.Reading.{CameIn}
-use Rattle.line_reader.proofs.AheadOf.{ahead-with, length-with, with-same}
+use Rattle.line_reader.proofs.AheadOf.{ahead-with, with-same}
 use Rattle.line_reader.proofs.LineEnds.{without_short}
-use Rattle.line_reader.proofs.Views.{grown_is, grown_sound, ahead_is, tail_view, part_of_view, size_view, used_view, length_tail}
+use Rattle.line_reader.proofs.Views.{grown_is, grown_sound, tail_view, size_view, used_view, length_tail}
 
 before_none : (ys : List ℕ) → has_feed (before_feed ys) ≡ false
 before_none [] = refl
@@ -40,7 +40,6 @@ module _ (id : ℕ) (ahead : List Ahead) (place : ℕ) (s : StandsAt id ahead pl
 
 module _ (b : OpenLines) (bytes starts : List ℕ) (behind : ℕ) (part_of : Option ℕ) (ahead : List Ahead) (size levels byte_room start_room window_room : ℕ)
     (view : lines_of bytes starts behind part_of ahead size levels ≡ b) (s : IsSound bytes starts behind part_of ahead size levels byte_room start_room window_room) where
-
   ahead_view : b.ahead ≡ ahead
   ahead_view = ap (λ (x : OpenLines). x.ahead) (sym view)
 
@@ -78,9 +77,18 @@ module _ (b : OpenLines) (bytes starts : List ℕ) (behind : ℕ) (part_of : Opt
   pub byte_fits : (id count sure : ℕ) → length (before_feed (ahead_of id b.ahead)) ≡ count → sure ≡ length (without_last 13 (b.tail ++ before_feed (ahead_of id b.ahead))) → used b + (sure + 1) ≤ b.buffer_size → length bytes + count ≤ byte_room
   byte_fits id count sure n e fits =
       let a : List ℕ = before_feed (ahead_of id b.ahead) in
-      omega (arith, n, e, fits, without_short 13 (b.tail ++ a), length-append b.tail a,
-      length_tail b bytes starts behind part_of ahead size levels byte_room start_room window_room view s, used_view b bytes starts behind part_of ahead size levels byte_room start_room window_room view s,
-      size_view b bytes starts behind part_of ahead size levels byte_room start_room window_room view s, s.bytes_reserved)
+      omega (
+        arith,
+        n,
+        e,
+        fits,
+        without_short 13 (b.tail ++ a),
+        length-append b.tail a,
+        length_tail b bytes starts behind part_of ahead size levels byte_room start_room window_room view s,
+        used_view b bytes starts behind part_of ahead size levels byte_room start_room window_room view s,
+        size_view b bytes starts behind part_of ahead size levels byte_room start_room window_room view s,
+        s.bytes_reserved,
+      )
 
   pub ahead_same : (id : ℕ) → ahead_of id b.ahead ≡ ahead_of id ahead
   ahead_same id = ap (ahead_of id) ahead_view

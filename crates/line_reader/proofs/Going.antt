@@ -1,21 +1,16 @@
 -- A line that is being read: what has come in so far, and how it ends.
-use Rattle.std.proofs.Common.{◌≡◌, ◌≢◌, ℕ, ◌+◌, ◌-◌, ◌*◌, ◌<◌, ◌≤◌, min, Bool, false, true, List, [], ◌∷◌, ◌++◌, length, refl, ap, sym, ◌∙◌, subst, arith, append_assoc, inl, inr}
-use Rattle.std.specs.Prelude.{Option, Some, None, option_map, if◌then◌else◌, nat_lt, nat_eq}
-use Rattle.std.proofs.lemmas.List.{append-nil, length-append}
-use Rattle.std.proofs.lemmas.Bool.{cases_order}
+use Rattle.std.proofs.Common.{◌≡◌, ℕ, ◌+◌, ◌<◌, ◌≤◌, Bool, false, true, List, [], ◌++◌, refl, ap, sym, ◌∙◌, subst, arith, append_assoc}
+use Rattle.std.specs.Prelude.{Some, None, if◌then◌else◌, nat_lt}
+use Rattle.std.proofs.lemmas.List.{append-nil}
 use Rattle.std.proofs.lemmas.Grind.{common_steps}
-use Rattle.tex_defs.specs.Places.{Rose}
 use Rattle.tex_defs.specs.declared.Full.{Full as FullTable}
-use Rattle.tex_defs.specs.declared.Stop.{Stop}
-use Rattle.tex_defs.specs.declared.Stop.TheVariants.{Full, ReadFault, NoMemory}
-use Rattle.plain_state.specs.Lines.{has_feed, before_feed, behind_feed, without_last, first_bytes, first_line, trimmed}
-use Rattle.world_io.specs.Told.{FilesTold, SoFar, OnlyReads, SameFiles, IsAtEnd}
+use Rattle.plain_state.specs.Lines.{has_feed, before_feed, behind_feed}
+use Rattle.world_io.specs.Told.{FilesTold}
 use Rattle.line_reader.specs.Ahead.{Ahead, is_begun, ahead_of, with_ahead}
-use Rattle.line_reader.specs.OpenLines.{OpenLines, used, held, part_for, part_read, line_opened, read_ahead, refusal, buffer_full, HoldsNoOther}
-use Rattle.line_reader.specs.Reading.{CameIn, sure_bytes, HasRoom, LacksRoom, TakesLine, FindsEnd, Cause, IsRefused, rest_of, TakesFirst, HasNone, KeepsRest}
+use Rattle.line_reader.specs.OpenLines.{OpenLines, used, held, part_read, refusal, buffer_full, HoldsNoOther}
+use Rattle.line_reader.specs.Reading.{CameIn}
 use Rattle.line_reader.proofs.AheadOf.{begun, ahead-with, with-with}
-use Rattle.line_reader.proofs.LineEnds.{without_short, without-some}
-use Rattle.line_reader.proofs.Parts.{has-append, before-append, behind-append, before-whole, behind-whole, first_with, first_without, came_none, came_more, came_same}
+use Rattle.line_reader.proofs.Parts.{has-append, before-whole, behind-whole, came_none, came_more}
 
 pub record Going (id : ℕ) (f : FilesTold) (b : OpenLines) (f' : FilesTold) (b' : OpenLines) : Type 0 where
   pub got : List ℕ

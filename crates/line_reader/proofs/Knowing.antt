@@ -1,18 +1,18 @@
 -- What a call made of a file whose rest is told.
 use Rattle.std.proofs.Common.{◌≡◌, ◌≢◌, ℕ, ◌+◌, ◌<◌, ◌≤◌, Bool, false, true, List, [], ◌∷◌, ◌++◌, length, refl, ap, sym, ◌∙◌, subst, arith, append_assoc}
-use Rattle.std.specs.Prelude.{Option, Some, None, option_map, if◌then◌else◌, nat_eq, MatchBool}
+use Rattle.std.specs.Prelude.{Option, Some, None, option_map, if◌then◌else◌, MatchBool}
 use Rattle.std.proofs.lemmas.List.{append-nil, length-append}
 use Rattle.std.proofs.lemmas.Grind.{common_steps}
 use Rattle.tex_defs.specs.declared.Full.{Full as FullTable}
 use Rattle.tex_defs.specs.declared.Stop.{Stop}
 use Rattle.tex_defs.specs.declared.Stop.TheVariants.{Full}
-use Rattle.plain_state.specs.Lines.{has_feed, before_feed, behind_feed, without_last, first_bytes, first_line, trimmed}
+use Rattle.plain_state.specs.Lines.{has_feed, before_feed, behind_feed, without_last, first_bytes, trimmed}
 use Rattle.world_io.specs.Told.{FilesTold, SoFar, IsAtEnd}
-use Rattle.line_reader.specs.Ahead.{Ahead, ahead_of, with_ahead}
-use Rattle.line_reader.specs.OpenLines.{OpenLines, used, held, part_for, buffer_full}
-use Rattle.line_reader.specs.Reading.{CameIn, sure_bytes, HasRoom, LacksRoom, TakesLine, FindsEnd, Cause, IsRefused, rest_of, TakesFirst, HasNone, KeepsRest}
+use Rattle.line_reader.specs.Ahead.{ahead_of, with_ahead}
+use Rattle.line_reader.specs.OpenLines.{OpenLines, held, part_for}
+use Rattle.line_reader.specs.Reading.{CameIn, sure_bytes, LacksRoom, TakesLine, FindsEnd, Cause, IsRefused, rest_of, TakesFirst, HasNone, KeepsRest}
 use Rattle.line_reader.proofs.AheadOf.{is_same, ahead-with}
-use Rattle.line_reader.proofs.LineEnds.{without_short, without-some}
+use Rattle.line_reader.proofs.LineEnds.{without-some}
 use Rattle.line_reader.proofs.Parts.{has-append, before-append, has-front, before-front, behind-front, first_with, first_without, before-whole}
 
 -- the rest begins with what is held and what came in

@@ -1,6 +1,6 @@
 -- Whether a line is left of a file.
-use Rattle.std.proofs.Common.{◌≡◌, ◌≢◌, ℕ, ◌+◌, ◌<◌, ◌≤◌, Bool, false, true, not, List, [], ◌∷◌, ◌++◌, length, refl, ap, sym, ◌∙◌, subst, arith, append_assoc}
-use Rattle.std.specs.Prelude.{Option, Some, None, option_map, if◌then◌else◌, MatchBool}
+use Rattle.std.proofs.Common.{◌≡◌, ◌≢◌, ℕ, ◌<◌, Bool, false, true, not, List, [], ◌++◌, length, refl, ap, sym, ◌∙◌, arith, append_assoc}
+use Rattle.std.specs.Prelude.{Some, option_map, MatchBool}
 use Rattle.std.proofs.lemmas.List.{append-nil, length-append}
 use Rattle.world_io.specs.Told.{FilesTold, SameFiles, IsAtEnd}
 use Rattle.line_reader.specs.Ahead.{Ahead, is_begun, ahead_of, with_ahead}

@@ -1,5 +1,5 @@
 -- Readers that have just been opened, for the tests.
-use Rattle.std.proofs.Common.{◌≡◌, ◌≤◌, ◌+◌, ℕ, Bool, true, false, List, [], ◌∷◌, ◌++◌, length, arith, refl, ap, ◌∙◌, subst, sym}
+use Rattle.std.proofs.Common.{◌≡◌, ◌≤◌, ℕ, Bool, true, false, List, [], ◌∷◌, ◌++◌, length, arith, ap, ◌∙◌, subst, sym}
 use Rattle.std.specs.Prelude.{nat_eq, if◌then◌else◌, MatchBool}
 use Rattle.std.proofs.lemmas.Grind.{common_steps}
 use Rattle.world_io.specs.Told.{FilesTold, OpensReader}

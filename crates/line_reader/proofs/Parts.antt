@@ -1,12 +1,10 @@
 -- Lines whose bytes come in pieces.
-use Rattle.std.proofs.Common.{◌≡◌, ◌≢◌, ℕ, ◌+◌, ◌<◌, ◌≤◌, Bool, false, true, List, [], ◌∷◌, ◌++◌, length, refl, ap, sym, ◌∙◌, subst, arith, append_assoc}
-use Rattle.std.specs.Prelude.{Option, Some, None, option_map, if◌then◌else◌}
-use Rattle.std.proofs.lemmas.List.{append-nil, length-append}
+use Rattle.std.proofs.Common.{◌≡◌, ℕ, Bool, false, true, List, [], ◌∷◌, ◌++◌, refl, ap, sym, ◌∙◌, subst, arith, append_assoc}
+use Rattle.std.specs.Prelude.{Option, Some, None, if◌then◌else◌}
 use Rattle.std.proofs.lemmas.Grind.{common_steps}
-use Rattle.plain_state.specs.Lines.{has_feed, before_feed, behind_feed, without_last, first_bytes, first_line, trimmed}
-use Rattle.world_io.specs.Told.{FilesTold, SoFar, OnlyReads, SameFiles, IsAtEnd}
-use Rattle.line_reader.specs.Reading.{CameIn, sure_bytes}
-use Rattle.line_reader.proofs.LineEnds.{without-some, without_short}
+use Rattle.plain_state.specs.Lines.{has_feed, before_feed, behind_feed, without_last, first_bytes}
+use Rattle.world_io.specs.Told.{FilesTold, SoFar, SameFiles}
+use Rattle.line_reader.specs.Reading.{CameIn}
 
 pub has-append : (xs ys : List ℕ) → has_feed xs ≡ false → has_feed (xs ++ ys) ≡ has_feed ys
 has-append [] ys h = refl

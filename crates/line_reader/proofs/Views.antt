@@ -1,7 +1,7 @@
 -- What each call makes of the lines, where they lie in memory as `Cuts` says.
-use Rattle.std.proofs.Common.{◌≡◌, ◌≢◌, ℕ, zero, suc, ◌+◌, ◌-◌, ◌<◌, ◌≤◌, ◌^◌, Bool, false, true, List, [], ◌∷◌, ◌++◌, length, take, drop, reverse, get_or, set, refl, ap, sym, ◌∙◌, subst, zero-add, arith, inl, inr}
-use Rattle.std.specs.Prelude.{Option, Some, None, is_some, MatchBool, nat_lt, if◌then◌else◌, nat_eq}
-use Rattle.std.proofs.lemmas.List.{take-append-le, drop-append-le, length-drop, take-append-drop, take-take, drop-take, take_all, drop_all, reverse-append, length-reverse, length_push, length-append, length-take-le, drop-set-add, drop-set-lt, take-set-le}
+use Rattle.std.proofs.Common.{◌≡◌, ◌≢◌, ℕ, ◌+◌, ◌-◌, ◌<◌, ◌≤◌, ◌^◌, Bool, false, true, List, [], ◌∷◌, ◌++◌, length, take, drop, reverse, set, refl, ap, sym, ◌∙◌, subst, arith, inl, inr}
+use Rattle.std.specs.Prelude.{Option, Some, None, is_some, MatchBool, nat_lt, if◌then◌else◌}
+use Rattle.std.proofs.lemmas.List.{take-append-le, drop-append-le, length-drop, take-take, drop-take, drop_all, reverse-append, length_push, length-append, length-take-le, drop-set-add, drop-set-lt, take-set-le, take_at, drop_at}
 use Rattle.std.proofs.Math.Seq.{take-set-lt}
 use Rattle.std.proofs.lemmas.Bool.{cases_order}
 use Rattle.std.proofs.lemmas.Grind.{common_steps}
@@ -9,10 +9,10 @@ use Rattle.tex_defs.specs.declared.Full.{Full}
 use Rattle.tex_defs.specs.declared.Table.TheVariants.{BufferSize}
 use Rattle.plain_state.specs.Lines.{has_feed}
 use Rattle.line_reader.specs.Ahead.{Ahead, with_ahead, ahead_of}
-use Rattle.line_reader.specs.OpenLines.{OpenLines, used, no_lines, line_opened, line_dropped, refusal, buffer_full, byte_spelt, name_dropped, part_dropped, tail_without, part_without, reader_forgotten,  spelt_name, name_in, part_in, HoldsNoPart, HoldsNoOther, part_for, part, innermost, first, others, line_changed}
+use Rattle.line_reader.specs.OpenLines.{OpenLines, used, no_lines, line_opened, line_dropped, refusal, buffer_full, byte_spelt, name_dropped, part_dropped, tail_without, part_without, part_in, HoldsNoOther, part_for, part, innermost, first, others, line_changed}
 use Rattle.line_reader.specs.Cuts.{cut, AreCut, lines_of, HasNoFeed, IsSound}
 use Rattle.line_reader.proofs.AheadOf.{is_same, is_other, length-with}
-use Rattle.line_reader.proofs.Cutting.{cut-same, used_is, used-cut, length_line}
+use Rattle.line_reader.proofs.Cutting.{cut-same, used_is, length_line}
 
 short : (n : ℕ) (bytes : List ℕ) → length (take n bytes) ≤ n
 short n bytes = grind (arith, common_steps)
@@ -43,7 +43,7 @@ opened_cut : (bytes starts : List ℕ) (behind count : ℕ) → AreCut behind (r
 unfolding cut
 opened_cut bytes starts behind count are =
     let e : cut (take (behind + count) bytes) (behind + count) (reverse (starts ++ behind ∷ [])) ≡ take (behind + count - behind) (drop behind (take (behind + count) bytes)) ∷ cut (take (behind + count) bytes) behind (reverse starts)
-        = ap (cut (take (behind + count) bytes) (behind + count)) (reverse_push starts behind) in
+    = ap (cut (take (behind + count) bytes) (behind + count)) (reverse_push starts behind) in
     e ∙ ap (λ (line : List ℕ). line ∷ cut (take (behind + count) bytes) behind (reverse starts)) (new_line bytes behind count)
     ∙ ap (λ (lines : List (List ℕ)). take count (drop behind bytes) ∷ lines) (cut-take-more bytes (behind + count) behind (reverse starts) (omega arith) are)
 
@@ -63,7 +63,15 @@ pub sound_empty : (size levels byte_room start_room window_room : ℕ) → size 
     IsSound [] [] 0 None [] size levels byte_room start_room window_room
 unfolding AreCut
 sound_empty size levels byte_room start_room window_room small b s w = record {
-  are_cut = refl; within = omega arith; fits = omega arith; no_feed = tt; readers_fit = omega arith; small = small; bytes_reserved = b; starts_reserved = s; windows_reserved = w;
+  are_cut = refl;
+  within = omega arith;
+  fits = omega arith;
+  no_feed = tt;
+  readers_fit = omega arith;
+  small = small;
+  bytes_reserved = b;
+  starts_reserved = s;
+  windows_reserved = w;
 }
 
 pub empty_is : (size levels : ℕ) → lines_of [] [] 0 None [] size levels ≡ no_lines size levels
@@ -107,7 +115,6 @@ same_parts b t q e f = ap (λ (xs : List ℕ). record b { tail = xs; part_of = q
 
 module _ (b : OpenLines) (bytes starts : List ℕ) (behind : ℕ) (part_of : Option ℕ) (ahead : List Ahead) (size levels byte_room start_room window_room : ℕ)
     (view : lines_of bytes starts behind part_of ahead size levels ≡ b) (s : IsSound bytes starts behind part_of ahead size levels byte_room start_room window_room) where
-
   pub used_view : used b ≡ behind + length starts
   used_view = ap used (sym view) ∙ used_is bytes starts behind part_of ahead size levels byte_room start_room window_room s
 
@@ -151,23 +158,35 @@ module _ (b : OpenLines) (bytes starts : List ℕ) (behind : ℕ) (part_of : Opt
         windows_reserved = s.windows_reserved;
       }
 
-  pub dropped_is : (front : List ℕ) (start : ℕ) → starts ≡ front ++ start ∷ [] → b.tail ≡ [] → lines_of (take start bytes) front start part_of ahead size levels ≡ line_dropped b
-  dropped_is front start e none =
+  -- what stands behind the lines moves down
+  moved_front : (start : ℕ) → start ≤ behind → take start (take start bytes ++ drop behind bytes) ≡ take start bytes
+  moved_front start le = take_at (take start bytes) (drop behind bytes) start (length-take-le start bytes (omega (arith, le, s.within)))
+
+  moved_tail : (start : ℕ) → start ≤ behind → drop start (take start bytes ++ drop behind bytes) ≡ drop behind bytes
+  moved_tail start le = drop_at (take start bytes) (drop behind bytes) start (length-take-le start bytes (omega (arith, le, s.within)))
+
+  pub dropped_start : (front : List ℕ) (start : ℕ) → starts ≡ front ++ start ∷ [] → start ≤ behind
+  dropped_start front start e = let are : (start ≤ behind) × AreCut start (reverse front) = dropped_are front behind start (subst (λ (xs : List ℕ). AreCut behind (reverse xs)) e s.are_cut) in are.0
+
+  pub dropped_is : (front : List ℕ) (start : ℕ) → starts ≡ front ++ start ∷ [] → lines_of (take start bytes ++ drop behind bytes) front start part_of ahead size levels ≡ line_dropped b
+  dropped_is front start e =
       let are : (start ≤ behind) × AreCut start (reverse front) = dropped_are front behind start (subst (λ (xs : List ℕ). AreCut behind (reverse xs)) e s.are_cut) in
       let lines : cut bytes behind (reverse starts) ≡ take (behind - start) (drop start bytes) ∷ cut bytes start (reverse front) = ap (λ (xs : List ℕ). cut bytes behind (reverse xs)) e ∙ dropped_cut bytes front behind start in
-      let P : OpenLines → Type 0 = λ x. x.tail ≡ [] → lines_of (take start bytes) front start part_of ahead size levels ≡ line_dropped x in
-      subst P view (λ n. rw (lines, n, cut-take bytes start (reverse front) are.1, nothing_behind start bytes) refl) none
+      let lower : cut (take start bytes ++ drop behind bytes) start (reverse front) ≡ cut bytes start (reverse front) = cut-same (take start bytes ++ drop behind bytes) bytes start (reverse front) are.1 (moved_front start are.0) in
+      let P : OpenLines → Type 0 = λ x. lines_of (take start bytes ++ drop behind bytes) front start part_of ahead size levels ≡ line_dropped x in
+      subst P view (rw (lines, lower, moved_tail start are.0) refl)
 
-  pub dropped_sound : (front : List ℕ) (start : ℕ) → starts ≡ front ++ start ∷ [] → IsSound (take start bytes) front start part_of ahead size levels byte_room start_room window_room
+  pub dropped_sound : (front : List ℕ) (start : ℕ) → starts ≡ front ++ start ∷ [] → IsSound (take start bytes ++ drop behind bytes) front start part_of ahead size levels byte_room start_room window_room
   dropped_sound front start e =
       let are : (start ≤ behind) × AreCut start (reverse front) = dropped_are front behind start (subst (λ (xs : List ℕ). AreCut behind (reverse xs)) e s.are_cut) in
       let n : length (take start bytes) ≡ start = length-take-le start bytes (omega (arith, are.0, s.within)) in
+      let l : length (take start bytes ++ drop behind bytes) ≡ length (take start bytes) + length (drop behind bytes) = length-append (take start bytes) (drop behind bytes) in
       let m : length starts ≡ length front + 1 = ap length e ∙ length_push front start in
       record {
         are_cut = are.1;
-        within = omega (arith, n);
-        fits = omega (arith, n, m, are.0, s.fits, s.within);
-        no_feed = subst (HasNoFeed part_of) (sym (nothing_behind start bytes)) (no_feed_empty part_of);
+        within = omega (arith, n, l);
+        fits = omega (arith, n, l, m, are.0, s.fits, s.within, length-drop behind bytes);
+        no_feed = subst (HasNoFeed part_of) (sym (moved_tail start are.0)) s.no_feed;
         readers_fit = s.readers_fit;
         small = s.small;
         bytes_reserved = s.bytes_reserved;
@@ -347,7 +366,7 @@ module _ (b : OpenLines) (bytes starts : List ℕ) (behind : ℕ) (part_of : Opt
     pub set_is : (at byte : ℕ) → at < length (innermost b) → lines_of (set bytes (start + at) byte) starts behind part_of ahead size levels ≡ line_changed (set (innermost b) at byte) b
     set_is at byte lt =
         let here : lines_of (set bytes (start + at) byte) starts behind part_of ahead size levels ≡ record (lines_of bytes starts behind part_of ahead size levels) { lines = set (innermost b) at byte ∷ others b.lines }
-            = rw (set_lines at byte lt, set_tail at byte lt) refl in
+        = rw (set_lines at byte lt, set_tail at byte lt) refl in
         here ∙ ap (λ (x : OpenLines). record x { lines = set (innermost b) at byte ∷ others b.lines }) view
 
     pub set_sound : (at byte : ℕ) → at < length (innermost b) → IsSound (set bytes (start + at) byte) starts behind part_of ahead size levels byte_room start_room window_room

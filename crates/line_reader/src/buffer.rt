@@ -144,17 +144,17 @@ impl Buffer {
         self.bytes[start + at] = byte;
     }
 
-    /// The innermost line goes.
+    /// The innermost line goes. What stands behind the open lines stays.
     pub fn drop_line(&mut self)
-        requires open { self.old.lines ≢ [] }
-        requires none { self.old.tail ≡ [] }
+        requires { self.old.lines ≢ [] }
         ensures { self.new ≡ line_dropped self.old }
     {
         let Some(start) = self.starts.pop() else {
             unreachable!()
         };
+        let behind = self.behind;
         self.behind = start as usize;
-        self.bytes.truncate(self.behind);
+        drop(self.bytes.drain(start as usize..behind));
     }
 
     /// What is held of this reader's file goes.

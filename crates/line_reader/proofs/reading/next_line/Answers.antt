@@ -1,6 +1,6 @@
-use Rattle.std.proofs.Common.{◌≡◌, ap, ◌∙◌}
+use Rattle.std.proofs.Common.{ap, ◌∙◌}
 use Rattle.std.specs.Prelude.{Err}
-use Rattle.line_reader.proofs.Going.{Going, going_begin, going_on, going_read, begun_is, part_is}
+use Rattle.line_reader.proofs.Going.{going_begin, going_on, going_read, begun_is}
 use Rattle.line_reader.proofs.Exits.{takes_feed, refused_full, refused_read, refused_memory, ended_so, refused_end, room_on, ahead_on, smaller}
 use Rattle.line_reader.proofs.Knowing.{told_takes, told_line, told_kept}
 use Rattle.line_reader.proofs.reading.next_line.Goals as goal

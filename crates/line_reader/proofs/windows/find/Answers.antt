@@ -1,4 +1,4 @@
-use Rattle.std.proofs.Common.{◌≡◌, [], sym, ap, ◌∙◌, arith}
+use Rattle.std.proofs.Common.{[], sym, ap, ◌∙◌, arith}
 use Rattle.line_reader.specs.Ahead.{Ahead}
 use Rattle.line_reader.proofs.AheadOf.{stands, not_begun}
 use Rattle.line_reader.proofs.windows.find.Goals as goal

@@ -1,4 +1,4 @@
-use Rattle.std.proofs.Common.{◌≡◌, ap, ◌∙◌}
+use Rattle.std.proofs.Common.{ap, ◌∙◌}
 use Rattle.std.specs.Prelude.{Some}
 use Rattle.line_reader.proofs.Views.{part_gone}
 use Rattle.line_reader.proofs.buffer.Buffer.drop_part.Goals as goal

@@ -1,4 +1,4 @@
-use Rattle.std.proofs.Common.{◌≡◌, ◌-◌, ◌<◌, ◌≤◌, ◌++◌, ◌∷◌, [], ℕ, List, length, take, drop, arith, ap, subst, sym, ◌∙◌}
+use Rattle.std.proofs.Common.{◌≡◌, ◌-◌, ◌<◌, ◌≤◌, ◌++◌, ◌∷◌, [], ℕ, List, length, take, arith, ap, subst, sym}
 use Rattle.line_reader.proofs.Views.{some_starts, start_within, innermost_is}
 use Rattle.line_reader.proofs.buffer.Buffer.line.Goals as goal
 

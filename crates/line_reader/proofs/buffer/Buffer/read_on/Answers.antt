@@ -1,6 +1,6 @@
-use Rattle.std.proofs.Common.{◌≡◌, ◌+◌, ◌≤◌, ◌++◌, ℕ, List, length, take, drop, set, arith, ap, ◌∙◌, sym, subst}
-use Rattle.line_reader.specs.Ahead.{Ahead, StandsAt, ahead_of, with_ahead}
-use Rattle.line_reader.proofs.Gathering.{bytes_at, reader_at, set_at, ahead_set, read_is, read_none, came_at, some_at, none_at, on_err}
+use Rattle.std.proofs.Common.{◌≡◌, List, ◌∙◌, subst}
+use Rattle.line_reader.specs.Ahead.{Ahead, StandsAt}
+use Rattle.line_reader.proofs.Gathering.{reader_at, ahead_set, read_is, read_none, came_at, some_at, none_at, on_err}
 use Rattle.line_reader.proofs.buffer.Buffer.read_on.Goals as goal
 
 pub returns-clause-after : goal.returns-clause-after

@@ -1,7 +1,5 @@
-use Rattle.std.proofs.Common.{◌≡◌, ◌∙◌, ap, arith, ℕ}
-use Rattle.std.specs.Prelude.{Option, Some}
-use Rattle.tex_defs.specs.declared.Full.{Full}
-use Rattle.tex_defs.specs.declared.Table.TheVariants.{BufferSize}
+use Rattle.std.proofs.Common.{◌∙◌, ap, arith}
+use Rattle.std.specs.Prelude.{Some}
 use Rattle.line_reader.proofs.Views.{refused, taken, size_view, full_is}
 use Rattle.line_reader.proofs.buffer.Buffer.refusal.Goals as goal
 

@@ -1,5 +1,5 @@
-use Rattle.std.proofs.Common.{◌≡◌, ◌-◌, ◌<◌, ◌≤◌, ◌++◌, ◌∷◌, [], ℕ, List, length, take, drop, arith, ap, subst, sym, ◌∙◌}
-use Rattle.line_reader.proofs.Views.{some_starts, some_line, start_within, length_innermost, set_is, set_sound}
+use Rattle.std.proofs.Common.{◌≡◌, ◌-◌, ◌<◌, ◌++◌, ◌∷◌, [], ℕ, List, length, take, arith, subst, sym}
+use Rattle.line_reader.proofs.Views.{some_starts, some_line, length_innermost, set_is, set_sound}
 use Rattle.line_reader.proofs.buffer.Buffer.set_byte.Goals as goal
 
 pub last_start-start-requires : goal.last_start-start-requires

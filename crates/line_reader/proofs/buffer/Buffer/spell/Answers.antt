@@ -1,6 +1,5 @@
-use Rattle.std.proofs.Common.{◌≡◌, ◌≤◌, ◌+◌, ◌∷◌, [], length, arith, ◌∙◌}
+use Rattle.std.proofs.Common.{◌∷◌, [], arith, ◌∙◌}
 use Rattle.std.specs.Prelude.{None}
-use Rattle.line_reader.specs.OpenLines.{used}
 use Rattle.line_reader.proofs.Views.{room, byte_is, grown_sound, size_view, used_view, length_tail}
 use Rattle.line_reader.proofs.buffer.Buffer.spell.Goals as goal
 
