@@ -1,7 +1,7 @@
 -- What each call makes of the lines, where they lie in memory as `Cuts` says.
-use Rattle.std.proofs.Common.{◌≡◌, ◌≢◌, ℕ, ◌+◌, ◌-◌, ◌<◌, ◌≤◌, ◌^◌, Bool, false, true, List, [], ◌∷◌, ◌++◌, length, take, drop, reverse, set, refl, ap, sym, ◌∙◌, subst, arith, inl, inr}
+use Rattle.std.proofs.Common.{append_assoc, ◌≡◌, ◌≢◌, ℕ, ◌+◌, ◌-◌, ◌<◌, ◌≤◌, ◌^◌, Bool, false, true, List, [], ◌∷◌, ◌++◌, length, take, drop, reverse, set, refl, ap, sym, ◌∙◌, subst, arith, inl, inr}
 use Rattle.std.specs.Prelude.{Option, Some, None, is_some, MatchBool, nat_lt, if◌then◌else◌}
-use Rattle.std.proofs.lemmas.List.{take-append-le, drop-append-le, length-drop, take-take, drop-take, drop_all, reverse-append, length_push, length-append, length-take-le, drop-set-add, drop-set-lt, take-set-le, take_at, drop_at}
+use Rattle.std.proofs.lemmas.List.{take-append-le, drop-append-le, length-drop, take-take, drop-take, drop_all, reverse-append, length_push, length-append, length-take-le, drop-set-add, drop-set-lt, take-set-le, take_at, drop_at, drop-drop}
 use Rattle.std.proofs.Math.Seq.{take-set-lt}
 use Rattle.std.proofs.lemmas.Bool.{cases_order}
 use Rattle.std.proofs.lemmas.Grind.{common_steps}
@@ -383,3 +383,62 @@ module _ (b : OpenLines) (bytes starts : List ℕ) (behind : ℕ) (part_of : Opt
           starts_reserved = s.starts_reserved;
           windows_reserved = s.windows_reserved;
         }
+
+    -- the innermost line written anew, with what stands behind it
+    abbrev pub written : List ℕ → List ℕ
+    written line = take start bytes ++ (line ++ drop (behind - start) (drop start bytes))
+
+    -- as a write to a part of the bytes leaves them
+    abbrev pub rewritten : ℕ → List ℕ → List ℕ
+    rewritten n line = take n (written line ++ drop (length (written line)) bytes)
+
+    module _ (line : List ℕ) (same : length line ≡ length (innermost b)) where
+      length_front : length (take start bytes) ≡ start
+      length_front = length-take-le start bytes (omega (arith, start_within, s.within))
+
+      rest_is : drop (behind - start) (drop start bytes) ≡ drop behind bytes
+      rest_is = let n : start + (behind - start) ≡ behind = omega (arith, start_within) in drop-drop (behind - start) start bytes ∙ ap (λ (k : ℕ). drop k bytes) n
+
+      written_is : written line ≡ (take start bytes ++ line) ++ drop behind bytes
+      written_is = ap (λ (xs : List ℕ). take start bytes ++ (line ++ xs)) rest_is ∙ sym (append_assoc (take start bytes) line (drop behind bytes))
+
+      length_both : length (take start bytes ++ line) ≡ behind
+      length_both = omega (arith, length-append (take start bytes) line, length_front, same, length_innermost)
+
+      length_written : length (written line) ≡ length bytes
+      length_written = ap length written_is ∙ omega (arith, length-append (take start bytes ++ line) (drop behind bytes), length_both, length-drop behind bytes, s.within)
+
+      rewritten_is : (n : ℕ) → n ≡ length bytes → rewritten n line ≡ written line
+      rewritten_is n whole = take_at (written line) (drop (length (written line)) bytes) n (length_written ∙ sym whole)
+
+      written_tail : drop behind (written line) ≡ drop behind bytes
+      written_tail = ap (drop behind) written_is ∙ drop_at (take start bytes ++ line) (drop behind bytes) behind length_both
+
+      written_lines : cut (written line) behind (reverse starts) ≡ line ∷ others b.lines
+      written_lines =
+          let rest : List ℕ = line ++ drop (behind - start) (drop start bytes) in
+          let m : length line ≡ behind - start = omega (arith, same, length_innermost) in
+          let here : take (behind - start) (drop start (written line)) ≡ line = ap (take (behind - start)) (drop_at (take start bytes) rest start length_front) ∙ take_at line (drop (behind - start) (drop start bytes)) (behind - start) m in
+          let below : cut (written line) start (reverse front) ≡ cut bytes start (reverse front) = cut-same (written line) bytes start (reverse front) start_are.1 (take_at (take start bytes) rest start length_front) in
+          let lower : cut bytes start (reverse front) ≡ others b.lines = sym (ap (λ (x : OpenLines). others x.lines) (sym view) ∙ ap others (cut_is bytes)) in
+          cut_is (written line) ∙ ap (λ (xs : List ℕ). xs ∷ cut (written line) start (reverse front)) here ∙ ap (λ (ls : List (List ℕ)). line ∷ ls) (below ∙ lower)
+
+      pub edited_is : (n : ℕ) → n ≡ length bytes → lines_of (rewritten n line) starts behind part_of ahead size levels ≡ line_changed line b
+      edited_is n whole =
+          let here : lines_of (written line) starts behind part_of ahead size levels ≡ record (lines_of bytes starts behind part_of ahead size levels) { lines = line ∷ others b.lines }
+          = rw (written_lines, written_tail) refl in
+          ap (λ (bs : List ℕ). lines_of bs starts behind part_of ahead size levels) (rewritten_is n whole) ∙ here ∙ ap (λ (x : OpenLines). record x { lines = line ∷ others b.lines }) view
+
+      pub edited_sound : (n : ℕ) → n ≡ length bytes → IsSound (rewritten n line) starts behind part_of ahead size levels byte_room start_room window_room
+      edited_sound n whole =
+          subst (λ (bs : List ℕ). IsSound bs starts behind part_of ahead size levels byte_room start_room window_room) (sym (rewritten_is n whole)) (record {
+            are_cut = s.are_cut;
+            within = omega (arith, length_written, s.within);
+            fits = omega (arith, length_written, s.fits);
+            no_feed = subst (HasNoFeed part_of) (sym written_tail) s.no_feed;
+            readers_fit = s.readers_fit;
+            small = s.small;
+            bytes_reserved = s.bytes_reserved;
+            starts_reserved = s.starts_reserved;
+            windows_reserved = s.windows_reserved;
+          })

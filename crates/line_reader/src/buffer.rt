@@ -1,11 +1,12 @@
 // The buffer: the open lines, what stands behind them, and the windows of the readers.
-ghost use Rattle.std.specs.Prelude.{◌≡◌, ◌≢◌, ◌≤◌, ◌<◌, ◌+◌, ◌-◌, ℕ, [], ◌∷◌, ◌++◌, length, true, false, None, Some, IfOk, OnErr, MatchResult, MatchBool, is_ok, if◌then◌else◌, take, slice_set};
+ghost use Rattle.std.specs.Prelude.{◌≡◌, ◌≢◌, ◌≤◌, ◌<◌, ◌+◌, ◌-◌, ℕ, List, [], ◌∷◌, ◌++◌, length, true, false, None, Some, IfOk, OnErr, MatchResult, MatchBool, is_ok, if◌then◌else◌, take, slice_set};
 ghost use Rattle.plain_state.specs.Lines.{has_feed, before_feed, behind_feed, without_last, trimmed};
 ghost use Rattle.world_io.specs.Told.{HasCause, SameFiles, IsAtEnd};
 ghost use Rattle.line_reader.specs.Ahead.{ahead_of, with_ahead, is_begun};
 ghost use Rattle.line_reader.specs.OpenLines.{no_lines, used, most_readers, part, held, spelt_name, HoldsNoOther, HoldsNoPart, line_opened, part_read, innermost, line_dropped, line_changed, reader_forgotten, part_dropped, byte_spelt, name_dropped, refusal};
 ghost use Rattle.line_reader.specs.Reading.{CameIn};
 
+use crate::Edit;
 use crate::ends::{line_len, measure, trimmed_len};
 use crate::window::Window;
 use crate::windows::{begin, find, forget};
@@ -133,6 +134,16 @@ impl Buffer {
     {
         let start = last_start(&self.starts) as usize;
         &self.bytes[start..self.behind]
+    }
+
+    /// Lets the innermost line be changed where it stands; it keeps its length.
+    pub fn edit_line<E: Edit>(&mut self, editor: &mut E)
+        requires { self.old.lines ≢ [] }
+        ensures { (line : List ℕ) × (length line ≡ length (innermost self.old)) × E.edits editor.old (innermost self.old) editor.new line × (self.new ≡ line_changed line self.old) }
+    {
+        let start = last_start(&self.starts) as usize;
+        let line = &mut self.bytes[start..self.behind];
+        editor.edit(line);
     }
 
     /// Changes a byte of the innermost line: a `^^` form is reduced where it stands. *The TeXbook*, chapter 8.

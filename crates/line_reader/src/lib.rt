@@ -8,12 +8,14 @@
 #![tactic(auto)]
 
 mod buffer;
+mod edit;
 mod ends;
 mod reading;
 mod window;
 mod windows;
 
 pub use buffer::Buffer;
+pub use edit::Edit;
 pub use reading::{at_end, next_line};
 
 #[cfg(test)]

@@ -3,7 +3,7 @@ ghost use Rattle.world_io.specs.Memory.{files_told};
 ghost use Rattle.line_reader.specs.Ahead.{with_ahead};
 ghost use Rattle.line_reader.specs.OpenLines.{most_readers};
 
-use crate::{Buffer, at_end, next_line};
+use crate::{Buffer, Edit, at_end, next_line};
 use std::test::Fail;
 use tex_defs::{Full, Sizes, Stop, Table};
 use world_io::{Fault, Files, InId, MemFiles};
@@ -89,6 +89,25 @@ fn names_are_spelt(rt: HostRuntime) -> Result<(), Fail> {
     Ok(())
 }
 
+/// Writes the last byte of a line over the first.
+#[derive(Drop)]
+struct Turn;
+
+impl Edit for Turn {
+    ghost use Rattle.std.specs.Prelude.{◌≡◌, ⊤, length};
+
+    ghost edits = { λ before line after changed. ⊤ };
+
+    fn edit(&mut self, line: &mut [u8])
+        ensures len { length line.new ≡ length line.old }
+    {
+        let n = line.len();
+        if n > 0 {
+            line[0] = line[n - 1];
+        }
+    }
+}
+
 /// Sets the first byte of the innermost line.
 fn sets_first(buffer: &mut Buffer, byte: u8) -> bool
     requires { buffer.old.lines ≢ [] }
@@ -113,6 +132,8 @@ fn a_line_is_changed(rt: HostRuntime) -> Result<(), Fail> {
         assert!(rt; false);
         return Ok(());
     };
+    buffer.edit_line(&mut Turn);
+    assert_eq!(rt; buffer.line(), b"yy".as_slice());
     assert!(rt; sets_first(&mut buffer, b'w'));
     Ok(())
 }
