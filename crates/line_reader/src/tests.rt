@@ -65,6 +65,7 @@ fn takes(files: &mut MemFiles, id: InId, buffer: &mut Buffer, line: &[u8]) -> bo
 fn lines_come_in_turn(rt: HostRuntime) -> Result<(), Fail> {
     let mut files = MemFiles::new(rt.alloc());
     files.add(b"a", b"x  \r\n\n\ry\rz")?;
+    files.limit_reads(1);
     let mut buffer = Buffer::new(rt.alloc(), &Sizes::DEFAULT)?;
     let Ok(Some(id)) = files.open_in(b"a") else {
         assert!(rt; false);
