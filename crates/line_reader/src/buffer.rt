@@ -13,7 +13,7 @@ use crate::windows::{begin, find, forget};
 use std::alloc::{AllocError, Global};
 use std::marker::Model;
 use tex_defs::{Full, Sizes, Table};
-use world_io::{Fault, Files};
+use world_io::{Fault, Files, InId};
 
 /// How many readers may be begun beside those of the text input levels: the input streams.
 const STREAMS: usize = 16;
@@ -169,11 +169,11 @@ impl Buffer {
     }
 
     /// What is held of this reader's file goes.
-    pub fn forget(&mut self, id: u32)
-        ensures { self.new ≡ reader_forgotten id self.old }
+    pub fn forget(&mut self, id: InId)
+        ensures { self.new ≡ reader_forgotten id.number self.old }
     {
-        self.drop_part(id);
-        forget(&mut self.windows, id);
+        self.drop_part(id.number);
+        forget(&mut self.windows, id.number);
     }
 
     /// The part of this reader's line goes, if there is one.

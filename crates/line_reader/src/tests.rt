@@ -75,7 +75,7 @@ fn lines_come_in_turn(rt: HostRuntime) -> Result<(), Fail> {
     assert!(rt; takes(&mut files, id, &mut buffer, b""));
     assert!(rt; takes(&mut files, id, &mut buffer, b"\ry\rz"));
     assert_eq!(rt; at_end(&mut files, id, &mut buffer), Ok(true));
-    buffer.forget(id.number);
+    buffer.forget(id);
     Ok(())
 }
 
