@@ -37,6 +37,17 @@ fn does(
 /// Whether `init job` does so, where job.tex has this text behind a line that gives `{`, `}`, `#` and `^` their usual
 /// categories.
 fn job(alloc: Global, text: &[u8], written: &[u8], status: u8) -> Result<bool, AllocError> {
+    job_with(alloc, &["init", "job"], text, written, status)
+}
+
+/// The same for these words.
+fn job_with(
+    alloc: Global,
+    words: &[&str],
+    text: &[u8],
+    written: &[u8],
+    status: u8,
+) -> Result<bool, AllocError> {
     let mut whole = Vec::from_slice(
         alloc,
         b"\\catcode`\\{=1 \\catcode`\\}=2 \\catcode`\\#=6 \\catcode`\\^=7\n",
@@ -44,6 +55,17 @@ fn job(alloc: Global, text: &[u8], written: &[u8], status: u8) -> Result<bool, A
     whole.extend_from_slice(text)?;
     let mut files = MemFiles::new(alloc);
     files.add(b"job.tex", whole.as_slice())?;
+    let expected = Expected {
+        text: written,
+        status,
+    };
+    does(alloc, words, &mut files, MemSink::new(alloc), expected)
+}
+
+/// Whether `init job` does so, where job.tex has this text alone.
+fn bare_job(alloc: Global, text: &[u8], written: &[u8], status: u8) -> Result<bool, AllocError> {
+    let mut files = MemFiles::new(alloc);
+    files.add(b"job.tex", text)?;
     let expected = Expected {
         text: written,
         status,
@@ -136,6 +158,8 @@ fn words_that_are_no_command_give_the_usage(rt: HostRuntime) -> Result<(), Fail>
     assert!(rt; usage(alloc, &["--help"])?);
     assert!(rt; usage(alloc, &["init", "-a"])?);
     assert!(rt; usage(alloc, &["init", "a", "b"])?);
+    assert!(rt; usage(alloc, &["init", "--steps", "x", "a"])?);
+    assert!(rt; usage(alloc, &["run", "--fmt", "a", "b"])?);
     Ok(())
 }
 
@@ -148,11 +172,11 @@ fn a_file_has_its_extension_behind_the_area(rt: HostRuntime) -> Result<(), Fail>
 }
 
 #[test]
-fn a_missing_file_is_not_built(rt: HostRuntime) -> Result<(), Fail> {
+fn a_missing_file_is_fatal(rt: HostRuntime) -> Result<(), Fail> {
     let alloc = rt.alloc();
     let mut files = MemFiles::new(alloc);
     let expected = Expected {
-        text: b"! Not built yet.\n",
+        text: b"! I can't find file `job.tex'.\nl.0\n! Emergency stop.\n*** (job aborted, file error in nonstop mode)\n",
         status: 2,
     };
     assert!(rt;
@@ -168,28 +192,125 @@ fn a_missing_file_is_not_built(rt: HostRuntime) -> Result<(), Fail> {
 }
 
 #[test]
-fn what_is_not_built_is_refused(rt: HostRuntime) -> Result<(), Fail> {
+fn a_run_without_end_is_fatal(rt: HostRuntime) -> Result<(), Fail> {
     let alloc = rt.alloc();
-    // a letter in the stomach, a missing `\end`, a blank space, an undefined name, a code above 15
     assert!(rt;
-        job(
+        bare_job(
             alloc,
-            b"\\message{hi}x\\end\n",
-            b"hi\n! Not built yet.\n",
+            b"",
+            b"{\\par}\n! Emergency stop.\n*** (job aborted, no legal \\end found)\n",
             2
         )?
     );
-    assert!(rt; job(alloc, b"\\message{a}%\n", b"a\n! Not built yet.\n", 2)?);
+    assert!(rt;
+        job(
+            alloc,
+            b"\\message{abcdefghijklmnopqrstuvwxyzabcdefghijklmnopqrstuvwxyz0123456789xyz",
+            b"Runaway text?\nabcdefghijklmnopqrstuvwxyzabcdefghijklmnopqrstuvwxyz0123456789\\ETC.\n! File ended while scanning text of \\message.\nl.0\nabcdefghijklmnopqrstuvwxyzabcdefghijklmnopqrstuvwxyz0123456789xyz \n! Emergency stop.\n*** (job aborted, no legal \\end found)\n",
+            2
+        )?
+    );
+    Ok(())
+}
+
+#[test]
+fn tokens_of_typesetting_have_lines(rt: HostRuntime) -> Result<(), Fail> {
+    let alloc = rt.alloc();
+    let text = b"\\message{hi}x\\end\n".as_slice();
+    assert!(rt; job(alloc, text, b"hi\n{the letter x}\n", 0)?);
+    assert!(rt; job_with(alloc, &["init", "--quiet", "job"], text, b"hi\n", 0)?);
     assert!(rt;
         job(
             alloc,
             b"\\message{x}\r\n\\end\r\n",
-            b"x\n! Not built yet.\n",
-            2
+            b"x\n{blank space  }\n",
+            0
         )?
     );
-    assert!(rt; job(alloc, b"\\foo\\end\n", b"! Not built yet.\n", 2)?);
-    assert!(rt; job(alloc, b"\\catcode`\\%=16 \\end\n", b"! Not built yet.\n", 2)?);
+    assert!(rt;
+        job(
+            alloc,
+            b"{}#^1\\catcode`$=3 \\catcode`&=4 \\catcode`_=8 $&_\\par\\end\n",
+            b"{begin-group character {}\n{end-group character }}\n{macro parameter character #}\n{superscript character ^}\n{the character 1}\n{math shift character $}\n{alignment tab character &}\n{subscript character _}\n{\\par}\n",
+            0
+        )?
+    );
+    Ok(())
+}
+
+#[test]
+fn reports_are_written(rt: HostRuntime) -> Result<(), Fail> {
+    let alloc = rt.alloc();
+    assert!(rt;
+        bare_job(
+            alloc,
+            b"\\foo\\end\n",
+            b"! Undefined control sequence.\nl.1\n",
+            1
+        )?
+    );
+    assert!(rt;
+        job(
+            alloc,
+            b"\\catcode256=1 \\end\n",
+            b"! Bad character code (256).\nl.2\n",
+            1
+        )?
+    );
+    assert!(rt;
+        job(
+            alloc,
+            b"\\message{a}\\foo\\message x}\\end\n",
+            b"a\n! Undefined control sequence.\nl.2\n! Missing { inserted.\nl.2\nx\n",
+            1
+        )?
+    );
+    Ok(())
+}
+
+#[test]
+fn the_hundredth_report_ends_the_run(rt: HostRuntime) -> Result<(), Fail> {
+    let alloc = rt.alloc();
+    let mut text = Vec::new(alloc);
+    let mut written = Vec::new(alloc);
+    for _ in 0..99 {
+        text.extend_from_slice(b"\\foo")?;
+        written.extend_from_slice(b"! Undefined control sequence.\nl.1\n")?;
+    }
+    text.extend_from_slice(b"\\end\n")?;
+    assert!(rt; bare_job(alloc, text.as_slice(), written.as_slice(), 1)?);
+    let mut more = Vec::from_slice(alloc, b"\\foo")?;
+    more.extend_from_slice(text.as_slice())?;
+    written.extend_from_slice(
+        b"! Undefined control sequence.\nl.1\n(That makes 100 errors; please try again.)\n",
+    )?;
+    assert!(rt; bare_job(alloc, more.as_slice(), written.as_slice(), 2)?);
+    Ok(())
+}
+
+#[test]
+fn a_run_stops_at_its_bound(rt: HostRuntime) -> Result<(), Fail> {
+    let alloc = rt.alloc();
+    let text = b"\\message{hi}\\end\n".as_slice();
+    assert!(rt;
+        job_with(
+            alloc,
+            &["init", "--steps", "34", "job"],
+            text,
+            b"! Step limit reached [steps=34].\n",
+            4
+        )?
+    );
+    assert!(rt;
+        job_with(
+            alloc,
+            &["init", "job", "--steps=35"],
+            text,
+            b"hi\n! Step limit reached [steps=35].\n",
+            4
+        )?
+    );
+    assert!(rt; job_with(alloc, &["init", "--steps", "36", "job"], text, b"hi\n", 0)?);
     Ok(())
 }
 
@@ -269,8 +390,8 @@ fn categories_are_followed(rt: HostRuntime) -> Result<(), Fail> {
         job(
             alloc,
             b"\\catcode`\\~=13 ~\\end\n",
-            b"! Not built yet.\n",
-            2
+            b"! Undefined control sequence.\nl.2\n",
+            1
         )?
     );
     assert!(rt; job(alloc, b"\\catcode`\\!=9 \\message{a!b}\\end\n", b"ab\n", 0)?);

@@ -1,5 +1,5 @@
 -- What files and a sink in memory tell: all that they hold.
-use Rattle.std.specs.Prelude.{is_some}
+use Rattle.std.specs.Prelude.{is_some, ℕ, ◌+◌}
 use Rattle.slab.specs.Slab.{get}
 use Rattle.tex_defs.specs.Places.{Holds}
 use Rattle.world_io.specs.declared.mem_files.MemFiles.{MemFiles}
@@ -21,6 +21,10 @@ files_told m = record {
 
 abbrev pub files_plan : MemFiles → Plan
 files_plan m = m.calls
+
+-- the most bytes that a read gives
+abbrev pub most_read : MemFiles → ℕ
+most_read m = m.beyond_first + 1
 
 abbrev pub sink_told : MemSink → SinkTold
 sink_told m = record { bytes = Holds m.bytes; faults = m.faults; wants = m.wants }

@@ -17,16 +17,18 @@ pub struct MemFiles {
     readers: Slab<Reader>,
     writers: Slab<Text>,
     calls: Calls,
+    /// The most bytes that a read gives, but for its first.
+    beyond_first: usize,
     read_faults: u64,
     write_faults: u64,
     wants: u64,
 }
 
 impl MemFiles {
-    ghost use Rattle.std.specs.Prelude.{◌≡◌, ◌++◌, ◌∷◌, [], ℕ, List, Some, MatchOption, OnOk, OnErr, IfOk, IfNone, IfSome, IsSome};
+    ghost use Rattle.std.specs.Prelude.{◌≡◌, ◌<◌, ◌++◌, ◌∷◌, [], ℕ, List, Some, MatchOption, OnOk, OnErr, IfOk, IfNone, IfSome, IsSome};
     ghost use Rattle.tex_defs.specs.Places.{NotHeld, Holds};
     ghost use Rattle.world_io.specs.Told.{SameFiles, SameCounts, Puts, IsEmpty, Grew, NotFound, OpensReader, OpensWriter};
-    ghost use Rattle.world_io.specs.Memory.{files_told, files_plan};
+    ghost use Rattle.world_io.specs.Memory.{files_told, files_plan, most_read};
 
     /// No files.
     pub fn new(alloc: Global) -> Self
@@ -39,6 +41,7 @@ impl MemFiles {
             readers: Slab::new(alloc),
             writers: Slab::new(alloc),
             calls: Calls::new(alloc),
+            beyond_first: usize::MAX,
             read_faults: 0,
             write_faults: 0,
             wants: 0,
@@ -65,6 +68,16 @@ impl MemFiles {
         self.calls.fail_at(call)
     }
 
+    /// Lets each read give at most this many bytes.
+    pub fn limit_reads(&mut self, most: usize)
+        requires { 0 < most }
+        ensures most { most_read self.new ≡ most }
+        ensures told { files_told self.new ≡ files_told self.old }
+        ensures plan { files_plan self.new ≡ files_plan self.old }
+    {
+        self.beyond_first = most - 1;
+    }
+
     /// The bytes of a file, or `None` where there is none of this name.
     pub fn bytes(&self, name: &[u8]) -> Option<&[u8]>
         ensures { MatchOption result ((files_told self.now).file name.now ≡ NotHeld) (λ bytes. (files_told self.now).file name.now ≡ Holds bytes.now) }
@@ -86,6 +99,7 @@ impl MemFiles {
         ensures opened { IfOk result (λ r. IfSome r (λ id. OpensReader id.number name.now (files_told self.old) (files_told self.new))) }
         ensures err { OnErr result (SameFiles (files_told self.old) (files_told self.new)) }
         ensures counts { SameCounts (files_told self.old) (files_told self.new) }
+        ensures limit { most_read self.new ≡ most_read self.old }
         ensures plan { files_plan self.new ≡ files_plan self.old }
     {
         let Some(bytes) = self.store.bytes(name) else {
@@ -131,7 +145,7 @@ impl Files for MemFiles {
     ghost use Rattle.std.specs.Prelude.{◌≡◌, ◌<◌, ◌≤◌, ◌↔◌, ℕ, List, length, take, true, Some, IfOk, OnOk, OnErr, IfNone, IfSome, IsSome, IsErrOf, IsTrue};
     ghost use Rattle.world_io.specs.Calls.{counted, fails_next};
     ghost use Rattle.world_io.specs.Told.{HasCause, SameFiles, SameCounts, Grew, NotFound, OpensReader, ClosesReader, OpensWriter, ClosesWriter, ReadFrom, IsAtEnd};
-    ghost use Rattle.world_io.specs.Memory.{files_told, files_plan};
+    ghost use Rattle.world_io.specs.Memory.{files_told, files_plan, most_read};
 
     ghost told = { files_told };
 
@@ -144,6 +158,7 @@ impl Files for MemFiles {
         ensures cause { HasCause (files_told self.old).read_faults (files_told self.new).read_faults (files_told self.old).wants (files_told self.new).wants result }
         ensures calm { OnOk result (SameCounts (files_told self.old) (files_told self.new)) }
         ensures fails { IsErrOf result Fault.Failed ↔ IsTrue (fails_next (files_plan self.old)) }
+        ensures limit { most_read self.new ≡ most_read self.old }
         ensures plan { files_plan self.new ≡ counted (files_plan self.old) }
     {
         if self.calls.begin() {
@@ -158,6 +173,8 @@ impl Files for MemFiles {
     fn read(&mut self, id: InId, piece: &mut [u8]) -> Result<usize, Fault>
         requires { (files_told self.old).reading id.number ≡ true }
         ensures count { IfOk result (λ n. n ≤ length piece.old) }
+        ensures limited { IfOk result (λ n. n ≤ most_read self.old) }
+        ensures limit { most_read self.new ≡ most_read self.old }
         ensures read { IfOk result (λ n. ReadFrom id.number n piece.new (files_told self.old) (files_told self.new)) }
         ensures ended { IfOk result (λ n. n ≡ 0 → 0 < length piece.old → IsAtEnd ((files_told self.old).rest id.number)) }
         ensures err { OnErr result (SameFiles (files_told self.old) (files_told self.new)) }
@@ -170,7 +187,11 @@ impl Files for MemFiles {
         if self.calls.begin() {
             return Err(raise(Fault::Failed, &mut self.read_faults, &mut self.wants));
         }
-        Ok(self.readers[id.number as usize].take(piece))
+        if piece.len() <= self.beyond_first {
+            return Ok(self.readers[id.number as usize].take(piece));
+        }
+        let most = self.beyond_first + 1;
+        Ok(self.readers[id.number as usize].take(&mut piece[..most]))
     }
 
     fn close_in(&mut self, id: InId)

@@ -71,6 +71,7 @@ fn files_in_memory_are_written_and_read(rt: HostRuntime) -> Result<(), Fail> {
     files.fail_at(11)?;
     assert_eq!(rt; write_in_two(&mut files, b"a"), Err(Fault::Failed));
     assert_eq!(rt; files.bytes(b"a").unwrap_or(b""), b"def".as_slice());
+    files.limit_reads(2);
     match read_file(alloc, &mut files, b"a") {
         Ok(Some(bytes)) => assert_eq!(rt; bytes.as_slice(), b"def".as_slice()),
         _ => assert!(rt; false),

@@ -1,0 +1,11 @@
+pub mod LineEnds
+pub mod AheadOf
+pub mod Cutting
+pub mod Views
+pub mod Gathering
+pub mod Parts
+pub mod Going
+pub mod Exits
+pub mod Knowing
+pub mod Looking
+pub mod Opened

@@ -1,0 +1,4 @@
+pub mod Ahead
+pub mod OpenLines
+pub mod Cuts
+pub mod Reading
