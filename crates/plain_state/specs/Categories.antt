@@ -16,6 +16,9 @@ end_of_line = 5
 abbrev pub parameter : ℕ
 parameter = 6
 
+abbrev pub superscript : ℕ
+superscript = 7
+
 abbrev pub ignored : ℕ
 ignored = 9
 

@@ -3,6 +3,7 @@ pub mod Printed
 pub mod Numerals
 pub mod Lines
 pub mod Lex
+pub mod Lookup
 pub mod Names
 pub mod Pending
 pub mod Readings

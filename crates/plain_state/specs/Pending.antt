@@ -3,6 +3,7 @@ use Rattle.std.specs.Prelude.{ℕ, Bool, true, false, List, [], ◌∷◌, ◌++
 use Rattle.tex_defs.specs.declared.Token.{Token}
 use Rattle.plain_state.specs.Lines.{end_char, first_line, behind_feed}
 use Rattle.plain_state.specs.Lex.{LineState, NewLine, Lexed, Gives, Invalid, UsedUp, lexed}
+use Rattle.plain_state.specs.Lookup.{token_of}
 
 pub record Pending : Type 0 where
   pub front : List Token
@@ -34,18 +35,19 @@ from_file false bytes = line_taken bytes
 from_file true [] = NothingLeft
 from_file true (c ∷ cs) = line_taken (c ∷ cs)
 
-abbrev pub from_line : Pending → Lexed → Pulled
-from_line p (Gives t state line) = TokenFrom t (record { front = []; line = line; lex = state; rest = p.rest; begun = p.begun })
-from_line p (Invalid state line) = InvalidMet
-from_line p UsedUp = from_file p.begun p.rest
+abbrev pub from_line : List (List ℕ) → Pending → Lexed → Pulled
+from_line names p (Gives x state line) = TokenFrom (token_of names x) (record { front = []; line = line; lex = state; rest = p.rest; begun = p.begun })
+from_line names p (Invalid state line) = InvalidMet
+from_line names p UsedUp = from_file p.begun p.rest
 
 -- tokens in front come first, then the line, then the file
-abbrev pub from_front : List ℕ → Pending → List Token → Pulled
-from_front categories p (t ∷ ts) = TokenFrom t (record { front = ts; line = p.line; lex = p.lex; rest = p.rest; begun = p.begun })
-from_front categories p [] = from_line p (lexed categories p.lex p.line)
+abbrev pub from_front : List (List ℕ) → List ℕ → Pending → List Token → Pulled
+from_front names categories p (t ∷ ts) = TokenFrom t (record { front = ts; line = p.line; lex = p.lex; rest = p.rest; begun = p.begun })
+from_front names categories p [] = from_line names p (lexed categories p.lex p.line)
 
-abbrev pub pulled : List ℕ → Pending → Pulled
-pulled categories p = from_front categories p p.front
+-- where these names are entered
+abbrev pub pulled : List (List ℕ) → List ℕ → Pending → Pulled
+pulled names categories p = from_front names categories p p.front
 
 -- what is pending after it
 abbrev pub after_pull : Pending → Pulled → Pending
