@@ -7,6 +7,8 @@
 mod heads;
 mod lex;
 mod names;
+#[cfg(test)]
+mod tests;
 
 ghost use Rattle.std.specs.Prelude.{◌≡◌, ◌+◌, ◌^◌, ◌<◌, ◌≤◌, length, take, drop};
 ghost use Rattle.plain_state.specs.Lex.{lexed};
@@ -82,9 +84,9 @@ pub enum Ahead {
 
 /// What the rest of the line gives next by these category codes, and where the line's reading stands then.
 ///
-/// The rest of the line stands in `bytes` from `line.at` to the byte before `line.end`. Only these bytes may
-/// change, and only where a name of letters is read: its letters are then written one behind the other, and
-/// the character that stops it is written in place of its `^^` notation.
+/// The rest of the line stands in `bytes` from `line.at` to the byte before `line.end`, and only these bytes
+/// may change: the letters of a name with `^^` in it are written one behind the other, so that `Word` is a
+/// range of them, and a character behind a name is written in place of the `^^` that stands for it.
 ///
 /// *The TeXbook*, chapter 8; *TeX: The Program*, part 24 (`get_next`).
 pub fn next(bytes: &mut [u8], line: &mut Line, categories: &[u8; 256]) -> Lexed
