@@ -6,3 +6,4 @@ pub mod LexRuns
 pub mod LexNames
 pub mod LexHats
 pub mod LexRests
+pub mod NameNumbers

@@ -10,3 +10,4 @@ pub mod Readings
 pub mod States
 pub mod LineLaws
 pub mod LexLaws
+pub mod LookupLaws

@@ -1,5 +1,6 @@
 // Laws of the lines and of the lexer: the functions have no bodies, their contracts are the laws.
 ghost use Rattle.plain_state.specs.LexLaws.{DoubleHats, HeadsAreRead, LexingConsumes, LinesGiveByHead, NamesAreLongestRuns, NamesAreRead};
+ghost use Rattle.plain_state.specs.LookupLaws.{NamesAreNumbered};
 ghost use Rattle.plain_state.specs.LineLaws.{LinesAreTheFile, LinesComeInTurn};
 
 /// The lines of a file, each with the spaces behind it and its ending, are the whole file, and no other lines are.
@@ -40,4 +41,9 @@ pub fn names_are_read()
 /// What the lexer leaves of a line is a shorter end of it, but for `^^` that was replaced.
 pub fn lexing_consumes()
     ensures { LexingConsumes }
+{}
+
+/// A name's number is the place at which it was entered.
+pub fn names_are_numbered()
+    ensures { NamesAreNumbered }
 {}
