@@ -39,7 +39,7 @@ lower_digits n negative radix value (Tok x ∷ fed) =
     (if nat_le (value * radix + digit_of_token x.token) greatest_integer then digits negative radix (value * radix + digit_of_token x.token) fed else too_big negative radix fed)
     (number_ended negative value x)
     (lower_if n (nat_le (value * radix + digit_of_token x.token) greatest_integer) (digits negative radix (value * radix + digit_of_token x.token) fed) (too_big negative radix fed)
-        (lower_digits n negative radix (value * radix + digit_of_token x.token) fed) (lower_big n negative radix fed))
+    (lower_digits n negative radix (value * radix + digit_of_token x.token) fed) (lower_big n negative radix fed))
     tt
 lower_digits n negative radix value (y ∷ fed) = tt
 

@@ -283,7 +283,7 @@ module _ (s : State) (k : Kind) (lent : Bool) (rs : List Reading) (e : s.stopped
     rule_told report back true h = ends_behind [] (Flag false) tt
     rule_told report back false h =
         Falls (drops_plain (weight s) s (given_back back (x ∷ fed)) (reported (page_of s) report (Noted ∷ [])) (plain_back back (x ∷ fed))
-            (λ u a. drops_report (weight s) u (page_of s) report (Noted ∷ []) (some_weight s e) (λ v b. falls_noted v h (kept_on s u v a b))))
+        (λ u a. drops_report (weight s) u (page_of s) report (Noted ∷ []) (some_weight s e) (λ v b. falls_noted v h (kept_on s u v a b))))
 
 rule_with : (s : State) (k j : Kind) (rs : List Reading) (x : Fed) (fed : List Fed) (lent : Bool) (last : List Seen) →
     s.stopped ≡ None → rank j < rank k → last_seen (x ∷ fed) ≡ last → s.work ≡ record { kind = k; fed = x ∷ fed; lent = lent } ∷ rs → Rule s (begun_with j lent last)

@@ -15,7 +15,7 @@ use Rattle.plain_state.specs.Reports as reports
 use Rattle.plain_state.specs.Reports.{report_bytes, hundred_line, runaway_bytes}
 use Rattle.plain_state.specs.States as machine
 use Rattle.plain_state.specs.States.{State, Reading, Move, Handed, Taken, Skipped, FileClosed, Feeds, Noted, Put, SetCategoryOf, Written, Begun, BegunWith, Ended, Reported, Stopped, AtFatal, made, fed_with, fresh, lending}
-use Rattle.plain_machine.specs.Plan.{Page, answered, handed, checked, checked_reading, without_file, page_behind, right_brace, reported, behind_report, reports_room, told, is_told, token_line, no_file, begun, given_back, put_all, last_seen, effect}
+use Rattle.plain_machine.specs.Plan.{Page, answered, handed, checked, checked_reading, without_file, page_behind, right_brace, reported, reports_room, told, is_told, token_line, no_file, begun, given_back, put_all, last_seen, effect}
 use Rattle.plain_machine.specs.Runs.{Wrote, step_of, steps}
 use Rattle.plain_machine.specs.Does.{Did, IsFault, IsWant}
 use Rattle.plain_machine.proofs.Doing.{did_join, did_one, cut_first, cut_later, wrote_none, wrote_join, same_later}
@@ -32,14 +32,13 @@ use Rattle.tex_program.specs.declared.reactions.Last.TheVariants as last
 use Rattle.tex_program.specs.declared.reactions.Onward.{Onward}
 use Rattle.tex_program.specs.declared.reactions.Onward.TheVariants as onward
 use Rattle.tex_program.specs.declared.reactions.Outcome.{Outcome}
-use Rattle.tex_program.specs.declared.reactions.Outcome.TheVariants as outcome
 use Rattle.tex_program.specs.declared.broken.Broken.{Broken}
 use Rattle.tex_program.specs.declared.broken.Broken.TheVariants.{WriteFault, Want, NoRoom}
 use Rattle.tex_program.specs.declared.engine.Engine.{Engine}
 use Rattle.tex_program.specs.declared.engine.Ruled.{Ruled}
 use Rattle.tex_program.specs.declared.engine.Ruled.TheVariants.{Step, Free, Halted}
 use Rattle.tex_program.specs.Sees.{ask_of, kind_of}
-use Rattle.tex_program.specs.Begins.{outcome_of, outcome_of_last, last_moves, last_bytes, away_moves, onward_moves, IsNoFeed, IsNoBegin}
+use Rattle.tex_program.specs.Begins.{outcome_of, outcome_of_last, last_moves, last_bytes, away_moves, IsNoFeed, IsNoBegin}
 use Rattle.tex_program.specs.Resumes.{IsOpen, frame_kind, frame_list, IsNoText}
 use Rattle.tex_program.specs.Stands.{Stands, WorkStands, WaitStands, Waits, FramesStand, FrameStands, Innermost, SameState, SameFrames, OnlyColumn, state_of, page_of}
 use Rattle.tex_program.specs.Weights.{ask_weight, frame_rank}
