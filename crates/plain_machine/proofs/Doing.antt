@@ -1,10 +1,10 @@
 -- Moves done one after another, and where the last of them are cut off.
-use Rattle.std.proofs.Common.{◌⊎◌, inl, inr, arith, ◌≤◌, ◌≡◌, ℕ, ◌+◌, List, [], ◌∷◌, ◌++◌, refl, sym, ap, subst, ◌∙◌, append_assoc}
+use Rattle.std.proofs.Common.{inl, inr, arith, ◌≤◌, ◌≡◌, ℕ, List, [], ◌∷◌, ◌++◌, refl, sym, ap, ◌∙◌, append_assoc}
 use Rattle.std.specs.Prelude.{Bool, true, false, if◌then◌else◌}
 use Rattle.std.proofs.lemmas.List.{append-nil}
 use Rattle.tex_defs.specs.Places.{Place, Transcript, OfFile, File, World, Later, Rose, Untold, NotHeld, Holds, grown, is_at}
-use Rattle.plain_state.specs.States.{State, Move, Written, made, column_after, in_line_after}
-use Rattle.plain_machine.specs.Runs.{Wrote, made_all, after, changed, columns_after}
+use Rattle.plain_state.specs.States.{State, Move, Written, made, column_after}
+use Rattle.plain_machine.specs.Runs.{Wrote, made_all, after, columns_after}
 use Rattle.plain_machine.specs.Does.{Did, Cut, Why, IsFault, IsWant, Refuses, IsCause, front_of}
 use Rattle.plain_machine.proofs.Joins.{after_join, columns_join, made_all_join}
 

@@ -1,5 +1,5 @@
 -- Runs one after another, and a rule as a run.
-use Rattle.std.proofs.Common.{◌≡◌, ℕ, ◌+◌, List, [], ◌∷◌, ◌++◌, refl, sym, ap, ◌∙◌, subst, arith}
+use Rattle.std.proofs.Common.{◌≡◌, ◌+◌, List, [], ◌∷◌, ◌++◌, refl, sym, ap, ◌∙◌, subst, arith}
 use Rattle.std.specs.Prelude.{Bool, Some}
 use Rattle.std.proofs.lemmas.List.{append-nil}
 use Rattle.tex_defs.specs.Places.{Place, File}

@@ -1,12 +1,12 @@
 -- What readings begin: only readings of a lower rank, and nothing else before a token comes.
-use Rattle.std.proofs.Common.{◌≡◌, ℕ, ◌+◌, ◌*◌, ◌≤◌, ◌<◌, Bool, true, false, List, [], ◌∷◌, arith, ℤ, pos}
+use Rattle.std.proofs.Common.{ℕ, ◌+◌, ◌*◌, ◌<◌, Bool, true, false, List, [], ◌∷◌, arith, ℤ, pos}
 use Rattle.std.specs.Prelude.{Option, Some, None, if◌then◌else◌, nat_le, not}
 use Rattle.tex_defs.specs.declared.Token.{Token}
 use Rattle.tex_defs.specs.declared.Name.{Name}
 use Rattle.tex_defs.specs.declared.Seen.{Seen}
 use Rattle.plain_state.specs.Categories.{begin_group}
-use Rattle.plain_state.specs.Reports.{Report, MissingNumber, ImproperConstant, BadCharacterCode, InvalidCode}
-use Rattle.plain_state.specs.Readings.{Kind, Catcode, Message, Integer, Text, Fed, Tok, Val, Told, Value, Int, Toks, Flag, is_other, is_digit, is_minus, is_plus, is_at_most, natural, code_of, digit_of_token, greatest_integer, greatest_character, greatest_category, improper_code, signed, means_category, Effect, SetCategory, Ask, More, Inner, Done, Act, Tells, ask, rank, catcode, message, integer, unsigned, constant, behind_code, behind_number, number_ended, digits, digits_dropped, too_big, missing, first_digit, bad_code, equals_behind, behind_equals, category_behind, bad_category, text, text_done, brace_missing, closes_at, senseless}
+use Rattle.plain_state.specs.Reports.{Report, MissingNumber, ImproperConstant}
+use Rattle.plain_state.specs.Readings.{Kind, Catcode, Message, Integer, Text, Fed, Tok, Val, Told, Int, Toks, is_other, is_digit, is_minus, is_plus, is_at_most, natural, code_of, digit_of_token, greatest_integer, greatest_character, greatest_category, improper_code, signed, means_category, SetCategory, Ask, Inner, Done, Act, Tells, ask, rank, catcode, message, integer, unsigned, constant, behind_code, behind_number, number_ended, digits, digits_dropped, too_big, missing, first_digit, bad_code, equals_behind, category_behind, bad_category, text, text_done, brace_missing, closes_at}
 
 -- A reading begins only readings of a lower rank.
 abbrev pub Lower : ℕ → Ask → Type 0
@@ -39,7 +39,7 @@ lower_digits n negative radix value (Tok x ∷ fed) =
     (if nat_le (value * radix + digit_of_token x.token) greatest_integer then digits negative radix (value * radix + digit_of_token x.token) fed else too_big negative radix fed)
     (number_ended negative value x)
     (lower_if n (nat_le (value * radix + digit_of_token x.token) greatest_integer) (digits negative radix (value * radix + digit_of_token x.token) fed) (too_big negative radix fed)
-        (lower_digits n negative radix (value * radix + digit_of_token x.token) fed) (lower_big n negative radix fed))
+    (lower_digits n negative radix (value * radix + digit_of_token x.token) fed) (lower_big n negative radix fed))
     tt
 lower_digits n negative radix value (y ∷ fed) = tt
 

@@ -1,21 +1,19 @@
 -- Each rule ends the run, begins with a step, or makes the weight of the state smaller.
-use Rattle.std.proofs.Common.{◌≡◌, ℕ, ◌+◌, ◌*◌, ◌≤◌, ◌<◌, Bool, true, false, List, [], ◌∷◌, ◌++◌, length, refl, sym, ap, subst, ◌∙◌, arith}
+use Rattle.std.proofs.Common.{◌≡◌, ℕ, ◌+◌, ◌*◌, ◌≤◌, ◌<◌, Bool, true, false, List, [], ◌∷◌, ◌++◌, length, refl, ap, ◌∙◌, arith}
 use Rattle.std.specs.Prelude.{Option, Some, None, if◌then◌else◌, nat_lt}
-use Rattle.std.proofs.lemmas.List.{length-append}
 use Rattle.tex_defs.specs.declared.Token.{Token}
-use Rattle.tex_defs.specs.declared.Name.{Name}
 use Rattle.tex_defs.specs.declared.Seen.{Seen}
 use Rattle.tex_defs.specs.Places.{Transcript}
 use Rattle.tex_defs.specs.declared.Fatal.TheVariants.{HundredErrors}
-use Rattle.plain_state.specs.Categories.{begin_group}
 use Rattle.plain_state.specs.Lex.{Lexed, Gives, Invalid, UsedUp, lexed}
-use Rattle.plain_state.specs.LexLaws.{LeavesLess, IsProperRest}
-use Rattle.plain_state.proofs.LexRuns.{less}
+use Rattle.plain_state.specs.LexLaws.{LeavesLess}
+use Rattle.plain_state.specs.Names.{primitive_names}
+use Rattle.plain_state.proofs.LexRests.{less}
 use Rattle.plain_state.specs.Pending.{Pending, Progress, NotBegun, Begun as BegunFile, Closed, Pulled, TokenFrom, LineTaken, InvalidMet, FileOver, NothingLeft, pulled, from_front, from_line, from_file}
 use Rattle.plain_state.specs.Reports.{Report, InvalidCharacter, FileEndedInText, report_bytes, hundred_line, runaway_bytes}
-use Rattle.plain_state.specs.Readings.{Kind, Catcode, Message, Integer, Text, Fed, Tok, Val, Told, Value, Flag, Effect, SetCategory, Say, Ask, More, Inner, Done, Act, Tells, ask, so_far, rank}
-use Rattle.plain_state.specs.States.{State, Reading, Move, Handed, Skipped, FileClosed, Feeds, Noted, Put, SetCategoryOf, Written, Begun, BegunWith, Ended, Reported, Stopped, Outcome, Finished, AtFatal, made, fed_with, fresh}
-use Rattle.plain_machine.specs.Plan.{Page, page_of, plan, planned, answered, handed, checked, checked_reading, without_file, ran_away, right_brace, page_behind, reported, behind_report, reports_room, stomach, wanted, effect, given_back, put_all, last_seen, is_told, told, begun, begun_with, no_end}
+use Rattle.plain_state.specs.Readings.{Kind, Catcode, Message, Text, Fed, Tok, Val, Told, Value, Flag, Effect, SetCategory, Say, Ask, More, Inner, Done, Act, Tells, ask, so_far, rank}
+use Rattle.plain_state.specs.States.{State, Reading, Move, Handed, Skipped, FileClosed, Noted, Put, SetCategoryOf, Written, Begun, Ended, Reported, Stopped, Outcome, AtFatal, made, fed_with}
+use Rattle.plain_machine.specs.Plan.{Page, page_of, plan, planned, answered, handed, checked, checked_reading, without_file, ran_away, right_brace, page_behind, reported, behind_report, reports_room, stomach, wanted, effect, given_back, put_all, last_seen, is_told, begun_with}
 use Rattle.plain_machine.specs.Runs.{step_of, all_made}
 use Rattle.plain_machine.proofs.Lower.{Lower, lower, Starts, starts}
 
@@ -119,11 +117,6 @@ Lighter p (InvalidMet q) = pending_weight q < pending_weight p
 Lighter p (FileOver q) = pending_weight q < pending_weight p
 Lighter p r = Unit {0}
 
-shorter : (line rest : List ℕ) → IsProperRest rest line → length rest < length line
-shorter line rest h =
-    let whole : length line ≡ 1 + length (h.1.0 ++ rest) = ap length h.1.1 ∙ omega arith in
-    omega (arith, whole, length-append h.1.0 rest)
-
 lighter_file : (p : Pending) (f : Progress) → p.file ≡ f → Lighter p (from_file f p.number p.rest)
 lighter_file p NotBegun e = tt
 lighter_file p BegunFile e = by_rest p.rest where
@@ -132,17 +125,17 @@ lighter_file p BegunFile e = by_rest p.rest where
   by_rest (c ∷ cs) = tt
 lighter_file p Closed e = tt
 
-lighter_line : (p : Pending) (l : Lexed) → LeavesLess l p.line → Lighter p (from_line p l)
-lighter_line p (Gives t state line) h = tt
-lighter_line p (Invalid state line) h = omega (arith, shorter p.line line h)
-lighter_line p UsedUp h = lighter_file p p.file refl
+lighter_line : (names : List (List ℕ)) (categories : List ℕ) (p : Pending) (l : Lexed) → LeavesLess categories l p.line → Lighter p (from_line names p l)
+lighter_line names categories p (Gives x state line) h = tt
+lighter_line names categories p (Invalid state line) h = omega (arith, h.shorter)
+lighter_line names categories p UsedUp h = lighter_file p p.file refl
 
-lighter_front : (categories : List ℕ) (p : Pending) (ts : List Token) → Lighter p (from_front categories p ts)
-lighter_front categories p (t ∷ ts) = tt
-lighter_front categories p [] = lighter_line p (lexed categories p.lex p.line) (less categories p.lex p.line)
+lighter_front : (names : List (List ℕ)) (categories : List ℕ) (p : Pending) (ts : List Token) → Lighter p (from_front names categories p ts)
+lighter_front names categories p (t ∷ ts) = tt
+lighter_front names categories p [] = lighter_line names categories p (lexed categories p.lex p.line) (less categories p.lex p.line)
 
-pub lighter : (categories : List ℕ) (p : Pending) → Lighter p (pulled categories p)
-lighter categories p = lighter_front categories p p.front
+pub lighter : (names : List (List ℕ)) (categories : List ℕ) (p : Pending) → Lighter p (pulled names categories p)
+lighter names categories p = lighter_front names categories p p.front
 
 -- moves that leave the readings and the file, and go on
 abbrev is_plain : Move → Bool
@@ -220,7 +213,7 @@ module _ (s : State) (q : Pending) (e : s.stopped ≡ None) (less : pending_weig
   check_below u categories page [] a b c = below u u a b c (record { work = refl; stopped = refl; pending = refl })
   check_below u categories page (r ∷ rs) a b c = check_reading_below u categories page r r.kind a b c
 
-rule_pulled : (s : State) (onward : Seen → List Move) (work : List Reading) (page : Page) (p : Pulled) → s.stopped ≡ None → pulled s.categories s.pending ≡ p → Lighter s.pending p →
+rule_pulled : (s : State) (onward : Seen → List Move) (work : List Reading) (page : Page) (p : Pulled) → s.stopped ≡ None → pulled primitive_names s.categories s.pending ≡ p → Lighter s.pending p →
     Rule s (handed (page_of s) onward (checked s.categories page work) p)
 rule_pulled s onward work page (TokenFrom t q) e is l = Step _ _ refl refl
 rule_pulled s onward work page (LineTaken line q) e is l = Step _ _ refl refl
@@ -231,8 +224,8 @@ rule_pulled s onward work page (FileOver q) e is l =
     Falls (check_below s q e l (made FileClosed (record s { due = checked s.categories page work })) s.categories page work e refl (rw is refl))
 rule_pulled s onward work page NothingLeft e is l = Falls (rw e (omega arith))
 
-rule_handed : (s : State) (onward : Seen → List Move) (work : List Reading) → s.stopped ≡ None → Rule s (handed (page_of s) onward (checked s.categories (without_file (page_of s)) work) (pulled s.categories s.pending))
-rule_handed s onward work e = rule_pulled s onward work (without_file (page_of s)) (pulled s.categories s.pending) e refl (lighter s.categories s.pending)
+rule_handed : (s : State) (onward : Seen → List Move) (work : List Reading) → s.stopped ≡ None → Rule s (handed (page_of s) onward (checked s.categories (without_file (page_of s)) work) (pulled primitive_names s.categories s.pending))
+rule_handed s onward work e = rule_pulled s onward work (without_file (page_of s)) (pulled primitive_names s.categories s.pending) e refl (lighter primitive_names s.categories s.pending)
 
 plain_all : (xs : List Seen) → AllPlain (put_all xs)
 plain_all [] = tt
@@ -290,7 +283,7 @@ module _ (s : State) (k : Kind) (lent : Bool) (rs : List Reading) (e : s.stopped
     rule_told report back true h = ends_behind [] (Flag false) tt
     rule_told report back false h =
         Falls (drops_plain (weight s) s (given_back back (x ∷ fed)) (reported (page_of s) report (Noted ∷ [])) (plain_back back (x ∷ fed))
-            (λ u a. drops_report (weight s) u (page_of s) report (Noted ∷ []) (some_weight s e) (λ v b. falls_noted v h (kept_on s u v a b))))
+        (λ u a. drops_report (weight s) u (page_of s) report (Noted ∷ []) (some_weight s e) (λ v b. falls_noted v h (kept_on s u v a b))))
 
 rule_with : (s : State) (k j : Kind) (rs : List Reading) (x : Fed) (fed : List Fed) (lent : Bool) (last : List Seen) →
     s.stopped ≡ None → rank j < rank k → last_seen (x ∷ fed) ≡ last → s.work ≡ record { kind = k; fed = x ∷ fed; lent = lent } ∷ rs → Rule s (begun_with j lent last)

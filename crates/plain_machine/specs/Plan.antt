@@ -8,12 +8,12 @@ use Rattle.tex_defs.specs.declared.Seen.{Seen}
 use Rattle.tex_defs.specs.declared.Fatal.TheVariants.{NoEnd, NoFile, HundredErrors}
 use Rattle.tex_defs.specs.Places.{Transcript}
 use Rattle.plain_state.specs.Categories.{end_group}
-use Rattle.plain_state.specs.Names.{seen, name_of, end_primitive, message_primitive, catcode_primitive}
+use Rattle.plain_state.specs.Names.{seen, name_of, primitive_names, end_primitive, message_primitive, catcode_primitive}
 use Rattle.plain_state.specs.Printed.{shown_all}
 use Rattle.plain_state.specs.Reports.{Report, UndefinedName, InvalidCharacter, FileEndedInText, NoSuchFile, fresh_line, report_bytes, hundred_line, emergency, no_end_line, no_file_line, token_line_bytes, runaway_bytes}
 use Rattle.plain_state.specs.Lex.{NewLine}
 use Rattle.plain_state.specs.Pending.{Pulled, TokenFrom, LineTaken, InvalidMet, FileOver, NothingLeft, Progress, NotBegun, Closed, pulled}
-use Rattle.plain_state.specs.Readings.{Kind, Catcode, Message, Integer, Text, Want, Raw, Expanded, Nonblank, Effect, SetCategory, Say, Fed, Tok, Val, Told, Value, Flag, Ask, More, Inner, Done, Act, Tells, ask, so_far, is_space, is_undefined}
+use Rattle.plain_state.specs.Readings.{Kind, Catcode, Message, Text, Want, Raw, Expanded, Nonblank, Effect, SetCategory, Say, Fed, Tok, Val, Told, Flag, Ask, More, Inner, Done, Act, Tells, ask, so_far, is_space, is_undefined}
 use Rattle.plain_state.specs.States.{Reading, Outcome, Finished, AtFatal, Move, Handed, Taken, Skipped, FileClosed, Feeds, Noted, Put, SetCategoryOf, Written, Begun, BegunWith, Ended, Reported, Stopped, State, made, in_line_after}
 
 -- What the texts of a rule depend on: whether the transcript's column isn't 0, the number of the line that is read,
@@ -158,14 +158,14 @@ told page report back fed =
 
 -- what comes of an answer
 abbrev pub answered : State → List Reading → Reading → Ask → List Move
-answered s work r (More want) = handed (page_of s) (wanted (page_of s) want) (checked s.categories (without_file (page_of s)) work) (pulled s.categories s.pending)
+answered s work r (More want) = handed (page_of s) (wanted (page_of s) want) (checked s.categories (without_file (page_of s)) work) (pulled primitive_names s.categories s.pending)
 answered s work r (Inner k begins) = begun k begins r
 answered s work r (Done v back) = given_back back r.fed ++ Ended v ∷ []
 answered s work r (Act e) = effect s e ++ Ended (Flag true) ∷ []
 answered s work r (Tells report back) = told (page_of s) report back r.fed
 
 abbrev pub planned : State → List Reading → List Move
-planned s [] = handed (page_of s) (stomach (page_of s)) [] (pulled s.categories s.pending)
+planned s [] = handed (page_of s) (stomach (page_of s)) [] (pulled primitive_names s.categories s.pending)
 planned s (r ∷ rs) = answered s (r ∷ rs) r (ask r.kind r.fed)
 
 -- the moves of the next rule

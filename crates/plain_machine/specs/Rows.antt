@@ -1,8 +1,8 @@
 -- The machine run on small files: what it writes to the transcript within so many moves, and its status.
-use Rattle.std.specs.Prelude.{ℕ, zero, suc, ◌+◌, false, List, [], ◌∷◌, ◌++◌, Option, Some, None, ◌≡◌, codes}
+use Rattle.std.specs.Prelude.{ℕ, zero, suc, ◌+◌, false, List, [], ◌++◌, Option, Some, ◌≡◌, codes}
 use Rattle.plain_state.specs.Categories.{initial_categories}
-use Rattle.plain_state.specs.States.{State, Move, Written, Outcome, Finished, AtFatal}
-use Rattle.plain_machine.specs.Plan.{Next, Ends, Goes, next, next_of, first_state}
+use Rattle.plain_state.specs.States.{State, Move, Written, Outcome}
+use Rattle.plain_machine.specs.Plan.{Next, Ends, Goes, next_of, first_state}
 use Rattle.plain_machine.specs.Runs.{step_of}
 
 abbrev pub text_of : Move → List ℕ

@@ -1,7 +1,7 @@
 -- Runs of the machine, and what they write.
 use Rattle.std.specs.Prelude.{◌≡◌, ◌⊎◌, ℕ, ◌+◌, ◌≤◌, Bool, List, [], ◌∷◌, ◌++◌, if◌then◌else◌}
-use Rattle.tex_defs.specs.Places.{Place, Transcript, File, World, Later, is_at, grown}
-use Rattle.plain_state.specs.States.{State, Move, Handed, Taken, Feeds, Put, SetCategoryOf, Written, Begun, BegunWith, Ended, Stopped, made, column_after}
+use Rattle.tex_defs.specs.Places.{Place, File, World, Later, is_at, grown}
+use Rattle.plain_state.specs.States.{State, Move, Handed, Taken, Written, made, column_after}
 use Rattle.plain_machine.specs.Plan.{Ends, Goes, next}
 
 -- a token handed on and a line taken are the steps

@@ -50,5 +50,6 @@ pub fn worked_rows()
     ensures run_away { Writes (first_line_usual ++ codes "\\message{hi") (codes "Runaway text?\nhi \n! File ended while scanning text of \\message.\nl.0\nhi \n! Emergency stop.\n*** (job aborted, no legal \\end found)\n") (AtFatal NoEnd) }
     ensures improper { Writes (codes "\\catcode`\\foo 5 \\end") (codes "! Improper alphabetic constant.\nl.1\n! Undefined control sequence.\nl.1\n") Finished }
     ensures missing { Writes (codes "\\catcode`\\x=\\end\\end") (codes "! Missing number, treated as zero.\nl.1\n") Finished }
+    ensures hats { Writes (first_line_usual ++ codes "\\message{^^41^^4a}\\end") (codes "AJ\n") Finished }
     ensures no_category { Writes (codes "\\catcode`\\x=16 ") (codes "! Invalid code (16), should be in the range 0..15.\nl.1\n! Emergency stop.\n*** (job aborted, no legal \\end found)\n") (AtFatal NoEnd) }
 {}

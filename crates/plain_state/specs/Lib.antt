@@ -3,6 +3,7 @@ pub mod Printed
 pub mod Numerals
 pub mod Lines
 pub mod Lex
+pub mod Lookup
 pub mod Names
 pub mod Pending
 pub mod Reports
@@ -10,3 +11,4 @@ pub mod Readings
 pub mod States
 pub mod LineLaws
 pub mod LexLaws
+pub mod LookupLaws

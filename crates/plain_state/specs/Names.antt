@@ -1,11 +1,10 @@
 -- The names that mean something, and what tokens mean.
-use Rattle.std.specs.Prelude.{ℕ, ◌==◌, Bool, true, List, [], codes, bytes_eq, if◌then◌else◌}
+use Rattle.std.specs.Prelude.{ℕ, ◌==◌, Bool, true, List, [], ◌∷◌, codes, slice_index_or, if◌then◌else◌}
 use Rattle.tex_defs.specs.declared.Token.{Token}
 use Rattle.tex_defs.specs.declared.Token.TheVariants as token
 use Rattle.tex_defs.specs.declared.Name.{Name}
 use Rattle.tex_defs.specs.declared.Name.TheVariants.{Word}
 use Rattle.tex_defs.specs.declared.Name.TheVariants as name
-use Rattle.tex_defs.specs.declared.Frozen.TheVariants.{Unknown}
 use Rattle.tex_defs.specs.declared.Meaning.{Meaning}
 use Rattle.tex_defs.specs.declared.Meaning.TheVariants as means
 use Rattle.tex_defs.specs.declared.Seen.{Seen}
@@ -23,23 +22,20 @@ message_primitive = 9
 abbrev pub catcode_primitive : ℕ
 catcode_primitive = 35
 
--- A name of two or more characters. One that isn't entered is met and undefined.
-abbrev pub word : List ℕ → Name
-word bytes =
-    if bytes_eq bytes (codes "par") then Word par_primitive
-    else if bytes_eq bytes (codes "end") then Word end_primitive
-    else if bytes_eq bytes (codes "message") then Word message_primitive
-    else if bytes_eq bytes (codes "catcode") then Word catcode_primitive
-    else name.Frozen Unknown
+-- the names entered: the first of the primitives, in the order of their numbers
+unfoldable pub primitive_names : List (List ℕ)
+primitive_names =
+    codes "relax" ∷ codes "begingroup" ∷ codes "endgroup" ∷ codes "endcsname" ∷ codes "par" ∷ codes "end" ∷
+    codes "dump" ∷ codes "ignorespaces" ∷ codes "message" ∷ codes "errmessage" ∷ codes "show" ∷
+    codes "showthe" ∷ codes "uppercase" ∷ codes "lowercase" ∷ codes "aftergroup" ∷
+    codes "afterassignment" ∷ codes "immediate" ∷ codes "write" ∷ codes "openout" ∷ codes "closeout" ∷
+    codes "openin" ∷ codes "closein" ∷ codes "long" ∷ codes "outer" ∷ codes "global" ∷ codes "def" ∷
+    codes "gdef" ∷ codes "edef" ∷ codes "xdef" ∷ codes "let" ∷ codes "futurelet" ∷ codes "advance" ∷
+    codes "multiply" ∷ codes "divide" ∷ codes "catcode" ∷ []
 
--- the characters of a name, by its number
+-- the characters of a name, by its number, from 1
 abbrev pub spelling_of : ℕ → List ℕ
-spelling_of number =
-    if number == par_primitive then codes "par"
-    else if number == end_primitive then codes "end"
-    else if number == message_primitive then codes "message"
-    else if number == catcode_primitive then codes "catcode"
-    else []
+spelling_of number = slice_index_or ([] ∷ primitive_names) number []
 
 abbrev pub is_primitive : ℕ → Bool
 is_primitive number = if number == par_primitive then true else if number == end_primitive then true else if number == message_primitive then true else number == catcode_primitive

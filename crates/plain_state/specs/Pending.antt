@@ -3,6 +3,7 @@ use Rattle.std.specs.Prelude.{ℕ, ◌+◌, List, [], ◌∷◌, ◌++◌}
 use Rattle.tex_defs.specs.declared.Token.{Token}
 use Rattle.plain_state.specs.Lines.{end_char, first_line, behind_feed}
 use Rattle.plain_state.specs.Lex.{LineState, NewLine, Lexed, Gives, Invalid, UsedUp, lexed}
+use Rattle.plain_state.specs.Lookup.{token_of}
 
 -- A file is open and not begun until its first line is taken. It is closed behind its last line.
 pub data Progress : Type 0 where
@@ -51,18 +52,19 @@ from_file Closed number bytes = NothingLeft
 abbrev pub on_line : List ℕ → LineState → Pending → Pending
 on_line line lex p = record { front = []; line = line; lex = lex; rest = p.rest; file = p.file; number = p.number }
 
-abbrev pub from_line : Pending → Lexed → Pulled
-from_line p (Gives t state line) = TokenFrom t (on_line line state p)
-from_line p (Invalid state line) = InvalidMet (on_line line state p)
-from_line p UsedUp = from_file p.file p.number p.rest
+-- where these names are entered
+abbrev pub from_line : List (List ℕ) → Pending → Lexed → Pulled
+from_line names p (Gives x state line) = TokenFrom (token_of names x) (on_line line state p)
+from_line names p (Invalid state line) = InvalidMet (on_line line state p)
+from_line names p UsedUp = from_file p.file p.number p.rest
 
 -- tokens in front come first, then the line, then the file
-abbrev pub from_front : List ℕ → Pending → List Token → Pulled
-from_front categories p (t ∷ ts) = TokenFrom t (record { front = ts; line = p.line; lex = p.lex; rest = p.rest; file = p.file; number = p.number })
-from_front categories p [] = from_line p (lexed categories p.lex p.line)
+abbrev pub from_front : List (List ℕ) → List ℕ → Pending → List Token → Pulled
+from_front names categories p (t ∷ ts) = TokenFrom t (record { front = ts; line = p.line; lex = p.lex; rest = p.rest; file = p.file; number = p.number })
+from_front names categories p [] = from_line names p (lexed categories p.lex p.line)
 
-abbrev pub pulled : List ℕ → Pending → Pulled
-pulled categories p = from_front categories p p.front
+abbrev pub pulled : List (List ℕ) → List ℕ → Pending → Pulled
+pulled names categories p = from_front names categories p p.front
 
 -- what is pending after it
 abbrev pub after_pull : Pending → Pulled → Pending

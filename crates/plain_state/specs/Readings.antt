@@ -137,8 +137,8 @@ abbrev pub digits : Bool → ℕ → ℕ → List Fed → Ask
 digits negative radix value [] = More Expanded
 digits negative radix value (Tok x ∷ fed) =
     if is_digit radix x then (
-      if nat_le (value * radix + digit_of_token x.token) greatest_integer then digits negative radix (value * radix + digit_of_token x.token) fed
-      else too_big negative radix fed
+    if nat_le (value * radix + digit_of_token x.token) greatest_integer then digits negative radix (value * radix + digit_of_token x.token) fed
+    else too_big negative radix fed
     ) else number_ended negative value x
 digits negative radix value (x ∷ fed) = senseless
 

@@ -1,10 +1,11 @@
 -- The plain machine's state, and its moves.
-use Rattle.std.specs.Prelude.{ℕ, ◌+◌, Bool, true, false, not, ◌==◌, List, [], ◌∷◌, ◌++◌, Option, Some, None, slice_set}
+use Rattle.std.specs.Prelude.{ℕ, ◌+◌, Bool, true, false, not, ◌==◌, List, [], ◌∷◌, ◌++◌, Option, Some, slice_set}
 use Rattle.tex_defs.specs.declared.Token.{Token}
 use Rattle.tex_defs.specs.declared.Seen.{Seen}
 use Rattle.tex_defs.specs.declared.Fatal.{Fatal}
 use Rattle.tex_defs.specs.Places.{Place, Transcript, OfFile}
 use Rattle.plain_state.specs.Pending.{Pending, pulled, after_pull, put_front}
+use Rattle.plain_state.specs.Names.{primitive_names}
 use Rattle.plain_state.specs.Readings.{Kind, Value, Fed, Tok, Val, Told}
 
 pub record Reading : Type 0 where
@@ -86,10 +87,10 @@ ended_with v (r ∷ rs) = fed_with (Val v) rs
 
 -- What each move does.
 abbrev pub made : Move → State → State
-made (Handed t) s = record s { pending = after_pull s.pending (pulled s.categories s.pending) }
-made (Taken line) s = record s { pending = after_pull s.pending (pulled s.categories s.pending) }
-made Skipped s = record s { pending = after_pull s.pending (pulled s.categories s.pending) }
-made FileClosed s = record s { pending = after_pull s.pending (pulled s.categories s.pending) }
+made (Handed t) s = record s { pending = after_pull s.pending (pulled primitive_names s.categories s.pending) }
+made (Taken line) s = record s { pending = after_pull s.pending (pulled primitive_names s.categories s.pending) }
+made Skipped s = record s { pending = after_pull s.pending (pulled primitive_names s.categories s.pending) }
+made FileClosed s = record s { pending = after_pull s.pending (pulled primitive_names s.categories s.pending) }
 made Noted s = record s { work = fed_with Told s.work }
 made Reported s = record s { reports = s.reports + 1 }
 made (Feeds x) s = record s { work = fed_with (Tok x) s.work }

@@ -1,5 +1,6 @@
 // Laws of the lines and of the lexer: the functions have no bodies, their contracts are the laws.
-ghost use Rattle.plain_state.specs.LexLaws.{LexingConsumes, NamesAreLongestRuns, NamesAreRead};
+ghost use Rattle.plain_state.specs.LexLaws.{DoubleHats, HeadsAreRead, LexingConsumes, LinesGiveByHead, NamesAreLongestRuns, NamesAreRead};
+ghost use Rattle.plain_state.specs.LookupLaws.{NamesAreNumbered};
 ghost use Rattle.plain_state.specs.LineLaws.{LinesAreTheFile, LinesComeInTurn};
 
 /// The lines of a file, each with the spaces behind it and its ending, are the whole file, and no other lines are.
@@ -12,6 +13,21 @@ pub fn lines_come_in_turn()
     ensures { LinesComeInTurn }
 {}
 
+/// The head of a line is its first character, or that of a shorter line where `^^` stands in front.
+pub fn heads_are_read()
+    ensures { HeadsAreRead }
+{}
+
+/// What a line gives goes by the category of its head.
+pub fn lines_give_by_head()
+    ensures { LinesGiveByHead }
+{}
+
+/// What `^^` and the codes behind it stand for: *The TeXbook*, chapter 8.
+pub fn double_hats()
+    ensures { DoubleHats }
+{}
+
 /// A name of letters is the longest run of letters.
 pub fn names_are_longest_runs()
     ensures { NamesAreLongestRuns }
@@ -22,7 +38,12 @@ pub fn names_are_read()
     ensures { NamesAreRead }
 {}
 
-/// What the lexer leaves of a line is a shorter end of it.
+/// What the lexer leaves of a line is a shorter end of it, but for `^^` that was replaced.
 pub fn lexing_consumes()
     ensures { LexingConsumes }
+{}
+
+/// A name's number is the place at which it was entered.
+pub fn names_are_numbered()
+    ensures { NamesAreNumbered }
 {}

@@ -4,5 +4,6 @@
 mod laws;
 
 pub use laws::{
-    lexing_consumes, lines_are_the_file, lines_come_in_turn, names_are_longest_runs, names_are_read,
+    double_hats, heads_are_read, lexing_consumes, lines_are_the_file, lines_come_in_turn,
+    lines_give_by_head, names_are_longest_runs, names_are_numbered, names_are_read,
 };

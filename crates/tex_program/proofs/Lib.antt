@@ -1,7 +1,6 @@
 pub mod LineRests
 pub mod LineEnds
-pub mod InputLetters
-pub mod InputHeads
+pub mod Entered
 pub mod InputPulls
 pub mod InputReady
 pub mod Columns

@@ -6,7 +6,7 @@ use Rattle.tex_defs.specs.declared.Name.{Name}
 use Rattle.tex_defs.specs.declared.Seen.{Seen}
 use Rattle.tex_defs.specs.declared.Fatal.TheVariants as fatal
 use Rattle.tex_defs.specs.Places.{World, Transcript}
-use Rattle.plain_state.specs.Names.{seen}
+use Rattle.plain_state.specs.Names.{primitive_names, seen}
 use Rattle.plain_state.specs.Lex.{Lexed, Gives, Invalid, UsedUp, lexed}
 use Rattle.plain_state.specs.Pending.{Pending, Progress, NotBegun, Begun as BegunFile, Closed, Pulled, TokenFrom, LineTaken, InvalidMet, FileOver, NothingLeft, taken_line, pulled, from_front, from_line, from_file}
 use Rattle.plain_state.specs.Readings as reading
@@ -15,7 +15,7 @@ use Rattle.plain_state.specs.Reports as reports
 use Rattle.plain_state.specs.Reports.{report_bytes, hundred_line, runaway_bytes}
 use Rattle.plain_state.specs.States as machine
 use Rattle.plain_state.specs.States.{State, Reading, Move, Handed, Taken, Skipped, FileClosed, Feeds, Noted, Put, SetCategoryOf, Written, Begun, BegunWith, Ended, Reported, Stopped, AtFatal, made, fed_with, fresh, lending}
-use Rattle.plain_machine.specs.Plan.{Page, answered, handed, checked, checked_reading, without_file, page_behind, right_brace, reported, behind_report, reports_room, told, is_told, token_line, no_file, begun, given_back, put_all, last_seen, effect}
+use Rattle.plain_machine.specs.Plan.{Page, answered, handed, checked, checked_reading, without_file, page_behind, right_brace, reported, reports_room, told, is_told, token_line, no_file, begun, given_back, put_all, last_seen, effect}
 use Rattle.plain_machine.specs.Runs.{Wrote, step_of, steps}
 use Rattle.plain_machine.specs.Does.{Did, IsFault, IsWant}
 use Rattle.plain_machine.proofs.Doing.{did_join, did_one, cut_first, cut_later, wrote_none, wrote_join, same_later}
@@ -32,14 +32,13 @@ use Rattle.tex_program.specs.declared.reactions.Last.TheVariants as last
 use Rattle.tex_program.specs.declared.reactions.Onward.{Onward}
 use Rattle.tex_program.specs.declared.reactions.Onward.TheVariants as onward
 use Rattle.tex_program.specs.declared.reactions.Outcome.{Outcome}
-use Rattle.tex_program.specs.declared.reactions.Outcome.TheVariants as outcome
 use Rattle.tex_program.specs.declared.broken.Broken.{Broken}
 use Rattle.tex_program.specs.declared.broken.Broken.TheVariants.{WriteFault, Want, NoRoom}
 use Rattle.tex_program.specs.declared.engine.Engine.{Engine}
 use Rattle.tex_program.specs.declared.engine.Ruled.{Ruled}
 use Rattle.tex_program.specs.declared.engine.Ruled.TheVariants.{Step, Free, Halted}
 use Rattle.tex_program.specs.Sees.{ask_of, kind_of}
-use Rattle.tex_program.specs.Begins.{outcome_of, outcome_of_last, last_moves, last_bytes, away_moves, onward_moves, IsNoFeed, IsNoBegin}
+use Rattle.tex_program.specs.Begins.{outcome_of, outcome_of_last, last_moves, last_bytes, away_moves, IsNoFeed, IsNoBegin}
 use Rattle.tex_program.specs.Resumes.{IsOpen, frame_kind, frame_list, IsNoText}
 use Rattle.tex_program.specs.Stands.{Stands, WorkStands, WaitStands, Waits, FramesStand, FrameStands, Innermost, SameState, SameFrames, OnlyColumn, state_of, page_of}
 use Rattle.tex_program.specs.Weights.{ask_weight, frame_rank}
@@ -100,7 +99,7 @@ pub cuts_by : (s : State) (w w' : World) (ms ns : List Move) (b : Broken) → ns
 cuts_by s w w' ms ns b e h = subst (λ (x : List Move). Cuts s w w' x b) (sym e) h
 
 -- a rule is by whether a reading is open, and by what it asks for
-pub by_none : (e : Engine) (P : List Reading → List Move → Type 0) → None ≡ e.top → ((work : List Reading) → Takes None e work → P work (handed (page_of e) (onward_of (page_of e) None) (check_of e work) (pulled e.categories e.input))) →
+pub by_none : (e : Engine) (P : List Reading → List Move → Type 0) → None ≡ e.top → ((work : List Reading) → Takes None e work → P work (handed (page_of e) (onward_of (page_of e) None) (check_of e work) (pulled primitive_names e.categories e.input))) →
     (work : List Reading) → Stands e work → P work (plan_of e work)
 by_none e P top h [] st = h [] (sym top, st)
 by_none e P top h (r ∷ rs) st = absurd (subst (λ (x : Option Frame). WorkStands e.ask x e.outer.items (r ∷ rs)) (sym top) st)
@@ -586,66 +585,66 @@ takes_still (Some want) e i work h = h
 -- the rules of what was pulled
 module _ (e : Engine) (i : Pending) (page : Page) (onward : Seen → List Move) (check : List Move) where
   -- the moves behind a token handed on make the rule
-  module _ (t : Token) (is : pulled e.categories e.input ≡ TokenFrom t i) where
+  module _ (t : Token) (is : pulled primitive_names e.categories e.input ≡ TokenFrom t i) where
     after_handed : (work : List Reading) → made (Handed t) (state_of e work) ≡ state_of (record e { input = i }) work
     after_handed work = rw is refl
 
     handed_did : (work : List Reading) (w : World) → Did (state_of e work) (state_of (record e { input = i }) work) w w (Handed t ∷ [])
     handed_did work w = did_one (Handed t) _ _ w w (after_handed work) (quiet_here (Handed t) w tt)
 
-    plan_is : handed page onward check (pulled e.categories e.input) ≡ Handed t ∷ onward (seen t)
+    plan_is : handed page onward check (pulled primitive_names e.categories e.input) ≡ Handed t ∷ onward (seen t)
     plan_is = rw is refl
 
     pub onward_rule : (work : List Reading) (w w' : World) (e2 : Engine) (ruled : Ruled) →
-        DoesOnward (state_of (record e { input = i }) work) e2 w w' (onward (seen t)) ruled → DoesRule (state_of e work) e2 w w' (handed page onward check (pulled e.categories e.input)) ruled
+        DoesOnward (state_of (record e { input = i }) work) e2 w w' (onward (seen t)) ruled → DoesRule (state_of e work) e2 w w' (handed page onward check (pulled primitive_names e.categories e.input)) ruled
     onward_rule work w w' e2 ruled h =
         subst (λ (x : List Move). DoesRule (state_of e work) e2 w w' x ruled) (sym plan_is)
         (step_join (state_of e work) (state_of (record e { input = i }) work) e2 w w w' (Handed t ∷ []) (onward (seen t)) ruled (handed_did work w) refl h)
 
-    pub onward_cuts : (s : State) (w w' : World) (k : Broken) → Cuts s w w' (onward (seen t)) k → Cuts s w w' (handed page onward check (pulled e.categories e.input)) k
+    pub onward_cuts : (s : State) (w w' : World) (k : Broken) → Cuts s w w' (onward (seen t)) k → Cuts s w w' (handed page onward check (pulled primitive_names e.categories e.input)) k
     onward_cuts s w w' k h = cuts_by s w w' _ _ k plan_is (later_cuts s s w w w' (Handed t ∷ []) (onward (seen t)) k (quiet_here (Handed t) w tt) h)
 
   -- a line is taken
-  pub taken_rule : (l : List ℕ) (work : List Reading) (f : FilesTold) (s : SinkTold) → pulled e.categories e.input ≡ LineTaken l i → Stands e work →
-      Went (state_of e work) (record e { input = i }) (world_of f s e) (world_of f s e) (handed page onward check (pulled e.categories e.input)) 1
+  pub taken_rule : (l : List ℕ) (work : List Reading) (f : FilesTold) (s : SinkTold) → pulled primitive_names e.categories e.input ≡ LineTaken l i → Stands e work →
+      Went (state_of e work) (record e { input = i }) (world_of f s e) (world_of f s e) (handed page onward check (pulled primitive_names e.categories e.input)) 1
   taken_rule l work f s is stands =
       let state : made (Taken l) (state_of e work) ≡ state_of (record e { input = i }) work = rw is refl in
-      let plan : handed page onward check (pulled e.categories e.input) ≡ Taken l ∷ [] = rw is refl in
+      let plan : handed page onward check (pulled primitive_names e.categories e.input) ≡ Taken l ∷ [] = rw is refl in
       went_by _ _ _ _ (Taken l ∷ []) _ 1 plan (quiet_went (Taken l) e (record e { input = i }) work work f s 1 tt refl state refl stands)
 
   -- an invalid character is skipped
-  module _ (is : pulled e.categories e.input ≡ InvalidMet i) where
+  module _ (is : pulled primitive_names e.categories e.input ≡ InvalidMet i) where
     skipped_did : (work : List Reading) (w : World) → Did (state_of e work) (state_of (record e { input = i }) work) w w (Skipped ∷ [])
     skipped_did work w = did_one Skipped _ _ w w (rw is refl) (quiet_here Skipped w tt)
 
-    skipped_plan : handed page onward check (pulled e.categories e.input) ≡ Skipped ∷ reported page reports.InvalidCharacter []
+    skipped_plan : handed page onward check (pulled primitive_names e.categories e.input) ≡ Skipped ∷ reported page reports.InvalidCharacter []
     skipped_plan = rw is refl
 
     pub skipped_rule : (work : List Reading) (w w' : World) (e2 : Engine) (ruled : Ruled) →
         DoesOnward (state_of (record e { input = i }) work) e2 w w' (reported page reports.InvalidCharacter []) ruled →
-        DoesRule (state_of e work) e2 w w' (handed page onward check (pulled e.categories e.input)) (freed ruled)
+        DoesRule (state_of e work) e2 w w' (handed page onward check (pulled primitive_names e.categories e.input)) (freed ruled)
     skipped_rule work w w' e2 ruled h =
         subst (λ (x : List Move). DoesRule (state_of e work) e2 w w' x (freed ruled)) (sym skipped_plan)
         (free_rule (state_of e work) e2 w w' _ ruled (onward_join (state_of e work) (state_of (record e { input = i }) work) e2 w w w' (Skipped ∷ []) _ ruled (skipped_did work w) refl h))
 
-    pub skipped_cuts : (s : State) (w w' : World) (k : Broken) → Cuts s w w' (reported page reports.InvalidCharacter []) k → Cuts s w w' (handed page onward check (pulled e.categories e.input)) k
+    pub skipped_cuts : (s : State) (w w' : World) (k : Broken) → Cuts s w w' (reported page reports.InvalidCharacter []) k → Cuts s w w' (handed page onward check (pulled primitive_names e.categories e.input)) k
     skipped_cuts s w w' k h = cuts_by s w w' _ _ k skipped_plan (later_cuts s s w w w' (Skipped ∷ []) _ k (quiet_here Skipped w tt) h)
 
   -- the file has ended
-  module _ (is : pulled e.categories e.input ≡ FileOver i) where
+  module _ (is : pulled primitive_names e.categories e.input ≡ FileOver i) where
     closed_did : (work : List Reading) (w : World) → Did (state_of e work) (state_of (record e { input = i }) work) w w (FileClosed ∷ [])
     closed_did work w = did_one FileClosed _ _ w w (rw is refl) (quiet_here FileClosed w tt)
 
-    closed_plan : handed page onward check (pulled e.categories e.input) ≡ FileClosed ∷ check
+    closed_plan : handed page onward check (pulled primitive_names e.categories e.input) ≡ FileClosed ∷ check
     closed_plan = rw is refl
 
     pub closed_rule : (work : List Reading) (w w' : World) (e2 : Engine) (ruled : Ruled) → DoesOnward (state_of (record e { input = i }) work) e2 w w' check ruled →
-        DoesRule (state_of e work) e2 w w' (handed page onward check (pulled e.categories e.input)) (freed ruled)
+        DoesRule (state_of e work) e2 w w' (handed page onward check (pulled primitive_names e.categories e.input)) (freed ruled)
     closed_rule work w w' e2 ruled h =
         subst (λ (x : List Move). DoesRule (state_of e work) e2 w w' x (freed ruled)) (sym closed_plan)
         (free_rule (state_of e work) e2 w w' _ ruled (onward_join (state_of e work) (state_of (record e { input = i }) work) e2 w w w' (FileClosed ∷ []) check ruled (closed_did work w) refl h))
 
-    pub closed_cuts : (s : State) (w w' : World) (k : Broken) → Cuts s w w' check k → Cuts s w w' (handed page onward check (pulled e.categories e.input)) k
+    pub closed_cuts : (s : State) (w w' : World) (k : Broken) → Cuts s w w' check k → Cuts s w w' (handed page onward check (pulled primitive_names e.categories e.input)) k
     closed_cuts s w w' k h = cuts_by s w w' _ _ k closed_plan (later_cuts s s w w w' (FileClosed ∷ []) check k (quiet_here FileClosed w tt) h)
 
 -- a file that has ended has no line
@@ -655,16 +654,16 @@ gone_file p i BegunFile [] h = cc
 gone_file p i BegunFile (c ∷ cs) h = cc
 gone_file p i Closed bytes h = cc
 
-gone_line : (p i : Pending) (l : Lexed) → from_line p l ≡ FileOver i → i.number ≡ 0
+gone_line : (p i : Pending) (l : Lexed) → from_line primitive_names p l ≡ FileOver i → i.number ≡ 0
 gone_line p i (Gives t state line) h = cc
 gone_line p i (Invalid state line) h = cc
 gone_line p i UsedUp h = gone_file p i p.file p.rest h
 
-gone_front : (categories : List ℕ) (p i : Pending) (ts : List Token) → from_front categories p ts ≡ FileOver i → i.number ≡ 0
+gone_front : (categories : List ℕ) (p i : Pending) (ts : List Token) → from_front primitive_names categories p ts ≡ FileOver i → i.number ≡ 0
 gone_front categories p i (t ∷ ts) h = cc
 gone_front categories p i [] h = gone_line p i (lexed categories p.lex p.line) h
 
-pub file_gone : (e : Engine) (i : Pending) → pulled e.categories e.input ≡ FileOver i → page_of (record e { input = i }) ≡ without_file (page_of e)
+pub file_gone : (e : Engine) (i : Pending) → pulled primitive_names e.categories e.input ≡ FileOver i → page_of (record e { input = i }) ≡ without_file (page_of e)
 file_gone e i is = let number : i.number ≡ 0 = gone_front e.categories e.input i e.input.front is in
     ap (λ (n : ℕ). record { in_line = e.in_line; line = n; reports = e.reports; quiet = e.quiet }) number
 
@@ -680,30 +679,30 @@ number_file p BegunFile [] = tt
 number_file p BegunFile (c ∷ cs) = tt
 number_file p Closed bytes = tt
 
-number_line : (p : Pending) (l : Lexed) → KeepsNumber p (from_line p l)
+number_line : (p : Pending) (l : Lexed) → KeepsNumber p (from_line primitive_names p l)
 number_line p (Gives t state line) = refl
 number_line p (Invalid state line) = refl
 number_line p UsedUp = number_file p p.file p.rest
 
-number_kept : (categories : List ℕ) (p : Pending) (ts : List Token) → KeepsNumber p (from_front categories p ts)
+number_kept : (categories : List ℕ) (p : Pending) (ts : List Token) → KeepsNumber p (from_front primitive_names categories p ts)
 number_kept categories p (t ∷ ts) = refl
 number_kept categories p [] = number_line p (lexed categories p.lex p.line)
 
 page_at : (e : Engine) (i : Pending) → i.number ≡ e.input.number → page_of (record e { input = i }) ≡ page_of e
 page_at e i is = ap (λ (n : ℕ). record { in_line = e.in_line; line = n; reports = e.reports; quiet = e.quiet }) is
 
-pub token_page : (e : Engine) (i : Pending) (t : Token) → pulled e.categories e.input ≡ TokenFrom t i → page_of (record e { input = i }) ≡ page_of e
+pub token_page : (e : Engine) (i : Pending) (t : Token) → pulled primitive_names e.categories e.input ≡ TokenFrom t i → page_of (record e { input = i }) ≡ page_of e
 token_page e i t is = page_at e i (subst (λ (r : Pulled). KeepsNumber e.input r) is (number_kept e.categories e.input e.input.front))
 
-pub invalid_page : (e : Engine) (i : Pending) → pulled e.categories e.input ≡ InvalidMet i → page_of (record e { input = i }) ≡ page_of e
+pub invalid_page : (e : Engine) (i : Pending) → pulled primitive_names e.categories e.input ≡ InvalidMet i → page_of (record e { input = i }) ≡ page_of e
 invalid_page e i is = page_at e i (subst (λ (r : Pulled). KeepsNumber e.input r) is (number_kept e.categories e.input e.input.front))
 
 -- and makes what is pending lighter
-pub lighter_skip : (e : Engine) (i : Pending) → pulled e.categories e.input ≡ InvalidMet i → pending_weight i < pending_weight e.input
-lighter_skip e i is = subst (λ (r : Pulled). Lighter e.input r) is (lighter e.categories e.input)
+pub lighter_skip : (e : Engine) (i : Pending) → pulled primitive_names e.categories e.input ≡ InvalidMet i → pending_weight i < pending_weight e.input
+lighter_skip e i is = subst (λ (r : Pulled). Lighter e.input r) is (lighter primitive_names e.categories e.input)
 
-pub lighter_close : (e : Engine) (i : Pending) → pulled e.categories e.input ≡ FileOver i → pending_weight i < pending_weight e.input
-lighter_close e i is = subst (λ (r : Pulled). Lighter e.input r) is (lighter e.categories e.input)
+pub lighter_close : (e : Engine) (i : Pending) → pulled primitive_names e.categories e.input ≡ FileOver i → pending_weight i < pending_weight e.input
+lighter_close e i is = subst (λ (r : Pulled). Lighter e.input r) is (lighter primitive_names e.categories e.input)
 
 pub lighter_after : (e e' : Engine) → SameFrames e e' → pending_weight e'.input < pending_weight e.input → weight e' < weight e
 lighter_after e e' h less = let asked : ask_weight e'.ask ≡ ask_weight e.ask = ap ask_weight h.ask in omega (arith, same_frames e e' h, asked, less)
@@ -729,19 +728,19 @@ pub free_freed : (r q : Ruled) → q ≡ freed r → IsFree q → IsFree (freed 
 free_freed r q is h = subst IsFree is h
 
 -- nothing is left
-module _ (e : Engine) (i : Pending) (page : Page) (onward : Seen → List Move) (check : List Move) (is : pulled e.categories e.input ≡ NothingLeft) (same : i ≡ e.input) where
-  nothing_plan : handed page onward check (pulled e.categories e.input) ≡ last_moves page.in_line last.NoEnd
+module _ (e : Engine) (i : Pending) (page : Page) (onward : Seen → List Move) (check : List Move) (is : pulled primitive_names e.categories e.input ≡ NothingLeft) (same : i ≡ e.input) where
+  nothing_plan : handed page onward check (pulled primitive_names e.categories e.input) ≡ last_moves page.in_line last.NoEnd
   nothing_plan = rw is refl
 
   pub no_end_rule : (work : List Reading) (w w' : World) (e2 : Engine) (ruled : Ruled) (o : Outcome) → ruled ≡ Halted o → DoesOnward (state_of (record e { input = i }) work) e2 w w' (last_moves page.in_line last.NoEnd) ruled →
-      DoesRule (state_of e work) e2 w w' (handed page onward check (pulled e.categories e.input)) ruled
+      DoesRule (state_of e work) e2 w w' (handed page onward check (pulled primitive_names e.categories e.input)) ruled
   no_end_rule work w w' e2 ruled o now h =
       let at : DoesOnward (state_of e work) e2 w w' (last_moves page.in_line last.NoEnd) ruled = subst (λ (x : Pending). DoesOnward (state_of (record e { input = x }) work) e2 w w' (last_moves page.in_line last.NoEnd) ruled) same h in
       let halts : Halts (state_of e work) e2 w w' (last_moves page.in_line last.NoEnd) (outcome_of o) 0 = subst (λ (x : Ruled). DoesOnward (state_of e work) e2 w w' (last_moves page.in_line last.NoEnd) x) now at in
-      subst (λ (x : Ruled). DoesRule (state_of e work) e2 w w' (handed page onward check (pulled e.categories e.input)) x) (sym now)
+      subst (λ (x : Ruled). DoesRule (state_of e work) e2 w w' (handed page onward check (pulled primitive_names e.categories e.input)) x) (sym now)
       (subst (λ (ms : List Move). Halts (state_of e work) e2 w w' ms (outcome_of o) 1) (sym nothing_plan) (halts_least _ e2 _ _ _ (outcome_of o) 0 1 (omega arith) halts))
 
-  pub no_end_cuts : (s : State) (w w' : World) (k : Broken) → Cuts s w w' (last_moves page.in_line last.NoEnd) k → Cuts s w w' (handed page onward check (pulled e.categories e.input)) k
+  pub no_end_cuts : (s : State) (w w' : World) (k : Broken) → Cuts s w w' (last_moves page.in_line last.NoEnd) k → Cuts s w w' (handed page onward check (pulled primitive_names e.categories e.input)) k
   no_end_cuts s w w' k h = cuts_by s w w' _ _ k nothing_plan h
 
 pub rule_as : (s : State) (e' : Engine) (w w' : World) (ms : List Move) (r q : Ruled) → q ≡ r → DoesRule s e' w w' ms r → DoesRule s e' w w' ms q

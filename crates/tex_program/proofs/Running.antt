@@ -1,8 +1,8 @@
 -- A run, rule by rule.
-use Rattle.std.proofs.Common.{◌≡◌, ℕ, ◌+◌, ◌≤◌, List, [], ◌∷◌, ◌++◌, refl, sym, ap, subst, inl, inr, ◌∙◌, arith, Bool, true, false, append_assoc}
+use Rattle.std.proofs.Common.{◌≡◌, ℕ, ◌+◌, ◌≤◌, List, [], ◌∷◌, ◌++◌, refl, ap, subst, inl, inr, ◌∙◌, arith, Bool, true, false, append_assoc}
 use Rattle.tex_defs.specs.Places.{World}
 use Rattle.plain_state.specs.States.{State, Move, Reading}
-use Rattle.plain_machine.specs.Runs.{Moves, NeedsStep, Wrote, steps, step_of, made_all}
+use Rattle.plain_machine.specs.Runs.{Moves, NeedsStep, steps, step_of, made_all}
 use Rattle.plain_machine.specs.Does.{Cut, CutAt, MomentWritten, Why, IsFault, IsWant, front_of}
 use Rattle.plain_machine.proofs.Doing.{wrote_join, wrote_none, cause_on}
 use Rattle.plain_machine.proofs.Joins.{moves_join, steps_join, moves_made, stopped_ends, plan_moment, Moment, plan_front, Front}

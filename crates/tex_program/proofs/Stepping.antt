@@ -1,10 +1,10 @@
 -- The next rule has a step exactly where the engine says so.
-use Rattle.std.proofs.Common.{◌≡◌, ℕ, ◌+◌, ◌≤◌, ◌<◌, List, [], ◌∷◌, ◌++◌, refl, sym, ap, ◌∙◌, arith, Bool, true, false}
+use Rattle.std.proofs.Common.{◌≡◌, ℕ, List, [], ◌∷◌, ◌++◌, refl, sym, ap, ◌∙◌, arith, Bool, true, false}
 use Rattle.std.specs.Prelude.{Option, Some, None, if◌then◌else◌, ◌&&◌, is_some, nat_eq, nat_lt}
 use Rattle.tex_defs.specs.declared.Seen.{Seen}
 use Rattle.tex_defs.specs.declared.Meaning.{Meaning}
 use Rattle.tex_defs.specs.declared.Meaning.TheVariants as means
-use Rattle.plain_state.specs.Names.{seen, catcode_primitive, message_primitive, end_primitive}
+use Rattle.plain_state.specs.Names.{primitive_names, seen, catcode_primitive, message_primitive, end_primitive}
 use Rattle.plain_state.specs.Readings as reading
 use Rattle.plain_state.specs.Readings.{is_space, is_undefined}
 use Rattle.plain_state.specs.Pending.{Pulled, TokenFrom, LineTaken, InvalidMet, FileOver, NothingLeft, pulled}
@@ -101,15 +101,15 @@ begun_none k true r = with_none k r.lent (last_seen r.fed)
 begun_none k false r = refl
 
 answer_steps : (e : Engine) (work : List Reading) (r : Reading) (f : Frame) (a : Ask) →
-    steps (answered (state_of e work) work r (ask_of a)) ≡ one_if (wants_token (Some f) a && gives_step (pulled e.categories e.input))
-answer_steps e work r f (More w) = let page = page_of (state_of e work) in handed_steps page (wanted page (want_of w)) (checked e.categories (without_file page) work) (pulled e.categories e.input) (wanted_none page (want_of w)) (checked_none e.categories (without_file (page_of (state_of e work))) work)
+    steps (answered (state_of e work) work r (ask_of a)) ≡ one_if (wants_token (Some f) a && gives_step (pulled primitive_names e.categories e.input))
+answer_steps e work r f (More w) = let page = page_of (state_of e work) in handed_steps page (wanted page (want_of w)) (checked e.categories (without_file page) work) (pulled primitive_names e.categories e.input) (wanted_none page (want_of w)) (checked_none e.categories (without_file (page_of (state_of e work))) work)
 answer_steps e work r f (Inner k begins) = begun_none (kind_of k) (is_some begins) r
 answer_steps e work r f (Done v back) = steps_join (given_back (is_some back) r.fed) (Ended (value_of v) ∷ []) ∙ omega (arith, back_none (is_some back) r.fed)
 answer_steps e work r f (Act ef) = steps_join (effect (state_of e work) (effect_of ef)) (Ended (reading.Flag true) ∷ []) ∙ omega (arith, effect_none (state_of e work) (effect_of ef))
 answer_steps e work r f (Tells report back) = told_none (page_of (state_of e work)) (report_of report) (is_some back) r.fed
 
-steps_at : (e : Engine) (x : Option Frame) (work : List Reading) → WorkStands e.ask x e.outer.items work → steps (plan_of e work) ≡ one_if (wants_token x e.ask && gives_step (pulled e.categories e.input))
-steps_at e None [] h = let page = page_of (state_of e []) in handed_steps page (stomach page) [] (pulled e.categories e.input) (λ x. command_none page x.token x.meaning) refl
+steps_at : (e : Engine) (x : Option Frame) (work : List Reading) → WorkStands e.ask x e.outer.items work → steps (plan_of e work) ≡ one_if (wants_token x e.ask && gives_step (pulled primitive_names e.categories e.input))
+steps_at e None [] h = let page = page_of (state_of e []) in handed_steps page (stomach page) [] (pulled primitive_names e.categories e.input) (λ x. command_none page x.token x.meaning) refl
 steps_at e None (r ∷ rs) h = absurd h
 steps_at e (Some f) [] h = absurd h
 steps_at e (Some f) (r ∷ rs) h = rw (← h.0.asked) (answer_steps e (r ∷ rs) r f e.ask)
@@ -124,15 +124,15 @@ needs_of s page onward check (InvalidMet q) e f g = cc
 needs_of s page onward check (FileOver q) e f g = cc
 needs_of s page onward check NothingLeft e f g = cc
 
-answer_needs : (e : Engine) (work : List Reading) (r : Reading) (f : Frame) (a : Ask) → plan_of e work ≡ answered (state_of e work) work r (ask_of a) → (wants_token (Some f) a && gives_step (pulled e.categories e.input)) ≡ true → NeedsStep (state_of e work)
-answer_needs e work r f (More w) h g = let page = page_of (state_of e work) in needs_of (state_of e work) page (wanted page (want_of w)) (checked e.categories (without_file page) work) (pulled e.categories e.input) refl h g
+answer_needs : (e : Engine) (work : List Reading) (r : Reading) (f : Frame) (a : Ask) → plan_of e work ≡ answered (state_of e work) work r (ask_of a) → (wants_token (Some f) a && gives_step (pulled primitive_names e.categories e.input)) ≡ true → NeedsStep (state_of e work)
+answer_needs e work r f (More w) h g = let page = page_of (state_of e work) in needs_of (state_of e work) page (wanted page (want_of w)) (checked e.categories (without_file page) work) (pulled primitive_names e.categories e.input) refl h g
 answer_needs e work r f (Inner k begins) h g = cc
 answer_needs e work r f (Done v back) h g = cc
 answer_needs e work r f (Act ef) h g = cc
 answer_needs e work r f (Tells report back) h g = cc
 
-needs_at : (e : Engine) (x : Option Frame) (work : List Reading) → WorkStands e.ask x e.outer.items work → (wants_token x e.ask && gives_step (pulled e.categories e.input)) ≡ true → NeedsStep (state_of e work)
-needs_at e None [] h g = needs_of (state_of e []) (page_of (state_of e [])) (stomach (page_of (state_of e []))) [] (pulled e.categories e.input) refl refl g
+needs_at : (e : Engine) (x : Option Frame) (work : List Reading) → WorkStands e.ask x e.outer.items work → (wants_token x e.ask && gives_step (pulled primitive_names e.categories e.input)) ≡ true → NeedsStep (state_of e work)
+needs_at e None [] h g = needs_of (state_of e []) (page_of (state_of e [])) (stomach (page_of (state_of e []))) [] (pulled primitive_names e.categories e.input) refl refl g
 needs_at e None (r ∷ rs) h g = absurd h
 needs_at e (Some f) [] h g = absurd h
 needs_at e (Some f) (r ∷ rs) h g = answer_needs e (r ∷ rs) r f e.ask (ap (answered (state_of e (r ∷ rs)) (r ∷ rs) r) (sym h.0.asked)) g

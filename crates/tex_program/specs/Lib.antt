@@ -4,7 +4,6 @@ pub mod Weights
 pub mod Bounds
 pub mod Reads
 pub mod Views
-pub mod Lexes
 pub mod Begins
 pub mod Stands
 pub mod Rules

@@ -1,5 +1,6 @@
 -- Whether the next rule needs a step, and how many rules without a step may follow.
 use Rattle.std.specs.Prelude.{◌≡◌, ℕ, ◌+◌, ◌*◌, length, Bool, true, false, ◌&&◌, Option, Some, None}
+use Rattle.plain_state.specs.Names.{primitive_names}
 use Rattle.plain_state.specs.Pending.{Pending, Progress, Closed, pulled}
 use Rattle.tex_program.specs.Reads.{gives_step}
 use Rattle.tex_program.specs.Weights.{ask_weight}
@@ -20,7 +21,7 @@ wants_token (Some f) a = asks_more a
 
 -- the next rule begins with a step
 abbrev pub stepping : Engine → Bool
-stepping e = wants_token e.top e.ask && gives_step (pulled e.categories e.input)
+stepping e = wants_token e.top e.ask && gives_step (pulled primitive_names e.categories e.input)
 
 abbrev pub IsStep : Ruled → Type 0
 IsStep Step = Unit {0}

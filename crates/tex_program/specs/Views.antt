@@ -4,7 +4,7 @@ use Rattle.plain_state.specs.Pending.{Pending}
 use Rattle.plain_state.specs.Pending as plain
 use Rattle.tex_program.specs.declared.input.Progress.{Progress}
 use Rattle.tex_program.specs.declared.input.Progress.TheVariants.{NotBegun, Begun, Closed}
-use Rattle.tex_program.specs.Lexes.{state_of}
+use Rattle.line_lexer.specs.Answers.{state_of, rest_of}
 use Rattle.tex_program.specs.declared.input.Input.TheInside.{Inside}
 
 abbrev pub progress_of : Progress → plain.Progress
@@ -16,8 +16,8 @@ progress_of Closed = plain.Closed
 abbrev pub pending_of : Inside → Pending
 pending_of i = record {
   front = reverse i.back.items;
-  line = drop i.at i.line.items;
-  lex = state_of i.state;
+  line = rest_of i.line.items i.place;
+  lex = state_of i.place.state;
   rest = drop i.next i.bytes.items;
   file = progress_of i.progress;
   number = i.number;
@@ -29,6 +29,7 @@ first_lines Begun = 1
 first_lines p = 0
 
 pub record IsWithin (i : Inside) : Type 0 where
-  pub at : i.at ≤ length i.line.items
+  pub in_order : i.place.at ≤ i.place.end
+  pub within : i.place.end ≤ length i.line.items
   pub next : i.next ≤ length i.bytes.items
   pub number : i.number ≤ i.next + first_lines i.progress

@@ -3,6 +3,7 @@ ghost use Rattle.std.specs.Prelude.{◌≡◌, ◌≤◌, ◌<◌, ◌+◌, ◌*
 ghost use Rattle.tex_defs.specs.Places.{Transcript, World};
 ghost use Rattle.tex_defs.specs.declared.Fatal.TheVariants as fatal;
 ghost use Rattle.plain_state.specs.Categories.{initial_categories as first_categories};
+ghost use Rattle.plain_state.specs.Names.{primitive_names};
 ghost use Rattle.plain_state.specs.Pending.{pulled};
 ghost use Rattle.plain_state.specs.Names as names;
 ghost use Rattle.plain_state.specs.Readings.{Fed, Tok, Val, Told, rank, Flag as FlagValue};
@@ -461,11 +462,11 @@ impl Engine {
     /// The next token or line.
     fn next_token<S: Sink>(&mut self, out: &mut S, want: Option<Want>) -> Result<Ruled, Broken>
         ensures light { IfOk result (λ ruled. IsFree ruled → weight self.new < weight self.old) }
-        ensures step { IfOk result (λ ruled. StepsIf ruled (gives_step (pulled self.old.categories self.old.input))) }
+        ensures step { IfOk result (λ ruled. StepsIf ruled (gives_step (pulled primitive_names self.old.categories self.old.input))) }
         ensures rule { IfOk result (λ ruled. (f : FilesTold) (work : List Reading) → Takes want self.old work →
-            DoesRule (state_of self.old work) self.new (world_of f (S.told out.old) self.old) (world_of f (S.told out.new) self.new) (handed (page_of self.old) (onward_of (page_of self.old) want) (check_of self.old work) (pulled self.old.categories self.old.input)) ruled) }
+            DoesRule (state_of self.old work) self.new (world_of f (S.told out.old) self.old) (world_of f (S.told out.new) self.new) (handed (page_of self.old) (onward_of (page_of self.old) want) (check_of self.old work) (pulled primitive_names self.old.categories self.old.input)) ruled) }
         ensures err { IfErr result (λ b. (f : FilesTold) (work : List Reading) → Takes want self.old work →
-            Cuts (state_of self.old work) (world_of f (S.told out.old) self.old) (world_of f (S.told out.new) self.new) (handed (page_of self.old) (onward_of (page_of self.old) want) (check_of self.old work) (pulled self.old.categories self.old.input)) b) }
+            Cuts (state_of self.old work) (world_of f (S.told out.old) self.old) (world_of f (S.told out.new) self.new) (handed (page_of self.old) (onward_of (page_of self.old) want) (check_of self.old work) (pulled primitive_names self.old.categories self.old.input)) b) }
     {
         match self.input.pull(&self.categories)? {
             Pulled::Handed(token) => self.hand_on(out, want, token),

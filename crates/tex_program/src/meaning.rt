@@ -55,20 +55,3 @@ pub fn seen(token: Token) -> Seen
     let meaning = meaning_of(token);
     Seen { token, meaning }
 }
-
-/// The characters of a name, by its number.
-pub fn spelling(number: u16) -> &'static [u8]
-    ensures { result.now ≡ names.spelling_of number }
-{
-    if number == PAR {
-        b"par"
-    } else if number == END {
-        b"end"
-    } else if number == MESSAGE {
-        b"message"
-    } else if number == CATCODE {
-        b"catcode"
-    } else {
-        b""
-    }
-}

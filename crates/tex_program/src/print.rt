@@ -3,7 +3,7 @@ ghost use Rattle.std.specs.Prelude.{◌≡◌, ◌++◌, ◌∷◌, [], ◌<◌,
 ghost use Rattle.plain_state.specs.Printed as printed;
 ghost use Rattle.plain_machine.specs.Plan as plan;
 
-use crate::meaning::spelling;
+use crate::names::spelling;
 use std::alloc::{AllocError, Global};
 use tex_defs::{Name, Token};
 

@@ -5,7 +5,7 @@ ghost use Rattle.plain_state.specs.Numerals as numerals;
 ghost use Rattle.plain_state.specs.Reports as plain;
 ghost use Rattle.tex_program.specs.Sees.{report_of};
 
-use crate::meaning::spelling;
+use crate::names::spelling;
 use crate::print::{put_all, put_char, put_token};
 use char_text::Text;
 use std::alloc::{AllocError, Global};

@@ -2,10 +2,13 @@ use Rattle.std.proofs.Common.{refl}
 use Rattle.std.specs.Fmt.{digits}
 use Rattle.plain_machine.specs.Rows.{job_of, run_of}
 use Rattle.plain_state.specs.Categories.{initial_categories}
+use Rattle.plain_state.specs.Lex.{headed, letters, behind_letters, lexed}
+use Rattle.plain_state.specs.Lookup.{number_from}
+use Rattle.plain_state.specs.Names.{primitive_names}
 use Rattle.plain_machine.proofs.worked_rows.Goals as goal
 
 pub returns : goal.returns
-unfolding job_of run_of initial_categories digits
+unfolding job_of run_of initial_categories digits headed letters behind_letters lexed number_from primitive_names
 returns c = record {
   usual = ((refl, refl), refl);
   hi = ((refl, refl), refl);
@@ -32,4 +35,5 @@ returns c = record {
   run_away = (refl, refl);
   improper = (refl, refl);
   missing = (refl, refl);
+  hats = (refl, refl);
 }

@@ -1,4 +1,4 @@
-use Rattle.plain_state.proofs.LexRuns.{less}
+use Rattle.plain_state.proofs.LexRests.{less}
 use Rattle.plain_state.proofs.laws.lexing_consumes.Goals as goal
 
 pub returns : goal.returns

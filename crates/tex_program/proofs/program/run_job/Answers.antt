@@ -1,7 +1,6 @@
-use Rattle.std.proofs.Common.{◌≡◌, sym, subst, ℕ, List, Option, Vec, Global, Some, None, false}
+use Rattle.std.proofs.Common.{◌≡◌, sym, subst, ℕ, Option, Vec, Global, Some, None, false}
 use Rattle.std.specs.Prelude.{IfNone, IfSome}
 use Rattle.plain_machine.specs.Meaning.{First}
-use Rattle.plain_machine.proofs.Doing.{wrote_none}
 use Rattle.world_io.specs.Told.{NotFound, IsContent, world}
 use Rattle.tex_program.proofs.Meanings.{content_job, missing_job, means_says, means_unread, means_no_room, says_behind, read_quiet}
 use Rattle.tex_program.proofs.program.run_job.Goals as goal

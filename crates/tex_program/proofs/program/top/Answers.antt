@@ -1,4 +1,4 @@
-use Rattle.std.proofs.Common.{sym, subst, refl, false, inl, inr}
+use Rattle.std.proofs.Common.{sym, subst, refl, false, inl}
 use Rattle.command_words.specs.Words.{Command}
 use Rattle.plain_machine.specs.Meaning.{Means}
 use Rattle.world_io.specs.Told.{world}

@@ -1,6 +1,5 @@
-use Rattle.std.proofs.Common.{◌≡◌, ◌++◌, ◌∙◌, ap, sym, arith, List, ℕ, length, ◌-◌}
+use Rattle.std.proofs.Common.{◌++◌, ◌∙◌, ap, sym, arith, List, ℕ, length, ◌-◌}
 use Rattle.std.proofs.lemmas.Grind.{common_steps}
-use Rattle.plain_state.specs.Reports.{runaway_from}
 use Rattle.tex_program.proofs.Texts.{runaway_cut}
 use Rattle.tex_program.proofs.report.runaway_text.Goals as goal
 

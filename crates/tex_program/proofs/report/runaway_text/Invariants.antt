@@ -1,4 +1,4 @@
-use Rattle.std.proofs.Common.{◌≡◌, ◌≤◌, ◌+◌, ◌++◌, ◌-◌, length, drop}
+use Rattle.std.proofs.Common.{◌≡◌, ◌≤◌, ◌++◌, ◌-◌, length, drop}
 use Rattle.plain_state.specs.Reports.{runaway_bytes, runaway_from}
 use Rattle.tex_program.proofs.report.runaway_text.Given as goal
 

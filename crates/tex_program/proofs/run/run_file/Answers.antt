@@ -1,8 +1,7 @@
-use Rattle.std.proofs.Common.{◌≡◌, ◌∙◌, sym, subst, ap, refl, Bool, [], Some, false}
+use Rattle.std.proofs.Common.{◌∙◌, sym, subst, ap, Bool, [], Some, false}
 use Rattle.plain_state.specs.States.{State}
 use Rattle.plain_machine.specs.Meaning.{First, Line, steps_line}
 use Rattle.world_io.specs.Told.{world}
-use Rattle.tex_program.specs.Stands.{state_of}
 use Rattle.tex_program.specs.Ran.{Ran, CutBy}
 use Rattle.tex_program.specs.Says.{end_status}
 use Rattle.tex_program.proofs.Meanings.{ran_ended, ran_steps, at_first, fault_rose}

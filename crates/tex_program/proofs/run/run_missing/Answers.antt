@@ -1,13 +1,11 @@
-use Rattle.std.proofs.Common.{◌≡◌, ◌∙◌, sym, subst, ap, refl, arith, Bool, [], None, false}
-use Rattle.tex_defs.specs.declared.Fatal.TheVariants as fatal
-use Rattle.plain_state.specs.States.{State}
+use Rattle.std.proofs.Common.{sym, subst, Bool, [], None, false}
 use Rattle.plain_machine.specs.Plan.{no_file}
 use Rattle.plain_machine.specs.Meaning.{First}
 use Rattle.world_io.specs.Told.{world}
 use Rattle.tex_program.specs.declared.reactions.Outcome.{Outcome}
 use Rattle.tex_program.specs.Begins.{outcome_of}
 use Rattle.tex_program.specs.Stands.{state_of}
-use Rattle.tex_program.specs.Rules.{Halts, Cuts, world_of}
+use Rattle.tex_program.specs.Rules.{Halts, world_of}
 use Rattle.tex_program.specs.Ran.{CutBy}
 use Rattle.tex_program.specs.Says.{SaysSo}
 use Rattle.tex_program.proofs.Meanings.{missing_fails, missing_cut, fault_rose}

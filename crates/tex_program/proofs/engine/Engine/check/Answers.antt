@@ -1,11 +1,8 @@
-use Rattle.std.proofs.Common.{◌≡◌, ◌∷◌, [], ◌∙◌, sym, subst, ap, List}
-use Rattle.std.specs.Prelude.{Option, Some, None}
-use Rattle.plain_state.specs.Reports.{FileEndedInText}
-use Rattle.plain_state.specs.States.{Move}
+use Rattle.std.proofs.Common.{◌≡◌, subst}
+use Rattle.std.specs.Prelude.{Option}
 use Rattle.tex_program.specs.declared.engine.Away.{Away}
-use Rattle.tex_program.specs.Begins.{away_moves}
-use Rattle.tex_program.specs.Stands.{state_of, page_of}
-use Rattle.tex_program.specs.Rules.{AwayText, RunsAway, world_of}
+use Rattle.tex_program.specs.Stands.{state_of}
+use Rattle.tex_program.specs.Rules.{AwayText, RunsAway}
 use Rattle.tex_program.proofs.Ruling.{ok_to, err_to, runs_away, runs_on, wants_stands, onward_by, cuts_by, skip_onward}
 use Rattle.tex_program.proofs.engine.Engine.check.Goals as goal
 

@@ -1,9 +1,7 @@
-use Rattle.std.proofs.Common.{◌≡◌, ◌∷◌, [], ◌∙◌, sym, subst, ap, refl, List}
-use Rattle.plain_state.specs.States.{Move}
-use Rattle.tex_program.specs.Sees.{kind_of, report_of}
-use Rattle.tex_program.specs.Stands.{state_of, page_of}
-use Rattle.tex_program.specs.Rules.{world_of}
-use Rattle.tex_program.proofs.Ruling.{same_err, ok_to, err_to, feed_onward, begin_onward, none_waits, skip_onward, line_went, line_silent, not_free}
+use Rattle.std.proofs.Common.{[], refl}
+use Rattle.tex_program.specs.Sees.{kind_of}
+use Rattle.tex_program.specs.Stands.{page_of}
+use Rattle.tex_program.proofs.Ruling.{same_err, ok_to, feed_onward, begin_onward, none_waits, skip_onward, line_went, line_silent, not_free}
 use Rattle.tex_program.proofs.engine.Engine.go_on.Goals as goal
 
 pub returns-in-Skip-clause-rule : goal.returns-in-Skip-clause-rule

@@ -1,7 +1,7 @@
-use Rattle.std.proofs.Common.{List, subst, sym}
-use Rattle.std.specs.Prelude.{None, Some, IfOk, IfErr}
+use Rattle.std.proofs.Common.{List, subst}
+use Rattle.std.specs.Prelude.{None, IfOk, IfErr}
 use Rattle.tex_defs.specs.declared.Seen.{Seen}
-use Rattle.plain_state.specs.States.{Reading, State, Move}
+use Rattle.plain_state.specs.States.{Reading, State}
 use Rattle.world_io.specs.Told.{FilesTold}
 use Rattle.tex_program.specs.Stands.{state_of, page_of}
 use Rattle.tex_program.specs.Rules.{DoesOnward, Cuts, Takes, onward_of, world_of}

@@ -1,14 +1,12 @@
-use Rattle.std.proofs.Common.{◌≡◌, [], ◌∙◌, sym, subst, ap, refl, List, true, false, arith}
+use Rattle.std.proofs.Common.{[], sym, ap, arith}
 use Rattle.plain_state.specs.Names.{seen}
-use Rattle.plain_state.specs.Pending.{taken_line, pulled, TokenFrom}
 use Rattle.plain_state.specs.Reports.{InvalidCharacter}
-use Rattle.plain_state.specs.States.{Move}
-use Rattle.plain_machine.specs.Plan.{Page, checked, handed, without_file, reported}
+use Rattle.plain_machine.specs.Plan.{Page, checked, reported}
 use Rattle.tex_program.specs.Reads.{gives_step}
 use Rattle.tex_program.specs.Stands.{state_of, page_of}
 use Rattle.tex_program.specs.Steps.{freed, pending_weight}
-use Rattle.tex_program.specs.Rules.{onward_of, check_of, world_of, DoesRule, DoesOnward, Cuts}
-use Rattle.tex_program.proofs.Ruling.{ok_to, err_to, same_err, onward_rule, onward_cuts, taken_rule, skipped_rule, skipped_cuts, closed_rule, closed_cuts, no_end_rule, no_end_cuts, handed_at, taken_at, invalid_at, over_at, nothing_at, takes_still, takes_stands, file_gone, token_page, invalid_page, lighter_skip, lighter_close, lighter_after, steps_handed, steps_freed, steps_halted, rule_as, onward_by, cuts_by, free_freed, not_free, ok_both}
+use Rattle.tex_program.specs.Rules.{onward_of, check_of}
+use Rattle.tex_program.proofs.Ruling.{ok_to, err_to, same_err, onward_rule, onward_cuts, taken_rule, skipped_rule, skipped_cuts, closed_rule, closed_cuts, no_end_rule, no_end_cuts, handed_at, taken_at, invalid_at, over_at, nothing_at, takes_still, takes_stands, file_gone, token_page, invalid_page, lighter_skip, lighter_close, lighter_after, steps_handed, steps_freed, steps_halted, rule_as, onward_by, cuts_by, not_free, ok_both}
 use Rattle.tex_program.proofs.engine.Engine.next_token.Goals as goal
 
 pub returns-in-Handed-clause-rule : goal.returns-in-Handed-clause-rule

@@ -1,14 +1,13 @@
 use Rattle.std.proofs.lemmas.Grind.{common_steps}
-use Rattle.std.proofs.Common.{arith, ◌+◌, ◌≡◌, ◌∷◌, [], ◌∙◌, ap, refl, sym, true, false, ℕ, List, Bool}
+use Rattle.std.proofs.Common.{arith, ◌≡◌, ◌∷◌, [], ◌∙◌, ap, refl, true, false, ℕ}
 use Rattle.std.specs.Prelude.{nat_lt}
 use Rattle.plain_state.specs.Reports.{report_bytes}
-use Rattle.plain_state.specs.States.{made, Move, Reported, Written}
-use Rattle.tex_defs.specs.Places.{Transcript}
+use Rattle.plain_state.specs.States.{made, Reported}
 use Rattle.plain_machine.specs.Plan.{behind_report, reports_room}
 use Rattle.tex_program.specs.Sees.{report_of}
 use Rattle.tex_program.specs.Stands.{state_of, page_of}
 use Rattle.tex_program.specs.Rules.{world_of}
-use Rattle.tex_program.proofs.Ruling.{same_err, lost_cuts, only_join, reports_on, hundredth, hundred_cuts}
+use Rattle.tex_program.proofs.Ruling.{same_err, only_join, reports_on, hundredth, hundred_cuts}
 use Rattle.tex_program.proofs.engine.Engine.report.Goals as goal
 
 pub returns-in_err-write_text-clause-err : goal.returns-in_err-write_text-clause-err

@@ -1,6 +1,4 @@
-use Rattle.std.proofs.Common.{◌≡◌, ◌∷◌, [], refl, sym, subst, List, true, false}
-use Rattle.plain_state.specs.States.{Move}
-use Rattle.tex_program.specs.Stands.{state_of, page_of}
+use Rattle.std.proofs.Common.{[]}
 use Rattle.tex_program.specs.Sees.{report_of}
 use Rattle.tex_program.proofs.Ruling.{same_err, stands_still, reports_went}
 use Rattle.tex_program.proofs.engine.Engine.report_only.Goals as goal

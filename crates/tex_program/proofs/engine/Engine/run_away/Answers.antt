@@ -1,8 +1,7 @@
-use Rattle.std.proofs.Common.{◌≡◌, ◌∷◌, [], refl, sym, subst, ap, List, ◌∙◌}
-use Rattle.plain_state.specs.States.{Move, Put, Written}
-use Rattle.tex_defs.specs.Places.{Transcript}
+use Rattle.std.proofs.Common.{◌∷◌, [], ap, ◌∙◌}
+use Rattle.plain_state.specs.States.{Put}
 use Rattle.plain_machine.specs.Plan.{reported, page_behind, right_brace}
-use Rattle.tex_program.specs.Stands.{state_of, page_of}
+use Rattle.tex_program.specs.Stands.{page_of}
 use Rattle.tex_program.specs.Sees.{report_of}
 use Rattle.tex_program.proofs.Ruling.{same_err, ok_to, err_to, away_rule, away_cuts, away_lost}
 use Rattle.tex_program.specs.declared.broken.Broken.TheVariants.{NoRoom}

@@ -1,9 +1,6 @@
-use Rattle.std.proofs.Common.{◌≡◌, ◌+◌, ◌≤◌, sym, ◌∙◌, arith, List, refl, true, false}
-use Rattle.std.specs.Prelude.{Option, Some, None}
-use Rattle.tex_program.specs.declared.reactions.Outcome.{Outcome}
-use Rattle.tex_program.specs.Stands.{Stands, state_of}
-use Rattle.tex_program.specs.Rules.{plan_of}
-use Rattle.tex_program.specs.Steps.{stepping}
+use Rattle.std.proofs.Common.{◌≡◌, ◌+◌, ◌≤◌, arith}
+use Rattle.std.specs.Prelude.{None}
+use Rattle.tex_program.specs.Stands.{state_of}
 use Rattle.tex_program.proofs.Ruling.{same_err}
 use Rattle.tex_program.proofs.Stepping.{plan_one, stepping_needs}
 use Rattle.tex_program.proofs.Running.{came_none, came_on, came_halts, came_join, came_whole, came_cut, cut_behind, stops_join, stops_whole, as_step, as_none, as_some, as_halted, same_count, one_fits, no_some}

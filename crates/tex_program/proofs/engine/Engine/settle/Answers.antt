@@ -1,8 +1,6 @@
-use Rattle.std.proofs.Common.{◌≡◌, ◌+◌, ◌≤◌, sym, ◌∙◌, arith, List, refl, true, false}
+use Rattle.std.proofs.Common.{◌≡◌, sym, ◌∙◌, arith, refl, false}
 use Rattle.std.proofs.lemmas.Grind.{common_steps}
-use Rattle.std.specs.Prelude.{Some, None}
-use Rattle.tex_program.specs.Stands.{Stands, state_of}
-use Rattle.tex_program.specs.Rules.{plan_of}
+use Rattle.tex_program.specs.Stands.{state_of}
 use Rattle.tex_program.specs.Steps.{stepping}
 use Rattle.tex_program.proofs.Ruling.{same_err}
 use Rattle.tex_program.proofs.Stepping.{plan_silent}

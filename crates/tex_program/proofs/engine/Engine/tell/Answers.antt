@@ -1,10 +1,10 @@
-use Rattle.std.proofs.Common.{◌≡◌, ◌∷◌, [], ◌∙◌, sym, arith}
+use Rattle.std.proofs.Common.{◌∷◌, []}
 use Rattle.std.specs.Prelude.{is_some}
 use Rattle.plain_state.specs.States.{Noted, AtFatal}
 use Rattle.tex_defs.specs.declared.Fatal.TheVariants as fatal
 use Rattle.tex_program.specs.Sees.{report_of}
 use Rattle.tex_program.specs.Rules.{world_of}
-use Rattle.tex_program.proofs.Ruling.{same_err, told_went, told_halts, told_cuts, waits_still, same_frames}
+use Rattle.tex_program.proofs.Ruling.{same_err, told_went, told_halts, told_cuts, waits_still}
 use Rattle.tex_program.proofs.engine.Engine.tell.Goals as goal
 
 pub returns-in_err-report-clause-err : goal.returns-in_err-report-clause-err

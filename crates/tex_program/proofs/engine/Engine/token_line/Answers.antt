@@ -1,9 +1,9 @@
-use Rattle.std.proofs.Common.{◌≡◌, ◌∷◌, [], ◌∙◌, sym, subst, List}
+use Rattle.std.proofs.Common.{◌≡◌, [], ◌∙◌, sym, subst, List}
 use Rattle.plain_state.specs.Reports.{token_line_bytes}
 use Rattle.plain_state.specs.States.{Move}
 use Rattle.plain_machine.specs.Does.{Did}
 use Rattle.tex_program.specs.Stands.{state_of, page_of}
-use Rattle.tex_program.specs.Rules.{Cuts, world_of}
+use Rattle.tex_program.specs.Rules.{world_of}
 use Rattle.tex_program.proofs.Ruling.{on_ok, err_to, loud, cuts_by}
 use Rattle.tex_program.proofs.engine.Engine.token_line.Goals as goal
 

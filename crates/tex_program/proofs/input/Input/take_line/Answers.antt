@@ -1,4 +1,4 @@
-use Rattle.std.proofs.Common.{◌≡◌, ◌≤◌, ◌<◌, ◌+◌, ◌-◌, ◌∙◌, ap, sym, length, drop, arith, ℕ, List, refl}
+use Rattle.std.proofs.Common.{◌≡◌, ◌≤◌, ◌<◌, ◌+◌, ◌-◌, ◌∙◌, ap, sym, length, drop, arith, ℕ, refl}
 use Rattle.std.proofs.lemmas.Grind.{common_steps}
 use Rattle.std.proofs.lemmas.List.{length-drop}
 use Rattle.plain_state.specs.Pending as plain
@@ -25,7 +25,8 @@ invariant_of-self c =
     let f : c.args.self.now.file ≡ plain.Begun = sym (ap (λ (p : Pending). p.file) c.self.view_is) ∙ e in
     rw (ap (λ (p : Pending). p.rest) c.self.view_is) (c.requires.some f) in
     record {
-      at = omega arith;
+      in_order = grind (arith, common_steps);
+      within = grind (arith, common_steps);
       next = omega (arith, c.self.invariant.next, within, rest);
       number = grows i.progress i.number i.next c.in_ok-line.used (length (drop i.next i.bytes.items)) c.self.invariant.number some takes;
     }
