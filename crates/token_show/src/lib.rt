@@ -1,0 +1,2 @@
+//! Texts of tokens.
+#![tactic(auto)]
