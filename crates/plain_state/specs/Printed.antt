@@ -44,11 +44,14 @@ double_hat c =
 
 -- One character printed: a line feed where it is `\newlinechar`, itself from 32 to 126. The characters of a ^^ form aren't
 -- compared with `\newlinechar`.
-abbrev pub printed : Style → ℕ → List ℕ
-printed style c =
-    if is_code style.newline c then 10 ∷ []
+abbrev pub printed_by : ℤ → ℕ → List ℕ
+printed_by newline c =
+    if is_code newline c then 10 ∷ []
     else if is_between 32 126 c then c ∷ []
     else double_hat c
+
+abbrev pub printed : Style → ℕ → List ℕ
+printed style c = printed_by style.newline c
 
 abbrev pub printed_all : Style → List ℕ → List ℕ
 printed_all style text = flat_map (printed style) text

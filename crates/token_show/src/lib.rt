@@ -1,2 +1,13 @@
-//! Texts of tokens.
+//! The texts of names, token lists and meanings, handed out byte by byte.
+//!
+//! *The TeXbook*, chapters 7, 8 and 20; *TeX: The Program*, parts 5 (printing), 17 and 18 (names) and 20 (token
+//! lists). No call takes memory.
 #![tactic(auto)]
+
+mod part;
+mod piece;
+mod printing;
+mod view;
+mod walk;
+
+pub use view::View;

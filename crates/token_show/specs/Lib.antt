@@ -1,0 +1,4 @@
+pub mod Options
+pub mod Walks
+pub mod Views
+pub mod Texts

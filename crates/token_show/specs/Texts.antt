@@ -1,0 +1,15 @@
+-- What is left of a text: the rest of the present token's, and the texts of the tokens behind it.
+use Rattle.std.specs.Prelude.{ℕ, ℤ, ◌-◌, List, [], ◌∷◌, ◌++◌, length, Option, None, Some}
+use Rattle.std.specs.List.{flat_map}
+use Rattle.tex_defs.specs.declared.Token.{Token}
+use Rattle.plain_state.specs.Printed.{Style, printed_by, printed_all, list_from, runaway_from}
+
+-- `room` is how many bytes more may be printed of a runaway text, with those of the present token; other texts have no bound
+abbrev pub text_from : Style → Option ℕ → (places last : ℕ) → List ℕ → List Token → List ℕ
+text_from style None places last piece ts = piece ++ list_from style places last ts
+text_from style (Some room) places last piece ts = piece ++ runaway_from style (room - length (printed_all style piece)) places last ts
+
+-- the room behind a printed character
+abbrev pub room_after : Option ℕ → ℤ → ℕ → Option ℕ
+room_after None newline c = None
+room_after (Some room) newline c = Some (room - length (printed_by newline c))
