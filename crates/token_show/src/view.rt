@@ -49,7 +49,7 @@ impl<'a> View<'a> {
 }
 
 // The word of a frozen name.
-pub(crate) fn frozen_word(frozen: Frozen) -> &'static [u8]
+pub(crate) fn frozen_word<'a>(frozen: Frozen) -> &'a [u8]
     ensures { result.now ≡ frozen_word frozen }
 {
     match frozen {
@@ -63,7 +63,7 @@ pub(crate) fn frozen_word(frozen: Frozen) -> &'static [u8]
 }
 
 // The name of a primitive; none where no primitive has the number.
-pub(crate) fn primitive_word(number: u16) -> &'static [u8]
+pub(crate) fn primitive_word<'a>(number: u16) -> &'a [u8]
     ensures { result.now ≡ primitive_word number }
 {
     if number >= 1 && number <= prim_table::COUNT {
