@@ -4,10 +4,12 @@
 //! lists). No call takes memory.
 #![tactic(auto)]
 
+mod characters;
 mod part;
 mod piece;
 mod printing;
 mod view;
 mod walk;
 
+pub use characters::Characters;
 pub use view::View;

@@ -280,3 +280,10 @@ pub(crate) fn meaning_piece<'a>(view: &View<'a>, meaning: &Meaning<ListRef>) -> 
         Meaning::Macro { long, outer, list: _ } => macro_piece(view, *long, *outer),
     }
 }
+
+// No text.
+pub(crate) fn no_piece<'a>() -> Piece<'a>
+    ensures { result ≡ [] }
+{
+    Piece::new(none(), none(), none())
+}
