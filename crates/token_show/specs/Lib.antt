@@ -2,3 +2,4 @@ pub mod Options
 pub mod Walks
 pub mod Views
 pub mod Texts
+pub mod Bytes

@@ -5,8 +5,9 @@ use Rattle.tex_defs.specs.declared.Meaning.{Meaning}
 use Rattle.tex_defs.specs.declared.Meaning.TheVariants.{Undefined, RelaxMarked, Char, CharGiven, MathGiven, Register, Prim, Macro}
 use Rattle.cs_hash.specs.Names.{entered, Knows}
 use Rattle.token_lists.specs.declared.ListRef.{ListRef}
+use Rattle.token_lists.specs.declared.Build.{Build}
 use Rattle.token_lists.specs.Table.{Entry, tokens_at, IsHeld}
-use Rattle.token_lists.specs.Ids.{id_of}
+use Rattle.token_lists.specs.Ids.{id_of, build_id}
 use Rattle.plain_state.specs.Printed.{Style}
 use Rattle.token_show.specs.declared.view.View.{View}
 
@@ -25,6 +26,10 @@ IsView v = Knows v.hash.now v.pool.now.kept
 -- the tokens of a list that is held
 abbrev pub list_tokens : View → ListRef → List Token
 list_tokens v list = tokens_at v.lists.now (id_of list)
+
+-- the tokens that a list has which is being built
+abbrev pub build_tokens : View → Build → List Token
+build_tokens v build = tokens_at v.lists.now (build_id build)
 
 -- a macro's list is held
 abbrev pub HoldsList : List (Option Entry) → Meaning ListRef → Type 0

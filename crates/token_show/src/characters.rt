@@ -2,8 +2,8 @@
 ghost use Rattle.std.specs.Prelude.{◌≡◌, ◌≤◌, ◌<◌, [], ◌∷◌, Some, length, MatchOption};
 ghost use Rattle.token_lists.specs.Table.{tokens_at, IsHeld};
 ghost use Rattle.token_lists.specs.Ids.{id_of, build_id};
-ghost use Rattle.plain_state.specs.Printed.{name_text, list_text, runaway_text, meaning_head, meaning_text, places_after, last_after, no_place};
-ghost use Rattle.token_show.specs.Views.{style_of, IsView, list_tokens, HoldsList};
+ghost use Rattle.plain_state.specs.Printed.{name_text, list_text, runaway_text, meaning_head, meaning_text, meaning_tokens, places_after, last_after, no_place};
+ghost use Rattle.token_show.specs.Views.{style_of, IsView, list_tokens, build_tokens, HoldsList};
 ghost use Rattle.token_show.specs.Texts.{room_after, is_spent, text_from};
 
 use crate::piece::{Piece, escaped, meaning_piece, name_piece, no_piece, token_piece};
@@ -12,7 +12,7 @@ use crate::view::View;
 use crate::walk::Walk;
 use std::marker::Model;
 use tex_defs::{Meaning, Name, Token};
-use token_lists::{Build, ListRef};
+use token_lists::{Build, ListRef, Lists};
 
 /// The characters of a text that are still to come, before they are printed: those of `\string` and its like.
 /// Contracts see them as a list.
@@ -108,6 +108,21 @@ fn begin<'a>(
     token_piece(view, places, last, token)
 }
 
+// The tokens of a macro's list, and none of another meaning.
+fn meaning_walk<'a>(lists: &'a Lists, meaning: &'a Meaning<ListRef>) -> Walk<'a>
+    requires { HoldsList lists.now meaning.now }
+    ensures { result ≡ meaning_tokens (λ list. tokens_at lists.now (id_of list)) meaning.now }
+{
+    match meaning {
+        Meaning::Macro {
+            long: _,
+            outer: _,
+            list,
+        } => Walk::of_list(lists, list),
+        _ => Walk::nothing(lists),
+    }
+}
+
 impl<'a> Characters<'a> {
     // A piece, and the tokens of a list behind it.
     fn new(view: View<'a>, piece: Piece<'a>, walk: Walk<'a>, room: Option<u8>) -> Characters<'a>
@@ -122,6 +137,82 @@ impl<'a> Characters<'a> {
             last: b'#',
             room,
         }
+    }
+
+    /// A list of tokens, as `\meaning` and `\detokenize` have it.
+    pub fn of_list(view: View<'a>, list: &'a ListRef) -> Characters<'a>
+        requires names { IsView view }
+        requires held { IsHeld view.lists.now (id_of list.now) }
+        ensures { result ≡ list_text (style_of view.entry) (list_tokens view.entry list.now) }
+    {
+        let walk = Walk::of_list(view.lists, list);
+        Characters::new(view, no_piece(), walk, None)
+    }
+
+    /// A list that is being built.
+    pub fn of_build(view: View<'a>, build: &'a Build) -> Characters<'a>
+        requires names { IsView view }
+        requires held { IsHeld view.lists.now (build_id build.now) }
+        ensures { result ≡ list_text (style_of view.entry) (build_tokens view.entry build.now) }
+    {
+        let walk = Walk::of_build(view.lists, build);
+        Characters::new(view, no_piece(), walk, None)
+    }
+
+    /// The list of a runaway text: token by token while fewer than 62 bytes were printed, then `\ETC.` if tokens
+    /// remain.
+    ///
+    /// *TeX: The Program*, part 22 (`runaway`).
+    pub fn of_runaway(view: View<'a>, build: &'a Build) -> Characters<'a>
+        requires names { IsView view }
+        requires held { IsHeld view.lists.now (build_id build.now) }
+        ensures { result ≡ runaway_text (style_of view.entry) (build_tokens view.entry build.now) }
+    {
+        let walk = Walk::of_build(view.lists, build);
+        Characters::new(view, no_piece(), walk, Some(62))
+    }
+
+    /// A token, as a list of it alone has it.
+    pub fn of_token(view: View<'a>, token: Token) -> Characters<'a>
+        requires { IsView view }
+        ensures { result ≡ list_text (style_of view.entry) (token ∷ []) }
+    {
+        let piece = token_piece(&view, 0, b'#', token);
+        let walk = Walk::nothing(view.lists);
+        Characters::new(view, piece, walk, None)
+    }
+
+    /// A name, as `\string` gives it and as reports have it.
+    pub fn of_name(view: View<'a>, name: Name) -> Characters<'a>
+        requires { IsView view }
+        ensures { result ≡ name_text (style_of view.entry) name }
+    {
+        let piece = name_piece(&view, name);
+        let walk = Walk::nothing(view.lists);
+        Characters::new(view, piece, walk, None)
+    }
+
+    /// A meaning without a macro's list: of a macro up to its `macro:`.
+    ///
+    /// *TeX: The Program*, part 17 (`print_cmd_chr`).
+    pub fn of_meaning_head(view: View<'a>, meaning: &Meaning<ListRef>) -> Characters<'a>
+        requires { IsView view }
+        ensures { result ≡ meaning_head (style_of view.entry) meaning.now }
+    {
+        let piece = meaning_piece(&view, meaning);
+        let walk = Walk::nothing(view.lists);
+        Characters::new(view, piece, walk, None)
+    }
+
+    /// A meaning, as `\meaning` has it: of a macro with its list.
+    pub fn of_meaning(view: View<'a>, meaning: &'a Meaning<ListRef>) -> Characters<'a>
+        requires names { IsView view }
+        requires held { HoldsList view.lists.now meaning.now }
+        ensures { result ≡ meaning_text (style_of view.entry) (list_tokens view.entry) meaning.now }
+    {
+        let piece = meaning_piece(&view, meaning);
+        let walk = meaning_walk(view.lists, meaning);
+        Characters::new(view, piece, walk, None)
     }
 
     /// The next character; `None` exactly where none is left.

@@ -8,8 +8,12 @@ mod characters;
 mod part;
 mod piece;
 mod printing;
+mod shown;
 mod view;
 mod walk;
 
 pub use characters::Characters;
+pub use shown::{
+    Shown, meaning, meaning_head, name_text, show_built, show_list, show_runaway, show_token,
+};
 pub use view::View;
