@@ -17,3 +17,6 @@ pub use shown::{
     Shown, meaning, meaning_head, name_text, show_built, show_list, show_runaway, show_token,
 };
 pub use view::View;
+
+#[cfg(test)]
+mod tests;
