@@ -1,6 +1,6 @@
 -- The lines of a file. A line feed ends a line; one carriage return before it goes; a last line counts where it
 -- isn't empty; trailing characters 32 go.
-use Rattle.std.specs.Prelude.{ℕ, ◌==◌, Bool, true, false, List, [], ◌∷◌, if◌then◌else◌}
+use Rattle.std.specs.Prelude.{ℕ, ◌==◌, Bool, true, false, not, List, [], ◌∷◌, ◌++◌, if◌then◌else◌}
 
 abbrev pub line_feed : ℕ
 line_feed = 10

@@ -1,5 +1,5 @@
 -- The plain machine's state, and its moves.
-use Rattle.std.specs.Prelude.{ℕ, Bool, true, false, not, ◌==◌, List, [], ◌∷◌, ◌++◌, Option, Some, slice_set}
+use Rattle.std.specs.Prelude.{ℕ, Bool, true, false, not, ◌==◌, List, [], ◌∷◌, ◌++◌, Option, Some, None, slice_set}
 use Rattle.tex_defs.specs.declared.Token.{Token}
 use Rattle.tex_defs.specs.declared.Seen.{Seen}
 use Rattle.tex_defs.specs.declared.Fatal.{Fatal}

@@ -1,6 +1,5 @@
 -- A walk along the tokens of a list, or of one that is being built.
 use Rattle.std.specs.Prelude.{◌≡◌, ℕ, List, [], drop, Option, None}
-use Rattle.std.specs.Borrow.{Bor}
 use Rattle.tex_defs.specs.declared.Token.{Token}
 use Rattle.token_lists.specs.Table.{Entry, tokens_at}
 use Rattle.token_lists.specs.Ids.{id_of, build_id}

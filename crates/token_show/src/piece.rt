@@ -277,7 +277,11 @@ pub(crate) fn meaning_piece<'a>(view: &View<'a>, meaning: &Meaning<ListRef>) -> 
         Meaning::MathGiven(c) => hexadecimal_piece(view, b"mathchar\"", u32::from(*c)),
         Meaning::Register { kind, no } => decimal_piece(view, register_word(*kind), u64::from(*no)),
         Meaning::Prim(number) => escaped(view, primitive_word(*number)),
-        Meaning::Macro { long, outer, list: _ } => macro_piece(view, *long, *outer),
+        Meaning::Macro {
+            long,
+            outer,
+            list: _,
+        } => macro_piece(view, *long, *outer),
     }
 }
 

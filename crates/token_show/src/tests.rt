@@ -20,13 +20,34 @@ static MEANINGS: [(Meaning<ListRef>, &[u8]); 17] = [
     (Meaning::Char { cat: 11, code: 65 }, b"the letter A"),
     (Meaning::Char { cat: 10, code: 32 }, b"blank space  "),
     (Meaning::Char { cat: 12, code: 49 }, b"the character 1"),
-    (Meaning::Char { cat: 1, code: b'{' }, b"begin-group character {"),
-    (Meaning::Char { cat: 2, code: b'}' }, b"end-group character }"),
-    (Meaning::Char { cat: 3, code: b'$' }, b"math shift character $"),
-    (Meaning::Char { cat: 4, code: b'&' }, b"alignment tab character &"),
-    (Meaning::Char { cat: 6, code: b'#' }, b"macro parameter character #"),
-    (Meaning::Char { cat: 7, code: b'^' }, b"superscript character ^"),
-    (Meaning::Char { cat: 8, code: b'_' }, b"subscript character _"),
+    (
+        Meaning::Char { cat: 1, code: b'{' },
+        b"begin-group character {",
+    ),
+    (
+        Meaning::Char { cat: 2, code: b'}' },
+        b"end-group character }",
+    ),
+    (
+        Meaning::Char { cat: 3, code: b'$' },
+        b"math shift character $",
+    ),
+    (
+        Meaning::Char { cat: 4, code: b'&' },
+        b"alignment tab character &",
+    ),
+    (
+        Meaning::Char { cat: 6, code: b'#' },
+        b"macro parameter character #",
+    ),
+    (
+        Meaning::Char { cat: 7, code: b'^' },
+        b"superscript character ^",
+    ),
+    (
+        Meaning::Char { cat: 8, code: b'_' },
+        b"subscript character _",
+    ),
     (Meaning::CharGiven(65), b"\\char\"41"),
     (Meaning::MathGiven(0x141), b"\\mathchar\"141"),
     (Meaning::MathGiven(0x7FFF), b"\\mathchar\"7FFF"),
@@ -100,7 +121,13 @@ fn lists(rt: HostRuntime) -> Result<(), Fail> {
         return Ok(assert!(rt; false, "a word is there"));
     };
     let a = Token::Char { cat: 11, code: 97 };
-    let tokens = [Token::EndPlaces, a, HASH, HASH, Token::Char { cat: 11, code: 98 }];
+    let tokens = [
+        Token::EndPlaces,
+        a,
+        HASH,
+        HASH,
+        Token::Char { cat: 11, code: 98 },
+    ];
     let appended = append_all(&mut lists, &mut build, &tokens);
     let list = lists.finish(build);
     let categories = categories();
@@ -209,10 +236,7 @@ fn runaway(rt: HostRuntime) -> Result<(), Fail> {
     let Ok(mut build) = lists.begin() else {
         return Ok(assert!(rt; false, "a word is there"));
     };
-    let high = Token::Char {
-        cat: 12,
-        code: 255,
-    };
+    let high = Token::Char { cat: 12, code: 255 };
     let appended = append_all(&mut lists, &mut build, &[high; 17]);
     let categories = categories();
     let view = View {
