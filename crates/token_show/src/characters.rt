@@ -195,7 +195,7 @@ impl<'a> Characters<'a> {
     /// A meaning without a macro's list: of a macro up to its `macro:`.
     ///
     /// *TeX: The Program*, part 17 (`print_cmd_chr`).
-    pub fn of_meaning_head(view: View<'a>, meaning: &Meaning<ListRef>) -> Characters<'a>
+    pub fn of_meaning_head<L>(view: View<'a>, meaning: &Meaning<L>) -> Characters<'a>
         requires { IsView view }
         ensures { result ≡ meaning_head (style_of view.entry) meaning.now }
     {

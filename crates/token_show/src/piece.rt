@@ -12,7 +12,6 @@ use crate::view::{View, frozen_word, primitive_word};
 use char_text::{Text, count_length, hexadecimal_length};
 use std::marker::Model;
 use tex_defs::{Meaning, Name, RegisterKind, Token};
-use token_lists::ListRef;
 
 // What is left of a text of three parts and a number. Contracts see it as the list of its characters.
 #[derive(Drop)]
@@ -266,7 +265,7 @@ fn decimal_piece<'a>(view: &View<'a>, word: &'a [u8], n: u64) -> Piece<'a>
 }
 
 // A meaning without a macro's list.
-pub(crate) fn meaning_piece<'a>(view: &View<'a>, meaning: &Meaning<ListRef>) -> Piece<'a>
+pub(crate) fn meaning_piece<'a, L>(view: &View<'a>, meaning: &Meaning<L>) -> Piece<'a>
     ensures { result ≡ meaning_head (style_of view.now) meaning.now }
 {
     match meaning {

@@ -129,7 +129,7 @@ pub fn name_text<'a>(view: View<'a>, name: Name) -> Shown<'a>
 }
 
 /// A meaning without a macro's list, printed: of a macro up to its `macro:`, behind which `\show` has a line feed.
-pub fn meaning_head<'a>(view: View<'a>, meaning: &Meaning<ListRef>) -> Shown<'a>
+pub fn meaning_head<'a, L>(view: View<'a>, meaning: &Meaning<L>) -> Shown<'a>
     requires { IsView view }
     ensures { result ≡ printed_all (style_of view.entry) (meaning_head (style_of view.entry) meaning.now) }
 {

@@ -221,6 +221,8 @@ fn names_and_meanings(rt: HostRuntime) -> Result<(), Fail> {
         expect(&rt, show_token(view, Token::Named(name)), in_list);
         expect(&rt, show_token(silent, Token::Marked(name)), without_escape);
     }
+    let relax: Meaning<()> = Meaning::Prim(1);
+    expect(&rt, meaning_head(view, &relax), b"\\relax");
     for k in 0..17usize {
         expect(&rt, meaning_head(view, &MEANINGS[k].0), MEANINGS[k].1);
     }
