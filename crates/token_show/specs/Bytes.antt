@@ -9,5 +9,6 @@ use Rattle.token_show.specs.declared.shown.Shown.TheInside.{Inside}
 abbrev pub all_printed : ℤ → List ℕ → List ℕ
 all_printed newline text = flat_map (printed_by newline) text
 
+-- what a `Shown` stands for: the bytes that are left of the last character, and the others printed
 abbrev pub bytes_left : Inside → List ℕ
 bytes_left a = listed a.second ++ (listed a.third ++ (listed a.fourth ++ all_printed a.newline a.characters))

@@ -20,6 +20,7 @@ abbrev pub is_spent : Option ℕ → Bool
 is_spent None = false
 is_spent (Some room) = room == 0
 
+-- what a `Characters` stands for
 abbrev pub text_view : Inside → List ℕ
 text_view a = text_from (style_of a.view) a.room a.places a.last a.piece a.walk
 

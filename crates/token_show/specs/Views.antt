@@ -11,6 +11,7 @@ use Rattle.token_lists.specs.Ids.{id_of, build_id}
 use Rattle.plain_state.specs.Printed.{Style}
 use Rattle.token_show.specs.declared.view.View.{View}
 
+-- what texts depend on, as a view has it
 abbrev pub style_of : View → Style
 style_of v = record {
   escape = v.escape;
