@@ -1,5 +1,5 @@
 -- The names that mean something, and what tokens mean.
-use Rattle.std.specs.Prelude.{ℕ, ◌==◌, Bool, true, List, [], codes, bytes_eq, if◌then◌else◌}
+use Rattle.std.specs.Prelude.{ℕ, ◌==◌, Bool, true, List, [], ◌∷◌, codes, bytes_eq, if◌then◌else◌}
 use Rattle.tex_defs.specs.declared.Token.{Token}
 use Rattle.tex_defs.specs.declared.Token.TheVariants as token
 use Rattle.tex_defs.specs.declared.Name.{Name}
@@ -23,6 +23,17 @@ message_primitive = 9
 abbrev pub catcode_primitive : ℕ
 catcode_primitive = 35
 
+-- the names of the primitives that are entered at first, number 1 first
+abbrev pub primitive_names : List (List ℕ)
+primitive_names =
+    codes "relax" ∷ codes "begingroup" ∷ codes "endgroup" ∷ codes "endcsname" ∷ codes "par" ∷
+    codes "end" ∷ codes "dump" ∷ codes "ignorespaces" ∷ codes "message" ∷ codes "errmessage" ∷
+    codes "show" ∷ codes "showthe" ∷ codes "uppercase" ∷ codes "lowercase" ∷ codes "aftergroup" ∷
+    codes "afterassignment" ∷ codes "immediate" ∷ codes "write" ∷ codes "openout" ∷
+    codes "closeout" ∷ codes "openin" ∷ codes "closein" ∷ codes "long" ∷ codes "outer" ∷
+    codes "global" ∷ codes "def" ∷ codes "gdef" ∷ codes "edef" ∷ codes "xdef" ∷ codes "let" ∷
+    codes "futurelet" ∷ codes "advance" ∷ codes "multiply" ∷ codes "divide" ∷ codes "catcode" ∷ []
+
 -- A name of two or more characters. One that isn't entered is met and undefined.
 abbrev pub word : List ℕ → Name
 word bytes =
@@ -31,15 +42,6 @@ word bytes =
     else if bytes_eq bytes (codes "message") then Word message_primitive
     else if bytes_eq bytes (codes "catcode") then Word catcode_primitive
     else name.Frozen Unknown
-
--- the characters of a name, by its number
-abbrev pub spelling_of : ℕ → List ℕ
-spelling_of number =
-    if number == par_primitive then codes "par"
-    else if number == end_primitive then codes "end"
-    else if number == message_primitive then codes "message"
-    else if number == catcode_primitive then codes "catcode"
-    else []
 
 abbrev pub is_primitive : ℕ → Bool
 is_primitive number = if number == par_primitive then true else if number == end_primitive then true else if number == message_primitive then true else number == catcode_primitive

@@ -1,11 +1,12 @@
 use Rattle.std.proofs.Common.{refl}
 use Rattle.std.specs.Fmt.{digits}
+use Rattle.prim_table.specs.Primitives.{primitive_name, primitive_names, command_names}
 use Rattle.plain_machine.specs.Rows.{job_of, run_of}
 use Rattle.plain_state.specs.Categories.{initial_categories}
 use Rattle.plain_machine.proofs.worked_rows.Goals as goal
 
 pub returns : goal.returns
-unfolding job_of run_of initial_categories digits
+unfolding job_of run_of initial_categories digits primitive_name primitive_names command_names
 returns c = record {
   usual = ((refl, refl), refl);
   hi = ((refl, refl), refl);
