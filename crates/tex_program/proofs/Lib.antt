@@ -13,3 +13,4 @@ pub mod Running
 pub mod Telling
 pub mod Meanings
 pub mod Texts
+pub mod Spellings
