@@ -13,7 +13,7 @@ use Rattle.plain_state.specs.Printed.{initial_style, shown_all}
 use Rattle.plain_state.specs.Reports.{Report, UndefinedName, InvalidCharacter, FileEndedInText, NoSuchFile, fresh_line, report_bytes, hundred_line, emergency, no_end_line, no_file_line, token_line_bytes, runaway_bytes}
 use Rattle.plain_state.specs.Lex.{NewLine}
 use Rattle.plain_state.specs.Pending.{Pulled, TokenFrom, LineTaken, InvalidMet, FileOver, NothingLeft, Progress, NotBegun, Closed, pulled}
-use Rattle.plain_state.specs.Readings.{Kind, Catcode, Message, Integer, Text, Want, Raw, Expanded, Nonblank, Effect, SetCategory, Say, Fed, Tok, Val, Told, Value, Flag, Ask, More, Inner, Done, Act, Tells, ask, so_far, is_space, is_undefined}
+use Rattle.plain_state.specs.Readings.{Kind, Catcode, Message, Text, Want, Raw, Expanded, Nonblank, Effect, SetCategory, Say, Fed, Tok, Val, Told, Flag, Ask, More, Inner, Done, Act, Tells, ask, so_far, is_space, is_undefined}
 use Rattle.plain_state.specs.States.{Reading, Outcome, Finished, AtFatal, Move, Handed, Taken, Skipped, FileClosed, Feeds, Noted, Put, SetCategoryOf, Written, Begun, BegunWith, Ended, Reported, Stopped, State, made, in_line_after}
 
 -- What the texts of a rule depend on: whether the transcript's column isn't 0, the number of the line that is read,

@@ -1,8 +1,6 @@
 -- Texts put behind one another.
-use Rattle.std.proofs.Common.{◌≡◌, ◌≤◌, ◌<◌, ◌-◌, ◌++◌, ◌∙◌, ap, append_assoc, ℕ, List, [], ◌∷◌, length, drop, codes, arith, refl, false}
-use Rattle.std.specs.Prelude.{nat_lt}
+use Rattle.std.proofs.Common.{◌≡◌, ◌≤◌, ◌<◌, ◌-◌, ◌++◌, ◌∙◌, ap, append_assoc, ℕ, List, [], ◌∷◌, length, drop, codes, arith, refl}
 use Rattle.std.proofs.lemmas.List.{length-drop}
-use Rattle.std.proofs.lemmas.Grind.{common_steps}
 use Rattle.tex_defs.specs.declared.Token.{Token}
 use Rattle.plain_state.specs.Printed.{Style, initial_style, printed_all, escaped, runaway_from}
 

@@ -86,13 +86,21 @@ fn space_behind(categories: &[u8; 256], name: Name) -> &'static [u8]
 {
     match name {
         Name::Active(_) => b"",
-        Name::Single(c) => if categories[c as usize] == 11 { b" " } else { b"" },
+        Name::Single(c) => if categories[c as usize] == 11 {
+            b" "
+        } else {
+            b""
+        },
         _ => b" ",
     }
 }
 
 /// Prints a name as a list shows it.
-fn put_name_in_list(text: &mut Vec<u8>, categories: &[u8; 256], name: Name) -> Result<(), AllocError>
+fn put_name_in_list(
+    text: &mut Vec<u8>,
+    categories: &[u8; 256],
+    name: Name,
+) -> Result<(), AllocError>
     ensures { OnOk result (text.new.items ≡ text.old.items ++ printed.name_shown (initial_style categories.now) name) }
 {
     put_name(text, name)?;

@@ -209,7 +209,11 @@ fn put_meaning(text: &mut Vec<u8>, meaning: Meaning<()>) -> Result<(), AllocErro
         Meaning::MathGiven(c) => put_hex(text, b"mathchar\"", u32::from(c)),
         Meaning::Register { kind, no } => put_decimal(text, register_word(kind), u64::from(no)),
         Meaning::Prim(number) => put_escaped(text, primitive_word(number)),
-        Meaning::Macro { long, outer, list: _ } => put_all(text, macro_text(long, outer)),
+        Meaning::Macro {
+            long,
+            outer,
+            list: _,
+        } => put_all(text, macro_text(long, outer)),
     }
 }
 

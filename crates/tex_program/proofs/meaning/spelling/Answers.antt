@@ -1,4 +1,4 @@
-use Rattle.std.proofs.Common.{◌≡◌, refl, sym, ◌∙◌, arith, w8}
+use Rattle.std.proofs.Common.{◌∙◌, arith}
 use Rattle.std.proofs.lemmas.Grind.{common_steps}
 use Rattle.tex_program.proofs.Spellings.{spelt, unspelt}
 use Rattle.tex_program.proofs.meaning.spelling.Goals as goal
@@ -11,4 +11,4 @@ pub returns-else-number-ge1 : goal.returns-else-number-ge1
 returns-else-number-ge1 c = elim c.else-number-ge1.branch [
   | else-number-ge1-via-then-number-ge1+else-number-le-FIRST_NAMES w ↦ unspelt c.args.number (grind (arith, common_steps))
   | else-number-ge1-via-else-number-ge1 w ↦ grind (arith, common_steps)
-  ]
+]

@@ -1,4 +1,4 @@
-use Rattle.std.proofs.Common.{◌≡◌, ◌∷◌, [], ◌++◌, ◌∙◌, ap, refl, sym, append_assoc, ℕ, List, codes}
+use Rattle.std.proofs.Common.{◌≡◌, ◌++◌, ◌∙◌, ap, sym, append_assoc, ℕ, List, codes}
 use Rattle.std.specs.Fmt.{digits}
 use Rattle.plain_state.specs.Printed.{printed_all}
 use Rattle.plain_state.specs.Reports.{plain_style}

@@ -1,4 +1,4 @@
-use Rattle.std.proofs.Common.{◌≡◌, ◌++◌, ◌∙◌, ap, sym, arith, List, ℕ, length, ◌-◌}
+use Rattle.std.proofs.Common.{◌++◌, ◌∙◌, ap, sym, arith, List, ℕ, length, ◌-◌}
 use Rattle.std.proofs.lemmas.Grind.{common_steps}
 use Rattle.tex_program.proofs.Texts.{runaway_cut}
 use Rattle.tex_program.proofs.report.runaway_text.Goals as goal
