@@ -9,7 +9,7 @@ use Rattle.tex_defs.specs.declared.Fatal.TheVariants.{NoEnd, NoFile, HundredErro
 use Rattle.tex_defs.specs.Places.{Transcript}
 use Rattle.plain_state.specs.Categories.{end_group}
 use Rattle.plain_state.specs.Names.{seen, name_of, primitive_names, end_primitive, message_primitive, catcode_primitive}
-use Rattle.plain_state.specs.Printed.{shown_all}
+use Rattle.plain_state.specs.Printed.{initial_style, shown_all}
 use Rattle.plain_state.specs.Reports.{Report, UndefinedName, InvalidCharacter, FileEndedInText, NoSuchFile, fresh_line, report_bytes, hundred_line, emergency, no_end_line, no_file_line, token_line_bytes, runaway_bytes}
 use Rattle.plain_state.specs.Lex.{NewLine}
 use Rattle.plain_state.specs.Pending.{Pulled, TokenFrom, LineTaken, InvalidMet, FileOver, NothingLeft, Progress, NotBegun, Closed, pulled}
@@ -113,7 +113,7 @@ handed page onward check NothingLeft = no_end page.in_line
 
 -- A message: a space where the column isn't 0, and the list shown.
 abbrev pub message_text : List ℕ → Bool → List Token → List ℕ
-message_text categories in_line ts = (if in_line then 32 ∷ [] else []) ++ shown_all categories ts
+message_text categories in_line ts = (if in_line then 32 ∷ [] else []) ++ shown_all (initial_style categories) ts
 
 abbrev pub effect : State → Effect → List Move
 effect s (SetCategory code category) = SetCategoryOf code category ∷ []

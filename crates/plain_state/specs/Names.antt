@@ -1,5 +1,5 @@
 -- The names that mean something, and what tokens mean.
-use Rattle.std.specs.Prelude.{ℕ, ◌==◌, Bool, true, List, [], ◌∷◌, codes, slice_index_or, if◌then◌else◌}
+use Rattle.std.specs.Prelude.{ℕ, ◌==◌, Bool, true, List, [], ◌∷◌, codes, if◌then◌else◌}
 use Rattle.tex_defs.specs.declared.Token.{Token}
 use Rattle.tex_defs.specs.declared.Token.TheVariants as token
 use Rattle.tex_defs.specs.declared.Name.{Name}
@@ -32,10 +32,6 @@ primitive_names =
     codes "openin" ∷ codes "closein" ∷ codes "long" ∷ codes "outer" ∷ codes "global" ∷ codes "def" ∷
     codes "gdef" ∷ codes "edef" ∷ codes "xdef" ∷ codes "let" ∷ codes "futurelet" ∷ codes "advance" ∷
     codes "multiply" ∷ codes "divide" ∷ codes "catcode" ∷ []
-
--- the characters of a name, by its number, from 1
-abbrev pub spelling_of : ℕ → List ℕ
-spelling_of number = slice_index_or ([] ∷ primitive_names) number []
 
 abbrev pub is_primitive : ℕ → Bool
 is_primitive number = if number == par_primitive then true else if number == end_primitive then true else if number == message_primitive then true else number == catcode_primitive

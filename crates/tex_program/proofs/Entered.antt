@@ -3,7 +3,7 @@ use Rattle.std.proofs.Common.{◌≡◌, ℕ, zero, suc, ◌+◌, ◌-◌, ◌<�
 use Rattle.std.specs.Prelude.{Some, None}
 use Rattle.std.proofs.Math.Seq.{drop-cons}
 use Rattle.std.proofs.lemmas.List.{get_or_append_left}
-use Rattle.plain_state.specs.Names.{primitive_names, spelling_of}
+use Rattle.plain_state.specs.Names.{primitive_names}
 use Rattle.plain_state.specs.Lookup.{number_from, number_of}
 use Rattle.prim_table.specs.Primitives as table
 use Rattle.prim_table.specs.Primitives.{primitive_name, command_names, assignment_names, expandable_names, conditional_names, integer_names, dimension_names, glue_names, token_names}
@@ -47,16 +47,3 @@ at_end k name = refl
 
 pub no_name : (k : ℕ) (name : List ℕ) → 35 < k → k ≤ 36 → number_from k (drop (k - 1) primitive_names) name ≡ None
 no_name k name low high = let e : k - 1 ≡ 35 = omega arith in ap (λ (j : ℕ). number_from k (drop j primitive_names) name) e ∙ at_end k name
-
-pub spelt : (j : ℕ) → 0 < j → j ≤ 35 → primitive_name j ≡ spelling_of j
-spelt zero low high = absurd (omega arith)
-spelt (suc k) low high = let e : suc k - 1 ≡ k = omega arith in same_name (suc k) low high ∙ ap (λ (i : ℕ). get_or primitive_names i []) e
-
-outside : (names : List (List ℕ)) (k : ℕ) → length names ≤ k → get_or names k [] ≡ []
-outside [] k h = refl
-outside (name ∷ names) zero h = absurd (omega arith)
-outside (name ∷ names) (suc k) h = outside names k (omega arith)
-
-pub unspelt : (j : ℕ) → (0 < j → 35 < j) → [] ≡ spelling_of j
-unspelt zero h = refl
-unspelt (suc k) h = let beyond : 35 < suc k = h (omega arith) in sym (outside primitive_names k (omega (arith, all_names)))

@@ -12,3 +12,4 @@ pub mod Running
 pub mod Telling
 pub mod Meanings
 pub mod Texts
+pub mod Spellings

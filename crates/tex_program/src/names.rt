@@ -1,6 +1,6 @@
-// Names of two or more characters, and how they are spelt.
+// Names of two or more characters.
 ghost use Rattle.std.specs.Prelude.{◌≡◌};
-ghost use Rattle.plain_state.specs.Names.{primitive_names, spelling_of};
+ghost use Rattle.plain_state.specs.Names.{primitive_names};
 ghost use Rattle.plain_state.specs.Lookup.{name_among};
 
 use tex_defs::{Frozen, Name};
@@ -21,16 +21,4 @@ pub fn word(bytes: &[u8]) -> Name
         number += 1;
     }
     Name::Frozen(Frozen::Unknown)
-}
-
-/// The characters of a name, by its number.
-#[tactic(auto, using(crate::proofs::Entered::spelt, crate::proofs::Entered::unspelt))]
-pub fn spelling(number: u16) -> &'static [u8]
-    ensures { result.now ≡ spelling_of number }
-{
-    if number > 0 && number <= LAST {
-        prim_table::name(number)
-    } else {
-        b""
-    }
 }

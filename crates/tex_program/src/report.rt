@@ -2,14 +2,16 @@
 ghost use Rattle.std.specs.Prelude.{◌≡◌, ◌≤◌, ◌++◌, ◌∷◌, [], OnOk, IfOk, false};
 ghost use Rattle.std.specs.Fmt.{decimal};
 ghost use Rattle.plain_state.specs.Numerals as numerals;
+ghost use Rattle.plain_state.specs.Printed as printed;
 ghost use Rattle.plain_state.specs.Reports as plain;
+ghost use Rattle.plain_state.specs.Reports.{plain_style};
 ghost use Rattle.tex_program.specs.Sees.{report_of};
 
-use crate::names::spelling;
-use crate::print::{put_all, put_char, put_token};
-use char_text::Text;
+use crate::meaning::primitive_word;
+use crate::print::{last_after, places_after, put_all, put_escaped, put_name, put_token};
+use char_text::{Text, count_length, hexadecimal_length};
 use std::alloc::{AllocError, Global};
-use tex_defs::{Meaning, Name, Token};
+use tex_defs::{Meaning, Name, RegisterKind, Token};
 
 /// What is reported.
 #[derive(Clone, Copy, Debug, PartialEq, Eq)]
@@ -25,26 +27,6 @@ pub enum Report {
     MissingBrace,
     /// The file ended in the text of this command.
     FileEndedInText(Name),
-}
-
-/// Puts a name as reports have it: without a space behind it.
-fn put_name(text: &mut Vec<u8>, name: Name) -> Result<(), AllocError>
-    ensures { OnOk result (text.new.items ≡ text.old.items ++ plain.name_text name) }
-{
-    match name {
-        Name::Active(c) => put_char(text, c)?,
-        Name::Single(c) => {
-            put_char(text, b'\\')?;
-            put_char(text, c)?;
-        }
-        Name::Empty => text.extend_from_slice(b"\\csname\\endcsname ")?,
-        Name::Word(number) => {
-            put_char(text, b'\\')?;
-            put_all(text, spelling(number))?;
-        }
-        Name::Frozen(_) => {}
-    }
-    Ok(())
 }
 
 /// Puts a whole number.
@@ -149,8 +131,8 @@ pub fn no_file_text(alloc: Global, file: &[u8]) -> Result<Vec<u8>, AllocError>
 }
 
 /// What a character of a category is called.
-fn character_text(category: u8) -> &'static [u8]
-    ensures { result.now ≡ plain.character_text category }
+fn character_word(category: u8) -> &'static [u8]
+    ensures { result.now ≡ printed.character_word category }
 {
     match category {
         1 => b"begin-group character ",
@@ -166,22 +148,73 @@ fn character_text(category: u8) -> &'static [u8]
     }
 }
 
-/// Puts what a token means, in words.
+fn register_word(kind: RegisterKind) -> &'static [u8]
+    ensures { result.now ≡ printed.register_word kind }
+{
+    match kind {
+        RegisterKind::Count => b"count",
+        RegisterKind::Dimen => b"dimen",
+        RegisterKind::Skip => b"skip",
+        RegisterKind::Muskip => b"muskip",
+        RegisterKind::Toks => b"toks",
+    }
+}
+
+/// What stands before a macro's list.
+fn macro_text(long: bool, outer: bool) -> &'static [u8]
+    ensures { result.now ≡ printed.macro_text plain_style long outer }
+{
+    match (long, outer) {
+        (false, false) => b"macro:",
+        (true, false) => b"\\long macro:",
+        (false, true) => b"\\outer macro:",
+        (true, true) => b"\\long\\outer macro:",
+    }
+}
+
+/// Puts a word behind the escape character, and a number behind it in capital hexadecimal digits.
+fn put_hex(text: &mut Vec<u8>, word: &[u8], n: u32) -> Result<(), AllocError>
+    ensures { OnOk result (text.new.items ≡ text.old.items ++ printed.printed_all plain_style (printed.escaped plain_style word.now ++ numerals.hexadecimal n)) }
+{
+    let mut number = Text::new();
+    hexadecimal_length(n);
+    number.put_hex(n);
+    put_escaped(text, word)?;
+    put_all(text, number.bytes())
+}
+
+/// The same with decimal digits.
+fn put_decimal(text: &mut Vec<u8>, word: &[u8], n: u64) -> Result<(), AllocError>
+    ensures { OnOk result (text.new.items ≡ text.old.items ++ printed.printed_all plain_style (printed.escaped plain_style word.now ++ decimal n)) }
+{
+    let mut number = Text::new();
+    count_length(n);
+    number.put_count(n);
+    put_escaped(text, word)?;
+    put_all(text, number.bytes())
+}
+
+/// Puts a meaning, of a macro without its list.
 fn put_meaning(text: &mut Vec<u8>, meaning: Meaning<()>) -> Result<(), AllocError>
-    ensures { OnOk result (text.new.items ≡ text.old.items ++ plain.meaning_text meaning) }
+    ensures { OnOk result (text.new.items ≡ text.old.items ++ printed.printed_all plain_style (printed.meaning_head plain_style meaning)) }
 {
     match meaning {
+        Meaning::Undefined => put_all(text, b"undefined"),
+        Meaning::RelaxMarked => put_escaped(text, b"relax"),
         Meaning::Char { cat, code } => {
-            text.extend_from_slice(character_text(cat))?;
-            put_char(text, code)?;
+            put_all(text, character_word(cat))?;
+            put_all(text, &[code])
         }
-        Meaning::Prim(number) => {
-            put_char(text, b'\\')?;
-            put_all(text, spelling(number))?;
-        }
-        _ => text.extend_from_slice(b"undefined")?,
+        Meaning::CharGiven(c) => put_hex(text, b"char\"", u32::from(c)),
+        Meaning::MathGiven(c) => put_hex(text, b"mathchar\"", u32::from(c)),
+        Meaning::Register { kind, no } => put_decimal(text, register_word(kind), u64::from(no)),
+        Meaning::Prim(number) => put_escaped(text, primitive_word(number)),
+        Meaning::Macro {
+            long,
+            outer,
+            list: _,
+        } => put_all(text, macro_text(long, outer)),
     }
-    Ok(())
 }
 
 /// The line for a token that only typesetting would use.
@@ -211,12 +244,16 @@ pub fn runaway_text(
     let mut text = Vec::from_slice(alloc, fresh_line(in_line))?;
     text.extend_from_slice(b"Runaway text?\n")?;
     let start = text.len();
+    let mut places = 0;
+    let mut last = b'#';
     for token in tokens {
         if text.len() - start >= 62 {
             text.extend_from_slice(b"\\ETC.")?;
             return Ok(text);
         }
-        put_token(&mut text, categories, *token)?;
+        put_token(&mut text, categories, places, last, *token)?;
+        places = places_after(places, *token);
+        last = last_after(last, *token);
     }
     Ok(text)
 }

@@ -338,6 +338,14 @@ fn texts_are_balanced(rt: HostRuntime) -> Result<(), Fail> {
 }
 
 #[test]
+fn double_hats_stand_for_characters(rt: HostRuntime) -> Result<(), Fail> {
+    let alloc = rt.alloc();
+    assert!(rt; job(alloc, b"\\message{^^41^^4a}\\end\n", b"AJ\n", 0)?);
+    assert!(rt; job(alloc, b"\\mess^^61ge{^^:^^^41}\\e^^6ed\n", b"zA\n", 0)?);
+    Ok(())
+}
+
+#[test]
 fn characters_are_printed_as_tex_prints_them(rt: HostRuntime) -> Result<(), Fail> {
     let alloc = rt.alloc();
     assert!(rt;

@@ -1,5 +1,6 @@
 use Rattle.std.proofs.Common.{refl}
 use Rattle.std.specs.Fmt.{digits}
+use Rattle.prim_table.specs.Primitives.{primitive_name, primitive_names as table_names, command_names}
 use Rattle.plain_machine.specs.Rows.{job_of, run_of}
 use Rattle.plain_state.specs.Categories.{initial_categories}
 use Rattle.plain_state.specs.Lex.{headed, letters, behind_letters, lexed}
@@ -8,7 +9,7 @@ use Rattle.plain_state.specs.Names.{primitive_names}
 use Rattle.plain_machine.proofs.worked_rows.Goals as goal
 
 pub returns : goal.returns
-unfolding job_of run_of initial_categories digits headed letters behind_letters lexed number_from primitive_names
+unfolding job_of run_of initial_categories digits headed letters behind_letters lexed number_from primitive_names primitive_name table_names command_names
 returns c = record {
   usual = ((refl, refl), refl);
   hi = ((refl, refl), refl);

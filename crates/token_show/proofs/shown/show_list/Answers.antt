@@ -1,0 +1,7 @@
+use Rattle.std.proofs.Common.{ap, ◌∙◌}
+use Rattle.plain_state.specs.Printed.{printed_all}
+use Rattle.token_show.specs.Views.{style_of}
+use Rattle.token_show.proofs.shown.show_list.Goals as goal
+
+pub returns : goal.returns
+returns c = c.print.ensures ∙ ap (printed_all (style_of c.args.view)) c.of_list.ensures

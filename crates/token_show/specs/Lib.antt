@@ -1,0 +1,5 @@
+pub mod Options
+pub mod Walks
+pub mod Views
+pub mod Texts
+pub mod Bytes

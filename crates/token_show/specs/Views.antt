@@ -1,0 +1,44 @@
+-- The style of a view, and what must hold of it and of a meaning.
+use Rattle.std.specs.Prelude.{List, Option}
+use Rattle.tex_defs.specs.declared.Token.{Token}
+use Rattle.tex_defs.specs.declared.Meaning.{Meaning}
+use Rattle.tex_defs.specs.declared.Meaning.TheVariants.{Undefined, RelaxMarked, Char, CharGiven, MathGiven, Register, Prim, Macro}
+use Rattle.cs_hash.specs.Names.{entered, Knows}
+use Rattle.token_lists.specs.declared.ListRef.{ListRef}
+use Rattle.token_lists.specs.declared.Build.{Build}
+use Rattle.token_lists.specs.Table.{Entry, tokens_at, IsHeld}
+use Rattle.token_lists.specs.Ids.{id_of, build_id}
+use Rattle.plain_state.specs.Printed.{Style}
+use Rattle.token_show.specs.declared.view.View.{View}
+
+-- what texts depend on, as a view has it
+abbrev pub style_of : View → Style
+style_of v = record {
+  escape = v.escape;
+  newline = v.newline;
+  categories = v.categories.now;
+  names = entered v.hash.now v.pool.now.kept;
+}
+
+-- the names of a view's hash are strings of its pool
+abbrev pub IsView : View → Type 0
+IsView v = Knows v.hash.now v.pool.now.kept
+
+-- the tokens of a list that is held
+abbrev pub list_tokens : View → ListRef → List Token
+list_tokens v list = tokens_at v.lists.now (id_of list)
+
+-- the tokens that a list has which is being built
+abbrev pub build_tokens : View → Build → List Token
+build_tokens v build = tokens_at v.lists.now (build_id build)
+
+-- a macro's list is held
+abbrev pub HoldsList : List (Option Entry) → Meaning ListRef → Type 0
+HoldsList table Undefined = Unit {0}
+HoldsList table RelaxMarked = Unit {0}
+HoldsList table (Char category c) = Unit {0}
+HoldsList table (CharGiven c) = Unit {0}
+HoldsList table (MathGiven c) = Unit {0}
+HoldsList table (Register kind number) = Unit {0}
+HoldsList table (Prim number) = Unit {0}
+HoldsList table (Macro long outer list) = IsHeld table (id_of list)
