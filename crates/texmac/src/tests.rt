@@ -341,7 +341,7 @@ fn texts_are_balanced(rt: HostRuntime) -> Result<(), Fail> {
 fn double_hats_stand_for_characters(rt: HostRuntime) -> Result<(), Fail> {
     let alloc = rt.alloc();
     assert!(rt; job(alloc, b"\\message{^^41^^4a}\\end\n", b"AJ\n", 0)?);
-    assert!(rt; job(alloc, b"\\mess^^61ge{^^:^^^41}\\e^^6ed\n", b"zA\n", 0)?);
+    assert!(rt; job(alloc, b"\\mess^^61ge{^^:^^^41}\\e^^6ed\n", b"z^^^41\n", 0)?);
     Ok(())
 }
 
