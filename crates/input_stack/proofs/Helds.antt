@@ -1,0 +1,31 @@
+-- What is held are the lists of the Puts.
+use Rattle.std.proofs.Common.{◌≡◌, ℕ, ◌+◌, List, [], ◌∷◌, Option, refl, arith}
+use Rattle.std.proofs.lemmas.List.Sums.{sum_by-cons}
+use Rattle.token_lists.specs.Table.{Entry}
+use Rattle.token_lists.specs.Accounts.{holds, Moves, Keeps, Covers}
+use Rattle.input_stack.specs.declared.level.Level.{Level}
+use Rattle.input_stack.specs.declared.level.Level.TheVariants as level
+use Rattle.input_stack.specs.declared.stack.InputStack.{InputStack}
+use Rattle.input_stack.specs.Rest.{number}
+use Rattle.input_stack.specs.Pending.{times, held_lists}
+use Rattle.input_stack.specs.View.{pending, pending_in, innermost, held, held_in}
+use Rattle.input_stack.specs.Standing.{Stands}
+use Rattle.input_stack.proofs.Kept.{held_cons, leave, pending_stays, read_stays}
+
+pub held_puts : (table : List (Option Entry)) (ls : List Level) (h : ℕ) → held_in ls h ≡ times h (held_lists (pending_in table ls))
+held_puts table [] h = refl
+held_puts table (level.List r ∷ ls) h =
+    let q = pending_in table ls in
+    omega (arith, held_cons (level.List r) ls h, held_puts table ls h, sum_by-cons (λ (n : ℕ). holds n h) (number r) (held_lists q))
+held_puts table (level.Source s ∷ ls) h =
+    omega (arith, held_cons (level.Source s) ls h, held_puts table ls h)
+
+pub others : (s : InputStack) (old new : List (Option Entry)) (before after : ℕ → ℕ) → Stands old s → Covers old (λ h. before h + held s h) → Moves old new before after → Keeps old new before → Stands new s × (pending new s ≡ pending old s)
+others s old new before after stands covers moves keeps =
+    let k = leave old new before after (held_in (innermost s)) covers moves keeps in (
+      record {
+        read = read_stays old new (innermost s) k (λ h. omega (arith, covers h, moves h)) stands.read;
+        fits = stands.fits;
+      },
+      pending_stays old new (innermost s) k,
+    )

@@ -1,0 +1,11 @@
+pub mod Flats
+pub mod Rests
+pub mod Kept
+pub mod Settled
+pub mod Tops
+pub mod Pushed
+pub mod Backs
+pub mod Lines
+pub mod Given
+pub mod Ready
+pub mod Helds

@@ -1,0 +1,98 @@
+-- A list in front.
+use Rattle.std.proofs.Common.{◌≡◌, ℕ, ◌+◌, ◌<◌, List, [], ◌∷◌, length, map, Option, None, Some, Bool, true, false, not, refl, sym, ap, ap₂, ◌∙◌, subst, arith, vec_capacity}
+use Rattle.std.specs.Prelude.{IsSome, ◌↔◌, is_some, nat_lt}
+use Rattle.std.proofs.lemmas.Bool.Decides.{nat_tests}
+use Rattle.std.proofs.lemmas.List.{length-reverse}
+use Rattle.std.proofs.lemmas.List.Elements.{All-cons}
+use Rattle.std.proofs.lemmas.Option.{none-some}
+use Rattle.tex_defs.specs.declared.Token.{Token}
+use Rattle.token_lists.specs.Table.{Entry, tokens_at}
+use Rattle.token_lists.specs.Accounts.{holds, none, Moves, Keeps, Covers}
+use Rattle.input_stack.specs.Puts.{Text}
+use Rattle.input_stack.specs.declared.reader.Reader.{Reader}
+use Rattle.input_stack.specs.declared.level.Level.{Level}
+use Rattle.input_stack.specs.declared.level.Level.TheVariants as level
+use Rattle.input_stack.specs.declared.stack.InputStack.{InputStack}
+use Rattle.input_stack.specs.Rest.{number, rest, IsAt}
+use Rattle.input_stack.specs.Pending.{Pending, settle, put, plain_put, refusal, room, used_levels}
+use Rattle.input_stack.specs.View.{pending_in, put_of, in_front, innermost, held_in}
+use Rattle.input_stack.specs.Standing.{IsLevel, AreUnfinished, AreRead, Fits}
+use Rattle.input_stack.proofs.Kept.{Stay, leaves, pending_stays, read_stays, held_cons, holds_itself}
+use Rattle.input_stack.proofs.Settled.{levels_used, used_settle}
+
+pub no_tokens : (o : Option ℕ) (b : Bool) (ts : List Token) → is_some o ≡ not b → b ≡ true → IsSome o ↔ (0 < length ts) → ts ≡ []
+no_tokens o b [] k is ends = refl
+no_tokens None b (t ∷ ts) k is ends =
+    let e = ends.1 (omega arith) in
+    cc
+no_tokens (Some p) true (t ∷ ts) k is ends = cc
+no_tokens (Some p) false (t ∷ ts) k is ends = cc
+
+pub some_tokens : (o : Option ℕ) (b : Bool) (ts : List Token) → is_some o ≡ not b → b ≡ false → IsSome o ↔ (0 < length ts) → 0 < length ts
+some_tokens (Some p) b ts k is ends = ends.0 refl
+some_tokens None true ts k is ends = cc
+some_tokens None false ts k is ends = cc
+
+-- a list without tokens goes
+pub empty_stays : (old new : List (Option Entry)) (n : ℕ) (ls : List Level) → Covers old (λ h. holds n h + held_in ls h) → Moves old new (holds n) none → Keeps old new (holds n) → Stay old new (held_in ls)
+empty_stays old new n ls covers moves keeps = leaves old new (holds n) (held_in ls) covers moves keeps
+
+pub empty_put : (n : ℕ) (ts : List Token) (p : Pending) → ts ≡ [] → put (plain_put n ts) p ≡ p
+empty_put n ts p is = rw is refl
+
+pub empty_ok : (old new : List (Option Entry)) (n : ℕ) (ls : List Level) (ts : List Token) → Covers old (λ h. holds n h + held_in ls h) → Moves old new (holds n) none → Keeps old new (holds n) → ts ≡ [] → pending_in new ls ≡ put (plain_put n ts) (pending_in old ls)
+empty_ok old new n ls ts covers moves keeps is = pending_stays old new ls (empty_stays old new n ls covers moves keeps) ∙ sym (empty_put n ts (pending_in old ls) is)
+
+pub empty_read : (old new : List (Option Entry)) (n : ℕ) (ls : List Level) → Covers old (λ h. holds n h + held_in ls h) → Moves old new (holds n) none → Keeps old new (holds n) → AreRead old ls → AreRead new ls
+empty_read old new n ls covers moves keeps a = read_stays old new ls (empty_stays old new n ls covers moves keeps) (λ h. omega (arith, covers h, moves h)) a
+
+-- what is refused
+pub refused : (n size : ℕ) (ts : List Token) (p : Pending) → 0 < length ts → n ≡ used_levels p → room size n ≡ refusal size (map Text ts) p
+refused n size [] p some is = absurd (omega arith)
+refused n size (t ∷ ts) p some is = rw is refl
+
+pub used_is : (table : List (Option Entry)) (s : InputStack) (p : Pending) → AreUnfinished table (innermost s) → pending_in table (innermost s) ≡ settle p → length s.levels.items ≡ used_levels p
+used_is table s p a is = sym (length-reverse s.levels.items) ∙ levels_used table (innermost s) a ∙ ap used_levels is ∙ used_settle p
+
+room_test : (size used : ℕ) (b : Bool) → nat_lt used size ≡ b → room size used ≡ None → used < size
+room_test size used true k is = grind (arith, nat_tests)
+room_test size used false k is =
+    let e = rw k at is in
+    absurd (none-some _ (sym e))
+
+pub room_left : (size used : ℕ) → room size used ≡ None → used < size
+room_left size used is = room_test size used (nat_lt used size) refl is
+
+-- the tokens of a list that is put, once the finished lists have gone
+pub put_tokens : (old mid : List (Option Entry)) (n : ℕ) (f : ℕ → ℕ) → Covers old (λ h. holds n h + f h) → Keeps old mid f → tokens_at mid n ≡ tokens_at old n
+put_tokens old mid n f covers keeps = keeps.tokens n (omega (arith, covers n, holds_itself n))
+
+put_is : (n : ℕ) (ts : List Token) (p : Pending) → 0 < length ts → in_front (plain_put n ts) (settle p) ≡ put (plain_put n ts) p
+put_is n [] p some = absurd (omega arith)
+put_is n (t ∷ ts) p some = refl
+
+same_put : (table : List (Option Entry)) (r : Reader) (n : ℕ) (ts : List Token) → number r ≡ n → rest table r ≡ ts → put_of table r ≡ plain_put n ts
+same_put table r n ts a b = ap₂ plain_put a b
+
+pub put_ok : (mid : List (Option Entry)) (r : Reader) (n : ℕ) (ts : List Token) (xs ls : List Level) (p : Pending) → xs ≡ level.List r ∷ ls → number r ≡ n → rest mid r ≡ ts → 0 < length ts → pending_in mid ls ≡ settle p → pending_in mid xs ≡ put (plain_put n ts) p
+put_ok mid r n ts xs ls p is a b some q =
+    ap (pending_in mid) is ∙ ap₂ in_front (same_put mid r n ts a b) q ∙ put_is n ts p some
+
+pub put_read : (old mid : List (Option Entry)) (r : Reader) (n : ℕ) (xs ls : List Level) (f : ℕ → ℕ) → xs ≡ level.List r ∷ ls → number r ≡ n → IsAt mid r → AreRead mid ls → AreUnfinished mid ls → Covers old (λ h. holds n h + f h) → Moves old mid f (held_in ls) → AreRead mid xs
+put_read old mid r n xs ls f is a at read unfinished covers moves =
+    let k : AreRead mid (level.List r ∷ ls) = record {
+      levels = All-cons (IsLevel mid) (level.List r) ls at read.levels;
+      below = unfinished;
+      covers = λ h. omega (arith, held_cons (level.List r) ls h, covers h, moves h, ap (λ (m : ℕ). holds m h) a);
+    } in
+    subst (λ (ys : List Level). AreRead mid ys) (sym is) k
+
+pub put_moves : (old mid : List (Option Entry)) (r : Reader) (n : ℕ) (xs ls : List Level) (f : ℕ → ℕ) → xs ≡ level.List r ∷ ls → number r ≡ n → Moves old mid f (held_in ls) → Moves old mid (λ h. holds n h + f h) (held_in xs)
+put_moves old mid r n xs ls f is a moves h = omega (arith, held_cons (level.List r) ls h, moves h, ap (λ (m : ℕ). holds m h) a, ap (λ (ys : List Level). held_in ys h) is)
+
+pub fits_more : (s t : InputStack) → Fits s → length s.levels.items < s.size → length t.levels.items ≡ length s.levels.items + 1 → t.size ≡ s.size → vec_capacity t.levels ≡ vec_capacity s.levels → Fits t
+fits_more s t f some more size capacity = record {
+  within = omega (arith, some, more, size);
+  room = omega (arith, f.room, size, capacity);
+  small = omega (arith, f.small, size);
+}

@@ -1,0 +1,16 @@
+use Rattle.std.proofs.Common.{◌∙◌, ◌++◌, ◌∷◌, [], refl, ap}
+use Rattle.input_stack.specs.declared.level.Level.{Level}
+use Rattle.input_stack.specs.declared.level.Level.TheVariants as level
+use Rattle.input_stack.specs.View.{innermost}
+use Rattle.input_stack.proofs.Lines.{popped, source_under, fits_popped}
+use Rattle.input_stack.proofs.stack.InputStack.end_file.Goals as goal
+
+pub returns-clause-stands : goal.returns-clause-stands
+returns-clause-stands c = λ table stands.
+    let s = c.args.self.now in
+    let x = c.in-Source.source in
+    let i = c.in-Some.ensures.items ∙ ap (λ (l : Level). c.pop.new.self.items ++ l ∷ []) c.in-Source.is in
+    record {
+      read = source_under table x (innermost s) _ (popped s.levels.items c.pop.new.self.items (level.Source x) i) stands.read;
+      fits = fits_popped s _ (level.Source x) i refl c.in-Some.ensures.capacity stands.fits;
+    }

@@ -1,0 +1,10 @@
+use Rattle.std.proofs.Common.{arith}
+use Rattle.std.proofs.lemmas.List.{length-reverse}
+use Rattle.input_stack.specs.View.{innermost}
+use Rattle.input_stack.proofs.Settled.{levels_are}
+use Rattle.input_stack.proofs.stack.InputStack.levels.Goals as goal
+
+pub returns : goal.returns
+returns c = λ table.
+    let s = c.args.self.now in
+    omega (arith, c.len.ensures, s.levels.ok, c.requires.within, c.requires.small, levels_are table (innermost s), length-reverse s.levels.items)

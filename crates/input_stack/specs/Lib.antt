@@ -1,0 +1,9 @@
+pub mod Puts
+pub mod Flat
+pub mod Backs
+pub mod Rest
+pub mod Levels
+pub mod Pending
+pub mod Pulls
+pub mod View
+pub mod Standing

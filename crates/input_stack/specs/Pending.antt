@@ -1,0 +1,94 @@
+-- What is pending: lists in front of the innermost line, and the open files and lines of `\read`, innermost first,
+-- each with the lists that stand in front of what is beneath it.
+use Rattle.std.specs.Prelude.{◌≡◌, ℕ, ◌+◌, List, [], ◌∷◌, ◌++◌, map, Option, None, Some, cond, nat_lt, sum_by}
+use Rattle.tex_defs.specs.declared.Token.{Token}
+use Rattle.tex_defs.specs.declared.Full.{Full}
+use Rattle.tex_defs.specs.declared.Table.TheVariants.{InputStackSize}
+use Rattle.input_stack.specs.Puts.{Item, Text, Put, used, standing, settled, put_in_front, lists_of}
+use Rattle.token_lists.specs.Accounts.{holds}
+use Rattle.line_lexer.specs.declared.Line.{Line}
+use Rattle.world_io.specs.declared.traits.InId.{InId}
+use Rattle.input_stack.specs.declared.level.Source.{Source}
+
+pub record Below : Type 0 where
+  pub source : Source
+  pub puts : List Put
+
+pub record Pending : Type 0 where
+  pub puts : List Put
+  pub sources : List Below
+
+abbrev pub with_puts : List Put → Pending → Pending
+with_puts ps p = record { puts = ps; sources = p.sources }
+
+-- levels of what is beneath: one for each file or `\read` line, and those of the lists in front of what it covers
+abbrev pub levels_below : List Below → ℕ
+levels_below bs = sum_by (λ b. 1 + standing b.puts) bs
+
+-- all levels that stand
+abbrev pub levels : Pending → ℕ
+levels p = standing p.puts + levels_below p.sources
+
+-- the levels that are used
+abbrev pub used_levels : Pending → ℕ
+used_levels p = used p.puts + sum_by (λ b. 1 + used b.puts) p.sources
+
+-- a list of these tokens, without arguments
+abbrev pub plain_put : ℕ → List Token → Put
+plain_put n ts = record { list = n; arguments = []; reading = None; items = map Text ts }
+
+-- the finished lists at the top go
+abbrev pub settle : Pending → Pending
+settle p = with_puts (settled p.puts) p
+
+abbrev pub put : Put → Pending → Pending
+put x p = with_puts (put_in_front x p.puts) p
+
+-- the refusal of one more level
+abbrev pub levels_full : ℕ → ℕ → Full
+levels_full used size = record { table = InputStackSize; used = used; size = size }
+
+-- why there is no room for one more level
+abbrev pub room : ℕ → ℕ → Option Full
+room size used = cond (nat_lt used size) None (Some (levels_full used size))
+
+-- The refusal of a list with these items, where the levels are at the size. A list without items needs none.
+abbrev pub refusal : ℕ → List Item → Pending → Option Full
+refusal size [] p = None
+refusal size (x ∷ xs) p = room size (used_levels p)
+
+-- a file, or a line of `\read` without one, in front of all that is pending
+abbrev pub open_over : Option InId → Line → Pending → Pending
+open_over id line p = record { puts = []; sources = record { source = record { id = id; line = line }; puts = p.puts } ∷ p.sources }
+
+abbrev pub sources_at : Line → List Below → List Below
+sources_at line [] = []
+sources_at line (b ∷ bs) = record { source = record { id = b.source.id; line = line }; puts = b.puts } ∷ bs
+
+-- the innermost of them goes on at this line
+abbrev pub at_line : Line → Pending → Pending
+at_line line p = record { puts = p.puts; sources = sources_at line p.sources }
+
+-- the innermost of them goes, and what is beneath it is in front
+abbrev pub EndsIn : List Below → Pending → Option InId → Type 0
+EndsIn [] new id = ⊥
+EndsIn (b ∷ bs) new id = (id ≡ b.source.id) × (new ≡ record { puts = b.puts; sources = bs })
+
+abbrev pub Ends : Pending → Pending → Option InId → Type 0
+Ends old new id = EndsIn old.sources new id
+
+-- how often a number stands among these
+abbrev pub times : ℕ → List ℕ → ℕ
+times h ns = sum_by (λ n. holds n h) ns
+
+abbrev pub lists_in : List Put → List ℕ
+lists_in [] = []
+lists_in (p ∷ ps) = lists_of p ++ lists_in ps
+
+abbrev pub lists_below : List Below → List ℕ
+lists_below [] = []
+lists_below (b ∷ bs) = lists_in b.puts ++ lists_below bs
+
+-- the lists that are held by what is pending, each as often as it is held
+abbrev pub held_lists : Pending → List ℕ
+held_lists p = lists_in p.puts ++ lists_below p.sources

@@ -1,0 +1,132 @@
+-- What was put in front of a line: lists that are being read, and what counts as used of them
+-- (TeX: The Program, part 22, input stacks and states).
+use Rattle.std.specs.Prelude.{ℕ, ◌+◌, List, [], ◌∷◌, ◌++◌, length, Option, None, Some, Bool, true, false, sum_by}
+use Rattle.tex_defs.specs.declared.Token.{Token}
+
+-- What is still to be read: a token of the list that was put, the first token of an argument and a further one, each
+-- with the number of the argument's list, or a gap, which is an argument without tokens in its place.
+pub data Item : Type 0 where
+  Text : Token → Item
+  First : ℕ → Token → Item
+  Later : ℕ → Token → Item
+  Gap : Item
+
+-- One list that was put: the numbers of it and of its call's arguments, the argument whose level is open, and the
+-- items that are left.
+pub record Put : Type 0 where
+  pub list : ℕ
+  pub arguments : List ℕ
+  pub reading : Option ℕ
+  pub items : List Item
+
+-- the argument whose further token this is
+abbrev pub later_of : Item → Option ℕ
+later_of (Text t) = None
+later_of (First n t) = None
+later_of (Later n t) = Some n
+later_of Gap = None
+
+-- the argument that this item is of
+abbrev pub argument_of : Item → Option ℕ
+argument_of (Text t) = None
+argument_of (First n t) = Some n
+argument_of (Later n t) = Some n
+argument_of Gap = None
+
+abbrev pub count_of : Option ℕ → ℕ
+count_of None = 0
+count_of (Some n) = 1
+
+-- USED
+
+-- A Put with an item counts once, and once more where the rest of an argument stands in front of which tokens were
+-- handed on.
+abbrev pub used_of : List Item → ℕ
+used_of [] = 0
+used_of (x ∷ xs) = 1 + count_of (later_of x)
+
+abbrev pub used : List Put → ℕ
+used puts = sum_by (λ p. used_of p.items) puts
+
+abbrev pub when_some : List Item → ℕ → ℕ
+when_some [] n = 0
+when_some (x ∷ xs) n = n
+
+-- the arguments of the calls with an item
+abbrev pub used_arguments : List Put → ℕ
+used_arguments puts = sum_by (λ p. when_some p.items (length p.arguments)) puts
+
+-- the levels that stand, those that are finished too
+abbrev pub standing_of : Put → ℕ
+standing_of p = 1 + count_of p.reading
+
+abbrev pub standing : List Put → ℕ
+standing puts = sum_by standing_of puts
+
+-- HELD
+
+-- the lists that a Put holds: its own, its call's arguments, and once more the argument whose level is open
+abbrev pub number_in : Option ℕ → List ℕ
+number_in None = []
+number_in (Some n) = n ∷ []
+
+abbrev pub lists_of : Put → List ℕ
+lists_of p = p.list ∷ number_in p.reading ++ p.arguments
+
+-- READ
+
+-- without what is finished in front
+abbrev pub settled_top : Put → List Item → List Put → List Put → List Put
+settled_top p [] below rest = below
+settled_top p (x ∷ xs) below rest = record { list = p.list; arguments = p.arguments; reading = later_of x; items = x ∷ xs } ∷ rest
+
+-- A finished Put stays, without items, until it is settled: as the next reading or the next push begins.
+abbrev pub settled : List Put → List Put
+settled [] = []
+settled (p ∷ ps) = settled_top p p.items (settled ps) ps
+
+abbrev pub without_gaps : List Item → List Item
+without_gaps [] = []
+without_gaps (Text t ∷ xs) = Text t ∷ xs
+without_gaps (First n t ∷ xs) = First n t ∷ xs
+without_gaps (Later n t ∷ xs) = Later n t ∷ xs
+without_gaps (Gap ∷ xs) = without_gaps xs
+
+-- the flat list: all items in order
+abbrev pub flat : List Put → List Item
+flat [] = []
+flat (p ∷ ps) = p.items ++ flat ps
+
+abbrev pub first : List Item → Option Item
+first [] = None
+first (x ∷ xs) = Some x
+
+-- the item that is next handed on: the first that is no gap
+abbrev pub next_item : List Put → Option Item
+next_item puts = first (without_gaps (flat puts))
+
+-- after the gaps in front and the first item behind them
+abbrev pub pulled_top : Put → List Item → List Put → List Put → List Put
+pulled_top p [] below rest = below
+pulled_top p (x ∷ xs) below rest = record { list = p.list; arguments = p.arguments; reading = argument_of x; items = xs } ∷ rest
+
+abbrev pub pulled : List Put → List Put
+pulled [] = []
+pulled (p ∷ ps) = pulled_top p (without_gaps p.items) (pulled ps) ps
+
+-- a Put in front; one without items is none
+abbrev pub put_top : Put → List Item → List Put → List Put
+put_top p [] puts = puts
+put_top p (x ∷ xs) puts = p ∷ settled puts
+
+abbrev pub put_in_front : Put → List Put → List Put
+put_in_front p puts = put_top p p.items puts
+
+abbrev pub is_empty : List Item → Bool
+is_empty [] = true
+is_empty (x ∷ xs) = false
+
+-- nothing is left of the innermost Put
+abbrev pub is_finished : List Put → Bool
+is_finished [] = false
+is_finished (p ∷ ps) = is_empty p.items

@@ -1,0 +1,44 @@
+-- What each stack of levels keeps.
+use Rattle.std.specs.Prelude.{◌≤◌, ◌<◌, ◌^◌, List, [], ◌∷◌, All, length, Option, vec_capacity}
+use Rattle.token_lists.specs.Table.{Entry}
+use Rattle.token_lists.specs.Accounts.{Covers}
+use Rattle.input_stack.specs.declared.level.Level.{Level}
+use Rattle.input_stack.specs.declared.level.Level.TheVariants as level
+use Rattle.input_stack.specs.declared.stack.InputStack.{InputStack}
+use Rattle.input_stack.specs.Rest.{rest, IsAt}
+use Rattle.input_stack.specs.View.{innermost, held_in}
+
+-- a list's level is at the place of its next token
+abbrev pub IsLevel : List (Option Entry) → Level → Type 0
+IsLevel table (level.List r) = IsAt table r
+IsLevel table (level.Source s) = Unit {0}
+
+-- a token is left
+abbrev pub IsUnfinished : List (Option Entry) → Level → Type 0
+IsUnfinished table (level.List r) = 0 < length (rest table r)
+IsUnfinished table (level.Source s) = Unit {0}
+
+abbrev pub AreUnfinished : List (Option Entry) → List Level → Type 0
+AreUnfinished table ls = All (IsUnfinished table) ls
+
+-- only the innermost level may be finished
+abbrev pub AreUnfinishedBelow : List (Option Entry) → List Level → Type 0
+AreUnfinishedBelow table [] = Unit {0}
+AreUnfinishedBelow table (l ∷ ls) = AreUnfinished table ls
+
+-- there is room for all levels that may stand
+pub record Fits (s : InputStack) : Type 0 where
+  pub within : length s.levels.items ≤ s.size
+  pub room : s.size ≤ vec_capacity s.levels
+  pub small : s.size < 2 ^ 32
+
+-- levels, innermost first, that read lists which they hold
+pub record AreRead (table : List (Option Entry)) (ls : List Level) : Type 0 where
+  pub levels : All (IsLevel table) ls
+  pub below : AreUnfinishedBelow table ls
+  pub covers : Covers table (held_in ls)
+
+-- The levels read lists that they hold, and there is room for them.
+pub record Stands (table : List (Option Entry)) (s : InputStack) : Type 0 where
+  pub read : AreRead table (innermost s)
+  pub fits : Fits s

@@ -1,0 +1,56 @@
+-- The levels of a stack as what is pending.
+use Rattle.std.specs.Prelude.{ℕ, List, [], ◌∷◌, reverse, Option, sum_by}
+use Rattle.input_stack.specs.Puts.{Put}
+use Rattle.token_lists.specs.Table.{Entry}
+use Rattle.token_lists.specs.Accounts.{holds}
+use Rattle.line_lexer.specs.declared.Line.{Line}
+use Rattle.input_stack.specs.declared.reader.Reader.{Reader}
+use Rattle.input_stack.specs.declared.level.Level.{Level}
+use Rattle.input_stack.specs.declared.level.Level.TheVariants as level
+use Rattle.input_stack.specs.declared.level.Source.{Source}
+use Rattle.input_stack.specs.declared.stack.InputStack.{InputStack}
+use Rattle.input_stack.specs.Rest.{rest, number}
+use Rattle.input_stack.specs.Pending.{Pending, plain_put}
+
+abbrev pub put_of : List (Option Entry) → Reader → Put
+put_of table r = plain_put (number r) (rest table r)
+
+abbrev pub in_front : Put → Pending → Pending
+in_front x p = record { puts = x ∷ p.puts; sources = p.sources }
+
+abbrev pub over : Source → Pending → Pending
+over s p = record { puts = []; sources = record { source = s; puts = p.puts } ∷ p.sources }
+
+-- levels, innermost first
+abbrev pub pending_in : List (Option Entry) → List Level → Pending
+pending_in table [] = record { puts = []; sources = [] }
+pending_in table (level.List r ∷ ls) = in_front (put_of table r) (pending_in table ls)
+pending_in table (level.Source s ∷ ls) = over s (pending_in table ls)
+
+abbrev pub innermost : InputStack → List Level
+innermost s = reverse s.levels.items
+
+abbrev pub pending : List (Option Entry) → InputStack → Pending
+pending table s = pending_in table (innermost s)
+
+-- how often a level holds the list of a number
+abbrev pub level_holds : Level → ℕ → ℕ
+level_holds (level.List r) h = holds (number r) h
+level_holds (level.Source s) h = 0
+
+abbrev pub held_in : List Level → ℕ → ℕ
+held_in ls h = sum_by (λ l. level_holds l h) ls
+
+-- how often the stack holds the list of a number
+abbrev pub held : InputStack → ℕ → ℕ
+held s h = held_in (innermost s) h
+
+-- a file or a line of `\read` is on top
+abbrev pub IsSourceOnTop : List Level → Type 0
+IsSourceOnTop [] = ⊥
+IsSourceOnTop (level.List r ∷ ls) = ⊥
+IsSourceOnTop (level.Source s ∷ ls) = Unit {0}
+
+abbrev pub level_at : Line → Level → Level
+level_at line (level.List r) = level.List r
+level_at line (level.Source s) = level.Source (record { id = s.id; line = line })
