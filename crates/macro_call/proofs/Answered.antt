@@ -1,0 +1,148 @@
+-- What a scanner answers to a token in a place.
+use Rattle.std.proofs.Common.{◌≡◌, ℕ, List, [], ◌∷◌, ◌++◌, take, drop, true, false, Option, None, Some, refl, sym, ap, ap₂, subst, ◌∙◌, arith, inl, inr, Result, Ok, Err}
+use Rattle.std.specs.Result.{IfOk, OnErr}
+use Rattle.tex_defs.specs.declared.Full.{Full}
+use Rattle.std.proofs.lemmas.Option.{none-some}
+use Rattle.tex_defs.specs.declared.Token.{Token}
+use Rattle.token_lists.specs.Ids.{build_id, IsBuilding}
+use Rattle.token_lists.specs.Table.{Entry, tokens_at}
+use Rattle.token_lists.specs.Accounts.{Moves, Keeps, none}
+use Rattle.macro_call.specs.declared.par_mode.ParMode.{ParMode}
+use Rattle.macro_call.specs.declared.par_mode.ParMode.TheVariants.{Short}
+use Rattle.macro_call.specs.Arguments.{delimiters_of, Fed, Tok, arguments}
+use Rattle.macro_call.specs.declared.cursor.Cursor.{Cursor}
+use Rattle.macro_call.specs.declared.present.Present.{Present}
+use Rattle.macro_call.specs.declared.present.Step.{Step}
+use Rattle.macro_call.specs.declared.present.Step.TheVariants as step
+use Rattle.macro_call.specs.declared.scan.ArgScan.{ArgScan}
+use Rattle.macro_call.specs.declared.scan.ArgAsk.{ArgAsk}
+use Rattle.macro_call.specs.declared.scan.ArgAsk.TheVariants as ask
+use Rattle.macro_call.specs.Args.{args_in}
+use Rattle.macro_call.specs.Cursors.{rest_at, delimiter_at}
+use Rattle.macro_call.specs.Tables.{IsGrownByPart}
+use Rattle.macro_call.specs.Scans.{resume, scan_holds, IsSound, Answers, TookIn, CutIn, IsCutShort, Completes, Enters, work_by, held_by}
+use Rattle.macro_call.proofs.Completed.{args_stay, macro_tokens, shared_kept}
+use Rattle.macro_call.proofs.Resumed.{case_on, goes, now_owns, now_moves, here}
+
+pub record Parts (old_table table : List (Option Entry)) (macro : ℕ) (cursor : Cursor) (mode : ParMode) (x : Token) (s : Step) (o n : Option Present) : Type 0 where
+  pub p : Present
+  pub q : Present
+  pub was : o ≡ Some p
+  pub now : n ≡ Some q
+  pub took : TookIn old_table table macro cursor mode x s (Some p) (Some q)
+
+pub parts : (old_table table : List (Option Entry)) (macro : ℕ) (cursor : Cursor) (mode : ParMode) (x : Token) (s : Step) (o n : Option Present) → TookIn old_table table macro cursor mode x s o n → Parts old_table table macro cursor mode x s o n
+parts old_table table macro cursor mode x s None n h = absurd h
+parts old_table table macro cursor mode x s (Some p) None h = absurd h
+parts old_table table macro cursor mode x s (Some p) (Some q) h = record { p = p; q = q; was = refl; now = refl; took = h }
+
+pub parts_at : (old_table table : List (Option Entry)) (macro : ℕ) (cursor : Cursor) (mode : ParMode) (x : Token) (s r : Step) (o n : Option Present) → s ≡ r → TookIn old_table table macro cursor mode x s o n → Parts old_table table macro cursor mode x r o n
+parts_at old_table table macro cursor mode x s r o n e h = subst (λ (t : Step). Parts old_table table macro cursor mode x t o n) e (parts old_table table macro cursor mode x s o n h)
+
+module _ (old_table table : List (Option Entry)) (macro : ℕ) (old : ArgScan) (x : Token) (n : Option Present) (sound : IsSound old_table macro old) (account : Moves old_table table none none) where
+  pub going : Parts old_table table macro old.cursor old.mode x step.Going old.present n → Answers old_table table macro old (record { cursor = old.cursor; mode = old.mode; braced = false; present = n; args = old.args }) x ask.More
+  going t = goes old_table table macro old x t.p t.was sound t.took.2 account t.q n t.now t.took.0 t.took.1 old.mode false _ _ t.took.3.goes_on.2 t.took.3.goes_on.0 t.took.3.goes_on.1 ask.More refl (λ h. refl)
+      (case_on old_table table macro old x t.p t.was sound t.took.2 account _ t.took.3.met)
+
+  pub skipped : Parts old_table table macro old.cursor old.mode x step.Skipped old.present n → Answers old_table table macro old (record { cursor = old.cursor; mode = old.mode; braced = false; present = n; args = old.args }) x ask.More
+  skipped t = goes old_table table macro old x t.p t.was sound t.took.2 account t.q n t.now t.took.0 t.took.1 old.mode false _ _ t.took.3.goes_on.2 t.took.3.goes_on.0 t.took.3.goes_on.1 ask.More refl (λ h. refl)
+      (case_on old_table table macro old x t.p t.was sound t.took.2 account _ t.took.3.met)
+
+  pub braced : Parts old_table table macro old.cursor old.mode x step.ExtraBrace old.present n → Answers old_table table macro old (record { cursor = old.cursor; mode = Short; braced = true; present = n; args = old.args }) x ask.ExtraBrace
+  braced t = goes old_table table macro old x t.p t.was sound t.took.2 account t.q n t.now t.took.0 t.took.1 Short true _ _ t.took.3.goes_on.2 t.took.3.goes_on.0 t.took.3.goes_on.1 ask.ExtraBrace refl (λ h. refl)
+      (case_on old_table table macro old x t.p t.was sound t.took.2 account _ t.took.3.met)
+
+  -- the argument is whole
+  module _ (taken : ArgScan) (is : taken ≡ record { cursor = old.cursor; mode = old.mode; braced = false; present = n; args = old.args }) (between_table : List (Option Entry)) (mid : ArgScan)
+      (t : Parts old_table table macro old.cursor old.mode x step.Argument old.present n) (done : Completes table between_table macro taken mid) where
+    building : IsBuilding old_table t.p.build
+    building = (here old_table table macro old x t.p t.was sound t.took.2 account).0
+
+    taken_args : args_in table taken.args ≡ args_in old_table old.args
+    taken_args = ap (λ (s : ArgScan). args_in table s.args) is ∙ args_stay old_table table macro old t.p t.was building sound.owns sound.outside t.took.2
+
+    taken_places : delimiters_of (rest_at table macro taken.cursor) ≡ delimiters_of (rest_at old_table macro old.cursor)
+    taken_places = ap (λ (s : ArgScan). delimiters_of (rest_at table macro s.cursor)) is
+        ∙ ap (λ (ts : List Token). delimiters_of (drop old.cursor.index ts)) (macro_tokens old_table table macro old t.p t.was building sound.owns sound.outside t.took.2)
+
+    taken_mode : mid.mode ≡ old.mode
+    taken_mode = done.mode ∙ ap (λ (s : ArgScan). s.mode) is
+
+    value : work_by table taken.present ≡ tokens_at table (build_id t.q.build)
+    value = ap (λ (s : ArgScan). work_by table s.present) is ∙ ap (work_by table) t.now
+
+    mid_args : args_in between_table mid.args ≡ args_in old_table old.args ++ tokens_at table (build_id t.q.build) ∷ []
+    mid_args = done.args ∙ ap₂ (λ (us : List (List Token)) (ts : List Token). us ++ ts ∷ []) taken_args value
+
+    taken_moves : Moves old_table table (scan_holds old) (scan_holds taken)
+    taken_moves = subst (λ (s : ArgScan). Moves old_table table (scan_holds old) (scan_holds s)) (sym is) (now_moves old_table table macro old x t.p t.was sound t.took.2 account t.q n t.now t.took.0 t.took.1 old.mode false)
+
+    mid_moves : Moves old_table between_table (scan_holds old) (scan_holds mid)
+    mid_moves h = omega (arith, taken_moves h, done.moves h)
+
+    taken_kept : Keeps old_table table (scan_holds old)
+    taken_kept = shared_kept old_table table macro old t.p t.was building sound.owns sound.outside t.took.2
+
+    mid_kept : Keeps old_table between_table (scan_holds old)
+    mid_kept = record {
+      tokens = λ h l. done.kept.tokens h (omega (arith, taken_moves h, l)) ∙ taken_kept.tokens h l;
+      places = λ h l. done.kept.places h (omega (arith, taken_moves h, l)) ∙ taken_kept.places h l;
+    }
+
+    whole_on : (fed : List Fed) → resume old_table macro old (Tok x ∷ fed) ≡ arguments mid.mode (args_in between_table mid.args) (delimiters_of (rest_at between_table macro mid.cursor)) fed
+    whole_on fed =
+        case_on old_table table macro old x t.p t.was sound t.took.2 account _ t.took.3.met fed
+        ∙ ap (λ (m : ParMode). arguments m (args_in old_table old.args ++ tokens_at table (build_id t.q.build) ∷ []) (delimiters_of (rest_at old_table macro old.cursor)) fed) (sym taken_mode)
+        ∙ ap₂ (λ (us ps : List (List Token)). arguments mid.mode us ps fed) (sym mid_args) (sym (done.places ∙ taken_places))
+
+    pub whole_answers : (new_table : List (Option Entry)) (new : ArgScan) (a : ArgAsk) → Enters between_table new_table macro mid new a → Answers old_table new_table macro old new x a
+    whole_answers new_table new a e = record {
+      answers = e.answers ∙ sym (whole_on []);
+      goes_on = λ o. record { sound = e.sound o; same = λ fed. whole_on fed ∙ e.same o fed };
+      owns = e.owns;
+      moves = λ h. omega (arith, mid_moves h, e.moves h);
+      kept = record {
+        tokens = λ h l. e.kept.tokens h (omega (arith, mid_moves h, l)) ∙ mid_kept.tokens h l;
+        places = λ h l. e.kept.places h (omega (arith, mid_moves h, l)) ∙ mid_kept.places h l;
+      };
+    }
+
+    whole_cut_mid : IsCutShort old_table between_table macro old mid x
+    whole_cut_mid = record {
+      owns = record { covered = done.between.owns; building = λ r e. absurd (no_some r (sym done.between.none ∙ e)) };
+      moves = mid_moves;
+      kept = mid_kept;
+      stage = inr (done.between.none, whole_on);
+    }
+      where
+        no_some : (r : Present) → None ≡ Some r → ⊥
+        no_some r e = none-some r e
+
+    pub whole_cut : (new_table : List (Option Entry)) (new : ArgScan) → new_table ≡ between_table → new ≡ mid → IsCutShort old_table new_table macro old new x
+    whole_cut new_table new e f = subst (λ (u : List (Option Entry)). IsCutShort old_table u macro old new x) (sym e) (subst (λ (s : ArgScan). IsCutShort old_table between_table macro old s x) (sym f) whole_cut_mid)
+
+    pub whole_ok : (new_table : List (Option Entry)) (new : ArgScan) (r : Result ArgAsk Full) → IfOk r (λ a. Enters between_table new_table macro mid new a) → IfOk r (λ a. Answers old_table new_table macro old new x a)
+    whole_ok new_table new (Ok a) h = whole_answers new_table new a h
+    whole_ok new_table new (Err f) h = tt
+
+    pub whole_err : (new_table : List (Option Entry)) (new : ArgScan) (r : Result ArgAsk Full) → OnErr r (new_table ≡ between_table) → OnErr r (new ≡ mid) → OnErr r (IsCutShort old_table new_table macro old new x)
+    whole_err new_table new (Ok a) e f = tt
+    whole_err new_table new (Err g) e f = whole_cut new_table new e f
+
+-- the memory is full at a step
+pub cut_step : (old_table table : List (Option Entry)) (macro : ℕ) (old : ArgScan) (x : Token) (o n : Option Present) → old.present ≡ o → IsSound old_table macro old → Moves old_table table none none → CutIn old_table table macro old.cursor x o n →
+    IsCutShort old_table table macro old (record { cursor = old.cursor; mode = old.mode; braced = old.braced; present = n; args = old.args }) x
+cut_step old_table table macro old x None n e sound account h = absurd h
+cut_step old_table table macro old x (Some p) None e sound account h = absurd h
+cut_step old_table table macro old x (Some p) (Some q) e sound account h =
+    let building = (here old_table table macro old x p e sound h.2 account).0 in
+    record {
+      owns = now_owns old_table table macro old x p e sound h.2 account q (Some q) refl h.0 h.1 old.mode old.braced;
+      moves = now_moves old_table table macro old x p e sound h.2 account q (Some q) refl h.0 h.1 old.mode old.braced;
+      kept = shared_kept old_table table macro old p e building sound.owns sound.outside h.2;
+      stage = inl (
+        args_stay old_table table macro old p e building sound.owns sound.outside h.2,
+        subst (λ (o : Option Present). IsGrownByPart (work_by old_table o) (tokens_at table (build_id q.build)) (held_by (delimiter_at old_table macro old.cursor) o ++ x ∷ [])) (sym e)
+            (subst (λ (i : ℕ). IsGrownByPart (tokens_at old_table (build_id p.build)) (tokens_at table i) (take p.matched (delimiter_at old_table macro old.cursor) ++ x ∷ [])) (sym h.0) h.3),
+      );
+    }

@@ -1,0 +1,28 @@
+use Rattle.std.proofs.Common.{◌≡◌, ◌∙◌, ◌+◌, ◌-◌, ◌++◌, ◌∷◌, [], length, take, sym, ap, arith, false, ◌&&◌}
+use Rattle.std.specs.Prelude.{◌==◌}
+use Rattle.token_lists.specs.Ids.{id_of}
+use Rattle.macro_call.specs.Arguments.{is_prefix}
+use Rattle.macro_call.specs.Cursors.{delimiter_at}
+use Rattle.macro_call.proofs.Fronts.{past_stops, past_next, take_head, here, not_inside, not_fitting, behind_bound}
+use Rattle.macro_call.proofs.matches.released.Goals as goal
+use Rattle.macro_call.proofs.matches.released.Goals.{After-behind-groups, else-groups-eq0-via-then-groups-eq0+else-fits, else-groups-eq0-via-else-groups-eq0}
+
+pub returns-then-fits-clause-part : goal.returns-then-fits-clause-part
+returns-then-fits-clause-part c = (past_stops _ _ _ _ _ _ c.loop-i.invariant.3 (here c.loop-i.groups _ c.if-groups-eq0.true (sym c.fits.ensures ∙ c.if-fits.true))).0
+
+pub returns-then-fits-clause-rest : goal.returns-then-fits-clause-rest
+returns-then-fits-clause-rest c = (past_stops _ _ _ _ _ _ c.loop-i.invariant.3 (here c.loop-i.groups _ c.if-groups-eq0.true (sym c.fits.ensures ∙ c.if-fits.true))).1
+
+fails : (c : After-behind-groups) → ((c.loop-i.groups == 0) && is_prefix (take (c.args.matched - c.loop-i.i) (delimiter_at c.args.lists.now (id_of c.args.list.now) c.loop-i.from) ++ c.args.x ∷ []) (delimiter_at c.args.lists.now (id_of c.args.list.now) c.args.delimiter)) ≡ false
+fails c = elim c.else-groups-eq0.branch [
+  | else-groups-eq0-via-then-groups-eq0+else-fits w ↦ not_fitting c.loop-i.groups _ (sym w.fits.ensures ∙ w.if-fits.false)
+  | else-groups-eq0-via-else-groups-eq0 w ↦ not_inside c.loop-i.groups _ w.if-groups-eq0.false
+]
+
+pub loop-i-preserved : goal.loop-i-preserved
+loop-i-preserved c = (
+  c.delimiting-d.ensures.1,
+  omega (arith, ap length c.delimiting-d.ensures.0),
+  omega (arith, c.behind-groups.ensures, behind_bound c.loop-i.groups c.delimiting-d.result.0),
+  past_next _ _ _ _ _ _ _ _ _ c.behind-groups.ensures c.loop-i.invariant.3 (take_head (c.args.matched - c.loop-i.i) (c.args.matched - (c.loop-i.i + 1)) _ _ _ c.args.x (omega arith) c.delimiting-d.ensures.0) (fails c),
+)

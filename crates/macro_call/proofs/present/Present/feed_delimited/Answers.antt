@@ -1,0 +1,61 @@
+use Rattle.std.proofs.Common.{◌≡◌, ◌∷◌, [], ℕ, ◌<◌, ◌≤◌, List, length, sym, ap, ◌∙◌, arith}
+use Rattle.tex_defs.specs.declared.Token.{Token}
+use Rattle.token_lists.specs.Table.{tokens_at}
+use Rattle.token_lists.specs.Ids.{id_of, build_id}
+use Rattle.macro_call.specs.Cursors.{delimiter_at}
+use Rattle.macro_call.specs.Stages.{stage_of, Releases}
+use Rattle.macro_call.proofs.Cursors.{delimiter_within}
+use Rattle.macro_call.proofs.Tables.{length_within, part_more}
+use Rattle.macro_call.proofs.Taken.{depth_within, released_by, took_whole, took_brace, not_whole}
+use Rattle.macro_call.proofs.present.Present.feed_delimited.Goals as goal
+use Rattle.macro_call.proofs.present.Present.feed_delimited.Goals.{After-released-out, Joined-self-gt0, then-self-gt0, else-self-gt0}
+
+before_zero : (c : Joined-self-gt0) → 0 < c.args.self.now.matched → c.if-self-gt0.before ≡ 0
+before_zero c h = elim c.if-self-gt0.branch [ then-self-gt0 w ↦ w.before-is | else-self-gt0 w ↦ absurd (omega (arith, w.if-self-gt0.false)) ]
+
+before_depth : (c : Joined-self-gt0) → c.args.self.now.matched ≡ 0 → c.if-self-gt0.before ≡ c.args.self.now.depth
+before_depth c h = elim c.if-self-gt0.branch [ then-self-gt0 w ↦ absurd (omega (arith, w.if-self-gt0.true)) | else-self-gt0 w ↦ w.before-is ]
+
+before_small : (c : Joined-self-gt0) → c.if-self-gt0.before ≤ c.args.self.now.depth
+before_small c = elim c.if-self-gt0.branch [ then-self-gt0 w ↦ omega (arith, w.before-is) | else-self-gt0 w ↦ omega (arith, w.before-is) ]
+
+pub released-out-requires-clause-shallow : goal.released-out-requires-clause-shallow
+released-out-requires-clause-shallow c =
+    let ds : List Token = delimiter_at c.args.lists.now (id_of c.args.list.now) c.args.delimiter in
+    omega (
+      arith,
+      before_small c,
+      depth_within ds (stage_of c.args.lists.now c.args.self.now) c.requires.stands,
+      c.requires.stands.1.fits,
+      length_within c.args.lists.now (build_id c.args.self.now.build),
+      length_within c.args.lists.now (id_of c.args.list.now),
+      delimiter_within c.args.delimiter.index (tokens_at c.args.lists.now (id_of c.args.list.now)),
+      c.used-used.ensures.is,
+    )
+
+released : (c : After-released-out) → Releases (delimiter_at c.args.lists.now (id_of c.args.list.now) c.args.delimiter) (stage_of c.args.lists.now c.args.self.now) c.args.x c.released-out.result
+released c =
+    released_by (delimiter_at c.args.lists.now (id_of c.args.list.now) c.args.delimiter) (stage_of c.args.lists.now c.args.self.now) c.args.x c.if-self-gt0.before c.released-out.result c.requires.stands
+    (before_zero c.before) (before_depth c.before) c.released-out.ensures.within c.released-out.ensures.part c.released-out.ensures.rest
+
+pub returns-then-completes-clause-took : goal.returns-then-completes-clause-took
+returns-then-completes-clause-took c =
+    let ds : List Token = delimiter_at c.args.lists.now (id_of c.args.list.now) c.args.delimiter in
+    let p = c.completes.ensures.0 c.if-completes.true in
+    took_whole ds (stage_of c.args.lists.now c.args.self.now) _ c.args.x c.args.mode c.released-out.result c.requires.stands (released (goal.at.returns-then-completes-clause-took c).After-released-out)
+    (ap (tokens_at c.without_braces.new.lists) c.without_braces.ensures.same ∙ c.without_braces.ensures.stripped) p.0 p.1
+
+pub returns-in-Err-clause-cut_short : goal.returns-in-Err-clause-cut_short
+returns-in-Err-clause-cut_short c = part_more _ _ _ (c.args.x ∷ []) c.in-Err.ensures.cut_short
+
+pub returns-then-self-eq0-clause-took : goal.returns-then-self-eq0-clause-took
+returns-then-self-eq0-clause-took c =
+    let ds : List Token = delimiter_at c.args.lists.now (id_of c.args.list.now) c.args.delimiter in
+    took_brace ds (stage_of c.args.lists.now c.args.self.now) _ c.args.x c.args.mode c.released-out.result c.requires.stands (released (goal.at.returns-then-self-eq0-clause-took c).After-released-out)
+    (not_whole ds c.args.self.now.matched c.released-out.result c.completes.result c.requires.stands.1.fits c.completes.ensures c.if-completes.false)
+    (ap (tokens_at c.keep.new.lists) c.keep.ensures.same ∙ c.in_default.ensures.kept.0)
+    (c.in_default.ensures.kept.1 ∙ ap (λ (k : ℕ). length (tokens_at c.keep.new.lists k)) (sym c.keep.ensures.same)) c.in_default.ensures.kept.2 c.in_default.ensures.kept.3
+    (sym c.is_end.ensures ∙ c.if-is_end.true) c.if-self-eq0.true
+
+pub go_on-requires-clause-releases : goal.go_on-requires-clause-releases
+go_on-requires-clause-releases c = released (goal.at.go_on-requires-clause-releases c).After-released-out

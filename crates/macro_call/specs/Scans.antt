@@ -1,0 +1,183 @@
+-- What a scanner will answer on what is still to come.
+use Rattle.std.specs.Prelude.{Bool, true, false, ◌≡◌, ◌≢◌, ℕ, ◌+◌, ◌<◌, ◌≤◌, List, [], ◌∷◌, ◌++◌, ◌⊎◌, Option, None, Some, length, take}
+use Rattle.tex_defs.specs.declared.Token.{Token}
+use Rattle.token_lists.specs.Table.{Entry, holders_at, tokens_at}
+use Rattle.token_lists.specs.Accounts.{Covers, Moves, Keeps}
+use Rattle.token_lists.specs.Ids.{build_id, IsBuilding}
+use Rattle.macro_call.specs.declared.par_mode.ParMode.{ParMode}
+use Rattle.macro_call.specs.declared.par_mode.ParMode.TheVariants.{Long, Short}
+use Rattle.macro_call.specs.Arguments.{start_of, delimiters_of, Fed, Tok, Answer, More, ExtraBraceFound, Called, Mismatch, Ended, search, behind, case_at, arguments, gathering}
+use Rattle.macro_call.specs.declared.cursor.Cursor.{Cursor}
+use Rattle.macro_call.specs.declared.present.Present.{Present}
+use Rattle.macro_call.specs.declared.present.Step.{Step}
+use Rattle.macro_call.specs.declared.scan.ArgScan.{ArgScan}
+use Rattle.macro_call.specs.declared.scan.ArgAsk.{ArgAsk}
+use Rattle.macro_call.specs.declared.scan.ArgAsk.TheVariants as ask
+use Rattle.macro_call.specs.Args.{args_in, args_hold, IsFilled}
+use Rattle.macro_call.specs.Cursors.{IsOn, rest_at, delimiter_at}
+use Rattle.macro_call.specs.Holds.{present_holds}
+use Rattle.macro_call.specs.Tables.{IsGrownByPart, IsOnly}
+use Rattle.macro_call.specs.Stages.{stage_of, Stands, Took, kept_in, read_in}
+
+-- what is answered where nothing follows
+abbrev pub now_of : Bool → List Token → Answer
+now_of true work = ExtraBraceFound work
+now_of false work = More work
+
+-- in front of the first place the rest of the parameter text is matched; in a place its delimiter is sought
+abbrev pub resume_by : List (Option Entry) → (macro : ℕ) → ArgScan → Option Present → List Fed → Answer
+resume_by table macro scan None fed = gathering (rest_at table macro scan.cursor) scan.mode fed
+resume_by table macro scan (Some p) fed =
+    behind (args_in table scan.args) (delimiters_of (rest_at table macro scan.cursor))
+    (search (delimiter_at table macro scan.cursor) (now_of scan.braced) scan.mode (kept_in (stage_of table p)) (read_in (delimiter_at table macro scan.cursor) (stage_of table p)) fed)
+
+abbrev pub resume : List (Option Entry) → (macro : ℕ) → ArgScan → List Fed → Answer
+resume table macro scan fed = resume_by table macro scan scan.present fed
+
+-- the list in work, if an argument is being gathered
+abbrev pub work_by : List (Option Entry) → Option Present → List Token
+work_by table None = []
+work_by table (Some p) = tokens_at table (build_id p.build)
+
+abbrev pub work_in : List (Option Entry) → ArgScan → List Token
+work_in table scan = work_by table scan.present
+
+-- what a scanner holds: the list in work and its arguments' lists
+abbrev pub scan_holds : ArgScan → ℕ → ℕ
+scan_holds scan h = present_holds scan.present h + args_hold scan.args h
+
+-- in front of the first place a token is left to be matched; in a place the list in work stands for what was read
+abbrev pub IsInPlace : List (Option Entry) → (macro : ℕ) → ArgScan → Option Present → Type 0
+IsInPlace table macro scan None = (scan.args.count ≡ 0) × (scan.braced ≡ false) × (0 < length (start_of (rest_at table macro scan.cursor))) × (length (delimiters_of (rest_at table macro scan.cursor)) ≤ 9)
+IsInPlace table macro scan (Some p) = IsBuilding table p.build × Stands (delimiter_at table macro scan.cursor) (stage_of table p) × (scan.args.count + length (delimiters_of (rest_at table macro scan.cursor)) < 9)
+
+-- what the scanner holds is counted, and its lists may be released
+pub record Owns (table : List (Option Entry)) (scan : ArgScan) : Type 0 where
+  pub covered : Covers table (scan_holds scan)
+  pub building : (p : Present) → scan.present ≡ Some p → IsBuilding table p.build
+
+-- a scanner that goes on, over the list of this macro, which somebody else holds too
+pub record IsSound (table : List (Option Entry)) (macro : ℕ) (scan : ArgScan) : Type 0 where
+  pub owns : Covers table (scan_holds scan)
+  pub on : IsOn table macro scan.cursor
+  pub outside : scan_holds scan macro < holders_at table macro
+  pub filled : IsFilled scan.args
+  pub in_place : IsInPlace table macro scan scan.present
+
+abbrev pub answer_of : List (Option Entry) → ArgAsk → List Token → Answer
+answer_of table ask.More work = More work
+answer_of table ask.ExtraBrace work = ExtraBraceFound work
+answer_of table (ask.Called args) work = Called (args_in table args)
+answer_of table ask.Mismatch work = Mismatch
+answer_of table (ask.ParEnded silent) work = Ended silent
+
+-- what the answer hands out
+abbrev pub handed : ArgAsk → ℕ → ℕ
+handed ask.More h = 0
+handed ask.ExtraBrace h = 0
+handed (ask.Called args) h = args_hold args h
+handed ask.Mismatch h = 0
+handed (ask.ParEnded silent) h = 0
+
+abbrev pub IsOpen : ArgAsk → Type 0
+IsOpen ask.More = Unit {0}
+IsOpen ask.ExtraBrace = Unit {0}
+IsOpen (ask.Called args) = ⊥
+IsOpen ask.Mismatch = ⊥
+IsOpen (ask.ParEnded silent) = ⊥
+
+-- the scanner stands behind x: what comes after any further tokens is what the one before would have answered
+pub record Next (old_table new_table : List (Option Entry)) (macro : ℕ) (old new : ArgScan) (x : Token) : Type 0 where
+  pub sound : IsSound new_table macro new
+  pub same : (fed : List Fed) → resume old_table macro old (Tok x ∷ fed) ≡ resume new_table macro new fed
+
+-- Behind the tokens in front of the first place, or behind a delimiter: the next place is entered, or the call is made.
+pub record Enters (old_table new_table : List (Option Entry)) (macro : ℕ) (old new : ArgScan) (answer : ArgAsk) : Type 0 where
+  pub answers : answer_of new_table answer (work_in new_table new) ≡ arguments old.mode (args_in old_table old.args) (delimiters_of (rest_at old_table macro old.cursor)) []
+  pub sound : IsOpen answer → IsSound new_table macro new
+  pub same : IsOpen answer → (fed : List Fed) → arguments old.mode (args_in old_table old.args) (delimiters_of (rest_at old_table macro old.cursor)) fed ≡ resume new_table macro new fed
+  pub owns : Owns new_table new
+  pub moves : Moves old_table new_table (scan_holds old) (λ h. scan_holds new h + handed answer h)
+  pub kept : Keeps old_table new_table (scan_holds old)
+
+-- a scanner that may enter the next place
+pub record IsBetween (table : List (Option Entry)) (macro : ℕ) (scan : ArgScan) : Type 0 where
+  pub none : scan.present ≡ None
+  pub settled : scan.braced ≡ false
+  pub ends : delimiter_at table macro scan.cursor ≡ []
+  pub on : IsOn table macro scan.cursor
+  pub owns : Covers table (scan_holds scan)
+  pub outside : scan_holds scan macro < holders_at table macro
+  pub filled : IsFilled scan.args
+  pub room : scan.args.count + length (delimiters_of (rest_at table macro scan.cursor)) ≤ 9
+
+-- What a token comes to: the answer is what the definition asks for after it, and the scanner goes on behind it.
+pub record Answers (old_table new_table : List (Option Entry)) (macro : ℕ) (old new : ArgScan) (x : Token) (answer : ArgAsk) : Type 0 where
+  pub answers : answer_of new_table answer (work_in new_table new) ≡ resume old_table macro old (Tok x ∷ [])
+  pub goes_on : IsOpen answer → Next old_table new_table macro old new x
+  pub owns : Owns new_table new
+  pub moves : Moves old_table new_table (scan_holds old) (λ h. scan_holds new h + handed answer h)
+  pub kept : Keeps old_table new_table (scan_holds old)
+
+-- what the match holds back of the tokens that were read
+abbrev pub held_by : List Token → Option Present → List Token
+held_by ds None = []
+held_by ds (Some p) = take p.matched ds
+
+-- The memory is full. Either the list in work has some of the tokens that go into it, from the first on; or the
+-- argument is whole, and the next one's list isn't begun.
+pub record IsCutShort (old_table new_table : List (Option Entry)) (macro : ℕ) (old new : ArgScan) (x : Token) : Type 0 where
+  pub owns : Owns new_table new
+  pub moves : Moves old_table new_table (scan_holds old) (scan_holds new)
+  pub kept : Keeps old_table new_table (scan_holds old)
+  pub stage : ((args_in new_table new.args ≡ args_in old_table old.args) × IsGrownByPart (work_in old_table old) (work_in new_table new) (held_by (delimiter_at old_table macro old.cursor) old.present ++ x ∷ []))
+      ⊎ ((new.present ≡ None) × ((fed : List Fed) → resume old_table macro old (Tok x ∷ fed) ≡ arguments new.mode (args_in new_table new.args) (delimiters_of (rest_at new_table macro new.cursor)) fed))
+
+-- an argument is being gathered, and its list isn't the macro's
+abbrev pub IsReady : List (Option Entry) → (macro : ℕ) → Cursor → Option Present → Type 0
+IsReady table macro cursor None = ⊥
+IsReady table macro cursor (Some p) = IsBuilding table p.build × (macro ≢ build_id p.build) × Stands (delimiter_at table macro cursor) (stage_of table p)
+
+-- what a token comes to in a place
+abbrev pub TookIn : (old_table new_table : List (Option Entry)) → (macro : ℕ) → Cursor → ParMode → Token → Step → (old new : Option Present) → Type 0
+TookIn old_table new_table macro cursor mode x taken None new = ⊥
+TookIn old_table new_table macro cursor mode x taken (Some p) None = ⊥
+TookIn old_table new_table macro cursor mode x taken (Some p) (Some q) =
+    (build_id q.build ≡ build_id p.build) × IsBuilding new_table q.build × IsOnly old_table new_table (build_id p.build)
+    × Took (delimiter_at old_table macro cursor) (stage_of old_table p) x taken (stage_of new_table q) (case_at (delimiter_at old_table macro cursor) mode (kept_in (stage_of old_table p)) (read_in (delimiter_at old_table macro cursor) (stage_of old_table p)) x)
+
+-- the same where the memory is full
+abbrev pub CutIn : (old_table new_table : List (Option Entry)) → (macro : ℕ) → Cursor → Token → (old new : Option Present) → Type 0
+CutIn old_table new_table macro cursor x None new = ⊥
+CutIn old_table new_table macro cursor x (Some p) None = ⊥
+CutIn old_table new_table macro cursor x (Some p) (Some q) =
+    (build_id q.build ≡ build_id p.build) × IsBuilding new_table q.build × IsOnly old_table new_table (build_id p.build)
+    × IsGrownByPart (tokens_at old_table (build_id p.build)) (tokens_at new_table (build_id p.build)) (take p.matched (delimiter_at old_table macro cursor) ++ x ∷ [])
+
+abbrev pub IsBuildingIn : List (Option Entry) → Option Present → Type 0
+IsBuildingIn table None = ⊥
+IsBuildingIn table (Some p) = IsBuilding table p.build
+
+-- a scanner whose list in work is a whole argument
+pub record IsWhole (table : List (Option Entry)) (macro : ℕ) (scan : ArgScan) : Type 0 where
+  pub building : IsBuildingIn table scan.present
+  pub settled : scan.braced ≡ false
+  pub on : IsOn table macro scan.cursor
+  pub owns : Covers table (scan_holds scan)
+  pub outside : scan_holds scan macro < holders_at table macro
+  pub filled : IsFilled scan.args
+  pub room : scan.args.count + length (delimiters_of (rest_at table macro scan.cursor)) < 9
+
+-- the list in work becomes an argument, and the delimiter is passed
+pub record Completes (old_table new_table : List (Option Entry)) (macro : ℕ) (old new : ArgScan) : Type 0 where
+  pub between : IsBetween new_table macro new
+  pub args : args_in new_table new.args ≡ args_in old_table old.args ++ work_in old_table old ∷ []
+  pub places : delimiters_of (rest_at new_table macro new.cursor) ≡ delimiters_of (rest_at old_table macro old.cursor)
+  pub mode : new.mode ≡ old.mode
+  pub moves : Moves old_table new_table (scan_holds old) (scan_holds new)
+  pub kept : Keeps old_table new_table (scan_holds old)
+
+-- how a call begins
+abbrev pub mode_of : Bool → ParMode
+mode_of true = Long
+mode_of false = Short

@@ -1,0 +1,73 @@
+// The arguments of a call.
+ghost use Rattle.std.specs.Prelude.{◌≡◌, length};
+
+use crate::cells::release_cell;
+use std::mem;
+use token_lists::{ListRef, Lists};
+
+/// The arguments of a call, at most nine. An argument without tokens has no list.
+///
+/// *The TeXbook*, chapter 20. They must be spent: each list has a holder here.
+#[must_use]
+#[derive(Debug)]
+pub struct Args {
+    /// The lists, one for each argument, and none behind the last.
+    pub lists: [Option<ListRef>; 9],
+    /// How many arguments there are.
+    pub count: usize,
+    ghost nine: { length lists ≡ 9 },
+}
+
+impl Args {
+    ghost use Rattle.std.specs.Prelude.{◌≡◌, ◌+◌, ◌<◌, ◌++◌, ◌∷◌, [], ℕ};
+    ghost use Rattle.token_lists.specs.Accounts.{Moves, Covers, Keeps, none, cell_holds};
+    ghost use Rattle.macro_call.specs.Args.{args_hold, args_in, cell_tokens, IsFilled};
+
+    /// No arguments.
+    pub fn none() -> Args
+        ensures empty { result.count ≡ 0 }
+        ensures filled { IsFilled result }
+        ensures account { (h : ℕ) → args_hold result h ≡ 0 }
+    {
+        Args {
+            lists: [None, None, None, None, None, None, None, None, None],
+            count: 0,
+        }
+    }
+
+    // One argument more.
+    pub fn keep(&mut self, lists: &mut Lists, cell: Option<ListRef>)
+        requires room { self.old.count < 9 }
+        requires filled { IsFilled self.old }
+        ensures unchanged { lists.new ≡ lists.old }
+        ensures filled { IsFilled self.new }
+        ensures count { self.new.count ≡ self.old.count + 1 }
+        ensures account { (h : ℕ) → args_hold self.new h ≡ args_hold self.old h + cell_holds cell h }
+        ensures tokens { args_in lists.new self.new ≡ args_in lists.old self.old ++ cell_tokens lists.old cell ∷ [] }
+    {
+        let old = mem::replace(&mut self.lists[self.count], cell);
+        release_cell(lists, old);
+        self.count += 1;
+    }
+
+    /// Lets all arguments go.
+    pub fn release(self, lists: &mut Lists)
+        requires { Covers lists.old (args_hold self) }
+        ensures account { Moves lists.old lists.new (args_hold self) none }
+        ensures kept { Keeps lists.old lists.new (args_hold self) }
+    {
+        let Args {
+            lists: [a, b, c, d, e, f, g, h, i],
+            count: _,
+        } = self;
+        release_cell(lists, a);
+        release_cell(lists, b);
+        release_cell(lists, c);
+        release_cell(lists, d);
+        release_cell(lists, e);
+        release_cell(lists, f);
+        release_cell(lists, g);
+        release_cell(lists, h);
+        release_cell(lists, i);
+    }
+}

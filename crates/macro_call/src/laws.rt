@@ -1,0 +1,27 @@
+// Laws of macro arguments: the functions have no bodies, their contracts are the laws.
+ghost use Rattle.macro_call.specs.ArgumentLaws.{CallsEndAtOnce, ArgumentsAreShortest, DelimitedListsAreBalanced, OneGroupLosesBraces, MatchesRestart};
+
+/// What ends a call is decided by the fewest tokens.
+pub fn calls_end_at_once()
+    ensures { CallsEndAtOnce }
+{}
+
+/// Before a delimiter a `\long` macro takes the shortest balanced list.
+pub fn arguments_are_shortest()
+    ensures { ArgumentsAreShortest }
+{}
+
+/// A list is delimited exactly where it is a balanced list and then the delimiter.
+pub fn delimited_lists_are_balanced()
+    ensures { DelimitedListsAreBalanced }
+{}
+
+/// A list that is exactly one group loses its braces, and no other list does.
+pub fn one_group_loses_braces()
+    ensures { OneGroupLosesBraces }
+{}
+
+/// The partial match is the longest that may go on, so a match that fails begins again at the next token.
+pub fn matches_restart()
+    ensures { MatchesRestart }
+{}

@@ -1,0 +1,29 @@
+//! The arguments of a macro call, matched token by token against the macro's parameter text.
+//!
+//! *The TeXbook*, chapter 20; *TeX: The Program*, part 25 (`macro_call`). The macro's list isn't copied: the scanner
+//! keeps a place in it. The arguments are lists of their own.
+#![tactic(auto)]
+
+mod args;
+mod braces;
+mod builds;
+mod cells;
+mod cursor;
+mod laws;
+mod matches;
+mod par_mode;
+mod present;
+mod scan;
+#[cfg(test)]
+mod tests;
+mod tokens;
+
+pub use args::Args;
+pub use cursor::Cursor;
+pub use laws::{
+    arguments_are_shortest, calls_end_at_once, delimited_lists_are_balanced, matches_restart,
+    one_group_loses_braces,
+};
+pub use par_mode::ParMode;
+pub use present::{Present, Step};
+pub use scan::{ArgAsk, ArgScan};

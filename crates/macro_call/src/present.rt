@@ -1,0 +1,345 @@
+// The present argument.
+ghost use Rattle.std.specs.Prelude.{◌≡◌, ◌≢◌, ◌<◌, ◌+◌, ◌++◌, ◌∷◌, [], ◌↔◌, ◌&&◌, ◌==◌, false, length, take, IfOk, IfErr, IfSome, OnErr, IsTrue, None, ℕ};
+ghost use Rattle.std.specs.Option.{ForSome};
+ghost use Rattle.token_lists.specs.Table.{tokens_at, entry_at};
+ghost use Rattle.token_lists.specs.Accounts.{Moves, none, holds, cell_holds};
+ghost use Rattle.macro_call.specs.Args.{cell_tokens};
+ghost use Rattle.macro_call.specs.Holds.{present_holds};
+ghost use Rattle.token_lists.specs.Ids.{id_of, build_id, IsBuilding};
+ghost use Rattle.token_lists.specs.Refusals.{IsFull};
+ghost use Rattle.macro_call.specs.Arguments.{is_end, delimited_case, undelimited_case, case_at};
+ghost use Rattle.macro_call.specs.Cursors.{IsOn, delimiter_at, rest_at};
+ghost use Rattle.macro_call.specs.Stages.{stage_of, kept_in, read_in, Stands, StandsAt, StandsPlain, Releases, Took};
+ghost use Rattle.macro_call.specs.Tables.{IsOnly, IsGrownByPart};
+
+use crate::braces::without_braces;
+use crate::builds::{store, store_front};
+use crate::cursor::{Cursor, at_first_built};
+use crate::matches::{behind, released};
+use crate::par_mode::ParMode;
+use crate::tokens::{is_begin, is_end, is_par, is_space};
+use tex_defs::{Full, Token};
+use token_lists::{Build, ListRef, Lists};
+
+/// The argument that is being gathered.
+#[derive(Debug)]
+pub struct Present {
+    build: Build,
+    // How many tokens of the list stand in front of the last extra brace: no match begins there.
+    from: usize,
+    // How many tokens of the delimiter were matched. They aren't in the list.
+    matched: usize,
+    // How many groups are open.
+    depth: usize,
+}
+
+/// What a token was to the present argument.
+#[derive(Clone, Copy, Debug, PartialEq, Eq)]
+pub enum Step {
+    /// It completed the argument.
+    Argument,
+    /// It is a right brace that closes nothing.
+    ExtraBrace,
+    /// It is a `\par` that ends the call.
+    ParEnded,
+    /// It is a space in front of the argument.
+    Skipped,
+    /// The argument goes on.
+    Going,
+}
+
+// How many tokens a list that is being built has.
+fn built_len(lists: &Lists, build: &Build) -> usize
+    requires { IsBuilding lists.now build.now }
+    ensures { result ≡ length (tokens_at lists.now (build_id build.now)) }
+{
+    let mut from = at_first_built(lists, build);
+    while let Some((_, next)) = from.next(lists) {
+        from = next;
+    }
+    from.index()
+}
+
+// How many tokens a delimiter has.
+fn delimiter_len(lists: &Lists, list: &ListRef, delimiter: Cursor) -> usize
+    requires { IsOn lists.now (id_of list.now) delimiter }
+    ensures { result ≡ length (delimiter_at lists.now (id_of list.now) delimiter) }
+{
+    let mut from = delimiter;
+    while let Some((_, next)) = from.next_along(lists) {
+        from = next;
+    }
+    from.index() - delimiter.index()
+}
+
+impl Present {
+    /// An argument begins, whose list is this one.
+    pub fn new(build: Build) -> Present
+        ensures same { build_id result.build ≡ build_id build }
+        ensures building { result.build ≡ build }
+        ensures fresh { (result.from ≡ 0) × (result.matched ≡ 0) × (result.depth ≡ 0) }
+    {
+        Present {
+            build,
+            from: 0,
+            matched: 0,
+            depth: 0,
+        }
+    }
+
+    /// The list in work.
+    pub fn built(&self) -> &Build
+        ensures { result.now ≡ self.now.build }
+    {
+        &self.build
+    }
+
+    // A right brace that closes nothing: all that was read is kept, and no match begins before it.
+    fn keep(&mut self, lists: &mut Lists, list: &ListRef, delimiter: Cursor) -> Result<(), Full>
+        requires building { IsBuilding lists.old self.old.build }
+        requires on { IsOn lists.old (id_of list.now) delimiter }
+        requires apart { id_of list.now ≢ build_id self.old.build }
+        requires inside { self.old.matched < length (delimiter_at lists.old (id_of list.now) delimiter) }
+        ensures same { build_id self.new.build ≡ build_id self.old.build }
+        ensures building { IsBuilding lists.new self.new.build }
+        ensures others { IsOnly lists.old lists.new (build_id self.old.build) }
+        ensures account { Moves lists.old lists.new none none }
+        ensures kept { IfOk result (λ _. (tokens_at lists.new (build_id self.old.build) ≡ tokens_at lists.old (build_id self.old.build) ++ take self.old.matched (delimiter_at lists.old (id_of list.now) delimiter)) × (self.new.from ≡ length (tokens_at lists.new (build_id self.old.build))) × (self.new.matched ≡ 0) × (self.new.depth ≡ self.old.depth)) }
+        ensures full { IfErr result (λ f. IsFull f lists.new) }
+        ensures cut_short { OnErr result (IsGrownByPart (tokens_at lists.old (build_id self.old.build)) (tokens_at lists.new (build_id self.old.build)) (take self.old.matched (delimiter_at lists.old (id_of list.now) delimiter))) }
+    {
+        store_front(lists, list, &mut self.build, delimiter, self.matched)?;
+        self.from = built_len(lists, &self.build);
+        self.matched = 0;
+        Ok(())
+    }
+
+    // A token behind a brace that is open, where there is no delimiter.
+    fn feed_group(&mut self, lists: &mut Lists, mode: ParMode, x: Token) -> Result<Step, Full>
+        requires building { IsBuilding lists.old self.old.build }
+        requires stands { StandsPlain (stage_of lists.old self.old) }
+        requires inside { 0 < self.old.depth }
+        ensures same { build_id self.new.build ≡ build_id self.old.build }
+        ensures building { IsBuilding lists.new self.new.build }
+        ensures others { IsOnly lists.old lists.new (build_id self.old.build) }
+        ensures account { Moves lists.old lists.new none none }
+        ensures took { IfOk result (λ step. Took [] (stage_of lists.old self.old) x step (stage_of lists.new self.new) (undelimited_case mode (tokens_at lists.old (build_id self.old.build)) x)) }
+        ensures full { IfErr result (λ f. IsFull f lists.new) }
+        ensures cut_short { OnErr result (tokens_at lists.new (build_id self.old.build) ≡ tokens_at lists.old (build_id self.old.build)) }
+    {
+        if self.depth == 1 && is_end(x) {
+            lists.drop_first(&mut self.build);
+            return Ok(Step::Argument);
+        }
+        if mode.is_short() && is_par(x) {
+            return Ok(Step::ParEnded);
+        }
+        let _used = lists.used();
+        let depth = behind(self.depth, x);
+        if let Err(full) = store(lists, &mut self.build, x) {
+            return Err(full);
+        }
+        self.depth = depth;
+        Ok(Step::Going)
+    }
+
+    // A token where there is no delimiter.
+    fn feed_undelimited(&mut self, lists: &mut Lists, mode: ParMode, x: Token) -> Result<Step, Full>
+        requires building { IsBuilding lists.old self.old.build }
+        requires stands { StandsPlain (stage_of lists.old self.old) }
+        ensures same { build_id self.new.build ≡ build_id self.old.build }
+        ensures building { IsBuilding lists.new self.new.build }
+        ensures others { IsOnly lists.old lists.new (build_id self.old.build) }
+        ensures account { Moves lists.old lists.new none none }
+        ensures took { IfOk result (λ step. Took [] (stage_of lists.old self.old) x step (stage_of lists.new self.new) (undelimited_case mode (tokens_at lists.old (build_id self.old.build)) x)) }
+        ensures full { IfErr result (λ f. IsFull f lists.new) }
+        ensures cut_short { OnErr result (tokens_at lists.new (build_id self.old.build) ≡ tokens_at lists.old (build_id self.old.build)) }
+    {
+        if self.depth > 0 {
+            return self.feed_group(lists, mode, x);
+        }
+        if is_end(x) {
+            return Ok(Step::ExtraBrace);
+        }
+        if mode.is_short() && is_par(x) {
+            return Ok(Step::ParEnded);
+        }
+        if is_space(x) {
+            return Ok(Step::Skipped);
+        }
+        if let Err(full) = store(lists, &mut self.build, x) {
+            return Err(full);
+        }
+        if is_begin(x) {
+            self.depth = 1;
+            return Ok(Step::Going);
+        }
+        Ok(Step::Argument)
+    }
+
+    // Whether a token behind the matched ones, of which `out` can be in no match any more, makes the match whole.
+    fn completes(&self, lists: &Lists, list: &ListRef, delimiter: Cursor, out: usize) -> bool
+        requires { IsOn lists.now (id_of list.now) delimiter }
+        ensures { IsTrue result ↔ ((out ≡ 0) × (self.now.matched + 1 ≡ length (delimiter_at lists.now (id_of list.now) delimiter))) }
+    {
+        let len = delimiter_len(lists, list, delimiter);
+        out == 0 && len > 0 && self.matched == len - 1
+    }
+
+    // A token that is no part of a whole match and no extra brace.
+    fn go_on(
+        &mut self,
+        lists: &mut Lists,
+        list: &ListRef,
+        delimiter: Cursor,
+        mode: ParMode,
+        x: Token,
+        out: usize,
+    ) -> Result<Step, Full>
+        requires building { IsBuilding lists.old self.old.build }
+        requires on { IsOn lists.old (id_of list.now) delimiter }
+        requires apart { id_of list.now ≢ build_id self.old.build }
+        requires stands { StandsAt (delimiter_at lists.old (id_of list.now) delimiter) (stage_of lists.old self.old) }
+        requires releases { Releases (delimiter_at lists.old (id_of list.now) delimiter) (stage_of lists.old self.old) x out }
+        requires open_yet { self.old.matched + 1 < length (delimiter_at lists.old (id_of list.now) delimiter) + out }
+        requires inside { (is_end x && (self.old.depth == 0)) ≡ false }
+        ensures same { build_id self.new.build ≡ build_id self.old.build }
+        ensures building { IsBuilding lists.new self.new.build }
+        ensures others { IsOnly lists.old lists.new (build_id self.old.build) }
+        ensures account { Moves lists.old lists.new none none }
+        ensures took { IfOk result (λ step. Took (delimiter_at lists.old (id_of list.now) delimiter) (stage_of lists.old self.old) x step (stage_of lists.new self.new) (delimited_case (delimiter_at lists.old (id_of list.now) delimiter) mode (kept_in (stage_of lists.old self.old)) (read_in (delimiter_at lists.old (id_of list.now) delimiter) (stage_of lists.old self.old)) x)) }
+        ensures full { IfErr result (λ f. IsFull f lists.new) }
+        ensures cut_short { OnErr result (IsGrownByPart (tokens_at lists.old (build_id self.old.build)) (tokens_at lists.new (build_id self.old.build)) (take self.old.matched (delimiter_at lists.old (id_of list.now) delimiter) ++ x ∷ [])) }
+    {
+        let _used = lists.used();
+        let depth = behind(self.depth, x);
+        if out <= self.matched {
+            if let Err(full) = store_front(lists, list, &mut self.build, delimiter, out) {
+                return Err(full);
+            }
+            self.matched = self.matched - out + 1;
+            self.depth = depth;
+            return Ok(Step::Going);
+        }
+        if let Err(full) = store_front(lists, list, &mut self.build, delimiter, self.matched) {
+            return Err(full);
+        }
+        if mode.is_short() && is_par(x) {
+            return Ok(Step::ParEnded);
+        }
+        if let Err(full) = store(lists, &mut self.build, x) {
+            return Err(full);
+        }
+        self.matched = 0;
+        self.depth = depth;
+        Ok(Step::Going)
+    }
+
+    // A token where there is a delimiter.
+    fn feed_delimited(
+        &mut self,
+        lists: &mut Lists,
+        list: &ListRef,
+        delimiter: Cursor,
+        mode: ParMode,
+        x: Token,
+    ) -> Result<Step, Full>
+        requires building { IsBuilding lists.old self.old.build }
+        requires on { IsOn lists.old (id_of list.now) delimiter }
+        requires apart { id_of list.now ≢ build_id self.old.build }
+        requires stands { StandsAt (delimiter_at lists.old (id_of list.now) delimiter) (stage_of lists.old self.old) }
+        ensures same { build_id self.new.build ≡ build_id self.old.build }
+        ensures building { IsBuilding lists.new self.new.build }
+        ensures others { IsOnly lists.old lists.new (build_id self.old.build) }
+        ensures account { Moves lists.old lists.new none none }
+        ensures took { IfOk result (λ step. Took (delimiter_at lists.old (id_of list.now) delimiter) (stage_of lists.old self.old) x step (stage_of lists.new self.new) (delimited_case (delimiter_at lists.old (id_of list.now) delimiter) mode (kept_in (stage_of lists.old self.old)) (read_in (delimiter_at lists.old (id_of list.now) delimiter) (stage_of lists.old self.old)) x)) }
+        ensures full { IfErr result (λ f. IsFull f lists.new) }
+        ensures cut_short { OnErr result (IsGrownByPart (tokens_at lists.old (build_id self.old.build)) (tokens_at lists.new (build_id self.old.build)) (take self.old.matched (delimiter_at lists.old (id_of list.now) delimiter) ++ x ∷ [])) }
+    {
+        let _used = lists.used();
+        let before = if self.matched > 0 { 0 } else { self.depth };
+        let out = released(lists, list, delimiter, self.matched, before, x);
+        if self.completes(lists, list, delimiter, out) {
+            without_braces(lists, &mut self.build);
+            return Ok(Step::Argument);
+        }
+        if is_end(x) && self.depth == 0 {
+            if let Err(full) = self.keep(lists, list, delimiter) {
+                return Err(full);
+            }
+            return Ok(Step::ExtraBrace);
+        }
+        self.go_on(lists, list, delimiter, mode, x, out)
+    }
+
+    /// Takes a token at a place with this delimiter, which is empty where there is none.
+    ///
+    /// # Errors
+    /// All words are used; the list in work has some of the tokens that go into it, from the first on.
+    pub fn feed(
+        &mut self,
+        lists: &mut Lists,
+        list: &ListRef,
+        delimiter: Cursor,
+        mode: ParMode,
+        x: Token,
+    ) -> Result<Step, Full>
+        requires building { IsBuilding lists.old self.old.build }
+        requires on { IsOn lists.old (id_of list.now) delimiter }
+        requires apart { id_of list.now ≢ build_id self.old.build }
+        requires stands { Stands (delimiter_at lists.old (id_of list.now) delimiter) (stage_of lists.old self.old) }
+        ensures same { build_id self.new.build ≡ build_id self.old.build }
+        ensures building { IsBuilding lists.new self.new.build }
+        ensures others { IsOnly lists.old lists.new (build_id self.old.build) }
+        ensures account { Moves lists.old lists.new none none }
+        ensures took { IfOk result (λ step. Took (delimiter_at lists.old (id_of list.now) delimiter) (stage_of lists.old self.old) x step (stage_of lists.new self.new) (case_at (delimiter_at lists.old (id_of list.now) delimiter) mode (kept_in (stage_of lists.old self.old)) (read_in (delimiter_at lists.old (id_of list.now) delimiter) (stage_of lists.old self.old)) x)) }
+        ensures full { IfErr result (λ f. IsFull f lists.new) }
+        ensures cut_short { OnErr result (IsGrownByPart (tokens_at lists.old (build_id self.old.build)) (tokens_at lists.new (build_id self.old.build)) (take self.old.matched (delimiter_at lists.old (id_of list.now) delimiter) ++ x ∷ [])) }
+    {
+        if delimiter.next_along(lists).is_none() {
+            return self.feed_undelimited(lists, mode, x);
+        }
+        self.feed_delimited(lists, list, delimiter, mode, x)
+    }
+
+    /// The argument is complete: its list, or none where it has no token.
+    pub fn finish(self, lists: &mut Lists) -> Option<ListRef>
+        requires { IsBuilding lists.old self.build }
+        ensures tokens { cell_tokens lists.new result ≡ tokens_at lists.old (build_id self.build) }
+        ensures listed { IfSome result (λ r. 0 < length (tokens_at lists.new (id_of r))) }
+        ensures others { IsOnly lists.old lists.new (build_id self.build) }
+        ensures account { Moves lists.old lists.new (holds (build_id self.build)) (cell_holds result) }
+    {
+        let Present {
+            build,
+            from: _,
+            matched: _,
+            depth: _,
+        } = self;
+        if lists.first_built(&build).is_none() {
+            lists.abandon(build);
+            return None;
+        }
+        Some(lists.finish(build))
+    }
+}
+
+// Frees the list in work, if there is one.
+pub fn abandon(lists: &mut Lists, present: Option<Present>)
+    requires { ForSome present (λ p. IsBuilding lists.old p.build) }
+    ensures account { Moves lists.old lists.new (present_holds present) none }
+    ensures others { (h : ℕ) → present_holds present h ≡ 0 → entry_at lists.new h ≡ entry_at lists.old h }
+    ensures free { present ≡ None → lists.new ≡ lists.old }
+{
+    if let Some(
+        Present {
+            build,
+            from: _,
+            matched: _,
+            depth: _,
+        },
+    ) = present
+    {
+        lists.abandon(build);
+    }
+}

@@ -1,0 +1,262 @@
+// A call: the tokens in front of the first place, and the places.
+ghost use Rattle.std.specs.Prelude.{◌≡◌, Option, ◌≤◌, ◌<◌, ◌+◌, ◌∷◌, [], ℕ, List, IfOk, IfErr, OnErr, length, None, ◌≢◌};
+ghost use Rattle.std.specs.Option.{option_map};
+ghost use Rattle.token_lists.specs.Table.{Entry, tokens_at, IsHeld};
+ghost use Rattle.token_lists.specs.Accounts.{Moves, Keeps, none};
+ghost use Rattle.token_lists.specs.Ids.{id_of, build_id};
+ghost use Rattle.token_lists.specs.Refusals.{IsFull};
+ghost use Rattle.macro_call.specs.Arguments.{start_of, delimiters_of, gathering, Fed, Tok, Cut, Settled};
+ghost use Rattle.macro_call.specs.Cursors.{IsOn};
+ghost use Rattle.macro_call.specs.Scans.{resume, work_in, scan_holds, Owns, IsSound, answer_of, handed, IsOpen, Next, IsBetween, Enters, mode_of, Answers, IsCutShort, TookIn, CutIn, IsReady, IsWhole, Completes};
+
+use crate::args::Args;
+use crate::cursor::{Cursor, at_first};
+use crate::par_mode::ParMode;
+use crate::present::{Present, Step, abandon};
+use crate::tokens::same;
+use std::mem;
+use tex_defs::{Full, Seen, Token};
+use token_lists::{Build, ListRef, Lists};
+
+/// The scanner that gathers the arguments of a call.
+#[must_use]
+#[derive(Debug)]
+pub struct ArgScan {
+    // In front of the first place: the token that must come next. In a place: its delimiter.
+    cursor: Cursor,
+    mode: ParMode,
+    // An extra brace was answered, and nothing came since.
+    braced: bool,
+    present: Option<Present>,
+    args: Args,
+}
+
+/// What the scanner answers to a token.
+#[must_use]
+#[derive(Debug)]
+pub enum ArgAsk {
+    /// More tokens are needed.
+    More,
+    /// All arguments are gathered.
+    Called(Args),
+    /// The tokens in front of the first place don't match: "Use of \a doesn't match its definition".
+    Mismatch,
+    /// A right brace that closes nothing came: "Argument of \a has an extra }". It is put back behind a `\par`.
+    ExtraBrace,
+    /// A `\par` ended the call: "Paragraph ended before \a was complete", or, where this is true, without a report.
+    ParEnded(bool),
+}
+
+// A token to the present argument, where there is one.
+fn take_step(
+    present: &mut Option<Present>,
+    lists: &mut Lists,
+    list: &ListRef,
+    cursor: Cursor,
+    mode: ParMode,
+    x: Token,
+) -> Result<Step, Full>
+    requires on { IsOn lists.old (id_of list.now) cursor }
+    requires ready { IsReady lists.old (id_of list.now) cursor present.old }
+    ensures took { IfOk result (λ step. TookIn lists.old lists.new (id_of list.now) cursor mode x step present.old present.new) }
+    ensures cut_short { OnErr result (CutIn lists.old lists.new (id_of list.now) cursor x present.old present.new) }
+    ensures account { Moves lists.old lists.new none none }
+    ensures full { IfErr result (λ f. IsFull f lists.new) }
+{
+    match present {
+        Some(present) => present.feed(lists, list, cursor, mode, x),
+        None => unreachable!(),
+    }
+}
+
+impl ArgScan {
+    // Behind the tokens in front of the first place, or behind a delimiter: the next argument's list is begun as its
+    // place is reached.
+    fn enter(&mut self, lists: &mut Lists, list: &ListRef) -> Result<ArgAsk, Full>
+        requires { IsBetween lists.old (id_of list.now) self.old }
+        ensures enters { IfOk result (λ answer. Enters lists.old lists.new (id_of list.now) self.old self.new answer) }
+        ensures err { OnErr result (lists.new ≡ lists.old) }
+        ensures unchanged { OnErr result (self.new ≡ self.old) }
+        ensures full { IfErr result (λ f. IsFull f lists.new) }
+    {
+        let Some((Token::Place(_), next)) = self.cursor.next(lists) else {
+            let args = mem::replace(&mut self.args, Args::none());
+            return Ok(ArgAsk::Called(args));
+        };
+        let build = match lists.begin() {
+            Ok(build) => build,
+            Err(full) => return Err(full),
+        };
+        let none = mem::replace(&mut self.present, Some(Present::new(build)));
+        abandon(lists, none);
+        self.cursor = next;
+        Ok(ArgAsk::More)
+    }
+
+    // A token in front of the first place.
+    fn feed_start(&mut self, lists: &mut Lists, list: &ListRef, x: Token) -> Result<ArgAsk, Full>
+        requires sound { IsSound lists.old (id_of list.now) self.old }
+        requires start { self.old.present ≡ None }
+        ensures answers { IfOk result (λ answer. Answers lists.old lists.new (id_of list.now) self.old self.new x answer) }
+        ensures cut_short { OnErr result (IsCutShort lists.old lists.new (id_of list.now) self.old self.new x) }
+        ensures full { IfErr result (λ f. IsFull f lists.new) }
+    {
+        let (wanted, next) = self.cursor.delimiting(lists, list);
+        if !same(x, wanted) {
+            return Ok(ArgAsk::Mismatch);
+        }
+        self.cursor = next;
+        if next.next_along(lists).is_some() {
+            return Ok(ArgAsk::More);
+        }
+        self.enter(lists, list)
+    }
+
+    // The list in work is a whole argument.
+    fn complete(&mut self, lists: &mut Lists, list: &ListRef)
+        requires { IsWhole lists.old (id_of list.now) self.old }
+        ensures { Completes lists.old lists.new (id_of list.now) self.old self.new }
+    {
+        let Some(present) = mem::replace(&mut self.present, None) else {
+            return;
+        };
+        let cell = present.finish(lists);
+        self.args.keep(lists, cell);
+        self.cursor = self.cursor.behind_delimiter(lists, list);
+    }
+
+    // A token in a place.
+    fn feed_place(&mut self, lists: &mut Lists, list: &ListRef, x: Token) -> Result<ArgAsk, Full>
+        requires sound { IsSound lists.old (id_of list.now) self.old }
+        requires in_place { self.old.present ≢ None }
+        ensures answers { IfOk result (λ answer. Answers lists.old lists.new (id_of list.now) self.old self.new x answer) }
+        ensures cut_short { OnErr result (IsCutShort lists.old lists.new (id_of list.now) self.old self.new x) }
+        ensures full { IfErr result (λ f. IsFull f lists.new) }
+    {
+        let step = match take_step(&mut self.present, lists, list, self.cursor, self.mode, x) {
+            Ok(step) => step,
+            Err(full) => return Err(full),
+        };
+        self.braced = false;
+        match step {
+            Step::Argument => {
+                self.complete(lists, list);
+                self.enter(lists, list)
+            }
+            Step::ExtraBrace => {
+                self.mode = ParMode::Short;
+                self.braced = true;
+                Ok(ArgAsk::ExtraBrace)
+            }
+            Step::ParEnded => Ok(ArgAsk::ParEnded(self.mode.is_checked())),
+            Step::Skipped => Ok(ArgAsk::More),
+            Step::Going => Ok(ArgAsk::More),
+        }
+    }
+
+    /// A call of a macro begins, whose list is this one: `long` tells whether it is `\long`. Where the parameter text
+    /// begins with a place, the first argument's list is begun.
+    ///
+    /// # Errors
+    /// All words are used; nothing has changed.
+    pub fn new(lists: &mut Lists, list: &ListRef, long: bool) -> Result<ArgScan, Full>
+        requires held { IsHeld lists.old (id_of list.now) }
+        requires some { 0 < length (start_of (tokens_at lists.old (id_of list.now))) + length (delimiters_of (tokens_at lists.old (id_of list.now))) }
+        requires nine { length (delimiters_of (tokens_at lists.old (id_of list.now))) ≤ 9 }
+        ensures sound { IfOk result (λ scan. IsSound lists.new (id_of list.now) scan) }
+        ensures stands { IfOk result (λ scan. (fed : List Fed) → resume lists.new (id_of list.now) scan fed ≡ gathering (tokens_at lists.old (id_of list.now)) (mode_of long) fed) }
+        ensures account { IfOk result (λ scan. Moves lists.old lists.new none (scan_holds scan)) }
+        ensures kept { Keeps lists.old lists.new none }
+        ensures err { OnErr result (lists.new ≡ lists.old) }
+        ensures full { IfErr result (λ f. IsFull f lists.new) }
+    {
+        let mut cursor = at_first(lists, list);
+        let mut present = None;
+        if let Some((Token::Place(_), next)) = cursor.next(lists) {
+            match lists.begin() {
+                Ok(build) => {
+                    let none = mem::replace(&mut present, Some(Present::new(build)));
+                    abandon(lists, none);
+                }
+                Err(full) => {
+                    abandon(lists, present);
+                    return Err(full);
+                }
+            }
+            cursor = next;
+        }
+        Ok(ArgScan {
+            cursor,
+            mode: if long { ParMode::Long } else { ParMode::Short },
+            braced: false,
+            present,
+            args: Args::none(),
+        })
+    }
+
+    /// Takes a token. What comes is what the definition of arguments asks for after all that was fed, and the scanner
+    /// stands behind it. After an answer that ends the call, or a refusal, it may only lend its list and be abandoned.
+    ///
+    /// # Errors
+    /// All words are used: some of the tokens that go into the list in work are in it, or the argument is whole and
+    /// the next one's list isn't begun.
+    pub fn feed(&mut self, lists: &mut Lists, list: &ListRef, seen: Seen) -> Result<ArgAsk, Full>
+        requires { IsSound lists.old (id_of list.now) self.old }
+        ensures answers { IfOk result (λ answer. Answers lists.old lists.new (id_of list.now) self.old self.new seen.token answer) }
+        ensures cut_short { OnErr result (IsCutShort lists.old lists.new (id_of list.now) self.old self.new seen.token) }
+        ensures full { IfErr result (λ f. IsFull f lists.new) }
+    {
+        if self.present.is_none() {
+            return self.feed_start(lists, list, seen.token);
+        }
+        self.feed_place(lists, list, seen.token)
+    }
+
+    /// A check came in the call, at a file's end or at an `\outer` name: from here the macro counts as not `\long`,
+    /// and a `\par` that ends the call has no report.
+    pub fn cut(&mut self)
+        ensures sound { (table : List (Option Entry)) (macro : ℕ) → IsSound table macro self.old → IsSound table macro self.new }
+        ensures stands { (table : List (Option Entry)) (macro : ℕ) (fed : List Fed) → resume table macro self.old (Cut ∷ fed) ≡ resume table macro self.new fed }
+        ensures same { scan_holds self.new ≡ scan_holds self.old }
+    {
+        self.mode = ParMode::Checked;
+        self.braced = false;
+    }
+
+    /// The extra brace that was answered was put back and reported.
+    pub fn settle(&mut self)
+        ensures sound { (table : List (Option Entry)) (macro : ℕ) → IsSound table macro self.old → IsSound table macro self.new }
+        ensures stands { (table : List (Option Entry)) (macro : ℕ) (fed : List Fed) → resume table macro self.old (Settled ∷ fed) ≡ resume table macro self.new fed }
+        ensures same { scan_holds self.new ≡ scan_holds self.old }
+    {
+        self.braced = false;
+    }
+
+    /// The list of the present argument, if there is one: what was read of it without a partial match, for the
+    /// runaway text.
+    pub fn built(&self) -> Option<&Build>
+        ensures { option_map (λ b. build_id b.now) result ≡ option_map (λ p. build_id p.build) self.now.present }
+    {
+        match &self.present {
+            Some(present) => Some(present.built()),
+            None => None,
+        }
+    }
+
+    /// Releases all lists that the scanner holds.
+    pub fn abandon(self, lists: &mut Lists)
+        requires { Owns lists.old self }
+        ensures account { Moves lists.old lists.new (scan_holds self) none }
+        ensures kept { Keeps lists.old lists.new (scan_holds self) }
+    {
+        let ArgScan {
+            cursor: _,
+            mode: _,
+            braced: _,
+            present,
+            args,
+        } = self;
+        abandon(lists, present);
+        args.release(lists);
+    }
+}

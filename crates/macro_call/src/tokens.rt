@@ -1,0 +1,51 @@
+// What a token is to the matching of arguments.
+ghost use Rattle.std.specs.Prelude.{◌≡◌};
+ghost use Rattle.macro_call.specs.Arguments.{same, is_begin, is_end, is_space, is_par};
+
+use tex_defs::{Name, Token};
+
+// The name `\par`, as the table of primitives has it.
+const PAR: Name = Name::Word(5);
+
+// Whether two tokens are the same character with the same category, or the same name.
+pub fn same(a: Token, b: Token) -> bool
+    ensures { result ≡ same a b }
+{
+    a == b
+}
+
+// An explicit left brace.
+pub fn is_begin(x: Token) -> bool
+    ensures { result ≡ is_begin x }
+{
+    match x {
+        Token::Char { cat, code: _ } => cat == 1,
+        _ => false,
+    }
+}
+
+// An explicit right brace.
+pub fn is_end(x: Token) -> bool
+    ensures { result ≡ is_end x }
+{
+    match x {
+        Token::Char { cat, code: _ } => cat == 2,
+        _ => false,
+    }
+}
+
+// A space token.
+pub fn is_space(x: Token) -> bool
+    ensures { result ≡ is_space x }
+{
+    match x {
+        Token::Char { cat, code } => cat == 10 && code == 32,
+        _ => false,
+    }
+}
+
+pub fn is_par(x: Token) -> bool
+    ensures { result ≡ is_par x }
+{
+    same(x, Token::Named(PAR))
+}
