@@ -52,6 +52,24 @@ fn told(lists: &mut Lists, list: &ListRef, seen: Seen) -> (usize, bool)
     }
 }
 
+// Whether a call that was cut and settled has a list in work.
+fn works(lists: &mut Lists, list: &ListRef) -> bool
+    requires held { IsHeld lists.old (id_of list.now) }
+    requires some { 0 < length (start_of (tokens_at lists.old (id_of list.now))) + length (delimiters_of (tokens_at lists.old (id_of list.now))) }
+    requires nine { length (delimiters_of (tokens_at lists.old (id_of list.now))) ≤ 9 }
+    ensures { IsHeld lists.new (id_of list.now) }
+{
+    let mut scan = match ArgScan::new(lists, list, true) {
+        Ok(scan) => scan,
+        Err(_) => return false,
+    };
+    scan.cut();
+    scan.settle();
+    let begun = scan.built().is_some();
+    scan.abandon(lists);
+    begun
+}
+
 // The list of `#1`, whose body is empty.
 fn one_place(lists: &mut Lists) -> Option<ListRef>
     ensures held { IfSome result (λ r. IsHeld lists.new (id_of r)) }
@@ -92,5 +110,19 @@ fn one_argument_is_gathered(rt: HostRuntime) -> Result<(), Fail> {
     let used = lists.used();
     lists.release(list);
     assert_eq!(rt; (taken, used), ((1, false), 3));
+    Ok(())
+}
+
+// Where the parameter text begins with a place, its list is begun at once, and a check leaves it.
+#[test]
+fn list_in_work_is_lent(rt: HostRuntime) -> Result<(), Fail> {
+    let mut lists = Lists::new(rt.alloc(), 8)?;
+    let Some(list) = one_place(&mut lists) else {
+        return Ok(assert!(rt; false, "words are there"));
+    };
+    let begun = works(&mut lists, &list);
+    let used = lists.used();
+    lists.release(list);
+    assert_eq!(rt; (begun, used), (true, 3));
     Ok(())
 }
