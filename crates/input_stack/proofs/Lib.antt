@@ -1,4 +1,5 @@
 pub mod Flats
+pub mod CallTokens
 pub mod Rests
 pub mod Kept
 pub mod Settled

@@ -1,5 +1,6 @@
 pub mod Puts
 pub mod Flat
+pub mod Calls
 pub mod Backs
 pub mod Rest
 pub mod Levels

@@ -10,14 +10,17 @@ use Rattle.line_lexer.specs.declared.Line.{Line}
 use Rattle.world_io.specs.declared.traits.InId.{InId}
 use Rattle.input_stack.specs.declared.level.Source.{Source}
 
+-- a file or a line of `\read`, and the lists in front of what is beneath it
 pub record Below : Type 0 where
   pub source : Source
   pub puts : List Put
 
+-- the lists in front of the innermost line, and the lines, innermost first
 pub record Pending : Type 0 where
   pub puts : List Put
   pub sources : List Below
 
+-- other lists in front of the same lines
 abbrev pub with_puts : List Put → Pending → Pending
 with_puts ps p = record { puts = ps; sources = p.sources }
 
@@ -41,6 +44,7 @@ plain_put n ts = record { list = n; arguments = []; reading = None; items = map 
 abbrev pub settle : Pending → Pending
 settle p = with_puts (settled p.puts) p
 
+-- a list in front; one without tokens is none
 abbrev pub put : Put → Pending → Pending
 put x p = with_puts (put_in_front x p.puts) p
 
@@ -81,6 +85,7 @@ Ends old new id = EndsIn old.sources new id
 abbrev pub times : ℕ → List ℕ → ℕ
 times h ns = sum_by (λ n. holds n h) ns
 
+-- the lists that some Puts hold
 abbrev pub lists_in : List Put → List ℕ
 lists_in [] = []
 lists_in (p ∷ ps) = lists_of p ++ lists_in ps

@@ -11,11 +11,11 @@ pub data Item : Type 0 where
   Later : ℕ → Token → Item
   Gap : Item
 
--- One list that was put: the numbers of it and of its call's arguments, the argument whose level is open, and the
--- items that are left.
+-- One list that was put: its number, those of its call's arguments (an argument without tokens has no list), the
+-- argument whose level is open, and the items that are left.
 pub record Put : Type 0 where
   pub list : ℕ
-  pub arguments : List ℕ
+  pub arguments : List (Option ℕ)
   pub reading : Option ℕ
   pub items : List Item
 
@@ -65,13 +65,14 @@ standing puts = sum_by standing_of puts
 
 -- HELD
 
--- the lists that a Put holds: its own, its call's arguments, and once more the argument whose level is open
-abbrev pub number_in : Option ℕ → List ℕ
-number_in None = []
-number_in (Some n) = n ∷ []
+abbrev pub numbers : List (Option ℕ) → List ℕ
+numbers [] = []
+numbers (None ∷ cells) = numbers cells
+numbers (Some n ∷ cells) = n ∷ numbers cells
 
+-- the lists that a Put holds: its own, once more the argument whose level is open, and its call's arguments
 abbrev pub lists_of : Put → List ℕ
-lists_of p = p.list ∷ number_in p.reading ++ p.arguments
+lists_of p = p.list ∷ numbers (p.reading ∷ p.arguments)
 
 -- READ
 

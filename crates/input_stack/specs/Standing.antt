@@ -18,6 +18,7 @@ abbrev pub IsUnfinished : List (Option Entry) → Level → Type 0
 IsUnfinished table (level.List r) = 0 < length (rest table r)
 IsUnfinished table (level.Source s) = Unit {0}
 
+-- nothing is finished
 abbrev pub AreUnfinished : List (Option Entry) → List Level → Type 0
 AreUnfinished table ls = All (IsUnfinished table) ls
 

@@ -12,9 +12,11 @@ use Rattle.input_stack.specs.declared.stack.InputStack.{InputStack}
 use Rattle.input_stack.specs.Rest.{rest, number}
 use Rattle.input_stack.specs.Pending.{Pending, plain_put}
 
+-- a list that is being read, without arguments
 abbrev pub put_of : List (Option Entry) → Reader → Put
 put_of table r = plain_put (number r) (rest table r)
 
+-- a level above others: a list in front of all, or a line over all
 abbrev pub in_front : Put → Pending → Pending
 in_front x p = record { puts = x ∷ p.puts; sources = p.sources }
 
@@ -27,9 +29,11 @@ pending_in table [] = record { puts = []; sources = [] }
 pending_in table (level.List r ∷ ls) = in_front (put_of table r) (pending_in table ls)
 pending_in table (level.Source s ∷ ls) = over s (pending_in table ls)
 
+-- the levels from the top down
 abbrev pub innermost : InputStack → List Level
 innermost s = reverse s.levels.items
 
+-- what is pending, where the lists of the memory are these
 abbrev pub pending : List (Option Entry) → InputStack → Pending
 pending table s = pending_in table (innermost s)
 
@@ -51,6 +55,7 @@ IsSourceOnTop [] = ⊥
 IsSourceOnTop (level.List r ∷ ls) = ⊥
 IsSourceOnTop (level.Source s ∷ ls) = Unit {0}
 
+-- the same level at another line
 abbrev pub level_at : Line → Level → Level
 level_at line (level.List r) = level.List r
 level_at line (level.Source s) = level.Source (record { id = s.id; line = line })

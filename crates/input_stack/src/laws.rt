@@ -1,5 +1,7 @@
 //! What holds of each stack of levels. The functions do nothing; their contracts are the laws.
 ghost use Rattle.std.specs.Prelude.{◌≡◌, ℕ, ◌+◌, List, [], Option, None, ◌<◌, length};
+ghost use Rattle.tex_defs.specs.declared.Token.{Token};
+ghost use Rattle.input_stack.specs.Calls.{Argument, spelt, substituted, filled};
 ghost use Rattle.input_stack.specs.Flat.{placed, used_after, used_arguments_after};
 ghost use Rattle.input_stack.specs.Puts.{Put, used, used_arguments};
 ghost use Rattle.token_lists.specs.Table.{Entry};
@@ -36,4 +38,9 @@ pub fn source_is_on_top(stack: &InputStack)
 pub fn puts_are_one_list()
     ensures used { (puts : List Put) → used_after None (placed puts) ≡ used puts }
     ensures arguments { (puts : List Put) → used_arguments_after None (placed puts) ≡ used_arguments puts }
+{}
+
+/// The items of a macro call spell the body with the arguments' tokens in their places; gaps spell nothing.
+pub fn calls_are_spelt()
+    ensures { (arguments : List (Option Argument)) (body : List Token) → spelt (substituted arguments body) ≡ filled arguments body }
 {}

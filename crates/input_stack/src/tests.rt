@@ -4,7 +4,7 @@ ghost use Rattle.std.specs.Prelude.{◌≡◌, ◌≤◌, length};
 ghost use Rattle.line_lexer.specs.declared.LineState.TheVariants.{NewLine};
 ghost use Rattle.input_stack.specs.Standing.{Stands};
 
-use crate::{InputStack, Pulled};
+use crate::{InputStack, Pulled, line_in};
 use line_lexer::{Lexed, Line, LineState};
 use std::test::Fail;
 use tex_defs::{Sizes, Token};
@@ -84,5 +84,13 @@ fn file_is_read(rt: HostRuntime) -> Result<(), Fail> {
         Some(InId { number: 7 }),
     );
     assert_eq!(&rt; told, Some(wanted));
+    Ok(())
+}
+
+#[test]
+fn line_has_its_end_character(rt: HostRuntime) -> Result<(), Fail> {
+    let mut bytes = [97, 98, 0];
+    let line = line_in(&mut bytes, 0, 2, Some(13));
+    assert_eq!(rt; (line.at, line.end, bytes), (0, 3, [97, 98, 13]));
     Ok(())
 }
