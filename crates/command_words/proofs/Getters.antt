@@ -1,5 +1,5 @@
 -- What the getters of `clap` read of a value that passes.
-use Rattle.std.proofs.Common.{◌≡◌, ◌∙◌, ◌≤◌, ◌||◌, ℕ, Bool, true, false, List, [], Option, Some, None, Ok, Err, Result, refl, ap, sym, codes, bytes_eq, unwrap_or, option_map, Bor}
+use Rattle.std.proofs.Common.{◌≡◌, ◌∙◌, ◌≤◌, ◌||◌, ℕ, Bool, true, false, List, [], Option, Some, None, Ok, Err, Result, refl, ap, sym, codes, bytes_eq, unwrap_or, option_map, Bor, nat_le, ◌&&◌, le-leb}
 use Rattle.std.proofs.lemmas.Slice.Eq.{bytes_eq-Decides}
 use Rattle.std.specs.Str.Parse.{ParsesUnsigned, digits_value, without_leading_plus}
 use Rattle.clap.specs.Words.{ReadsOne, Row, Text, first_of, first_value, one_text, rows_of}
@@ -52,3 +52,6 @@ text_read f name test None default u read v is =
 text_read f name test (Some x) default u read v is =
     let some : Some x.now ≡ first_of name (rows_of f) = read ∙ first_value-rows f name in
     ap (λ (y : Bor Text). y.now) is ∙ ap (λ (o : Option Text). unwrap_or o []) some
+
+pub in_range : (low high n : ℕ) → low ≤ n → n ≤ high → (nat_le low n && nat_le n high) ≡ true
+in_range low high n a b = rw (le-leb low n a) (le-leb n high b)

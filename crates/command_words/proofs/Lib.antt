@@ -1,4 +1,4 @@
-pub mod Extensions
+pub mod Areas
 pub mod Rows
 pub mod Getters
 pub mod Taken

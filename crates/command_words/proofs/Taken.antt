@@ -20,11 +20,14 @@ file = with_index 1 (filled (spec.required_word (codes "file")))
 abbrev steps : Rule
 steps = with_index 2 (filled (spec.number_option (codes "steps") 0 1000000000000000 (codes "10000000")))
 
+abbrev mem : Rule
+mem = with_index 2 (filled (spec.number_option (codes "mem") 100 16777216 (codes "30000")))
+
 abbrev quiet : Rule
 quiet = with_index 2 (filled (spec.flag (codes "quiet")))
 
 abbrev rules : List Rule
-rules = file ∷ steps ∷ quiet ∷ []
+rules = file ∷ steps ∷ mem ∷ quiet ∷ []
 
 abbrev init : Shape
 init = record spec.init { rules = rules; disable_help_flag = true; disable_help_subcommand = true; is_built = true }
@@ -38,8 +41,11 @@ sets = (
   (
     record { here = refl; action = inl refl; valued = inl refl; reading = refl },
     (
-      record { here = refl; action = inr refl; valued = inr refl; reading = refl },
-      tt,
+      record { here = refl; action = inl refl; valued = inl refl; reading = refl },
+      (
+        record { here = refl; action = inr refl; valued = inr refl; reading = refl },
+        tt,
+      ),
     ),
   ),
 )
@@ -57,10 +63,12 @@ init_taken words e =
     let rows = rows_after rules [] words in
     let one = with_default (settled rules (walk rules [] nothing_held words).held).rows file in
     let two = with_default one steps in
+    let three = with_default two mem in
     record {
       file = row_value rules (codes "file") file refl rows at_end.0 (given_there (codes "file") rows (file_given rows at_end.1));
-      steps = row_value rules (codes "steps") steps refl rows at_end.0 (default_stays (codes "steps") quiet two (default_there steps one refl));
-      quiet = row_value rules (codes "quiet") quiet refl rows at_end.0 (default_there quiet two refl);
+      steps = row_value rules (codes "steps") steps refl rows at_end.0 (default_stays (codes "steps") quiet three (default_stays (codes "steps") mem two (default_there steps one refl)));
+      mem = row_value rules (codes "mem") mem refl rows at_end.0 (default_stays (codes "mem") quiet three (default_there mem two refl));
+      quiet = row_value rules (codes "quiet") quiet refl rows at_end.0 (default_there quiet three refl);
     }
 
 -- the command is wanted

@@ -14,4 +14,5 @@ is_flag_text t = bytes_eq t (codes "true") || bytes_eq t (codes "false")
 pub record IsTaken (rows : List Row) : Type 0 where
   pub file : HasValue (λ _. true) (codes "file") rows
   pub steps : HasValue (is_unsigned_in 0 1000000000000000) (codes "steps") rows
+  pub mem : HasValue (is_unsigned_in 100 16777216) (codes "mem") rows
   pub quiet : HasValue is_flag_text (codes "quiet") rows

@@ -24,6 +24,14 @@ behind_area (c ∷ cs) = if has 47 cs then behind_area cs else if c == 47 then c
 abbrev pub file_name : List ℕ → List ℕ
 file_name name = if has 46 (behind_area name) then name else name ++ codes ".tex"
 
+abbrev pub before_dot : List ℕ → List ℕ
+before_dot [] = []
+before_dot (c ∷ cs) = if c == 46 then [] else c ∷ before_dot cs
+
+-- the job's name: what stands behind the area of its file's name, up to the first `.`
+abbrev pub job_name : List ℕ → List ℕ
+job_name file = before_dot (behind_area file)
+
 -- ---- the command line
 
 -- an option with a number from `least` to `most`, which is `default` where the words don't give it
@@ -41,9 +49,10 @@ required_word name = record (new_rule name) { required = true }
 -- the command `init`: a file, and the options in any order
 abbrev pub init : Shape
 init =
-    (with_rule (with_rule (with_rule (new_app (codes "init"))
+    (with_rule (with_rule (with_rule (with_rule (new_app (codes "init"))
     (required_word (codes "file")))
     (number_option (codes "steps") 0 1000000000000000 (codes "10000000")))
+    (number_option (codes "mem") 100 16777216 (codes "30000")))
     (flag (codes "quiet"))).top
 
 -- the program, which wants a command, and has no `help` and no `--help`
@@ -58,6 +67,8 @@ command_line = with_subcommand (record { top = program; subs = [] }) init
 pub record Options : Type 0 where
   -- the greatest number of steps
   pub steps : ℕ
+  -- the main memory size, in words
+  pub main_memory_size : ℕ
   -- token lines are left out
   pub quiet : Bool
 
@@ -82,7 +93,7 @@ abbrev pub is_given : Text → List Row → Bool
 is_given name rows = bytes_eq (text_of name rows) (codes "true")
 
 abbrev pub options_of : List Row → Options
-options_of rows = record { steps = number_of (codes "steps") rows; quiet = is_given (codes "quiet") rows }
+options_of rows = record { steps = number_of (codes "steps") rows; main_memory_size = number_of (codes "mem") rows; quiet = is_given (codes "quiet") rows }
 
 abbrev pub command_in : List Row → Command
 command_in rows = Init (file_name (text_of (codes "file") rows)) (options_of rows)
@@ -94,4 +105,4 @@ command_of words = if is_empty (fault_of command_line words) then command_in (in
 -- ---- the command as the code has it
 
 abbrev pub spelt : Job → Command
-spelt job = Init job.file.items (record { steps = job.steps; quiet = job.quiet })
+spelt job = Init job.file.items (record { steps = job.steps; main_memory_size = job.main_memory_size; quiet = job.quiet })

@@ -10,12 +10,14 @@ ghost use Rattle.clap.specs.Words.{app_of, fault_of, found_of, rows_of, rule_of,
 ghost use Rattle.clap.specs.declared.builder.command.Command.TheViews.{out-Command as fields_of};
 ghost use Rattle.command_words.specs.Words as spec;
 ghost use Rattle.command_words.specs.Taken.{IsTaken};
+ghost use Rattle.tex_defs.specs.Sizes.{is_in_range};
 ghost use Rattle.command_words.specs.declared.Unread.{Unread};
 
 use clap::builder::ValueParser;
 use clap::error::ErrorKind;
 use clap::{Arg, ArgAction, ArgMatches};
 use std::alloc::{AllocError, Global};
+use tex_defs::Table;
 use thiserror::Error;
 
 /// What `init FILE` asks for: the job of a file, from INITEX's first state.
@@ -25,6 +27,8 @@ pub struct Job {
     pub file: Vec<u8>,
     /// The greatest number of steps.
     pub steps: u64,
+    /// The main memory size, in words.
+    pub main_memory_size: u32,
     /// Whether token lines are left out.
     pub quiet: bool,
 }
@@ -49,13 +53,15 @@ impl From<AllocError> for Unread {
 /// The command that the words spell; the first word is the program's name, whatever it is.
 ///
 /// The one command today is `init FILE`. Its options are `--steps N`, the greatest number of steps (0 to
-/// 10^15, 10000000 where it isn't given), and `--quiet`. They stand before or behind the file.
+/// 10^15, 10000000 where it isn't given), `--mem N`, the main memory size in words (100 to 16777216, 30000
+/// where it isn't given), and `--quiet`. They stand before or behind the file.
 ///
 /// # Errors
 /// `Usage` only where the words are no command, `NoMemory` where memory was wanted.
 pub fn read_words(alloc: Global, words: &[String]) -> Result<Job, Unread>
     ensures command { IfOk result (λ c. spec.command_of (map string_bytes words.now) ≡ spec.spelt c) }
     ensures usage { IfErr result (λ e. e ≡ Unread.Usage → spec.command_of (map string_bytes words.now) ≡ spec.NoCommand) }
+    ensures size { IfOk result (λ job. is_in_range Table.MainMemorySize job.main_memory_size ≡ true) }
 {
     let matches = parse(alloc, words)?;
     match matches.subcommand() {
@@ -85,28 +91,57 @@ fn read_init(alloc: Global, init: &ArgMatches) -> Result<Job, Unread>
     requires { IsTaken (rows_of (found_of init.now)) }
     ensures command { IfOk result (λ c. spec.command_in (rows_of (found_of init.now)) ≡ spec.spelt c) }
     ensures memory { IfErr result (λ e. e ≡ Unread.NoMemory) }
+    ensures size { IfOk result (λ job. is_in_range Table.MainMemorySize job.main_memory_size ≡ true) }
 {
     let file = init.get_str("file").unwrap_or("");
     let steps = init.get_one::<u64>("steps").unwrap_or(0);
+    let main_memory_size = init.get_one::<u64>("mem").unwrap_or(0) as u32;
     let quiet = init.get_flag("quiet");
     let file = file_name(alloc, file.as_bytes())?;
-    Ok(Job { file, steps, quiet })
+    Ok(Job {
+        file,
+        steps,
+        main_memory_size,
+        quiet,
+    })
+}
+
+/// What stands behind the area of a file's name, which ends at the last `/`.
+#[tactic(auto, using(crate::proofs::Areas::area_on, crate::proofs::Areas::area_whole, std::proofs::lemmas::List::drop_more))]
+fn behind_area(name: &[u8]) -> &[u8]
+    ensures { result.now ≡ spec.behind_area name.now }
+{
+    let mut behind = name;
+    for (i, c) in name.iter().enumerate() {
+        if *c == b'/' {
+            behind = &name[i + 1..];
+        }
+    }
+    behind
+}
+
+/// The job's name: what stands behind the area of its file's name, up to the first `.`. It may be empty.
+///
+/// The area, the name and the extension of a file's name: *TeX: The Program*, part 29.
+#[tactic(auto, using(crate::proofs::Areas::dot_here, crate::proofs::Areas::dot_on))]
+pub fn job_name(file: &[u8]) -> &[u8]
+    ensures { result.now ≡ spec.job_name file.now }
+{
+    let name = behind_area(file);
+    for (i, c) in name.iter().enumerate() {
+        if *c == b'.' {
+            return &name[..i];
+        }
+    }
+    name
 }
 
 /// Whether a `.` stands behind the area of a name.
-#[tactic(auto, using(crate::proofs::Extensions::dotted_on, crate::proofs::Extensions::dotted_whole, std::proofs::lemmas::List::drop_more))]
+#[tactic(auto, using(crate::proofs::Areas::has_any))]
 fn has_extension(name: &[u8]) -> bool
     ensures { result ≡ spec.has 46 (spec.behind_area name.now) }
 {
-    let mut dotted = false;
-    for c in name {
-        if *c == b'/' {
-            dotted = false;
-        } else if *c == b'.' {
-            dotted = true;
-        }
-    }
-    dotted
+    behind_area(name).contains(&b'.')
 }
 
 /// The name of a file, with `.tex` where no `.` stands behind its area.
@@ -144,12 +179,14 @@ fn init_command<'a>(alloc: Global) -> Result<clap::Command<'a>, AllocError>
 {
     let file = Arg::new(alloc, "file").required(true);
     let steps = number_option(alloc, "steps", 0, 1_000_000_000_000_000, "10000000");
+    let mem = number_option(alloc, "mem", 100, 16_777_216, "30000");
     let quiet = Arg::new(alloc, "quiet")
         .long("quiet")
         .action(ArgAction::SetTrue);
     clap::Command::new(alloc, "init")
         .arg(file)?
         .arg(steps)?
+        .arg(mem)?
         .arg(quiet)
 }
 
@@ -184,34 +221,70 @@ mod tests {
     #[test]
     fn reads_commands(rt: HostRuntime) -> Result<(), Fail> {
         let rows = [
-            ("t|init|a", "a.tex", 10_000_000, false),
-            ("|init|a", "a.tex", 10_000_000, false),
-            ("t|init|a.b", "a.b", 10_000_000, false),
-            ("t|init|a.b/c", "a.b/c.tex", 10_000_000, false),
-            ("t|init|--steps|5|a", "a.tex", 5, false),
-            ("t|init|a|--steps=5", "a.tex", 5, false),
-            ("t|init|a|--steps|+5", "a.tex", 5, false),
-            ("t|init|--steps|007|a|--quiet", "a.tex", 7, true),
-            ("t|init|--quiet|a", "a.tex", 10_000_000, true),
-            ("t|init|a|--steps|0", "a.tex", 0, false),
+            ("t|init|a", "a.tex", 10_000_000, 30000, false),
+            ("|init|a", "a.tex", 10_000_000, 30000, false),
+            ("t|init|a.b", "a.b", 10_000_000, 30000, false),
+            ("t|init|a.b/c", "a.b/c.tex", 10_000_000, 30000, false),
+            ("t|init|--steps|5|a", "a.tex", 5, 30000, false),
+            ("t|init|a|--steps=5", "a.tex", 5, 30000, false),
+            ("t|init|a|--steps|+5", "a.tex", 5, 30000, false),
+            ("t|init|--steps|007|a|--quiet", "a.tex", 7, 30000, true),
+            ("t|init|--quiet|a", "a.tex", 10_000_000, 30000, true),
+            ("t|init|a|--steps|0", "a.tex", 0, 30000, false),
             (
                 "t|init|a|--steps|1000000000000000",
                 "a.tex",
                 1_000_000_000_000_000,
+                30000,
                 false,
             ),
-            ("t|init|-", "-.tex", 10_000_000, false),
-            ("t|init|--quiet|--|a", "a.tex", 10_000_000, true),
-            ("t|init|init", "init.tex", 10_000_000, false),
+            ("t|init|a|--mem|100", "a.tex", 10_000_000, 100, false),
+            (
+                "t|init|--mem=16777216|a|--steps|8",
+                "a.tex",
+                8,
+                16_777_216,
+                false,
+            ),
+            (
+                "t|init|--mem|+0500|--quiet|a",
+                "a.tex",
+                10_000_000,
+                500,
+                true,
+            ),
+            ("t|init|-", "-.tex", 10_000_000, 30000, false),
+            ("t|init|--quiet|--|a", "a.tex", 10_000_000, 30000, true),
+            ("t|init|init", "init.tex", 10_000_000, 30000, false),
         ];
-        for (text, name, most, silent) in rows {
-            let Ok(Job { file, steps, quiet }) = read(rt.alloc(), text)? else {
+        for (text, name, most, size, silent) in rows {
+            let Ok(job) = read(rt.alloc(), text)? else {
                 return Err("no command".into());
             };
-            assert_eq!(rt; file.as_slice(), name.as_bytes());
-            assert!(rt; steps == most && quiet == silent);
+            assert_eq!(rt; job.file.as_slice(), name.as_bytes());
+            assert_eq!(rt; (text, job.steps), (text, most));
+            assert_eq!(rt; (text, job.main_memory_size), (text, size));
+            assert_eq!(rt; (text, job.quiet), (text, silent));
         }
         Ok(())
+    }
+
+    #[test]
+    fn names_jobs(rt: HostRuntime) {
+        let rows = [
+            ("x.tex", "x"),
+            ("a/b.c/d.e.f", "d"),
+            (".tex", ""),
+            ("x", "x"),
+            ("a.b/c", "c"),
+            ("a/", ""),
+            ("", ""),
+            ("/x.y", "x"),
+            ("a/..", ""),
+        ];
+        for (file, name) in rows {
+            assert_eq!(rt; job_name(file.as_bytes()), name.as_bytes());
+        }
     }
 
     #[test]
@@ -237,7 +310,14 @@ mod tests {
             "t|init|a|--steps=",
             "t|init|a|--steps|+",
             "t|init|a|--steps|99999999999999999999",
-            "t|init|a|--mem|100",
+            "t|init|a|--mem|99",
+            "t|init|a|--mem|16777217",
+            "t|init|a|--mem|-100",
+            "t|init|a|--mem=",
+            "t|init|a|--mem|100|--mem|100",
+            "t|init|a|--mem|4294967396",
+            "t|init|a|--mem|18446744073709551716",
+            "t|--mem|100|init|a",
             "t|init|a|--pool|5000",
             "t|init|a|--step|5",
             "t|--help",

@@ -47,7 +47,7 @@ enters_refused hash pool pool' name slot full knows free same why =
     }
 
 -- strings that are kept behind the others change no name
-names_more : (strings : List ℕ) (kept more : List (List ℕ)) → ((i : ℕ) → i < length strings → get_or strings i 0 < length kept) → map (string_at (kept ++ more)) strings ≡ map (string_at kept) strings
+pub names_more : (strings : List ℕ) (kept more : List (List ℕ)) → ((i : ℕ) → i < length strings → get_or strings i 0 < length kept) → map (string_at (kept ++ more)) strings ≡ map (string_at kept) strings
 names_more [] kept more within = refl
 names_more (first ∷ strings) kept more within =
     let head : string_at (kept ++ more) first ≡ string_at kept first = get_or_append_left kept more [] first (within zero (omega arith)) in

@@ -194,8 +194,13 @@ pub fn more_strings_law()
     ensures names { (hash : Names) → (kept more : List (List ℕ)) → Knows hash kept → entered hash (kept ++ more) ≡ entered hash kept }
 {}
 
-/// Keeps a name in the pool, unless the pool has no room or the hash is full; the pool is then as before.
-fn keep(pool: &mut StringPool, name: &[u8], hash_full: Option<Full>) -> Result<StrNo, Full>
+/// Keeps a string in the pool, behind the others, and answers its number there. `hash_full` is the refusal of the
+/// hash, if the string is a name that the hash has no room for.
+///
+/// # Errors
+/// The first of pool size and number of strings that has no room for the string, else `hash_full`. The pool is
+/// then as before.
+pub fn keep(pool: &mut StringPool, name: &[u8], hash_full: Option<Full>) -> Result<StrNo, Full>
     requires { pool.old.opened ≡ None }
     ensures answer { MatchResult result (λ no. string_refusal pool.old name.now hash_full ≡ None) (λ full. string_refusal pool.old name.now hash_full ≡ Some full) }
     ensures number { IfOk result (λ no. no ≡ length pool.old.kept) }

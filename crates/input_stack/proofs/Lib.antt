@@ -10,3 +10,4 @@ pub mod Lines
 pub mod Given
 pub mod Ready
 pub mod Helds
+pub mod Lasting

@@ -1,5 +1,5 @@
 -- What comes next, level by level.
-use Rattle.std.proofs.Common.{◌≡◌, ℕ, ◌+◌, ◌-◌, ◌<◌, ◌≤◌, List, [], ◌∷◌, ◌++◌, length, reverse, take, get_or, Option, None, Some, Bool, true, refl, sym, ap, ◌∙◌, subst, arith, add-one}
+use Rattle.std.proofs.Common.{◌≡◌, ℕ, ◌+◌, ◌-◌, ◌<◌, ◌≤◌, List, [], ◌∷◌, ◌++◌, length, reverse, take, get_or, Option, None, Some, refl, sym, ap, ◌∙◌, subst, arith, add-one}
 use Rattle.std.specs.Prelude.{All}
 use Rattle.std.proofs.lemmas.List.{reverse-append}
 use Rattle.std.proofs.lemmas.List.Elements.{All-head, All-tail}
@@ -12,9 +12,11 @@ use Rattle.token_lists.specs.Table.{Entry}
 use Rattle.input_stack.specs.declared.level.Level.{Level}
 use Rattle.input_stack.specs.declared.level.Level.TheVariants as level
 use Rattle.input_stack.specs.Rest.{rest, number}
-use Rattle.input_stack.specs.Pending.{Pending, plain_put}
-use Rattle.input_stack.specs.Pulls.{is_ready, is_token, IsInBuffer}
-use Rattle.input_stack.specs.Levels.{level_ready, when_left, is_ahead, IsLevelInBuffer}
+use Rattle.input_stack.specs.Pending.{Pending, Below, plain_put}
+use Rattle.line_lexer.specs.declared.Ahead.{Ahead}
+use Rattle.input_stack.specs.Puts.{Item, next_item}
+use Rattle.input_stack.specs.Pulls.{looks, is_ready, item_looks, item_ready, line_looks, line_ready, is_token, IsInBuffer}
+use Rattle.input_stack.specs.Levels.{level_looks, when_left, is_ahead, IsLevelInBuffer}
 use Rattle.input_stack.specs.View.{pending_in, in_front}
 use Rattle.input_stack.specs.Standing.{IsLevel}
 
@@ -30,23 +32,34 @@ ahead_is (plain.Gives x state line) = refl
 ahead_is (plain.Invalid state line) = refl
 ahead_is plain.UsedUp = refl
 
-list_some : (c b : List ℕ) (n : ℕ) (ts : List Token) (q : Pending) (r : Bool) → when_left ts ≡ Some r → r ≡ is_ready c b (in_front (plain_put n ts) q)
+line_ready_is : (c b : List ℕ) (bs : List Below) → is_ahead (line_looks c b bs) ≡ line_ready c b bs
+line_ready_is c b [] = refl
+line_ready_is c b (x ∷ xs) = ahead_is _
+
+item_ready_is : (c b : List ℕ) (bs : List Below) (o : Option Item) → is_ahead (item_looks c b bs o) ≡ item_ready c b bs o
+item_ready_is c b bs None = line_ready_is c b bs
+item_ready_is c b bs (Some x) = refl
+
+pub ready_is : (c b : List ℕ) (p : Pending) → is_ahead (looks c b p) ≡ is_ready c b p
+ready_is c b p = item_ready_is c b p.sources (next_item p.puts)
+
+list_some : (c b : List ℕ) (n : ℕ) (ts : List Token) (q : Pending) (r : Ahead) → when_left ts ≡ Some r → r ≡ looks c b (in_front (plain_put n ts) q)
 list_some c b n [] q r is = absurd (none-some r is)
 list_some c b n (t ∷ ts) q r is = sym (same_Some _ _ is)
 
-list_none : (c b : List ℕ) (n : ℕ) (ts : List Token) (q : Pending) → when_left ts ≡ None → is_ready c b q ≡ is_ready c b (in_front (plain_put n ts) q)
+list_none : (c b : List ℕ) (n : ℕ) (ts : List Token) (q : Pending) → when_left ts ≡ None → looks c b q ≡ looks c b (in_front (plain_put n ts) q)
 list_none c b n [] q is = refl
-list_none c b n (t ∷ ts) q is = absurd (none-some true (sym is))
+list_none c b n (t ∷ ts) q is = absurd (none-some _ (sym is))
 
-level_some : (table : List (Option Entry)) (c b : List ℕ) (l : Level) (ls : List Level) (r : Bool) → level_ready table c b l ≡ Some r → r ≡ is_ready c b (pending_in table (l ∷ ls))
+level_some : (table : List (Option Entry)) (c b : List ℕ) (l : Level) (ls : List Level) (r : Ahead) → level_looks table c b l ≡ Some r → r ≡ looks c b (pending_in table (l ∷ ls))
 level_some table c b (level.List x) ls r is = list_some c b (number x) (rest table x) (pending_in table ls) r is
-level_some table c b (level.Source s) ls r is = sym (same_Some _ _ is) ∙ ahead_is _
+level_some table c b (level.Source s) ls r is = sym (same_Some _ _ is)
 
-level_none : (table : List (Option Entry)) (c b : List ℕ) (l : Level) (ls : List Level) → level_ready table c b l ≡ None → is_ready c b (pending_in table ls) ≡ is_ready c b (pending_in table (l ∷ ls))
+level_none : (table : List (Option Entry)) (c b : List ℕ) (l : Level) (ls : List Level) → level_looks table c b l ≡ None → looks c b (pending_in table ls) ≡ looks c b (pending_in table (l ∷ ls))
 level_none table c b (level.List x) ls is = list_none c b (number x) (rest table x) (pending_in table ls) is
 level_none table c b (level.Source s) ls is = absurd (none-some _ (sym is))
 
-under_in_buffer : (table : List (Option Entry)) (c b : List ℕ) (l : Level) (ls : List Level) (n : ℕ) → level_ready table c b l ≡ None → IsInBuffer (pending_in table (l ∷ ls)).sources n → IsInBuffer (pending_in table ls).sources n
+under_in_buffer : (table : List (Option Entry)) (c b : List ℕ) (l : Level) (ls : List Level) (n : ℕ) → level_looks table c b l ≡ None → IsInBuffer (pending_in table (l ∷ ls)).sources n → IsInBuffer (pending_in table ls).sources n
 under_in_buffer table c b (level.List x) ls n is h = h
 under_in_buffer table c b (level.Source s) ls n is h = absurd (none-some _ (sym is))
 
@@ -54,11 +67,11 @@ at_in_buffer : (table : List (Option Entry)) (l : Level) (ls : List Level) (n : 
 at_in_buffer table (level.List x) ls n h = tt
 at_in_buffer table (level.Source s) ls n h = h
 
-pub ready_some : (table : List (Option Entry)) (c b : List ℕ) (l : Level) (xs ls : List Level) (o : Option Bool) (r : Bool) → xs ≡ l ∷ ls → o ≡ level_ready table c b l → o ≡ Some r → r ≡ is_ready c b (pending_in table xs)
-ready_some table c b l xs ls o r is at some = level_some table c b l ls r (sym at ∙ some) ∙ ap (λ (ys : List Level). is_ready c b (pending_in table ys)) (sym is)
+pub ready_some : (table : List (Option Entry)) (c b : List ℕ) (l : Level) (xs ls : List Level) (o : Option Ahead) (r : Ahead) → xs ≡ l ∷ ls → o ≡ level_looks table c b l → o ≡ Some r → r ≡ looks c b (pending_in table xs)
+ready_some table c b l xs ls o r is at some = level_some table c b l ls r (sym at ∙ some) ∙ ap (λ (ys : List Level). looks c b (pending_in table ys)) (sym is)
 
-pub ready_none : (table : List (Option Entry)) (c b : List ℕ) (l : Level) (xs ls : List Level) (o : Option Bool) → xs ≡ l ∷ ls → o ≡ level_ready table c b l → o ≡ None → is_ready c b (pending_in table ls) ≡ is_ready c b (pending_in table xs)
-ready_none table c b l xs ls o is at none = level_none table c b l ls (sym at ∙ none) ∙ ap (λ (ys : List Level). is_ready c b (pending_in table ys)) (sym is)
+pub ready_none : (table : List (Option Entry)) (c b : List ℕ) (l : Level) (xs ls : List Level) (o : Option Ahead) → xs ≡ l ∷ ls → o ≡ level_looks table c b l → o ≡ None → looks c b (pending_in table ls) ≡ looks c b (pending_in table xs)
+ready_none table c b l xs ls o is at none = level_none table c b l ls (sym at ∙ none) ∙ ap (λ (ys : List Level). looks c b (pending_in table ys)) (sym is)
 
 pub ready_level : (table : List (Option Entry)) (l : Level) (xs ls : List Level) → xs ≡ l ∷ ls → All (IsLevel table) xs → IsLevel table l
 ready_level table l xs ls is a = All-head (IsLevel table) l ls (subst (λ (ys : List Level). All (IsLevel table) ys) is a)
@@ -69,5 +82,5 @@ ready_under table l xs ls is a = All-tail (IsLevel table) l ls (subst (λ (ys : 
 pub ready_in_buffer : (table : List (Option Entry)) (l : Level) (xs ls : List Level) (n : ℕ) → xs ≡ l ∷ ls → IsInBuffer (pending_in table xs).sources n → IsLevelInBuffer l n
 ready_in_buffer table l xs ls n is h = at_in_buffer table l ls n (subst (λ (ys : List Level). IsInBuffer (pending_in table ys).sources n) is h)
 
-pub ready_under_buffer : (table : List (Option Entry)) (c b : List ℕ) (l : Level) (xs ls : List Level) (o : Option Bool) (n : ℕ) → xs ≡ l ∷ ls → o ≡ level_ready table c b l → o ≡ None → IsInBuffer (pending_in table xs).sources n → IsInBuffer (pending_in table ls).sources n
+pub ready_under_buffer : (table : List (Option Entry)) (c b : List ℕ) (l : Level) (xs ls : List Level) (o : Option Ahead) (n : ℕ) → xs ≡ l ∷ ls → o ≡ level_looks table c b l → o ≡ None → IsInBuffer (pending_in table xs).sources n → IsInBuffer (pending_in table ls).sources n
 ready_under_buffer table c b l xs ls o n is at none h = under_in_buffer table c b l ls n (sym at ∙ none) (subst (λ (ys : List Level). IsInBuffer (pending_in table ys).sources n) is h)

@@ -43,12 +43,12 @@ is_ahead ahead.Token = true
 is_ahead ahead.Invalid = false
 is_ahead ahead.End = false
 
--- whether a token is left
-abbrev pub when_left : List Token → Option Bool
+-- a token, where one is left
+abbrev pub when_left : List Token → Option Ahead
 when_left [] = None
-when_left (t ∷ ts) = Some true
+when_left (t ∷ ts) = Some ahead.Token
 
--- whether this level gives a token, where it gives something
-abbrev pub level_ready : List (Option Entry) → List ℕ → List ℕ → Level → Option Bool
-level_ready table categories bytes (level.List r) = when_left (rest table r)
-level_ready table categories bytes (level.Source s) = Some (is_ahead (looks_of (plain.lexed categories (state_of s.line.state) (rest_of bytes s.line))))
+-- what this level gives, where it gives something
+abbrev pub level_looks : List (Option Entry) → List ℕ → List ℕ → Level → Option Ahead
+level_looks table categories bytes (level.List r) = when_left (rest table r)
+level_looks table categories bytes (level.Source s) = Some (looks_of (plain.lexed categories (state_of s.line.state) (rest_of bytes s.line)))

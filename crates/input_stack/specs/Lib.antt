@@ -8,3 +8,4 @@ pub mod Pending
 pub mod Pulls
 pub mod View
 pub mod Standing
+pub mod Lasting

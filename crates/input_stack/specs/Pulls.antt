@@ -8,7 +8,9 @@ use Rattle.plain_state.specs.Lex as plain
 use Rattle.input_stack.specs.Puts.{Item, Text, First, Later, Gap, next_item, pulled}
 use Rattle.line_lexer.specs.declared.Lexed.{Lexed}
 use Rattle.line_lexer.specs.declared.Lexed.TheVariants.{End}
-use Rattle.line_lexer.specs.Answers.{state_of, rest_of, given, GoesOn}
+use Rattle.line_lexer.specs.Answers.{state_of, rest_of, given, GoesOn, looks_of}
+use Rattle.line_lexer.specs.declared.Ahead.{Ahead}
+use Rattle.line_lexer.specs.declared.Ahead.TheVariants as ahead
 use Rattle.input_stack.specs.declared.level.Source.{Source}
 use Rattle.input_stack.specs.declared.level.Pulled.{Pulled}
 use Rattle.input_stack.specs.declared.level.Pulled.TheVariants as pulled_as
@@ -97,3 +99,15 @@ item_ready categories bytes bs None = line_ready categories bytes bs
 -- a token comes next, from a list or from the line
 abbrev pub is_ready : List ℕ → List ℕ → Pending → Bool
 is_ready categories bytes p = item_ready categories bytes p.sources (next_item p.puts)
+
+abbrev pub line_looks : List ℕ → List ℕ → List Below → Ahead
+line_looks categories bytes [] = ahead.End
+line_looks categories bytes (b ∷ bs) = looks_of (plain.lexed categories (state_of b.source.line.state) (rest_of bytes b.source.line))
+
+abbrev pub item_looks : List ℕ → List ℕ → List Below → Option Item → Ahead
+item_looks categories bytes bs (Some x) = ahead.Token
+item_looks categories bytes bs None = line_looks categories bytes bs
+
+-- what comes next: a token from a list, or what the line gives, nothing more where there is no line
+abbrev pub looks : List ℕ → List ℕ → Pending → Ahead
+looks categories bytes p = item_looks categories bytes p.sources (next_item p.puts)

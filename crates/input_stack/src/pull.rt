@@ -2,7 +2,7 @@
 ghost use Rattle.std.specs.Prelude.{◌≡◌, length};
 ghost use Rattle.input_stack.specs.Pulls.{answer_of};
 ghost use Rattle.input_stack.specs.Standing.{IsLevel, IsUnfinished};
-ghost use Rattle.input_stack.specs.Levels.{LevelPulls, IsLevelInBuffer, level_ready, is_ahead};
+ghost use Rattle.input_stack.specs.Levels.{LevelPulls, IsLevelInBuffer, level_looks, is_ahead};
 
 use crate::level::{Level, Pulled};
 use line_lexer::{Ahead, Lexed, looks, next};
@@ -46,27 +46,28 @@ pub fn pull_level(
     }
 }
 
-/// Whether an unfinished level gives a token next.
-pub fn level_ready(
+/// What an unfinished level gives next, where it gives something.
+pub fn level_looks(
     level: &Level,
     lists: &Lists,
     bytes: &[u8],
     categories: &[u8; 256],
-) -> Option<bool>
+) -> Option<Ahead>
     requires level { IsLevel lists.now level.now }
     requires in_buffer { IsLevelInBuffer level.now (length bytes.now) }
-    ensures { result ≡ level_ready lists.now categories.now bytes.now level.now }
+    ensures { result ≡ level_looks lists.now categories.now bytes.now level.now }
 {
     match level {
         Level::List(reader) => match reader.peek(lists) {
-            Some(_) => Some(true),
+            Some(_) => Some(Ahead::Token),
             None => None,
         },
-        Level::Source(source) => Some(line_ready(looks(bytes, &source.line, categories))),
+        Level::Source(source) => Some(looks(bytes, &source.line, categories)),
     }
 }
 
-fn line_ready(ahead: Ahead) -> bool
+/// Whether it is a token.
+pub fn is_token(ahead: Ahead) -> bool
     ensures { result ≡ is_ahead ahead }
 {
     match ahead {

@@ -7,14 +7,15 @@ ghost use Rattle.input_stack.specs.Rest.{number};
 ghost use Rattle.input_stack.specs.Pending.{Pending, levels, settle, put, plain_put, refusal, room, used_levels, open_over, at_line, Ends};
 ghost use Rattle.input_stack.specs.Backs.{begun_holds, IsBegun, LacksMemory, PutsBack, Refuses};
 ghost use Rattle.input_stack.specs.View.{pending, held, innermost, IsSourceOnTop, level_at};
-ghost use Rattle.input_stack.specs.Pulls.{Pulls, IsInBuffer, is_ready, is_line_end};
+ghost use Rattle.input_stack.specs.Pulls.{Pulls, IsInBuffer, looks, is_ready, is_line_end};
 ghost use Rattle.input_stack.specs.Standing.{Stands, Fits, AreUnfinished, AreRead};
+ghost use Rattle.input_stack.specs.Lasting.{Lasts};
 ghost use Rattle.input_stack.specs.declared.level.Level.TheVariants as level;
 
 use crate::level::{Begun, Level, Pulled, Source};
-use crate::pull::{level_ready, pull_level};
+use crate::pull::{is_token, level_looks, pull_level};
 use crate::reader::Reader;
-use line_lexer::Line;
+use line_lexer::{Ahead, Line};
 use std::alloc::{AllocError, Global};
 use tex_defs::{Full, Sizes, Table, Token};
 use token_lists::{ListRef, Lists};
@@ -32,6 +33,7 @@ fn let_go(lists: &mut Lists, list: ListRef)
     requires { IsHeld lists.old (id_of list) }
     ensures account { Moves lists.old lists.new (holds (id_of list)) none }
     ensures kept { Keeps lists.old lists.new (holds (id_of list)) }
+    ensures lasting { Lasts lists.old lists.new }
 {
     lists.release(list);
 }
@@ -124,6 +126,7 @@ impl InputStack {
         ensures fewer { length self.new.levels.items < length self.old.levels.items }
         ensures account { Moves lists.old lists.new (held self.old) (held self.new) }
         ensures kept { Keeps lists.old lists.new (held self.old) }
+        ensures lasting { Lasts lists.old lists.new }
         ensures size { self.new.size ≡ self.old.size }
     {
         if let Some(reader) = self.pop() {
@@ -139,6 +142,7 @@ impl InputStack {
         ensures unfinished { AreUnfinished lists.new (innermost self.new) }
         ensures account { Moves lists.old lists.new (held self.old) (held self.new) }
         ensures kept { Keeps lists.old lists.new (held self.old) }
+        ensures lasting { Lasts lists.old lists.new }
         ensures size { self.new.size ≡ self.old.size }
     {
         while self.is_finished(lists) {
@@ -173,6 +177,21 @@ impl InputStack {
         })
     }
 
+    /// Why there is no room for one more level, once the finished lists on top have gone.
+    pub fn room(&mut self, lists: &mut Lists) -> Option<Full>
+        requires { Stands lists.old self.old }
+        ensures stands { Stands lists.new self.new }
+        ensures after { pending lists.new self.new ≡ settle (pending lists.old self.old) }
+        ensures refused { result ≡ room self.old.size (used_levels (pending lists.old self.old)) }
+        ensures account { Moves lists.old lists.new (held self.old) (held self.new) }
+        ensures kept { Keeps lists.old lists.new (held self.old) }
+        ensures lasting { Lasts lists.old lists.new }
+        ensures size { self.new.size ≡ self.old.size }
+    {
+        self.drop_finished(lists);
+        self.full()
+    }
+
     /// Puts a list in front; one without tokens is let go.
     ///
     /// # Errors
@@ -187,6 +206,7 @@ impl InputStack {
         ensures tokens { 0 < length (tokens_at lists.old (id_of list)) → tokens_at lists.new (id_of list) ≡ tokens_at lists.old (id_of list) }
         ensures account { MatchResult result (λ _. Moves lists.old lists.new (λ h. holds (id_of list) h + held self.old h) (held self.new)) (λ _. Moves lists.old lists.new (held self.old) (held self.new)) }
         ensures kept { MatchResult result (λ _. Keeps lists.old lists.new (λ h. holds (id_of list) h + held self.old h)) (λ _. Keeps lists.old lists.new (held self.old)) }
+        ensures lasting { Lasts lists.old lists.new }
         ensures size { self.new.size ≡ self.old.size }
     {
         if lists.first(&list).is_none() {
@@ -243,6 +263,7 @@ impl InputStack {
         ensures refused { MatchResult result (λ _. room self.old.size (used_levels (pending lists.old self.old)) ≡ None) (λ f. room self.old.size (used_levels (pending lists.old self.old)) ≡ Some f) }
         ensures account { Moves lists.old lists.new (held self.old) (held self.new) }
         ensures kept { Keeps lists.old lists.new (held self.old) }
+        ensures lasting { Lasts lists.old lists.new }
         ensures size { self.new.size ≡ self.old.size }
     {
         self.drop_finished(lists);
@@ -304,6 +325,7 @@ impl InputStack {
         ensures pulls { Pulls self.old.size categories.now bytes.old bytes.new (pending lists.old self.old) (pending lists.new self.new) result }
         ensures account { Moves lists.old lists.new (held self.old) (held self.new) }
         ensures kept { Keeps lists.old lists.new (held self.old) }
+        ensures lasting { Lasts lists.old lists.new }
         ensures size { self.new.size ≡ self.old.size }
     {
         self.drop_finished(lists);
@@ -314,20 +336,30 @@ impl InputStack {
         Ok(pull_level(&mut self.levels[count - 1], lists, bytes, categories))
     }
 
+    /// What the next pull gives: a token of a list or of the line, an invalid character, or nothing more of the line.
+    /// Nothing changes.
+    pub fn looks(&self, lists: &Lists, bytes: &[u8], categories: &[u8; 256]) -> Ahead
+        requires stands { Stands lists.now self.now }
+        requires in_buffer { IsInBuffer (pending lists.now self.now).sources (length bytes.now) }
+        ensures { result ≡ looks categories.now bytes.now (pending lists.now self.now) }
+    {
+        let mut at = self.levels.len();
+        while at > 0 {
+            at -= 1;
+            if let Some(ahead) = level_looks(&self.levels[at], lists, bytes, categories) {
+                return ahead;
+            }
+        }
+        Ahead::End
+    }
+
     /// Whether the next pull gives a token of a list or of the line. Nothing changes.
     pub fn ready(&self, lists: &Lists, bytes: &[u8], categories: &[u8; 256]) -> bool
         requires stands { Stands lists.now self.now }
         requires in_buffer { IsInBuffer (pending lists.now self.now).sources (length bytes.now) }
         ensures { result ≡ is_ready categories.now bytes.now (pending lists.now self.now) }
     {
-        let mut at = self.levels.len();
-        while at > 0 {
-            at -= 1;
-            if let Some(ready) = level_ready(&self.levels[at], lists, bytes, categories) {
-                return ready;
-            }
-        }
-        false
+        is_token(self.looks(lists, bytes, categories))
     }
 
     // The level on top goes, if there is one.

@@ -1,9 +1,9 @@
 -- Each state and bound has a run, since from each state silent moves come to an end or to a step.
 use Rattle.std.proofs.Common.{◌≡◌, ◌⊎◌, ℕ, ◌+◌, ◌≤◌, List, [], ◌∷◌, ◌++◌, refl, ◌∙◌, inl, inr, arith, zero, suc}
-use Rattle.plain_state.specs.States.{State, Move, Handed, Taken, made}
+use Rattle.plain_state.specs.States.{State, Move, Handed, Taken, Settled, made}
 use Rattle.plain_machine.specs.Plan.{Ends, Goes, next, plan}
 use Rattle.plain_machine.specs.Runs.{step_of, steps, Moves, NeedsStep, HasRun, all_made}
-use Rattle.plain_machine.proofs.Joins.{moves_join, steps_join, due_kept, next_due, next_plan, plan_needs}
+use Rattle.plain_machine.proofs.Joins.{moves_join, steps_join, due_kept, next_due, next_plan}
 use Rattle.plain_machine.proofs.Silent.{Rule, Over, Step, Falls, rule, weight}
 
 -- silent moves that lead to an end or to a step
@@ -47,11 +47,17 @@ ends : (s : State) → s.due ≡ [] → plan s s.stopped ≡ [] → next s ≡ E
 unfolding next
 ends s e f = rw e (rw f refl)
 
+-- a step comes once the finished lists in front have gone
+at_step : (s : State) (m : Move) (ms : List Move) → s.due ≡ [] → plan s s.stopped ≡ Settled ∷ m ∷ ms → step_of m ≡ 1 → Pauses s
+at_step s m ms e f one =
+    let u : State = made Settled (record s { due = m ∷ ms }) in
+    record { ms = Settled ∷ []; t = u; moves = (u, (next_plan s Settled (m ∷ ms) e f, refl)); silent = refl; paused = inr (m, (_, (next_due u m ms refl, one))) }
+
 settles : (n : ℕ) (s : State) → s.due ≡ [] → weight s ≤ n → Pauses s
 settles n s e le = by_rule n s e le (rule s) where
   by_rule : (n : ℕ) (s : State) → s.due ≡ [] → weight s ≤ n → Rule s (plan s s.stopped) → Pauses s
   by_rule n s e le (Over f) = record { ms = []; t = s; moves = refl; silent = refl; paused = inl (ends s e f) }
-  by_rule n s e le (Step m ms f one) = record { ms = []; t = s; moves = refl; silent = refl; paused = inr (plan_needs s m ms e f one) }
+  by_rule n s e le (Step m ms f one) = at_step s m ms e f one
   by_rule zero s e le (Falls less) = absurd (omega arith)
   by_rule (suc n) s e le (Falls less) =
       let u : State = all_made (plan s s.stopped) s in

@@ -1,4 +1,4 @@
--- Each rule ends the run, begins with a step, or makes the weight of the state smaller.
+-- Each rule ends the run, begins with a step once the finished lists in front have gone, or makes the weight of the state smaller.
 use Rattle.std.proofs.Common.{◌≡◌, ℕ, ◌+◌, ◌*◌, ◌≤◌, ◌<◌, Bool, true, false, List, [], ◌∷◌, ◌++◌, length, refl, ap, ◌∙◌, arith}
 use Rattle.std.specs.Prelude.{Option, Some, None, if◌then◌else◌, nat_lt}
 use Rattle.tex_defs.specs.declared.Token.{Token}
@@ -7,15 +7,15 @@ use Rattle.tex_defs.specs.Places.{Transcript}
 use Rattle.tex_defs.specs.declared.Fatal.TheVariants.{HundredErrors}
 use Rattle.plain_state.specs.Lex.{Lexed, Gives, Invalid, UsedUp, lexed}
 use Rattle.plain_state.specs.LexLaws.{LeavesLess}
-use Rattle.plain_state.specs.Names.{primitive_names}
 use Rattle.plain_state.proofs.LexRests.{less}
-use Rattle.plain_state.specs.Pending.{Pending, Progress, NotBegun, Begun as BegunFile, Closed, Pulled, TokenFrom, LineTaken, InvalidMet, FileOver, NothingLeft, pulled, from_front, from_line, from_file}
+use Rattle.plain_state.specs.Pending.{Pending, Progress, NotBegun, Begun as BegunFile, Closed, Pulled, TokenFrom, LexemeFrom, LineTaken, InvalidMet, FileOver, NothingLeft, Put as PutList, settle, settled, pulled, from_front, from_list, from_line, from_file}
 use Rattle.plain_state.specs.Reports.{Report, InvalidCharacter, FileEndedInText, report_bytes, hundred_line, runaway_bytes}
 use Rattle.plain_state.specs.Readings.{Kind, Catcode, Message, Text, Fed, Tok, Val, Told, Value, Flag, Effect, SetCategory, Say, Ask, More, Inner, Done, Act, Tells, ask, so_far, rank}
-use Rattle.plain_state.specs.States.{State, Reading, Move, Handed, Skipped, FileClosed, Noted, Put, SetCategoryOf, Written, Begun, Ended, Reported, Stopped, Outcome, AtFatal, made, fed_with}
-use Rattle.plain_machine.specs.Plan.{Page, page_of, plan, planned, answered, handed, checked, checked_reading, without_file, ran_away, right_brace, page_behind, reported, behind_report, reports_room, stomach, wanted, effect, given_back, put_all, last_seen, is_told, begun_with}
+use Rattle.plain_state.specs.States.{State, Reading, Move, Handed, Settled, Skipped, FileClosed, Entered, Kept as KeptBytes, Noted, ListBegun, ListGrown, Put, SetCategoryOf, Written, Begun, Ended, Reported, Stopped, Outcome, AtFatal, made, fed_with}
+use Rattle.plain_machine.specs.Plan.{Page, page_of, plan, planned, answered, handed, checked, checked_reading, without_file, ran_away, right_brace, page_behind, reported, behind_report, reports_room, stomach, wanted, enters_names, effect, given_back, put_one, put_all, last_seen, is_told, begun_with}
 use Rattle.plain_machine.specs.Runs.{step_of, all_made}
 use Rattle.plain_machine.proofs.Lower.{Lower, lower, Starts, starts}
+use Rattle.plain_machine.proofs.Settling.{pulled_settled}
 
 abbrev pub top_rank : ℕ
 top_rank = 1
@@ -64,7 +64,7 @@ weight s = weight_of s.stopped s.work s.pending
 
 pub data Rule (s : State) (ms : List Move) : Type 0 where
   Over : ms ≡ [] → Rule s ms
-  Step : (m : Move) → (rest : List Move) → ms ≡ m ∷ rest → step_of m ≡ 1 → Rule s ms
+  Step : (m : Move) → (rest : List Move) → ms ≡ Settled ∷ m ∷ rest → step_of m ≡ 1 → Rule s ms
   Falls : weight (all_made ms s) < weight s → Rule s ms
 
 -- after these moves the weight is below n
@@ -125,20 +125,29 @@ lighter_file p BegunFile e = by_rest p.rest where
   by_rest (c ∷ cs) = tt
 lighter_file p Closed e = tt
 
-lighter_line : (names : List (List ℕ)) (categories : List ℕ) (p : Pending) (l : Lexed) → LeavesLess categories l p.line → Lighter p (from_line names p l)
-lighter_line names categories p (Gives x state line) h = tt
-lighter_line names categories p (Invalid state line) h = omega (arith, h.shorter)
-lighter_line names categories p UsedUp h = lighter_file p p.file refl
+lighter_line : (categories : List ℕ) (p : Pending) (l : Lexed) → LeavesLess categories l p.line → Lighter p (from_line p l)
+lighter_line categories p (Gives x state line) h = tt
+lighter_line categories p (Invalid state line) h = omega (arith, h.shorter)
+lighter_line categories p UsedUp h = lighter_file p p.file refl
 
-lighter_front : (names : List (List ℕ)) (categories : List ℕ) (p : Pending) (ts : List Token) → Lighter p (from_front names categories p ts)
-lighter_front names categories p (t ∷ ts) = tt
-lighter_front names categories p [] = lighter_line names categories p (lexed categories p.lex p.line) (less categories p.lex p.line)
+lighter_list : (categories : List ℕ) (p : Pending) (x : PutList) (ps : List PutList) (ts : List Token) → Lighter p (from_list categories p x ps ts)
+lighter_list categories p x ps (t ∷ ts) = tt
+lighter_list categories p x ps [] = lighter_line categories p (lexed categories p.lex p.line) (less categories p.lex p.line)
 
-pub lighter : (names : List (List ℕ)) (categories : List ℕ) (p : Pending) → Lighter p (pulled names categories p)
-lighter names categories p = lighter_front names categories p p.front
+lighter_front : (categories : List ℕ) (p : Pending) (ps : List PutList) → Lighter p (from_front categories p ps)
+lighter_front categories p (x ∷ ps) = lighter_list categories p x ps x.left
+lighter_front categories p [] = lighter_line categories p (lexed categories p.lex p.line) (less categories p.lex p.line)
+
+pub lighter : (categories : List ℕ) (p : Pending) → Lighter p (pulled categories p)
+lighter categories p = lighter_front categories p (settled p.puts)
 
 -- moves that leave the readings and the file, and go on
 abbrev is_plain : Move → Bool
+is_plain Settled = true
+is_plain (Entered name) = true
+is_plain (KeptBytes bytes) = true
+is_plain ListBegun = true
+is_plain (ListGrown t) = true
 is_plain (Put ts) = true
 is_plain (SetCategoryOf code category) = true
 is_plain (Written p bs) = true
@@ -161,6 +170,11 @@ kept_on : (s u v : State) → Kept s u → Kept u v → Kept s v
 kept_on s u v a b = record { work = b.work ∙ a.work; stopped = b.stopped ∙ a.stopped; pending = b.pending ∙ a.pending }
 
 kept : (m : Move) (s : State) → is_plain m ≡ true → Kept s (made m s)
+kept Settled s h = record { work = refl; stopped = refl; pending = refl }
+kept (Entered name) s h = record { work = refl; stopped = refl; pending = refl }
+kept (KeptBytes bytes) s h = record { work = refl; stopped = refl; pending = refl }
+kept ListBegun s h = record { work = refl; stopped = refl; pending = refl }
+kept (ListGrown t) s h = record { work = refl; stopped = refl; pending = refl }
 kept (Put ts) s h = record { work = refl; stopped = refl; pending = refl }
 kept (SetCategoryOf code category) s h = record { work = refl; stopped = refl; pending = refl }
 kept (Written p bs) s h = record { work = refl; stopped = refl; pending = refl }
@@ -185,7 +199,7 @@ drops_behind n s false rest h f = halted_none n s hundred_line (AtFatal HundredE
 
 drops_report : (n : ℕ) (s : State) (page : Page) (report : Report) (rest : List Move) → 0 < n → ((u : State) → Kept s u → Drops n rest u) → Drops n (reported page report rest) s
 drops_report n s page report rest h f =
-    drops_plain n s (Written Transcript (report_bytes page.in_line page.line report) ∷ Reported ∷ []) (behind_report page.reports rest) (refl, (refl, tt))
+    drops_plain n s (Written Transcript (report_bytes page.names page.in_line page.line report) ∷ Reported ∷ []) (behind_report page.reports rest) (refl, (refl, tt))
     (λ u k. drops_behind n u (nat_lt page.reports reports_room) rest h (λ v l. f v (kept_on s u v k l)))
 
 some_weight : (s : State) → s.stopped ≡ None → 0 < weight s
@@ -201,8 +215,8 @@ module _ (s : State) (q : Pending) (e : s.stopped ≡ None) (less : pending_weig
 
   away_below : (u : State) (categories : List ℕ) (page : Page) (report : Report) (list : List Token) → u.stopped ≡ None → u.work ≡ s.work → u.pending ≡ q → Drops (weight s) (ran_away categories page report list) u
   away_below u categories page report list a b c =
-      let text : List ℕ = runaway_bytes categories page.in_line list in
-      drops_plain (weight s) u (Written Transcript text ∷ Put (right_brace ∷ []) ∷ []) (reported (page_behind page text) report []) (refl, (refl, tt))
+      let text : List ℕ = runaway_bytes categories page.names page.in_line list in
+      drops_plain (weight s) u (Written Transcript text ∷ put_one right_brace) (reported (page_behind page text) report []) (refl, (refl, (refl, (refl, (refl, tt)))))
       (λ v k. drops_report (weight s) v (page_behind page text) report [] (some_weight s e) (λ x l. below u x a b c (kept_on u v x k l)))
 
   check_reading_below : (u : State) (categories : List ℕ) (page : Page) (r : Reading) (k : Kind) → u.stopped ≡ None → u.work ≡ s.work → u.pending ≡ q → Drops (weight s) (checked_reading categories page r k) u
@@ -213,23 +227,33 @@ module _ (s : State) (q : Pending) (e : s.stopped ≡ None) (less : pending_weig
   check_below u categories page [] a b c = below u u a b c (record { work = refl; stopped = refl; pending = refl })
   check_below u categories page (r ∷ rs) a b c = check_reading_below u categories page r r.kind a b c
 
-rule_pulled : (s : State) (onward : Seen → List Move) (work : List Reading) (page : Page) (p : Pulled) → s.stopped ≡ None → pulled primitive_names s.categories s.pending ≡ p → Lighter s.pending p →
-    Rule s (handed (page_of s) onward (checked s.categories page work) p)
-rule_pulled s onward work page (TokenFrom t q) e is l = Step _ _ refl refl
-rule_pulled s onward work page (LineTaken line q) e is l = Step _ _ refl refl
-rule_pulled s onward work page (InvalidMet q) e is l =
-    let rest : List Move = reported (page_of s) InvalidCharacter [] in
-    Falls (report_below s q e l (made Skipped (record s { due = rest })) (page_of s) InvalidCharacter e refl (rw is refl))
-rule_pulled s onward work page (FileOver q) e is l =
-    Falls (check_below s q e l (made FileClosed (record s { due = checked s.categories page work })) s.categories page work e refl (rw is refl))
-rule_pulled s onward work page NothingLeft e is l = Falls (rw e (omega arith))
+module _ (s : State) (enters : Bool) (onward : Seen → List Move) (work : List Reading) (page : Page) (e : s.stopped ≡ None) where
+  -- the pull comes once the finished lists in front have gone
+  pulled_then : (p : Pulled) → pulled s.categories s.pending ≡ p → pulled s.categories (settle s.pending) ≡ p
+  pulled_then p is = pulled_settled s.categories s.pending ∙ is
 
-rule_handed : (s : State) (onward : Seen → List Move) (work : List Reading) → s.stopped ≡ None → Rule s (handed (page_of s) onward (checked s.categories (without_file (page_of s)) work) (pulled primitive_names s.categories s.pending))
-rule_handed s onward work e = rule_pulled s onward work (without_file (page_of s)) (pulled primitive_names s.categories s.pending) e refl (lighter primitive_names s.categories s.pending)
+  abbrev settled_first : List Move → State
+  settled_first rest = made Settled (record s { due = rest })
+
+  rule_pulled : (p : Pulled) → pulled s.categories s.pending ≡ p → Lighter s.pending p → Rule s (handed (page_of s) enters onward (checked s.categories page work) p)
+  rule_pulled (TokenFrom t q) is l = Step _ _ refl refl
+  rule_pulled (LexemeFrom x q) is l = Step _ _ refl refl
+  rule_pulled (LineTaken line q) is l = Step _ _ refl refl
+  rule_pulled (InvalidMet q) is l =
+      let rest : List Move = reported (page_of s) InvalidCharacter [] in
+      Falls (report_below s q e l (made Skipped (record (settled_first (Skipped ∷ rest)) { due = rest })) (page_of s) InvalidCharacter e refl (rw (pulled_then (InvalidMet q) is) refl))
+  rule_pulled (FileOver q) is l =
+      let rest : List Move = checked s.categories page work in
+      Falls (check_below s q e l (made FileClosed (record (settled_first (FileClosed ∷ rest)) { due = rest })) s.categories page work e refl (rw (pulled_then (FileOver q) is) refl))
+  rule_pulled NothingLeft is l = Falls (rw e (omega arith))
+
+rule_handed : (s : State) (enters : Bool) (onward : Seen → List Move) (work : List Reading) → s.stopped ≡ None →
+    Rule s (handed (page_of s) enters onward (checked s.categories (without_file (page_of s)) work) (pulled s.categories s.pending))
+rule_handed s enters onward work e = rule_pulled s enters onward work (without_file (page_of s)) e (pulled s.categories s.pending) refl (lighter s.categories s.pending)
 
 plain_all : (xs : List Seen) → AllPlain (put_all xs)
 plain_all [] = tt
-plain_all (x ∷ xs) = (refl, tt)
+plain_all (x ∷ xs) = (refl, (refl, (refl, (refl, tt))))
 
 plain_back : (back : Bool) (fed : List Fed) → AllPlain (given_back back fed)
 plain_back true fed = plain_all (last_seen fed)
@@ -255,7 +279,7 @@ module _ (s : State) (k : Kind) (lent : Bool) (rs : List Reading) (e : s.stopped
 
   rule_fresh : (a : Ask) → Starts a → Lower (rank k) a → s.work ≡ record { kind = k; fed = []; lent = lent } ∷ rs →
       Rule s (answered s (record { kind = k; fed = []; lent = lent } ∷ rs) (record { kind = k; fed = []; lent = lent }) a)
-  rule_fresh (More want) h l w = rule_handed s (wanted (page_of s) want) (record { kind = k; fed = []; lent = lent } ∷ rs) e
+  rule_fresh (More want) h l w = rule_handed s (enters_names want) (wanted (page_of s) want) (record { kind = k; fed = []; lent = lent } ∷ rs) e
   rule_fresh (Inner j true) h l w = begins_fresh j l w
   rule_fresh (Inner j false) h l w = begins_fresh j l w
   rule_fresh (Done v back) h l w = absurd h
@@ -294,7 +318,7 @@ rule_with s k j rs x fed false (y ∷ ys) e l is w = Falls (rw (e, w) (rw (is, l
 rule_fed : (s : State) (k : Kind) (lent : Bool) (rs : List Reading) (x : Fed) (fed : List Fed) (a : Ask) →
     s.stopped ≡ None → Lower (rank k) a → s.work ≡ record { kind = k; fed = x ∷ fed; lent = lent } ∷ rs →
     Rule s (answered s (record { kind = k; fed = x ∷ fed; lent = lent } ∷ rs) (record { kind = k; fed = x ∷ fed; lent = lent }) a)
-rule_fed s k lent rs x fed (More want) e l w = rule_handed s (wanted (page_of s) want) (record { kind = k; fed = x ∷ fed; lent = lent } ∷ rs) e
+rule_fed s k lent rs x fed (More want) e l w = rule_handed s (enters_names want) (wanted (page_of s) want) (record { kind = k; fed = x ∷ fed; lent = lent } ∷ rs) e
 rule_fed s k lent rs x fed (Inner j true) e l w = rule_with s k j rs x fed lent (last_seen (x ∷ fed)) e l refl w
 rule_fed s k lent rs x fed (Inner j false) e l w = begins_fed s k lent rs e x fed w j
 rule_fed s k lent rs x fed (Done v back) e l w = ends_behind s k lent rs e x fed w _ v (plain_back back (x ∷ fed))
@@ -307,7 +331,7 @@ rule_reading s k lent rs [] e w = rule_fresh s k lent rs e (ask k []) (starts k)
 rule_reading s k lent rs (x ∷ fed) e w = rule_fed s k lent rs x fed (ask k (x ∷ fed)) e (lower k (x ∷ fed)) w
 
 rule_work : (s : State) (work : List Reading) → s.stopped ≡ None → s.work ≡ work → Rule s (planned s work)
-rule_work s [] e w = rule_handed s (stomach (page_of s)) [] e
+rule_work s [] e w = rule_handed s false (stomach (page_of s)) [] e
 rule_work s (r ∷ rs) e w = rule_reading s r.kind r.lent rs r.fed e w
 
 rule_stopped : (s : State) (o : Option Outcome) → s.stopped ≡ o → Rule s (plan s o)

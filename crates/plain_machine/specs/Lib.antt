@@ -1,5 +1,6 @@
 pub mod Plan
 pub mod Runs
+pub mod Bounded
 pub mod Does
 pub mod Meaning
 pub mod Rows

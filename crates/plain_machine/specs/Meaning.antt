@@ -1,14 +1,18 @@
 -- What the program writes and answers, by the plain machine.
 use Rattle.std.specs.Prelude.{◌≡◌, ℕ, ◌≤◌, Bool, true, false, nat_lt, List, [], ◌∷◌, ◌++◌, Option, Some, None, take, length, codes, decimal, ◌⊎◌}
 use Rattle.tex_defs.specs.declared.Fatal.{Fatal}
+use Rattle.tex_defs.specs.declared.Full.{Full}
+use Rattle.tex_defs.specs.declared.Sizes.{Sizes}
+use Rattle.tex_defs.specs.Sizes.{table_name, default_sizes}
 use Rattle.tex_defs.specs.Places.{World, Rose, Transcript, File, Untold, NotHeld, Holds}
 use Rattle.plain_state.specs.Categories.{initial_categories}
 use Rattle.plain_state.specs.States.{State, Move, Written, Outcome, Finished, AtFatal}
 use Rattle.plain_state.specs.Reports.{fresh_line}
 use Rattle.plain_machine.specs.Plan.{first_state}
-use Rattle.plain_machine.specs.Runs.{Trace, NeedsStep, Wrote}
-use Rattle.plain_machine.specs.Does.{Why, IsFault, IsWant, CutAt, MomentWritten}
-use Rattle.command_words.specs.Words.{Command, Init, NoCommand}
+use Rattle.plain_machine.specs.Runs.{Wrote}
+use Rattle.plain_machine.specs.Bounded.{Bounded, End, AtEnd, AtSteps, AtFull}
+use Rattle.plain_machine.specs.Does.{Why, IsFault, IsWant, CutAt}
+use Rattle.command_words.specs.Words.{Command, Options, Init, NoCommand}
 
 -- THE STOP LINES
 
@@ -33,50 +37,52 @@ pub record Line (w w' : World) (line : List ℕ) : Type 0 where
   pub written : Wrote w w' (Written Transcript (take count (fresh_line w.in_line ++ line)) ∷ [])
   pub whole : (length (fresh_line w.in_line ++ line) ≤ count) ⊎ (Rose w.sink_faults w'.sink_faults ⊎ Rose w.sink_wants w'.sink_wants)
 
+abbrev pub full_line : Full → List ℕ
+full_line full = codes "! TeX capacity exceeded, sorry [" ++ (table_name full.table ++ (61 ∷ decimal full.size ++ codes "].\n"))
+
 -- THE RUN
 
 -- INITEX's first state, with the job's file opened where it is held; token lines may be left out
 abbrev pub First : (quiet : Bool) → (file : List ℕ) → (job : Option (List ℕ)) → State
 First quiet file job = first_state initial_categories quiet file job
 
--- The machine's whole run ended so, and all that it writes is written.
-pub record Whole (s : State) (n : ℕ) (w w' : World) (o : Outcome) : Type 0 where
+-- The machine's whole run ended so within the sizes, and all that it writes is written.
+pub record Whole (sizes : Sizes) (s : State) (n : ℕ) (w w' : World) (o : Outcome) : Type 0 where
   pub ms : List Move
   pub t : State
-  pub trace : Trace s n ms t
+  pub run : Bounded sizes s n ms t AtEnd
   pub stopped : t.stopped ≡ Some o
   pub written : Wrote w w' ms
 
 -- It ended at `\\end`, without or with a report before it.
-pub record Ending (s : State) (n : ℕ) (w w' : World) (flawed : Bool) : Type 0 where
-  pub whole : Whole s n w w' Finished
+pub record Ending (sizes : Sizes) (s : State) (n : ℕ) (w w' : World) (flawed : Bool) : Type 0 where
+  pub whole : Whole sizes s n w w' Finished
   pub reports : nat_lt 0 whole.t.reports ≡ flawed
 
 -- It ended at something fatal.
-pub record Fails (s : State) (n : ℕ) (w w' : World) : Type 0 where
+pub record Fails (sizes : Sizes) (s : State) (n : ℕ) (w w' : World) : Type 0 where
   pub fatal : Fatal
-  pub whole : Whole s n w w' (AtFatal fatal)
+  pub whole : Whole sizes s n w w' (AtFatal fatal)
 
--- The machine took n steps and needs one more. All that it writes is written, and then the stop line.
-pub record OutOfSteps (s : State) (n : ℕ) (w w' : World) : Type 0 where
+-- The machine's run within n steps and the sizes came to this end. All that it writes is written, and then a stop line.
+pub record Stops (sizes : Sizes) (s : State) (n : ℕ) (w w' : World) (end : End) (line : List ℕ) : Type 0 where
   pub ms : List Move
   pub t : State
   pub between : World
-  pub trace : Trace s n ms t
-  pub needs : NeedsStep t
+  pub run : Bounded sizes s n ms t end
   pub written : Wrote w between ms
-  pub last : Line between w' (steps_line n)
-
--- A moment of the run is written, of its next move at most a front in that one place, and then a stop line.
-pub record CutShort (s : State) (n : ℕ) (w w' : World) (why : Why) (line : List ℕ) : Type 0 where
-  pub between : World
-  pub cut : CutAt s n w between why
   pub last : Line between w' line
 
--- A moment of the run is written, and then a stop line.
-pub record AtMoment (s : State) (n : ℕ) (w w' : World) (line : List ℕ) : Type 0 where
+-- A table is full.
+pub record OutOfRoom (sizes : Sizes) (s : State) (n : ℕ) (w w' : World) : Type 0 where
+  pub full : Full
+  pub stops : Stops sizes s n w w' (AtFull full) (full_line full)
+
+-- A moment of the run is written, of its next move at most a front in that one place, and then a stop line.
+pub record CutShort (sizes : Sizes) (s : State) (n : ℕ) (w w' : World) (why : Why) (line : List ℕ) : Type 0 where
+  pub t : State
   pub between : World
-  pub moment : MomentWritten s n w between
+  pub cut : CutAt sizes s n t w between why
   pub last : Line between w' line
 
 -- Nothing of the run is written, and then a stop line.
@@ -90,20 +96,22 @@ pub data Status : ℕ → Type 0 where
   IsFinished : Status 0
   IsFlawed : Status 1
   IsFatal : Status 2
+  IsFullTable : Status 3
   IsSteps : Status 4
   IsReadFault : Status 5
   IsWriteFault : Status 6
   IsNoMemory : Status 7
 
--- What a status says of a run from s of at most n steps.
-abbrev pub Says : State → ℕ → World → World → (status : ℕ) → Status status → Type 0
-Says s n w w' _ IsFinished = Ending s n w w' false
-Says s n w w' _ IsFlawed = Ending s n w w' true
-Says s n w w' _ IsFatal = Fails s n w w'
-Says s n w w' _ IsSteps = OutOfSteps s n w w'
-Says s n w w' _ IsReadFault = NotBegun w w' read_fault_line
-Says s n w w' _ IsWriteFault = CutShort s n w w' IsFault write_fault_line
-Says s n w w' _ IsNoMemory = CutShort s n w w' IsWant no_memory_line ⊎ AtMoment s n w w' no_memory_line
+-- What a status says of a run from s of at most n steps within the sizes.
+abbrev pub Says : Sizes → State → ℕ → World → World → (status : ℕ) → Status status → Type 0
+Says sizes s n w w' _ IsFinished = Ending sizes s n w w' false
+Says sizes s n w w' _ IsFlawed = Ending sizes s n w w' true
+Says sizes s n w w' _ IsFatal = Fails sizes s n w w'
+Says sizes s n w w' _ IsFullTable = OutOfRoom sizes s n w w'
+Says sizes s n w w' _ IsSteps = Stops sizes s n w w' AtSteps (steps_line n)
+Says sizes s n w w' _ IsReadFault = NotBegun w w' read_fault_line
+Says sizes s n w w' _ IsWriteFault = CutShort sizes s n w w' IsFault write_fault_line
+Says sizes s n w w' _ IsNoMemory = CutShort sizes s n w w' IsWant no_memory_line ⊎ NotBegun w w' no_memory_line
 
 -- what is told of the job's file may be this
 abbrev pub IsJob : File → Option (List ℕ) → Type 0
@@ -111,12 +119,16 @@ IsJob Untold job = Unit {0}
 IsJob NotHeld job = job ≡ None
 IsJob (Holds bytes) job = job ≡ Some bytes
 
+-- the tables' sizes: those of a run whose words give none, but for the main memory
+abbrev pub sizes_of : Options → Sizes
+sizes_of options = record default_sizes { main_memory_size = options.main_memory_size }
+
 -- The run of a job's file: of a file that is told the machine's run, of another the machine's run over some content.
-pub record MeansRun (quiet : Bool) (name : List ℕ) (file : File) (n : ℕ) (w w' : World) (status : ℕ) : Type 0 where
+pub record MeansRun (sizes : Sizes) (quiet : Bool) (name : List ℕ) (file : File) (n : ℕ) (w w' : World) (status : ℕ) : Type 0 where
   pub job : Option (List ℕ)
   pub is_job : IsJob file job
   pub is : Status status
-  pub says : Says (First quiet name job) n w w' status is
+  pub says : Says sizes (First quiet name job) n w w' status is
 
 -- Words that are no command: the usage line alone.
 pub record MeansUsage (w w' : World) (status : ℕ) : Type 0 where
@@ -130,5 +142,5 @@ pub record MeansNoMemory (w w' : World) (status : ℕ) : Type 0 where
 
 -- What the program writes and answers for its words.
 abbrev pub Means : Command → (List ℕ → File) → World → World → ℕ → Type 0
-Means (Init name options) file w w' status = MeansRun options.quiet name (file name) options.steps w w' status
+Means (Init name options) file w w' status = MeansRun (sizes_of options) options.quiet name (file name) options.steps w w' status
 Means NoCommand file w w' status = MeansUsage w w' status ⊎ MeansNoMemory w w' status

@@ -8,24 +8,27 @@ use Rattle.tex_defs.specs.declared.Seen.{Seen}
 use Rattle.tex_defs.specs.declared.Fatal.TheVariants.{NoEnd, NoFile, HundredErrors}
 use Rattle.tex_defs.specs.Places.{Transcript}
 use Rattle.plain_state.specs.Categories.{end_group}
-use Rattle.plain_state.specs.Names.{seen, name_of, primitive_names, end_primitive, message_primitive, catcode_primitive}
-use Rattle.plain_state.specs.Printed.{initial_style, shown_all}
-use Rattle.plain_state.specs.Reports.{Report, UndefinedName, InvalidCharacter, FileEndedInText, NoSuchFile, fresh_line, report_bytes, hundred_line, emergency, no_end_line, no_file_line, token_line_bytes, runaway_bytes}
+use Rattle.prim_table.specs.Primitives.{primitive_names}
+use Rattle.plain_state.specs.Names.{seen, name_of, end_primitive, message_primitive, catcode_primitive}
+use Rattle.plain_state.specs.Lookup.{token_of, new_name}
+use Rattle.plain_state.specs.Reports.{Report, UndefinedName, InvalidCharacter, FileEndedInText, NoSuchFile, fresh_line, report_bytes, hundred_line, emergency, no_end_line, no_file_line, token_line_bytes, runaway_bytes, message_bytes}
 use Rattle.plain_state.specs.Lex.{NewLine}
-use Rattle.plain_state.specs.Pending.{Pulled, TokenFrom, LineTaken, InvalidMet, FileOver, NothingLeft, Progress, NotBegun, Closed, pulled}
+use Rattle.command_words.specs.Words.{job_name}
+use Rattle.plain_state.specs.Pending.{Pulled, TokenFrom, LexemeFrom, LineTaken, InvalidMet, FileOver, NothingLeft, Progress, NotBegun, Closed, pulled}
 use Rattle.plain_state.specs.Readings.{Kind, Catcode, Message, Text, Want, Raw, Expanded, Nonblank, Effect, SetCategory, Say, Fed, Tok, Val, Told, Flag, Ask, More, Inner, Done, Act, Tells, ask, so_far, is_space, is_undefined}
-use Rattle.plain_state.specs.States.{Reading, Outcome, Finished, AtFatal, Move, Handed, Taken, Skipped, FileClosed, Feeds, Noted, Put, SetCategoryOf, Written, Begun, BegunWith, Ended, Reported, Stopped, State, made, in_line_after}
+use Rattle.plain_state.specs.States.{Reading, Outcome, Finished, AtFatal, Move, Handed, Taken, Settled, Skipped, FileClosed, Entered, Kept, Feeds, Noted, ListBegun, ListGrown, Put, SetCategoryOf, Written, Begun, BegunWith, Ended, Reported, Stopped, State, made, in_line_after}
 
--- What the texts of a rule depend on: whether the transcript's column isn't 0, the number of the line that is read,
--- the reports so far, and whether token lines are left out.
+-- What the texts of a rule depend on: the names entered, whether the transcript's column isn't 0, the number of the line
+-- that is read, the reports so far, and whether token lines are left out.
 pub record Page : Type 0 where
+  pub names : List (List ℕ)
   pub in_line : Bool
   pub line : ℕ
   pub reports : ℕ
   pub quiet : Bool
 
 abbrev pub page_of : State → Page
-page_of s = record { in_line = s.in_line; line = s.pending.number; reports = s.reports; quiet = s.quiet }
+page_of s = record { names = s.names; in_line = s.in_line; line = s.pending.number; reports = s.reports; quiet = s.quiet }
 
 -- `\end`: the run ends on a fresh line
 abbrev pub finish : Bool → List Move
@@ -46,11 +49,11 @@ behind_report reports rest =
 
 -- a report, and the moves behind it
 abbrev pub reported : Page → Report → List Move → List Move
-reported page report rest = Written Transcript (report_bytes page.in_line page.line report) ∷ Reported ∷ behind_report page.reports rest
+reported page report rest = Written Transcript (report_bytes page.names page.in_line page.line report) ∷ Reported ∷ behind_report page.reports rest
 
 -- a token that only typesetting would use
 abbrev pub token_line : Page → Meaning Unit → List Move
-token_line page m = if page.quiet then [] else Written Transcript (token_line_bytes page.in_line m) ∷ []
+token_line page m = if page.quiet then [] else Written Transcript (token_line_bytes page.names page.in_line m) ∷ []
 
 abbrev pub primitive : Page → Token → ℕ → List Move
 primitive page t number =
@@ -82,17 +85,21 @@ right_brace = token.Char end_group 125
 
 -- where the file has ended
 abbrev pub without_file : Page → Page
-without_file page = record { in_line = page.in_line; line = 0; reports = page.reports; quiet = page.quiet }
+without_file page = record { names = page.names; in_line = page.in_line; line = 0; reports = page.reports; quiet = page.quiet }
 
 -- behind a text
 abbrev pub page_behind : Page → List ℕ → Page
-page_behind page text = record { in_line = in_line_after page.in_line text; line = page.line; reports = page.reports; quiet = page.quiet }
+page_behind page text = record { names = page.names; in_line = in_line_after page.in_line text; line = page.line; reports = page.reports; quiet = page.quiet }
+
+-- a token put in front: the list of it is begun, grown and put, once the finished lists in front have gone
+abbrev pub put_one : Token → List Move
+put_one t = Settled ∷ ListBegun ∷ ListGrown t ∷ Put (t ∷ []) ∷ []
 
 -- A text runs away: the list so far is shown, `}` inserted, and the report comes.
 abbrev pub ran_away : List ℕ → Page → Report → List Token → List Move
 ran_away categories page report list =
-    Written Transcript (runaway_bytes categories page.in_line list) ∷ Put (right_brace ∷ [])
-    ∷ reported (page_behind page (runaway_bytes categories page.in_line list)) report []
+    Written Transcript (runaway_bytes categories page.names page.in_line list)
+    ∷ (put_one right_brace ++ reported (page_behind page (runaway_bytes categories page.names page.in_line list)) report [])
 
 -- the check where a file has ended while a reading goes on
 abbrev pub checked_reading : List ℕ → Page → Reading → Kind → List Move
@@ -103,21 +110,30 @@ abbrev pub checked : List ℕ → Page → List Reading → List Move
 checked categories page [] = []
 checked categories page (r ∷ rs) = checked_reading categories page r r.kind
 
--- the next token or line, and what is made of the token
-abbrev pub handed : Page → (Seen → List Move) → List Move → Pulled → List Move
-handed page onward check (TokenFrom t p) = Handed t ∷ onward (seen t)
-handed page onward check (LineTaken line p) = Taken line ∷ []
-handed page onward check (InvalidMet p) = Skipped ∷ reported page InvalidCharacter []
-handed page onward check (FileOver p) = FileClosed ∷ check
-handed page onward check NothingLeft = no_end page.in_line
+-- names that join those that are entered
+abbrev pub entered : List (List ℕ) → List Move
+entered [] = []
+entered (name ∷ names) = Entered name ∷ []
 
--- A message: a space where the column isn't 0, and the list shown.
-abbrev pub message_text : List ℕ → Bool → List Token → List ℕ
-message_text categories in_line ts = (if in_line then 32 ∷ [] else []) ++ shown_all (initial_style categories) ts
+-- The next token or line, and what is made of the token. A reading that enters names enters a new one behind the step.
+abbrev pub handed : Page → (enters : Bool) → (Seen → List Move) → List Move → Pulled → List Move
+handed page enters onward check (TokenFrom t p) = Settled ∷ Handed t ∷ onward (seen t)
+handed page enters onward check (LexemeFrom x p) =
+    Settled ∷ Handed (token_of enters page.names x) ∷ (entered (new_name enters page.names x) ++ onward (seen (token_of enters page.names x)))
+handed page enters onward check (LineTaken line p) = Settled ∷ Taken line ∷ []
+handed page enters onward check (InvalidMet p) = Settled ∷ Skipped ∷ reported page InvalidCharacter []
+handed page enters onward check (FileOver p) = Settled ∷ FileClosed ∷ check
+handed page enters onward check NothingLeft = Settled ∷ no_end page.in_line
+
+-- a raw reading enters names
+abbrev pub enters_names : Want → Bool
+enters_names Raw = true
+enters_names Expanded = false
+enters_names Nonblank = false
 
 abbrev pub effect : State → Effect → List Move
 effect s (SetCategory code category) = SetCategoryOf code category ∷ []
-effect s (Say ts) = Written Transcript (message_text s.categories s.in_line ts) ∷ []
+effect s (Say ts) = Written Transcript (message_bytes s.categories s.names s.in_line ts) ∷ []
 
 -- the last token that a reading was fed with, where it comes last
 abbrev pub last_seen : List Fed → List Seen
@@ -136,7 +152,7 @@ is_told (x ∷ y ∷ fed) = is_told (y ∷ fed)
 
 abbrev pub put_all : List Seen → List Move
 put_all [] = []
-put_all (x ∷ xs) = Put (x.token ∷ []) ∷ []
+put_all (x ∷ xs) = put_one x.token
 
 -- the token looked at is put back, a list of one token
 abbrev pub given_back : Bool → List Fed → List Move
@@ -158,14 +174,14 @@ told page report back fed =
 
 -- what comes of an answer
 abbrev pub answered : State → List Reading → Reading → Ask → List Move
-answered s work r (More want) = handed (page_of s) (wanted (page_of s) want) (checked s.categories (without_file (page_of s)) work) (pulled primitive_names s.categories s.pending)
+answered s work r (More want) = handed (page_of s) (enters_names want) (wanted (page_of s) want) (checked s.categories (without_file (page_of s)) work) (pulled s.categories s.pending)
 answered s work r (Inner k begins) = begun k begins r
 answered s work r (Done v back) = given_back back r.fed ++ Ended v ∷ []
 answered s work r (Act e) = effect s e ++ Ended (Flag true) ∷ []
 answered s work r (Tells report back) = told (page_of s) report back r.fed
 
 abbrev pub planned : State → List Reading → List Move
-planned s [] = handed (page_of s) (stomach (page_of s)) [] (pulled primitive_names s.categories s.pending)
+planned s [] = handed (page_of s) false (stomach (page_of s)) [] (pulled s.categories s.pending)
 planned s (r ∷ rs) = answered s (r ∷ rs) r (ask r.kind r.fed)
 
 -- the moves of the next rule
@@ -197,23 +213,30 @@ file_opened (Some bytes) = bytes
 -- a job whose file isn't held
 abbrev pub no_file : List ℕ → List Move
 no_file file =
-    Written Transcript (report_bytes false 0 (NoSuchFile file)) ∷ Reported
+    Written Transcript (report_bytes primitive_names false 0 (NoSuchFile file)) ∷ Reported
     ∷ Written Transcript (emergency ++ no_file_line) ∷ Stopped (AtFatal NoFile) ∷ []
 
+abbrev pub file_missing : List ℕ → Option (List ℕ) → List Move
+file_missing file None = no_file file
+file_missing file (Some bytes) = []
+
+-- the job's name is kept, and then its file opened
 abbrev pub job_due : List ℕ → Option (List ℕ) → List Move
-job_due file None = no_file file
-job_due file (Some bytes) = []
+job_due file job = Kept (job_name file) ∷ file_missing file job
 
 abbrev pub job_progress : Option (List ℕ) → Progress
 job_progress None = Closed
 job_progress (Some bytes) = NotBegun
 
--- where the job of a file begins, which has these bytes, if it is held
+-- where the job of a file begins, which has these bytes, if it is held: the primitives' names are entered
 abbrev pub first_state : List ℕ → Bool → List ℕ → Option (List ℕ) → State
 first_state categories quiet file job = record {
-  pending = record { front = []; line = []; lex = NewLine; rest = file_opened job; file = job_progress job; number = 0 };
+  pending = record { puts = []; line = []; lex = NewLine; rest = file_opened job; file = job_progress job; number = 0 };
   categories = categories;
+  names = primitive_names;
+  strings = [];
   work = [];
+  making = None;
   in_line = false;
   reports = 0;
   quiet = quiet;

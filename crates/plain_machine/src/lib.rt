@@ -6,8 +6,11 @@
 ghost use Rattle.std.specs.Prelude.{codes, ◌++◌, ◌∷◌, []};
 ghost use Rattle.tex_defs.specs.declared.Fatal.TheVariants.{NoEnd};
 ghost use Rattle.plain_state.specs.States.{Finished, AtFatal};
-ghost use Rattle.plain_machine.specs.Rows.{Writes, Runs as RunsSo, first_line_usual};
+ghost use Rattle.tex_defs.specs.declared.Table.TheVariants.{PoolSize, NumberOfStrings, HashSize, MainMemorySize, InputStackSize, BufferSize, ExpansionDepth};
+ghost use Rattle.tex_defs.specs.Sizes.{default_sizes};
+ghost use Rattle.plain_machine.specs.Rows.{Writes, Runs as RunsSo, Enters, Fills, Fits, first_line_usual};
 ghost use Rattle.plain_machine.specs.Runs.{RunsAreOne, EachHasRun, SumsOfSteps};
+ghost use Rattle.plain_machine.specs.Bounded.{BoundedRunsAreOne, EachHasBounded, BoundedIsFront};
 
 /// Two runs of one state with one bound are equal: their moves, and the state to which they lead.
 pub fn runs_are_one()
@@ -22,6 +25,22 @@ pub fn each_has_run()
 /// A run within j + k steps is a run within j steps, and then one within k steps from where it led.
 pub fn sums_of_steps()
     ensures { SumsOfSteps }
+{}
+
+/// Two runs of one state with one bound, within the same sizes, are equal and come to the same end.
+pub fn bounded_runs_are_one()
+    ensures { BoundedRunsAreOne }
+{}
+
+/// Each state has a run within each bound and sizes: to its end, to where it needs one step more, or to the first move
+/// for which a table has no room.
+pub fn each_has_bounded_run()
+    ensures { EachHasBounded }
+{}
+
+/// A run within sizes makes the first moves of the machine's run, and all of them where no table was full.
+pub fn bounded_runs_are_fronts()
+    ensures { BoundedIsFront }
 {}
 
 /// The machine run on small files: what it writes, the steps it takes, and how it ends.
@@ -49,7 +68,32 @@ pub fn worked_rows()
     ensures brace_missing { Writes (first_line_usual ++ codes "\\message x}\\end") (codes "! Missing { inserted.\nl.2\nx\n") Finished }
     ensures run_away { Writes (first_line_usual ++ codes "\\message{hi") (codes "Runaway text?\nhi \n! File ended while scanning text of \\message.\nl.0\nhi \n! Emergency stop.\n*** (job aborted, no legal \\end found)\n") (AtFatal NoEnd) }
     ensures improper { Writes (codes "\\catcode`\\foo 5 \\end") (codes "! Improper alphabetic constant.\nl.1\n! Undefined control sequence.\nl.1\n") Finished }
+    ensures improper_again { Writes (codes "\\catcode`\\foo 5 \\foo\\end") (codes "! Improper alphabetic constant.\nl.1\n! Undefined control sequence.\nl.1\n! Undefined control sequence.\nl.1\n") Finished }
+    ensures entered_raw { Enters (codes "\\catcode`\\foo 5 \\foo\\end") (codes "foo" ∷ []) }
+    ensures not_entered { Enters (codes "\\foo\\catcode`\\x\\bar=5 \\end") [] }
+    ensures entered_once { Enters (codes "\\catcode`\\foo 5 \\catcode`\\bar\\catcode`\\foo 5 \\end") (codes "foo" ∷ codes "bar" ∷ []) }
     ensures missing { Writes (codes "\\catcode`\\x=\\end\\end") (codes "! Missing number, treated as zero.\nl.1\n") Finished }
     ensures hats { Writes (first_line_usual ++ codes "\\message{^^41^^4a}\\end") (codes "AJ\n") Finished }
     ensures no_category { Writes (codes "\\catcode`\\x=16 ") (codes "! Invalid code (16), should be in the range 0..15.\nl.1\n! Emergency stop.\n*** (job aborted, no legal \\end found)\n") (AtFatal NoEnd) }
+{}
+
+/// Small files within small sizes: the first table that is full, what is used of it, and its size.
+pub fn worked_refusals()
+    ensures fits { Fits default_sizes (first_line_usual ++ codes "\\message{hi}\\catcode`\\foo 5 \\end") }
+    ensures pool { Fills (record default_sizes { pool_size = 1691 }) (codes "\\catcode`\\foo 5 \\end") (record { table = PoolSize; used = 1689; size = 1691 }) }
+    ensures pool_fits { Fits (record default_sizes { pool_size = 1692 }) (codes "\\catcode`\\foo 5 \\end") }
+    ensures strings { Fills (record default_sizes { number_of_strings = 187 }) (codes "\\catcode`\\foo 5 \\end") (record { table = NumberOfStrings; used = 187; size = 187 }) }
+    ensures hash { Fills (record default_sizes { hash_size = 186 }) (codes "\\catcode`\\foo 5 \\end") (record { table = HashSize; used = 186; size = 186 }) }
+    ensures hash_fits { Fits (record default_sizes { hash_size = 186 }) (codes "\\foo\\end") }
+    ensures buffer { Fills (record default_sizes { buffer_size = 6 }) (codes "\\end  ") (record { table = BufferSize; used = 0; size = 6 }) }
+    ensures buffer_fits { Fits (record default_sizes { buffer_size = 7 }) (codes "\\end  ") }
+    ensures file_level { Fills (record default_sizes { input_stack_size = 0 }) (codes "\\end") (record { table = InputStackSize; used = 0; size = 0 }) }
+    ensures put_level { Fills (record default_sizes { input_stack_size = 1 }) (codes "\\catcode`\\x=1\\end") (record { table = InputStackSize; used = 1; size = 1 }) }
+    ensures finished_level { Fits (record default_sizes { input_stack_size = 2 }) (codes "\\catcode`\\x=1\\catcode`\\y=1\\end") }
+    ensures depth { Fills (record default_sizes { expansion_depth = 1 }) (codes "\\catcode`\\x=1 \\end") (record { table = ExpansionDepth; used = 1; size = 1 }) }
+    ensures text_list { Fills (record default_sizes { main_memory_size = 3 }) (first_line_usual ++ codes "\\message{abc}\\end") (record { table = MainMemorySize; used = 3; size = 3 }) }
+    ensures text_fits { Fits (record default_sizes { main_memory_size = 4 }) (first_line_usual ++ codes "\\message{abc}\\message{abc}\\end") }
+    ensures put_list { Fills (record default_sizes { main_memory_size = 1 }) (codes "\\catcode`\\x=1\\end") (record { table = MainMemorySize; used = 1; size = 1 }) }
+    ensures put_again { Fits (record default_sizes { main_memory_size = 2 }) (codes "\\catcode`\\x\\end\\end") }
+    ensures finished_list { Fits (record default_sizes { main_memory_size = 2 }) (codes "\\catcode`\\x=1\\catcode`\\y=1\\end") }
 {}

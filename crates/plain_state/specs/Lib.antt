@@ -9,6 +9,7 @@ pub mod Pending
 pub mod Reports
 pub mod Readings
 pub mod States
+pub mod Tables
 pub mod LineLaws
 pub mod LexLaws
 pub mod LookupLaws

@@ -1,5 +1,5 @@
 -- The names that mean something, and what tokens mean.
-use Rattle.std.specs.Prelude.{ℕ, ◌==◌, Bool, true, List, [], ◌∷◌, codes, if◌then◌else◌}
+use Rattle.std.specs.Prelude.{ℕ, ◌==◌, Bool, true, if◌then◌else◌}
 use Rattle.tex_defs.specs.declared.Token.{Token}
 use Rattle.tex_defs.specs.declared.Token.TheVariants as token
 use Rattle.tex_defs.specs.declared.Name.{Name}
@@ -22,17 +22,7 @@ message_primitive = 9
 abbrev pub catcode_primitive : ℕ
 catcode_primitive = 35
 
--- the names entered: the first of the primitives, in the order of their numbers
-unfoldable pub primitive_names : List (List ℕ)
-primitive_names =
-    codes "relax" ∷ codes "begingroup" ∷ codes "endgroup" ∷ codes "endcsname" ∷ codes "par" ∷ codes "end" ∷
-    codes "dump" ∷ codes "ignorespaces" ∷ codes "message" ∷ codes "errmessage" ∷ codes "show" ∷
-    codes "showthe" ∷ codes "uppercase" ∷ codes "lowercase" ∷ codes "aftergroup" ∷
-    codes "afterassignment" ∷ codes "immediate" ∷ codes "write" ∷ codes "openout" ∷ codes "closeout" ∷
-    codes "openin" ∷ codes "closein" ∷ codes "long" ∷ codes "outer" ∷ codes "global" ∷ codes "def" ∷
-    codes "gdef" ∷ codes "edef" ∷ codes "xdef" ∷ codes "let" ∷ codes "futurelet" ∷ codes "advance" ∷
-    codes "multiply" ∷ codes "divide" ∷ codes "catcode" ∷ []
-
+-- the primitives that mean something already
 abbrev pub is_primitive : ℕ → Bool
 is_primitive number = if number == par_primitive then true else if number == end_primitive then true else if number == message_primitive then true else number == catcode_primitive
 

@@ -17,7 +17,6 @@ use Rattle.tex_defs.specs.declared.Meaning.TheVariants as means
 use Rattle.prim_table.specs.Primitives.{primitive_name}
 use Rattle.plain_state.specs.Categories.{begin_group, end_group, parameter, space, letter, is_between}
 use Rattle.plain_state.specs.Numerals.{hexadecimal}
-use Rattle.plain_state.specs.Names.{primitive_names}
 
 -- What printed text depends on: the values of `\escapechar` and `\newlinechar`, the category codes of the characters 0 to 255,
 -- and the names of two or more characters in the order in which they were entered, number 1 first.
@@ -27,9 +26,9 @@ pub record Style : Type 0 where
   pub categories : List ℕ
   pub names : List (List ℕ)
 
--- INITEX's style, but for the category codes: `\escapechar` is a backslash, `\newlinechar` 0, and the names are those of primitives.
-abbrev pub initial_style : List ℕ → Style
-initial_style categories = record { escape = pos 92; newline = pos 0; categories = categories; names = primitive_names }
+-- INITEX's style, but for the category codes and the names: `\escapechar` is a backslash, `\newlinechar` 0.
+abbrev pub initial_style : List ℕ → List (List ℕ) → Style
+initial_style categories names = record { escape = pos 92; newline = pos 0; categories = categories; names = names }
 
 -- whether a parameter's value is the code of this character
 abbrev pub is_code : ℤ → ℕ → Bool

@@ -1,5 +1,5 @@
 -- The readings: what each asks for after all that it was fed with.
-use Rattle.std.specs.Prelude.{ℕ, ℤ, pos, negsuc, ◌-ℤ◌, ◌+◌, ◌-◌, ◌*◌, Bool, List, [], ◌∷◌, ◌==◌, true, false, not, if◌then◌else◌, ◌&&◌, ◌||◌, nat_le, Option, Some, None}
+use Rattle.std.specs.Prelude.{ℕ, ℤ, pos, negsuc, ◌-ℤ◌, ◌+◌, ◌-◌, ◌*◌, Bool, List, [], ◌∷◌, ◌++◌, ◌==◌, true, false, not, if◌then◌else◌, ◌&&◌, ◌||◌, nat_le, Option, Some, None}
 use Rattle.tex_defs.specs.declared.Token.{Token}
 use Rattle.tex_defs.specs.declared.Token.TheVariants as token
 use Rattle.tex_defs.specs.declared.Name.{Name}
@@ -234,10 +234,15 @@ tokens_of [] = []
 tokens_of (Tok x ∷ fed) = x.token ∷ tokens_of fed
 tokens_of (x ∷ fed) = tokens_of fed
 
--- the list built so far of a text that isn't closed
+-- the list that closed, or else all tokens so far
+abbrev pub closed_or : Option (List Token) → List Token → List Token
+closed_or None ts = ts
+closed_or (Some closed) ts = closed
+
+-- the list that a text has built: the tokens behind its first brace, without the brace that closes it
 abbrev pub text_so_far : List Fed → List Token
 text_so_far [] = []
-text_so_far (x ∷ fed) = tokens_of fed
+text_so_far (x ∷ fed) = closed_or (closes_at 0 fed) (tokens_of fed)
 
 -- COMMANDS
 
@@ -304,10 +309,35 @@ ask (Message name) fed = message name fed
 ask Integer fed = integer false fed
 ask (Text name) fed = text fed
 
+-- LISTS
+
 -- the list that it has built so far
 abbrev pub so_far : Kind → List Fed → List Token
 so_far (Text name) fed = text_so_far fed
 so_far k fed = []
+
+-- a value's list; one without tokens is none
+abbrev pub list_of_tokens : List Token → List (List Token)
+list_of_tokens [] = []
+list_of_tokens (t ∷ ts) = (t ∷ ts) ∷ []
+
+abbrev pub value_lists : Value → List (List Token)
+value_lists (Toks ts) = list_of_tokens ts
+value_lists v = []
+
+abbrev pub fed_lists : List Fed → List (List Token)
+fed_lists [] = []
+fed_lists (Val v ∷ fed) = value_lists v ++ fed_lists fed
+fed_lists (x ∷ fed) = fed_lists fed
+
+-- the list that it builds, which is begun with the reading
+abbrev pub own_lists : Kind → List Fed → List (List Token)
+own_lists (Text name) fed = text_so_far fed ∷ []
+own_lists k fed = []
+
+-- The lists that a reading holds: the one that it builds, and those of the inner values that it was fed with.
+abbrev pub gathered_by : Kind → List Fed → List (List Token)
+gathered_by k fed = own_lists k fed ++ fed_lists fed
 
 -- A reading begins only readings of a lower rank before a token comes.
 abbrev pub rank : Kind → ℕ

@@ -4,7 +4,7 @@ use Rattle.std.specs.Fmt.{signed_decimal}
 use Rattle.tex_defs.specs.declared.Token.{Token}
 use Rattle.tex_defs.specs.declared.Name.{Name}
 use Rattle.tex_defs.specs.declared.Meaning.{Meaning}
-use Rattle.plain_state.specs.Printed.{Style, initial_style, printed_all, name_text, meaning_head, runaway_list}
+use Rattle.plain_state.specs.Printed.{Style, initial_style, printed_all, name_text, meaning_head, runaway_list, shown_all}
 
 -- what is reported
 pub data Report : Type 0 where
@@ -22,28 +22,29 @@ pub data Report : Type 0 where
   NoSuchFile : (file : List ℕ) → Report
 
 -- the style of a text that depends on no category code, as that of a name or a meaning does
-abbrev pub plain_style : Style
-plain_style = initial_style []
+abbrev pub plain_style : List (List ℕ) → Style
+plain_style names = initial_style [] names
 
-abbrev pub report_text : Report → List ℕ
-report_text UndefinedName = codes "Undefined control sequence"
-report_text InvalidCharacter = codes "Text line contains an invalid character"
-report_text ImproperConstant = codes "Improper alphabetic constant"
-report_text MissingNumber = codes "Missing number, treated as zero"
-report_text NumberTooBig = codes "Number too big"
-report_text (BadCharacterCode n) = codes "Bad character code (" ++ (signed_decimal n ++ codes ")")
-report_text (InvalidCode n greatest) = codes "Invalid code (" ++ (signed_decimal n ++ (codes "), should be in the range 0.." ++ decimal greatest))
-report_text MissingBrace = codes "Missing { inserted"
-report_text (FileEndedInText name) = codes "File ended while scanning text of " ++ printed_all plain_style (name_text plain_style name)
-report_text (NoSuchFile file) = codes "I can't find file `" ++ (printed_all plain_style file ++ codes "'")
+-- a report's text, where these names are entered
+abbrev pub report_text : List (List ℕ) → Report → List ℕ
+report_text names UndefinedName = codes "Undefined control sequence"
+report_text names InvalidCharacter = codes "Text line contains an invalid character"
+report_text names ImproperConstant = codes "Improper alphabetic constant"
+report_text names MissingNumber = codes "Missing number, treated as zero"
+report_text names NumberTooBig = codes "Number too big"
+report_text names (BadCharacterCode n) = codes "Bad character code (" ++ (signed_decimal n ++ codes ")")
+report_text names (InvalidCode n greatest) = codes "Invalid code (" ++ (signed_decimal n ++ (codes "), should be in the range 0.." ++ decimal greatest))
+report_text names MissingBrace = codes "Missing { inserted"
+report_text names (FileEndedInText name) = codes "File ended while scanning text of " ++ printed_all (plain_style names) (name_text (plain_style names) name)
+report_text names (NoSuchFile file) = codes "I can't find file `" ++ (printed_all (plain_style names) file ++ codes "'")
 
 -- a line feed, where the column isn't 0
 abbrev pub fresh_line : Bool → List ℕ
 fresh_line in_line = if in_line then 10 ∷ [] else []
 
 -- A report on a fresh line, and then the number of the line that is being read.
-abbrev pub report_bytes : Bool → ℕ → Report → List ℕ
-report_bytes in_line line report = fresh_line in_line ++ (codes "! " ++ (report_text report ++ (codes ".\nl." ++ (decimal line ++ 10 ∷ []))))
+abbrev pub report_bytes : List (List ℕ) → Bool → ℕ → Report → List ℕ
+report_bytes names in_line line report = fresh_line in_line ++ (codes "! " ++ (report_text names report ++ (codes ".\nl." ++ (decimal line ++ 10 ∷ []))))
 
 -- behind the hundredth report
 abbrev pub hundred_line : List ℕ
@@ -59,9 +60,13 @@ abbrev pub no_file_line : List ℕ
 no_file_line = codes "*** (job aborted, file error in nonstop mode)\n"
 
 -- the line for a token that only typesetting would use
-abbrev pub token_line_bytes : Bool → Meaning Unit → List ℕ
-token_line_bytes in_line m = fresh_line in_line ++ (123 ∷ printed_all plain_style (meaning_head plain_style m) ++ (125 ∷ 10 ∷ []))
+abbrev pub token_line_bytes : List (List ℕ) → Bool → Meaning Unit → List ℕ
+token_line_bytes names in_line m = fresh_line in_line ++ (123 ∷ printed_all (plain_style names) (meaning_head (plain_style names) m) ++ (125 ∷ 10 ∷ []))
 
 -- the list built so far, where a text runs away
-abbrev pub runaway_bytes : List ℕ → Bool → List Token → List ℕ
-runaway_bytes categories in_line ts = fresh_line in_line ++ (codes "Runaway text?\n" ++ runaway_list (initial_style categories) ts)
+abbrev pub runaway_bytes : List ℕ → List (List ℕ) → Bool → List Token → List ℕ
+runaway_bytes categories names in_line ts = fresh_line in_line ++ (codes "Runaway text?\n" ++ runaway_list (initial_style categories names) ts)
+
+-- A message: a space where the column isn't 0, and the list shown.
+abbrev pub message_bytes : List ℕ → List (List ℕ) → Bool → List Token → List ℕ
+message_bytes categories names in_line ts = (if in_line then 32 ∷ [] else []) ++ shown_all (initial_style categories names) ts

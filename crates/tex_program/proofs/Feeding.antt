@@ -1,18 +1,33 @@
 -- A reading that is fed goes on.
-use Rattle.std.proofs.Common.{◌≡◌, false, List, [], ◌∷◌, ◌++◌, refl, sym, ap, ◌∙◌, append_assoc, subst, reverse}
-use Rattle.std.specs.Prelude.{Option, Some, None}
-use Rattle.std.proofs.lemmas.List.{reverse-append}
+use Rattle.std.proofs.Common.{◌≡◌, Bool, true, false, List, [], ◌∷◌, ◌++◌, refl, sym, ap, ◌∙◌, append_assoc, subst, reverse, arith}
+use Rattle.std.specs.Prelude.{Option, Some, None, option_to_list}
+use Rattle.std.proofs.lemmas.List.{append-nil, reverse-append}
 use Rattle.tex_defs.specs.declared.Seen.{Seen}
-use Rattle.plain_state.specs.Readings.{Fed, Tok, Val, Told, Value}
+use Rattle.tex_defs.specs.declared.Token.{Token}
+use Rattle.tex_defs.specs.declared.Name.{Name}
+use Rattle.tex_defs.specs.declared.Sizes.{Sizes}
+use Rattle.plain_state.specs.Readings.{Fed, Tok, Val, Told, Value, gathered_by, own_lists, fed_lists}
 use Rattle.plain_state.specs.Readings as reading
 use Rattle.plain_state.specs.States.{Reading, fed_with, fresh}
 use Rattle.plain_machine.specs.Plan.{last_seen, is_told}
-use Rattle.tex_program.specs.declared.scan.Ask.{Ask}
-use Rattle.tex_program.specs.declared.scan.Ask.TheVariants.{More, Inner, Done, Act, Tells}
-use Rattle.tex_program.specs.declared.frame.Frame.{Frame}
-use Rattle.tex_program.specs.Sees.{ask_of}
-use Rattle.tex_program.specs.Resumes.{resume, frame_list, frame_kind, IsOpen, IsUntold, IsBack, GivesBack, IsNone, GivesNone}
-use Rattle.tex_program.specs.Stands.{FrameStands, Innermost, FramesStand, WorkStands, WaitStands, IsLast, GivesLast, TellsOnce}
+use Rattle.frames.specs.declared.scan.Ask.{Ask}
+use Rattle.frames.specs.declared.scan.Ask.TheVariants.{More, Inner, Done, Act, Tells}
+use Rattle.frames.specs.declared.frame.Frame.{Frame}
+use Rattle.frames.specs.declared.frame.Frame.TheVariants.{Waits, Integer, Text}
+use Rattle.frames.specs.declared.frame.Waiting.{Waiting}
+use Rattle.frames.specs.declared.frame.Waiting.TheVariants.{Catcode, Message}
+use Rattle.frames.specs.declared.scan.Value.TheVariants as values
+use Rattle.frames.specs.declared.scan.Value.{Value as EngineValue}
+use Rattle.frames.specs.declared.text.TextScan.{TextScan}
+use Rattle.frames.specs.Sees.{ask_of, value_of, first_list}
+use Rattle.frames.specs.Texts.{text_list}
+use Rattle.frames.specs.Resumes.{resume, resume_waiting, frame_list, frame_kind, frame_grows, lists_after, IsOpen, IsUntold, IsBack, GivesBack, IsNone, GivesNone, InnerWaits, Builds, IsShallow, Owns, MayFeed, waiting_kind}
+use Rattle.frames.specs.Stack.{Stack}
+use Rattle.name_table.specs.Strings.{Strings}
+use Rattle.tex_program.specs.declared.engine.Engine.{Engine}
+use Rattle.tex_program.specs.Stands.{Stands, WaitsWith, Waits as WaitsFor, WaitStands, WorkStands, OuterStand, WaitingStands, EndsHere, FrameStands, Innermost, FedFrame, IsSized, SameState, IsLast, GivesLast, TellsOnce, AtMostOne, kept_lists}
+
+-- THE LAST OF WHAT IT WAS FED WITH
 
 last_is : (fed : List Fed) (x : Seen) → last_seen (fed ++ Tok x ∷ []) ≡ x ∷ []
 last_is [] x = refl
@@ -25,9 +40,9 @@ back_last : (b : Option Seen) (fed : List Fed) (x : Seen) → IsBack b x → IsL
 back_last None fed x h = tt
 back_last (Some b) fed x h = last_is fed x ∙ ap (λ (y : Seen). y ∷ []) (sym h)
 
-gives_last : (a : Ask) (fed : List Fed) (x : Seen) → GivesBack a x → GivesLast a (fed ++ Tok x ∷ [])
+pub gives_last : (a : Ask) (fed : List Fed) (x : Seen) → GivesBack a x → GivesLast a (fed ++ Tok x ∷ [])
 gives_last (More want) fed x h = tt
-gives_last (Inner kind begins) fed x h = back_last begins fed x h
+gives_last (Inner waits kind begins) fed x h = back_last begins fed x h
 gives_last (Done v back) fed x h = back_last back fed x h
 gives_last (Act e) fed x h = tt
 gives_last (Tells report back) fed x h = back_last back fed x h
@@ -36,9 +51,9 @@ none_last : (b : Option Seen) (fed : List Fed) → IsNone b → IsLast b fed
 none_last None fed h = tt
 none_last (Some b) fed h = absurd h
 
-gives_none : (a : Ask) (fed : List Fed) → GivesNone a → GivesLast a fed
+pub gives_none : (a : Ask) (fed : List Fed) → GivesNone a → GivesLast a fed
 gives_none (More want) fed h = tt
-gives_none (Inner kind begins) fed h = none_last begins fed h
+gives_none (Inner waits kind begins) fed h = none_last begins fed h
 gives_none (Done v back) fed h = none_last back fed h
 gives_none (Act e) fed h = tt
 gives_none (Tells report back) fed h = none_last back fed h
@@ -59,90 +74,365 @@ untold_val (y ∷ z ∷ fed) v = untold_val (z ∷ fed) v
 
 once_at : (a : Ask) (fed : List Fed) → is_told fed ≡ false → TellsOnce a fed
 once_at (More want) fed h = tt
-once_at (Inner kind begins) fed h = tt
+once_at (Inner waits kind begins) fed h = tt
 once_at (Done v back) fed h = tt
 once_at (Act e) fed h = tt
 once_at (Tells report back) fed h = h
 
-once_untold : (a : Ask) (fed : List Fed) → IsUntold a → TellsOnce a fed
+pub once_tok : (a : Ask) (fed : List Fed) (x : Seen) → TellsOnce a (fed ++ Tok x ∷ [])
+once_tok a fed x = once_at a (fed ++ Tok x ∷ []) (untold_tok fed x)
+
+pub once_val : (a : Ask) (fed : List Fed) (v : Value) → TellsOnce a (fed ++ Val v ∷ [])
+once_val a fed v = once_at a (fed ++ Val v ∷ []) (untold_val fed v)
+
+pub once_untold : (a : Ask) (fed : List Fed) → IsUntold a → TellsOnce a fed
 once_untold (More want) fed h = tt
-once_untold (Inner kind begins) fed h = tt
+once_untold (Inner waits kind begins) fed h = tt
 once_untold (Done v back) fed h = tt
 once_untold (Act e) fed h = tt
 once_untold (Tells report back) fed h = absurd h
 
--- a frame that is fed with x goes on as this one
-pub record GoesOn (a : Ask) (frame frame' : Frame) (x : Fed) : Type 0 where
-  pub answer : ask_of a ≡ resume frame (x ∷ [])
-  pub goes_on : IsOpen a → (fed : List Fed) → resume frame (x ∷ fed) ≡ resume frame' fed
-  pub list : IsOpen a → (fed : List Fed) → frame_list frame (x ∷ fed) ≡ frame_list frame' fed
-  pub kind : frame_kind frame' ≡ frame_kind frame
+-- THE LISTS THAT IT HOLDS
 
-inner_on : (a' : Ask) (frame frame' : Frame) (x : Fed) (r : Reading) → FrameStands frame r → GoesOn a' frame frame' x → GivesLast a' (r.fed ++ x ∷ []) → TellsOnce a' (r.fed ++ x ∷ []) →
-    Innermost a' frame' (record { kind = r.kind; fed = r.fed ++ x ∷ []; lent = false })
-inner_on a' frame frame' x r below g last once = record {
-  asked = g.answer ∙ sym (below.goes_on (x ∷ []));
-  open_frame = λ o. record {
-    goes_on = λ fed. rw append_assoc (below.goes_on (x ∷ fed) ∙ g.goes_on o fed);
-    list = λ fed. rw append_assoc (below.list (x ∷ fed) ∙ g.list o fed);
-    kind = below.kind ∙ sym g.kind;
-  };
-  last = last;
-  once = once;
-  not_lent = refl;
+-- a reading of this kind holds the list that it builds, and else none
+abbrev pub OwnedBy : reading.Kind → List (List Token) → Type 0
+OwnedBy (reading.Text name) lists = lists ≡ first_list lists ∷ []
+OwnedBy k lists = lists ≡ []
+
+text_owned : (lists : List (List Token)) (ts : List Token) → lists ≡ ts ∷ [] → lists ≡ first_list lists ∷ []
+text_owned lists ts h = h ∙ ap (λ (x : List Token). x ∷ []) (sym (ap first_list h))
+
+pub owned_of : (f : Frame) (lists : List (List Token)) → Owns f lists → OwnedBy (frame_kind f) lists
+owned_of (Waits (Catcode scan)) lists h = h
+owned_of (Waits (Message name)) lists h = h
+owned_of (Integer scan) lists h = h
+owned_of (Text name scan) lists h = text_owned lists _ h
+
+few_none : (lists : List (List Token)) → lists ≡ [] → AtMostOne lists
+few_none lists h = subst AtMostOne (sym h) tt
+
+few_one : (lists : List (List Token)) (ts : List Token) → lists ≡ ts ∷ [] → AtMostOne lists
+few_one lists ts h = subst AtMostOne (sym h) tt
+
+pub few_owned : (k : reading.Kind) (lists : List (List Token)) → OwnedBy k lists → AtMostOne lists
+few_owned reading.Catcode lists h = few_none lists h
+few_owned (reading.Message name) lists h = few_none lists h
+few_owned reading.Integer lists h = few_none lists h
+few_owned (reading.Text name) lists h = few_one lists _ h
+
+-- the list gets a token, or doesn't
+one_after : (grows : Bool) (x : Seen) (lists : List (List Token)) → lists ≡ first_list lists ∷ [] → lists_after grows x lists ≡ first_list (lists_after grows x lists) ∷ []
+one_after grows x [] h = absurd cc
+one_after true x (ts ∷ lists) h = let k : lists ≡ [] = cc in ap (λ (l : List (List Token)). (ts ++ x.token ∷ []) ∷ l) k
+one_after false x (ts ∷ lists) h = h
+
+pub owned_after : (f : Frame) (x : Seen) (lists : List (List Token)) → OwnedBy (frame_kind f) lists → OwnedBy (frame_kind f) (lists_after (frame_grows f x) x lists)
+owned_after (Waits (Catcode scan)) x lists h = h
+owned_after (Waits (Message name)) x lists h = h
+owned_after (Integer scan) x lists h = h
+owned_after (Text name scan) x lists h = one_after (frame_grows (Text name scan) x) x lists h
+
+-- neither a token nor a note brings a list
+abbrev pub IsBare : Fed → Type 0
+IsBare (Val v) = ⊥
+IsBare x = Unit {0}
+
+fed_bare : (fed : List Fed) (x : Fed) → IsBare x → fed_lists (fed ++ x ∷ []) ≡ fed_lists fed
+fed_bare [] (Tok y) h = refl
+fed_bare [] (Val v) h = absurd h
+fed_bare [] Told h = refl
+fed_bare (Tok y ∷ fed) x h = fed_bare fed x h
+fed_bare (Told ∷ fed) x h = fed_bare fed x h
+fed_bare (Val v ∷ fed) x h = ap (λ (l : List (List Token)). reading.value_lists v ++ l) (fed_bare fed x h)
+
+-- none came with an inner value
+none_came : (k : reading.Kind) (fed : List Fed) (lists : List (List Token)) → OwnedBy k lists → gathered_by k fed ≡ lists → fed_lists fed ≡ []
+none_came reading.Catcode fed lists o h = h ∙ o
+none_came (reading.Message name) fed lists o h = h ∙ o
+none_came reading.Integer fed lists o h = h ∙ o
+none_came (reading.Text name) fed lists o h = cc
+
+holds_at : (f : Frame) (lists now : List (List Token)) (fed fed' : List Fed) → OwnedBy (frame_kind f) now → fed_lists fed' ≡ [] → reading.so_far (frame_kind f) fed' ≡ frame_list f lists fed → Builds f lists now fed →
+    gathered_by (frame_kind f) fed' ≡ now
+holds_at (Waits (Catcode scan)) lists now fed fed' o none h b = none ∙ sym o
+holds_at (Waits (Message name)) lists now fed fed' o none h b = none ∙ sym o
+holds_at (Integer scan) lists now fed fed' o none h b = none ∙ sym o
+holds_at (Text name scan) lists now fed fed' o none h b = cc
+
+-- the list that it builds, as its reading holds it
+owns_text : (f : Frame) (scan : TextScan) (name : Name) (lists now : List (List Token)) (fed : List Fed) → frame_kind f ≡ reading.Text name → Builds f lists now fed → frame_list f lists fed ≡ text_list scan (first_list now) [] → text_list scan (first_list now) [] ≡ first_list now
+owns_text (Waits (Catcode s)) scan name lists now fed k b h = absurd cc
+owns_text (Waits (Message n)) scan name lists now fed k b h = absurd cc
+owns_text (Integer s) scan name lists now fed k b h = absurd cc
+owns_text (Text n s) scan name lists now fed k b h = sym h ∙ b
+
+owns_now : (f f' : Frame) (lists now : List (List Token)) (fed : List Fed) → OwnedBy (frame_kind f') now → frame_kind f' ≡ frame_kind f → Builds f lists now fed → frame_list f lists fed ≡ frame_list f' now [] → Owns f' now
+owns_now f (Waits (Catcode s)) lists now fed o k b h = o
+owns_now f (Waits (Message n)) lists now fed o k b h = o
+owns_now f (Integer s) lists now fed o k b h = o
+owns_now f (Text name scan) lists now fed o k b h = o ∙ ap (λ (ts : List Token). ts ∷ []) (sym (owns_text f scan name lists now fed (sym k) b h))
+
+-- WHAT IT ANSWERS
+
+-- a frame that is fed with x goes on as this one, and its reading holds these lists then
+pub record GoesOn (a : Ask) (frame frame' : Frame) (lists now : List (List Token)) (x : Fed) : Type 0 where
+  pub answer : ask_of now a ≡ resume frame lists (x ∷ [])
+  pub goes_on : IsOpen a → (fed : List Fed) → resume frame lists (x ∷ fed) ≡ resume frame' now fed
+  pub list : IsOpen a → (fed : List Fed) → frame_list frame lists (x ∷ fed) ≡ frame_list frame' now fed
+  pub kind : frame_kind frame' ≡ frame_kind frame
+  pub builds : Builds frame lists now (x ∷ [])
+  pub owned : OwnedBy (frame_kind frame) now
+  pub shallow : IsShallow frame' now
+  pub waits : InnerWaits a frame'
+
+pub holds_now : (frame : Frame) (lists now : List (List Token)) (x : Fed) (r : Reading) → IsBare x → FrameStands frame lists r → gathered_by r.kind r.fed ≡ lists → OwnedBy (frame_kind frame) now → Builds frame lists now (x ∷ []) →
+    gathered_by r.kind (r.fed ++ x ∷ []) ≡ now
+holds_now frame lists now x r bare below holds owned builds =
+    let none : fed_lists (r.fed ++ x ∷ []) ≡ [] =
+    fed_bare r.fed x bare ∙ none_came (frame_kind frame) r.fed lists (owned_of frame lists below.owns) (subst (λ (k : reading.Kind). gathered_by k r.fed ≡ lists) below.kind holds) in
+    let so : reading.so_far (frame_kind frame) (r.fed ++ x ∷ []) ≡ frame_list frame lists (x ∷ []) =
+    subst (λ (k : reading.Kind). reading.so_far k (r.fed ++ x ∷ []) ≡ frame_list frame lists (x ∷ [])) below.kind (below.list (x ∷ [])) in
+    subst (λ (k : reading.Kind). gathered_by k (r.fed ++ x ∷ []) ≡ now) (sym below.kind) (holds_at frame lists now (x ∷ []) (r.fed ++ x ∷ []) owned none so builds)
+
+inner_on : (a' : Ask) (frame frame' : Frame) (lists now : List (List Token)) (x : Fed) (r : Reading) → IsBare x → FrameStands frame lists r → gathered_by r.kind r.fed ≡ lists →
+    GoesOn a' frame frame' lists now x → GivesLast a' (r.fed ++ x ∷ []) → TellsOnce a' (r.fed ++ x ∷ []) →
+    Innermost a' frame' now (record { kind = r.kind; fed = r.fed ++ x ∷ []; lent = false })
+inner_on a' frame frame' lists now x r bare below holds g last once =
+    let owned' : OwnedBy (frame_kind frame') now = subst (λ (k : reading.Kind). OwnedBy k now) (sym g.kind) g.owned in
+    record {
+      asked = g.answer ∙ sym (below.goes_on (x ∷ []));
+      open_frame = λ o. record {
+        goes_on = λ fed. rw append_assoc (below.goes_on (x ∷ fed) ∙ g.goes_on o fed);
+        list = λ fed. rw append_assoc (below.list (x ∷ fed) ∙ g.list o fed);
+        kind = below.kind ∙ sym g.kind;
+        owns = owns_now frame frame' lists now (x ∷ []) owned' g.kind g.builds (g.list o []);
+        shallow = g.shallow;
+      };
+      waits = g.waits;
+      holds = holds_now frame lists now x r bare below holds g.owned g.builds;
+      few = few_owned (frame_kind frame) now g.owned;
+      last = last;
+      once = once;
+      not_lent = refl;
+    }
+
+pub fed_on : (a' : Ask) (frame frame' : Frame) (lists now : List (List Token)) (x : Seen) (r : Reading) → FrameStands frame lists r → gathered_by r.kind r.fed ≡ lists →
+    GoesOn a' frame frame' lists now (Tok x) → GivesBack a' x → Innermost a' frame' now (record { kind = r.kind; fed = r.fed ++ Tok x ∷ []; lent = false })
+fed_on a' frame frame' lists now x r below holds g back =
+    inner_on a' frame frame' lists now (Tok x) r tt below holds g (gives_last a' r.fed x back) (once_tok a' r.fed x)
+
+pub told_on : (a' : Ask) (frame frame' : Frame) (lists : List (List Token)) (r : Reading) → FrameStands frame lists r → gathered_by r.kind r.fed ≡ lists →
+    GoesOn a' frame frame' lists lists Told → GivesNone a' → IsUntold a' → Innermost a' frame' lists (record { kind = r.kind; fed = r.fed ++ Told ∷ []; lent = false })
+told_on a' frame frame' lists r below holds g none untold =
+    inner_on a' frame frame' lists lists Told r tt below holds g (gives_none a' (r.fed ++ Told ∷ []) none) (once_untold a' (r.fed ++ Told ∷ []) untold)
+
+-- THE ENGINE
+
+pub sized_on : (sizes : Sizes) (e e' : Engine) → SameState e e' → IsSized sizes e → IsSized sizes e'
+sized_on sizes e e' same h = record {
+  few_reports = omega (arith, same.others.reports, h.few_reports);
+  small = h.small;
+  own = same.others.sizes ∙ h.own;
+  outer = same.others.depth ∙ h.outer;
+  input = same.size ∙ h.input;
+  names = ap (λ (n : Strings). n.sizes) same.others.names ∙ h.names;
 }
 
-pub fed_on : (a a' : Ask) (frame frame' : Frame) (x : Seen) (outer : List Frame) (work : List Reading) →
-    IsOpen a → WorkStands a (Some frame) outer work → GoesOn a' frame frame' (Tok x) → GivesBack a' x →
-    WorkStands a' (Some frame') outer (fed_with (Tok x) work)
-fed_on a a' frame frame' x outer [] o h g back = absurd h
-fed_on a a' frame frame' x outer (r ∷ rs) o h g back =
-    (inner_on a' frame frame' (Tok x) r (h.0.open_frame o) g (gives_last a' r.fed x back) (once_at a' (r.fed ++ Tok x ∷ []) (untold_tok r.fed x)), h.1)
+-- with this innermost reading
+pub stands_now : (sizes : Sizes) (e e' : Engine) (frame : Frame) (r : Reading) (rs : List Reading) → SameState e e' → IsSized sizes e → e.input.making ≡ None →
+    e'.top ≡ Some frame → Innermost e'.ask frame e'.input.gathered r → OuterStand (reverse e'.outer.items) rs → Stands sizes e' (r ∷ rs)
+stands_now sizes e e' frame r rs same sized idle top inner outer = record {
+  sized = sized_on sizes e e' same sized;
+  idle = same.making ∙ idle;
+  readings = subst (λ (t : Option Frame). WorkStands e'.ask t e'.outer.items e'.input.gathered (r ∷ rs)) (sym top) (inner, outer);
+}
 
-pub told_on : (a' : Ask) (frame frame' : Frame) (outer : List Frame) (work : List Reading) →
-    FramesStand (frame ∷ reverse outer) work → GoesOn a' frame frame' Told → GivesNone a' → IsUntold a' →
-    WorkStands a' (Some frame') outer (fed_with Told work)
-told_on a' frame frame' outer [] h g none untold = absurd h
-told_on a' frame frame' outer (r ∷ rs) h g none untold =
-    (inner_on a' frame frame' Told r h.0 g (gives_none a' (r.fed ++ Told ∷ []) none) (once_untold a' (r.fed ++ Told ∷ []) untold), h.1)
+-- behind a token that its frame was fed with
+pub feeds_on : (sizes : Sizes) (e e' : Engine) (f frame frame' : Frame) (x : Seen) (lists : List (List Token)) (r : Reading) (rs : List Reading) → SameState e e' → f ≡ frame →
+    FedFrame sizes e f x lists r rs → e'.top ≡ Some frame' → GivesBack e'.ask x → e'.outer ≡ e.outer →
+    (MayFeed frame x lists → IsShallow frame lists → OwnedBy (frame_kind frame) (lists_after (frame_grows frame x) x lists) → GoesOn e'.ask frame frame' lists e'.input.gathered (Tok x)) →
+    Stands sizes e' (fed_with (Tok x) (r ∷ rs))
+feeds_on sizes e e' f frame frame' x lists r rs same is h top back outer g =
+    let below : FrameStands frame lists r = subst (λ (y : Frame). FrameStands y lists r) is h.frame in
+    let may : MayFeed frame x lists = subst (λ (y : Frame). MayFeed y x lists) is h.may_feed in
+    let on = g may below.shallow (owned_after frame x lists (owned_of frame lists below.owns)) in
+    stands_now sizes e e' frame' _ rs same h.sized h.idle top (fed_on e'.ask frame frame' lists e'.input.gathered x r below h.holds on back)
+    (subst (λ (o : Stack). OuterStand (reverse o.items) rs) (sym outer) h.outer)
 
-value_on : (a : Ask) (frame frame' : Frame) (v : Value) (outer : List Frame) (work : List Reading) →
-    FramesStand (frame ∷ reverse outer) work → GoesOn a frame frame' (Val v) → GivesNone a →
-    WorkStands a (Some frame') outer (fed_with (Val v) work)
-value_on a frame frame' v outer [] h g none = absurd h
-value_on a frame frame' v outer (r ∷ rs) h g none =
-    (inner_on a frame frame' (Val v) r h.0 g (gives_none a (r.fed ++ Val v ∷ []) none) (once_at a (r.fed ++ Val v ∷ []) (untold_val r.fed v)), h.1)
+-- a note changes no list
+told_builds : (f : Frame) (lists : List (List Token)) → Owns f lists → Builds f lists lists []
+told_builds (Waits w) lists h = tt
+told_builds (Integer scan) lists h = tt
+told_builds (Text name scan) lists h = sym (ap first_list h)
+
+-- behind the note that its report was written
+pub notes_on : (sizes : Sizes) (e e' : Engine) (f frame' : Frame) (work : List Reading) → SameState e e' → e.top ≡ Some f → WaitsFor sizes e work → e'.top ≡ Some frame' → GivesNone e'.ask → IsUntold e'.ask → e'.outer ≡ e.outer →
+    e'.input.gathered ≡ e.input.gathered →
+    ((lists : List (List Token)) → Builds f lists lists [] → IsShallow f lists → OwnedBy (frame_kind f) lists → GoesOn e'.ask f frame' lists lists Told) →
+    Stands sizes e' (fed_with Told work)
+notes_on sizes e e' f frame' work same is h top none untold outer lists g = at work (subst (λ (t : Option Frame). WaitStands t e.outer.items e.input.gathered work) is h.readings) where
+  at : (work : List Reading) → WaitStands (Some f) e.outer.items e.input.gathered work → Stands sizes e' (fed_with Told work)
+  at [] w = absurd w
+  at (r ∷ rs) w =
+      let below : FrameStands f e.input.gathered r = w.0 in
+      let on = g e.input.gathered (told_builds f e.input.gathered below.owns) below.shallow (owned_of f e.input.gathered below.owns) in
+      let inner = told_on e'.ask f frame' e.input.gathered r below w.1.0 on none untold in
+      stands_now sizes e e' frame' _ rs same h.sized h.idle top
+      (subst (λ (l : List (List Token)). Innermost e'.ask frame' l (record { kind = r.kind; fed = r.fed ++ Told ∷ []; lent = false })) (sym lists) inner)
+      (subst (λ (o : Stack). OuterStand (reverse o.items) rs) (sym outer) w.1.1)
+
+-- THE READING BENEATH
+
+-- what stays of the lists is what the value brings
+few_rest : (ts : List Token) (lists : List (List Token)) → AtMostOne (ts ∷ lists) → lists ≡ []
+few_rest ts [] h = refl
+few_rest ts (us ∷ lists) h = absurd h
+
+value_kept : (v : EngineValue) (lists : List (List Token)) → AtMostOne lists → kept_lists v lists ≡ reading.value_lists (value_of lists v)
+value_kept (values.Int n) [] h = refl
+value_kept values.Toks [] h = refl
+value_kept (values.Flag b) [] h = refl
+value_kept (values.Int n) (ts ∷ lists) h = few_rest ts lists h
+value_kept (values.Flag b) (ts ∷ lists) h = few_rest ts lists h
+value_kept values.Toks ([] ∷ lists) h = few_rest [] lists h
+value_kept values.Toks ((t ∷ ts) ∷ lists) h = ap (λ (l : List (List Token)). (t ∷ ts) ∷ l) (few_rest (t ∷ ts) lists h)
+
+-- and it is the same value then
+value_same : (v : EngineValue) (lists : List (List Token)) → AtMostOne lists → value_of (kept_lists v lists) v ≡ value_of lists v
+value_same (values.Int n) lists h = refl
+value_same (values.Flag b) lists h = refl
+value_same values.Toks [] h = refl
+value_same values.Toks ([] ∷ lists) h = ap (λ (l : List (List Token)). reading.Toks (first_list l)) (few_rest [] lists h)
+value_same values.Toks ((t ∷ ts) ∷ lists) h = refl
+
+few_value : (v : reading.Value) → AtMostOne (reading.value_lists v)
+few_value (reading.Int n) = tt
+few_value (reading.Flag b) = tt
+few_value (reading.Toks []) = tt
+few_value (reading.Toks (t ∷ ts)) = tt
+
+fed_value : (fed : List Fed) (v : Value) → fed_lists (fed ++ Val v ∷ []) ≡ fed_lists fed ++ reading.value_lists v
+fed_value [] v = append-nil (reading.value_lists v)
+fed_value (Tok y ∷ fed) v = fed_value fed v
+fed_value (Told ∷ fed) v = fed_value fed v
+fed_value (Val w ∷ fed) v = ap (λ (l : List (List Token)). reading.value_lists w ++ l) (fed_value fed v) ∙ sym (append_assoc (reading.value_lists w) (fed_lists fed) (reading.value_lists v))
+
+-- a command builds no list, and holds those of the values that it was fed with
+holds_value : (w : Waiting) (fed : List Fed) (v : Value) → gathered_by (waiting_kind w) fed ≡ [] → gathered_by (waiting_kind w) (fed ++ Val v ∷ []) ≡ reading.value_lists v
+holds_value (Catcode scan) fed v h = fed_value fed v ∙ ap (λ (l : List (List Token)). l ++ reading.value_lists v) h
+holds_value (Message name) fed v h = fed_value fed v ∙ ap (λ (l : List (List Token)). l ++ reading.value_lists v) h
+
+no_text : (w : Waiting) (fed : List Fed) → reading.so_far (waiting_kind w) fed ≡ []
+no_text (Catcode scan) fed = refl
+no_text (Message name) fed = refl
+
+-- a command that is fed with a value goes on as this one
+pub record GoesBy (a : Ask) (waiting waiting' : Waiting) (lists : List (List Token)) (value : EngineValue) : Type 0 where
+  pub answer : (now : List (List Token)) → value_of now value ≡ value_of lists value → ask_of now a ≡ resume_waiting waiting (Val (value_of lists value) ∷ [])
+  pub goes_on : IsOpen a → (fed : List Fed) → resume_waiting waiting (Val (value_of lists value) ∷ fed) ≡ resume_waiting waiting' fed
+  pub kind : waiting_kind waiting' ≡ waiting_kind waiting
+  pub none : GivesNone a
+  pub waits : InnerWaits a (Waits waiting')
+  pub bare : IsOpen a → reading.value_lists (value_of lists value) ≡ []
+
+value_on : (a : Ask) (w w' : Waiting) (lists : List (List Token)) (value : EngineValue) (r : Reading) → AtMostOne lists → WaitingStands w r → GoesBy a w w' lists value →
+    Innermost a (Waits w') (kept_lists value lists) (record { kind = r.kind; fed = r.fed ++ Val (value_of lists value) ∷ []; lent = false })
+value_on a w w' lists value r few below g =
+    let v : Value = value_of lists value in
+    let kept : kept_lists value lists ≡ reading.value_lists v = value_kept value lists few in
+    let holds : gathered_by r.kind (r.fed ++ Val v ∷ []) ≡ reading.value_lists v =
+    subst (λ (k : reading.Kind). gathered_by k (r.fed ++ Val v ∷ []) ≡ reading.value_lists v) (sym below.kind) (holds_value w r.fed v (subst (λ (k : reading.Kind). gathered_by k r.fed ≡ []) below.kind below.none)) in
+    record {
+      asked = g.answer (kept_lists value lists) (value_same value lists few) ∙ sym (below.goes_on (Val v ∷ []));
+      open_frame = λ o. record {
+        goes_on = λ fed. rw append_assoc (below.goes_on (Val v ∷ fed) ∙ g.goes_on o fed);
+        list = λ fed. subst (λ (k : reading.Kind). reading.so_far k ((r.fed ++ Val v ∷ []) ++ fed) ≡ []) (sym below.kind) (no_text w ((r.fed ++ Val v ∷ []) ++ fed));
+        kind = below.kind ∙ sym g.kind;
+        owns = kept ∙ g.bare o;
+        shallow = tt;
+      };
+      waits = g.waits;
+      holds = holds ∙ sym kept;
+      few = subst AtMostOne (sym kept) (few_value v);
+      last = gives_none a (r.fed ++ Val v ∷ []) g.none;
+      once = once_val a r.fed v;
+      not_lent = refl;
+    }
 
 -- the reading beneath goes on with the value of the one that ended
-pub ended_on : (a : Ask) (frame frame' : Frame) (v : Value) (outer outer' : List Frame) (work : List Reading) →
-    outer ≡ outer' ++ frame ∷ [] → FramesStand (reverse outer) work → GoesOn a frame frame' (Val v) → GivesNone a →
-    WorkStands a (Some frame') outer' (fed_with (Val v) work)
-ended_on a frame frame' v outer outer' work e h g none =
-    let k : FramesStand (reverse (outer' ++ frame ∷ [])) work = subst (λ (x : List Frame). FramesStand (reverse x) work) e h in
-    value_on a frame frame' v outer' work (subst (λ (x : List Frame). FramesStand x work) (reverse-append outer' (frame ∷ [])) k) g none
+pub ends_on : (sizes : Sizes) (e e' : Engine) (w w' : Waiting) (value : EngineValue) (rs : List Reading) → SameState e e' → EndsHere sizes e rs → e.outer.items ≡ e'.outer.items ++ w ∷ [] →
+    e'.top ≡ Some (Waits w') → e'.input.gathered ≡ kept_lists value e.input.gathered → GoesBy e'.ask w w' e.input.gathered value → Stands sizes e' (fed_with (Val (value_of e.input.gathered value)) rs)
+ends_on sizes e e' w w' value rs same h items top lists g =
+    at rs (subst (λ (l : List Waiting). OuterStand l rs) (ap (λ (l : List Waiting). reverse l) items ∙ reverse-append e'.outer.items (w ∷ [])) h.outer) where
+      at : (rs : List Reading) → OuterStand (w ∷ reverse e'.outer.items) rs → Stands sizes e' (fed_with (Val (value_of e.input.gathered value)) rs)
+      at [] o = absurd o
+      at (r ∷ rs) o = stands_now sizes e e' (Waits w') _ rs same h.sized h.idle top
+          (subst (λ (l : List (List Token)). Innermost e'.ask (Waits w') l (record { kind = r.kind; fed = r.fed ++ Val (value_of e.input.gathered value) ∷ []; lent = false })) (sym lists) (value_on e'.ask w w' e.input.gathered value r h.few o.0 g)) o.1
 
--- a frame that begins
-pub record Begins (a : Ask) (frame : Frame) (k : reading.Kind) : Type 0 where
-  pub answer : ask_of a ≡ reading.ask k []
+-- A READING THAT BEGINS
+
+pub record StartsAs (a : Ask) (frame : Frame) (k : reading.Kind) : Type 0 where
+  pub answer : (lists : List (List Token)) → ask_of lists a ≡ reading.ask k []
   pub none : GivesNone a
   pub untold : IsUntold a
-  pub stands : (fed : List Fed) → reading.ask k fed ≡ resume frame fed
-  pub list : (fed : List Fed) → reading.so_far k fed ≡ frame_list frame fed
+  pub waits : InnerWaits a frame
+  pub stands : (lists : List (List Token)) (fed : List Fed) → reading.ask k fed ≡ resume frame lists fed
+  pub list : (lists : List (List Token)) (fed : List Fed) → reading.so_far k fed ≡ frame_list frame lists fed
   pub kind : frame_kind frame ≡ k
+  pub builds : Builds frame (own_lists k []) (own_lists k []) []
+  pub shallow : IsShallow frame (own_lists k [])
 
--- a reading that begins
-fresh_stands : (a : Ask) (frame : Frame) (k : reading.Kind) (outer : List Frame) (work : List Reading) →
-    Begins a frame k → FramesStand (reverse outer) work → WorkStands a (Some frame) outer (fresh k ∷ work)
-fresh_stands a frame k outer work b below =
-    (record { asked = b.answer; open_frame = λ o. record { goes_on = b.stands; list = b.list; kind = sym b.kind }; last = gives_none a [] b.none; once = once_untold a [] b.untold; not_lent = refl }, below)
+first_owned : (k : reading.Kind) → OwnedBy k (own_lists k [])
+first_owned reading.Catcode = refl
+first_owned (reading.Message name) = refl
+first_owned reading.Integer = refl
+first_owned (reading.Text name) = refl
 
-pub begun_first : (a : Ask) (frame : Frame) (k : reading.Kind) (outer : List Frame) (work : List Reading) →
-    WaitStands None outer work → Begins a frame k → WorkStands a (Some frame) outer (fresh k ∷ work)
-begun_first a frame k outer [] w b = fresh_stands a frame k outer [] b (subst (λ (x : List Frame). FramesStand (reverse x) []) (sym w) tt)
-begun_first a frame k outer (r ∷ rs) w b = absurd w
+first_inner : (a : Ask) (frame : Frame) (k : reading.Kind) → StartsAs a frame k → Innermost a frame (own_lists k []) (fresh k)
+first_inner a frame k b =
+    let owned : OwnedBy (frame_kind frame) (own_lists k []) = subst (λ (x : reading.Kind). OwnedBy x (own_lists k [])) (sym b.kind) (first_owned k) in
+    record {
+      asked = b.answer (own_lists k []);
+      open_frame = λ o. record {
+        goes_on = b.stands (own_lists k []);
+        list = b.list (own_lists k []);
+        kind = sym b.kind;
+        owns = owns_now frame frame (own_lists k []) (own_lists k []) [] owned refl b.builds refl;
+        shallow = b.shallow;
+      };
+      waits = b.waits;
+      holds = append-nil (own_lists k []);
+      few = few_owned k (own_lists k []) (first_owned k);
+      last = gives_none a [] b.none;
+      once = once_untold a [] b.untold;
+      not_lent = refl;
+    }
 
-pub begun_inside : (a : Ask) (frame old : Frame) (k : reading.Kind) (outer outer' : List Frame) (work : List Reading) →
-    outer' ≡ outer ++ old ∷ [] → WaitStands (Some old) outer work → Begins a frame k → WorkStands a (Some frame) outer' (fresh k ∷ work)
-begun_inside a frame old k outer outer' work e w b =
-    fresh_stands a frame k outer' work b
-    (subst (λ (x : List Frame). FramesStand (reverse x) work) (sym e) (subst (λ (x : List Frame). FramesStand x work) (sym (reverse-append outer (old ∷ []))) w))
+-- what it finds beneath it: no list is held there
+pub record Beneath (sizes : Sizes) (e : Engine) (waits : Option Waiting) (work : List Reading) : Type 0 where
+  pub sized : IsSized sizes e
+  pub idle : e.input.making ≡ None
+  pub bare : e.input.gathered ≡ []
+  pub outer : OuterStand (reverse (e.outer.items ++ option_to_list waits)) work
+
+beneath : (sizes : Sizes) (e : Engine) (waits : Option Waiting) (work : List Reading) → WaitsWith sizes e waits work → Beneath sizes e waits work
+beneath sizes e (Some w) [] h = absurd h
+beneath sizes e (Some w) (r ∷ rs) h = record {
+  sized = h.sized;
+  idle = h.idle;
+  bare = h.bare;
+  outer = subst (λ (l : List Waiting). OuterStand l (r ∷ rs)) (sym (reverse-append e.outer.items (w ∷ []))) (h.innermost, h.outer);
+}
+beneath sizes e None work h = at work (subst (λ (t : Option Frame). WorkStands e.ask t e.outer.items e.input.gathered work) h.0 h.1.readings) where
+  at : (work : List Reading) → WorkStands e.ask None e.outer.items e.input.gathered work → Beneath sizes e None work
+  at [] w = record { sized = h.1.sized; idle = h.1.idle; bare = w.1; outer = subst (λ (l : List Waiting). OuterStand (reverse (l ++ [])) []) (sym w.0) tt }
+  at (r ∷ rs) w = absurd w
+
+pub begins_on : (sizes : Sizes) (e e' : Engine) (waits : Option Waiting) (frame : Frame) (k : reading.Kind) (work : List Reading) → SameState e e' → WaitsWith sizes e waits work → e'.outer.items ≡ e.outer.items ++ option_to_list waits →
+    e'.top ≡ Some frame → e'.input.gathered ≡ own_lists k [] ++ e.input.gathered → StartsAs e'.ask frame k → Stands sizes e' (fresh k ∷ work)
+begins_on sizes e e' waits frame k work same h items top lists b =
+    let under = beneath sizes e waits work h in
+    let own : e'.input.gathered ≡ own_lists k [] = lists ∙ (ap (λ (l : List (List Token)). own_lists k [] ++ l) under.bare ∙ append-nil (own_lists k [])) in
+    stands_now sizes e e' frame (fresh k) work same under.sized under.idle top
+    (subst (λ (l : List (List Token)). Innermost e'.ask frame l (fresh k)) (sym own) (first_inner e'.ask frame k b))
+    (subst (λ (l : List Waiting). OuterStand (reverse l) work) (sym items) under.outer)

@@ -1,18 +1,22 @@
 -- From the engine's run to what the program means.
-use Rattle.std.proofs.Common.{◌≡◌, inl, inr, ℕ, ◌+◌, ◌≤◌, List, [], ◌∷◌, refl, ap, subst, ◌∙◌, arith, Bool, true, false}
-use Rattle.std.specs.Prelude.{Option, Some, None, nat_lt, if◌then◌else◌}
+use Rattle.std.proofs.Common.{◌≡◌, inl, inr, ℕ, ◌+◌, ◌≤◌, List, [], ◌∷◌, refl, sym, ap, subst, ◌∙◌, arith, Bool, true, false}
+use Rattle.std.specs.Prelude.{Option, Some, None, IfNone, IfSome, is_some, nat_lt, if◌then◌else◌}
+use Rattle.std.specs.Option.{option_map}
+use Rattle.prim_table.specs.Primitives.{primitive_names}
 use Rattle.tex_defs.specs.Places.{World, Rose, Later, File, Untold, NotHeld, Holds, Place, Transcript, OfFile}
-use Rattle.tex_defs.specs.declared.Fatal.{Fatal as FatalStop}
-use Rattle.plain_state.specs.States as machine
-use Rattle.plain_state.specs.States.{State, Move, AtFatal, Outcome as MachineOutcome}
-use Rattle.plain_machine.specs.Runs.{Moves, Wrote, steps, step_of, made_all}
-use Rattle.plain_machine.specs.Does.{IsCause, Cut, CutAt, MomentWritten, Why, IsFault, IsWant}
-use Rattle.plain_machine.specs.Meaning.{First, Line, Whole, Ending, Status, IsFinished, IsFlawed, IsFatal, IsSteps, IsReadFault, IsWriteFault, IsNoMemory, Says, IsJob, MeansRun, Means, steps_line, read_fault_line, write_fault_line, no_memory_line}
+use Rattle.tex_defs.specs.declared.Full.{Full as FullTable}
 use Rattle.tex_defs.specs.declared.Fatal.TheVariants.{NoFile}
-use Rattle.plain_machine.specs.Plan.{no_file}
-use Rattle.command_words.specs.Words.{Command, Init, NoCommand}
-use Rattle.plain_machine.proofs.Doing.{wrote_none, wrote_join, cause_on}
-use Rattle.plain_machine.proofs.Joins.{moves_due, all_made_due, due_none, moment_due, Moment, due_front, Front, stopped_ends, steps_join}
+use Rattle.tex_defs.specs.declared.Sizes.{Sizes}
+use Rattle.plain_state.specs.States as machine
+use Rattle.plain_state.specs.States.{State, Move, Reading, Kept, AtFatal, Outcome as MachineOutcome}
+use Rattle.plain_machine.specs.Plan.{no_file, job_due}
+use Rattle.plain_machine.specs.Runs.{Wrote, steps}
+use Rattle.plain_machine.specs.Bounded.{FitMoves}
+use Rattle.plain_machine.specs.Does.{Did, Cut, CutAt, IsCause, Why, IsFault, IsWant}
+use Rattle.plain_machine.specs.Meaning.{First, Line, Whole, Ending, Status, IsFinished, IsFlawed, IsFatal, IsFullTable, IsSteps, IsReadFault, IsWriteFault, IsNoMemory, Says, IsJob, MeansRun, Means, sizes_of, steps_line, full_line, read_fault_line, write_fault_line, no_memory_line}
+use Rattle.plain_machine.proofs.Doing.{did_join, due_did, due_cut, CutOff, cut_behind, cut_within, full_end, full_wrote, wrote_none, wrote_join}
+use Rattle.plain_machine.proofs.Joins.{made_all_due, all_fit_due, refuses_due, due_none, stopped_ends}
+use Rattle.command_words.specs.Words.{Command, Init, NoCommand, job_name}
 use Rattle.world_io.specs.Told.{FilesTold, SinkTold, SameFiles, NotFound, IsContent, world}
 use Rattle.tex_program.specs.declared.engine.Engine.{Engine}
 use Rattle.tex_program.specs.declared.engine.Ended.{Ended}
@@ -20,133 +24,211 @@ use Rattle.tex_program.specs.declared.engine.Ended.TheVariants.{Halted, Steps}
 use Rattle.tex_program.specs.declared.reactions.Outcome.{Outcome}
 use Rattle.tex_program.specs.declared.reactions.Outcome.TheVariants.{Finished, Fatal}
 use Rattle.tex_program.specs.declared.broken.Broken.{Broken}
-use Rattle.tex_program.specs.declared.broken.Broken.TheVariants.{WriteFault, Want, NoRoom}
-use Rattle.tex_program.specs.Stands.{state_of}
+use Rattle.tex_program.specs.declared.broken.Broken.TheVariants as broken
 use Rattle.tex_program.specs.Begins.{outcome_of}
-use Rattle.tex_program.specs.Rules.{world_of, Halts, Part, Cuts}
-use Rattle.tex_program.specs.Ran.{Ran, CutBy, EndsAs}
+use Rattle.tex_program.specs.Faults.{why_of}
+use Rattle.tex_program.specs.First.{Begins}
+use Rattle.tex_program.specs.Stands.{Stands, state_of}
+use Rattle.tex_program.specs.Rules.{world_of, Halts, Cuts}
+use Rattle.tex_program.specs.Ran.{Came, Ran, CutBy}
 use Rattle.tex_program.specs.Says.{SaysSo, end_status}
+use Rattle.tex_program.proofs.Cutting.{later_cuts}
+use Rattle.tex_program.proofs.Running.{same_moment}
 
-module _ (s : State) (n : ℕ) (w m w' : World) where
-  pub broken_fault : (b : Broken) → b ≡ WriteFault → CutBy s n w m b → Line m w' write_fault_line → SaysSo s n w w' 6
-  broken_fault b is cut last = record { is = IsWriteFault; says = record { between = m; cut = subst (λ (x : Broken). CutBy s n w m x) is cut; last = last } }
+-- A RUN'S STATUS
 
-  pub broken_want : (b : Broken) → b ≡ Want → CutBy s n w m b → Line m w' no_memory_line → SaysSo s n w w' 7
-  broken_want b is cut last = record { is = IsNoMemory; says = inl (record { between = m; cut = subst (λ (x : Broken). CutBy s n w m x) is cut; last = last }) }
+module _ (sizes : Sizes) (s : State) (n : ℕ) (w m w' : World) (e : Engine) where
+  pub broken_fault : (b : Broken) → b ≡ broken.WriteFault → CutBy sizes s n e w m b → Line m w' write_fault_line → SaysSo sizes s n w w' 6
+  broken_fault b is cut last =
+      let c : CutBy sizes s n e w m broken.WriteFault = subst (λ (x : Broken). CutBy sizes s n e w m x) is cut in
+      record { is = IsWriteFault; says = record { t = c.t; between = m; cut = c.cut; last = last } }
 
-  pub broken_lost : (b : Broken) → b ≡ NoRoom → CutBy s n w m b → Line m w' no_memory_line → SaysSo s n w w' 7
-  broken_lost b is cut last = record { is = IsNoMemory; says = inr (record { between = m; moment = subst (λ (x : Broken). CutBy s n w m x) is cut; last = last }) }
+  pub broken_want : (b : Broken) → b ≡ broken.Want → CutBy sizes s n e w m b → Line m w' no_memory_line → SaysSo sizes s n w w' 7
+  broken_want b is cut last =
+      let c : CutBy sizes s n e w m broken.Want = subst (λ (x : Broken). CutBy sizes s n e w m x) is cut in
+      record { is = IsNoMemory; says = inl (record { t = c.t; between = m; cut = c.cut; last = last }) }
 
-  abbrev whole_of : (e' : Engine) (o : Outcome) (ran : Ran s n e' w w' (Halted o)) → Whole s n w w' (outcome_of o)
-  whole_of e' o ran = record { ms = ran.ms; t = ran.t; trace = ran.trace; stopped = ran.ends.0; written = ran.written }
+  pub broken_full : (b : Broken) (full : FullTable) → b ≡ broken.Full full → CutBy sizes s n e w m b → Line m w' (full_line full) → SaysSo sizes s n w w' 3
+  broken_full b full is cut last =
+      let c : CutBy sizes s n e w m (broken.Full full) = subst (λ (x : Broken). CutBy sizes s n e w m x) is cut in
+      record {
+        is = IsFullTable;
+        says = record {
+          full = full;
+          stops = record { ms = c.cut.ms; t = c.t; between = m; run = full_end sizes s c.t n w m full c.cut; written = full_wrote sizes s c.t n w m full c.cut; last = last };
+        };
+      }
 
-  ending_of : (e' : Engine) (ran : Ran s n e' w w' (Halted Finished)) (b : Bool) → nat_lt 0 e'.reports ≡ b → Ending s n w w' b
-  ending_of e' ran b is = record { whole = whole_of e' Finished ran; reports = ap (nat_lt 0) ran.ends.1 ∙ is }
+module _ (sizes : Sizes) (s : State) (n : ℕ) (w m w' : World) (e' : Engine) where
+  abbrev whole_of : (o : Outcome) (ran : Ran sizes s n e' w w' (Halted o)) → Whole sizes s n w w' (outcome_of o)
+  whole_of o ran = record { ms = ran.ms; t = ran.t; run = ran.run; stopped = ran.ends.0; written = ran.written }
+
+  ending_of : (ran : Ran sizes s n e' w w' (Halted Finished)) (b : Bool) → nat_lt 0 e'.reports ≡ b → Ending sizes s n w w' b
+  ending_of ran b is = record { whole = whole_of Finished ran; reports = ap (nat_lt 0) ran.ends.1 ∙ is }
 
   -- a run that has ended, with a report or without
-  ended_with : (e' : Engine) (ran : Ran s n e' w w' (Halted Finished)) (b : Bool) → nat_lt 0 e'.reports ≡ b → SaysSo s n w w' (if b then 1 else 0)
-  ended_with e' ran true is = record { is = IsFlawed; says = ending_of e' ran true is }
-  ended_with e' ran false is = record { is = IsFinished; says = ending_of e' ran false is }
+  ended_with : (ran : Ran sizes s n e' w w' (Halted Finished)) (b : Bool) → nat_lt 0 e'.reports ≡ b → SaysSo sizes s n w w' (if b then 1 else 0)
+  ended_with ran true is = record { is = IsFlawed; says = ending_of ran true is }
+  ended_with ran false is = record { is = IsFinished; says = ending_of ran false is }
 
-  pub ran_halted : (e' : Engine) (o : Outcome) → Ran s n e' w w' (Halted o) → SaysSo s n w w' (end_status o e'.reports)
-  ran_halted e' Finished ran = ended_with e' ran (nat_lt 0 e'.reports) refl
-  ran_halted e' (Fatal f) ran = record { is = IsFatal; says = record { fatal = f; whole = whole_of e' (Fatal f) ran } }
+  ran_halted : (o : Outcome) → Ran sizes s n e' w w' (Halted o) → SaysSo sizes s n w w' (end_status o e'.reports)
+  ran_halted Finished ran = ended_with ran (nat_lt 0 e'.reports) refl
+  ran_halted (Fatal f) ran = record { is = IsFatal; says = record { fatal = f; whole = whole_of (Fatal f) ran } }
 
-  pub ran_ended : (e' : Engine) (ended : Ended) (o : Outcome) (status : ℕ) → ended ≡ Halted o → status ≡ end_status o e'.reports → Ran s n e' w w' ended → SaysSo s n w w' status
-  ran_ended e' ended o status is this ran = rw this (ran_halted e' o (subst (λ (x : Ended). Ran s n e' w w' x) is ran))
+  pub ran_ended : (ended : Ended) (o : Outcome) (status : ℕ) → ended ≡ Halted o → status ≡ end_status o e'.reports → Ran sizes s n e' w w' ended → SaysSo sizes s n w w' status
+  ran_ended ended o status is this ran = rw this (ran_halted o (subst (λ (x : Ended). Ran sizes s n e' w w' x) is ran))
 
-  pub ran_steps : (e' : Engine) (ended : Ended) → ended ≡ Steps → Ran s n e' w m ended → Line m w' (steps_line n) → SaysSo s n w w' 4
-  ran_steps e' ended is ran last =
-      record { is = IsSteps; says = record { ms = ran.ms; t = ran.t; between = m; trace = ran.trace; needs = subst (λ (x : Ended). EndsAs x e' ran.t) is ran.ends; written = ran.written; last = last } }
+  pub ran_steps : (ended : Ended) → ended ≡ Steps → Ran sizes s n e' w m ended → Line m w' (steps_line n) → SaysSo sizes s n w w' 4
+  ran_steps ended is run last =
+      let ran : Ran sizes s n e' w m Steps = subst (λ (x : Ended). Ran sizes s n e' w m x) is run in
+      record { is = IsSteps; says = record { ms = ran.ms; t = ran.t; between = m; run = ran.run; written = ran.written; last = last } }
 
--- moves that are due from the start
-module _ (s : State) (ms : List Move) (n : ℕ) (w w' : World) (none : s.due ≡ []) where
-  due_moves : (t : State) → made_all ms s ≡ t → t.due ≡ [] → Moves (record s { due = ms }) ms t
-  due_moves t is due = subst (λ (x : State). Moves (record s { due = ms }) ms x) (all_made_due ms s ∙ ap (λ (x : State). record x { due = [] }) is ∙ due_none t due) (moves_due (record s { due = ms }) ms refl)
+-- nothing is written before the line
+pub not_begun : (sizes : Sizes) (s : State) (n : ℕ) (w w' : World) → Line w w' no_memory_line → SaysSo sizes s n w w' 7
+not_begun sizes s n w w' last = record { is = IsNoMemory; says = inr (record { between = w; written = wrote_none w; last = last }) }
 
-  pub due_fails : (e' : Engine) (f : FatalStop) → Halts s e' w w' ms (AtFatal f) 0 → SaysSo (record s { due = ms }) n w w' 2
-  due_fails e' f h = record {
-    is = IsFatal;
-    says = record {
-      fatal = f;
-      whole = record {
-        ms = ms;
-        t = h.t;
-        trace = record { moves = due_moves h.t h.did.state h.due; within = omega (arith, h.count); whole = inl (stopped_ends h.t (AtFatal f) h.due h.stopped) };
-        stopped = h.stopped;
-        written = h.did.written;
-      };
-    };
-  }
+-- MOVES THAT ARE DUE FROM THE START
 
-  due_cut_at : (why : Why) → steps ms ≤ n → Cut s w w' ms why → CutAt (record s { due = ms }) n w w' why
-  due_cut_at why le cut =
-      let moment : Moment (record s { due = ms }) cut.done cut.m = moment_due (record s { due = ms }) cut.done cut.m cut.rest cut.all in
-      let count : steps ms ≡ steps cut.done + (step_of cut.m + steps cut.rest) = ap steps cut.all ∙ steps_join cut.done (cut.m ∷ cut.rest) in
-      record { ms = cut.done; t = moment.t; m = cut.m; u = moment.u; count = cut.count; moves = moment.moves; goes = moment.goes; room = omega (arith, count, le); refuses = cut.refuses; cause = cut.cause; written = cut.written }
+did_due : (sizes : Sizes) (s s' : State) (w w' : World) (ms x : List Move) → Did sizes s s' w w' ms → Did sizes (record s { due = x }) (record s' { due = x }) w w' ms
+did_due sizes s s' w w' ms x d = record {
+  state = made_all_due ms s x ∙ ap (λ (y : State). record y { due = x }) d.state;
+  fits = all_fit_due sizes ms s x d.fits;
+  written = d.written;
+}
 
-  due_moment : steps ms ≤ n → Part w w' ms → MomentWritten (record s { due = ms }) n w w'
-  due_moment le part =
-      let front : Front (record s { due = ms }) part.done = due_front (record s { due = ms }) part.done part.rest part.all in
-      let count : steps ms ≡ steps part.done + steps part.rest = ap steps part.all ∙ steps_join part.done part.rest in
-      record { ms = part.done; t = front.t; moves = front.moves; within = omega (arith, count, le); written = part.written }
+due_moves : (sizes : Sizes) (s s' : State) (w w' : World) (ms : List Move) → s'.due ≡ [] → Did sizes s s' w w' ms → FitMoves sizes (record s { due = ms }) ms s'
+due_moves sizes s s' w w' ms none d =
+    subst (FitMoves sizes (record s { due = ms }) ms) (due_none s' none) (due_did sizes (record s { due = ms }) (record s' { due = ms }) w w' ms refl (did_due sizes s s' w w' ms ms d))
 
-  pub due_cut : (b : Broken) → steps ms ≤ n → Cuts s w w' ms b → CutBy (record s { due = ms }) n w w' b
-  due_cut WriteFault le h = due_cut_at IsFault le h
-  due_cut Want le h = due_cut_at IsWant le h
-  due_cut NoRoom le h = due_moment le h
+cut_due : (sizes : Sizes) (s s' : State) (w w' : World) (ms x : List Move) (why : Why) → Cut sizes s s' w w' ms why → Cut sizes (record s { due = x }) (record s' { due = x }) w w' ms why
+cut_due sizes s s' w w' ms x why c = record {
+  done = c.done;
+  m = c.m;
+  rest = c.rest;
+  count = c.count;
+  all = c.all;
+  state = made_all_due c.done s x ∙ ap (λ (y : State). record y { due = x }) c.state;
+  fits = all_fit_due sizes c.done s x c.fits;
+  refuses = refuses_due sizes why c.m s' (record s' { due = x }) refl c.refuses;
+  cause = c.cause;
+  written = c.written;
+}
 
--- an engine that was just made stands for the first state, but for what is due
-pub at_first : (e : Engine) (s : State) → record (state_of e []) { due = [] } ≡ s → e.in_line ≡ false → (Q : State → Bool → Type 0) → Q (state_of e []) e.in_line → Q s false
-at_first e s state column Q h = subst (λ (b : Bool). Q s b) column (subst (λ (s : State). Q s e.in_line) state h)
+due_cuts : (sizes : Sizes) (s : State) (e' : Engine) (work : List Reading) (w w' : World) (ms : List Move) (n : ℕ) (b : Broken) → steps ms ≤ n → Cuts sizes s e' work w w' ms b → CutBy sizes (record s { due = ms }) n e' w w' b
+due_cuts sizes s e' work w w' ms n b le h =
+    let off : CutOff sizes (record s { due = ms }) (record h.at { due = ms }) n w w' (why_of b) =
+    due_cut sizes (record s { due = ms }) (record h.at { due = ms }) n w w' ms (why_of b) (cut_due sizes s h.at w w' ms ms (why_of b) h.cut) le refl in
+    record { t = off.t; cut = off.cut; work' = work; same = same_moment (why_of b) off.t h.at (state_of e' work) off.same h.same }
 
--- a job whose file isn't held
-module _ (e : Engine) (quiet : Bool) (file : List ℕ) (n : ℕ) (f : FilesTold) (a b : SinkTold) where
-  pub missing_fails : (e' : Engine) → record (state_of e []) { due = no_file file } ≡ First quiet file None → e.in_line ≡ false → Halts (state_of e []) e' (world_of f a e) (world_of f b e') (no_file file) (AtFatal NoFile) 0 →
-      SaysSo (First quiet file None) n (world f a false) (world_of f b e') 2
-  missing_fails e' state column h = subst (λ (x : Bool). SaysSo (First quiet file None) n (world f a x) (world_of f b e') 2) column
-      (subst (λ (s : State). SaysSo s n (world_of f a e) (world_of f b e') 2) state (due_fails (state_of e []) (no_file file) n _ _ refl e' NoFile h))
+-- THE JOB BEGINS
 
-  pub missing_cut : (c : Bool) (k : Broken) → record (state_of e []) { due = no_file file } ≡ First quiet file None → e.in_line ≡ false → Cuts (state_of e []) (world_of f a e) (world f b c) (no_file file) k →
-      CutBy (First quiet file None) n (world f a false) (world f b c) k
-  missing_cut c k state column h = subst (λ (x : Bool). CutBy (First quiet file None) n (world f a x) (world f b c) k) column
-      (subst (λ (s : State). CutBy s n (world_of f a e) (world f b c) k) state (due_cut (state_of e []) (no_file file) n _ _ refl k (omega arith) h))
+-- an engine that was just made keeps the job's name
+module _ (sizes : Sizes) (e e' : Engine) (quiet : Bool) (file name : List ℕ) (is : name ≡ job_name file) (f : FilesTold) (a : SinkTold) where
+  abbrev before : World
+  before = world f a false
 
--- behind what has written nothing
-module _ (s : State) (n : ℕ) (w m w' : World) (quiet : Wrote w m []) where
-  cut_behind : (between : World) (why : Why) → CutAt s n m between why → CutAt s n w between why
-  cut_behind between why c = record {
-    ms = c.ms;
-    t = c.t;
-    m = c.m;
-    u = c.u;
-    count = c.count;
-    moves = c.moves;
-    goes = c.goes;
-    room = c.room;
-    refuses = c.refuses;
-    cause = cause_on why w m between quiet.later c.cause;
-    written = wrote_join w m between [] _ quiet c.written;
-  }
+  kept_did : Did sizes (state_of e []) (state_of e' []) before before (Kept name ∷ []) → Did sizes (state_of e []) (state_of e' []) before before (Kept (job_name file) ∷ [])
+  kept_did d = subst (λ (x : List ℕ). Did sizes (state_of e []) (state_of e' []) before before (Kept x ∷ [])) is d
 
-  abbrev whole_behind : (o : MachineOutcome) → Whole s n m w' o → Whole s n w w' o
-  whole_behind o h = record { ms = h.ms; t = h.t; trace = h.trace; stopped = h.stopped; written = wrote_join w m w' [] h.ms quiet h.written }
+  -- a name for which a table has no room
+  pub kept_cut : (job : Option (List ℕ)) (n : ℕ) (b : Broken) (column : Bool) → column ≡ false → Begins sizes e quiet job →
+      ((more : List Move) → Cuts sizes (state_of e []) e' [] before before (Kept name ∷ more) b) → CutBy sizes (First quiet file job) n e' before (world f a column) b
+  kept_cut None n b column none begins h =
+      subst (λ (x : Bool). CutBy sizes (First quiet file None) n e' before (world f a x) b) (sym none)
+      (subst (λ (s : State). CutBy sizes s n e' before before b) (begins.state file)
+      (due_cuts sizes (state_of e []) e' [] before before (job_due file None) n b (omega arith) (subst (λ (x : List ℕ). Cuts sizes (state_of e []) e' [] before before (Kept x ∷ no_file file) b) is (h (no_file file)))))
+  kept_cut (Some bytes) n b column none begins h =
+      subst (λ (x : Bool). CutBy sizes (First quiet file (Some bytes)) n e' before (world f a x) b) (sym none)
+      (subst (λ (s : State). CutBy sizes s n e' before before b) (begins.state file)
+      (due_cuts sizes (state_of e []) e' [] before before (job_due file (Some bytes)) n b (omega arith) (subst (λ (x : List ℕ). Cuts sizes (state_of e []) e' [] before before (Kept x ∷ []) b) is (h []))))
 
-  behind : (status : ℕ) (is : Status status) → Says s n m w' status is → Says s n w w' status is
+  -- the file is held, and the run goes on
+  pub kept_came : (bytes : List ℕ) → Begins sizes e quiet (Some bytes) → e'.in_line ≡ false → Stands sizes e' [] → Did sizes (state_of e []) (state_of e' []) before before (Kept name ∷ []) →
+      Came sizes (First quiet file (Some bytes)) e' before (world_of f a e') 0
+  kept_came bytes begins column stands d =
+      subst (λ (x : Bool). Came sizes (First quiet file (Some bytes)) e' before (world f a x) 0) (sym column) (record {
+        ms = Kept (job_name file) ∷ [];
+        work' = [];
+        stands = stands;
+        moves = subst (λ (s : State). FitMoves sizes s (Kept (job_name file) ∷ []) (state_of e' [])) (begins.state file) (due_moves sizes (state_of e []) (state_of e' []) before before (Kept (job_name file) ∷ []) refl (kept_did d));
+        count = refl;
+        written = (kept_did d).written;
+      })
+
+  -- the names that are entered are as they were
+  pub kept_names : Did sizes (state_of e []) (state_of e' []) before before (Kept name ∷ []) → e.names.names ≡ primitive_names → e'.names.names ≡ primitive_names
+  kept_names d names = sym (ap (λ (s : State). s.names) d.state) ∙ names
+
+  -- and so are the reports
+  pub kept_reports : Did sizes (state_of e []) (state_of e' []) before before (Kept name ∷ []) → e.reports ≡ 0 → e'.reports ≡ 0
+  kept_reports d none = sym (ap (λ (s : State). s.reports) d.state) ∙ none
+
+  -- the file isn't held, and the run ends
+  module _ (begins : Begins sizes e quiet None) (column : e'.in_line ≡ false) (d : Did sizes (state_of e []) (state_of e' []) before before (Kept name ∷ [])) (b : SinkTold) (e2 : Engine) (n : ℕ) where
+    pub refused_fails : Halts sizes (state_of e' []) e2 (world_of f a e') (world_of f b e2) (no_file file) (AtFatal NoFile) 0 → SaysSo sizes (First quiet file None) n before (world_of f b e2) 2
+    refused_fails halts =
+        let h : Halts sizes (state_of e' []) e2 before (world_of f b e2) (no_file file) (AtFatal NoFile) 0 = subst (λ (x : Bool). Halts sizes (state_of e' []) e2 (world f a x) (world_of f b e2) (no_file file) (AtFatal NoFile) 0) column halts in
+        let all : Did sizes (state_of e []) h.t before (world_of f b e2) (job_due file None) =
+        did_join sizes (state_of e []) (state_of e' []) h.t before before (world_of f b e2) (Kept (job_name file) ∷ []) (no_file file) (kept_did d) h.did in
+        record {
+          is = IsFatal;
+          says = record {
+            fatal = NoFile;
+            whole = record {
+              ms = job_due file None;
+              t = h.t;
+              run = record {
+                moves = subst (λ (s : State). FitMoves sizes s (job_due file None) h.t) (begins.state file) (due_moves sizes (state_of e []) h.t before (world_of f b e2) (job_due file None) h.due all);
+                within = omega arith;
+                whole = stopped_ends h.t (AtFatal NoFile) h.due h.stopped;
+              };
+              stopped = h.stopped;
+              written = all.written;
+            };
+          };
+        }
+
+    pub refused_cut : (k : Broken) → Cuts sizes (state_of e' []) e2 [] (world_of f a e') (world_of f b e2) (no_file file) k → CutBy sizes (First quiet file None) n e2 before (world_of f b e2) k
+    refused_cut k cuts =
+        let h : Cuts sizes (state_of e' []) e2 [] before (world_of f b e2) (no_file file) k = subst (λ (x : Bool). Cuts sizes (state_of e' []) e2 [] (world f a x) (world_of f b e2) (no_file file) k) column cuts in
+        subst (λ (s : State). CutBy sizes s n e2 before (world_of f b e2) k) (begins.state file)
+        (due_cuts sizes (state_of e []) e2 [] before (world_of f b e2) (job_due file None) n k (omega arith)
+        (later_cuts sizes (state_of e []) (state_of e' []) e2 [] before before (world_of f b e2) (Kept (job_name file) ∷ []) (no_file file) k (kept_did d) h))
+
+-- the job's file is held, or it isn't
+module _ {A : Type 0} (items : A → List ℕ) (B P : Option (List ℕ) → Type 0) where
+  pub held_job : (o : Option A) → true ≡ is_some o → ((bytes : List ℕ) → B (Some bytes) → P (Some bytes)) → B (option_map items o) → P (option_map items o)
+  held_job None is h b = cc
+  held_job (Some x) is h b = h (items x) b
+
+  pub unheld_job : (o : Option A) → false ≡ is_some o → (B None → P None) → B (option_map items o) → P (option_map items o)
+  unheld_job None is h b = h b
+  unheld_job (Some x) is h b = cc
+
+-- BEHIND WHAT HAS WRITTEN NOTHING
+
+module _ (sizes : Sizes) (s : State) (n : ℕ) (w m w' : World) (quiet : Wrote w m []) where
+  cut_later : (t : State) (between : World) (why : Why) → CutAt sizes s n t m between why → CutAt sizes s n t w between why
+  cut_later t between why c = cut_within sizes s t (0 + n) n w between why (omega arith) (cut_behind sizes s s t 0 n w m between [] why refl (omega arith) quiet c)
+
+  abbrev whole_behind : (o : MachineOutcome) → Whole sizes s n m w' o → Whole sizes s n w w' o
+  whole_behind o h = record { ms = h.ms; t = h.t; run = h.run; stopped = h.stopped; written = wrote_join w m w' [] h.ms quiet h.written }
+
+  behind : (status : ℕ) (is : Status status) → Says sizes s n m w' status is → Says sizes s n w w' status is
   behind _ IsFinished h = record { whole = whole_behind machine.Finished h.whole; reports = h.reports }
   behind _ IsFlawed h = record { whole = whole_behind machine.Finished h.whole; reports = h.reports }
   behind _ IsFatal h = record { fatal = h.fatal; whole = whole_behind (AtFatal h.fatal) h.whole }
-  behind _ IsSteps h = record { ms = h.ms; t = h.t; between = h.between; trace = h.trace; needs = h.needs; written = wrote_join w m h.between [] h.ms quiet h.written; last = h.last }
+  behind _ IsFullTable h = record {
+    full = h.full;
+    stops = record { ms = h.stops.ms; t = h.stops.t; between = h.stops.between; run = h.stops.run; written = wrote_join w m h.stops.between [] h.stops.ms quiet h.stops.written; last = h.stops.last };
+  }
+  behind _ IsSteps h = record { ms = h.ms; t = h.t; between = h.between; run = h.run; written = wrote_join w m h.between [] h.ms quiet h.written; last = h.last }
   behind _ IsReadFault h = record { between = h.between; written = wrote_join w m h.between [] [] quiet h.written; last = h.last }
-  behind _ IsWriteFault h = record { between = h.between; cut = cut_behind h.between IsFault h.cut; last = h.last }
-  behind _ IsNoMemory (inl h) = inl (record { between = h.between; cut = cut_behind h.between IsWant h.cut; last = h.last })
-  behind _ IsNoMemory (inr h) = inr (record {
-    between = h.between;
-    moment = record { ms = h.moment.ms; t = h.moment.t; moves = h.moment.moves; within = h.moment.within; written = wrote_join w m h.between [] h.moment.ms quiet h.moment.written };
-    last = h.last;
-  })
+  behind _ IsWriteFault h = record { t = h.t; between = h.between; cut = cut_later h.t h.between IsFault h.cut; last = h.last }
+  behind _ IsNoMemory (inl h) = inl (record { t = h.t; between = h.between; cut = cut_later h.t h.between IsWant h.cut; last = h.last })
+  behind _ IsNoMemory (inr h) = inr (record { between = h.between; written = wrote_join w m h.between [] [] quiet h.written; last = h.last })
 
-  pub says_behind : (status : ℕ) → SaysSo s n m w' status → SaysSo s n w w' status
+  pub says_behind : (status : ℕ) → SaysSo sizes s n m w' status → SaysSo sizes s n w w' status
   says_behind status h = record { is = h.is; says = behind status h.is h.says }
 
 -- reading a file writes nothing
@@ -161,15 +243,30 @@ read_quiet f f' s b h lr e lw = record {
   later = record { read_faults = lr; file_faults = omega (arith, e); sink_faults = omega arith; file_wants = lw; sink_wants = omega arith };
 }
 
-pub missing_job : (f : File) → NotFound f → IsJob f None
+-- WHAT THE WORDS MEAN
+
+missing_job : (f : File) → NotFound f → IsJob f None
 missing_job Untold h = tt
 missing_job NotHeld h = refl
 missing_job (Holds b) h = absurd h
 
-pub content_job : (f : File) (bytes : List ℕ) → IsContent f bytes → IsJob f (Some bytes)
+content_job : (f : File) (bytes : List ℕ) → IsContent f bytes → IsJob f (Some bytes)
 content_job Untold bytes h = tt
 content_job NotHeld bytes h = absurd h
 content_job (Holds b) bytes h = ap Some h
+
+-- what was read of the job's file is what may be told of it
+pub told_job : {A : Type 0} (items : A → List ℕ) (f : File) (o : Option A) → IfNone o (NotFound f) → IfSome o (λ v. IsContent f (items v)) → IsJob f (option_map items o)
+told_job items f None missing content = missing_job f missing
+told_job items f (Some x) missing content = content_job f (items x) content
+
+-- other bounds, the same
+pub says_by : (sizes sizes' : Sizes) (quiet quiet' : Bool) (n n' : ℕ) (name : List ℕ) (job : Option (List ℕ)) (w w' : World) (status : ℕ) → sizes' ≡ sizes → quiet' ≡ quiet → n' ≡ n →
+    SaysSo sizes' (First quiet' name job) n' w w' status → SaysSo sizes (First quiet name job) n w w' status
+says_by sizes sizes' quiet quiet' n n' name job w w' status a b c h =
+    subst (λ (x : Sizes). SaysSo x (First quiet name job) n w w' status) a
+    (subst (λ (x : Bool). SaysSo sizes' (First x name job) n w w' status) b
+    (subst (λ (x : ℕ). SaysSo sizes' (First quiet' name job) x w w' status) c h))
 
 record SomeJob (f : File) : Type 0 where
   job : Option (List ℕ)
@@ -180,24 +277,26 @@ some_job Untold = record { job = None; is_job = tt }
 some_job NotHeld = record { job = None; is_job = refl }
 some_job (Holds b) = record { job = Some b; is_job = refl }
 
-module _ (quiet : Bool) (name : List ℕ) (file : File) (n : ℕ) where
-  pub means_says : (job : Option (List ℕ)) (w w' : World) (status : ℕ) → IsJob file job → SaysSo (First quiet name job) n w w' status → MeansRun quiet name file n w w' status
+module _ (sizes : Sizes) (quiet : Bool) (name : List ℕ) (file : File) (n : ℕ) where
+  pub means_says : (job : Option (List ℕ)) (w w' : World) (status : ℕ) → IsJob file job → SaysSo sizes (First quiet name job) n w w' status → MeansRun sizes quiet name file n w w' status
   means_says job w w' status is says = record { job = job; is_job = is; is = says.is; says = says.says }
 
-  pub means_unread : (w m w' : World) → Wrote w m [] → Line m w' read_fault_line → MeansRun quiet name file n w w' 5
+  pub means_unread : (w m w' : World) → Wrote w m [] → Line m w' read_fault_line → MeansRun sizes quiet name file n w w' 5
   means_unread w m w' wrote last = let j = some_job file in
       record { job = j.job; is_job = j.is_job; is = IsReadFault; says = record { between = m; written = wrote; last = last } }
 
-  pub means_no_room : (w m w' : World) → Wrote w m [] → Line m w' no_memory_line → MeansRun quiet name file n w w' 7
+  pub means_no_room : (w m w' : World) → Wrote w m [] → Line m w' no_memory_line → MeansRun sizes quiet name file n w w' 7
   means_no_room w m w' wrote last = let j = some_job file in
-      record { job = j.job; is_job = j.is_job; is = IsNoMemory; says = inr (record { between = m; moment = record { ms = []; t = First quiet name j.job; moves = refl; within = omega arith; written = wrote }; last = last }) }
+      record { job = j.job; is_job = j.is_job; is = IsNoMemory; says = inr (record { between = m; written = wrote; last = last }) }
 
 -- want of memory before there is a machine, whatever the words
 pub no_memory_means : (k : Command) (f : FilesTold) (a b : SinkTold) (c : Bool) → Line (world f a false) (world f b c) no_memory_line → Means k f.file (world f a false) (world f b c) 7
-no_memory_means (Init name options) f a b c last = means_no_room options.quiet name (f.file name) options.steps _ _ _ (wrote_none (world f a false)) last
+no_memory_means (Init name options) f a b c last = means_no_room (sizes_of options) options.quiet name (f.file name) options.steps _ _ _ (wrote_none (world f a false)) last
 no_memory_means NoCommand f a b c last = inr (record { is = refl; line = last })
 
--- a run that ended at a failed write, over whatever files: a write to the transcript failed
+-- A FAILED WRITE
+
+-- over whatever files: a write to the transcript failed
 bare : FilesTold
 bare = record { file = λ name. Untold; reading = λ id. false; rest = λ id. None; writer = λ id. None; read_faults = 0; write_faults = 0; wants = 0 }
 
@@ -212,10 +311,10 @@ of_cause a b c d m (inr h) later =
     let on : m.sink_faults ≤ b.faults = later.sink_faults in
     omega (arith, rose, on)
 
-of_fault : (s : State) (n : ℕ) (a b : SinkTold) (c d : Bool) (is : Status 6) → Says s n (world bare a c) (world bare b d) 6 is → Rose a.faults b.faults
-of_fault s n a b c d IsWriteFault h = of_cause a b c d h.between h.cut.cause h.last.written.later
+of_fault : (sizes : Sizes) (s : State) (n : ℕ) (a b : SinkTold) (c d : Bool) (is : Status 6) → Says sizes s n (world bare a c) (world bare b d) 6 is → Rose a.faults b.faults
+of_fault sizes s n a b c d IsWriteFault h = of_cause a b c d h.between h.cut.cause h.last.written.later
 
-pub fault_rose : (s : State) (n : ℕ) (a b : SinkTold) (c d : Bool) (status : ℕ) → ((f : FilesTold) → SaysSo s n (world f a c) (world f b d) status) → status ≡ 6 → Rose a.faults b.faults
-fault_rose s n a b c d status h is =
-    let x : SaysSo s n (world bare a c) (world bare b d) 6 = subst (λ (k : ℕ). SaysSo s n (world bare a c) (world bare b d) k) is (h bare) in
-    of_fault s n a b c d x.is x.says
+pub fault_rose : (sizes : Sizes) (s : State) (n : ℕ) (a b : SinkTold) (c d : Bool) (status : ℕ) → ((f : FilesTold) → SaysSo sizes s n (world f a c) (world f b d) status) → status ≡ 6 → Rose a.faults b.faults
+fault_rose sizes s n a b c d status h is =
+    let x : SaysSo sizes s n (world bare a c) (world bare b d) 6 = subst (λ (k : ℕ). SaysSo sizes s n (world bare a c) (world bare b d) k) is (h bare) in
+    of_fault sizes s n a b c d x.is x.says

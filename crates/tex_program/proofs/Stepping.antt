@@ -2,32 +2,35 @@
 use Rattle.std.proofs.Common.{◌≡◌, ℕ, List, [], ◌∷◌, ◌++◌, refl, sym, ap, ◌∙◌, arith, Bool, true, false}
 use Rattle.std.specs.Prelude.{Option, Some, None, if◌then◌else◌, ◌&&◌, is_some, nat_eq, nat_lt}
 use Rattle.tex_defs.specs.declared.Seen.{Seen}
+use Rattle.tex_defs.specs.declared.Sizes.{Sizes}
 use Rattle.tex_defs.specs.declared.Meaning.{Meaning}
 use Rattle.tex_defs.specs.declared.Meaning.TheVariants as means
-use Rattle.plain_state.specs.Names.{primitive_names, seen, catcode_primitive, message_primitive, end_primitive}
+use Rattle.tex_defs.specs.declared.Token.{Token}
+use Rattle.tex_defs.specs.declared.Fatal.TheVariants.{HundredErrors}
+use Rattle.tex_defs.specs.Places.{Transcript}
+use Rattle.plain_state.specs.Names.{seen, name_of, catcode_primitive, message_primitive, end_primitive}
+use Rattle.plain_state.specs.Lookup.{token_of, new_name}
 use Rattle.plain_state.specs.Readings as reading
 use Rattle.plain_state.specs.Readings.{is_space, is_undefined}
-use Rattle.plain_state.specs.Pending.{Pulled, TokenFrom, LineTaken, InvalidMet, FileOver, NothingLeft, pulled}
+use Rattle.plain_state.specs.Pending.{Pulled, TokenFrom, LexemeFrom, LineTaken, InvalidMet, FileOver, NothingLeft, pulled}
 use Rattle.plain_state.specs.States.{State, Move, Reading, Handed, Taken, Feeds, Noted, Begun, Ended, Written, Stopped, AtFatal}
-use Rattle.tex_defs.specs.declared.Token.{Token}
-use Rattle.plain_state.specs.Names.{name_of}
 use Rattle.plain_state.specs.Reports as reports
 use Rattle.plain_state.specs.Reports.{hundred_line}
-use Rattle.tex_defs.specs.Places.{Transcript}
-use Rattle.tex_defs.specs.declared.Fatal.TheVariants.{HundredErrors}
-use Rattle.plain_machine.specs.Plan.{Page, page_of, plan, handed, checked, checked_reading, without_file, page_behind, reported, reports_room, told, is_told, token_line, finish, stomach, command, primitive, wanted, expanded, answered, begun, begun_with, last_seen, given_back, effect}
-use Rattle.plain_machine.specs.Runs.{NeedsStep, steps}
-use Rattle.plain_machine.proofs.Joins.{plan_needs, steps_join}
-use Rattle.tex_program.specs.declared.scan.Ask.{Ask}
-use Rattle.tex_program.specs.declared.scan.Ask.TheVariants.{More, Inner, Done, Act, Tells}
-use Rattle.tex_program.specs.declared.frame.Frame.{Frame}
+use Rattle.plain_machine.specs.Plan.{Page, page_of, plan, handed, entered, enters_names, checked, checked_reading, without_file, page_behind, reported, reports_room, told, is_told, token_line, finish, stomach, command, primitive, wanted, expanded, answered, begun, begun_with, last_seen, given_back, put_all, effect}
+use Rattle.plain_machine.specs.Runs.{steps}
+use Rattle.plain_machine.proofs.Joins.{StepComes, plan_needs, steps_join}
+use Rattle.frames.specs.declared.scan.Ask.{Ask}
+use Rattle.frames.specs.declared.scan.Ask.TheVariants.{More, Inner, Done, Act, Tells}
+use Rattle.frames.specs.declared.frame.Frame.{Frame}
+use Rattle.frames.specs.Sees.{ask_of, want_of, effect_of, value_of, kind_of}
+use Rattle.transcript.specs.Reported.{report_of}
+use Rattle.input_state.specs.Reads.{gives_step}
 use Rattle.tex_program.specs.declared.engine.Engine.{Engine}
-use Rattle.tex_program.specs.Sees.{ask_of, want_of, effect_of, value_of, kind_of, report_of}
-use Rattle.tex_program.specs.Reads.{gives_step}
 use Rattle.tex_program.specs.Stands.{Stands, WorkStands, state_of}
 use Rattle.tex_program.specs.Steps.{stepping, wants_token}
 use Rattle.tex_program.specs.Rules.{plan_of}
-use Rattle.tex_program.proofs.Ruling.{back_none, effect_none}
+
+-- MOVES WITHOUT A STEP
 
 abbrev one_if : Bool → ℕ
 one_if b = if b then 1 else 0
@@ -36,6 +39,21 @@ none_if : (b : Bool) (x y : List Move) → steps x ≡ 0 → steps y ≡ 0 → s
 none_if true x y h i = h
 none_if false x y h i = i
 
+back_none : (back : Bool) (fed : List reading.Fed) → steps (given_back back fed) ≡ 0
+back_none false fed = refl
+back_none true fed = all_none (last_seen fed) where
+  all_none : (xs : List Seen) → steps (put_all xs) ≡ 0
+  all_none [] = refl
+  all_none (x ∷ xs) = refl
+
+effect_none : (s : State) (ef : reading.Effect) → steps (effect s ef) ≡ 0
+effect_none s (reading.SetCategory code category) = refl
+effect_none s (reading.Say ts) = refl
+
+entered_none : (names : List (List ℕ)) → steps (entered names) ≡ 0
+entered_none [] = refl
+entered_none (name ∷ names) = refl
+
 reported_none : (page : Page) (report : reports.Report) (rest : List Move) → steps rest ≡ 0 → steps (reported page report rest) ≡ 0
 reported_none page report rest h =
     let last : steps (if nat_lt page.reports reports_room then rest else Written Transcript hundred_line ∷ Stopped (AtFatal HundredErrors) ∷ []) ≡ 0 =
@@ -43,7 +61,7 @@ reported_none page report rest h =
     omega (arith, last)
 
 line_none : (page : Page) (m : Meaning Unit) → steps (token_line page m) ≡ 0
-line_none page m = none_if page.quiet [] (Written Transcript (reports.token_line_bytes page.in_line m) ∷ []) refl refl
+line_none page m = none_if page.quiet [] (Written Transcript (reports.token_line_bytes page.names page.in_line m) ∷ []) refl refl
 
 primitive_none : (page : Page) (t : Token) (n : ℕ) → steps (primitive page t n) ≡ 0
 primitive_none page t n =
@@ -74,17 +92,12 @@ checked_none : (categories : List ℕ) (page : Page) (work : List Reading) → s
 checked_none categories page [] = refl
 checked_none categories page (r ∷ rs) = by_kind r.kind where
   by_kind : (k : reading.Kind) → steps (checked_reading categories page r k) ≡ 0
-  by_kind (reading.Text name) = let none = reported_none (page_behind page (reports.runaway_bytes categories page.in_line (reading.so_far r.kind r.fed))) (reports.FileEndedInText name) [] refl in omega (arith, none)
+  by_kind (reading.Text name) =
+      let none = reported_none (page_behind page (reports.runaway_bytes categories page.names page.in_line (reading.so_far r.kind r.fed))) (reports.FileEndedInText name) [] refl in
+      omega (arith, none)
   by_kind reading.Catcode = refl
   by_kind (reading.Message name) = refl
   by_kind reading.Integer = refl
-
-handed_steps : (page : Page) (onward : Seen → List Move) (check : List Move) (p : Pulled) → ((x : Seen) → steps (onward x) ≡ 0) → steps check ≡ 0 → steps (handed page onward check p) ≡ one_if (gives_step p)
-handed_steps page onward check (TokenFrom t q) h k = omega (arith, h (seen t))
-handed_steps page onward check (LineTaken l q) h k = refl
-handed_steps page onward check (InvalidMet q) h k = omega (arith, reported_none page reports.InvalidCharacter [] refl)
-handed_steps page onward check (FileOver q) h k = omega (arith, k)
-handed_steps page onward check NothingLeft h k = refl
 
 told_none : (page : Page) (report : reports.Report) (back : Bool) (fed : List reading.Fed) → steps (told page report back fed) ≡ 0
 told_none page report back fed =
@@ -100,50 +113,71 @@ begun_none : (k : reading.Kind) (begins : Bool) (r : Reading) → steps (begun k
 begun_none k true r = with_none k r.lent (last_seen r.fed)
 begun_none k false r = refl
 
+-- A RULE'S STEPS
+
+handed_steps : (page : Page) (enters : Bool) (onward : Seen → List Move) (check : List Move) (p : Pulled) → ((x : Seen) → steps (onward x) ≡ 0) → steps check ≡ 0 → steps (handed page enters onward check p) ≡ one_if (gives_step p)
+handed_steps page enters onward check (TokenFrom t q) h k = omega (arith, h (seen t))
+handed_steps page enters onward check (LexemeFrom x q) h k =
+    let t : Token = token_of enters page.names x in
+    let names : List (List ℕ) = new_name enters page.names x in
+    omega (arith, steps_join (entered names) (onward (seen t)), entered_none names, h (seen t))
+handed_steps page enters onward check (LineTaken l q) h k = refl
+handed_steps page enters onward check (InvalidMet q) h k = omega (arith, reported_none page reports.InvalidCharacter [] refl)
+handed_steps page enters onward check (FileOver q) h k = omega (arith, k)
+handed_steps page enters onward check NothingLeft h k = refl
+
 answer_steps : (e : Engine) (work : List Reading) (r : Reading) (f : Frame) (a : Ask) →
-    steps (answered (state_of e work) work r (ask_of a)) ≡ one_if (wants_token (Some f) a && gives_step (pulled primitive_names e.categories e.input))
-answer_steps e work r f (More w) = let page = page_of (state_of e work) in handed_steps page (wanted page (want_of w)) (checked e.categories (without_file page) work) (pulled primitive_names e.categories e.input) (wanted_none page (want_of w)) (checked_none e.categories (without_file (page_of (state_of e work))) work)
-answer_steps e work r f (Inner k begins) = begun_none (kind_of k) (is_some begins) r
-answer_steps e work r f (Done v back) = steps_join (given_back (is_some back) r.fed) (Ended (value_of v) ∷ []) ∙ omega (arith, back_none (is_some back) r.fed)
-answer_steps e work r f (Act ef) = steps_join (effect (state_of e work) (effect_of ef)) (Ended (reading.Flag true) ∷ []) ∙ omega (arith, effect_none (state_of e work) (effect_of ef))
+    steps (answered (state_of e work) work r (ask_of e.input.gathered a)) ≡ one_if (wants_token (Some f) a && gives_step (pulled e.categories e.input.pending))
+answer_steps e work r f (More w) = let page = page_of (state_of e work) in
+    handed_steps page (enters_names (want_of w)) (wanted page (want_of w)) (checked e.categories (without_file page) work) (pulled e.categories e.input.pending) (wanted_none page (want_of w)) (checked_none e.categories (without_file (page_of (state_of e work))) work)
+answer_steps e work r f (Inner waits k begins) = begun_none (kind_of k) (is_some begins) r
+answer_steps e work r f (Done v back) = steps_join (given_back (is_some back) r.fed) (Ended (value_of e.input.gathered v) ∷ []) ∙ omega (arith, back_none (is_some back) r.fed)
+answer_steps e work r f (Act ef) =
+    steps_join (effect (state_of e work) (effect_of e.input.gathered ef)) (Ended (reading.Flag true) ∷ []) ∙ omega (arith, effect_none (state_of e work) (effect_of e.input.gathered ef))
 answer_steps e work r f (Tells report back) = told_none (page_of (state_of e work)) (report_of report) (is_some back) r.fed
 
-steps_at : (e : Engine) (x : Option Frame) (work : List Reading) → WorkStands e.ask x e.outer.items work → steps (plan_of e work) ≡ one_if (wants_token x e.ask && gives_step (pulled primitive_names e.categories e.input))
-steps_at e None [] h = let page = page_of (state_of e []) in handed_steps page (stomach page) [] (pulled primitive_names e.categories e.input) (λ x. command_none page x.token x.meaning) refl
+steps_at : (e : Engine) (x : Option Frame) (work : List Reading) → WorkStands e.ask x e.outer.items e.input.gathered work → steps (plan_of e work) ≡ one_if (wants_token x e.ask && gives_step (pulled e.categories e.input.pending))
+steps_at e None [] h = let page = page_of (state_of e []) in handed_steps page false (stomach page) [] (pulled e.categories e.input.pending) (λ x. command_none page x.token x.meaning) refl
 steps_at e None (r ∷ rs) h = absurd h
 steps_at e (Some f) [] h = absurd h
 steps_at e (Some f) (r ∷ rs) h = rw (← h.0.asked) (answer_steps e (r ∷ rs) r f e.ask)
 
-pub plan_steps : (e : Engine) (work : List Reading) → Stands e work → steps (plan_of e work) ≡ one_if (stepping e)
-plan_steps e work h = steps_at e e.top work h
-
-needs_of : (s : State) (page : Page) (onward : Seen → List Move) (check : List Move) (p : Pulled) → s.due ≡ [] → plan s s.stopped ≡ handed page onward check p → gives_step p ≡ true → NeedsStep s
-needs_of s page onward check (TokenFrom t q) e f g = plan_needs s (Handed t) _ e f refl
-needs_of s page onward check (LineTaken l q) e f g = plan_needs s (Taken l) _ e f refl
-needs_of s page onward check (InvalidMet q) e f g = cc
-needs_of s page onward check (FileOver q) e f g = cc
-needs_of s page onward check NothingLeft e f g = cc
-
-answer_needs : (e : Engine) (work : List Reading) (r : Reading) (f : Frame) (a : Ask) → plan_of e work ≡ answered (state_of e work) work r (ask_of a) → (wants_token (Some f) a && gives_step (pulled primitive_names e.categories e.input)) ≡ true → NeedsStep (state_of e work)
-answer_needs e work r f (More w) h g = let page = page_of (state_of e work) in needs_of (state_of e work) page (wanted page (want_of w)) (checked e.categories (without_file page) work) (pulled primitive_names e.categories e.input) refl h g
-answer_needs e work r f (Inner k begins) h g = cc
-answer_needs e work r f (Done v back) h g = cc
-answer_needs e work r f (Act ef) h g = cc
-answer_needs e work r f (Tells report back) h g = cc
-
-needs_at : (e : Engine) (x : Option Frame) (work : List Reading) → WorkStands e.ask x e.outer.items work → (wants_token x e.ask && gives_step (pulled primitive_names e.categories e.input)) ≡ true → NeedsStep (state_of e work)
-needs_at e None [] h g = needs_of (state_of e []) (page_of (state_of e [])) (stomach (page_of (state_of e []))) [] (pulled primitive_names e.categories e.input) refl refl g
-needs_at e None (r ∷ rs) h g = absurd h
-needs_at e (Some f) [] h g = absurd h
-needs_at e (Some f) (r ∷ rs) h g = answer_needs e (r ∷ rs) r f e.ask (ap (answered (state_of e (r ∷ rs)) (r ∷ rs) r) (sym h.0.asked)) g
-
-pub stepping_needs : (e : Engine) → stepping e ≡ true → (work : List Reading) → Stands e work → NeedsStep (state_of e work)
-stepping_needs e g work h = needs_at e e.top work h g
+plan_steps : (sizes : Sizes) (e : Engine) (work : List Reading) → Stands sizes e work → steps (plan_of e work) ≡ one_if (stepping e)
+plan_steps sizes e work h = steps_at e e.top work h.readings
 
 -- a rule that begins with no step has none
-pub plan_silent : (e : Engine) → stepping e ≡ false → (work : List Reading) → Stands e work → steps (plan_of e work) ≡ 0
-plan_silent e g work h = plan_steps e work h ∙ ap one_if g
+pub plan_silent : (sizes : Sizes) (e : Engine) → stepping e ≡ false → (work : List Reading) → Stands sizes e work → steps (plan_of e work) ≡ 0
+plan_silent sizes e g work h = plan_steps sizes e work h ∙ ap one_if g
 
 -- and one that does has one
-pub plan_one : (e : Engine) → stepping e ≡ true → (work : List Reading) → Stands e work → steps (plan_of e work) ≡ 1
-plan_one e g work h = plan_steps e work h ∙ ap one_if g
+pub plan_one : (sizes : Sizes) (e : Engine) → stepping e ≡ true → (work : List Reading) → Stands sizes e work → steps (plan_of e work) ≡ 1
+plan_one sizes e g work h = plan_steps sizes e work h ∙ ap one_if g
+
+-- A STEP COMES
+
+module _ (sizes : Sizes) where
+  needs_of : (s : State) (page : Page) (enters : Bool) (onward : Seen → List Move) (check : List Move) (p : Pulled) → s.due ≡ [] → plan s s.stopped ≡ handed page enters onward check p → gives_step p ≡ true → StepComes sizes s
+  needs_of s page enters onward check (TokenFrom t q) e f g = plan_needs sizes s (Handed t) _ e f refl
+  needs_of s page enters onward check (LexemeFrom x q) e f g = plan_needs sizes s (Handed (token_of enters page.names x)) _ e f refl
+  needs_of s page enters onward check (LineTaken l q) e f g = plan_needs sizes s (Taken l) _ e f refl
+  needs_of s page enters onward check (InvalidMet q) e f g = cc
+  needs_of s page enters onward check (FileOver q) e f g = cc
+  needs_of s page enters onward check NothingLeft e f g = cc
+
+  answer_needs : (e : Engine) (work : List Reading) (r : Reading) (f : Frame) (a : Ask) → plan_of e work ≡ answered (state_of e work) work r (ask_of e.input.gathered a) →
+      (wants_token (Some f) a && gives_step (pulled e.categories e.input.pending)) ≡ true → StepComes sizes (state_of e work)
+  answer_needs e work r f (More w) h g = let page = page_of (state_of e work) in
+      needs_of (state_of e work) page (enters_names (want_of w)) (wanted page (want_of w)) (checked e.categories (without_file page) work) (pulled e.categories e.input.pending) refl h g
+  answer_needs e work r f (Inner waits k begins) h g = cc
+  answer_needs e work r f (Done v back) h g = cc
+  answer_needs e work r f (Act ef) h g = cc
+  answer_needs e work r f (Tells report back) h g = cc
+
+  needs_at : (e : Engine) (x : Option Frame) (work : List Reading) → WorkStands e.ask x e.outer.items e.input.gathered work → (wants_token x e.ask && gives_step (pulled e.categories e.input.pending)) ≡ true → StepComes sizes (state_of e work)
+  needs_at e None [] h g = let page = page_of (state_of e []) in needs_of (state_of e []) page false (stomach page) [] (pulled e.categories e.input.pending) refl refl g
+  needs_at e None (r ∷ rs) h g = absurd h
+  needs_at e (Some f) [] h g = absurd h
+  needs_at e (Some f) (r ∷ rs) h g = answer_needs e (r ∷ rs) r f e.ask (ap (answered (state_of e (r ∷ rs)) (r ∷ rs) r) (sym h.0.asked)) g
+
+  pub stepping_needs : (e : Engine) → stepping e ≡ true → (work : List Reading) → Stands sizes e work → StepComes sizes (state_of e work)
+  stepping_needs e g work h = needs_at e e.top work h.readings g

@@ -1,27 +1,30 @@
 -- A stop line, whole or cut off.
-use Rattle.std.proofs.Common.{◌≡◌, inl, inr, ℕ, ◌≤◌, List, ◌++◌, refl, sym, ◌∙◌, arith, take, length}
-use Rattle.std.specs.Prelude.{Bool}
+use Rattle.std.proofs.Common.{◌≡◌, inl, inr, ℕ, List, ◌++◌, refl, sym, subst, arith, take, length}
+use Rattle.std.specs.Prelude.{Bool, Result, Ok, Err, OnOk, IfErr}
 use Rattle.std.proofs.lemmas.List.{take_all}
-use Rattle.tex_defs.specs.Places.{Rose, grown}
-use Rattle.plain_state.specs.States.{in_line_after}
 use Rattle.plain_state.specs.Reports.{fresh_line}
 use Rattle.plain_machine.specs.Meaning.{Line}
 use Rattle.world_io.specs.Told.{FilesTold, SinkTold, world}
 use Rattle.world_io.specs.declared.traits.Fault.{Fault}
 use Rattle.world_io.specs.declared.traits.Fault.TheVariants.{Failed, NoMemory}
-use Rattle.tex_program.proofs.Writing.{wrote_out}
+use Rattle.transcript.specs.Taken.{Took, TookFront}
+use Rattle.tex_program.proofs.Cutting.{wrote_out}
 
-module _ (f : FilesTold) (s s' : SinkTold) (b b' : Bool) (line text : List ℕ) (is : text ≡ fresh_line b ++ line) (lf : s.faults ≤ s'.faults) (lw : s.wants ≤ s'.wants) where
-  pub line_whole : s'.bytes ≡ grown s.bytes text → b' ≡ in_line_after b text → Line (world f s b) (world f s' b') line
-  line_whole h e =
-      let all : take (length (fresh_line b ++ line)) (fresh_line b ++ line) ≡ text = take_all (length (fresh_line b ++ line)) (fresh_line b ++ line) (omega arith) ∙ sym is in
+module _ (f : FilesTold) (s s' : SinkTold) (b b' : Bool) (line : List ℕ) where
+  line_whole : Took s s' b b' (fresh_line b ++ line) → Line (world f s b) (world f s' b') line
+  line_whole h =
+      let all : take (length (fresh_line b ++ line)) (fresh_line b ++ line) ≡ fresh_line b ++ line = take_all (length (fresh_line b ++ line)) (fresh_line b ++ line) (omega arith) in
       record {
         count = length (fresh_line b ++ line);
-        written = wrote_out f s s' b b' (take (length (fresh_line b ++ line)) (fresh_line b ++ line)) (rw all h) (rw all e) lf lw;
+        written = wrote_out f s s' b b' (take (length (fresh_line b ++ line)) (fresh_line b ++ line)) (subst (λ (bs : List ℕ). Took s s' b b' bs) (sym all) h);
         whole = inl (omega arith);
       }
 
-  pub line_cut : (fault : Fault) (n : ℕ) → s'.bytes ≡ grown s.bytes (take n text) → b' ≡ in_line_after b (take n text) → (fault ≡ Failed → Rose s.faults s'.faults) → (fault ≡ NoMemory → Rose s.wants s'.wants) →
-      Line (world f s b) (world f s' b') line
-  line_cut Failed n h e failed wanted = record { count = n; written = wrote_out f s s' b b' (take n (fresh_line b ++ line)) (rw (← is) h) (rw (← is) e) lf lw; whole = inr (inl (failed refl)) }
-  line_cut NoMemory n h e failed wanted = record { count = n; written = wrote_out f s s' b b' (take n (fresh_line b ++ line)) (rw (← is) h) (rw (← is) e) lf lw; whole = inr (inr (wanted refl)) }
+  line_cut : (fault : Fault) → TookFront s s' b b' (fresh_line b ++ line) fault → Line (world f s b) (world f s' b') line
+  line_cut Failed h = record { count = h.count; written = wrote_out f s s' b b' (take h.count (fresh_line b ++ line)) h.took; whole = inr (inl (h.failed refl)) }
+  line_cut NoMemory h = record { count = h.count; written = wrote_out f s s' b b' (take h.count (fresh_line b ++ line)) h.took; whole = inr (inr (h.wanted refl)) }
+
+  -- what a sink took of it
+  pub line_told : (r : Result Unit Fault) (text : List ℕ) → text ≡ fresh_line b ++ line → OnOk r (Took s s' b b' text) → IfErr r (λ fault. TookFront s s' b b' text fault) → Line (world f s b) (world f s' b') line
+  line_told (Ok x) text is ok err = line_whole (subst (λ (bs : List ℕ). Took s s' b b' bs) is ok)
+  line_told (Err fault) text is ok err = line_cut fault (subst (λ (bs : List ℕ). TookFront s s' b b' bs fault) is err)

@@ -2,11 +2,11 @@
 use Rattle.std.specs.Prelude.{ℕ, Bool, List, [], ◌∷◌, ◌++◌}
 use Rattle.tex_defs.specs.declared.Seen.{Seen}
 use Rattle.tex_defs.specs.Places.{Transcript}
-use Rattle.plain_state.specs.States.{Move, Feeds, Begun, Written, Put}
+use Rattle.plain_state.specs.States.{Move, Feeds, Begun, Written}
 use Rattle.plain_state.specs.States as machine
 use Rattle.tex_defs.specs.declared.Fatal.TheVariants.{NoEnd as FatalNoEnd}
 use Rattle.plain_state.specs.Reports.{fresh_line, emergency, no_end_line}
-use Rattle.plain_machine.specs.Plan.{Page, reported, token_line, finish, no_end, page_behind, right_brace}
+use Rattle.plain_machine.specs.Plan.{Page, reported, token_line, finish, no_end, page_behind, put_one, right_brace}
 use Rattle.plain_state.specs.Reports as reports
 use Rattle.tex_program.specs.declared.reactions.Outcome.{Outcome}
 use Rattle.tex_program.specs.declared.reactions.Outcome.TheVariants.{Finished, Fatal}
@@ -14,7 +14,8 @@ use Rattle.tex_program.specs.declared.reactions.Last.{Last}
 use Rattle.tex_program.specs.declared.reactions.Last.TheVariants.{End, NoEnd}
 use Rattle.tex_program.specs.declared.reactions.Onward.{Onward}
 use Rattle.tex_program.specs.declared.reactions.Onward.TheVariants as onward
-use Rattle.tex_program.specs.Sees.{kind_of, report_of}
+use Rattle.frames.specs.Sees.{kind_of}
+use Rattle.transcript.specs.Reported.{report_of}
 
 abbrev pub outcome_of : Outcome → machine.Outcome
 outcome_of Finished = machine.Finished
@@ -35,7 +36,7 @@ last_bytes in_line NoEnd = fresh_line in_line ++ (emergency ++ no_end_line)
 
 -- a text runs away, of which this is shown
 abbrev pub away_moves : Page → List ℕ → reports.Report → List Move
-away_moves page text report = Written Transcript text ∷ Put (right_brace ∷ []) ∷ reported (page_behind page text) report []
+away_moves page text report = Written Transcript text ∷ (put_one right_brace ++ reported (page_behind page text) report [])
 
 -- the moves behind a token that was handed on
 abbrev pub onward_moves : Page → Seen → Onward → List Move

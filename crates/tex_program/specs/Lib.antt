@@ -1,11 +1,7 @@
-pub mod Sees
-pub mod Resumes
-pub mod Weights
-pub mod Bounds
-pub mod Reads
-pub mod Views
 pub mod Begins
+pub mod Entering
 pub mod Stands
+pub mod First
 pub mod Rules
 pub mod Steps
 pub mod Ran

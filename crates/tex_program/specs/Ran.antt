@@ -1,34 +1,36 @@
 -- What the engine did in a whole run.
 use Rattle.std.specs.Prelude.{◌≡◌, ℕ, ◌≤◌, List, Option, Some, None}
 use Rattle.tex_defs.specs.Places.{World}
+use Rattle.tex_defs.specs.declared.Sizes.{Sizes}
 use Rattle.plain_state.specs.States.{Reading, State, Move}
 use Rattle.plain_machine.specs.Plan.{Ends, next}
-use Rattle.plain_machine.specs.Runs.{Moves, NeedsStep, Trace, Wrote, steps}
-use Rattle.plain_machine.specs.Does.{CutAt, MomentWritten, IsFault, IsWant}
+use Rattle.plain_machine.specs.Runs.{Wrote, steps}
+use Rattle.plain_machine.specs.Bounded.{FitMoves, Bounded, End, AtEnd, AtSteps}
+use Rattle.plain_machine.specs.Does.{CutAt, but_due}
 use Rattle.tex_program.specs.declared.broken.Broken.{Broken}
-use Rattle.tex_program.specs.declared.broken.Broken.TheVariants.{WriteFault, Want, NoRoom}
 use Rattle.tex_program.specs.declared.engine.Engine.{Engine}
 use Rattle.tex_program.specs.declared.engine.Ended.{Ended}
 use Rattle.tex_program.specs.declared.engine.Ended.TheVariants.{Halted, Steps}
 use Rattle.tex_program.specs.declared.reactions.Outcome.{Outcome}
 use Rattle.tex_program.specs.Begins.{outcome_of}
+use Rattle.tex_program.specs.Faults.{why_of}
 use Rattle.tex_program.specs.Stands.{Stands, state_of}
-use Rattle.tex_program.specs.Rules.{CountsReports}
+use Rattle.tex_program.specs.Rules.{CountsReports, IsMoment}
 
 -- The machine has come from s to where the engine is.
-pub record Came (s : State) (e' : Engine) (w w' : World) (k : ℕ) : Type 0 where
+pub record Came (sizes : Sizes) (s : State) (e' : Engine) (w w' : World) (k : ℕ) : Type 0 where
   pub ms : List Move
   pub work' : List Reading
-  pub stands : Stands e' work'
-  pub moves : Moves s ms (state_of e' work')
+  pub stands : Stands sizes e' work'
+  pub moves : FitMoves sizes s ms (state_of e' work')
   pub count : steps ms ≡ k
   pub written : Wrote w w' ms
 
 -- The machine has come from s to its end, behind at most k steps.
-pub record Stops (s : State) (e' : Engine) (w w' : World) (k : ℕ) (o : Outcome) : Type 0 where
+pub record Stops (sizes : Sizes) (s : State) (e' : Engine) (w w' : World) (k : ℕ) (o : Outcome) : Type 0 where
   pub ms : List Move
   pub t : State
-  pub moves : Moves s ms t
+  pub moves : FitMoves sizes s ms t
   pub within : steps ms ≤ k
   pub ends : next t ≡ Ends
   pub stopped : t.stopped ≡ Some (outcome_of o)
@@ -36,24 +38,36 @@ pub record Stops (s : State) (e' : Engine) (w w' : World) (k : ℕ) (o : Outcome
   pub written : Wrote w w' ms
 
 -- The machine has come on without a step: to where one comes next, or to its end.
-abbrev pub Settled : State → Engine → World → World → Option Outcome → Type 0
-Settled s e' w w' None = Came s e' w w' 0
-Settled s e' w w' (Some o) = Stops s e' w w' 0 o
+abbrev pub Settles : Sizes → State → Engine → World → World → Option Outcome → Type 0
+Settles sizes s e' w w' None = Came sizes s e' w w' 0
+Settles sizes s e' w w' (Some o) = Stops sizes s e' w w' 0 o
 
-abbrev pub EndsAs : Ended → Engine → State → Type 0
-EndsAs (Halted o) e' t = (t.stopped ≡ Some (outcome_of o)) × CountsReports (outcome_of o) t e'
-EndsAs Steps e' t = NeedsStep t
+-- The engine stands for this state, but for what is due.
+pub record IsAt (sizes : Sizes) (e' : Engine) (t : State) : Type 0 where
+  pub work' : List Reading
+  pub stands : Stands sizes e' work'
+  pub same : but_due t ≡ state_of e' work'
 
--- The whole run of at most n steps, and how it ended.
-pub record Ran (s : State) (n : ℕ) (e' : Engine) (w w' : World) (ended : Ended) : Type 0 where
+abbrev pub end_of : Ended → End
+end_of (Halted o) = AtEnd
+end_of Steps = AtSteps
+
+abbrev pub EndsAs : Sizes → Ended → Engine → State → Type 0
+EndsAs sizes (Halted o) e' t = (t.stopped ≡ Some (outcome_of o)) × CountsReports (outcome_of o) t e'
+EndsAs sizes Steps e' t = IsAt sizes e' t
+
+-- The whole run of at most n steps within the sizes, and how it ended.
+pub record Ran (sizes : Sizes) (s : State) (n : ℕ) (e' : Engine) (w w' : World) (ended : Ended) : Type 0 where
   pub ms : List Move
   pub t : State
-  pub trace : Trace s n ms t
-  pub ends : EndsAs ended e' t
+  pub run : Bounded sizes s n ms t (end_of ended)
+  pub ends : EndsAs sizes ended e' t
   pub written : Wrote w w' ms
 
--- The run was cut off at a moment: at a move that calls the outside, or where the engine found no memory.
-abbrev pub CutBy : State → ℕ → World → World → Broken → Type 0
-CutBy s n w w' WriteFault = CutAt s n w w' IsFault
-CutBy s n w w' Want = CutAt s n w w' IsWant
-CutBy s n w w' NoRoom = MomentWritten s n w w'
+-- The run was cut off at a moment t: at a move that a table has no room for, or that calls the outside. The engine stands for it, but
+-- for what is due; at a failed write its column is that of the bytes really written.
+pub record CutBy (sizes : Sizes) (s : State) (n : ℕ) (e' : Engine) (w w' : World) (b : Broken) : Type 0 where
+  pub t : State
+  pub cut : CutAt sizes s n t w w' (why_of b)
+  pub work' : List Reading
+  pub same : IsMoment (why_of b) (but_due t) (state_of e' work')

@@ -1,15 +1,16 @@
 -- What a run of the engine means, by the machine.
 use Rattle.std.specs.Prelude.{ℕ, nat_lt, if◌then◌else◌}
 use Rattle.tex_defs.specs.Places.{World}
+use Rattle.tex_defs.specs.declared.Sizes.{Sizes}
 use Rattle.plain_state.specs.States.{State}
 use Rattle.plain_machine.specs.Meaning.{Status, Says}
 use Rattle.tex_program.specs.declared.reactions.Outcome.{Outcome}
 use Rattle.tex_program.specs.declared.reactions.Outcome.TheVariants.{Finished, Fatal}
 
 -- the status is one of a run's, and what it says holds
-pub record SaysSo (s : State) (n : ℕ) (w w' : World) (status : ℕ) : Type 0 where
+pub record SaysSo (sizes : Sizes) (s : State) (n : ℕ) (w w' : World) (status : ℕ) : Type 0 where
   pub is : Status status
-  pub says : Says s n w w' status is
+  pub says : Says sizes s n w w' status is
 
 -- the status of a run that has ended
 abbrev pub end_status : Outcome → ℕ → ℕ

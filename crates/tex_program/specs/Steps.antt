@@ -1,15 +1,15 @@
 -- Whether the next rule needs a step, and how many rules without a step may follow.
 use Rattle.std.specs.Prelude.{◌≡◌, ℕ, ◌+◌, ◌*◌, length, Bool, true, false, ◌&&◌, Option, Some, None}
-use Rattle.plain_state.specs.Names.{primitive_names}
 use Rattle.plain_state.specs.Pending.{Pending, Progress, Closed, pulled}
-use Rattle.tex_program.specs.Reads.{gives_step}
-use Rattle.tex_program.specs.Weights.{ask_weight}
-use Rattle.tex_program.specs.declared.scan.Ask.{Ask}
-use Rattle.tex_program.specs.declared.scan.Ask.TheVariants.{More}
-use Rattle.tex_program.specs.declared.frame.Frame.{Frame}
+use Rattle.input_state.specs.Reads.{gives_step}
+use Rattle.frames.specs.Weights.{ask_weight}
+use Rattle.frames.specs.declared.scan.Ask.{Ask}
+use Rattle.frames.specs.declared.scan.Ask.TheVariants.{More}
+use Rattle.frames.specs.declared.frame.Frame.{Frame}
 use Rattle.tex_program.specs.declared.engine.Engine.{Engine}
 use Rattle.tex_program.specs.declared.engine.Ruled.{Ruled}
 use Rattle.tex_program.specs.declared.engine.Ruled.TheVariants.{Step, Free, Halted}
+use Rattle.tex_program.specs.Stands.{frames}
 
 abbrev pub asks_more : Ask → Bool
 asks_more (More want) = true
@@ -19,22 +19,14 @@ abbrev pub wants_token : Option Frame → Ask → Bool
 wants_token None a = true
 wants_token (Some f) a = asks_more a
 
--- the next rule begins with a step
+-- the next rule has a step
 abbrev pub stepping : Engine → Bool
-stepping e = wants_token e.top e.ask && gives_step (pulled primitive_names e.categories e.input)
+stepping e = wants_token e.top e.ask && gives_step (pulled e.categories e.input.pending)
 
 abbrev pub IsStep : Ruled → Type 0
 IsStep Step = Unit {0}
 IsStep Free = ⊥
 IsStep (Halted o) = ⊥
-
-abbrev pub top_frames : Option Frame → ℕ
-top_frames None = 0
-top_frames (Some f) = 1
-
--- the open readings
-abbrev pub frames : Engine → ℕ
-frames e = length e.outer.items + top_frames e.top
 
 -- an invalid character may still be skipped, and the file may still end
 abbrev pub file_weight : Progress → ℕ
@@ -46,7 +38,7 @@ pending_weight p = length p.line + file_weight p.file
 
 -- a rule without a step makes the engine lighter
 abbrev pub weight : Engine → ℕ
-weight e = 2 * frames e + ask_weight e.ask + pending_weight e.input
+weight e = 2 * frames e + ask_weight e.ask + pending_weight e.input.pending
 
 abbrev pub IsFree : Ruled → Type 0
 IsFree Free = Unit {0}

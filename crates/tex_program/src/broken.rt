@@ -1,5 +1,5 @@
 // Why a rule is cut off.
-use std::alloc::AllocError;
+use tex_defs::Full;
 use world_io::Fault;
 
 /// Why a rule is cut off.
@@ -9,8 +9,8 @@ pub enum Broken {
     WriteFault,
     /// A write wanted memory.
     Want,
-    /// The engine itself found no memory.
-    NoRoom,
+    /// A table has no room.
+    Full(Full),
 }
 
 impl From<Fault> for Broken {
@@ -27,13 +27,13 @@ impl From<Fault> for Broken {
     }
 }
 
-impl From<AllocError> for Broken {
+impl From<Full> for Broken {
     ghost use Rattle.std.specs.Prelude.{◌≡◌};
-    ghost use Rattle.tex_program.specs.declared.broken.Broken.TheVariants.{NoRoom};
+    ghost use Rattle.tex_program.specs.declared.broken.Broken.TheVariants as broken;
 
-    ghost from_gives = { λ _ e. e ≡ NoRoom };
+    ghost from_gives = { λ full e. e ≡ broken.Full full };
 
-    fn from(_: AllocError) -> Self {
-        Broken::NoRoom
+    fn from(full: Full) -> Self {
+        Broken::Full(full)
     }
 }

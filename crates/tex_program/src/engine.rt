@@ -1,39 +1,51 @@
 // The engine: the machine's rules, one at a time.
-ghost use Rattle.std.specs.Prelude.{◌≡◌, ◌≤◌, ◌<◌, ◌+◌, ◌*◌, ℕ, List, [], ◌∷◌, ◌++◌, reverse, IfOk, IfErr, OnOk, OnErr, Option, Some, None, Bool, true, false, is_some, IsSome, option_map};
+ghost use Rattle.std.specs.Prelude.{◌≡◌, ◌≤◌, ◌<◌, ◌+◌, ◌-◌, ◌*◌, ℕ, List, [], ◌∷◌, ◌++◌, IfOk, IfErr, IfSome, OnOk, OnErr, Option, Some, None, Bool, true, false, is_some, IsSome, option_map, option_to_list, length};
 ghost use Rattle.tex_defs.specs.Places.{Transcript, World};
+ghost use Rattle.tex_defs.specs.Sizes.{first_out_of_range};
+ghost use Rattle.tex_defs.specs.declared.Sizes.{Sizes};
 ghost use Rattle.tex_defs.specs.declared.Fatal.TheVariants as fatal;
 ghost use Rattle.plain_state.specs.Categories.{initial_categories as first_categories};
-ghost use Rattle.plain_state.specs.Names.{primitive_names};
 ghost use Rattle.plain_state.specs.Pending.{pulled};
 ghost use Rattle.plain_state.specs.Names as names;
-ghost use Rattle.plain_state.specs.Readings.{Fed, Tok, Val, Told, rank, Flag as FlagValue};
-ghost use Rattle.plain_state.specs.States.{State, Reading, Move, Put, Written, Ended as EndedMove, AtFatal, fresh, fed_with, in_line_after};
-ghost use Rattle.plain_machine.specs.Plan.{handed, effect as effect_moves, first_state, job_due, given_back, reported, token_line, checked, told, is_told, no_file};
+ghost use Rattle.prim_table.specs.Primitives.{primitive_names};
+ghost use Rattle.plain_state.specs.Lex.{Lexeme};
+ghost use Rattle.plain_state.specs.Reports.{NoSuchFile, report_bytes, message_bytes, runaway_bytes};
+ghost use Rattle.plain_state.specs.Tables.{refusal, refused, memory, lists_words, words};
+ghost use Rattle.plain_state.specs.Readings.{Fed, Tok, Val, Told, rank, own_lists, Text as TextKind, Flag as FlagValue};
+ghost use Rattle.plain_state.specs.States.{State, Reading, Move, Kept, Feeds, Begun, BegunWith, Written, Ended as EndedMove, AtFatal, fresh, fed_with};
+ghost use Rattle.plain_machine.specs.Plan.{handed, effect as effect_moves, given_back, put_one, reported, token_line, checked, told, is_told, no_file, reports_room};
 ghost use Rattle.plain_machine.specs.Does.{Did};
 ghost use Rattle.world_io.specs.Told.{FilesTold};
-ghost use Rattle.tex_program.specs.Sees.{value_of, kind_of, want_of, effect_of, report_of};
-ghost use Rattle.tex_program.specs.Resumes.{IsOpen};
-ghost use Rattle.tex_program.specs.Weights.{frame_rank};
-ghost use Rattle.tex_program.specs.Reads.{gives_step};
+ghost use Rattle.frames.specs.Sees.{value_of, kind_of, want_of, effect_of, first_list};
+ghost use Rattle.transcript.specs.Reported.{report_of};
+ghost use Rattle.frames.specs.Resumes.{IsNoText, IsOpen, frame_kind, frame_grows, lists_after};
+ghost use Rattle.frames.specs.Weights.{frame_rank};
+ghost use Rattle.input_state.specs.Reads.{gives_step, IsLexeme};
+ghost use Rattle.input_state.specs.Stored.{words as stored_words};
 ghost use Rattle.tex_program.specs.Begins.{outcome_of, outcome_of_last, last_moves, last_bytes, away_moves, onward_moves};
-ghost use Rattle.tex_program.specs.Stands.{Stands, Waits, FramesStand, IsLast, SameState, SameFrames, OnlyColumn, state_of, page_of};
-ghost use Rattle.tex_program.specs.Rules.{world_of, plan_of, onward_of, check_of, Takes, Wants, FitsOnward, RunsAway, Cuts, Went, Reports, Halts, DoesRule, DoesOnward};
-ghost use Rattle.tex_program.specs.Steps.{stepping, IsStep, IsFree, StepsIf, freed, frames, pending_weight, weight};
-ghost use Rattle.tex_program.specs.Ran.{Ran, Settled, CutBy};
+ghost use Rattle.tex_program.specs.Stands.{Stands, Waits, WaitsWith, EndsHere, FeedsHere, FedFrame, IsSized, IsLast, Counts, SameState, SameOthers, SameFrames, OnlyColumn, state_of, page_of, frames, depth_full, top_grows, kept_lists, other_lists};
+ghost use Rattle.tex_program.specs.Rules.{world_of, plan_of, onward_of, enters_of, name_moves, check_of, away_text, Takes, Wants, FitsOnward, TopTakes, Cuts, Went, Reports, Halts, DoesRule, DoesOnward};
+ghost use Rattle.tex_program.specs.Steps.{stepping, IsStep, IsFree, StepsIf, freed, pending_weight, weight};
+ghost use Rattle.tex_program.specs.First.{Begins};
+ghost use Rattle.tex_program.specs.Ran.{Ran, Settles, CutBy};
 ghost use Rattle.tex_program.specs.declared.reactions.Outcome.TheVariants as outcomes;
 ghost use Rattle.tex_program.specs.declared.engine.Ruled.TheVariants.{Halted};
 
 use crate::broken::Broken;
-use crate::frame::{Frame, first_ask};
-use crate::input::{Input, Pulled};
 use crate::meaning::seen;
-use crate::print::message_text;
+use crate::names::resolve;
 use crate::reactions::{Last, Onward, Outcome, obey, react};
-use crate::report::{Report, no_file_text, report_text, runaway_text, token_line_text};
-use crate::scan::{Ask, Effect, Kind, Value, Want};
+use frames::{Ask, Effect, Frame, Kind, Outer, Value, Waiting, Want, first_ask};
+use input_state::{Input, Pulled};
+use line_lexer::Lexed;
+use name_table::NameTable;
 use std::alloc::{AllocError, Global};
-use tex_defs::{Fatal, Meaning, Name, Seen, Token};
-use world_io::{Sink, write_all};
+use tex_defs::{Fatal, Full, Meaning, Name, Seen, Sizes, Table, Token};
+use transcript::{
+    Report, initial_view, put, write_message, write_missing_file, write_report, write_runaway,
+    write_token_line,
+};
+use world_io::Sink;
 
 /// What a rule did.
 #[derive(Clone, Copy)]
@@ -50,21 +62,15 @@ pub enum Ended {
     Steps,
 }
 
-/// Where a text runs away: the command that reads it, and what is shown of it.
-#[derive(Drop)]
-struct Away {
-    name: Name,
-    text: Vec<u8>,
-}
-
-/// The machine's state, kept in tables.
-#[derive(Drop)]
+/// The machine's state, kept in tables that were reserved when the engine was made. An engine is closed at its end.
 pub struct Engine {
-    alloc: Global,
+    sizes: Sizes,
+    /// What is pending, and all lists.
     input: Input,
+    names: NameTable,
     categories: [u8; 256],
-    /// The open readings but the innermost, the outermost first.
-    outer: Vec<Frame>,
+    /// The open readings but the innermost.
+    outer: Outer,
     /// The innermost open reading.
     top: Option<Frame>,
     /// What it asks for.
@@ -102,41 +108,64 @@ fn initial_categories() -> [u8; 256]
     INITIAL
 }
 
-/// Whether the last of these bytes isn't a line feed, or was so before where there are none.
-#[tactic(auto, using(crate::proofs::Columns::in_line_on))]
-pub fn ends_in_line(before: bool, text: &[u8]) -> bool
-    ensures { result ≡ in_line_after before text.now }
-{
-    let mut in_line = before;
-    for c in text {
-        in_line = *c != 10;
-    }
-    in_line
-}
-
 impl Engine {
     /// An engine at the beginning of a job, whose bytes are these where its file is held.
-    pub fn new(alloc: Global, quiet: bool, bytes: Option<Vec<u8>>) -> Self
-        ensures stands { Stands result [] }
-        ensures state { (file : List ℕ) → record (state_of result []) { due = job_due file (option_map (λ v. v.items) bytes) } ≡ first_state first_categories quiet file (option_map (λ v. v.items) bytes) }
-        ensures column { result.in_line ≡ false }
-        ensures reports { result.reports ≡ 0 }
+    ///
+    /// # Errors
+    /// There is no room for the tables. No other call takes memory.
+    pub fn new(
+        alloc: Global,
+        sizes: &Sizes,
+        quiet: bool,
+        bytes: Option<Vec<u8>>,
+    ) -> Result<Engine, AllocError>
+        requires { first_out_of_range sizes.now ≡ None }
+        ensures { IfOk result (λ e. Begins sizes.now e quiet (option_map (λ v. v.items) bytes)) }
     {
-        let input = match bytes {
-            Some(bytes) => Input::new(alloc, bytes),
-            None => Input::closed(alloc),
+        let input = Input::new(alloc, sizes, bytes)?;
+        let names = match NameTable::new(alloc, sizes) {
+            Ok(names) => names,
+            Err(e) => {
+                input.close();
+                return Err(e);
+            }
         };
-        Engine {
-            alloc,
+        let outer = match Outer::new(alloc, sizes.expansion_depth) {
+            Ok(outer) => outer,
+            Err(e) => {
+                input.close();
+                return Err(e);
+            }
+        };
+        Ok(Engine {
+            sizes: *sizes,
             input,
+            names,
             categories: initial_categories(),
-            outer: Vec::new(alloc),
+            outer,
             top: None,
             ask: Ask::More(Want::Expanded),
             in_line: false,
             reports: 0,
             quiet,
-        }
+        })
+    }
+
+    /// Lets all lists go, and with them the engine.
+    pub fn close(self) {
+        let Engine {
+            sizes: _,
+            input,
+            names: _,
+            categories: _,
+            outer: _,
+            top: _,
+            ask: _,
+            in_line: _,
+            reports: _,
+            quiet: _,
+        } = self;
+        input.close();
     }
 
     /// Whether the last byte that the transcript took isn't a line feed.
@@ -153,169 +182,119 @@ impl Engine {
         self.reports
     }
 
+    /// The words of main memory that are used.
+    pub fn words(&self) -> u32
+        ensures { (sizes : Sizes) (work : List Reading) → Counts sizes self.now work → result ≡ words (state_of self.now work) }
+    {
+        self.input.words()
+    }
+
+    // WRITING
+
     /// Writes text to the transcript.
     fn write_text<S: Sink>(&mut self, out: &mut S, text: &[u8]) -> Result<(), Broken>
-        ensures did { OnOk result ((f : FilesTold) (work : List Reading) → Did (state_of self.old work) (state_of self.new work) (world_of f (S.told out.old) self.old) (world_of f (S.told out.new) self.new) (Written Transcript text.now ∷ [])) }
-        ensures err { IfErr result (λ b. (f : FilesTold) (s : State) (more : List Move) → Cuts s (world_of f (S.told out.old) self.old) (world_of f (S.told out.new) self.new) (Written Transcript text.now ∷ more) b) }
+        ensures did { OnOk result ((sizes : Sizes) (f : FilesTold) (work : List Reading) → Did sizes (state_of self.old work) (state_of self.new work) (world_of f (S.told out.old) self.old) (world_of f (S.told out.new) self.new) (Written Transcript text.now ∷ [])) }
+        ensures err { IfErr result (λ b. (sizes : Sizes) (f : FilesTold) (work : List Reading) (more : List Move) → Cuts sizes (state_of self.old work) self.new work (world_of f (S.told out.old) self.old) (world_of f (S.told out.new) self.new) (Written Transcript text.now ∷ more) b) }
         ensures only { OnlyColumn self.old self.new }
     {
-        match write_all(out, text) {
-            Ok(()) => {
-                self.in_line = ends_in_line(self.in_line, text);
-                Ok(())
-            }
-            Err(e) => {
-                self.in_line = ends_in_line(self.in_line, &text[..e.written]);
-                Err(Broken::from(e.fault))
-            }
-        }
-    }
-
-    /// Begins a reading.
-    fn begin(&mut self, kind: Kind) -> Result<(), AllocError>
-        ensures light { OnOk result (weight self.new < 2 * frames self.old + 3 * (rank (kind_of kind) + 1) + pending_weight self.old.input) }
-        ensures one { OnOk result (frames self.new ≡ frames self.old + 1) }
-        ensures same { SameState self.old self.new }
-        ensures open_ask { OnOk result (IsOpen self.new.ask) }
-        ensures top { OnOk result ((f : _) → self.new.top ≡ Some f → frame_rank f ≡ rank (kind_of kind)) }
-        ensures is_open { OnOk result (IsSome self.new.top) }
-        ensures stands { OnOk result ((work : List Reading) → Waits self.old work → Stands self.new (fresh (kind_of kind) ∷ work)) }
-    {
-        let frame = Frame::new(self.alloc, kind);
-        if let Some(old) = self.top.replace(frame) {
-            self.outer.push(old)?;
-        }
-        self.ask = first_ask(kind);
+        put(out, &mut self.in_line, text)?;
         Ok(())
     }
 
-    /// Feeds the innermost reading.
-    fn feed(&mut self, seen: Seen) -> Result<(), AllocError>
-        ensures light { OnOk result ((f : _) → self.old.top ≡ Some f → weight self.new ≤ 2 * frames self.old + (7 + 3 * frame_rank f) + pending_weight self.old.input) }
-        ensures light_none { OnOk result (self.old.top ≡ None → weight self.new ≡ weight self.old) }
-        ensures same { SameState self.old self.new }
-        ensures stands { OnOk result ((work : List Reading) → IsOpen self.old.ask → Stands self.old work → Stands self.new (fed_with (Tok seen) work)) }
+    /// Writes a message: the list that the innermost reading holds.
+    fn write_message<S: Sink>(&mut self, out: &mut S) -> Result<(), Broken>
+        ensures did { OnOk result ((sizes : Sizes) (f : FilesTold) (work : List Reading) → Did sizes (state_of self.old work) (state_of self.new work) (world_of f (S.told out.old) self.old) (world_of f (S.told out.new) self.new) (Written Transcript (message_bytes self.old.categories self.old.names.names self.old.in_line (first_list self.old.input.gathered)) ∷ [])) }
+        ensures err { IfErr result (λ b. (sizes : Sizes) (f : FilesTold) (work : List Reading) (more : List Move) → Cuts sizes (state_of self.old work) self.new work (world_of f (S.told out.old) self.old) (world_of f (S.told out.new) self.new) (Written Transcript (message_bytes self.old.categories self.old.names.names self.old.in_line (first_list self.old.input.gathered)) ∷ more) b) }
+        ensures only { OnlyColumn self.old self.new }
     {
-        if let Some(frame) = &mut self.top {
-            self.ask = frame.feed(self.alloc, seen)?;
-        }
-        Ok(())
-    }
-
-    /// Ends the innermost reading, whose value goes to the one beneath.
-    fn end(&mut self, value: Value)
-        ensures light { (f : _) → self.old.top ≡ Some f → weight self.new < 2 * frames self.old + 6 + pending_weight self.old.input }
-        ensures same { SameState self.old self.new }
-        ensures stands { (work : List Reading) → FramesStand (reverse self.old.outer.items) work → Stands self.new (fed_with (Val (value_of value)) work) }
-    {
-        self.top = self.outer.pop();
-        if let Some(frame) = &mut self.top {
-            self.ask = frame.feed_value(value);
+        let (hash, pool) = self.names.parts();
+        if self.input.has_list() {
+            let (lists, list) = self.input.list();
+            let view = initial_view(lists, hash, pool, &self.categories);
+            write_message(out, &mut self.in_line, view, Some(list))?;
         } else {
-            self.ask = Ask::More(Want::Expanded);
-        }
-    }
-
-    /// Begins a reading with the token that the innermost one looked at.
-    fn begin_with(&mut self, kind: Kind, seen: Seen) -> Result<(), AllocError>
-        ensures light { OnOk result (weight self.new < 2 * frames self.old + (10 + 3 * rank (kind_of kind)) + pending_weight self.old.input) }
-        ensures same { SameState self.old self.new }
-        ensures stands { OnOk result ((work : List Reading) → Waits self.old work → Stands self.new (fed_with (Tok seen) (fresh (kind_of kind) ∷ work))) }
-    {
-        self.begin(kind)?;
-        self.feed(seen)
-    }
-
-    /// Puts a token back, if there is one.
-    fn put_back(&mut self, back: Option<Seen>) -> Result<(), AllocError>
-        ensures did { OnOk result ((w : World) (work : List Reading) (fed : List Fed) → IsLast back fed → Did (state_of self.old work) (state_of self.new work) w w (given_back (is_some back) fed)) }
-        ensures frames { SameFrames self.old self.new }
-        ensures column { self.new.in_line ≡ self.old.in_line }
-        ensures light { pending_weight self.new.input ≡ pending_weight self.old.input }
-        ensures page { page_of self.new ≡ page_of self.old }
-    {
-        if let Some(seen) = back {
-            self.input.back(seen.token)?;
+            let view = initial_view(self.input.lists(), hash, pool, &self.categories);
+            write_message(out, &mut self.in_line, view, None)?;
         }
         Ok(())
     }
 
-    /// The innermost reading is done.
-    fn done(&mut self, value: Value, back: Option<Seen>) -> Result<(), AllocError>
-        ensures light { OnOk result ((f : _) → self.old.top ≡ Some f → weight self.new < 2 * frames self.old + 6 + pending_weight self.old.input) }
-        ensures rule { OnOk result ((w : World) (r : Reading) (rs : List Reading) → FramesStand (reverse self.old.outer.items) rs → IsLast back r.fed →
-            Went (state_of self.old (r ∷ rs)) self.new w w (given_back (is_some back) r.fed ++ EndedMove (value_of value) ∷ []) 0) }
-        ensures column { self.new.in_line ≡ self.old.in_line }
+    /// Writes what is shown of a text that runs away: the list that the innermost reading holds.
+    fn write_runaway<S: Sink>(&mut self, out: &mut S) -> Result<(), Broken>
+        requires { self.old.input.gathered ≡ [] → ⊥ }
+        ensures did { OnOk result ((sizes : Sizes) (f : FilesTold) (work : List Reading) → Did sizes (state_of self.old work) (state_of self.new work) (world_of f (S.told out.old) self.old) (world_of f (S.told out.new) self.new) (Written Transcript (runaway_bytes self.old.categories self.old.names.names self.old.in_line (first_list self.old.input.gathered)) ∷ [])) }
+        ensures err { IfErr result (λ b. (sizes : Sizes) (f : FilesTold) (work : List Reading) (more : List Move) → Cuts sizes (state_of self.old work) self.new work (world_of f (S.told out.old) self.old) (world_of f (S.told out.new) self.new) (Written Transcript (runaway_bytes self.old.categories self.old.names.names self.old.in_line (first_list self.old.input.gathered)) ∷ more) b) }
+        ensures only { OnlyColumn self.old self.new }
     {
-        self.put_back(back)?;
-        self.end(value);
+        let (hash, pool) = self.names.parts();
+        let (lists, list) = self.input.list();
+        let view = initial_view(lists, hash, pool, &self.categories);
+        write_runaway(out, &mut self.in_line, view, list)?;
         Ok(())
     }
 
-    /// Does what a command says.
-    fn act<S: Sink>(&mut self, out: &mut S, effect: &Effect) -> Result<(), Broken>
-        ensures did { OnOk result ((f : FilesTold) (work : List Reading) → Did (state_of self.old work) (state_of self.new work) (world_of f (S.told out.old) self.old) (world_of f (S.told out.new) self.new) (effect_moves (state_of self.old work) (effect_of effect.now))) }
-        ensures err { IfErr result (λ b. (f : FilesTold) (work : List Reading) (more : List Move) → Cuts (state_of self.old work) (world_of f (S.told out.old) self.old) (world_of f (S.told out.new) self.new) (effect_moves (state_of self.old work) (effect_of effect.now) ++ more) b) }
-        ensures frames { SameFrames self.old self.new }
-        ensures input { self.new.input ≡ self.old.input }
+    /// The line of a token that only typesetting would use.
+    fn token_line<S: Sink>(&mut self, out: &mut S, meaning: Meaning<()>) -> Result<(), Broken>
+        ensures did { OnOk result ((sizes : Sizes) (f : FilesTold) (work : List Reading) →
+            Did sizes (state_of self.old work) (state_of self.new work) (world_of f (S.told out.old) self.old) (world_of f (S.told out.new) self.new) (token_line (page_of self.old) meaning)) }
+        ensures err { IfErr result (λ b. (sizes : Sizes) (f : FilesTold) (work : List Reading) → Cuts sizes (state_of self.old work) self.new work (world_of f (S.told out.old) self.old) (world_of f (S.told out.new) self.new) (token_line (page_of self.old) meaning) b) }
+        ensures only { OnlyColumn self.old self.new }
     {
-        match effect {
-            Effect::SetCategory(code, category) => {
-                self.categories[*code as usize] = *category;
-                Ok(())
-            }
-            Effect::Say(tokens) => {
-                let tokens = tokens.as_slice();
-                let text = message_text(self.alloc, &self.categories, self.in_line, tokens)?;
-                let shown = text.as_slice();
-                self.write_text(out, shown)
-            }
+        if self.quiet {
+            return Ok(());
         }
-    }
-
-    /// A command acts, and ends.
-    fn act_and_end<S: Sink>(&mut self, out: &mut S, effect: &Effect) -> Result<(), Broken>
-        ensures light { OnOk result ((f : _) → self.old.top ≡ Some f → weight self.new < 2 * frames self.old + 6 + pending_weight self.old.input) }
-        ensures rule { OnOk result ((f : FilesTold) (r : Reading) (rs : List Reading) → FramesStand (reverse self.old.outer.items) rs →
-            Went (state_of self.old (r ∷ rs)) self.new (world_of f (S.told out.old) self.old) (world_of f (S.told out.new) self.new) (effect_moves (state_of self.old (r ∷ rs)) (effect_of effect.now) ++ EndedMove (FlagValue true) ∷ []) 0) }
-        ensures err { IfErr result (λ b. (f : FilesTold) (work : List Reading) → Cuts (state_of self.old work) (world_of f (S.told out.old) self.old) (world_of f (S.told out.new) self.new) (effect_moves (state_of self.old work) (effect_of effect.now) ++ EndedMove (FlagValue true) ∷ []) b) }
-    {
-        self.act(out, effect)?;
-        self.end(Value::Flag(true));
+        let (hash, pool) = self.names.parts();
+        let view = initial_view(self.input.lists(), hash, pool, &self.categories);
+        write_token_line(out, &mut self.in_line, view, meaning)?;
         Ok(())
     }
 
     /// Writes a report on a fresh line, and counts it. Answers whether the run goes on behind it.
     fn report<S: Sink>(&mut self, out: &mut S, report: Report) -> Result<bool, Broken>
-        ensures on { IfOk result (λ on. on ≡ true → (f : FilesTold) (work : List Reading) (rest : List Move) →
-            Reports (state_of self.old work) (state_of self.new work) (world_of f (S.told out.old) self.old) (world_of f (S.told out.new) self.new) (page_of self.old) (report_of report) rest) }
-        ensures last { IfOk result (λ on. on ≡ false → (f : FilesTold) (work : List Reading) (rest : List Move) →
-            Halts (state_of self.old work) self.new (world_of f (S.told out.old) self.old) (world_of f (S.told out.new) self.new) (reported (page_of self.old) (report_of report) rest) (AtFatal fatal.HundredErrors) 0) }
-        ensures err { IfErr result (λ b. (f : FilesTold) (s : State) (rest : List Move) → Cuts s (world_of f (S.told out.old) self.old) (world_of f (S.told out.new) self.new) (reported (page_of self.old) (report_of report) rest) b) }
+        ensures on { IfOk result (λ on. on ≡ true → (sizes : Sizes) (f : FilesTold) (work : List Reading) (rest : List Move) →
+            Reports sizes (state_of self.old work) (state_of self.new work) (world_of f (S.told out.old) self.old) (world_of f (S.told out.new) self.new) (page_of self.old) (report_of report) rest) }
+        ensures last { IfOk result (λ on. on ≡ false → (sizes : Sizes) (f : FilesTold) (work : List Reading) (rest : List Move) →
+            Halts sizes (state_of self.old work) self.new (world_of f (S.told out.old) self.old) (world_of f (S.told out.new) self.new) (reported (page_of self.old) (report_of report) rest) (AtFatal fatal.HundredErrors) 0) }
+        ensures err { IfErr result (λ b. (sizes : Sizes) (f : FilesTold) (work : List Reading) (rest : List Move) → self.old.reports ≤ reports_room →
+            Cuts sizes (state_of self.old work) self.new work (world_of f (S.told out.old) self.old) (world_of f (S.told out.new) self.new) (reported (page_of self.old) (report_of report) rest) b) }
         ensures frames { SameFrames self.old self.new }
         ensures input { self.new.input ≡ self.old.input }
-        ensures categories { self.new.categories ≡ self.old.categories }
-        ensures quiet { self.new.quiet ≡ self.old.quiet }
+        ensures sized { IfOk result (λ on. on ≡ true → (sizes : Sizes) → IsSized sizes self.old → IsSized sizes self.new) }
     {
-        let line = self.input.line_number();
-        let text = report_text(self.alloc, self.in_line, line, report)?;
-        self.write_text(out, text.as_slice())?;
+        self.write_report(out, report)?;
         if self.reports < REPORTS_ROOM {
             self.reports += 1;
             return Ok(true);
         }
+        self.reports = REPORTS_ROOM + 1;
         self.write_text(out, HUNDRED_LINE)?;
         Ok(false)
     }
 
+    /// Writes a report.
+    fn write_report<S: Sink>(&mut self, out: &mut S, report: Report) -> Result<(), Broken>
+        ensures did { OnOk result ((sizes : Sizes) (f : FilesTold) (work : List Reading) → Did sizes (state_of self.old work) (state_of self.new work) (world_of f (S.told out.old) self.old) (world_of f (S.told out.new) self.new) (Written Transcript (report_bytes self.old.names.names self.old.in_line self.old.input.pending.number (report_of report)) ∷ [])) }
+        ensures err { IfErr result (λ b. (sizes : Sizes) (f : FilesTold) (work : List Reading) (more : List Move) → Cuts sizes (state_of self.old work) self.new work (world_of f (S.told out.old) self.old) (world_of f (S.told out.new) self.new) (Written Transcript (report_bytes self.old.names.names self.old.in_line self.old.input.pending.number (report_of report)) ∷ more) b) }
+        ensures only { OnlyColumn self.old self.new }
+    {
+        let line = self.input.line_number();
+        let (hash, pool) = self.names.parts();
+        let view = initial_view(self.input.lists(), hash, pool, &self.categories);
+        write_report(out, &mut self.in_line, view, line, report)?;
+        Ok(())
+    }
+
     /// A report, behind which the rule ends.
     fn report_only<S: Sink>(&mut self, out: &mut S, report: Report) -> Result<Ruled, Broken>
-        ensures rule { IfOk result (λ ruled. (f : FilesTold) (work : List Reading) → Stands self.old work →
-            DoesOnward (state_of self.old work) self.new (world_of f (S.told out.old) self.old) (world_of f (S.told out.new) self.new) (reported (page_of self.old) (report_of report) []) ruled) }
-        ensures err { IfErr result (λ b. (f : FilesTold) (s : State) → Cuts s (world_of f (S.told out.old) self.old) (world_of f (S.told out.new) self.new) (reported (page_of self.old) (report_of report) []) b) }
+        requires idle { self.old.input.making ≡ None }
+        ensures rule { IfOk result (λ ruled. (sizes : Sizes) (f : FilesTold) (work : List Reading) → Stands sizes self.old work →
+            DoesOnward sizes (state_of self.old work) self.new (world_of f (S.told out.old) self.old) (world_of f (S.told out.new) self.new) (reported (page_of self.old) (report_of report) []) ruled) }
+        ensures err { IfErr result (λ b. (sizes : Sizes) (f : FilesTold) (work : List Reading) → self.old.reports ≤ reports_room →
+            Cuts sizes (state_of self.old work) self.new work (world_of f (S.told out.old) self.old) (world_of f (S.told out.new) self.new) (reported (page_of self.old) (report_of report) []) b) }
         ensures frames { SameFrames self.old self.new }
         ensures input { self.new.input ≡ self.old.input }
         ensures on { IfOk result (λ ruled. IsFree ruled → ⊥) }
+        ensures idle { OnOk result (self.new.input.making ≡ None) }
     {
         if self.report(out, report)? {
             Ok(Ruled::Step)
@@ -326,35 +305,333 @@ impl Engine {
 
     /// Writes what the machine writes where it stops, and ends the run.
     fn halt<S: Sink>(&mut self, out: &mut S, last: Last) -> Result<Ruled, Broken>
-        ensures rule { IfOk result (λ ruled. (f : FilesTold) (work : List Reading) →
-            DoesOnward (state_of self.old work) self.new (world_of f (S.told out.old) self.old) (world_of f (S.told out.new) self.new) (last_moves self.old.in_line last) ruled) }
-        ensures err { IfErr result (λ b. (f : FilesTold) (s : State) → Cuts s (world_of f (S.told out.old) self.old) (world_of f (S.told out.new) self.new) (last_moves self.old.in_line last) b) }
+        requires idle { self.old.input.making ≡ None }
+        ensures rule { IfOk result (λ ruled. (sizes : Sizes) (f : FilesTold) (work : List Reading) →
+            DoesOnward sizes (state_of self.old work) self.new (world_of f (S.told out.old) self.old) (world_of f (S.told out.new) self.new) (last_moves self.old.in_line last) ruled) }
+        ensures err { IfErr result (λ b. (sizes : Sizes) (f : FilesTold) (work : List Reading) → Cuts sizes (state_of self.old work) self.new work (world_of f (S.told out.old) self.old) (world_of f (S.told out.new) self.new) (last_moves self.old.in_line last) b) }
         ensures ends { IfOk result (λ ruled. ruled ≡ Halted (outcome_of_last last)) }
+        ensures frames { SameFrames self.old self.new }
+        ensures idle { OnOk result (self.new.input.making ≡ None) }
     {
         self.write_text(out, last_text(self.in_line, last))?;
         Ok(Ruled::Halted(last.outcome()))
     }
 
-    /// The line of a token that only typesetting would use.
-    fn token_line<S: Sink>(&mut self, out: &mut S, meaning: Meaning<()>) -> Result<(), Broken>
-        ensures did { OnOk result ((f : FilesTold) (work : List Reading) →
-            Did (state_of self.old work) (state_of self.new work) (world_of f (S.told out.old) self.old) (world_of f (S.told out.new) self.new) (token_line (page_of self.old) meaning)) }
-        ensures err { IfErr result (λ b. (f : FilesTold) (s : State) → Cuts s (world_of f (S.told out.old) self.old) (world_of f (S.told out.new) self.new) (token_line (page_of self.old) meaning) b) }
-        ensures only { OnlyColumn self.old self.new }
+    // READINGS
+
+    /// How many readings are open.
+    fn depth(&self) -> u64
+        ensures is { result ≡ frames self.now }
+        ensures within { result ≤ self.now.outer.size + 1 }
     {
-        if self.quiet {
-            return Ok(());
+        let waiting = u64::from(self.outer.len());
+        if self.top.is_some() {
+            waiting + 1
+        } else {
+            waiting
         }
-        let text = token_line_text(self.alloc, self.in_line, meaning)?;
-        self.write_text(out, text.as_slice())
+    }
+
+    /// Why there is no room for one more reading.
+    fn depth_refusal(&self) -> Option<Full>
+        ensures room { result ≡ None → frames self.now < self.now.outer.size }
+        ensures is { self.now.outer.size < 4294967295 → result ≡ depth_full (frames self.now) self.now.outer.size }
+    {
+        let used = self.depth();
+        let size = self.outer.size();
+        if used < u64::from(size) {
+            return None;
+        }
+        Some(Full {
+            table: Table::ExpansionDepth,
+            used: used.min(u64::from(u32::MAX)) as u32,
+            size,
+        })
+    }
+
+    /// Begins a reading, while the command in front of it waits, if there is one.
+    fn begin(&mut self, kind: Kind, waits: Option<Waiting>) -> Result<(), Full>
+        requires { IsSome waits → IsSome self.old.top }
+        ensures light { OnOk result (weight self.new < 2 * frames self.old + 3 * (rank (kind_of kind) + 1) + pending_weight self.old.input.pending) }
+        ensures one { OnOk result (frames self.new ≤ frames self.old + 1) }
+        ensures same { OnOk result (SameState self.old self.new) }
+        ensures top { OnOk result ((f : Frame) → self.new.top ≡ Some f → frame_rank f ≡ rank (kind_of kind)) }
+        ensures is_open { OnOk result (IsSome self.new.top) }
+        ensures takes { OnOk result (TopTakes self.new.top) }
+        ensures asks { OnOk result (IsOpen self.new.ask) }
+        ensures fresh { OnOk result ((f : Frame) (x : Seen) → self.new.top ≡ Some f → frame_grows f x ≡ false) }
+        ensures stands { OnOk result ((sizes : Sizes) (work : List Reading) → WaitsWith sizes self.old waits work → Stands sizes self.new (fresh (kind_of kind) ∷ work)) }
+        ensures fits { OnOk result ((sizes : Sizes) (work : List Reading) → Counts sizes self.old work → refusal sizes (Begun (kind_of kind)) (state_of self.old work) ≡ None) }
+        ensures refused { IfErr result (λ full. (sizes : Sizes) (work : List Reading) → Counts sizes self.old work → refusal sizes (Begun (kind_of kind)) (state_of self.old work) ≡ Some full) }
+        ensures err { OnErr result (self.new ≡ self.old) }
+    {
+        if let Some(full) = self.depth_refusal() {
+            return Err(full);
+        }
+        self.begin_list(kind)?;
+        self.wait(waits);
+        self.top = Some(Frame::new(kind));
+        self.ask = first_ask(kind);
+        Ok(())
+    }
+
+    /// A command waits behind those that wait already, if there is one.
+    fn wait(&mut self, waits: Option<Waiting>)
+        requires { length self.old.outer.items < self.old.outer.size }
+        ensures { self.new ≡ record self.old { outer = record self.old.outer { items = self.old.outer.items ++ option_to_list waits } } }
+    {
+        if let Some(waiting) = waits {
+            self.outer.push(waiting);
+        }
+    }
+
+    /// Begins the list that a reading of this kind builds, if it builds one.
+    fn begin_list(&mut self, kind: Kind) -> Result<(), Full>
+        ensures ok { OnOk result (self.new ≡ record self.old { input = record self.old.input { gathered = own_lists (kind_of kind) [] ++ self.old.input.gathered } }) }
+        ensures fits { OnOk result (refused self.old.input.sizes (memory (lists_words (own_lists (kind_of kind) [])) (stored_words self.old.input) ∷ []) ≡ None) }
+        ensures refused { IfErr result (λ full. refused self.old.input.sizes (memory (lists_words (own_lists (kind_of kind) [])) (stored_words self.old.input) ∷ []) ≡ Some full) }
+        ensures err { OnErr result (self.new ≡ self.old) }
+    {
+        match kind {
+            Kind::Text(_) => self.input.begin_list(),
+            _ => {
+                // What is used of the main memory is at most its size.
+                let _used = self.input.words();
+                Ok(())
+            }
+        }
+    }
+
+    /// Feeds the innermost reading: the token goes onto the list that it builds, unless it isn't of it.
+    fn feed(&mut self, seen: Seen) -> Result<(), Full>
+        ensures light { OnOk result ((f : Frame) → self.old.top ≡ Some f → weight self.new ≤ 2 * frames self.old + (7 + 3 * frame_rank f) + pending_weight self.old.input.pending) }
+        ensures light_none { OnOk result (self.old.top ≡ None → weight self.new ≡ weight self.old) }
+        ensures same { OnOk result (SameState self.old self.new) }
+        ensures stands { OnOk result ((sizes : Sizes) (work : List Reading) → FeedsHere sizes self.old work → Stands sizes self.new (fed_with (Tok seen) work)) }
+        ensures fits { OnOk result ((sizes : Sizes) (work : List Reading) → FeedsHere sizes self.old work → refusal sizes (Feeds seen) (state_of self.old work) ≡ None) }
+        ensures refused { IfErr result (λ full. (sizes : Sizes) (work : List Reading) → FeedsHere sizes self.old work → refusal sizes (Feeds seen) (state_of self.old work) ≡ Some full) }
+        ensures err { OnErr result (self.new ≡ self.old) }
+    {
+        self.grow(seen)?;
+        self.feed_frame(seen);
+        Ok(())
+    }
+
+    /// A token goes onto the list that the innermost reading builds, unless it isn't of it.
+    fn grow(&mut self, seen: Seen) -> Result<(), Full>
+        ensures ok { OnOk result (self.new ≡ record self.old { input = record self.old.input { gathered = lists_after (top_grows self.old.top seen) seen self.old.input.gathered } }) }
+        ensures fits { OnOk result (refused self.old.input.sizes (memory (lists_words (lists_after (top_grows self.old.top seen) seen self.old.input.gathered) - lists_words self.old.input.gathered) (stored_words self.old.input) ∷ []) ≡ None) }
+        ensures refused { IfErr result (λ full. refused self.old.input.sizes (memory (lists_words (lists_after (top_grows self.old.top seen) seen self.old.input.gathered) - lists_words self.old.input.gathered) (stored_words self.old.input) ∷ []) ≡ Some full) }
+        ensures small { stored_words self.old.input < 4294967296 }
+        ensures err { OnErr result (self.new ≡ self.old) }
+    {
+        // What is used of the main memory is at most its size.
+        let _used = self.input.words();
+        if self.grows(seen) {
+            self.input.grow_list(seen.token)?;
+        }
+        Ok(())
+    }
+
+    /// Whether a token goes onto the list that the innermost reading builds.
+    fn grows(&self, seen: Seen) -> bool
+        ensures grows { result ≡ true → (f : Frame) → self.now.top ≡ Some f → frame_grows f seen ≡ true }
+        ensures list { result ≡ true → self.now.input.gathered ≡ [] → ⊥ }
+        ensures top { result ≡ true → IsSome self.now.top }
+        ensures none { result ≡ false → (f : Frame) → self.now.top ≡ Some f → (self.now.input.gathered ≡ [] → ⊥) → frame_grows f seen ≡ false }
+    {
+        match &self.top {
+            Some(frame) => frame.grows(seen) && self.input.has_list(),
+            None => false,
+        }
+    }
+
+    /// Feeds the innermost reading, whose list has the token already if it is of it.
+    fn feed_frame(&mut self, seen: Seen)
+        ensures light { (f : Frame) → self.old.top ≡ Some f → weight self.new ≤ 2 * frames self.old + (7 + 3 * frame_rank f) + pending_weight self.old.input.pending }
+        ensures light_none { self.old.top ≡ None → weight self.new ≡ weight self.old }
+        ensures same { SameState self.old self.new }
+        ensures lists { self.new.input ≡ self.old.input }
+        ensures none { self.old.top ≡ None → self.new ≡ self.old }
+        ensures stands { (sizes : Sizes) (f : Frame) (lists : List (List Token)) (r : Reading) (rs : List Reading) → self.old.top ≡ Some f → FedFrame sizes self.old f seen lists r rs → Stands sizes self.new (fed_with (Tok seen) (r ∷ rs)) }
+    {
+        let Some(mut frame) = self.top else {
+            return;
+        };
+        self.ask = frame.feed(seen);
+        self.top = Some(frame);
+    }
+
+    /// The list that the innermost reading holds goes, if there is one.
+    fn drop_list(&mut self)
+        ensures { self.new ≡ record self.old { input = record self.old.input { gathered = other_lists self.old.input.gathered } } }
+    {
+        if self.input.has_list() {
+            self.input.drop_list();
+        }
+    }
+
+    /// The list that the innermost reading holds goes, unless it has the value's tokens.
+    fn keep_value(&mut self, value: Value)
+        ensures { self.new ≡ record self.old { input = record self.old.input { gathered = kept_lists value self.old.input.gathered } } }
+    {
+        match value {
+            Value::Toks if self.input.has_list() && !self.input.is_list_empty() => {}
+            _ => self.drop_list(),
+        }
+    }
+
+    /// Ends the innermost reading, whose value goes to the one beneath.
+    fn end(&mut self, value: Value)
+        ensures light { (f : Frame) → self.old.top ≡ Some f → weight self.new < 2 * frames self.old + 6 + pending_weight self.old.input.pending }
+        ensures same { SameState self.old self.new }
+        ensures stands { (sizes : Sizes) (rs : List Reading) → EndsHere sizes self.old rs → Stands sizes self.new (fed_with (Val (value_of self.old.input.gathered value)) rs) }
+    {
+        match self.outer.pop() {
+            None => {
+                self.drop_list();
+                self.top = None;
+                self.ask = Ask::More(Want::Expanded);
+            }
+            Some(waiting) => {
+                self.keep_value(value);
+                let mut waiting = waiting;
+                self.ask = waiting.feed_value(value);
+                self.top = Some(Frame::Waits(waiting));
+            }
+        }
+    }
+
+    /// Begins a reading with the token that the command in front of it looked at.
+    fn begin_with(&mut self, kind: Kind, waits: Waiting, seen: Seen) -> Result<(), Full>
+        requires { IsSome self.old.top }
+        ensures light { OnOk result (weight self.new < 2 * frames self.old + (10 + 3 * rank (kind_of kind)) + pending_weight self.old.input.pending) }
+        ensures same { OnOk result (SameState self.old self.new) }
+        ensures stands { OnOk result ((sizes : Sizes) (work : List Reading) → WaitsWith sizes self.old (Some waits) work → Stands sizes self.new (fed_with (Tok seen) (fresh (kind_of kind) ∷ work))) }
+        ensures fits { OnOk result ((sizes : Sizes) (work : List Reading) → Counts sizes self.old work → refusal sizes (BegunWith (kind_of kind) seen) (state_of self.old work) ≡ None) }
+        ensures refused { IfErr result (λ full. (sizes : Sizes) (work : List Reading) → Counts sizes self.old work → refusal sizes (BegunWith (kind_of kind) seen) (state_of self.old work) ≡ Some full) }
+        ensures err { OnErr result (self.new ≡ self.old) }
+    {
+        self.begin(kind, Some(waits))?;
+        self.feed_frame(seen);
+        Ok(())
+    }
+
+    /// The innermost reading is fed with the note that its report was written.
+    fn note(&mut self)
+        ensures light { (f : Frame) → self.old.top ≡ Some f → weight self.new ≤ 2 * frames self.old + 6 + pending_weight self.old.input.pending }
+        ensures same { SameState self.old self.new }
+        ensures stands { (sizes : Sizes) (work : List Reading) → Waits sizes self.old work → Stands sizes self.new (fed_with Told work) }
+    {
+        let Some(mut frame) = self.top else {
+            return;
+        };
+        self.ask = frame.feed_told();
+        self.top = Some(frame);
+    }
+
+    // LISTS IN FRONT
+
+    /// Puts a token in front: a list of it is begun, grown and put, once the finished lists in front have gone.
+    fn put_one(&mut self, token: Token) -> Result<(), Broken>
+        requires idle { self.old.input.making ≡ None }
+        ensures did { OnOk result ((sizes : Sizes) (w : World) (work : List Reading) → Counts sizes self.old work → self.old.input.making ≡ None → Did sizes (state_of self.old work) (state_of self.new work) w w (put_one token)) }
+        ensures err { IfErr result (λ b. (sizes : Sizes) (w : World) (work : List Reading) (more : List Move) → Counts sizes self.old work → self.old.input.making ≡ None → Cuts sizes (state_of self.old work) self.new work w w (put_one token ++ more) b) }
+        ensures frames { SameFrames self.old self.new }
+        ensures others { SameOthers self.old self.new }
+        ensures sizes { self.new.input.sizes ≡ self.old.input.sizes }
+        ensures light { pending_weight self.new.input.pending ≡ pending_weight self.old.input.pending }
+        ensures page { page_of self.new ≡ page_of self.old }
+        ensures idle { OnOk result (self.new.input.making ≡ None) }
+    {
+        self.input.settle();
+        self.input.make_list()?;
+        self.input.grow_made(token)?;
+        self.input.put_made()?;
+        Ok(())
+    }
+
+    /// Puts a token back, if there is one.
+    fn put_back(&mut self, back: Option<Seen>) -> Result<(), Broken>
+        requires idle { self.old.input.making ≡ None }
+        ensures did { OnOk result ((sizes : Sizes) (w : World) (work : List Reading) (fed : List Fed) → Counts sizes self.old work → self.old.input.making ≡ None → IsLast back fed → Did sizes (state_of self.old work) (state_of self.new work) w w (given_back (is_some back) fed)) }
+        ensures err { IfErr result (λ b. (sizes : Sizes) (w : World) (work : List Reading) (fed : List Fed) (more : List Move) → Counts sizes self.old work → self.old.input.making ≡ None → IsLast back fed → Cuts sizes (state_of self.old work) self.new work w w (given_back (is_some back) fed ++ more) b) }
+        ensures frames { SameFrames self.old self.new }
+        ensures others { SameOthers self.old self.new }
+        ensures sizes { self.new.input.sizes ≡ self.old.input.sizes }
+        ensures light { pending_weight self.new.input.pending ≡ pending_weight self.old.input.pending }
+        ensures page { page_of self.new ≡ page_of self.old }
+        ensures idle { OnOk result (self.new.input.making ≡ None) }
+    {
+        if let Some(seen) = back {
+            self.put_one(seen.token)?;
+        }
+        Ok(())
+    }
+
+    // RULES
+
+    /// The innermost reading is done.
+    fn done(&mut self, value: Value, back: Option<Seen>) -> Result<(), Broken>
+        requires idle { self.old.input.making ≡ None }
+        ensures light { OnOk result ((f : Frame) → self.old.top ≡ Some f → weight self.new < 2 * frames self.old + 6 + pending_weight self.old.input.pending) }
+        ensures rule { OnOk result ((sizes : Sizes) (w : World) (r : Reading) (rs : List Reading) → Counts sizes self.old (r ∷ rs) → EndsHere sizes self.old rs → IsLast back r.fed →
+            Went sizes (state_of self.old (r ∷ rs)) self.new w w (given_back (is_some back) r.fed ++ EndedMove (value_of self.old.input.gathered value) ∷ []) 0) }
+        ensures err { IfErr result (λ b. (sizes : Sizes) (w : World) (r : Reading) (rs : List Reading) → Counts sizes self.old (r ∷ rs) → EndsHere sizes self.old rs → IsLast back r.fed →
+            Cuts sizes (state_of self.old (r ∷ rs)) self.new (r ∷ rs) w w (given_back (is_some back) r.fed ++ EndedMove (value_of self.old.input.gathered value) ∷ []) b) }
+        ensures frames { OnErr result (SameFrames self.old self.new) }
+        ensures column { self.new.in_line ≡ self.old.in_line }
+        ensures idle { OnOk result (self.new.input.making ≡ None) }
+    {
+        self.put_back(back)?;
+        self.end(value);
+        Ok(())
+    }
+
+    /// Does what a command says.
+    fn act<S: Sink>(&mut self, out: &mut S, effect: Effect) -> Result<(), Broken>
+        ensures did { OnOk result ((sizes : Sizes) (f : FilesTold) (work : List Reading) → Did sizes (state_of self.old work) (state_of self.new work) (world_of f (S.told out.old) self.old) (world_of f (S.told out.new) self.new) (effect_moves (state_of self.old work) (effect_of self.old.input.gathered effect))) }
+        ensures err { IfErr result (λ b. (sizes : Sizes) (f : FilesTold) (work : List Reading) (more : List Move) → Cuts sizes (state_of self.old work) self.new work (world_of f (S.told out.old) self.old) (world_of f (S.told out.new) self.new) (effect_moves (state_of self.old work) (effect_of self.old.input.gathered effect) ++ more) b) }
+        ensures frames { SameFrames self.old self.new }
+        ensures input { self.new.input ≡ self.old.input }
+        ensures names { self.new.names ≡ self.old.names }
+        ensures sizes { self.new.sizes ≡ self.old.sizes }
+        ensures reports { self.new.reports ≡ self.old.reports }
+    {
+        match effect {
+            Effect::SetCategory(code, category) => {
+                self.categories[code as usize] = category;
+                Ok(())
+            }
+            Effect::Say => self.write_message(out),
+        }
+    }
+
+    /// A command acts, and ends.
+    fn act_and_end<S: Sink>(&mut self, out: &mut S, effect: Effect) -> Result<(), Broken>
+        requires idle { self.old.input.making ≡ None }
+        ensures light { OnOk result ((f : Frame) → self.old.top ≡ Some f → weight self.new < 2 * frames self.old + 6 + pending_weight self.old.input.pending) }
+        ensures rule { OnOk result ((sizes : Sizes) (f : FilesTold) (r : Reading) (rs : List Reading) → EndsHere sizes self.old rs →
+            Went sizes (state_of self.old (r ∷ rs)) self.new (world_of f (S.told out.old) self.old) (world_of f (S.told out.new) self.new) (effect_moves (state_of self.old (r ∷ rs)) (effect_of self.old.input.gathered effect) ++ EndedMove (FlagValue true) ∷ []) 0) }
+        ensures err { IfErr result (λ b. (sizes : Sizes) (f : FilesTold) (work : List Reading) → Cuts sizes (state_of self.old work) self.new work (world_of f (S.told out.old) self.old) (world_of f (S.told out.new) self.new) (effect_moves (state_of self.old work) (effect_of self.old.input.gathered effect) ++ EndedMove (FlagValue true) ∷ []) b) }
+        ensures frames { OnErr result (SameFrames self.old self.new) }
+        ensures idle { OnOk result (self.new.input.making ≡ None) }
+    {
+        self.act(out, effect)?;
+        self.end(Value::Flag(true));
+        Ok(())
     }
 
     /// What becomes of a token that was handed on.
     fn go_on<S: Sink>(&mut self, out: &mut S, seen: Seen, onward: Onward) -> Result<Ruled, Broken>
-        ensures rule { IfOk result (λ ruled. (f : FilesTold) (work : List Reading) → FitsOnward onward self.old work →
-            DoesOnward (state_of self.old work) self.new (world_of f (S.told out.old) self.old) (world_of f (S.told out.new) self.new) (onward_moves (page_of self.old) seen onward) ruled) }
-        ensures err { IfErr result (λ b. (f : FilesTold) (s : State) → Cuts s (world_of f (S.told out.old) self.old) (world_of f (S.told out.new) self.new) (onward_moves (page_of self.old) seen onward) b) }
+        requires idle { self.old.input.making ≡ None }
+        ensures rule { IfOk result (λ ruled. (sizes : Sizes) (f : FilesTold) (work : List Reading) → FitsOnward sizes onward self.old work →
+            DoesOnward sizes (state_of self.old work) self.new (world_of f (S.told out.old) self.old) (world_of f (S.told out.new) self.new) (onward_moves (page_of self.old) seen onward) ruled) }
+        ensures err { IfErr result (λ b. (sizes : Sizes) (f : FilesTold) (work : List Reading) → FitsOnward sizes onward self.old work →
+            Cuts sizes (state_of self.old work) self.new work (world_of f (S.told out.old) self.old) (world_of f (S.told out.new) self.new) (onward_moves (page_of self.old) seen onward) b) }
+        ensures frames { OnErr result (SameFrames self.old self.new) }
         ensures on { IfOk result (λ ruled. IsFree ruled → ⊥) }
+        ensures idle { OnOk result (self.new.input.making ≡ None) }
     {
         match onward {
             Onward::Skip => Ok(Ruled::Step),
@@ -363,7 +640,7 @@ impl Engine {
                 Ok(Ruled::Step)
             }
             Onward::Begin(kind) => {
-                self.begin(kind)?;
+                self.begin(kind, None)?;
                 Ok(Ruled::Step)
             }
             Onward::Report(report) => self.report_only(out, report),
@@ -382,10 +659,14 @@ impl Engine {
         want: Option<Want>,
         token: Token,
     ) -> Result<Ruled, Broken>
-        ensures rule { IfOk result (λ ruled. (f : FilesTold) (work : List Reading) → Takes want self.old work →
-            DoesOnward (state_of self.old work) self.new (world_of f (S.told out.old) self.old) (world_of f (S.told out.new) self.new) (onward_of (page_of self.old) want (names.seen token)) ruled) }
-        ensures err { IfErr result (λ b. (f : FilesTold) (s : State) → Cuts s (world_of f (S.told out.old) self.old) (world_of f (S.told out.new) self.new) (onward_of (page_of self.old) want (names.seen token)) b) }
+        requires idle { self.old.input.making ≡ None }
+        ensures rule { IfOk result (λ ruled. (sizes : Sizes) (f : FilesTold) (work : List Reading) → Takes sizes want self.old work →
+            DoesOnward sizes (state_of self.old work) self.new (world_of f (S.told out.old) self.old) (world_of f (S.told out.new) self.new) (onward_of (page_of self.old) want (names.seen token)) ruled) }
+        ensures err { IfErr result (λ b. (sizes : Sizes) (f : FilesTold) (work : List Reading) → Takes sizes want self.old work →
+            Cuts sizes (state_of self.old work) self.new work (world_of f (S.told out.old) self.old) (world_of f (S.told out.new) self.new) (onward_of (page_of self.old) want (names.seen token)) b) }
+        ensures frames { OnErr result (SameFrames self.old self.new) }
         ensures on { IfOk result (λ ruled. IsFree ruled → ⊥) }
+        ensures idle { OnOk result (self.new.input.making ≡ None) }
     {
         let seen = seen(token);
         match want {
@@ -394,82 +675,94 @@ impl Engine {
         }
     }
 
-    /// Where a text is read, its command, and what is written where it runs away.
-    fn runaway(&self) -> Result<Option<Away>, AllocError>
-        ensures { IfOk result (λ r. RunsAway self.now r) }
+    /// What becomes of a character or a name of the line, which is entered where it is new and the reading enters names.
+    fn hand_name<S: Sink>(
+        &mut self,
+        out: &mut S,
+        want: Option<Want>,
+        lexed: Lexed,
+    ) -> Result<Ruled, Broken>
+        requires idle { self.old.input.making ≡ None }
+        ensures rule { IfOk result (λ ruled. (sizes : Sizes) (f : FilesTold) (work : List Reading) (x : Lexeme) → IsLexeme self.old.input.buffer lexed x → Takes sizes want self.old work →
+            DoesOnward sizes (state_of self.old work) self.new (world_of f (S.told out.old) self.old) (world_of f (S.told out.new) self.new) (name_moves (page_of self.old) want x) ruled) }
+        ensures err { IfErr result (λ b. (sizes : Sizes) (f : FilesTold) (work : List Reading) (x : Lexeme) → IsLexeme self.old.input.buffer lexed x → Takes sizes want self.old work →
+            Cuts sizes (state_of self.old work) self.new work (world_of f (S.told out.old) self.old) (world_of f (S.told out.new) self.new) (name_moves (page_of self.old) want x) b) }
+        ensures frames { OnErr result (SameFrames self.old self.new) }
+        ensures on { IfOk result (λ ruled. IsFree ruled → ⊥) }
+        ensures idle { OnOk result (self.new.input.making ≡ None) }
     {
-        let Some(frame) = &self.top else {
-            return Ok(None);
-        };
-        match frame.text() {
-            Some((name, tokens)) => {
-                let text = runaway_text(self.alloc, &self.categories, self.in_line, tokens)?;
-                Ok(Some(Away { name, text }))
-            }
-            None => Ok(None),
-        }
+        let enters = enters_names(want);
+        let token = resolve(&mut self.names, self.input.buffer(), lexed, enters)?;
+        self.hand_on(out, want, token)
     }
 
-    /// Puts a token in front.
-    fn insert(&mut self, token: Token) -> Result<(), AllocError>
-        ensures did { OnOk result ((w : World) (work : List Reading) → Did (state_of self.old work) (state_of self.new work) w w (Put (token ∷ []) ∷ [])) }
-        ensures frames { SameFrames self.old self.new }
-        ensures column { self.new.in_line ≡ self.old.in_line }
-        ensures light { pending_weight self.new.input ≡ pending_weight self.old.input }
-        ensures page { page_of self.new ≡ page_of self.old }
+    /// Where a text is read that has a list, its command.
+    fn text_name(&self) -> Option<Name>
+        ensures some { IfSome result (λ name. (f : Frame) → self.now.top ≡ Some f → frame_kind f ≡ TextKind name) }
+        ensures top { IsSome result → IsSome self.now.top }
+        ensures list { IsSome result → self.now.input.gathered ≡ [] → ⊥ }
+        ensures none { result ≡ None → (f : Frame) → self.now.top ≡ Some f → (self.now.input.gathered ≡ [] → ⊥) → IsNoText (frame_kind f) }
     {
-        self.input.back(token)
+        let Some(frame) = &self.top else {
+            return None;
+        };
+        if !self.input.has_list() {
+            return None;
+        }
+        frame.text()
     }
 
     /// A text runs away.
-    fn run_away<S: Sink>(
-        &mut self,
-        out: &mut S,
-        text: &[u8],
-        report: Report,
-    ) -> Result<Ruled, Broken>
-        ensures rule { IfOk result (λ ruled. (f : FilesTold) (work : List Reading) → Stands self.old work →
-            DoesOnward (state_of self.old work) self.new (world_of f (S.told out.old) self.old) (world_of f (S.told out.new) self.new) (away_moves (page_of self.old) text.now (report_of report)) ruled) }
-        ensures err { IfErr result (λ b. (f : FilesTold) (s : State) → Cuts s (world_of f (S.told out.old) self.old) (world_of f (S.told out.new) self.new) (away_moves (page_of self.old) text.now (report_of report)) b) }
+    fn run_away<S: Sink>(&mut self, out: &mut S, report: Report) -> Result<Ruled, Broken>
+        requires idle { self.old.input.making ≡ None }
+        requires asked { self.old.input.gathered ≡ [] → ⊥ }
+        ensures rule { IfOk result (λ ruled. (sizes : Sizes) (f : FilesTold) (work : List Reading) → Counts sizes self.old work → Stands sizes self.old work →
+            DoesOnward sizes (state_of self.old work) self.new (world_of f (S.told out.old) self.old) (world_of f (S.told out.new) self.new) (away_moves (page_of self.old) (away_text self.old) (report_of report)) ruled) }
+        ensures err { IfErr result (λ b. (sizes : Sizes) (f : FilesTold) (work : List Reading) → Counts sizes self.old work → self.old.input.making ≡ None →
+            Cuts sizes (state_of self.old work) self.new work (world_of f (S.told out.old) self.old) (world_of f (S.told out.new) self.new) (away_moves (page_of self.old) (away_text self.old) (report_of report)) b) }
         ensures frames { SameFrames self.old self.new }
-        ensures light { pending_weight self.new.input ≡ pending_weight self.old.input }
+        ensures light { pending_weight self.new.input.pending ≡ pending_weight self.old.input.pending }
         ensures on { IfOk result (λ ruled. IsFree ruled → ⊥) }
+        ensures idle { OnOk result (self.new.input.making ≡ None) }
     {
-        self.write_text(out, text)?;
-        self.insert(RIGHT_BRACE)?;
+        self.write_runaway(out)?;
+        self.put_one(RIGHT_BRACE)?;
         self.report_only(out, report)
     }
 
     /// The check where the file has ended.
     fn check<S: Sink>(&mut self, out: &mut S) -> Result<Ruled, Broken>
-        ensures rule { IfOk result (λ ruled. (f : FilesTold) (work : List Reading) → Wants self.old work →
-            DoesOnward (state_of self.old work) self.new (world_of f (S.told out.old) self.old) (world_of f (S.told out.new) self.new) (checked self.old.categories (page_of self.old) work) ruled) }
-        ensures err { IfErr result (λ b. (f : FilesTold) (work : List Reading) (s : State) → Wants self.old work →
-            Cuts s (world_of f (S.told out.old) self.old) (world_of f (S.told out.new) self.new) (checked self.old.categories (page_of self.old) work) b) }
+        requires idle { self.old.input.making ≡ None }
+        ensures rule { IfOk result (λ ruled. (sizes : Sizes) (f : FilesTold) (work : List Reading) → Wants sizes self.old work →
+            DoesOnward sizes (state_of self.old work) self.new (world_of f (S.told out.old) self.old) (world_of f (S.told out.new) self.new) (checked self.old.categories (page_of self.old) work) ruled) }
+        ensures err { IfErr result (λ b. (sizes : Sizes) (f : FilesTold) (work : List Reading) → Wants sizes self.old work →
+            Cuts sizes (state_of self.old work) self.new work (world_of f (S.told out.old) self.old) (world_of f (S.told out.new) self.new) (checked self.old.categories (page_of self.old) work) b) }
         ensures frames { SameFrames self.old self.new }
-        ensures light { pending_weight self.new.input ≡ pending_weight self.old.input }
+        ensures light { pending_weight self.new.input.pending ≡ pending_weight self.old.input.pending }
         ensures on { IfOk result (λ ruled. IsFree ruled → ⊥) }
+        ensures idle { OnOk result (self.new.input.making ≡ None) }
     {
-        match self.runaway()? {
-            Some(away) => {
-                let report = Report::FileEndedInText(away.name);
-                self.run_away(out, away.text.as_slice(), report)
-            }
+        match self.text_name() {
+            Some(name) => self.run_away(out, Report::FileEndedInText(name)),
             None => Ok(Ruled::Step),
         }
     }
 
     /// The next token or line.
     fn next_token<S: Sink>(&mut self, out: &mut S, want: Option<Want>) -> Result<Ruled, Broken>
+        requires idle { self.old.input.making ≡ None }
         ensures light { IfOk result (λ ruled. IsFree ruled → weight self.new < weight self.old) }
-        ensures step { IfOk result (λ ruled. StepsIf ruled (gives_step (pulled primitive_names self.old.categories self.old.input))) }
-        ensures rule { IfOk result (λ ruled. (f : FilesTold) (work : List Reading) → Takes want self.old work →
-            DoesRule (state_of self.old work) self.new (world_of f (S.told out.old) self.old) (world_of f (S.told out.new) self.new) (handed (page_of self.old) (onward_of (page_of self.old) want) (check_of self.old work) (pulled primitive_names self.old.categories self.old.input)) ruled) }
-        ensures err { IfErr result (λ b. (f : FilesTold) (work : List Reading) → Takes want self.old work →
-            Cuts (state_of self.old work) (world_of f (S.told out.old) self.old) (world_of f (S.told out.new) self.new) (handed (page_of self.old) (onward_of (page_of self.old) want) (check_of self.old work) (pulled primitive_names self.old.categories self.old.input)) b) }
+        ensures step { IfOk result (λ ruled. StepsIf ruled (gives_step (pulled self.old.categories self.old.input.pending))) }
+        ensures rule { IfOk result (λ ruled. (sizes : Sizes) (f : FilesTold) (work : List Reading) → Takes sizes want self.old work →
+            DoesRule sizes (state_of self.old work) self.new (world_of f (S.told out.old) self.old) (world_of f (S.told out.new) self.new) (handed (page_of self.old) (enters_of want) (onward_of (page_of self.old) want) (check_of self.old work) (pulled self.old.categories self.old.input.pending)) ruled) }
+        ensures err { IfErr result (λ b. (sizes : Sizes) (f : FilesTold) (work : List Reading) → Takes sizes want self.old work →
+            Cuts sizes (state_of self.old work) self.new work (world_of f (S.told out.old) self.old) (world_of f (S.told out.new) self.new) (handed (page_of self.old) (enters_of want) (onward_of (page_of self.old) want) (check_of self.old work) (pulled self.old.categories self.old.input.pending)) b) }
+        ensures frames { OnErr result (SameFrames self.old self.new) }
+        ensures idle { OnOk result (self.new.input.making ≡ None) }
     {
         match self.input.pull(&self.categories)? {
-            Pulled::Handed(token) => self.hand_on(out, want, token),
+            Pulled::Token(token) => self.hand_on(out, want, token),
+            Pulled::Lexeme(lexed) => self.hand_name(out, want, lexed),
             Pulled::Taken => Ok(Ruled::Step),
             Pulled::Invalid => {
                 let ruled = self.report_only(out, Report::InvalidCharacter)?;
@@ -490,12 +783,15 @@ impl Engine {
         report: Report,
         back: Option<Seen>,
     ) -> Result<Ruled, Broken>
-        ensures light { IfOk result (λ ruled. IsFree ruled → (f : _) → self.old.top ≡ Some f → weight self.new < 2 * frames self.old + 7 + pending_weight self.old.input) }
+        requires idle { self.old.input.making ≡ None }
+        ensures light { IfOk result (λ ruled. IsFree ruled → (f : Frame) → self.old.top ≡ Some f → weight self.new < 2 * frames self.old + 7 + pending_weight self.old.input.pending) }
         ensures step { IfOk result (λ ruled. IsStep ruled → ⊥) }
-        ensures rule { IfOk result (λ ruled. (f : FilesTold) (r : Reading) (rs : List Reading) → Waits self.old (r ∷ rs) → IsLast back r.fed → is_told r.fed ≡ false →
-            DoesRule (state_of self.old (r ∷ rs)) self.new (world_of f (S.told out.old) self.old) (world_of f (S.told out.new) self.new) (told (page_of self.old) (report_of report) (is_some back) r.fed) ruled) }
-        ensures err { IfErr result (λ b. (f : FilesTold) (r : Reading) (s : State) → IsLast back r.fed → is_told r.fed ≡ false →
-            Cuts s (world_of f (S.told out.old) self.old) (world_of f (S.told out.new) self.new) (told (page_of self.old) (report_of report) (is_some back) r.fed) b) }
+        ensures rule { IfOk result (λ ruled. (sizes : Sizes) (f : FilesTold) (r : Reading) (rs : List Reading) → Waits sizes self.old (r ∷ rs) → Counts sizes self.old (r ∷ rs) → IsLast back r.fed → is_told r.fed ≡ false →
+            DoesRule sizes (state_of self.old (r ∷ rs)) self.new (world_of f (S.told out.old) self.old) (world_of f (S.told out.new) self.new) (told (page_of self.old) (report_of report) (is_some back) r.fed) ruled) }
+        ensures err { IfErr result (λ b. (sizes : Sizes) (f : FilesTold) (r : Reading) (rs : List Reading) → Waits sizes self.old (r ∷ rs) → Counts sizes self.old (r ∷ rs) → IsLast back r.fed → is_told r.fed ≡ false →
+            Cuts sizes (state_of self.old (r ∷ rs)) self.new (r ∷ rs) (world_of f (S.told out.old) self.old) (world_of f (S.told out.new) self.new) (told (page_of self.old) (report_of report) (is_some back) r.fed) b) }
+        ensures frames { OnErr result (SameFrames self.old self.new) }
+        ensures idle { OnOk result (self.new.input.making ≡ None) }
     {
         self.put_back(back)?;
         if self.report(out, report)? {
@@ -505,41 +801,28 @@ impl Engine {
         Ok(Ruled::Halted(Outcome::Fatal(Fatal::HundredErrors)))
     }
 
-    /// The innermost reading is fed with the note that its report was written.
-    fn note(&mut self)
-        ensures light { (f : _) → self.old.top ≡ Some f → weight self.new ≤ 2 * frames self.old + 6 + pending_weight self.old.input }
-        ensures same { SameState self.old self.new }
-        ensures stands { (work : List Reading) → Waits self.old work → Stands self.new (fed_with Told work) }
-    {
-        if let Some(frame) = &mut self.top {
-            self.ask = frame.feed_told(self.alloc);
-        }
-    }
-
     /// Does one rule of the machine, with at most one step.
     fn rule<S: Sink>(&mut self, out: &mut S) -> Result<Ruled, Broken>
+        requires idle { self.old.input.making ≡ None }
         ensures light { IfOk result (λ ruled. IsFree ruled → weight self.new < weight self.old) }
         ensures step { IfOk result (λ ruled. StepsIf ruled (stepping self.old)) }
-        ensures rule { IfOk result (λ ruled. (f : FilesTold) (work : List Reading) → Stands self.old work →
-            DoesRule (state_of self.old work) self.new (world_of f (S.told out.old) self.old) (world_of f (S.told out.new) self.new) (plan_of self.old work) ruled) }
-        ensures err { IfErr result (λ b. (f : FilesTold) (work : List Reading) → Stands self.old work →
-            Cuts (state_of self.old work) (world_of f (S.told out.old) self.old) (world_of f (S.told out.new) self.new) (plan_of self.old work) b) }
+        ensures rule { IfOk result (λ ruled. (sizes : Sizes) (f : FilesTold) (work : List Reading) → Stands sizes self.old work →
+            DoesRule sizes (state_of self.old work) self.new (world_of f (S.told out.old) self.old) (world_of f (S.told out.new) self.new) (plan_of self.old work) ruled) }
+        ensures err { IfErr result (λ b. (sizes : Sizes) (f : FilesTold) (work : List Reading) → Stands sizes self.old work →
+            Cuts sizes (state_of self.old work) self.new work (world_of f (S.told out.old) self.old) (world_of f (S.told out.new) self.new) (plan_of self.old work) b) }
+        ensures frames { OnErr result (SameFrames self.old self.new) }
+        ensures idle { OnOk result (self.new.input.making ≡ None) }
     {
-        match &self.top {
-            None => return self.next_token(out, None),
-            Some(_) => {}
+        if self.top.is_none() {
+            return self.next_token(out, None);
         }
-        match std::mem::replace(&mut self.ask, Ask::More(Want::Raw)) {
-            Ask::More(want) => {
-                self.ask = Ask::More(want);
-                self.next_token(out, Some(want))
-            }
-            Ask::Inner(kind, None) => {
-                self.begin(kind)?;
-                Ok(Ruled::Free)
-            }
-            Ask::Inner(kind, Some(seen)) => {
-                self.begin_with(kind, seen)?;
+        match self.ask {
+            Ask::More(want) => self.next_token(out, Some(want)),
+            Ask::Inner(waits, kind, begins) => {
+                match begins {
+                    None => self.begin(kind, Some(waits))?,
+                    Some(seen) => self.begin_with(kind, waits, seen)?,
+                }
                 Ok(Ruled::Free)
             }
             Ask::Done(value, back) => {
@@ -547,33 +830,35 @@ impl Engine {
                 Ok(Ruled::Free)
             }
             Ask::Act(effect) => {
-                self.act_and_end(out, &effect)?;
+                self.act_and_end(out, effect)?;
                 Ok(Ruled::Free)
             }
             Ask::Tells(report, back) => self.tell(out, report, back),
         }
     }
 
+    // RUNS
+
     /// Whether the next rule needs a step.
     fn needs_step(&self) -> bool
         ensures { result ≡ stepping self.now }
     {
-        match &self.top {
-            None => self.input.is_ready(&self.categories),
-            Some(_) => match &self.ask {
-                Ask::More(_) => self.input.is_ready(&self.categories),
-                _ => false,
-            },
+        match (&self.top, &self.ask) {
+            (None, _) => self.input.is_ready(&self.categories),
+            (Some(_), Ask::More(_)) => self.input.is_ready(&self.categories),
+            (Some(_), _) => false,
         }
     }
 
     /// Makes the rules that need no step, until the next one needs one or the run ends.
     fn settle<S: Sink>(&mut self, out: &mut S) -> Result<Option<Outcome>, Broken>
+        requires idle { self.old.input.making ≡ None }
         ensures waits { IfOk result (λ o. o ≡ None → stepping self.new ≡ true) }
-        ensures run { IfOk result (λ o. (f : FilesTold) (work : List Reading) → Stands self.old work →
-            Settled (state_of self.old work) self.new (world_of f (S.told out.old) self.old) (world_of f (S.told out.new) self.new) o) }
-        ensures err { IfErr result (λ b. (f : FilesTold) (work : List Reading) → Stands self.old work →
-            CutBy (state_of self.old work) 0 (world_of f (S.told out.old) self.old) (world_of f (S.told out.new) self.new) b) }
+        ensures run { IfOk result (λ o. (sizes : Sizes) (f : FilesTold) (work : List Reading) → Stands sizes self.old work →
+            Settles sizes (state_of self.old work) self.new (world_of f (S.told out.old) self.old) (world_of f (S.told out.new) self.new) o) }
+        ensures err { IfErr result (λ b. (sizes : Sizes) (f : FilesTold) (work : List Reading) → Stands sizes self.old work →
+            CutBy sizes (state_of self.old work) 0 self.new (world_of f (S.told out.old) self.old) (world_of f (S.told out.new) self.new) b) }
+        ensures idle { OnOk result (self.new.input.making ≡ None) }
     {
         while !self.needs_step() {
             match self.rule(out)? {
@@ -587,10 +872,12 @@ impl Engine {
 
     /// Goes on for at most n steps.
     pub fn run_steps<S: Sink>(&mut self, out: &mut S, n: u64) -> Result<Ended, Broken>
-        ensures run { IfOk result (λ ended. (f : FilesTold) (work : List Reading) → Stands self.old work →
-            Ran (state_of self.old work) n self.new (world_of f (S.told out.old) self.old) (world_of f (S.told out.new) self.new) ended) }
-        ensures err { IfErr result (λ b. (f : FilesTold) (work : List Reading) → Stands self.old work →
-            CutBy (state_of self.old work) n (world_of f (S.told out.old) self.old) (world_of f (S.told out.new) self.new) b) }
+        requires idle { self.old.input.making ≡ None }
+        ensures run { IfOk result (λ ended. (sizes : Sizes) (f : FilesTold) (work : List Reading) → Stands sizes self.old work →
+            Ran sizes (state_of self.old work) n self.new (world_of f (S.told out.old) self.old) (world_of f (S.told out.new) self.new) ended) }
+        ensures err { IfErr result (λ b. (sizes : Sizes) (f : FilesTold) (work : List Reading) → Stands sizes self.old work →
+            CutBy sizes (state_of self.old work) n self.new (world_of f (S.told out.old) self.old) (world_of f (S.told out.new) self.new) b) }
+        ensures idle { OnOk result (self.new.input.making ≡ None) }
     {
         let mut taken = 0;
         loop {
@@ -598,6 +885,7 @@ impl Engine {
                 return Ok(Ended::Halted(outcome));
             }
             if taken == n {
+                self.input.settle();
                 return Ok(Ended::Steps);
             }
             match self.rule(out)? {
@@ -608,18 +896,52 @@ impl Engine {
         }
     }
 
+    // THE JOB
+
+    /// Keeps the job's name.
+    pub fn keep_name(&mut self, name: &[u8]) -> Result<(), Broken>
+        ensures did { OnOk result ((sizes : Sizes) (w : World) (work : List Reading) → IsSized sizes self.old → Did sizes (state_of self.old work) (state_of self.new work) w w (Kept name.now ∷ [])) }
+        ensures err { IfErr result (λ b. (sizes : Sizes) (w : World) (work : List Reading) (more : List Move) → IsSized sizes self.old → Cuts sizes (state_of self.old work) self.new work w w (Kept name.now ∷ more) b) }
+        ensures stands { OnOk result ((sizes : Sizes) (work : List Reading) → Stands sizes self.old work → Stands sizes self.new work) }
+        ensures column { self.new.in_line ≡ self.old.in_line }
+        ensures input { self.new.input ≡ self.old.input }
+    {
+        self.names.keep(name)?;
+        Ok(())
+    }
+
     /// The report that a job's file isn't held, and what comes behind it.
     pub fn refuse_job<S: Sink>(&mut self, out: &mut S, file: &[u8]) -> Result<Outcome, Broken>
-        ensures run { IfOk result (λ o. (f : FilesTold) (work : List Reading) → self.old.in_line ≡ false →
-            Halts (state_of self.old work) self.new (world_of f (S.told out.old) self.old) (world_of f (S.told out.new) self.new) (no_file file.now) (outcome_of o) 0) }
-        ensures err { IfErr result (λ b. (f : FilesTold) (s : State) → Cuts s (world_of f (S.told out.old) self.old) (world_of f (S.told out.new) self.new) (no_file file.now) b) }
+        ensures run { IfOk result (λ o. (sizes : Sizes) (f : FilesTold) (work : List Reading) → self.old.in_line ≡ false → self.old.names.names ≡ primitive_names →
+            Halts sizes (state_of self.old work) self.new (world_of f (S.told out.old) self.old) (world_of f (S.told out.new) self.new) (no_file file.now) (outcome_of o) 0) }
+        ensures err { IfErr result (λ b. (sizes : Sizes) (f : FilesTold) (work : List Reading) → self.old.in_line ≡ false → self.old.names.names ≡ primitive_names → self.old.reports ≡ 0 →
+            Cuts sizes (state_of self.old work) self.new work (world_of f (S.told out.old) self.old) (world_of f (S.told out.new) self.new) (no_file file.now) b) }
         ensures no_file { IfOk result (λ o. o ≡ outcomes.Fatal fatal.NoFile) }
     {
-        let text = no_file_text(self.alloc, file)?;
-        self.write_text(out, text.as_slice())?;
+        self.write_missing(out, file)?;
+        self.reports = 1;
         self.write_text(out, NO_FILE_LINES)?;
         Ok(Outcome::Fatal(Fatal::NoFile))
     }
+
+    /// Writes the report that a file isn't held.
+    fn write_missing<S: Sink>(&mut self, out: &mut S, file: &[u8]) -> Result<(), Broken>
+        ensures did { OnOk result ((sizes : Sizes) (f : FilesTold) (work : List Reading) → Did sizes (state_of self.old work) (state_of self.new work) (world_of f (S.told out.old) self.old) (world_of f (S.told out.new) self.new) (Written Transcript (report_bytes self.old.names.names self.old.in_line 0 (NoSuchFile file.now)) ∷ [])) }
+        ensures err { IfErr result (λ b. (sizes : Sizes) (f : FilesTold) (work : List Reading) (more : List Move) → Cuts sizes (state_of self.old work) self.new work (world_of f (S.told out.old) self.old) (world_of f (S.told out.new) self.new) (Written Transcript (report_bytes self.old.names.names self.old.in_line 0 (NoSuchFile file.now)) ∷ more) b) }
+        ensures only { OnlyColumn self.old self.new }
+    {
+        let (hash, pool) = self.names.parts();
+        let view = initial_view(self.input.lists(), hash, pool, &self.categories);
+        write_missing_file(out, &mut self.in_line, view, file)?;
+        Ok(())
+    }
+}
+
+/// Whether the reading that wants a token enters names: a raw one.
+fn enters_names(want: Option<Want>) -> bool
+    ensures { result ≡ enters_of want }
+{
+    matches!(want, Some(Want::Raw))
 }
 
 /// A `}`, as it is inserted.

@@ -1,20 +1,15 @@
-//! The program over any files and sink: `top`, and for now the engine below it.
+//! The program over any files and sink: `top`, and the engine below it.
 #![tactic(auto)]
 
 mod broken;
 mod engine;
-mod frame;
-mod input;
-mod lines;
 mod meaning;
 mod names;
-mod print;
 mod program;
 mod reactions;
-mod report;
 mod run;
-mod scan;
 mod tell;
-mod text;
+#[cfg(test)]
+mod tests;
 
 pub use program::top;

@@ -1,7 +1,6 @@
-// What tokens mean, and how names are spelt.
+// What tokens mean.
 ghost use Rattle.std.specs.Prelude.{◌≡◌};
 ghost use Rattle.plain_state.specs.Names as names;
-ghost use Rattle.plain_state.specs.Printed.{name_at, primitive_word};
 
 use tex_defs::{Meaning, Name, Seen, Token};
 
@@ -55,29 +54,4 @@ pub fn seen(token: Token) -> Seen
 {
     let meaning = meaning_of(token);
     Seen { token, meaning }
-}
-
-/// How many names are entered at first.
-const FIRST_NAMES: u16 = 35;
-
-/// The characters of a name, by its number.
-pub fn spelling(number: u16) -> &'static [u8]
-    ensures { result.now ≡ name_at names.primitive_names number }
-{
-    if number >= 1 && number <= FIRST_NAMES {
-        prim_table::name(number)
-    } else {
-        b""
-    }
-}
-
-/// The name of a primitive; none where no primitive has the number.
-pub fn primitive_word(number: u16) -> &'static [u8]
-    ensures { result.now ≡ primitive_word number }
-{
-    if number >= 1 && number <= prim_table::COUNT {
-        prim_table::name(number)
-    } else {
-        b""
-    }
 }

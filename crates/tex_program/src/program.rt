@@ -1,19 +1,42 @@
 // The program, over any files and sink.
-ghost use Rattle.std.specs.Prelude.{◌≡◌, Bool, false, map};
+ghost use Rattle.std.specs.Prelude.{◌≡◌, Bool, true, false, map, None};
 ghost use Rattle.std.specs.String.{string_bytes};
 ghost use Rattle.tex_defs.specs.Places.{Rose};
+ghost use Rattle.tex_defs.specs.declared.Table.TheVariants.{MainMemorySize};
+ghost use Rattle.tex_defs.specs.Sizes.{is_in_range, first_out_of_range, default_sizes};
 ghost use Rattle.command_words.specs.Words.{command_of, NoCommand, spelt};
 ghost use Rattle.plain_machine.specs.Meaning.{Means};
 ghost use Rattle.world_io.specs.Told.{world};
 
-use crate::run::{run_file, run_missing};
+use crate::run::{Bounds, run_file};
 use crate::tell::{Telling, tell};
 use command_words::{Job, Unread, read_words};
 use std::alloc::Global;
+use tex_defs::Sizes;
 use world_io::{Fault, Files, Sink, read_file};
+
+/// How a job is run.
+fn bounds(job: &Job) -> Bounds
+    requires { is_in_range MainMemorySize job.now.main_memory_size ≡ true }
+    ensures sizes { result.sizes ≡ record default_sizes { main_memory_size = job.now.main_memory_size } }
+    ensures in_range { first_out_of_range result.sizes ≡ None }
+    ensures steps { result.steps ≡ job.now.steps }
+    ensures quiet { result.quiet ≡ job.now.quiet }
+{
+    let sizes = Sizes {
+        main_memory_size: job.main_memory_size,
+        ..Sizes::DEFAULT
+    };
+    Bounds {
+        sizes,
+        steps: job.steps,
+        quiet: job.quiet,
+    }
+}
 
 /// Runs the job of a file.
 fn run_job<F: Files, S: Sink>(alloc: Global, job: &Job, files: &mut F, out: &mut S) -> u8
+    requires { is_in_range MainMemorySize job.now.main_memory_size ≡ true }
     ensures meaning { (b : Bool) × Means (spelt job.now) (F.told files.old).file (world (F.told files.old) (S.told out.old) false) (world (F.told files.new) (S.told out.new) b) result }
     ensures read_fault { result ≡ 5 → Rose (F.told files.old).read_faults (F.told files.new).read_faults }
     ensures write_fault { result ≡ 6 → Rose (S.told out.old).faults (S.told out.new).faults }
@@ -21,8 +44,7 @@ fn run_job<F: Files, S: Sink>(alloc: Global, job: &Job, files: &mut F, out: &mut
 {
     let name = job.file.as_slice();
     match read_file(alloc, files, name) {
-        Ok(Some(bytes)) => run_file(alloc, job.quiet, job.steps, bytes, out).status,
-        Ok(None) => run_missing(alloc, job.quiet, job.steps, name, out).status,
+        Ok(bytes) => run_file(alloc, &bounds(job), name, bytes, out).status,
         Err(Fault::Failed) => {
             tell(out, false, Telling::ReadFault);
             5
@@ -37,19 +59,21 @@ fn run_job<F: Files, S: Sink>(alloc: Global, job: &Job, files: &mut F, out: &mut
 /// The program: does what its words say, over these files and this sink, and answers its exit status.
 ///
 /// The first word is the program's name. The only command today is `init FILE`, which runs the job of a file
-/// from INITEX's first state in nonstop mode.
+/// from INITEX's first state in nonstop mode, within tables of the default sizes (`--mem N` sets that of the main
+/// memory, in words).
 ///
 /// | Status | Comes |
 /// |---|---|
 /// | 0, 1 | where the run has ended, without and with a report |
 /// | 2 | where the run is at something fatal |
+/// | 3 | where a table has no room for the machine's next move |
 /// | 4 | where the steps were taken and the machine needs one more |
 /// | 5, 6 | where a read, a write failed |
 /// | 7 | where memory was wanted |
 /// | 9 | where the words are no command |
 pub fn top<F: Files, S: Sink>(alloc: Global, words: &[String], files: &mut F, out: &mut S) -> u8
     // What is written to the transcript and to each file, and the status, are the plain machine's. Only the statuses
-    // 0, 1, 2, 4, 5, 6, 7 and 9 come.
+    // 0 to 7 and 9 come.
     ensures meaning { (b : Bool) × Means (command_of (map string_bytes words.now)) (F.told files.old).file (world (F.told files.old) (S.told out.old) false) (world (F.told files.new) (S.told out.new) b) result }
     ensures usage { result ≡ 9 → command_of (map string_bytes words.now) ≡ NoCommand }
     ensures read_fault { result ≡ 5 → Rose (F.told files.old).read_faults (F.told files.new).read_faults }

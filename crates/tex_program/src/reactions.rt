@@ -1,13 +1,13 @@
 // What the engine makes of a token.
 ghost use Rattle.std.specs.Prelude.{◌≡◌};
 ghost use Rattle.plain_machine.specs.Plan.{Page, wanted, stomach};
-ghost use Rattle.tex_program.specs.Sees.{want_of};
+ghost use Rattle.frames.specs.Sees.{want_of};
 ghost use Rattle.tex_program.specs.Begins.{onward_moves, outcome_of_last, IsNoFeed, IsNoBegin};
 
 use crate::meaning::{CATCODE, END, MESSAGE, name_of};
-use crate::report::Report;
-use crate::scan::{Kind, Want};
+use frames::{Kind, Want};
 use tex_defs::{Fatal, Meaning, Seen};
+use transcript::Report;
 
 /// How the machine stops.
 #[derive(Clone, Copy, Debug, PartialEq, Eq)]

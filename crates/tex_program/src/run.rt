@@ -1,17 +1,23 @@
 // The run of a job whose file has been read, and what is told of it.
 ghost use Rattle.std.specs.Prelude.{◌≡◌, ℕ, List, Some, None, false, option_map};
 ghost use Rattle.tex_defs.specs.Places.{Rose};
+ghost use Rattle.tex_defs.specs.Sizes.{first_out_of_range};
+ghost use Rattle.tex_defs.specs.declared.Sizes.{Sizes};
 ghost use Rattle.plain_state.specs.States.{State};
 ghost use Rattle.plain_machine.specs.Meaning.{First};
 ghost use Rattle.world_io.specs.Told.{FilesTold, world};
 ghost use Rattle.tex_program.specs.Ran.{CutBy};
 ghost use Rattle.tex_program.specs.Says.{SaysSo, end_status};
+ghost use Rattle.tex_program.specs.First.{Begins};
+ghost use Rattle.tex_program.specs.declared.engine.Engine.{Engine};
 
 use crate::broken::Broken;
 use crate::engine::{Ended, Engine};
 use crate::reactions::Outcome;
 use crate::tell::{Telling, tell};
+use command_words::job_name;
 use std::alloc::Global;
+use tex_defs::Sizes;
 use world_io::Sink;
 
 /// A run's status, and whether the transcript's column isn't 0 at its end.
@@ -21,9 +27,17 @@ pub struct Told {
     pub in_line: bool,
 }
 
+/// How a job is run: within these sizes, for at most so many steps, with token lines or without.
+#[derive(Clone, Copy)]
+pub struct Bounds {
+    pub sizes: Sizes,
+    pub steps: u64,
+    pub quiet: bool,
+}
+
 /// Tells of a run that was cut off.
 fn tell_broken<S: Sink>(out: &mut S, in_line: bool, broken: Broken) -> Told
-    ensures says { (f : FilesTold) (s : State) (n : ℕ) (w : _) → CutBy s n w (world f (S.told out.old) in_line) broken → SaysSo s n w (world f (S.told out.new) result.in_line) result.status }
+    ensures says { (sizes : Sizes) (f : FilesTold) (s : State) (n : ℕ) (w : _) (e : Engine) → CutBy sizes s n e w (world f (S.told out.old) in_line) broken → SaysSo sizes s n w (world f (S.told out.new) result.in_line) result.status }
     ensures no_read { result.status ≡ 5 → ⊥ }
     ensures not_usage { result.status ≡ 9 → ⊥ }
 {
@@ -36,9 +50,9 @@ fn tell_broken<S: Sink>(out: &mut S, in_line: bool, broken: Broken) -> Told
             in_line: tell(out, in_line, Telling::NoMemory),
             status: 7,
         },
-        Broken::NoRoom => Told {
-            in_line: tell(out, in_line, Telling::NoMemory),
-            status: 7,
+        Broken::Full(full) => Told {
+            in_line: tell(out, in_line, Telling::Full(full)),
+            status: 3,
         },
     }
 }
@@ -54,20 +68,16 @@ fn status_of(outcome: Outcome, reports: u32) -> u8
     }
 }
 
-/// Runs a job's file, of these bytes, for at most `steps` steps.
-pub fn run_file<S: Sink>(
-    alloc: Global,
-    quiet: bool,
-    steps: u64,
-    bytes: Vec<u8>,
-    out: &mut S,
-) -> Told
-    ensures says { (f : FilesTold) (file : List ℕ) → SaysSo (First quiet file (Some bytes.items)) steps (world f (S.told out.old) false) (world f (S.told out.new) result.in_line) result.status }
-    ensures fault { result.status ≡ 6 → Rose (S.told out.old).faults (S.told out.new).faults }
+/// Runs an engine at the beginning of the job of a file that is held.
+fn run_engine<S: Sink>(engine: &mut Engine, file: &[u8], steps: u64, out: &mut S) -> Told
+    requires idle { engine.old.input.making ≡ None }
+    ensures says { (sizes : Sizes) (f : FilesTold) (quiet : _) (bytes : List ℕ) → Begins sizes engine.old quiet (Some bytes) → SaysSo sizes (First quiet file.now (Some bytes)) steps (world f (S.told out.old) false) (world f (S.told out.new) result.in_line) result.status }
     ensures no_read { result.status ≡ 5 → ⊥ }
     ensures not_usage { result.status ≡ 9 → ⊥ }
 {
-    let mut engine = Engine::new(alloc, quiet, Some(bytes));
+    if let Err(broken) = engine.keep_name(job_name(file)) {
+        return tell_broken(out, engine.is_in_line(), broken);
+    }
     match engine.run_steps(out, steps) {
         Ok(Ended::Halted(outcome)) => Told {
             in_line: engine.is_in_line(),
@@ -81,25 +91,59 @@ pub fn run_file<S: Sink>(
     }
 }
 
-/// A job whose file isn't held.
-pub fn run_missing<S: Sink>(
-    alloc: Global,
-    quiet: bool,
-    steps: u64,
-    file: &[u8],
-    out: &mut S,
-) -> Told
-    ensures says { (f : FilesTold) → SaysSo (First quiet file.now None) steps (world f (S.told out.old) false) (world f (S.told out.new) result.in_line) result.status }
-    ensures fault { result.status ≡ 6 → Rose (S.told out.old).faults (S.told out.new).faults }
+/// Ends the job of a file that isn't held.
+fn refuse_engine<S: Sink>(engine: &mut Engine, file: &[u8], out: &mut S) -> Told
+    ensures says { (sizes : Sizes) (f : FilesTold) (quiet : _) (n : ℕ) → Begins sizes engine.old quiet None → SaysSo sizes (First quiet file.now None) n (world f (S.told out.old) false) (world f (S.told out.new) result.in_line) result.status }
     ensures no_read { result.status ≡ 5 → ⊥ }
     ensures not_usage { result.status ≡ 9 → ⊥ }
 {
-    let mut engine = Engine::new(alloc, quiet, None);
+    if let Err(broken) = engine.keep_name(job_name(file)) {
+        return tell_broken(out, engine.is_in_line(), broken);
+    }
     match engine.refuse_job(out, file) {
-        Ok(outcome) => Told {
+        Ok(_) => Told {
             in_line: engine.is_in_line(),
             status: 2,
         },
         Err(broken) => tell_broken(out, engine.is_in_line(), broken),
     }
+}
+
+/// Want of memory before the run.
+fn tell_no_room<S: Sink>(out: &mut S) -> Told
+    ensures says { (sizes : Sizes) (f : FilesTold) (s : State) (n : ℕ) → SaysSo sizes s n (world f (S.told out.old) false) (world f (S.told out.new) result.in_line) result.status }
+    ensures status { result.status ≡ 7 }
+{
+    Told {
+        in_line: tell(out, false, Telling::NoMemory),
+        status: 7,
+    }
+}
+
+/// Runs a job's file, of these bytes where it is held.
+pub fn run_file<S: Sink>(
+    alloc: Global,
+    bounds: &Bounds,
+    file: &[u8],
+    bytes: Option<Vec<u8>>,
+    out: &mut S,
+) -> Told
+    requires { first_out_of_range bounds.now.sizes ≡ None }
+    ensures says { (f : FilesTold) → SaysSo bounds.now.sizes (First bounds.now.quiet file.now (option_map (λ v. v.items) bytes)) bounds.now.steps (world f (S.told out.old) false) (world f (S.told out.new) result.in_line) result.status }
+    ensures fault { result.status ≡ 6 → Rose (S.told out.old).faults (S.told out.new).faults }
+    ensures no_read { result.status ≡ 5 → ⊥ }
+    ensures not_usage { result.status ≡ 9 → ⊥ }
+{
+    let held = bytes.is_some();
+    let mut engine = match Engine::new(alloc, &bounds.sizes, bounds.quiet, bytes) {
+        Ok(engine) => engine,
+        Err(_) => return tell_no_room(out),
+    };
+    let told = if held {
+        run_engine(&mut engine, file, bounds.steps, out)
+    } else {
+        refuse_engine(&mut engine, file, out)
+    };
+    engine.close();
+    told
 }

@@ -4,16 +4,19 @@ ghost use Rattle.plain_state.specs.Reports.{fresh_line};
 ghost use Rattle.plain_machine.specs.Meaning.{Line};
 ghost use Rattle.world_io.specs.Told.{FilesTold, world};
 ghost use Rattle.tex_program.specs.Tells.{line_of};
-ghost use Rattle.tex_program.specs.declared.tell.Telling.TheVariants.{Steps};
+ghost use Rattle.tex_program.specs.declared.tell.Telling.TheVariants.{Steps, Full as FullTold};
 
-use crate::engine::ends_in_line;
 use char_text::Text;
-use world_io::{Sink, write_all};
+use tex_defs::Full;
+use transcript::put;
+use world_io::Sink;
 
 /// What a stop line tells.
 #[derive(Clone, Copy, Debug, PartialEq, Eq)]
 pub enum Telling {
     Usage,
+    /// The table that has no room.
+    Full(Full),
     /// The step bound.
     Steps(u64),
     ReadFault,
@@ -43,6 +46,18 @@ fn put_steps(text: &mut Text, n: u64)
     text.put_bytes(b"].\n");
 }
 
+/// Puts the line of a full table.
+fn put_full(text: &mut Text, full: Full)
+    requires { length text.old ≤ 1 }
+    ensures { text.new ≡ text.old ++ line_of (FullTold full) }
+{
+    text.put_bytes(b"! TeX capacity exceeded, sorry [");
+    text.put_bytes(full.table.name());
+    text.put_bytes(b"=");
+    text.put_count(u64::from(full.size));
+    text.put_bytes(b"].\n");
+}
+
 /// A stop line, behind a line feed where the column isn't 0.
 fn on_fresh_line(in_line: bool, telling: Telling) -> Text
     ensures { result ≡ fresh_line in_line ++ line_of telling }
@@ -52,6 +67,7 @@ fn on_fresh_line(in_line: bool, telling: Telling) -> Text
         Telling::Usage => {
             text.put_bytes(b"usage: texmac init FILE, run --fmt NAME FILE, drill SEED SIZE\n")
         }
+        Telling::Full(full) => put_full(&mut text, full),
         Telling::Steps(n) => put_steps(&mut text, n),
         Telling::ReadFault => text.put_bytes(b"! Read fault.\n"),
         Telling::WriteFault => text.put_bytes(b"! Write fault.\n"),
@@ -66,9 +82,7 @@ pub fn tell<S: Sink>(out: &mut S, in_line: bool, telling: Telling) -> bool
     ensures later { (S.told out.old).faults ≤ (S.told out.new).faults }
 {
     let line = on_fresh_line(in_line, telling);
-    let text = line.bytes();
-    match write_all(out, text) {
-        Ok(()) => ends_in_line(in_line, text),
-        Err(e) => ends_in_line(in_line, &text[..e.written]),
-    }
+    let mut column = in_line;
+    let _ = put(out, &mut column, line.bytes());
+    column
 }

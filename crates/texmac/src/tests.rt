@@ -159,6 +159,8 @@ fn words_that_are_no_command_give_the_usage(rt: HostRuntime) -> Result<(), Fail>
     assert!(rt; usage(alloc, &["init", "-a"])?);
     assert!(rt; usage(alloc, &["init", "a", "b"])?);
     assert!(rt; usage(alloc, &["init", "--steps", "x", "a"])?);
+    assert!(rt; usage(alloc, &["init", "--mem", "99", "a"])?);
+    assert!(rt; usage(alloc, &["init", "--mem=16777217", "a"])?);
     assert!(rt; usage(alloc, &["run", "--fmt", "a", "b"])?);
     Ok(())
 }
@@ -412,5 +414,58 @@ fn categories_are_followed(rt: HostRuntime) -> Result<(), Fail> {
         )?
     );
     assert!(rt; job(alloc, b"\\catcode`\\|=0 |message{a}|end\n", b"a\n", 0)?);
+    Ok(())
+}
+
+/// A text of a message of so many letters.
+fn message(alloc: Global, count: usize) -> Result<Vec<u8>, AllocError> {
+    let mut text = Vec::from_slice(alloc, b"\\message{")?;
+    for _ in 0..count {
+        text.push(97)?;
+    }
+    text.extend_from_slice(b"}\\end\n")?;
+    Ok(text)
+}
+
+#[test]
+fn a_full_main_memory_ends_the_run(rt: HostRuntime) -> Result<(), Fail> {
+    let alloc = rt.alloc();
+    let words = ["init", "--mem", "100", "job"];
+    let mut written = Vec::new(alloc);
+    for _ in 0..99 {
+        written.push(97)?;
+    }
+    written.push(10)?;
+    let text = message(alloc, 99)?;
+    assert!(rt; job_with(alloc, &words, text.as_slice(), written.as_slice(), 0)?);
+    let full = b"! TeX capacity exceeded, sorry [main memory size=100].\n".as_slice();
+    let text = message(alloc, 100)?;
+    assert!(rt; job_with(alloc, &words, text.as_slice(), full, 3)?);
+    let text = message(alloc, 200)?;
+    assert!(rt; job_with(alloc, &words, text.as_slice(), full, 3)?);
+    Ok(())
+}
+
+#[test]
+fn a_line_too_long_ends_the_run(rt: HostRuntime) -> Result<(), Fail> {
+    let alloc = rt.alloc();
+    let mut text = Vec::new(alloc);
+    for _ in 0..499 {
+        text.push(120)?;
+    }
+    let mut more = Vec::from_slice(alloc, text.as_slice())?;
+    text.extend_from_slice(b"\n\\end\n")?;
+    more.extend_from_slice(b"x\n\\end\n")?;
+    let words = ["init", "--quiet", "job"];
+    assert!(rt; job_with(alloc, &words, text.as_slice(), b"", 0)?);
+    assert!(rt;
+        job_with(
+            alloc,
+            &words,
+            more.as_slice(),
+            b"! TeX capacity exceeded, sorry [buffer size=500].\n",
+            3
+        )?
+    );
     Ok(())
 }

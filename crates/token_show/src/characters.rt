@@ -6,7 +6,7 @@ ghost use Rattle.plain_state.specs.Printed.{name_text, list_text, runaway_text, 
 ghost use Rattle.token_show.specs.Views.{style_of, IsView, list_tokens, build_tokens, HoldsList};
 ghost use Rattle.token_show.specs.Texts.{room_after, is_spent, text_from};
 
-use crate::piece::{Piece, escaped, meaning_piece, name_piece, no_piece, token_piece};
+use crate::piece::{Piece, bytes_piece, escaped, meaning_piece, name_piece, no_piece, token_piece};
 use crate::printing::printed_len;
 use crate::view::View;
 use crate::walk::Walk;
@@ -180,6 +180,15 @@ impl<'a> Characters<'a> {
         let piece = token_piece(&view, 0, b'#', token);
         let walk = Walk::nothing(view.lists);
         Characters::new(view, piece, walk, None)
+    }
+
+    /// These characters, as those of a file's name.
+    pub fn of_bytes(view: View<'a>, bytes: &'a [u8]) -> Characters<'a>
+        requires { IsView view }
+        ensures { result ≡ bytes.now }
+    {
+        let walk = Walk::nothing(view.lists);
+        Characters::new(view, bytes_piece(bytes), walk, None)
     }
 
     /// A name, as `\string` gives it and as reports have it.

@@ -14,7 +14,8 @@ mod walk;
 
 pub use characters::Characters;
 pub use shown::{
-    Shown, meaning, meaning_head, name_text, show_built, show_list, show_runaway, show_token,
+    Shown, meaning, meaning_head, name_text, show_built, show_bytes, show_list, show_runaway,
+    show_token,
 };
 pub use view::View;
 

@@ -89,6 +89,13 @@ fn none<'a>() -> Part<'a>
     Part::new(None, &[])
 }
 
+// These characters.
+pub(crate) fn bytes_piece<'a>(bytes: &'a [u8]) -> Piece<'a>
+    ensures { result ≡ bytes.now }
+{
+    Piece::new(Part::new(None, bytes), none(), none())
+}
+
 // At most two characters.
 fn two<'a>(first: u8, second: Option<u8>) -> Piece<'a>
     ensures { result ≡ first ∷ listed second }

@@ -120,6 +120,14 @@ pub fn show_token<'a>(view: View<'a>, token: Token) -> Shown<'a>
     print(&view, Characters::of_token(view, token))
 }
 
+/// Characters, as those of a file's name, printed.
+pub fn show_bytes<'a>(view: View<'a>, bytes: &'a [u8]) -> Shown<'a>
+    requires { IsView view }
+    ensures { result ≡ printed_all (style_of view.entry) bytes.now }
+{
+    print(&view, Characters::of_bytes(view, bytes))
+}
+
 /// A name as reports have it, printed: no space stands behind it.
 pub fn name_text<'a>(view: View<'a>, name: Name) -> Shown<'a>
     requires { IsView view }

@@ -4,8 +4,8 @@ ghost use Rattle.token_lists.specs.Ids.{build_id, IsBuilding};
 ghost use Rattle.token_show.specs.Views.{IsView};
 
 use crate::{
-    Characters, Shown, View, meaning, meaning_head, name_text, show_built, show_list, show_runaway,
-    show_token,
+    Characters, Shown, View, meaning, meaning_head, name_text, show_built, show_bytes, show_list,
+    show_runaway, show_token,
 };
 use cs_hash::CsHash;
 use std::process::Abort;
@@ -221,6 +221,8 @@ fn names_and_meanings(rt: HostRuntime) -> Result<(), Fail> {
         expect(&rt, show_token(view, Token::Named(name)), in_list);
         expect(&rt, show_token(silent, Token::Marked(name)), without_escape);
     }
+    expect(&rt, show_bytes(view, b"a\r"), b"a^^M");
+    expect_characters(&rt, Characters::of_bytes(view, b"a\r"), b"a\r");
     let relax: Meaning<()> = Meaning::Prim(1);
     expect(&rt, meaning_head(view, &relax), b"\\relax");
     for k in 0..17usize {

@@ -12,10 +12,12 @@ returns-clause-shape c =
     let one : app_of c.in_ok-arg.field-0 ≡ with_rule (new_app (codes "init")) (spec.required_word (codes "file")) =
     c.in_ok-arg.ensures.shape (search rules) ∙ ap₂ with_rule c.new-3.ensures.app file_is in
     let two = c.in_ok-arg-2.ensures.shape (search rules) ∙ ap₂ with_rule one c.number_option-steps.ensures.rule in
-    IfOk-weaker c.arg-3.result _ _ (λ m h. ap (λ (a : App). a.top) (h.shape (search rules) ∙ ap₂ with_rule two quiet_is)) c.arg-3.ensures
+    let three = c.in_ok-arg-3.ensures.shape (search rules) ∙ ap₂ with_rule two c.number_option-mem.ensures.rule in
+    IfOk-weaker c.arg-4.result _ _ (λ m h. ap (λ (a : App). a.top) (h.shape (search rules) ∙ ap₂ with_rule three quiet_is)) c.arg-4.ensures
 
 pub returns-clause-local : goal.returns-clause-local
 returns-clause-local c =
     let one : (fields_of c.in_ok-arg.field-0).has_globals ≡ false = c.in_ok-arg.ensures.globals ∙ ap₂ (λ a b. a || b) c.new-3.ensures.local (search rules) in
     let two : (fields_of c.in_ok-arg-2.field-0).has_globals ≡ false = c.in_ok-arg-2.ensures.globals ∙ ap₂ (λ a b. a || b) one c.number_option-steps.ensures.local in
-    IfOk-weaker c.arg-3.result _ _ (λ m h. h.globals ∙ ap₂ (λ a b. a || b) two (search rules)) c.arg-3.ensures
+    let three : (fields_of c.in_ok-arg-3.field-0).has_globals ≡ false = c.in_ok-arg-3.ensures.globals ∙ ap₂ (λ a b. a || b) two c.number_option-mem.ensures.local in
+    IfOk-weaker c.arg-4.result _ _ (λ m h. h.globals ∙ ap₂ (λ a b. a || b) three (search rules)) c.arg-4.ensures

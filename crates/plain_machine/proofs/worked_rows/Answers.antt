@@ -1,15 +1,14 @@
 use Rattle.std.proofs.Common.{refl}
 use Rattle.std.specs.Fmt.{digits}
-use Rattle.prim_table.specs.Primitives.{primitive_name, primitive_names as table_names, command_names}
+use Rattle.prim_table.specs.Primitives.{primitive_name, primitive_names, command_names, assignment_names, expandable_names, conditional_names, integer_names, dimension_names, glue_names, token_names}
 use Rattle.plain_machine.specs.Rows.{job_of, run_of}
 use Rattle.plain_state.specs.Categories.{initial_categories}
 use Rattle.plain_state.specs.Lex.{headed, letters, behind_letters, lexed}
 use Rattle.plain_state.specs.Lookup.{number_from}
-use Rattle.plain_state.specs.Names.{primitive_names}
 use Rattle.plain_machine.proofs.worked_rows.Goals as goal
 
 pub returns : goal.returns
-unfolding job_of run_of initial_categories digits headed letters behind_letters lexed number_from primitive_names primitive_name table_names command_names
+unfolding job_of run_of initial_categories digits headed letters behind_letters lexed number_from primitive_names primitive_name command_names assignment_names expandable_names conditional_names integer_names dimension_names glue_names token_names
 returns c = record {
   usual = ((refl, refl), refl);
   hi = ((refl, refl), refl);
@@ -35,6 +34,10 @@ returns c = record {
   brace_missing = (refl, refl);
   run_away = (refl, refl);
   improper = (refl, refl);
+  improper_again = (refl, refl);
+  entered_raw = refl;
+  not_entered = refl;
+  entered_once = refl;
   missing = (refl, refl);
   hats = (refl, refl);
 }

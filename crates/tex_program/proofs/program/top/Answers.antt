@@ -5,14 +5,6 @@ use Rattle.world_io.specs.Told.{world}
 use Rattle.tex_program.proofs.Meanings.{no_memory_means}
 use Rattle.tex_program.proofs.program.top.Goals as goal
 
-pub returns-in-Ok-clause-meaning : goal.returns-in-Ok-clause-meaning
-returns-in-Ok-clause-meaning g c =
-    let f = g.F.Files.told c.args.files.now in
-    let m = c.run_job.ensures.meaning in
-    let w = world f (g.S.Sink.told c.args.out.now) false in
-    let w' = world (g.F.Files.told c.run_job.new.files) (g.S.Sink.told c.run_job.new.out) m.0 in
-    (m.0, subst (λ (k : Command). Means k f.file w w' c.run_job.result) (sym c.in-Ok.ensures.command) m.1)
-
 pub returns-in-Err-Usage-clause-meaning : goal.returns-in-Err-Usage-clause-meaning
 returns-in-Err-Usage-clause-meaning g c =
     let f = g.F.Files.told c.args.files.now in

@@ -1,31 +1,8 @@
-use Rattle.std.proofs.Common.{arith, ◌∙◌, length}
-use Rattle.input_stack.proofs.Ready.{take_top, ready_level, ready_in_buffer, ready_none, ready_under, ready_under_buffer}
+use Rattle.std.proofs.Common.{◌∙◌, ap}
+use Rattle.input_stack.specs.Levels.{is_ahead}
+use Rattle.input_stack.specs.View.{pending}
+use Rattle.input_stack.proofs.Ready.{ready_is}
 use Rattle.input_stack.proofs.stack.InputStack.ready.Goals as goal
 
-pub level_ready-requires-clause-level : goal.level_ready-requires-clause-level
-level_ready-requires-clause-level c =
-    let s = c.args.self.now in
-    let n = c.loop-at.at in
-    let is = take_top s.levels.items n c.index.result.now c.loop-at.invariant.within (omega (arith, c.loop-at-test.true)) c.index.ensures in
-    ready_level c.args.lists.now c.index.result.now _ _ is c.loop-at.invariant.levels
-
-pub level_ready-requires-clause-in_buffer : goal.level_ready-requires-clause-in_buffer
-level_ready-requires-clause-in_buffer c =
-    let s = c.args.self.now in
-    let n = c.loop-at.at in
-    let is = take_top s.levels.items n c.index.result.now c.loop-at.invariant.within (omega (arith, c.loop-at-test.true)) c.index.ensures in
-    ready_in_buffer c.args.lists.now c.index.result.now _ _ (length c.args.bytes.now) is c.loop-at.invariant.in_buffer
-
-pub loop-at-preserved : goal.loop-at-preserved
-loop-at-preserved c =
-    let s = c.args.self.now in
-    let n = c.loop-at.at in
-    let t = c.args.lists.now in
-    let l = c.index.result.now in
-    let is = take_top s.levels.items n l c.loop-at.invariant.within (omega (arith, c.loop-at-test.true)) c.index.ensures in
-    record {
-      within = omega (arith, c.loop-at.invariant.within);
-      ready = ready_none t c.args.categories.now c.args.bytes.now l _ _ c.level_ready.result is c.level_ready.ensures c.in_default.is ∙ c.loop-at.invariant.ready;
-      levels = ready_under t l _ _ is c.loop-at.invariant.levels;
-      in_buffer = ready_under_buffer t c.args.categories.now c.args.bytes.now l _ _ c.level_ready.result (length c.args.bytes.now) is c.level_ready.ensures c.in_default.is c.loop-at.invariant.in_buffer;
-    }
+pub returns : goal.returns
+returns c = c.is_token.ensures ∙ ap is_ahead c.looks.ensures ∙ ready_is c.args.categories.now c.args.bytes.now (pending c.args.lists.now c.args.self.now)

@@ -1,5 +1,12 @@
-use Rattle.tex_program.proofs.Ruling.{with_light}
+use Rattle.tex_program.proofs.Growing.{begun_stands, with_light}
 use Rattle.tex_program.proofs.engine.Engine.begin_with.Goals as goal
 
 pub returns-clause-light : goal.returns-clause-light
-returns-clause-light c = let b = c.in_ok-begin.ensures in with_light c.feed.result c.args.self.now c.begin.new.self c.feed.new.self c.args.kind b.one b.is_open b.top b.same.input c.feed.ensures.light
+returns-clause-light c =
+    let b = c.in_ok-begin.ensures in
+    with_light c.args.self.now c.begin.new.self c.feed_frame.new.self c.args.kind b.one b.is_open b.top b.same.pending c.feed_frame.ensures.light
+
+pub returns-clause-stands : goal.returns-clause-stands
+returns-clause-stands c = λ sizes work h.
+    let b = c.in_ok-begin.ensures in
+    begun_stands sizes c.begin.new.self c.feed_frame.new.self _ c.args.seen work b.is_open b.takes b.asks b.fresh (c.feed_frame.ensures.stands sizes) (b.stands sizes work h)

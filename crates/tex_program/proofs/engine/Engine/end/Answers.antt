@@ -1,11 +1,12 @@
-use Rattle.std.proofs.Common.{◌≡◌, [], ◌∷◌, ◌++◌, arith}
-use Rattle.std.proofs.lemmas.Grind.{common_steps}
-use Rattle.tex_program.specs.Sees.{value_of}
-use Rattle.tex_program.proofs.Feeding.{ended_on}
+use Rattle.std.proofs.Common.{◌≡◌, [], ◌∷◌, ◌++◌, refl, rules}
+use Rattle.tex_program.specs.Stands.{kept_lists}
+use Rattle.tex_program.proofs.Feeding.{ends_on}
 use Rattle.tex_program.proofs.engine.Engine.end.Goals as goal
 
 pub returns-in-Some-clause-stands : goal.returns-in-Some-clause-stands
-returns-in-Some-clause-stands c = λ work h.
-    let popped : c.args.self.now.outer.items ≡ c.pop.new.self.items ++ c.in-Some.frame ∷ [] = grind (arith, common_steps, c.pop.ensures.cases, c.pop.ensures.items, c.pop.ensures.rest, c.in-Some.is) in
-    ended_on c.feed_value.result c.in-Some.frame c.feed_value.new.self (value_of c.args.value) c.args.self.now.outer.items c.pop.new.self.items work popped h
-    (record { answer = c.feed_value.ensures.answer; goes_on = c.feed_value.ensures.goes_on; list = c.feed_value.ensures.list; kind = c.feed_value.ensures.kind }) c.feed_value.ensures.none
+returns-in-Some-clause-stands c = λ sizes rs h.
+    let g = c.feed_value-self.ensures in
+    let items : c.args.self.now.outer.items ≡ c.keep_value.new.self.outer.items ++ c.in-Some.waiting ∷ [] = search rules in
+    let lists : c.keep_value.new.self.input.gathered ≡ kept_lists c.args.value c.args.self.now.input.gathered = search rules in
+    ends_on sizes c.args.self.now _ c.in-Some.waiting c.feed_value-self.new.self c.args.value rs (search rules) h items refl lists
+    (record { answer = λ now same. g.answer c.args.self.now.input.gathered now same; goes_on = λ o fed. g.goes_on o c.args.self.now.input.gathered fed; kind = g.kind; none = g.none; waits = g.waits; bare = λ o. g.bare o c.args.self.now.input.gathered })

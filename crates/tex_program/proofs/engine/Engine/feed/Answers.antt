@@ -1,13 +1,14 @@
-use Rattle.std.proofs.Common.{subst}
-use Rattle.std.specs.Prelude.{Option}
-use Rattle.tex_program.specs.declared.frame.Frame.{Frame}
-use Rattle.tex_program.specs.Stands.{WorkStands}
-use Rattle.tex_program.proofs.Feeding.{fed_on}
+use Rattle.std.proofs.Common.{◌∙◌}
+use Rattle.tex_program.proofs.Growing.{fed_refusal, token_stands}
+use Rattle.tex_program.proofs.Joining.{same_err}
 use Rattle.tex_program.proofs.engine.Engine.feed.Goals as goal
 
-pub returns-in_ok-self-clause-stands : goal.returns-in_ok-self-clause-stands
-returns-in_ok-self-clause-stands c = λ work o h.
-    let g = c.in_ok-self.ensures in
-    fed_on c.args.self.now.ask c.in_ok-self.field-0 c.in-Some.frame _ c.args.seen c.args.self.now.outer.items work o
-    (subst (λ (x : Option Frame). WorkStands c.args.self.now.ask x c.args.self.now.outer.items work) c.in-Some.is h)
-    (record { answer = g.answer; goes_on = g.goes_on; list = g.list; kind = g.kind }) g.back
+pub returns-clause-stands : goal.returns-clause-stands
+returns-clause-stands c = λ sizes work h.
+    token_stands sizes c.args.self.now c.grow.new.self c.feed_frame.new.self c.args.seen work h c.grow.ensures.small c.in_ok-grow.ensures.ok c.feed_frame.ensures.none (c.feed_frame.ensures.stands sizes)
+
+pub returns-clause-fits : goal.returns-clause-fits
+returns-clause-fits c = λ sizes work h. fed_refusal sizes c.args.self.now c.args.seen work h ∙ c.in_ok-grow.ensures.fits
+
+pub returns-in_err-grow-clause-refused : goal.returns-in_err-grow-clause-refused
+returns-in_err-grow-clause-refused c = same_err c.from_residual.result _ _ c.from_residual.ensures.1 (λ sizes work h. fed_refusal sizes c.args.self.now c.args.seen work h ∙ c.in_err-grow.ensures.refused)

@@ -1,39 +1,49 @@
-use Rattle.std.proofs.Common.{[], refl}
-use Rattle.tex_program.specs.Sees.{kind_of}
-use Rattle.tex_program.specs.Stands.{page_of}
-use Rattle.tex_program.proofs.Ruling.{same_err, ok_to, feed_onward, begin_onward, none_waits, skip_onward, line_went, line_silent, not_free}
+use Rattle.std.proofs.Common.{[], ◌∷◌, refl}
+use Rattle.plain_state.specs.Readings.{Tok}
+use Rattle.plain_state.specs.States.{Feeds, Begun, fed_with, fresh}
+use Rattle.frames.specs.Sees.{kind_of}
+use Rattle.tex_program.specs.Stands.{FeedsHere}
+use Rattle.tex_program.proofs.Counting.{counts_of}
+use Rattle.tex_program.proofs.Joining.{same_err, ok_to, err_to}
+use Rattle.tex_program.proofs.Reporting.{full_out, reading_went, line_went}
 use Rattle.tex_program.proofs.engine.Engine.go_on.Goals as goal
 
-pub returns-in-Skip-clause-rule : goal.returns-in-Skip-clause-rule
-returns-in-Skip-clause-rule g c = rw c.in-Skip.is (λ f work st. skip_onward c.args.self.now work _ [] refl st)
+pub returns-in_err-feed-in-Feed-clause-err : goal.returns-in_err-feed-in-Feed-clause-err
+returns-in_err-feed-in-Feed-clause-err g c = let e = c.args.self.now in let i = c.in_err-feed-in-Feed in
+    rw c.in-Feed.is (same_err c.from_residual.result _ _ c.from_residual.ensures.1
+    (λ sizes f work fits. full_out sizes e c.feed.new.self f _ work (Feeds c.args.seen) [] i.field-0.0 i.ensures.err (i.ensures.refused sizes work (record { want = fits.0.0; asks = fits.0.1; stands = fits.1 }))))
+
+pub returns-in_err-begin-in-Begin-clause-err : goal.returns-in_err-begin-in-Begin-clause-err
+returns-in_err-begin-in-Begin-clause-err g c = let e = c.args.self.now in let i = c.in_err-begin-in-Begin in let r = c.from_residual-in_err-begin-in-Begin in
+    rw c.in-Begin.is (same_err r.result _ _ r.ensures.1
+    (λ sizes f work fits. full_out sizes e c.begin.new.self f _ work (Begun (kind_of c.in-Begin.kind)) [] i.field-0.0 i.ensures.err (i.ensures.refused sizes work (counts_of sizes e work fits.1))))
+
+pub returns-in_err-token_line-in-Line-clause-err : goal.returns-in_err-token_line-in-Line-clause-err
+returns-in_err-token_line-in-Line-clause-err g c = let i = c.in_err-token_line-in-Line in let r = c.from_residual-in_err-token_line-in-Line in
+    rw c.in-Line.is (same_err r.result i.field-0.0 _ r.ensures.1 (λ sizes f work st. i.ensures.err sizes f work))
 
 pub returns-in_ok-feed-in-Feed-clause-rule : goal.returns-in_ok-feed-in-Feed-clause-rule
-returns-in_ok-feed-in-Feed-clause-rule g c = let e = c.args.self.now in
-    rw c.in-Feed.is (λ f work fits. feed_onward e c.feed.new.self work f _ c.feed.ensures.same c.args.seen _ refl (c.in_ok-feed-in-Feed.ensures.stands work fits.0 fits.1))
+returns-in_ok-feed-in-Feed-clause-rule g c = let e = c.args.self.now in let i = c.in_ok-feed-in-Feed.ensures in
+    rw c.in-Feed.is (λ sizes f work fits. let here : FeedsHere sizes e work = record { want = fits.0.0; asks = fits.0.1; stands = fits.1 } in
+    reading_went sizes e c.feed.new.self work (fed_with (Tok c.args.seen) work) f _ (Feeds c.args.seen) tt refl (i.fits sizes work here) refl i.same (i.stands sizes work here))
 
 pub returns-in_ok-begin-in-Begin-clause-rule : goal.returns-in_ok-begin-in-Begin-clause-rule
-returns-in_ok-begin-in-Begin-clause-rule g c = let e = c.args.self.now in
-    rw c.in-Begin.is (λ f work fits. begin_onward e c.begin.new.self work f _ c.begin.ensures.same (kind_of c.in-Begin.kind) _ refl (c.in_ok-begin-in-Begin.ensures.stands work (none_waits e work fits.0 fits.1)))
+returns-in_ok-begin-in-Begin-clause-rule g c = let e = c.args.self.now in let i = c.in_ok-begin-in-Begin.ensures in
+    rw c.in-Begin.is (λ sizes f work fits.
+    reading_went sizes e c.begin.new.self work (fresh (kind_of c.in-Begin.kind) ∷ work) f _ (Begun (kind_of c.in-Begin.kind)) tt refl (i.fits sizes work (counts_of sizes e work fits.1)) refl i.same (i.stands sizes work fits))
 
 pub returns-in-Report-clause-rule : goal.returns-in-Report-clause-rule
 returns-in-Report-clause-rule g c = rw c.in-Report.is c.report_only.ensures.rule
 
 pub returns-in-Report-clause-err : goal.returns-in-Report-clause-err
-returns-in-Report-clause-err g c = rw c.in-Report.is c.report_only.ensures.err
-
-pub returns-in_err-token_line-in-Line-clause-err : goal.returns-in_err-token_line-in-Line-clause-err
-returns-in_err-token_line-in-Line-clause-err g c = let i = c.in_err-token_line-in-Line in
-    same_err c.from_residual-in_err-token_line-in-Line.result i.field-0.0 _ c.from_residual-in_err-token_line-in-Line.ensures.1 (rw c.in-Line.is i.ensures.err)
+returns-in-Report-clause-err g c = rw c.in-Report.is (err_to c.report_only.result (λ b h sizes f work st. h sizes f work st.sized.few_reports) c.report_only.ensures.err)
 
 pub returns-in_ok-token_line-in-Line-clause-rule : goal.returns-in_ok-token_line-in-Line-clause-rule
 returns-in_ok-token_line-in-Line-clause-rule g c = let e = c.args.self.now in
-    rw c.in-Line.is (λ f work st. line_went e c.token_line.new.self work _ _ _ (line_silent (page_of e) c.args.seen.meaning) c.token_line.ensures.only st (c.in_ok-token_line-in-Line.ensures.did f work))
+    rw c.in-Line.is (λ sizes f work st. line_went sizes e c.token_line.new.self work _ _ c.args.seen.meaning c.token_line.ensures.only st (c.in_ok-token_line-in-Line.ensures.did sizes f work))
 
 pub returns-in-Finish-clause-rule : goal.returns-in-Finish-clause-rule
-returns-in-Finish-clause-rule g c = rw c.in-Finish.is (ok_to c.halt.result (λ ruled h f work st. h f work) c.halt.ensures.rule)
+returns-in-Finish-clause-rule g c = rw c.in-Finish.is (ok_to c.halt.result (λ ruled h sizes f work st. h sizes f work) c.halt.ensures.rule)
 
 pub returns-in-Finish-clause-err : goal.returns-in-Finish-clause-err
-returns-in-Finish-clause-err g c = rw c.in-Finish.is c.halt.ensures.err
-
-pub returns-in-Finish-clause-on : goal.returns-in-Finish-clause-on
-returns-in-Finish-clause-on g c = ok_to c.halt.result (λ ruled h. not_free ruled _ h) c.halt.ensures.ends
+returns-in-Finish-clause-err g c = rw c.in-Finish.is (err_to c.halt.result (λ b h sizes f work st. h sizes f work) c.halt.ensures.err)

@@ -1,13 +1,9 @@
-use Rattle.std.proofs.Common.{subst}
-use Rattle.std.specs.Prelude.{Option}
-use Rattle.tex_program.specs.declared.frame.Frame.{Frame}
-use Rattle.tex_program.specs.Stands.{WaitStands}
-use Rattle.tex_program.proofs.Feeding.{told_on}
+use Rattle.std.proofs.Common.{refl}
+use Rattle.tex_program.proofs.Feeding.{notes_on}
 use Rattle.tex_program.proofs.engine.Engine.note.Goals as goal
 
-pub returns-in-Some-clause-stands : goal.returns-in-Some-clause-stands
-returns-in-Some-clause-stands c = λ work h.
-    let g = c.feed_told.ensures in
-    told_on c.feed_told.result c.in-Some.frame _ c.args.self.now.outer.items work
-    (subst (λ (x : Option Frame). WaitStands x c.args.self.now.outer.items work) c.in-Some.is h)
-    (record { answer = g.answer; goes_on = g.goes_on; list = g.list; kind = g.kind }) g.none g.untold
+pub returns-clause-stands : goal.returns-clause-stands
+returns-clause-stands c = λ sizes work h.
+    let g = c.feed_told-self.ensures in
+    notes_on sizes c.args.self.now _ c.in-Some.frame c.feed_told-self.new.self work (record { others = record { depth = refl; names = refl; categories = refl; in_line = refl; reports = refl; quiet = refl; sizes = refl }; pending = refl; making = refl; size = refl }) c.in-Some.is h refl g.none g.untold refl refl
+    (λ lists builds shallow owned. record { answer = g.answer lists builds; goes_on = λ o fed. g.goes_on o lists fed builds; list = λ o fed. g.list o lists fed builds; kind = g.kind; builds = g.builds lists builds; owned = owned; shallow = g.shallow lists shallow; waits = g.waits })

@@ -1,25 +1,41 @@
-use Rattle.std.proofs.Common.{◌∷◌, []}
+use Rattle.std.proofs.Common.{◌∷◌, [], ap, ◌∙◌}
 use Rattle.std.specs.Prelude.{is_some}
 use Rattle.plain_state.specs.States.{Noted, AtFatal}
+use Rattle.plain_machine.specs.Plan.{reported}
 use Rattle.tex_defs.specs.declared.Fatal.TheVariants as fatal
-use Rattle.tex_program.specs.Sees.{report_of}
+use Rattle.input_state.specs.Stored.{Stored}
+use Rattle.transcript.specs.Reported.{report_of}
+use Rattle.tex_program.specs.Stands.{page_of}
 use Rattle.tex_program.specs.Rules.{world_of}
-use Rattle.tex_program.proofs.Ruling.{same_err, told_went, told_halts, told_cuts, waits_still}
+use Rattle.tex_program.proofs.Joining.{same_err}
+use Rattle.tex_program.proofs.Reporting.{sized_still, waits_still}
+use Rattle.tex_program.proofs.Putting.{told_went, told_halts, told_cuts, told_first}
 use Rattle.tex_program.proofs.engine.Engine.tell.Goals as goal
 
+pub returns-in_err-put_back-clause-err : goal.returns-in_err-put_back-clause-err
+returns-in_err-put_back-clause-err g c = let e = c.args.self.now in let i = c.in_err-put_back in
+    same_err c.from_residual.result i.field-0.0 _ c.from_residual.ensures.1
+    (λ sizes f r rs waits counts last once. told_first sizes e c.put_back.new.self f (g.S.Sink.told c.args.out.now) r rs (report_of c.args.report) (is_some c.args.back) i.field-0.0 once c.put_back.ensures.others.in_line
+    (i.ensures.err sizes (world_of f (g.S.Sink.told c.args.out.now) e) (r ∷ rs) r.fed (reported (page_of e) (report_of c.args.report) (Noted ∷ [])) counts waits.idle last))
+
 pub returns-in_err-report-clause-err : goal.returns-in_err-report-clause-err
-returns-in_err-report-clause-err g c = let i = c.in_err-report in let e = c.args.self.now in
+returns-in_err-report-clause-err g c = let e = c.args.self.now in let e1 = c.put_back.new.self in let i = c.in_err-report in let p = c.put_back.ensures in
     same_err c.from_residual-in_err-report.result i.field-0.0 _ c.from_residual-in_err-report.ensures.1
-    (λ f r s last once. told_cuts e c.put_back.new.self c.report.new.self f _ _ r (report_of c.args.report) (is_some c.args.back) once c.put_back.ensures.page s i.field-0.0
-    (c.in_ok-put_back.ensures.did (world_of f (g.S.Sink.told c.args.out.now) e) [] r.fed last).written (i.ensures.err f s (Noted ∷ [])))
+    (λ sizes f r rs waits counts last once. told_cuts sizes e e1 c.report.new.self f (g.S.Sink.told c.args.out.now) (g.S.Sink.told c.report.new.out) r rs (report_of c.args.report) (is_some c.args.back) once p.page
+    (c.in_ok-put_back.ensures.did sizes (world_of f (g.S.Sink.told c.args.out.now) e) (r ∷ rs) r.fed counts waits.idle last) i.field-0.0
+    (i.ensures.err sizes f (r ∷ rs) (Noted ∷ []) (sized_still sizes e e1 p.others.sizes p.frames.outer p.sizes p.others.names p.others.reports waits.sized).few_reports))
 
 pub returns-then-branch-clause-rule : goal.returns-then-branch-clause-rule
-returns-then-branch-clause-rule g c = λ f r rs waits last once. let e = c.args.self.now in
-    told_went e c.put_back.new.self c.report.new.self f _ _ r (report_of c.args.report) (is_some c.args.back) once c.put_back.ensures.page c.note.new.self rs
-    (c.in_ok-put_back.ensures.did (world_of f (g.S.Sink.told c.args.out.now) e) (r ∷ rs) r.fed last) (c.in_ok-report.ensures.on c.if-branch.true f (r ∷ rs) (Noted ∷ [])) c.note.ensures.same
-    (c.note.ensures.stands (r ∷ rs) (waits_still c.put_back.new.self c.report.new.self (r ∷ rs) c.report.ensures.frames (waits_still e c.put_back.new.self (r ∷ rs) c.put_back.ensures.frames waits)))
+returns-then-branch-clause-rule g c = let e = c.args.self.now in let e1 = c.put_back.new.self in let e2 = c.report.new.self in let p = c.put_back.ensures in
+    λ sizes f r rs waits counts last once. let sized = sized_still sizes e e1 p.others.sizes p.frames.outer p.sizes p.others.names p.others.reports waits.sized in
+    told_went sizes e e1 e2 f (g.S.Sink.told c.args.out.now) (g.S.Sink.told c.report.new.out) r rs (report_of c.args.report) (is_some c.args.back) once p.page
+    (c.in_ok-put_back.ensures.did sizes (world_of f (g.S.Sink.told c.args.out.now) e) (r ∷ rs) r.fed counts waits.idle last) c.note.new.self
+    (c.in_ok-report.ensures.on c.if-branch.true sizes f (r ∷ rs) (Noted ∷ [])) c.note.ensures.same
+    (c.note.ensures.stands sizes (r ∷ rs) (waits_still sizes e1 e2 (r ∷ rs) c.report.ensures.frames (c.in_ok-report.ensures.sized c.if-branch.true sizes sized) (ap (λ (x : Stored). x.making) c.report.ensures.input ∙ c.in_ok-put_back.ensures.idle)
+    (waits_still sizes e e1 (r ∷ rs) p.frames sized c.in_ok-put_back.ensures.idle waits)))
 
 pub returns-clause-rule : goal.returns-clause-rule
-returns-clause-rule g c = λ f r rs waits last once. let e = c.args.self.now in
-    told_halts e c.put_back.new.self c.report.new.self f _ _ r (report_of c.args.report) (is_some c.args.back) once c.put_back.ensures.page rs (AtFatal fatal.HundredErrors)
-    (c.in_ok-put_back.ensures.did (world_of f (g.S.Sink.told c.args.out.now) e) (r ∷ rs) r.fed last) (c.in_ok-report.ensures.last c.if-branch.false f (r ∷ rs) (Noted ∷ []))
+returns-clause-rule g c = let e = c.args.self.now in let e1 = c.put_back.new.self in let e2 = c.report.new.self in let p = c.put_back.ensures in
+    λ sizes f r rs waits counts last once. told_halts sizes e e1 e2 f (g.S.Sink.told c.args.out.now) (g.S.Sink.told c.report.new.out) r rs (report_of c.args.report) (is_some c.args.back) once p.page
+    (c.in_ok-put_back.ensures.did sizes (world_of f (g.S.Sink.told c.args.out.now) e) (r ∷ rs) r.fed counts waits.idle last) (AtFatal fatal.HundredErrors)
+    (c.in_ok-report.ensures.last c.if-branch.false sizes f (r ∷ rs) (Noted ∷ []))

@@ -1,18 +1,12 @@
-use Rattle.std.proofs.Common.{◌≡◌, [], ◌∙◌, sym, subst, List}
+use Rattle.std.proofs.Common.{◌≡◌, List, ℕ, ap}
 use Rattle.plain_state.specs.Reports.{token_line_bytes}
-use Rattle.plain_state.specs.States.{Move}
-use Rattle.plain_machine.specs.Does.{Did}
-use Rattle.tex_program.specs.Stands.{state_of, page_of}
-use Rattle.tex_program.specs.Rules.{world_of}
-use Rattle.tex_program.proofs.Ruling.{on_ok, err_to, loud, cuts_by}
+use Rattle.transcript.specs.Initial.{names_of}
+use Rattle.tex_program.proofs.Reporting.{names_is, err_out, loud_cuts}
 use Rattle.tex_program.proofs.engine.Engine.token_line.Goals as goal
 
-pub returns-clause-did : goal.returns-clause-did
-returns-clause-did g c = let e = c.args.self.now in
-    let is : c.as_slice.result.now ≡ token_line_bytes e.in_line c.args.meaning = c.as_slice.ensures.value ∙ c.in_ok-text.ensures in
-    on_ok c.write_text.result (λ h f work. subst (λ (ms : List Move). Did (state_of e work) (state_of c.write_text.new.self work) (world_of f (g.S.Sink.told c.args.out.now) e) (world_of f (g.S.Sink.told c.write_text.new.out) c.write_text.new.self) ms) (sym (loud (page_of e) c.args.meaning c.if-self.false)) (rw is at (h f work))) c.write_text.ensures.did
-
-pub returns-clause-err : goal.returns-clause-err
-returns-clause-err g c = let e = c.args.self.now in
-    let is : c.as_slice.result.now ≡ token_line_bytes e.in_line c.args.meaning = c.as_slice.ensures.value ∙ c.in_ok-text.ensures in
-    err_to c.write_text.result (λ b h f s. cuts_by s _ _ _ _ b (loud (page_of e) c.args.meaning c.if-self.false) (rw is at (h f s []))) c.write_text.ensures.err
+pub returns-in_err-write_token_line-clause-err : goal.returns-in_err-write_token_line-clause-err
+returns-in_err-write_token_line-clause-err g c =
+    let e = c.args.self.now in let view = c.initial_view-view in
+    let names : names_of view.result ≡ e.names.names = names_is view.result _ _ _ view.ensures.same_hash view.ensures.same_pool c.parts.ensures.names in
+    loud_cuts c.from_residual.result _ _ e _ c.args.meaning c.if-self.false
+    (err_out _ _ e c.write_token_line.new.in_line _ _ (ap (λ (x : List (List ℕ)). token_line_bytes x e.in_line c.args.meaning) names) c.from_residual.result c.in_err-write_token_line.field-0.0 c.from_residual.ensures.1 c.in_err-write_token_line.ensures.err)

@@ -1,6 +1,6 @@
-use Rattle.tex_program.proofs.Writing.{cut_out}
+use Rattle.std.proofs.Common.{refl}
+use Rattle.tex_program.proofs.Reporting.{err_out}
 use Rattle.tex_program.proofs.engine.Engine.write_text.Goals as goal
 
-pub returns-in-Err-clause-err : goal.returns-in-Err-clause-err
-returns-in-Err-clause-err g c = λ f s more. let i = c.in-Err.ensures in
-    cut_out c.from.result c.in-Err.e.fault f _ _ c.args.self.now.in_line _ s c.args.text.now c.in-Err.e.written more c.from.ensures i.front (c.ends_in_line-self-in-Err.ensures) i.later i.later_wants i.failed i.wanted
+pub returns-in_err-put-clause-err : goal.returns-in_err-put-clause-err
+returns-in_err-put-clause-err g c = err_out _ _ c.args.self.now c.put.new.in_line c.args.text.now c.args.text.now refl c.from_residual.result c.in_err-put.field-0.0 c.from_residual.ensures.1 c.in_err-put.ensures.err

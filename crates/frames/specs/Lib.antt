@@ -1,0 +1,5 @@
+pub mod Sees
+pub mod Stack
+pub mod Texts
+pub mod Resumes
+pub mod Weights

@@ -1,0 +1,173 @@
+-- What a frame will answer on what is still to come, and the list that is built then.
+use Rattle.std.specs.Prelude.{◌≡◌, ◌≤◌, ℕ, length, Bool, false, if◌then◌else◌, List, [], ◌∷◌, ◌++◌, Option, Some, None, min}
+use Rattle.tex_defs.specs.declared.Token.{Token}
+use Rattle.tex_defs.specs.declared.Seen.{Seen}
+use Rattle.plain_state.specs.Readings.{Ask, Fed, integer, constant, first_digit, digits, digits_dropped, too_big, missing, greatest_integer, behind_number, catcode, bad_code, bad_category, equals_behind, behind_equals, message}
+use Rattle.plain_state.specs.Readings as reading
+use Rattle.frames.specs.declared.scan.Radix.{Radix}
+use Rattle.frames.specs.declared.scan.Radix.TheVariants.{Octal, Decimal, Hexadecimal}
+use Rattle.frames.specs.declared.scan.NumberScan.{NumberScan}
+use Rattle.frames.specs.declared.scan.NumberScan.TheVariants.{Signs, Quote, First, Digits, TooBig, Dropped, Behind, Missing}
+use Rattle.frames.specs.declared.frame.CodeScan.{CodeScan}
+use Rattle.frames.specs.declared.frame.CodeScan.TheVariants.{Start, BadCode, Equals, Value, BadCategory}
+use Rattle.frames.specs.declared.frame.Waiting.{Waiting}
+use Rattle.frames.specs.declared.frame.Waiting.TheVariants.{Catcode, Message}
+use Rattle.frames.specs.declared.frame.Frame.{Frame}
+use Rattle.frames.specs.declared.frame.Frame.TheVariants.{Waits, Integer, Text}
+use Rattle.frames.specs.declared.scan.Ask as engine
+use Rattle.frames.specs.declared.scan.Ask.TheVariants.{More, Inner, Done, Act, Tells}
+use Rattle.transcript.specs.Reported.{report_of}
+use Rattle.frames.specs.Sees.{first_list}
+use Rattle.frames.specs.declared.scan.Kind.{Kind}
+use Rattle.frames.specs.declared.scan.Kind.TheVariants as kinds
+use Rattle.frames.specs.declared.text.TextScan.{TextScan}
+use Rattle.frames.specs.declared.text.TextScan.TheVariants as texts
+use Rattle.frames.specs.Texts.{depth_of, IsReady, IsTaking, resume_text, text_list, text_grows}
+
+abbrev pub radix : Radix → ℕ
+radix Octal = 8
+radix Decimal = 10
+radix Hexadecimal = 16
+
+abbrev pub resume_number : NumberScan → List Fed → Ask
+resume_number (Signs negative) fed = integer negative fed
+resume_number (Quote negative) fed = constant negative fed
+resume_number (First negative r) fed = first_digit negative (radix r) fed
+resume_number (Digits negative r value) fed = digits negative (radix r) (min value greatest_integer) fed
+resume_number (TooBig negative r) fed = too_big negative (radix r) fed
+resume_number (Dropped negative r) fed = digits_dropped negative (radix r) fed
+resume_number (Behind negative value) fed = behind_number negative value fed
+resume_number (Missing value report) fed = missing value (report_of report) fed
+
+abbrev pub resume_code : CodeScan → List Fed → Ask
+resume_code Start fed = catcode fed
+resume_code (BadCode code) fed = bad_code code fed
+resume_code (Equals code) fed = equals_behind code fed
+resume_code (Value code x) fed = behind_equals code x fed
+resume_code (BadCategory code category) fed = bad_category code category fed
+
+-- a command that waits for an inner value
+abbrev pub resume_waiting : Waiting → List Fed → Ask
+resume_waiting (Catcode scan) fed = resume_code scan fed
+resume_waiting (Message name) fed = message name fed
+
+abbrev pub waiting_kind : Waiting → reading.Kind
+waiting_kind (Catcode scan) = reading.Catcode
+waiting_kind (Message name) = reading.Message name
+
+-- what the frame answers once it is fed with this, where its reading holds these lists
+abbrev pub resume : Frame → List (List Token) → List Fed → Ask
+resume (Waits w) lists fed = resume_waiting w fed
+resume (Integer scan) lists fed = resume_number scan fed
+resume (Text name scan) lists fed = resume_text scan (first_list lists) fed
+
+-- and the list that it has built then
+abbrev pub frame_list : Frame → List (List Token) → List Fed → List Token
+frame_list (Text name scan) lists fed = text_list scan (first_list lists) fed
+frame_list f lists fed = []
+
+-- the frame of a reading that begins
+abbrev pub first_frame : Kind → Frame
+first_frame kinds.Catcode = Waits (Catcode Start)
+first_frame (kinds.Message name) = Waits (Message name)
+first_frame kinds.Integer = Integer (Signs false)
+first_frame (kinds.Text name) = Text name texts.First
+
+abbrev pub frame_kind : Frame → reading.Kind
+frame_kind (Waits w) = waiting_kind w
+frame_kind (Integer scan) = reading.Integer
+frame_kind (Text name scan) = reading.Text name
+
+-- whether a token goes onto the list that is built
+abbrev pub frame_grows : Frame → Seen → Bool
+frame_grows (Text name scan) x = text_grows scan x
+frame_grows f x = false
+
+abbrev pub grow_first : Token → List (List Token) → List (List Token)
+grow_first t [] = []
+grow_first t (ts ∷ lists) = (ts ++ t ∷ []) ∷ lists
+
+-- the lists behind a token
+abbrev pub lists_after : Bool → Seen → List (List Token) → List (List Token)
+lists_after grows x lists = if grows then grow_first x.token lists else lists
+
+abbrev pub IsNoText : reading.Kind → Type 0
+IsNoText (reading.Text name) = ⊥
+IsNoText k = Unit {0}
+
+-- an answer after which the scanner goes on
+abbrev pub IsOpen : engine.Ask → Type 0
+IsOpen (More want) = Unit {0}
+IsOpen (Inner waits kind begins) = Unit {0}
+IsOpen (Done v back) = ⊥
+IsOpen (Act e) = ⊥
+IsOpen (Tells report back) = Unit {0}
+
+-- an answer that reports nothing
+abbrev pub IsUntold : engine.Ask → Type 0
+IsUntold (Tells report back) = ⊥
+IsUntold a = Unit {0}
+
+-- a token that is read again is this one
+abbrev pub IsBack : Option Seen → Seen → Type 0
+IsBack None x = Unit {0}
+IsBack (Some back) x = back ≡ x
+
+abbrev pub GivesBack : engine.Ask → Seen → Type 0
+GivesBack (More want) x = Unit {0}
+GivesBack (Inner waits kind begins) x = IsBack begins x
+GivesBack (Done v back) x = IsBack back x
+GivesBack (Act e) x = Unit {0}
+GivesBack (Tells report back) x = IsBack back x
+
+-- no token is read again
+abbrev pub IsNone : Option Seen → Type 0
+IsNone None = Unit {0}
+IsNone (Some back) = ⊥
+
+abbrev pub GivesNone : engine.Ask → Type 0
+GivesNone (More want) = Unit {0}
+GivesNone (Inner waits kind begins) = IsNone begins
+GivesNone (Done v back) = IsNone back
+GivesNone (Act e) = Unit {0}
+GivesNone (Tells report back) = IsNone back
+
+-- Where a frame asks for an inner reading, it waits as its answer says.
+abbrev pub InnerWaits : engine.Ask → Frame → Type 0
+InnerWaits (Inner waits kind begins) f = f ≡ Waits waits
+InnerWaits a f = Unit {0}
+
+-- A frame that builds a list may be fed with a token: its reading holds that list alone.
+abbrev pub HasList : TextScan → Seen → List (List Token) → Type 0
+HasList scan x [] = ⊥
+HasList scan x (ts ∷ []) = IsReady scan x ts
+HasList scan x (ts ∷ us ∷ lists) = ⊥
+
+abbrev pub MayFeed : Frame → Seen → List (List Token) → Type 0
+MayFeed (Text name scan) x lists = HasList scan x lists
+MayFeed f x lists = Unit {0}
+
+-- no report is due
+abbrev pub TakesTokens : Frame → Type 0
+TakesTokens (Text name scan) = IsTaking scan
+TakesTokens f = Unit {0}
+
+-- the list that a text has built is the one that its reading holds
+abbrev pub Builds : Frame → List (List Token) → List (List Token) → List Fed → Type 0
+Builds (Text name scan) lists now fed = text_list scan (first_list lists) fed ≡ first_list now
+Builds f lists now fed = Unit {0}
+
+-- a text is inside of at most as many braces as its list has tokens
+abbrev pub IsShallow : Frame → List (List Token) → Type 0
+IsShallow (Text name scan) lists = depth_of scan ≤ length (first_list lists)
+IsShallow f lists = Unit {0}
+
+-- an answer that begins no inner reading
+abbrev pub IsNoInner : engine.Ask → Type 0
+IsNoInner (Inner waits kind begins) = ⊥
+IsNoInner a = Unit {0}
+
+-- Where a reading goes on, its lists are these: the one that a text has built, and else none.
+abbrev pub Owns : Frame → List (List Token) → Type 0
+Owns (Text name scan) lists = lists ≡ text_list scan (first_list lists) [] ∷ []
+Owns f lists = lists ≡ []

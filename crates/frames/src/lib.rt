@@ -1,0 +1,18 @@
+//! The open readings: what each asks for after all that it was fed with, kept in a few variables.
+//!
+//! A reading of the machine is the list of all tokens and values that it was fed with; a frame stands behind such a
+//! list, and answers what the machine's definition asks for. No call takes memory: a text's list is built by whoever
+//! feeds the frame ([`Frame::grows`]).
+#![tactic(auto)]
+
+mod frame;
+mod outer;
+mod scan;
+#[cfg(test)]
+mod tests;
+mod text;
+
+pub use frame::{CodeScan, Frame, Waiting, first_ask};
+pub use outer::Outer;
+pub use scan::{Ask, Effect, Kind, NumberScan, Radix, Value, Want};
+pub use text::TextScan;

@@ -1,0 +1,85 @@
+-- Where only the file is left, what it gives is what is next pending.
+use Rattle.std.proofs.Common.{◌≡◌, ℕ, ◌+◌, List, [], ◌∷◌, Result, Ok, Err, refl, sym, ap, ◌∙◌, subst, arith}
+use Rattle.std.specs.Prelude.{IfOk, IfErr}
+use Rattle.std.proofs.lemmas.List.Sums.{sum_by-cons}
+use Rattle.tex_defs.specs.declared.Token.{Token}
+use Rattle.tex_defs.specs.declared.Full.{Full}
+use Rattle.tex_defs.specs.declared.Sizes.{Sizes}
+use Rattle.tex_defs.specs.declared.Table.TheVariants.{InputStackSize}
+use Rattle.plain_state.specs.Pending.{Pending, Progress, NotBegun, Begun, Closed, Put, settled, settled_top, settle, with_puts, pulled, from_file}
+use Rattle.plain_state.specs.Pending as plain
+use Rattle.plain_state.specs.Tables.{Demand, put_levels, level_of, file_levels, file_level, next_line, buffer, refused}
+use Rattle.line_lexer.specs.declared.Ahead.TheVariants as ahead
+use Rattle.input_state.specs.declared.answer.Pulled.{Pulled}
+use Rattle.input_state.specs.declared.answer.Pulled.TheVariants as answer
+use Rattle.input_state.specs.Stored.{Stored}
+use Rattle.input_state.specs.Reads.{Reads, Pulls, Refuses, RefusesLine}
+use Rattle.input_state.specs.HeldLists.{ahead_of}
+use Rattle.input_state.proofs.Readies.{used_up}
+
+top_levels : (p : Put) (ts : List Token) (below rest : List Put) → p.left ≡ ts → put_levels below ≡ put_levels rest → put_levels (settled_top p ts below rest) ≡ level_of ts + put_levels rest
+top_levels p [] below rest is same = omega (arith, same)
+top_levels p (t ∷ ts) below rest is same = omega (arith, sum_by-cons (λ (q : Put). level_of q.left) p rest, ap level_of is)
+
+-- finished lists have no level
+pub settled_levels : (ps : List Put) → put_levels (settled ps) ≡ put_levels ps
+settled_levels [] = refl
+settled_levels (p ∷ ps) = top_levels p p.left (settled ps) ps refl (settled_levels ps) ∙ sym (sum_by-cons (λ (q : Put). level_of q.left) p ps)
+
+level_at : ℕ → Demand
+level_at n = record { table = InputStackSize; used = n; need = 1 }
+
+settled_demands : (p : Pending) (f : Progress) → file_level f (settle p) ≡ file_level f p
+unfolding level_at
+settled_demands p NotBegun = ap (λ (n : ℕ). level_at (n + file_levels p.file) ∷ []) (settled_levels p.puts)
+settled_demands p Begun = refl
+settled_demands p Closed = refl
+
+pub settled_line : (p : Pending) → next_line (settle p) ≡ next_line p
+settled_line p = ap (λ (ds : List Demand). buffer p.rest ∷ ds) (settled_demands p p.file)
+
+settled_twice : (p : Pending) → settled p.puts ≡ [] → settle (settle p) ≡ settle p
+settled_twice p none = ap (λ (ps : List Put). with_puts (settled ps) p) none ∙ ap (λ (ps : List Put). with_puts ps p) (sym none)
+
+-- the answer on what is settled is that on all
+settled_reads : (q : plain.Pulled) (x : Pulled) (sizes : Sizes) (p new : Pending) (bytes : List ℕ) → settled p.puts ≡ [] → Reads q x sizes (settle p) new bytes → Reads q x sizes p new bytes
+settled_reads q (answer.Token t) sizes p new bytes none h = h
+settled_reads q (answer.Lexeme l) sizes p new bytes none h = h
+settled_reads q answer.Taken sizes p new bytes none h = (h.0, sym (ap (refused sizes) (settled_line p)) ∙ h.1)
+settled_reads q answer.Invalid sizes p new bytes none h = h
+settled_reads q answer.FileOver sizes p new bytes none h = h
+settled_reads q answer.Nothing sizes p new bytes none h = (h.0, h.1 ∙ settled_twice p none)
+
+abbrev settled_store : Stored → Stored
+settled_store s = record s { pending = settle s.pending }
+
+module _ (c : List ℕ) (old new : Stored) (used : ahead_of c old.pending ≡ ahead.End) where
+  pulls_now : (x : Pulled) → Pulls (from_file old.pending.file old.pending.number old.pending.rest) x (settled_store old) new → Pulls (pulled c old.pending) x old new
+  pulls_now x h =
+      let k = used_up c old.pending used in
+      subst (λ (q : plain.Pulled). Reads q x old.sizes old.pending new.pending new.buffer) (sym k.1) (settled_reads _ x old.sizes old.pending new.pending new.buffer k.0 h)
+
+  refuses_now : (full : Full) → RefusesLine full (settled_store old) new → Refuses c full old new
+  refuses_now full h =
+      let k = used_up c old.pending used in
+      record {
+        line = h.line;
+        next = h.next;
+        takes = k.1 ∙ h.takes;
+        refused = sym (ap (refused old.sizes) (settled_line old.pending)) ∙ h.refused;
+        stays = h.stays ∙ settled_twice old.pending k.0;
+      }
+
+  by_ok : (r : Result Pulled Full) → IfOk r (λ x. Pulls (from_file old.pending.file old.pending.number old.pending.rest) x (settled_store old) new) → IfOk r (λ x. Pulls (pulled c old.pending) x old new)
+  by_ok (Ok x) h = pulls_now x h
+  by_ok (Err f) h = tt
+
+  by_err : (r : Result Pulled Full) → IfErr r (λ full. RefusesLine full (settled_store old) new) → IfErr r (λ full. Refuses c full old new)
+  by_err (Ok x) h = tt
+  by_err (Err f) h = refuses_now f h
+
+  pub pull_ok : (mid : Stored) (r : Result Pulled Full) → mid ≡ settled_store old → IfOk r (λ x. Pulls (from_file mid.pending.file mid.pending.number mid.pending.rest) x mid new) → IfOk r (λ x. Pulls (pulled c old.pending) x old new)
+  pull_ok mid r is h = by_ok r (subst (λ (m : Stored). IfOk r (λ x. Pulls (from_file m.pending.file m.pending.number m.pending.rest) x m new)) is h)
+
+  pub pull_err : (mid : Stored) (r : Result Pulled Full) → mid ≡ settled_store old → IfErr r (λ full. RefusesLine full mid new) → IfErr r (λ full. Refuses c full old new)
+  pull_err mid r is h = by_err r (subst (λ (m : Stored). IfErr r (λ full. RefusesLine full m new)) is h)

@@ -1,0 +1,13 @@
+pub mod LineEnds
+pub mod LineRests
+pub mod Counting
+pub mod Levels
+pub mod Sharing
+pub mod Words
+pub mod Refusing
+pub mod ListViews
+pub mod Sounds
+pub mod Putting
+pub mod Pulling
+pub mod Readies
+pub mod Files

@@ -1,0 +1,78 @@
+-- The list that was made is put in front.
+use Rattle.std.proofs.Common.{◌≡◌, ℕ, ◌+◌, List, [], ◌∷◌, map, reverse, Option, None, Some, refl, sym, ap, ◌∙◌, subst, arith}
+use Rattle.std.proofs.lemmas.Option.{none-some}
+use Rattle.tex_defs.specs.declared.Token.{Token}
+use Rattle.tex_defs.specs.declared.Full.{Full}
+use Rattle.tex_defs.specs.declared.Sizes.{Sizes}
+use Rattle.plain_state.specs.Pending as plain
+use Rattle.plain_state.specs.Tables.{refused}
+use Rattle.token_lists.specs.declared.Build.{Build}
+use Rattle.token_lists.specs.Ids.{build_id}
+use Rattle.token_lists.specs.Table.{Entry, tokens_at}
+use Rattle.token_lists.specs.Accounts.{holds, Moves, Keeps}
+use Rattle.input_stack.specs.Puts.{Put, Text, put_in_front}
+use Rattle.input_stack.specs.Pending.{Pending, put, plain_put, refusal, room, used_levels}
+use Rattle.input_stack.specs.View.{pending, held, innermost}
+use Rattle.input_stack.specs.Standing.{Stands}
+use Rattle.input_stack.specs.Lasting.{Lasts}
+use Rattle.input_stack.specs.declared.stack.InputStack.{InputStack}
+use Rattle.input_state.specs.HeldLists.{HeldLists, made, level_held}
+use Rattle.input_state.specs.HeldViews.{fronts, text, line_of, lists_of, builds, IsSingle, IsShared, IsSound}
+use Rattle.input_state.proofs.Levels.{texts_back, fronts_settled, levels_used}
+use Rattle.input_state.proofs.Sharing.{Moved, moved, built_cons}
+use Rattle.input_state.proofs.ListViews.{held_lists, moved_view}
+use Rattle.input_state.proofs.Refusing.{levels_refused}
+
+new_front : (ts us vs : List Token) → us ≡ ts → vs ≡ ts → (ps qs : List plain.Put) → ps ≡ qs → ◌≡◌ {A = List plain.Put} (record { whole = us; left = vs } ∷ ps) (plain.new_put ts ∷ qs)
+new_front ts us vs e f ps qs g = rw (e, f, g) refl
+
+put_fronts : (table : List (Option Entry)) (n : ℕ) (ts : List Token) (ps : List Put) → tokens_at table n ≡ ts → plain.settled (fronts table ps) ≡ fronts table ps → fronts table (put_in_front (plain_put n ts) ps) ≡ plain.with_put ts (fronts table ps)
+put_fronts table n [] ps is settled_already = refl
+put_fronts table n (t ∷ ts) ps is settled_already = new_front (t ∷ ts) _ _ is (texts_back (t ∷ ts)) _ _ (fronts_settled table ps ∙ settled_already)
+
+module _ (old new : List (Option Entry)) (s t : InputStack) (a : Build) (gathered : List Build) (sizes : Sizes) (n capacity : ℕ) (making : Option Build) (some : making ≡ Some a) (sound : IsSound old s making gathered sizes capacity) (same : n ≡ build_id a) where
+  shared_now : IsShared old s (a ∷ reverse gathered)
+  shared_now = subst (λ (m : Option Build). IsShared old s (builds m gathered)) some sound.shared
+
+  module _ (stands : Stands new t) (after : pending new t ≡ put (plain_put n (tokens_at old n)) (pending old s)) (moves : Moves old new (λ h. holds n h + held s h) (held t)) (keeps : Keeps old new (λ h. holds n h + held s h)) (lasts : Lasts old new) (size : t.size ≡ s.size) where
+    keeps_now : (h : ℕ) → holds n h ≡ holds (build_id a) h
+    keeps_now h = ap (λ (m : ℕ). holds m h) same
+
+    moved_now : Moved old new t (reverse gathered)
+    moved_now =
+        moved old new s t (a ∷ []) (reverse gathered) shared_now stands
+        (subst (λ (p : Pending). IsSingle p.sources) (sym after) sound.shared.single)
+        (λ h. omega (arith, moves h, built_cons a [] h, keeps_now h))
+        (record { tokens = λ h l. keeps.tokens h (omega (arith, l, built_cons a [] h, keeps_now h)); places = λ h l. keeps.places h (omega (arith, l, built_cons a [] h, keeps_now h)) })
+        lasts
+
+    pub put_sound : (now : Option Build) → now ≡ None → IsSound new t now gathered sizes capacity
+    put_sound now none = record {
+      shared = subst (λ (m : Option Build). IsShared new t (builds m gathered)) (sym none) moved_now.shared;
+      memory = lasts.size ∙ sound.memory;
+      levels = size ∙ sound.levels;
+      room = sound.room;
+    }
+
+    pub put_view : (now : Option Build) (v : HeldLists) → now ≡ None → lists_of old (pending old s) making gathered sizes ≡ v → plain.settled v.puts ≡ v.puts →
+        lists_of new (pending new t) now gathered sizes ≡ record v { puts = plain.with_put (made v.making) v.puts; making = None }
+    put_view now v none is settled_already =
+        let was : lists_of old (pending old s) (Some a) gathered sizes ≡ v = ap (λ (m : Option Build). lists_of old (pending old s) m gathered sizes) (sym some) ∙ is in
+        let ps = (pending old s).puts in
+        let quiet : plain.settled (fronts old ps) ≡ fronts old ps = ap (λ (w : HeldLists). plain.settled w.puts) was ∙ settled_already ∙ sym (ap (λ (w : HeldLists). w.puts) was) in
+        let tokens : tokens_at old n ≡ text old a = ap (tokens_at old) same in
+        ap (λ (m : Option Build). lists_of new (pending new t) m gathered sizes) none
+        ∙ moved_view old new t None gathered sizes moved_now
+        ∙ ap (λ (p : Pending). lists_of old p None gathered sizes) after
+        ∙ ap (λ (qs : List plain.Put). held_lists qs None (map (text old) (reverse gathered)) (line_of (pending old s).sources) sizes) (put_fronts old n (tokens_at old n) ps refl quiet ∙ ap (λ (ts : List Token). plain.with_put ts (fronts old ps)) tokens)
+        ∙ ap (λ (w : HeldLists). record w { puts = plain.with_put (made w.making) w.puts; making = None }) was
+
+  refusal_none : (ts : List Token) (p : Pending) (size : ℕ) → room size (used_levels p) ≡ None → refusal size (map Text ts) p ≡ None
+  refusal_none [] p size none = refl
+  refusal_none (x ∷ xs) p size none = none
+
+  -- the levels have room
+  pub put_fits : (v : HeldLists) (f : Full) → lists_of old (pending old s) making gathered sizes ≡ v → refused v.sizes (level_held v ∷ []) ≡ None → refusal s.size (map Text (tokens_at old n)) (pending old s) ≡ Some f → ⊥
+  put_fits v f is fits refuses =
+      let none = levels_refused sizes (used_levels (pending old s)) _ s.size (levels_used old old (innermost s) sound.shared.single) sound.levels ∙ ap (λ (w : HeldLists). refused w.sizes (level_held w ∷ [])) is ∙ fits in
+      none-some f (sym (refusal_none (tokens_at old n) (pending old s) s.size none) ∙ refuses)

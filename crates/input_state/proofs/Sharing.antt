@@ -1,0 +1,189 @@
+-- Lists with one holder each: one of them changes, and the others stay.
+use Rattle.std.proofs.Common.{◌≡◌, ℕ, ◌+◌, ◌<◌, ◌≤◌, List, [], ◌∷◌, ◌++◌, map, Option, None, inl, inr, refl, sym, ap, ap₂, ◌∙◌, subst, arith}
+use Rattle.std.specs.Prelude.{All, slice_set}
+use Rattle.std.proofs.lemmas.Bool.{cases_eq}
+use Rattle.std.proofs.lemmas.List.{get_or-set_other}
+use Rattle.std.proofs.lemmas.List.Elements.{All-append, All-head, All-tail, All-cons, All-nil}
+use Rattle.std.proofs.lemmas.List.Sums.{sum_by-cons, sum_by-append}
+use Rattle.tex_defs.specs.declared.Token.{Token}
+use Rattle.token_lists.specs.declared.Build.{Build}
+use Rattle.token_lists.specs.Ids.{build_id, IsBuilding}
+use Rattle.token_lists.specs.Table.{Entry, entry_at, tokens_at, tokens_of, places_at, places_of, holders_at, holders_of, last_or}
+use Rattle.token_lists.specs.Accounts.{holds, Moves, Keeps}
+use Rattle.input_stack.specs.Pending.{Pending}
+use Rattle.input_stack.specs.View.{pending, held, innermost}
+use Rattle.input_stack.specs.Standing.{Stands}
+use Rattle.input_stack.specs.Lasting.{Lasts}
+use Rattle.input_stack.specs.declared.stack.InputStack.{InputStack}
+use Rattle.input_stack.proofs.Helds.{others}
+use Rattle.input_stack.proofs.Kept.{holds_itself}
+use Rattle.input_state.specs.Changes.{IsOnly}
+use Rattle.input_state.specs.HeldViews.{fronts, text, built, IsShared, IsSingle}
+use Rattle.input_state.proofs.Levels.{fronts_stay}
+
+-- the lists that are held so often are as they were
+pub record Stay (old new : List (Option Entry)) (f : ℕ → ℕ) : Type 0 where
+  pub tokens : (h : ℕ) → 0 < f h → tokens_at new h ≡ tokens_at old h
+  pub places : (h : ℕ) → 0 < f h → places_at new h ≡ places_at old h
+  pub holders : (h : ℕ) → 0 < f h → holders_at new h ≡ holders_at old h
+
+pub stay_less : (old new : List (Option Entry)) (f g : ℕ → ℕ) → ((h : ℕ) → g h ≤ f h) → Stay old new f → Stay old new g
+stay_less old new f g less s = record {
+  tokens = λ h some. s.tokens h (omega (arith, some, less h));
+  places = λ h some. s.places h (omega (arith, some, less h));
+  holders = λ h some. s.holders h (omega (arith, some, less h));
+}
+
+-- BUILDS
+
+pub built_cons : (b : Build) (bs : List Build) (h : ℕ) → built (b ∷ bs) h ≡ holds (build_id b) h + built bs h
+built_cons b bs h = sum_by-cons (λ (x : Build). holds (build_id x) h) b bs
+
+pub built_append : (xs ys : List Build) (h : ℕ) → built (xs ++ ys) h ≡ built xs h + built ys h
+built_append xs ys h = sum_by-append (λ (x : Build). holds (build_id x) h) xs ys
+
+own : (b : Build) (bs : List Build) → 0 < built (b ∷ bs) (build_id b)
+own b bs = omega (arith, built_cons b bs (build_id b), holds_itself (build_id b))
+
+tail_stays : (old new : List (Option Entry)) (b : Build) (bs : List Build) → Stay old new (built (b ∷ bs)) → Stay old new (built bs)
+tail_stays old new b bs s = stay_less old new (built (b ∷ bs)) (built bs) (λ h. omega (arith, built_cons b bs h)) s
+
+one_stays : (old new : List (Option Entry)) (b : Build) (bs : List Build) → Stay old new (built (b ∷ bs)) → IsBuilding old b → IsBuilding new b
+one_stays old new b bs s building = record {
+  sole = s.holders (build_id b) (own b bs) ∙ building.sole;
+  at_end = ap (last_or (build_id b)) (s.places (build_id b) (own b bs)) ∙ building.at_end;
+}
+
+pub building_stays : (old new : List (Option Entry)) (bs : List Build) → Stay old new (built bs) → All (IsBuilding old) bs → All (IsBuilding new) bs
+building_stays old new [] s a = All-nil (IsBuilding new)
+building_stays old new (b ∷ bs) s a = All-cons (IsBuilding new) b bs (one_stays old new b bs s (All-head (IsBuilding old) b bs a)) (building_stays old new bs (tail_stays old new b bs s) (All-tail (IsBuilding old) b bs a))
+
+pub texts_stay : (old new : List (Option Entry)) (bs : List Build) → Stay old new (built bs) → map (text new) bs ≡ map (text old) bs
+texts_stay old new [] s = refl
+texts_stay old new (b ∷ bs) s = ap₂ (λ (ts : List Token) (us : List (List Token)). ts ∷ us) (s.tokens (build_id b) (own b bs)) (texts_stay old new bs (tail_stays old new b bs s))
+
+pub all_left : (table : List (Option Entry)) (xs ys : List Build) → All (IsBuilding table) (xs ++ ys) → All (IsBuilding table) xs
+all_left table [] ys a = All-nil (IsBuilding table)
+all_left table (x ∷ xs) ys a = All-cons (IsBuilding table) x xs (All-head (IsBuilding table) x (xs ++ ys) a) (all_left table xs ys (All-tail (IsBuilding table) x (xs ++ ys) a))
+
+pub all_right : (table : List (Option Entry)) (xs ys : List Build) → All (IsBuilding table) (xs ++ ys) → All (IsBuilding table) ys
+all_right table [] ys a = a
+all_right table (x ∷ xs) ys a = all_right table xs ys (All-tail (IsBuilding table) x (xs ++ ys) a)
+
+-- ONE LIST CHANGES
+
+pub only_set : (old new : List (Option Entry)) (id : ℕ) (e : Option Entry) → new ≡ slice_set old id e → IsOnly old new id
+only_set old new id e after = record { apart = λ h ne. ap (λ (t : List (Option Entry)). entry_at t h) after ∙ get_or-set_other old id h e None ne }
+
+only_stays : (old new : List (Option Entry)) (id : ℕ) (f : ℕ → ℕ) → IsOnly old new id → f id ≡ 0 → Stay old new f
+only_stays old new id f only zero =
+    let ne : (h : ℕ) → 0 < f h → h ≡ id → ⊥ = λ h some e. omega (arith, some, zero, ap f e) in
+    record {
+      tokens = λ h some. ap tokens_of (only.apart h (ne h some));
+      places = λ h some. ap places_of (only.apart h (ne h some));
+      holders = λ h some. ap holders_of (only.apart h (ne h some));
+    }
+
+only_keeps : (old new : List (Option Entry)) (id : ℕ) (f : ℕ → ℕ) → IsOnly old new id → holders_at old id ≡ f id → Keeps old new f
+only_keeps old new id f only mine =
+    let ne : (h : ℕ) → f h < holders_at old h → h ≡ id → ⊥ = λ h some e. omega (arith, some, mine, ap f e, ap (holders_at old) e) in
+    record {
+      tokens = λ h some. ap tokens_of (only.apart h (ne h some));
+      places = λ h some. ap places_of (only.apart h (ne h some));
+    }
+
+only_sole : (old new : List (Option Entry)) (id : ℕ) → IsOnly old new id → ((h : ℕ) → holders_at old h ≤ 1) → holders_at new id ≤ 1 → (h : ℕ) → holders_at new h ≤ 1
+only_sole old new id only sole here h = elim (cases_eq h id) [
+  | inl is ↦ subst (λ (k : ℕ). holders_at new k ≤ 1) (sym is) here
+  | inr other ↦ omega (arith, ap holders_of (only.apart h other), sole h)
+]
+
+-- Some builds have given way to others; what else is held is as it was.
+pub record Changed (old new : List (Option Entry)) (stack : InputStack) (xs zs ys : List Build) : Type 0 where
+  pub shared : IsShared new stack (xs ++ (zs ++ ys))
+  pub still : pending new stack ≡ pending old stack
+  pub in_front : fronts new (pending old stack).puts ≡ fronts old (pending old stack).puts
+  pub before : map (text new) xs ≡ map (text old) xs
+  pub behind : map (text new) ys ≡ map (text old) ys
+
+module _ (old new : List (Option Entry)) (stack : InputStack) (xs zs us ys : List Build) (id : ℕ) (shared : IsShared old stack (xs ++ (zs ++ ys))) (only : IsOnly old new id) (mine : holders_at old id ≡ built zs id) (moves : Moves old new (built zs) (built us)) (building : All (IsBuilding new) us) (sole : holders_at new id ≤ 1) where
+  parts : (vs : List Build) (h : ℕ) → built (xs ++ (vs ++ ys)) h ≡ built xs h + (built vs h + built ys h)
+  parts vs h = omega (arith, built_append xs (vs ++ ys) h, built_append vs ys h)
+
+  rest : ℕ → ℕ
+  rest h = held stack h + (built xs h + built ys h)
+
+  apart : rest id ≡ 0
+  unfolding rest
+  apart = omega (arith, shared.counted id, parts zs id, mine)
+
+  stays : Stay old new rest
+  stays = only_stays old new id rest only apart
+
+  stand : Stands new stack × (pending new stack ≡ pending old stack)
+  stand = others stack old new (built zs) (built us) shared.stands (λ h. omega (arith, shared.counted h, parts zs h)) moves (only_keeps old new id (built zs) only mine)
+
+  before_stays : Stay old new (built xs)
+  unfolding rest
+  before_stays = stay_less old new rest (built xs) (λ h. omega arith) stays
+
+  behind_stays : Stay old new (built ys)
+  unfolding rest
+  behind_stays = stay_less old new rest (built ys) (λ h. omega arith) stays
+
+  held_stays : Stay old new (held stack)
+  unfolding rest
+  held_stays = stay_less old new rest (held stack) (λ h. omega arith) stays
+
+  now_building : All (IsBuilding new) (xs ++ (us ++ ys))
+  now_building =
+      let b = building_stays old new xs before_stays (all_left old xs (zs ++ ys) shared.building) in
+      let e = building_stays old new ys behind_stays (all_right old zs ys (all_right old xs (zs ++ ys) shared.building)) in
+      All-append (IsBuilding new) xs (us ++ ys) b (All-append (IsBuilding new) us ys building e)
+
+  pub changed : Changed old new stack xs us ys
+  changed = record {
+    shared = record {
+      stands = stand.0;
+      single = subst (λ (p : Pending). IsSingle p.sources) (sym stand.1) shared.single;
+      building = now_building;
+      counted = λ h. omega (arith, shared.counted h, moves h, parts zs h, parts us h);
+      sole = only_sole old new id only shared.sole sole;
+    };
+    still = stand.1;
+    in_front = fronts_stay old new old (innermost stack) held_stays.tokens;
+    before = texts_stay old new xs before_stays;
+    behind = texts_stay old new ys behind_stays;
+  }
+
+-- THE LEVELS CHANGE
+
+-- Levels let lists go, or take one of the builds over; what is being built is as it was.
+pub record Moved (old new : List (Option Entry)) (t : InputStack) (bs : List Build) : Type 0 where
+  pub shared : IsShared new t bs
+  pub in_front : fronts new (pending new t).puts ≡ fronts old (pending new t).puts
+  pub texts : map (text new) bs ≡ map (text old) bs
+
+module _ (old new : List (Option Entry)) (s t : InputStack) (zs bs : List Build) (shared : IsShared old s (zs ++ bs)) (stands : Stands new t) (single : IsSingle (pending new t).sources) (moves : (h : ℕ) → holders_at new h + (built zs h + held s h) ≡ holders_at old h + held t h) (keeps : Keeps old new (λ h. built zs h + held s h)) (lasts : Lasts old new) where
+  built_stay : Stay old new (built bs)
+  built_stay = record {
+    tokens = λ h some. keeps.tokens h (omega (arith, some, shared.counted h, built_append zs bs h));
+    places = λ h some. keeps.places h (omega (arith, some, shared.counted h, built_append zs bs h));
+    holders = λ h some. omega (arith, some, shared.counted h, shared.sole h, moves h, lasts.fewer h, built_append zs bs h);
+  }
+
+  counted_now : (h : ℕ) → holders_at new h ≡ held t h + built bs h
+  counted_now h = omega (arith, shared.counted h, moves h, built_append zs bs h)
+
+  pub moved : Moved old new t bs
+  moved = record {
+    shared = record {
+      stands = stands;
+      single = single;
+      building = building_stays old new bs built_stay (all_right old zs bs shared.building);
+      counted = counted_now;
+      sole = λ h. omega (arith, shared.sole h, lasts.fewer h);
+    };
+    in_front = fronts_stay old new new (innermost t) (λ h some. lasts.tokens h (omega (arith, some, counted_now h)));
+    texts = texts_stay old new bs built_stay;
+  }

@@ -1,0 +1,5 @@
+use Rattle.std.proofs.Common.{length}
+use Rattle.input_state.proofs.lists_held.Held.close.Given as goal
+
+abbrev pub decreases-loop-held : goal.decreases-loop-held
+decreases-loop-held l = length l.held.gathered

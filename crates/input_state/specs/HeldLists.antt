@@ -1,0 +1,91 @@
+-- The lists that are held, and the line of the file beneath those in front.
+use Rattle.std.specs.Prelude.{ℕ, ◌+◌, ◌≤◌, List, [], ◌∷◌, ◌++◌, Option, None, Some, Bool, true, false}
+use Rattle.tex_defs.specs.declared.Token.{Token}
+use Rattle.tex_defs.specs.declared.Sizes.{Sizes}
+use Rattle.tex_defs.specs.declared.Table.TheVariants.{InputStackSize}
+use Rattle.plain_state.specs.Lex as plain
+use Rattle.plain_state.specs.Pending.{Pending, Progress, NotBegun, Put, settled}
+use Rattle.plain_state.specs.Tables.{Demand, held_words, put_levels}
+use Rattle.line_lexer.specs.declared.Line.{Line}
+use Rattle.line_lexer.specs.declared.Ahead.{Ahead}
+use Rattle.line_lexer.specs.declared.Ahead.TheVariants as ahead
+use Rattle.line_lexer.specs.Answers.{state_of, rest_of, looks_of}
+
+-- the lists in front, the one that is being made, those that are gathered, and what is left of the line
+pub record HeldLists : Type 0 where
+  pub puts : List Put
+  pub making : Option (List Token)
+  pub gathered : List (List Token)
+  pub line : Option Line
+  pub sizes : Sizes
+
+-- the innermost of the lists that are gathered
+abbrev pub first_list : List (List Token) → List Token
+first_list [] = []
+first_list (ts ∷ more) = ts
+
+abbrev pub is_empty : List Token → Bool
+is_empty [] = true
+is_empty (t ∷ ts) = false
+
+-- it gets a token at its end
+abbrev pub grown_first : Token → List (List Token) → List (List Token)
+grown_first token [] = []
+grown_first token (ts ∷ more) = (ts ++ token ∷ []) ∷ more
+
+-- the list that is made
+abbrev pub made : Option (List Token) → List Token
+made None = []
+made (Some ts) = ts
+
+-- it gets a token at its end
+abbrev pub grown_made : Token → Option (List Token) → Option (List Token)
+grown_made token None = None
+grown_made token (Some ts) = Some (ts ++ token ∷ [])
+
+-- WHAT IS USED
+
+abbrev pub words_held : HeldLists → ℕ
+words_held s = held_words s.puts s.making s.gathered
+
+-- a level for the file that is open
+abbrev pub line_levels : Option Line → ℕ
+line_levels None = 0
+line_levels (Some line) = 1
+
+-- a level more
+abbrev pub level_held : HeldLists → Demand
+level_held s = record { table = InputStackSize; used = put_levels s.puts + line_levels s.line; need = 1 }
+
+-- what the file's first line needs of the levels
+abbrev pub file_demands : Progress → HeldLists → List Demand
+file_demands NotBegun s = level_held s ∷ []
+file_demands p s = []
+
+-- WHAT IS PENDING
+
+-- the rest of the line, and its state
+abbrev pub line_rest : List ℕ → Option Line → List ℕ
+line_rest bytes None = []
+line_rest bytes (Some line) = rest_of bytes line
+
+abbrev pub line_state : Option Line → plain.LineState
+line_state None = plain.NewLine
+line_state (Some line) = state_of line.state
+
+-- with a line in these bytes, and this rest of the file
+abbrev pub pending_of : HeldLists → List ℕ → List ℕ → Progress → ℕ → Pending
+pending_of s bytes rest file number = record { puts = s.puts; line = line_rest bytes s.line; lex = line_state s.line; rest = rest; file = file; number = number }
+
+-- the line stands in a buffer of this length
+abbrev pub IsLineIn : Option Line → ℕ → Type 0
+IsLineIn None n = Unit {0}
+IsLineIn (Some line) n = (line.at ≤ line.end) × (line.end ≤ n)
+
+abbrev pub front_ahead : List ℕ → Pending → List Put → Ahead
+front_ahead categories p [] = looks_of (plain.lexed categories p.lex p.line)
+front_ahead categories p (x ∷ ps) = ahead.Token
+
+-- what comes next from a list in front or from the line
+abbrev pub ahead_of : List ℕ → Pending → Ahead
+ahead_of categories p = front_ahead categories p (settled p.puts)

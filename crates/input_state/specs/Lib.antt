@@ -1,0 +1,9 @@
+pub mod Stored
+pub mod Reads
+pub mod HeldLists
+pub mod HeldViews
+pub mod FileLeft
+pub mod FileViews
+pub mod InputViews
+pub mod Changes
+pub mod Given

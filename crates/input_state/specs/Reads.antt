@@ -1,0 +1,65 @@
+-- What a reading answers, and what is pending then.
+use Rattle.std.specs.Prelude.{◌≡◌, ℕ, ◌<◌, ◌≤◌, List, length, None, Some, Bool, true, false}
+use Rattle.tex_defs.specs.declared.Full.{Full}
+use Rattle.tex_defs.specs.declared.Sizes.{Sizes}
+use Rattle.plain_state.specs.Lex as plain
+use Rattle.plain_state.specs.Pending.{Pending, Pulled, TokenFrom, LexemeFrom, LineTaken, InvalidMet, FileOver, NothingLeft, pulled, from_file, taken_line, settle}
+use Rattle.plain_state.specs.Tables.{refused, next_line}
+use Rattle.line_lexer.specs.Answers.{span}
+use Rattle.line_lexer.specs.declared.Lexed.{Lexed}
+use Rattle.line_lexer.specs.declared.Lexed.TheVariants.{Char, Active, Single, Word, Empty, Par, Invalid, End}
+use Rattle.input_state.specs.Stored.{Stored}
+use Rattle.input_state.specs.declared.answer.Pulled as answers
+use Rattle.input_state.specs.declared.answer.Pulled.TheVariants as answer
+
+-- A character or a name, whose letters stand in the buffer between two places.
+abbrev pub IsLexeme : List ℕ → Lexed → plain.Lexeme → Type 0
+IsLexeme buffer (Char category code) x = x ≡ plain.Character category code
+IsLexeme buffer (Active code) x = x ≡ plain.ActiveName code
+IsLexeme buffer (Single code) x = x ≡ plain.SingleName code
+IsLexeme buffer (Word from to) x = (x ≡ plain.WordName (span buffer from to)) × (from < to) × (to ≤ length buffer)
+IsLexeme buffer Empty x = x ≡ plain.EmptyName
+IsLexeme buffer Par x = x ≡ plain.ParName
+IsLexeme buffer Invalid x = ⊥
+IsLexeme buffer End x = ⊥
+
+pub record ReadsLexeme (p : Pulled) (lexed : Lexed) (next : Pending) (buffer : List ℕ) : Type 0 where
+  pub lexeme : plain.Lexeme
+  pub is : IsLexeme buffer lexed lexeme
+  pub pulls : p ≡ LexemeFrom lexeme next
+
+-- the answer on a reading from what is pending, before and after it
+abbrev pub Reads : Pulled → answers.Pulled → Sizes → Pending → Pending → List ℕ → Type 0
+Reads p (answer.Token t) sizes old new buffer = p ≡ TokenFrom t new
+Reads p (answer.Lexeme l) sizes old new buffer = ReadsLexeme p l new buffer
+Reads p answer.Taken sizes old new buffer = (p ≡ LineTaken (taken_line old.rest) new) × (refused sizes (next_line old) ≡ None)
+Reads p answer.Invalid sizes old new buffer = p ≡ InvalidMet new
+Reads p answer.FileOver sizes old new buffer = p ≡ FileOver new
+Reads p answer.Nothing sizes old new buffer = (p ≡ NothingLeft) × (new ≡ settle old)
+
+abbrev pub Pulls : Pulled → answers.Pulled → Stored → Stored → Type 0
+Pulls p result old new = Reads p result old.sizes old.pending new.pending new.buffer
+
+-- A line would be taken and has no room: it is not taken.
+pub record RefusesTaken (p : Pulled) (full : Full) (old new : Stored) : Type 0 where
+  pub line : List ℕ
+  pub next : Pending
+  pub takes : p ≡ LineTaken line next
+  pub refused : refused old.sizes (next_line old.pending) ≡ Some full
+  pub stays : new.pending ≡ settle old.pending
+
+abbrev pub Refuses : List ℕ → Full → Stored → Stored → Type 0
+Refuses categories full old new = RefusesTaken (pulled categories old.pending) full old new
+
+-- the same of the file alone
+abbrev pub RefusesLine : Full → Stored → Stored → Type 0
+RefusesLine full old new = RefusesTaken (from_file old.pending.file old.pending.number old.pending.rest) full old new
+
+-- a token, a character, a name or a line
+abbrev pub gives_step : Pulled → Bool
+gives_step (TokenFrom t next) = true
+gives_step (LexemeFrom x next) = true
+gives_step (LineTaken line next) = true
+gives_step (InvalidMet next) = false
+gives_step (FileOver next) = false
+gives_step NothingLeft = false

@@ -1,0 +1,19 @@
+//! All lists of a run, and all that is still to be read.
+//!
+//! The lists stand in one main memory, and the lists in front and the job's file in levels of input. Callers see plain
+//! lists: those in front with the rest of the line and of the file, the one that is being made, and those that are
+//! gathered. All room is reserved by [`Input::new`]: no other call takes memory.
+//!
+//! *TeX: The Program*, part 22 (input stacks and states) and part 24 (getting the next token).
+#![tactic(auto)]
+
+mod answer;
+mod file;
+mod lines;
+mod lists_held;
+mod state;
+#[cfg(test)]
+mod tests;
+
+pub use answer::Pulled;
+pub use state::Input;

@@ -1,0 +1,384 @@
+// The lists in front, those that are being made and gathered, and the line of the file beneath them.
+ghost use Rattle.std.specs.Prelude.{◌≡◌, ◌≢◌, ℕ, ◌≤◌, ◌<◌, ◌+◌, ◌++◌, ◌↔◌, List, [], ◌∷◌, Option, None, Some, IsSome, IsTrue, IfOk, OnOk, OnErr, IfErr, MatchResult, length, drop};
+ghost use Rattle.plain_state.specs.Pending.{Progress, pulled, settled, with_put};
+ghost use Rattle.plain_state.specs.Tables.{memory, refused};
+ghost use Rattle.line_lexer.specs.declared.Ahead.TheVariants as ahead;
+ghost use Rattle.token_lists.specs.Table.{words, tokens_at, holders_at, IsHeld};
+ghost use Rattle.token_lists.specs.Ids.{build_id, IsBuilding};
+ghost use Rattle.token_lists.specs.Accounts.{Moves, none, holds};
+ghost use Rattle.token_lists.specs.Refusals.{IsFull};
+ghost use Rattle.input_state.specs.HeldLists.{HeldLists, first_list, is_empty, grown_first, made, grown_made, words_held, level_held, pending_of, ahead_of, line_levels, IsLineIn};
+ghost use Rattle.input_state.specs.Changes.{IsOnly};
+ghost use Rattle.input_state.specs.Reads.{Reads};
+ghost use Rattle.input_state.specs.Given.{GivesMore, answer_of};
+
+use crate::Pulled;
+use input_stack::{InputStack, Pulled as Given};
+use line_lexer::{Ahead, Lexed, Line};
+use std::alloc::{AllocError, Global};
+use std::marker::Model;
+use tex_defs::{Full, Sizes, Token};
+use token_lists::{Build, Lists};
+use world_io::InId;
+
+/// The number of the job's file.
+const JOB: InId = InId { number: 0 };
+
+/// The lists of a run, each with one holder, and the levels of input.
+#[must_use]
+#[derive(Debug)]
+pub struct Held {
+    lists: Lists,
+    stack: InputStack,
+    /// The list that is made, to be put in front.
+    making: Option<Build>,
+    /// The lists that open readings gather, the innermost reading's last.
+    gathered: Vec<Build>,
+    sizes: Sizes,
+}
+
+impl Model for Held {
+    ghost use Rattle.std.specs.Prelude.{vec_capacity};
+    ghost use Rattle.input_stack.specs.View.{pending};
+    ghost use Rattle.input_state.specs.HeldLists.{HeldLists};
+
+    ghost Value = { HeldLists };
+
+    ghost use Rattle.input_state.specs.HeldViews.{lists_of, IsSound};
+
+    ghost view = { λ i. lists_of i.lists (pending i.lists i.stack) i.making i.gathered.items i.sizes };
+
+    ghost invariant = { λ i. IsSound i.lists i.stack i.making i.gathered.items i.sizes (vec_capacity i.gathered) };
+}
+
+// Begins a list. What is used then says that there was room for it.
+fn begin(lists: &mut Lists) -> Result<Build, Full>
+    ensures building { IfOk result (λ b. IsBuilding lists.new b) }
+    ensures fresh { IfOk result (λ b. holders_at lists.old (build_id b) ≡ 0) }
+    ensures empty { IfOk result (λ b. tokens_at lists.new (build_id b) ≡ []) }
+    ensures others { IfOk result (λ b. IsOnly lists.old lists.new (build_id b)) }
+    ensures account { IfOk result (λ b. Moves lists.old lists.new none (holds (build_id b))) }
+    ensures room { OnOk result (words lists.old < length lists.old) }
+    ensures err { OnErr result (lists.new ≡ lists.old) }
+    ensures full { IfErr result (λ f. IsFull f lists.old) }
+    ensures length { length lists.new ≡ length lists.old }
+{
+    match lists.begin() {
+        Ok(build) => {
+            let _words = lists.used();
+            Ok(build)
+        }
+        Err(full) => Err(full),
+    }
+}
+
+// Appends a token. What is used then says that there was room for it.
+fn append(lists: &mut Lists, build: &mut Build, token: Token) -> Result<(), Full>
+    requires { IsBuilding lists.old build.old }
+    ensures same { build_id build.new ≡ build_id build.old }
+    ensures building { IsBuilding lists.new build.new }
+    ensures grown { OnOk result (tokens_at lists.new (build_id build.old) ≡ tokens_at lists.old (build_id build.old) ++ token ∷ []) }
+    ensures others { IsOnly lists.old lists.new (build_id build.old) }
+    ensures account { Moves lists.old lists.new none none }
+    ensures room { OnOk result (words lists.old < length lists.old) }
+    ensures err { OnErr result (lists.new ≡ lists.old) }
+    ensures full { IfErr result (λ f. IsFull f lists.old) }
+    ensures length { length lists.new ≡ length lists.old }
+{
+    match lists.append(build, token) {
+        Ok(()) => {
+            let _words = lists.used();
+            Ok(())
+        }
+        Err(full) => Err(full),
+    }
+}
+
+// Lets a list go that is being built.
+fn abandon(lists: &mut Lists, build: Build)
+    requires { IsBuilding lists.old build }
+    ensures others { IsOnly lists.old lists.new (build_id build) }
+    ensures account { Moves lists.old lists.new (holds (build_id build)) none }
+    ensures length { length lists.new ≡ length lists.old }
+{
+    lists.abandon(build);
+}
+
+// What a pull gives, where it gives something.
+fn answer(given: Result<Given, Full>) -> Pulled
+    requires { GivesMore given }
+    ensures { result ≡ answer_of given }
+{
+    match given {
+        Ok(Given::Token(token)) => Pulled::Token(token),
+        Ok(Given::Lexed(Lexed::Invalid)) => Pulled::Invalid,
+        Ok(Given::Lexed(lexed)) => Pulled::Lexeme(lexed),
+        Ok(Given::LineEnd | Given::ReadEnd | Given::Bottom) | Err(_) => unreachable!(),
+    }
+}
+
+impl Held {
+    /// No lists, no line, and room for all that these sizes admit.
+    ///
+    /// # Errors
+    /// There is no room for them. No other call takes memory.
+    pub fn new(alloc: Global, sizes: &Sizes) -> Result<Held, AllocError>
+        ensures { IfOk result (λ h. h ≡ record { puts = []; making = None; gathered = []; line = None; sizes = sizes.now }) }
+    {
+        let lists = Lists::new(alloc, sizes.main_memory_size)?;
+        let gathered = Vec::with_capacity(alloc, sizes.main_memory_size as usize)?;
+        match InputStack::new(alloc, sizes) {
+            Ok(stack) => Ok(Held {
+                lists,
+                stack,
+                making: None,
+                gathered,
+                sizes: *sizes,
+            }),
+            Err(error) => {
+                gathered.destroy_empty();
+                Err(error)
+            }
+        }
+    }
+
+    pub fn sizes(&self) -> &Sizes
+        ensures { result.now ≡ self.now.sizes }
+    {
+        &self.sizes
+    }
+
+    /// The lists in front that are finished go.
+    pub fn settle(&mut self)
+        ensures { self.new ≡ record self.old { puts = settled self.old.puts } }
+    {
+        self.stack.drop_finished(&mut self.lists);
+    }
+
+    /// Begins a list that an open reading gathers.
+    ///
+    /// # Errors
+    /// The main memory is full; nothing has changed.
+    pub fn begin_list(&mut self) -> Result<(), Full>
+        ensures refused { MatchResult result (λ _. refused self.old.sizes (memory 1 (words_held self.old) ∷ []) ≡ None) (λ full. refused self.old.sizes (memory 1 (words_held self.old) ∷ []) ≡ Some full) }
+        ensures ok { OnOk result (self.new ≡ record self.old { gathered = [] ∷ self.old.gathered }) }
+        ensures err { OnErr result (self.new ≡ self.old) }
+    {
+        match begin(&mut self.lists) {
+            Ok(build) => {
+                self.gathered.push_reserved(build);
+                Ok(())
+            }
+            Err(full) => Err(full),
+        }
+    }
+
+    /// The innermost reading's list gets a token at its end.
+    ///
+    /// # Errors
+    /// The main memory is full; nothing has changed.
+    pub fn grow_list(&mut self, token: Token) -> Result<(), Full>
+        requires { self.old.gathered ≢ [] }
+        ensures refused { MatchResult result (λ _. refused self.old.sizes (memory 1 (words_held self.old) ∷ []) ≡ None) (λ full. refused self.old.sizes (memory 1 (words_held self.old) ∷ []) ≡ Some full) }
+        ensures ok { OnOk result (self.new ≡ record self.old { gathered = grown_first token self.old.gathered }) }
+        ensures err { OnErr result (self.new ≡ self.old) }
+    {
+        let Some(mut build) = self.gathered.pop() else {
+            unreachable!()
+        };
+        let grown = append(&mut self.lists, &mut build, token);
+        self.gathered.push_reserved(build);
+        grown
+    }
+
+    /// The innermost reading's list goes.
+    pub fn drop_list(&mut self)
+        requires { self.old.gathered ≢ [] }
+        ensures { self.new ≡ record self.old { gathered = drop 1 self.old.gathered } }
+    {
+        let Some(build) = self.gathered.pop() else {
+            unreachable!()
+        };
+        abandon(&mut self.lists, build);
+    }
+
+    /// Whether some reading gathers a list.
+    pub fn is_gathering(&self) -> bool
+        ensures { IsTrue result ↔ (0 < length self.now.gathered) }
+    {
+        !self.gathered.is_empty()
+    }
+
+    /// The innermost reading's list, and the memory in which it stands.
+    pub fn list(&self) -> (&Lists, &Build)
+        requires { self.now.gathered ≢ [] }
+        ensures held { IsHeld result.0.now (build_id result.1.now) }
+        ensures tokens { tokens_at result.0.now (build_id result.1.now) ≡ first_list self.now.gathered }
+    {
+        (&self.lists, &self.gathered[self.gathered.len() - 1])
+    }
+
+    /// The memory of the lists.
+    pub fn lists(&self) -> &Lists
+        ensures { words result.now ≡ words_held self.now }
+    {
+        &self.lists
+    }
+
+    /// How many words of main memory are used.
+    pub fn words(&self) -> u32
+        ensures is { result ≡ words_held self.now }
+        ensures within { result ≤ self.now.sizes.main_memory_size }
+    {
+        self.lists.used()
+    }
+
+    /// Begins the list that is made.
+    ///
+    /// # Errors
+    /// The main memory is full; nothing has changed.
+    pub fn make_list(&mut self) -> Result<(), Full>
+        requires { self.old.making ≡ None }
+        ensures refused { MatchResult result (λ _. refused self.old.sizes (memory 1 (words_held self.old) ∷ []) ≡ None) (λ full. refused self.old.sizes (memory 1 (words_held self.old) ∷ []) ≡ Some full) }
+        ensures ok { OnOk result (self.new ≡ record self.old { making = Some [] }) }
+        ensures err { OnErr result (self.new ≡ self.old) }
+    {
+        match begin(&mut self.lists) {
+            Ok(build) => {
+                match self.making.replace(build) {
+                    None => Ok(()),
+                    Some(_other) => unreachable!(),
+                }
+            }
+            Err(full) => Err(full),
+        }
+    }
+
+    /// The list that is made gets a token at its end.
+    ///
+    /// # Errors
+    /// The main memory is full; nothing has changed.
+    pub fn grow_made(&mut self, token: Token) -> Result<(), Full>
+        requires { IsSome self.old.making }
+        ensures refused { MatchResult result (λ _. refused self.old.sizes (memory 1 (words_held self.old) ∷ []) ≡ None) (λ full. refused self.old.sizes (memory 1 (words_held self.old) ∷ []) ≡ Some full) }
+        ensures ok { OnOk result (self.new ≡ record self.old { making = grown_made token self.old.making }) }
+        ensures err { OnErr result (self.new ≡ self.old) }
+    {
+        let Some(mut build) = self.making.take() else {
+            unreachable!()
+        };
+        let grown = append(&mut self.lists, &mut build, token);
+        match self.making.replace(build) {
+            None => grown,
+            Some(_other) => unreachable!(),
+        }
+    }
+
+    /// The list that is made, if there is one, goes.
+    pub fn drop_made(&mut self)
+        ensures { self.new ≡ record self.old { making = None } }
+    {
+        if let Some(build) = self.making.take() {
+            abandon(&mut self.lists, build);
+        }
+    }
+
+    /// Why there is no room for one more level, once the finished lists in front have gone.
+    pub fn room(&mut self) -> Option<Full>
+        ensures refused { result ≡ refused self.old.sizes (level_held self.old ∷ []) }
+        ensures after { self.new ≡ record self.old { puts = settled self.old.puts } }
+    {
+        self.stack.room(&mut self.lists)
+    }
+
+    /// Puts the list that is made in front; one without tokens goes.
+    pub fn put_made(&mut self)
+        requires some { IsSome self.old.making }
+        requires settled { settled self.old.puts ≡ self.old.puts }
+        requires room { refused self.old.sizes (level_held self.old ∷ []) ≡ None }
+        ensures { self.new ≡ record self.old { puts = with_put (made self.old.making) self.old.puts; making = None } }
+    {
+        let Some(build) = self.making.take() else {
+            unreachable!()
+        };
+        let list = self.lists.finish(build);
+        match self.stack.push_list(&mut self.lists, list) {
+            Ok(()) => {}
+            Err((_full, _list)) => unreachable!(),
+        }
+    }
+
+    /// What the next pull gives. Nothing changes.
+    pub fn looks(&self, bytes: &[u8], categories: &[u8; 256]) -> Ahead
+        requires { IsLineIn self.now.line (length bytes.now) }
+        ensures { (rest : List ℕ) (file : Progress) (number : ℕ) → result ≡ ahead_of categories.now (pending_of self.now bytes.now rest file number) }
+    {
+        self.stack.looks(&self.lists, bytes, categories)
+    }
+
+    /// The next token of a list in front, or what the line gives, where it isn't used up.
+    pub fn pull(&mut self, bytes: &mut [u8], categories: &[u8; 256]) -> Pulled
+        requires in_buffer { IsLineIn self.old.line (length bytes.old) }
+        requires more { (rest : List ℕ) (file : Progress) (number : ℕ) → ahead_of categories.now (pending_of self.old bytes.old rest file number) ≢ ahead.End }
+        ensures in_buffer { IsLineIn self.new.line (length bytes.new) }
+        ensures pulls { (rest : List ℕ) (file : Progress) (number : ℕ) → Reads (pulled categories.now (pending_of self.old bytes.old rest file number)) result self.old.sizes (pending_of self.old bytes.old rest file number) (pending_of self.new bytes.new rest file number) bytes.new }
+        ensures others { self.new ≡ record self.old { puts = self.new.puts; line = self.new.line } }
+        ensures levels { line_levels self.new.line ≡ line_levels self.old.line }
+    {
+        answer(self.stack.pull(&mut self.lists, bytes, categories))
+    }
+
+    /// The file gets a level, at this line.
+    ///
+    /// # Errors
+    /// The levels are at the size of the input stack; nothing has changed.
+    pub fn open_file(&mut self, line: Line) -> Result<(), Full>
+        requires front { self.old.puts ≡ [] }
+        requires closed { self.old.line ≡ None }
+        ensures refused { MatchResult result (λ _. refused self.old.sizes (level_held self.old ∷ []) ≡ None) (λ full. refused self.old.sizes (level_held self.old ∷ []) ≡ Some full) }
+        ensures ok { OnOk result (self.new ≡ record self.old { line = Some line }) }
+        ensures err { OnErr result (self.new ≡ self.old) }
+    {
+        self.stack.push_file(&mut self.lists, Some(JOB), line)
+    }
+
+    /// The file goes on at this line.
+    pub fn begin_line(&mut self, line: Line)
+        requires front { self.old.puts ≡ [] }
+        requires open { IsSome self.old.line }
+        ensures { self.new ≡ record self.old { line = Some line } }
+    {
+        self.stack.begin_line(line);
+    }
+
+    /// The file's level goes.
+    pub fn end_file(&mut self)
+        requires front { self.old.puts ≡ [] }
+        requires open { IsSome self.old.line }
+        ensures { self.new ≡ record self.old { line = None } }
+    {
+        let _id = self.stack.end_file();
+    }
+
+    /// Lets all lists go.
+    pub fn close(self) {
+        let mut held = self;
+        while held.is_gathering() {
+            held.drop_list();
+        }
+        held.drop_made();
+        let Held {
+            mut lists,
+            stack,
+            making,
+            gathered,
+            sizes: _,
+        } = held;
+        match making {
+            None => {}
+            Some(_build) => unreachable!(),
+        }
+        stack.close(&mut lists);
+        gathered.destroy_empty();
+    }
+}

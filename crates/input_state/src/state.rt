@@ -1,0 +1,356 @@
+// The input of a run.
+ghost use Rattle.std.specs.Prelude.{◌≡◌, ◌≢◌, ◌≤◌, ◌<◌, ◌+◌, [], ◌∷◌, None, Some, IsSome, IfOk, IfErr, OnOk, OnErr, MatchResult, MatchBool, length, drop};
+ghost use Rattle.std.specs.Option.{option_map};
+ghost use Rattle.plain_state.specs.Pending.{NotBegun, Begun, Closed, LineTaken, pulled, settle, put_front, line_taken, taken_line, from_file};
+ghost use Rattle.plain_state.specs.Tables.{memory, level, file_levels, next_line, refused};
+ghost use Rattle.line_lexer.specs.declared.Ahead.TheVariants as ahead;
+ghost use Rattle.line_lexer.specs.declared.LineState.TheVariants.{NewLine};
+ghost use Rattle.tex_defs.specs.declared.Table.TheVariants.{BufferSize};
+ghost use Rattle.token_lists.specs.Table.{tokens_at, IsHeld};
+ghost use Rattle.token_lists.specs.Table as table;
+ghost use Rattle.token_lists.specs.Ids.{build_id};
+ghost use Rattle.input_state.specs.HeldLists.{first_list, is_empty, grown_first, made, grown_made, ahead_of, line_levels, file_demands};
+ghost use Rattle.input_state.specs.FileViews.{progress_of};
+ghost use Rattle.input_state.specs.Stored.{words, unread, closed};
+ghost use Rattle.input_state.specs.Reads.{Pulls, Refuses, RefusesLine, gives_step};
+
+use crate::Pulled;
+use crate::file::{JobFile, Progress};
+use crate::lines::{first_line, put_line};
+use crate::lists_held::Held;
+use line_lexer::{Ahead, Line, LineState};
+use std::alloc::{AllocError, Global};
+use std::marker::Model;
+use tex_defs::{Full, Sizes, Table, Token};
+use token_lists::{Build, Lists};
+
+/// All lists of a run, and all that is still to be read: lists in front, the rest of a line, the rest of the job's
+/// file.
+///
+/// It must be closed. *TeX: The Program*, parts 22 and 24.
+#[must_use]
+#[derive(Debug)]
+pub struct Input {
+    held: Held,
+    /// The line that is being read stands at the front.
+    buffer: Vec<u8>,
+    file: JobFile,
+}
+
+// Clauses see plain lists.
+impl Model for Input {
+    ghost use Rattle.input_state.specs.Stored.{Stored};
+
+    ghost Value = { Stored };
+
+    ghost use Rattle.input_state.specs.InputViews.{stored_of, IsTied};
+
+    ghost view = { λ i. stored_of i.held i.buffer.items i.file };
+
+    ghost invariant = { λ i. IsTied i.held i.buffer.items i.file };
+}
+
+// A line of this length, none of it read.
+fn line_start(end: usize) -> Line
+    ensures { result ≡ record { at = 0; end = end; state = NewLine } }
+{
+    Line {
+        at: 0,
+        end,
+        state: LineState::NewLine,
+    }
+}
+
+// The refusal of a line that is too long for the buffer.
+fn buffer_full(sizes: &Sizes) -> Full
+    ensures { result ≡ record { table = BufferSize; used = 0; size = sizes.now.buffer_size } }
+{
+    Full {
+        table: Table::BufferSize,
+        used: 0,
+        size: sizes.buffer_size,
+    }
+}
+
+// The file goes on at this line, and gets its level with the first.
+fn open_line(held: &mut Held, progress: Progress, line: Line) -> Result<(), Full>
+    requires front { held.old.puts ≡ [] }
+    requires tied { line_levels held.old.line ≡ file_levels (progress_of progress) }
+    requires open { progress_of progress ≢ Closed }
+    ensures refused { MatchResult result (λ _. refused held.old.sizes (file_demands (progress_of progress) held.old) ≡ None) (λ full. refused held.old.sizes (file_demands (progress_of progress) held.old) ≡ Some full) }
+    ensures ok { OnOk result (held.new ≡ record held.old { line = Some line }) }
+    ensures err { OnErr result (held.new ≡ held.old) }
+{
+    if progress == Progress::NotBegun {
+        return held.open_file(line);
+    }
+    held.begin_line(line);
+    Ok(())
+}
+
+impl Input {
+    /// The job's file, where there is one, with none of its bytes read, and room for all that these sizes admit.
+    ///
+    /// # Errors
+    /// There is no room for them. No other call takes memory.
+    pub fn new(alloc: Global, sizes: &Sizes, bytes: Option<Vec<u8>>) -> Result<Input, AllocError>
+        ensures { IfOk result (λ i. i ≡ record { pending = unread (option_map (λ v. v.items) bytes); making = None; gathered = []; buffer = i.buffer; sizes = sizes.now }) }
+    {
+        let buffer = vec![in alloc; 0; sizes.buffer_size as usize]?;
+        let held = Held::new(alloc, sizes)?;
+        let file = match bytes {
+            Some(bytes) => JobFile::new(bytes),
+            None => JobFile::closed(alloc),
+        };
+        Ok(Input { held, buffer, file })
+    }
+
+    /// The bytes of the line buffer.
+    pub fn buffer(&self) -> &[u8]
+        ensures { result.now ≡ self.now.buffer }
+    {
+        &self.buffer
+    }
+
+    /// The number of the line that is being read, 0 where no file is open.
+    pub fn line_number(&self) -> u64
+        ensures { result ≡ self.now.pending.number }
+    {
+        self.file.number()
+    }
+
+    /// How many words of main memory are used: for each list that is held, 1 and its length.
+    pub fn words(&self) -> u32
+        ensures is { result ≡ words self.now }
+        ensures within { result ≤ self.now.sizes.main_memory_size }
+    {
+        self.held.words()
+    }
+
+    /// The lists in front that are finished go.
+    pub fn settle(&mut self)
+        ensures { self.new ≡ record self.old { pending = settle self.old.pending } }
+    {
+        self.held.settle();
+    }
+
+    /// Begins a list that an open reading gathers.
+    ///
+    /// # Errors
+    /// The main memory is full; nothing has changed.
+    pub fn begin_list(&mut self) -> Result<(), Full>
+        ensures refused { MatchResult result (λ _. refused self.old.sizes (memory 1 (words self.old) ∷ []) ≡ None) (λ full. refused self.old.sizes (memory 1 (words self.old) ∷ []) ≡ Some full) }
+        ensures ok { OnOk result (self.new ≡ record self.old { gathered = [] ∷ self.old.gathered }) }
+        ensures err { OnErr result (self.new ≡ self.old) }
+    {
+        self.held.begin_list()
+    }
+
+    /// The innermost reading's list gets a token at its end.
+    ///
+    /// # Errors
+    /// The main memory is full; nothing has changed.
+    pub fn grow_list(&mut self, token: Token) -> Result<(), Full>
+        requires { self.old.gathered ≢ [] }
+        ensures refused { MatchResult result (λ _. refused self.old.sizes (memory 1 (words self.old) ∷ []) ≡ None) (λ full. refused self.old.sizes (memory 1 (words self.old) ∷ []) ≡ Some full) }
+        ensures ok { OnOk result (self.new ≡ record self.old { gathered = grown_first token self.old.gathered }) }
+        ensures err { OnErr result (self.new ≡ self.old) }
+    {
+        self.held.grow_list(token)
+    }
+
+    /// The innermost reading's list goes.
+    pub fn drop_list(&mut self)
+        requires { self.old.gathered ≢ [] }
+        ensures { self.new ≡ record self.old { gathered = drop 1 self.old.gathered } }
+    {
+        self.held.drop_list();
+    }
+
+    /// Whether a reading holds a list.
+    pub fn has_list(&self) -> bool
+        ensures { MatchBool result (self.now.gathered ≢ []) (self.now.gathered ≡ []) }
+    {
+        self.held.is_gathering()
+    }
+
+    /// Whether the innermost reading's list has no token.
+    pub fn is_list_empty(&self) -> bool
+        requires { self.now.gathered ≢ [] }
+        ensures { result ≡ is_empty (first_list self.now.gathered) }
+    {
+        let (lists, build) = self.held.list();
+        lists.first_built(build).is_none()
+    }
+
+    /// The innermost reading's list, and the memory in which it stands.
+    pub fn list(&self) -> (&Lists, &Build)
+        requires { self.now.gathered ≢ [] }
+        ensures held { IsHeld result.0.now (build_id result.1.now) }
+        ensures tokens { tokens_at result.0.now (build_id result.1.now) ≡ first_list self.now.gathered }
+    {
+        self.held.list()
+    }
+
+    /// The memory of all lists.
+    pub fn lists(&self) -> &Lists
+        ensures { table.words result.now ≡ words self.now }
+    {
+        self.held.lists()
+    }
+
+    /// Begins the list that is made.
+    ///
+    /// # Errors
+    /// The main memory is full; nothing has changed.
+    pub fn make_list(&mut self) -> Result<(), Full>
+        requires { self.old.making ≡ None }
+        ensures refused { MatchResult result (λ _. refused self.old.sizes (memory 1 (words self.old) ∷ []) ≡ None) (λ full. refused self.old.sizes (memory 1 (words self.old) ∷ []) ≡ Some full) }
+        ensures ok { OnOk result (self.new ≡ record self.old { making = Some [] }) }
+        ensures err { OnErr result (self.new ≡ self.old) }
+    {
+        self.held.make_list()
+    }
+
+    /// The list that is made gets a token at its end.
+    ///
+    /// # Errors
+    /// The main memory is full; nothing has changed.
+    pub fn grow_made(&mut self, token: Token) -> Result<(), Full>
+        requires { IsSome self.old.making }
+        ensures refused { MatchResult result (λ _. refused self.old.sizes (memory 1 (words self.old) ∷ []) ≡ None) (λ full. refused self.old.sizes (memory 1 (words self.old) ∷ []) ≡ Some full) }
+        ensures ok { OnOk result (self.new ≡ record self.old { making = grown_made token self.old.making }) }
+        ensures err { OnErr result (self.new ≡ self.old) }
+    {
+        self.held.grow_made(token)
+    }
+
+    /// Puts the list that is made in front of all that is pending; one without tokens goes.
+    ///
+    /// # Errors
+    /// The input stack is full; nothing has changed.
+    pub fn put_made(&mut self) -> Result<(), Full>
+        requires some { IsSome self.old.making }
+        requires settled { self.old.pending ≡ settle self.old.pending }
+        ensures refused { MatchResult result (λ _. refused self.old.sizes (level self.old.pending ∷ []) ≡ None) (λ full. refused self.old.sizes (level self.old.pending ∷ []) ≡ Some full) }
+        ensures ok { OnOk result (self.new ≡ record self.old { pending = put_front (made self.old.making) self.old.pending; making = None }) }
+        ensures err { OnErr result (self.new ≡ self.old) }
+    {
+        if let Some(full) = self.held.room() {
+            return Err(full);
+        }
+        self.held.put_made();
+        Ok(())
+    }
+
+    // What the next reading gives, but for what the file gives.
+    fn looks(&self, categories: &[u8; 256]) -> Ahead
+        ensures { result ≡ ahead_of categories.now self.now.pending }
+    {
+        self.held.looks(&self.buffer, categories)
+    }
+
+    // The next token of a list in front, or what the line gives, where it isn't used up.
+    fn pull_front(&mut self, categories: &[u8; 256]) -> Pulled
+        requires { ahead_of categories.now self.old.pending ≢ ahead.End }
+        ensures pulls { Pulls (pulled categories.now self.old.pending) result self.old self.new }
+        ensures others { self.new ≡ record self.old { pending = self.new.pending; buffer = self.new.buffer } }
+    {
+        self.held.pull(&mut self.buffer, categories)
+    }
+
+    // Takes the next line of the file.
+    fn take_line(&mut self) -> Result<(), Full>
+        requires front { self.old.pending.puts ≡ [] }
+        requires open { self.old.pending.file ≢ Closed }
+        requires some { self.old.pending.file ≡ Begun → 0 < length self.old.pending.rest }
+        ensures ok { OnOk result (line_taken self.old.pending.number self.old.pending.rest ≡ LineTaken (taken_line self.old.pending.rest) self.new.pending) }
+        ensures refused { MatchResult result (λ _. refused self.old.sizes (next_line self.old.pending) ≡ None) (λ full. refused self.old.sizes (next_line self.old.pending) ≡ Some full) }
+        ensures err { OnErr result (self.new.pending ≡ self.old.pending) }
+        ensures others { self.new ≡ record self.old { pending = self.new.pending; buffer = self.new.buffer } }
+    {
+        let cut = first_line(self.file.rest());
+        if cut.whole >= self.buffer.len() {
+            return Err(buffer_full(self.held.sizes()));
+        }
+        put_line(&mut self.buffer, &self.file.rest()[..cut.kept]);
+        open_line(
+            &mut self.held,
+            self.file.progress(),
+            line_start(cut.kept + 1),
+        )?;
+        self.file.go_on(cut.used);
+        Ok(())
+    }
+
+    // The file goes.
+    fn end_file(&mut self)
+        requires front { self.old.pending.puts ≡ [] }
+        requires open { self.old.pending.file ≡ Begun }
+        ensures { self.new ≡ record self.old { pending = closed } }
+    {
+        self.held.end_file();
+        self.file.close();
+    }
+
+    // The next line of the file, or its end, where nothing is left of a line.
+    fn pull_file(&mut self) -> Result<Pulled, Full>
+        requires { self.old.pending.puts ≡ [] }
+        ensures ok { IfOk result (λ r. Pulls (from_file self.old.pending.file self.old.pending.number self.old.pending.rest) r self.old self.new) }
+        ensures others { self.new ≡ record self.old { pending = self.new.pending; buffer = self.new.buffer } }
+        ensures err { IfErr result (λ full. RefusesLine full self.old self.new) }
+    {
+        match self.file.progress() {
+            Progress::Closed => Ok(Pulled::Nothing),
+            Progress::Begun if self.file.rest().is_empty() => {
+                self.end_file();
+                Ok(Pulled::FileOver)
+            }
+            _ => {
+                self.take_line()?;
+                Ok(Pulled::Taken)
+            }
+        }
+    }
+
+    /// The next token of a list in front, character or name of the line, or line of the file, by these category codes.
+    /// *The TeXbook*, chapters 7 and 8; *TeX: The Program*, part 24 (`get_next`).
+    ///
+    /// # Errors
+    /// The next line is too long for the buffer, or the file's level passes the size of the input stack. Nothing has
+    /// changed but that the finished lists in front have gone.
+    pub fn pull(&mut self, categories: &[u8; 256]) -> Result<Pulled, Full>
+        ensures ok { IfOk result (λ r. Pulls (pulled categories.now self.old.pending) r self.old self.new) }
+        ensures others { self.new ≡ record self.old { pending = self.new.pending; buffer = self.new.buffer } }
+        ensures err { IfErr result (λ full. Refuses categories.now full self.old self.new) }
+    {
+        match self.looks(categories) {
+            Ahead::Token | Ahead::Invalid => Ok(self.pull_front(categories)),
+            Ahead::End => {
+                self.settle();
+                self.pull_file()
+            }
+        }
+    }
+
+    /// Whether the next reading gives a token, a name or a line. Nothing changes.
+    pub fn is_ready(&self, categories: &[u8; 256]) -> bool
+        ensures { result ≡ gives_step (pulled categories.now self.now.pending) }
+    {
+        match self.looks(categories) {
+            Ahead::Token => true,
+            Ahead::Invalid => false,
+            Ahead::End => self.file.has_line(),
+        }
+    }
+
+    /// Lets all lists go, and with them the input.
+    pub fn close(self) {
+        let Input {
+            held,
+            buffer: _,
+            file: _,
+        } = self;
+        held.close();
+    }
+}

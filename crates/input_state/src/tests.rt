@@ -1,0 +1,169 @@
+//! A file that is read to its end, lists that are gathered, made and put in front, and tables that are full.
+
+ghost use Rattle.std.specs.Prelude.{◌≡◌, [], None};
+
+use crate::{Input, Pulled};
+use line_lexer::Lexed;
+use std::test::Fail;
+use tex_defs::{Full, Sizes, Table, Token};
+
+const A: Token = Token::Char {
+    cat: 11,
+    code: b'a',
+};
+
+const B: Token = Token::Char {
+    cat: 11,
+    code: b'b',
+};
+
+// `\` is an escape character, 13 ends a line, `%` begins a comment, 127 is invalid, a, b, c are letters.
+fn categories() -> [u8; 256] {
+    let mut categories = [12; 256];
+    categories[b'\\' as usize] = 0;
+    categories[13] = 5;
+    categories[b' ' as usize] = 10;
+    categories[b'%' as usize] = 14;
+    categories[127] = 15;
+    for code in b"abc" {
+        categories[*code as usize] = 11;
+    }
+    categories
+}
+
+// What the next readings give, the number of the line then, and the two letters of the buffer behind the second.
+fn readings(input: &mut Input) -> ([Option<Pulled>; 8], u64, Option<[u8; 2]>) {
+    let categories = categories();
+    let mut told = [None; 8];
+    let mut number = 0;
+    let mut letters = None;
+    for (i, answer) in told.iter_mut().enumerate() {
+        *answer = input.pull(&categories).ok();
+        if i == 2 && input.buffer().len() > 3 {
+            letters = Some([input.buffer()[2], input.buffer()[3]]);
+        }
+        if i == 4 {
+            number = input.line_number();
+        }
+    }
+    (told, number, letters)
+}
+
+#[test]
+fn file_is_read(rt: HostRuntime) -> Result<(), Fail> {
+    let alloc = rt.alloc();
+    let bytes = b"a\\bc %x  \r\n\x7f\n".to_vec(alloc)?;
+    let mut input = Input::new(alloc, &Sizes::DEFAULT, Some(bytes))?;
+    let ready = input.is_ready(&categories());
+    let told = readings(&mut input);
+    let over = input.is_ready(&categories());
+    input.close();
+    let wanted = [
+        Some(Pulled::Taken),
+        Some(Pulled::Lexeme(Lexed::Char {
+            cat: 11,
+            code: b'a',
+        })),
+        Some(Pulled::Lexeme(Lexed::Word { from: 2, to: 4 })),
+        Some(Pulled::Taken),
+        Some(Pulled::Invalid),
+        Some(Pulled::Lexeme(Lexed::Par)),
+        Some(Pulled::FileOver),
+        Some(Pulled::Nothing),
+    ];
+    assert_eq!(&rt; (ready, over), (true, false));
+    assert_eq!(&rt; told, (wanted, 2, Some(*b"bc")));
+    Ok(())
+}
+
+// A list of these two tokens is put in front.
+fn put_two(input: &mut Input) -> Result<(), Full>
+    requires front { input.old.pending.puts ≡ [] }
+    requires none { input.old.making ≡ None }
+{
+    input.make_list()?;
+    input.grow_made(A)?;
+    input.grow_made(B)?;
+    input.put_made()
+}
+
+// A list of one token is gathered: whether it is empty before and behind that token, and how many words are used.
+fn gather_one(input: &mut Input) -> Result<(bool, bool, u32), Full> {
+    input.begin_list()?;
+    let before = input.is_list_empty();
+    input.grow_list(A)?;
+    let behind = input.is_list_empty();
+    let words = input.lists().used();
+    let (lists, build) = input.list();
+    let some = lists.first_built(build).is_some();
+    input.drop_list();
+    Ok((before, behind && some, words))
+}
+
+#[test]
+fn lists_are_read(rt: HostRuntime) -> Result<(), Fail> {
+    let mut input = Input::new(rt.alloc(), &Sizes::DEFAULT, None)?;
+    let put = put_two(&mut input);
+    let gathered = gather_one(&mut input);
+    let full = input.words();
+    let first = input.pull(&categories());
+    let second = input.pull(&categories());
+    let held = input.words();
+    input.settle();
+    let settled = input.words();
+    let last = input.pull(&categories());
+    input.close();
+    assert_eq!(&rt; put, Ok(()));
+    assert_eq!(&rt; gathered, Ok((true, false, 5)));
+    assert_eq!(&rt; (full, held, settled), (3, 3, 0));
+    assert_eq!(&rt;
+        (first, second),
+        (Ok(Pulled::Token(A)), Ok(Pulled::Token(B)))
+    );
+    assert_eq!(&rt; last, Ok(Pulled::Nothing));
+    Ok(())
+}
+
+// What is answered where the job is these four bytes.
+fn first_reading(rt: &HostRuntime, sizes: &Sizes) -> Result<Result<Pulled, Full>, Fail> {
+    let bytes = b"abc\n".to_vec(rt.alloc())?;
+    let mut input = Input::new(rt.alloc(), sizes, Some(bytes))?;
+    let told = input.pull(&categories());
+    input.close();
+    Ok(told)
+}
+
+#[test]
+fn tables_are_full(rt: HostRuntime) -> Result<(), Fail> {
+    let exact = Sizes {
+        buffer_size: 4,
+        input_stack_size: 1,
+        main_memory_size: 4,
+        ..Sizes::DEFAULT
+    };
+    let line = Sizes {
+        buffer_size: 3,
+        ..exact
+    };
+    let level = Sizes {
+        input_stack_size: 0,
+        ..exact
+    };
+    let mut input = Input::new(rt.alloc(), &exact, None)?;
+    let put = put_two(&mut input);
+    let gathered = gather_one(&mut input);
+    input.close();
+    let full = |table, used, size| Full { table, used, size };
+    assert_eq!(&rt; first_reading(&rt, &exact)?, Ok(Pulled::Taken));
+    assert_eq!(&rt;
+        first_reading(&rt, &line)?,
+        Err(full(Table::BufferSize, 0, 3))
+    );
+    assert_eq!(&rt;
+        first_reading(&rt, &level)?,
+        Err(full(Table::InputStackSize, 0, 0))
+    );
+    assert_eq!(&rt; put, Ok(()));
+    assert_eq!(&rt; gathered, Err(full(Table::MainMemorySize, 4, 4)));
+    Ok(())
+}

@@ -1,0 +1,4 @@
+pub mod Numbers
+pub mod Refusals
+pub mod Changes
+pub mod Firsts

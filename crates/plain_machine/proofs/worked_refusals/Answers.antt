@@ -1,0 +1,30 @@
+use Rattle.std.proofs.Common.{refl}
+use Rattle.std.specs.Fmt.{digits}
+use Rattle.prim_table.specs.Primitives.{primitive_name, primitive_names, command_names, assignment_names, expandable_names, conditional_names, integer_names, dimension_names, glue_names, token_names}
+use Rattle.plain_machine.specs.Rows.{job_fills, full_in}
+use Rattle.plain_state.specs.Categories.{initial_categories}
+use Rattle.plain_state.specs.Lex.{headed, letters, behind_letters, lexed}
+use Rattle.plain_state.specs.Lookup.{number_from}
+use Rattle.plain_machine.proofs.worked_refusals.Goals as goal
+
+pub returns : goal.returns
+unfolding job_fills full_in initial_categories digits headed letters behind_letters lexed number_from primitive_names primitive_name command_names assignment_names expandable_names conditional_names integer_names dimension_names glue_names token_names
+returns c = record {
+  fits = refl;
+  pool = refl;
+  pool_fits = refl;
+  strings = refl;
+  hash = refl;
+  hash_fits = refl;
+  buffer = refl;
+  buffer_fits = refl;
+  file_level = refl;
+  put_level = refl;
+  finished_level = refl;
+  depth = refl;
+  text_list = refl;
+  text_fits = refl;
+  put_list = refl;
+  put_again = refl;
+  finished_list = refl;
+}

@@ -1,0 +1,596 @@
+-- What becomes of what was pulled, and the check where the file has ended.
+use Rattle.std.proofs.Common.{◌≡◌, ℕ, ◌+◌, ◌<◌, List, [], ◌∷◌, ◌++◌, refl, sym, ap, ◌∙◌, subst, Bool, true, false, arith}
+use Rattle.std.specs.Prelude.{Option, Some, None, IsSome, codes}
+use Rattle.std.proofs.lemmas.List.{append-nil}
+use Rattle.tex_defs.specs.declared.Token.{Token}
+use Rattle.tex_defs.specs.declared.Name.{Name}
+use Rattle.tex_defs.specs.declared.Seen.{Seen}
+use Rattle.tex_defs.specs.declared.Sizes.{Sizes}
+use Rattle.tex_defs.specs.declared.Full.{Full}
+use Rattle.tex_defs.specs.declared.Table.TheVariants.{InputStackSize}
+use Rattle.tex_defs.specs.Places.{World, Transcript}
+use Rattle.plain_state.specs.Pending.{Pending, Put as PutList, Progress, NotBegun, Begun as BegunFile, Closed, Pulled, TokenFrom, LexemeFrom, LineTaken, InvalidMet, FileOver, NothingLeft, settled, settled_top, settle, pulled, after_pull, taken_line, from_front, from_list, from_line, from_file}
+use Rattle.plain_state.specs.Lex.{Lexeme, WordName, ParName, Lexed, Gives, Invalid, UsedUp, lexed}
+use Rattle.plain_state.specs.Lookup.{number_of, token_of, joins, new_among, new_name}
+use Rattle.plain_state.specs.Names.{seen}
+use Rattle.plain_state.specs.Readings as reading
+use Rattle.plain_state.specs.Readings.{so_far}
+use Rattle.plain_state.specs.Reports as reports
+use Rattle.plain_state.specs.Reports.{runaway_bytes}
+use Rattle.plain_state.specs.States as machine
+use Rattle.plain_state.specs.States.{State, Reading, Move, Handed, Taken, Settled, Skipped, FileClosed, Entered, Written, made}
+use Rattle.plain_state.specs.Tables.{Demand, put_levels, file_levels, file_level, buffer, next_line, refused, refusal, new_name as name_demands}
+use Rattle.plain_machine.specs.Plan.{Page, handed, entered, without_file, checked, checked_reading, page_behind, put_one, reported, right_brace}
+use Rattle.plain_machine.specs.Runs.{steps}
+use Rattle.plain_machine.specs.Does.{Did}
+use Rattle.plain_machine.proofs.Doing.{did_join, did_one, wrote_none}
+use Rattle.plain_machine.proofs.Settling.{pulled_settled}
+use Rattle.plain_machine.proofs.Silent.{Lighter, lighter}
+use Rattle.world_io.specs.Told.{FilesTold, SinkTold, world}
+use Rattle.name_table.specs.Strings.{Strings}
+use Rattle.input_state.specs.Stored.{Stored}
+use Rattle.input_state.specs.Reads.{Pulls, ReadsLexeme}
+use Rattle.input_state.specs.declared.answer.Pulled as answers
+use Rattle.input_state.specs.declared.answer.Pulled.TheVariants as answer
+use Rattle.line_lexer.specs.declared.Lexed as answered
+use Rattle.frames.specs.Sees.{first_list}
+use Rattle.frames.specs.Resumes.{frame_kind, frame_list, waiting_kind, IsNoText, Owns}
+use Rattle.frames.specs.Weights.{ask_weight}
+use Rattle.frames.specs.declared.scan.Ask.{Ask}
+use Rattle.frames.specs.declared.scan.Ask.TheVariants.{More}
+use Rattle.frames.specs.declared.scan.Want.{Want as ScanWant}
+use Rattle.frames.specs.declared.scan.Want.TheVariants as asks
+use Rattle.frames.specs.declared.frame.Frame.{Frame}
+use Rattle.frames.specs.declared.frame.Frame.TheVariants as frame
+use Rattle.frames.specs.declared.frame.Waiting.{Waiting}
+use Rattle.frames.specs.declared.frame.Waiting.TheVariants as waiting
+use Rattle.tex_program.specs.declared.broken.Broken.{Broken}
+use Rattle.tex_program.specs.declared.broken.Broken.TheVariants as broken
+use Rattle.tex_program.specs.declared.engine.Engine.{Engine}
+use Rattle.tex_program.specs.declared.engine.Ruled.{Ruled}
+use Rattle.tex_program.specs.declared.engine.Ruled.TheVariants.{Step, Free, Halted}
+use Rattle.tex_program.specs.declared.reactions.Outcome.{Outcome}
+use Rattle.tex_program.specs.declared.reactions.Last.TheVariants as last
+use Rattle.tex_program.specs.Begins.{away_moves, last_moves}
+use Rattle.tex_program.specs.Steps.{IsFree, StepsIf, freed, pending_weight, weight}
+use Rattle.tex_program.specs.Entering.{joined, EntryFits, EntryRefused}
+use Rattle.tex_program.specs.Stands.{Counts, IsSized, Stands, WorkStands, FrameStands, SameFrames, OnlyColumn, state_of, page_of, frames}
+use Rattle.tex_program.specs.Rules.{world_of, onward_of, enters_of, name_moves, Takes, Wants, Cuts, Went, DoesRule, DoesOnward, away_text}
+use Rattle.tex_program.proofs.Cutting.{cuts_by, later_cuts, full_cuts}
+use Rattle.tex_program.proofs.Reporting.{sized_still}
+use Rattle.tex_program.proofs.Joining.{IsQuiet, quiet_here, went_by, onward_by, onward_join, step_join, free_rule, none_rule}
+
+-- AN ENGINE THAT HAS WRITTEN
+
+pub column_frames : (e e' : Engine) → OnlyColumn e e' → SameFrames e e'
+column_frames e e' only = record { outer = only.outer; top = only.top; ask = only.ask; lists = ap (λ (x : Stored). x.gathered) only.input }
+
+pub column_sized : (sizes : Sizes) (e e' : Engine) → OnlyColumn e e' → IsSized sizes e → IsSized sizes e'
+column_sized sizes e e' only h = sized_still sizes e e' only.sizes only.outer (ap (λ (x : Stored). x.sizes) only.input) only.names only.reports h
+
+pub same_frames : (e e' : Engine) → SameFrames e e' → frames e' ≡ frames e
+same_frames e e' h = rw (h.outer, h.top) refl
+
+pub counts_still : (sizes : Sizes) (e e' : Engine) (work : List Reading) → SameFrames e e' → IsSized sizes e' → Counts sizes e work → Counts sizes e' work
+counts_still sizes e e' work same sized h = record { sized = sized; lists = h.lists ∙ sym same.lists; depth = h.depth ∙ sym (same_frames e e' same) }
+
+-- A TEXT THAT RUNS AWAY: it is shown, a brace inserted, and the report comes
+
+module _ (sizes : Sizes) (e e1 e2 : Engine) (f : FilesTold) (s0 s1 : SinkTold) (text : List ℕ) (report : reports.Report) (work : List Reading) (only : OnlyColumn e e1) (page : page_of e2 ≡ page_of e1)
+    (shown : Did sizes (state_of e work) (state_of e1 work) (world_of f s0 e) (world_of f s1 e1) (Written Transcript text ∷ [])) where
+  away_page : page_of e2 ≡ page_behind (page_of e) text
+  away_page =
+      let column : e1.in_line ≡ machine.in_line_after e.in_line text = shown.written.column in
+      let number : e1.input.pending.number ≡ e.input.pending.number = ap (λ (i : Stored). i.pending.number) only.input in
+      let names : e1.names.names ≡ e.names.names = ap (λ (x : Strings). x.names) only.names in
+      page ∙ cc (column, number, names, only.reports, only.quiet)
+
+  column : e2.in_line ≡ e1.in_line
+  column = ap (λ (p : Page). p.in_line) page
+
+  -- the brace has no room
+  pub away_full : (b : Broken) → ((more : List Move) → Cuts sizes (state_of e1 work) e2 work (world_of f s1 e1) (world_of f s1 e1) (put_one right_brace ++ more) b) →
+      Cuts sizes (state_of e work) e2 work (world_of f s0 e) (world_of f s1 e2) (away_moves (page_of e) text report) b
+  away_full b h =
+      subst (λ (x : Bool). Cuts sizes (state_of e work) e2 work (world_of f s0 e) (world f s1 x) (away_moves (page_of e) text report) b) (sym column)
+      (later_cuts sizes _ (state_of e1 work) e2 work (world_of f s0 e) (world_of f s1 e1) (world_of f s1 e1) (Written Transcript text ∷ []) (put_one right_brace ++ reported (page_behind (page_of e) text) report []) b shown
+      (h (reported (page_behind (page_of e) text) report [])))
+
+  module _ (s3 : SinkTold) (e3 : Engine) (put : (w : World) → Did sizes (state_of e1 work) (state_of e2 work) w w (put_one right_brace)) where
+    both : Did sizes (state_of e work) (state_of e2 work) (world_of f s0 e) (world_of f s1 e2) (Written Transcript text ∷ put_one right_brace)
+    both = subst (λ (x : Bool). Did sizes (state_of e work) (state_of e2 work) (world_of f s0 e) (world f s1 x) (Written Transcript text ∷ put_one right_brace)) (sym column)
+        (did_join sizes _ _ _ _ _ _ (Written Transcript text ∷ []) (put_one right_brace) shown (put (world_of f s1 e1)))
+
+    pub away_rule : (ruled : Ruled) → DoesOnward sizes (state_of e2 work) e3 (world_of f s1 e2) (world_of f s3 e3) (reported (page_of e2) report []) ruled →
+        DoesOnward sizes (state_of e work) e3 (world_of f s0 e) (world_of f s3 e3) (away_moves (page_of e) text report) ruled
+    away_rule ruled on =
+        onward_join sizes (state_of e work) (state_of e2 work) e3 (world_of f s0 e) (world_of f s1 e2) (world_of f s3 e3) (Written Transcript text ∷ put_one right_brace) (reported (page_behind (page_of e) text) report []) ruled both refl
+        (subst (λ (p : Page). DoesOnward sizes (state_of e2 work) e3 (world_of f s1 e2) (world_of f s3 e3) (reported p report []) ruled) away_page on)
+
+    pub away_cuts : (b : Broken) → Cuts sizes (state_of e2 work) e3 work (world_of f s1 e2) (world_of f s3 e3) (reported (page_of e2) report []) b →
+        Cuts sizes (state_of e work) e3 work (world_of f s0 e) (world_of f s3 e3) (away_moves (page_of e) text report) b
+    away_cuts b h =
+        later_cuts sizes (state_of e work) (state_of e2 work) e3 work (world_of f s0 e) (world_of f s1 e2) (world_of f s3 e3) (Written Transcript text ∷ put_one right_brace) (reported (page_behind (page_of e) text) report []) b both
+        (subst (λ (p : Page). Cuts sizes (state_of e2 work) e3 work (world_of f s1 e2) (world_of f s3 e3) (reported p report []) b) away_page h)
+
+-- THE CHECK
+
+pub wants_stands : (sizes : Sizes) (e : Engine) (work : List Reading) → Wants sizes e work → Stands sizes e work
+wants_stands sizes e work t = by_want t.0 t.1 where
+  by_want : (want : Option ScanWant) → Takes sizes want e work → Stands sizes e work
+  by_want None h = h.1
+  by_want (Some want) h = h.1
+
+pub takes_stands : (sizes : Sizes) (want : Option ScanWant) (e : Engine) (work : List Reading) → Takes sizes want e work → Stands sizes e work
+takes_stands sizes None e work h = h.1
+takes_stands sizes (Some want) e work h = h.1
+
+-- the list of a text is the one that its reading holds
+owned_waiting : (w : Waiting) (lists : List (List Token)) (name : Name) → waiting_kind w ≡ reading.Text name → frame_list (frame.Waits w) lists [] ≡ first_list lists
+owned_waiting (waiting.Catcode scan) lists name is = cc
+owned_waiting (waiting.Message command) lists name is = cc
+
+owned : (g : Frame) (lists : List (List Token)) (name : Name) → frame_kind g ≡ reading.Text name → Owns g lists → frame_list g lists [] ≡ first_list lists
+owned (frame.Waits w) lists name is h = owned_waiting w lists name is
+owned (frame.Integer scan) lists name is h = cc
+owned (frame.Text command scan) lists name is h = sym (ap first_list h)
+
+-- the moves of a text that runs away
+away_is : (categories : List ℕ) (page : Page) (r : Reading) (rs : List Reading) (name : Name) (list : List Token) → r.kind ≡ reading.Text name → so_far r.kind r.fed ≡ list →
+    checked categories page (r ∷ rs) ≡ away_moves page (runaway_bytes categories page.names page.in_line list) (reports.FileEndedInText name)
+away_is categories page r rs name list k l =
+    ap (checked_reading categories page r) k
+    ∙ ap (λ (x : List Token). away_moves page (runaway_bytes categories page.names page.in_line x) (reports.FileEndedInText name)) l
+
+no_text : (categories : List ℕ) (page : Page) (r : Reading) (k : reading.Kind) → IsNoText k → checked_reading categories page r k ≡ []
+no_text categories page r (reading.Text name) h = absurd h
+no_text categories page r reading.Catcode h = refl
+no_text categories page r (reading.Message name) h = refl
+no_text categories page r reading.Integer h = refl
+
+module _ (sizes : Sizes) (e : Engine) (work : List Reading) where
+  away_at : (t : Option Frame) (rs : List Reading) (name : Name) (want : ScanWant) → IsSome t → ((g : Frame) → t ≡ Some g → frame_kind g ≡ reading.Text name) → WorkStands (More want) t e.outer.items e.input.gathered rs →
+      checked e.categories (page_of e) rs ≡ away_moves (page_of e) (away_text e) (reports.FileEndedInText name)
+  away_at None rs name want some kind st = cc
+  away_at (Some g) [] name want some kind st = absurd st
+  away_at (Some g) (r ∷ rs) name want some kind st =
+      let below : FrameStands g e.input.gathered r = st.0.open_frame tt in
+      let list : so_far r.kind r.fed ≡ first_list e.input.gathered = ap (so_far r.kind) (sym (append-nil r.fed)) ∙ below.list [] ∙ owned g e.input.gathered name (kind g refl) below.owns in
+      away_is e.categories (page_of e) r rs name (first_list e.input.gathered) (below.kind ∙ kind g refl) list
+
+  -- a text runs away
+  pub runs_away : (name : Name) → IsSome e.top → ((g : Frame) → e.top ≡ Some g → frame_kind g ≡ reading.Text name) → Wants sizes e work →
+      checked e.categories (page_of e) work ≡ away_moves (page_of e) (away_text e) (reports.FileEndedInText name)
+  runs_away name some kind t = by_want t.0 t.1 where
+    by_want : (want : Option ScanWant) → Takes sizes want e work → checked e.categories (page_of e) work ≡ away_moves (page_of e) (away_text e) (reports.FileEndedInText name)
+    by_want None h = let open_top : IsSome {T = Frame} None = subst IsSome h.0 some in cc
+    by_want (Some want) h = away_at e.top work name want some kind (subst (λ (a : Ask). WorkStands a e.top e.outer.items e.input.gathered work) h.0 h.1.readings)
+
+  text_holds : (g : Frame) (lists : List (List Token)) → Owns g lists → lists ≡ [] → IsNoText (frame_kind g)
+  text_holds (frame.Waits (waiting.Catcode scan)) lists h is = tt
+  text_holds (frame.Waits (waiting.Message name)) lists h is = tt
+  text_holds (frame.Integer scan) lists h is = tt
+  text_holds (frame.Text name scan) lists h is = cc
+
+  none_at : (g : Frame) (lists : List (List Token)) → Owns g lists → ((lists ≡ [] → ⊥) → IsNoText (frame_kind g)) → IsNoText (frame_kind g)
+  none_at g [] h free = text_holds g [] h refl
+  none_at g (ts ∷ lists) h free = free (λ (is : ts ∷ lists ≡ []). cc)
+
+  on_at : (t : Option Frame) (rs : List Reading) (want : ScanWant) → ((g : Frame) → t ≡ Some g → (e.input.gathered ≡ [] → ⊥) → IsNoText (frame_kind g)) → WorkStands (More want) t e.outer.items e.input.gathered rs →
+      checked e.categories (page_of e) rs ≡ []
+  on_at None [] want none st = refl
+  on_at None (r ∷ rs) want none st = absurd st
+  on_at (Some g) [] want none st = absurd st
+  on_at (Some g) (r ∷ rs) want none st =
+      let below : FrameStands g e.input.gathered r = st.0.open_frame tt in
+      no_text e.categories (page_of e) r r.kind (subst IsNoText (sym below.kind) (none_at g e.input.gathered below.owns (none g refl)))
+
+  nothing_at : (a : Ask) (t : Option Frame) (rs : List Reading) → t ≡ None → WorkStands a t e.outer.items e.input.gathered rs → checked e.categories (page_of e) rs ≡ []
+  nothing_at a None [] is st = refl
+  nothing_at a None (r ∷ rs) is st = absurd st
+  nothing_at a (Some g) rs is st = cc
+
+  -- or none does
+  pub runs_on : ((g : Frame) → e.top ≡ Some g → (e.input.gathered ≡ [] → ⊥) → IsNoText (frame_kind g)) → Wants sizes e work → checked e.categories (page_of e) work ≡ []
+  runs_on none t = by_want t.0 t.1 where
+    by_want : (want : Option ScanWant) → Takes sizes want e work → checked e.categories (page_of e) work ≡ []
+    by_want None h = nothing_at e.ask e.top work h.0 h.1.readings
+    by_want (Some want) h = on_at e.top work want none (subst (λ (a : Ask). WorkStands a e.top e.outer.items e.input.gathered work) h.0 h.1.readings)
+
+-- other moves, the same
+rule_by : (sizes : Sizes) (s : State) (e' : Engine) (w w' : World) (ms ns : List Move) (ruled : Ruled) → ns ≡ ms → DoesRule sizes s e' w w' ms ruled → DoesRule sizes s e' w w' ns ruled
+rule_by sizes s e' w w' ms ns ruled e h = subst (λ (x : List Move). DoesRule sizes s e' w w' x ruled) (sym e) h
+
+-- NAMES: at most one joins them, and none where the reading enters none
+
+abbrev FewNames : List (List ℕ) → Type 0
+FewNames [] = Unit {0}
+FewNames (n ∷ []) = Unit {0}
+FewNames (n ∷ m ∷ ns) = ⊥
+
+few_joins : (bytes : List ℕ) (o : Option ℕ) → FewNames (joins bytes o)
+few_joins bytes None = tt
+few_joins bytes (Some number) = tt
+
+few_among : (enters : Bool) (names : List (List ℕ)) (bytes : List ℕ) → FewNames (new_among enters names bytes)
+few_among true names bytes = few_joins bytes (number_of names bytes)
+few_among false names bytes = tt
+
+few_names : (enters : Bool) (names : List (List ℕ)) (x : Lexeme) → FewNames (new_name enters names x)
+few_names enters names (WordName bytes) = few_among enters names bytes
+few_names enters names ParName = few_among enters names (codes "par")
+few_names enters names x = tt
+
+none_new : (names : List (List ℕ)) (x : Lexeme) → new_name false names x ≡ []
+none_new names (WordName bytes) = refl
+none_new names ParName = refl
+none_new names x = refl
+
+none_joined : (table after : Strings) (new : List (List ℕ)) → new ≡ [] → after ≡ joined table new → after ≡ table
+none_joined table after new none is = is ∙ ap (joined table) none ∙ ap (λ (names : List (List ℕ)). record table { names = names }) (append-nil table.names)
+
+module _ (sizes : Sizes) (e : Engine) (work : List Reading) where
+  abbrev pub named : Strings → Engine
+  named names = record e { names = names }
+
+  at_names : (names names' : Strings) → names' ≡ names → state_of (named names) work ≡ state_of (named names') work
+  at_names names names' is = ap (λ (n : Strings). state_of (named n) work) (sym is)
+
+  did_entered : (names : Strings) (new : List (List ℕ)) (w : World) → FewNames new → IsSized sizes e → names ≡ joined e.names new → EntryFits e.names new →
+      Did sizes (state_of e work) (state_of (named names) work) w w (entered new)
+  did_entered names [] w few sized is fits = record { state = at_names e.names names (none_joined e.names names [] refl is); fits = tt; written = wrote_none w }
+  did_entered names (n ∷ []) w few sized is fits =
+      did_one sizes (Entered n) _ _ w w (subst (λ (x : Sizes). refused x (name_demands n e.names.names e.names.others) ≡ None) sized.names fits) (at_names (joined e.names (n ∷ [])) names is) (quiet_here (Entered n) w tt)
+  did_entered names (n ∷ m ∷ ns) w few sized is fits = absurd few
+
+  cut_entered : (names : Strings) (new : List (List ℕ)) (w : World) (rest : List Move) (full : Full) → IsSized sizes e → names ≡ e.names → EntryRefused e.names new full →
+      Cuts sizes (state_of e work) (named names) work w w (entered new ++ rest) (broken.Full full)
+  cut_entered names [] w rest full sized same r = absurd r
+  cut_entered names (n ∷ ns) w rest full sized same r =
+      full_cuts sizes (state_of e work) (named names) work w (Entered n) rest full (broken.Full full) refl
+      (subst (λ (x : Sizes). refused x (name_demands n e.names.names e.names.others) ≡ Some full) sized.names r) (at_names e.names names same)
+
+  entered_none : (new : List (List ℕ)) → steps (entered new) ≡ 0
+  entered_none [] = refl
+  entered_none (n ∷ ns) = refl
+
+  module _ (want : Option ScanWant) (x : Lexeme) (names : Strings) (t : Token) (is : t ≡ token_of (enters_of want) e.names.names x) where
+    abbrev new : List (List ℕ)
+    new = new_name (enters_of want) e.names.names x
+
+    -- what becomes of it doesn't hang on the name that joins the others
+    page_still : enters_of want ≡ false → names ≡ joined e.names new → page_of (named names) ≡ page_of e
+    page_still none after =
+        let empty : new ≡ [] = subst (λ (b : Bool). new_name b e.names.names x ≡ []) (sym none) (none_new e.names.names x) in
+        ap (λ (n : Strings). page_of (named n)) (none_joined e.names names new empty after)
+
+    onward_now : names ≡ joined e.names new → onward_of (page_of e) want (seen (token_of (enters_of want) e.names.names x)) ≡ onward_of (page_of (named names)) want (seen t)
+    onward_now after = ap (λ (y : Token). onward_of (page_of e) want (seen y)) (sym is) ∙ by_want want (λ none. page_still none after) where
+      by_page : (w : Option ScanWant) → page_of (named names) ≡ page_of e → onward_of (page_of e) w (seen t) ≡ onward_of (page_of (named names)) w (seen t)
+      by_page w same = ap (λ (p : Page). onward_of p w (seen t)) (sym same)
+
+      by_want : (w : Option ScanWant) → (enters_of w ≡ false → page_of (named names) ≡ page_of e) → onward_of (page_of e) w (seen t) ≡ onward_of (page_of (named names)) w (seen t)
+      by_want None h = by_page None (h refl)
+      by_want (Some asks.Raw) h = refl
+      by_want (Some asks.Expanded) h = by_page (Some asks.Expanded) (h refl)
+      by_want (Some asks.Nonblank) h = by_page (Some asks.Nonblank) (h refl)
+
+    stands_named : names ≡ joined e.names new → Stands sizes e work → Stands sizes (named names) work
+    stands_named after st = record {
+      sized = record { few_reports = st.sized.few_reports; small = st.sized.small; own = st.sized.own; outer = st.sized.outer; input = st.sized.input; names = ap (λ (n : Strings). n.sizes) after ∙ st.sized.names };
+      idle = st.idle;
+      readings = st.readings;
+    }
+
+    takes_at : (w : Option ScanWant) → Takes sizes w e work → Stands sizes (named names) work → Takes sizes w (named names) work
+    takes_at None h st = (h.0, st)
+    takes_at (Some w) h st = (h.0, st)
+
+    pub takes_named : names ≡ joined e.names new → Takes sizes want e work → Takes sizes want (named names) work
+    takes_named after h = takes_at want h (stands_named after (takes_stands sizes want e work h))
+
+    pub name_rule : (e2 : Engine) (w w' : World) (ruled : Ruled) → names ≡ joined e.names new → EntryFits e.names new → IsSized sizes e →
+        DoesOnward sizes (state_of (named names) work) e2 w w' (onward_of (page_of (named names)) want (seen t)) ruled → DoesOnward sizes (state_of e work) e2 w w' (name_moves (page_of e) want x) ruled
+    name_rule e2 w w' ruled after fits sized h =
+        onward_join sizes _ (state_of (named names) work) e2 w w w' (entered new) _ ruled (did_entered names new w (few_names (enters_of want) e.names.names x) sized after fits) (entered_none new)
+        (onward_by sizes _ e2 w w' _ _ ruled (onward_now after) h)
+
+    pub name_cuts : (e2 : Engine) (w w' : World) (b : Broken) → names ≡ joined e.names new → EntryFits e.names new → IsSized sizes e →
+        Cuts sizes (state_of (named names) work) e2 work w w' (onward_of (page_of (named names)) want (seen t)) b → Cuts sizes (state_of e work) e2 work w w' (name_moves (page_of e) want x) b
+    name_cuts e2 w w' b after fits sized h =
+        later_cuts sizes _ (state_of (named names) work) e2 work w w w' (entered new) _ b (did_entered names new w (few_names (enters_of want) e.names.names x) sized after fits)
+        (cuts_by sizes _ e2 work w w' _ _ b (onward_now after) h)
+
+  -- the name has no room
+  pub name_full : (want : Option ScanWant) (x : Lexeme) (names : Strings) (w : World) (full : Full) → IsSized sizes e → names ≡ e.names → EntryRefused e.names (new_name (enters_of want) e.names.names x) full →
+      Cuts sizes (state_of e work) (named names) work w w (name_moves (page_of e) want x) (broken.Full full)
+  name_full want x names w full sized same r = cut_entered names (new_name (enters_of want) e.names.names x) w _ full sized same r
+
+-- THE NEXT READING
+
+-- the finished lists in front are at no level
+level_top : (p : PutList) (ts : List Token) (ps : List PutList) → p.left ≡ ts → put_levels (settled ps) ≡ put_levels ps → put_levels (settled_top p ts (settled ps) ps) ≡ put_levels (p ∷ ps)
+level_top p [] ps e h = rw e (omega (arith, h))
+level_top p (t ∷ ts) ps e h = refl
+
+levels_settled : (ps : List PutList) → put_levels (settled ps) ≡ put_levels ps
+levels_settled [] = refl
+levels_settled (p ∷ ps) = level_top p p.left ps refl (levels_settled ps)
+
+level_settled : (p : Pending) (f : Progress) → file_level f (settle p) ≡ file_level f p
+level_settled p NotBegun = ap (λ (n : ℕ). record { table = InputStackSize; used = n + file_levels p.file; need = 1 } ∷ []) (levels_settled p.puts)
+level_settled p BegunFile = refl
+level_settled p Closed = refl
+
+line_settled : (p : Pending) → next_line (settle p) ≡ next_line p
+line_settled p = ap (λ (ds : List Demand). buffer p.rest ∷ ds) (level_settled p p.file)
+
+-- a token, a character or name, or an invalid character leaves the line's number
+abbrev KeepsNumber : Pending → Pulled → Type 0
+KeepsNumber p (TokenFrom t q) = q.number ≡ p.number
+KeepsNumber p (LexemeFrom x q) = q.number ≡ p.number
+KeepsNumber p (InvalidMet q) = q.number ≡ p.number
+KeepsNumber p r = Unit {0}
+
+number_file : (p : Pending) (f : Progress) (bytes : List ℕ) → KeepsNumber p (from_file f p.number bytes)
+number_file p NotBegun bytes = tt
+number_file p BegunFile [] = tt
+number_file p BegunFile (c ∷ cs) = tt
+number_file p Closed bytes = tt
+
+number_line : (p : Pending) (l : Lexed) → KeepsNumber p (from_line p l)
+number_line p (Gives x state line) = refl
+number_line p (Invalid state line) = refl
+number_line p UsedUp = number_file p p.file p.rest
+
+number_list : (categories : List ℕ) (p : Pending) (x : PutList) (ps : List PutList) (ts : List Token) → KeepsNumber p (from_list categories p x ps ts)
+number_list categories p x ps [] = number_line p (lexed categories p.lex p.line)
+number_list categories p x ps (t ∷ ts) = refl
+
+number_kept : (categories : List ℕ) (p : Pending) (ps : List PutList) → KeepsNumber p (from_front categories p ps)
+number_kept categories p [] = number_line p (lexed categories p.lex p.line)
+number_kept categories p (x ∷ ps) = number_list categories p x ps x.left
+
+-- a file that has ended has no line
+abbrev HasNoLine : Pulled → Type 0
+HasNoLine (FileOver q) = q.number ≡ 0
+HasNoLine r = Unit {0}
+
+over_file : (number : ℕ) (f : Progress) (bytes : List ℕ) → HasNoLine (from_file f number bytes)
+over_file number NotBegun bytes = tt
+over_file number BegunFile [] = refl
+over_file number BegunFile (c ∷ cs) = tt
+over_file number Closed bytes = tt
+
+over_line : (p : Pending) (l : Lexed) → HasNoLine (from_line p l)
+over_line p (Gives x state line) = tt
+over_line p (Invalid state line) = tt
+over_line p UsedUp = over_file p.number p.file p.rest
+
+over_list : (categories : List ℕ) (p : Pending) (x : PutList) (ps : List PutList) (ts : List Token) → HasNoLine (from_list categories p x ps ts)
+over_list categories p x ps [] = over_line p (lexed categories p.lex p.line)
+over_list categories p x ps (t ∷ ts) = tt
+
+over_front : (categories : List ℕ) (p : Pending) (ps : List PutList) → HasNoLine (from_front categories p ps)
+over_front categories p [] = over_line p (lexed categories p.lex p.line)
+over_front categories p (x ∷ ps) = over_list categories p x ps x.left
+
+-- where a token is wanted doesn't hang on what is pending
+stands_pending : (sizes : Sizes) (e : Engine) (q : Pending) (bytes : List ℕ) (work : List Reading) → Stands sizes e work → Stands sizes (record e { input = record e.input { pending = q; buffer = bytes } }) work
+stands_pending sizes e q bytes work st = record {
+  sized = record { few_reports = st.sized.few_reports; small = st.sized.small; own = st.sized.own; outer = st.sized.outer; input = st.sized.input; names = st.sized.names };
+  idle = st.idle;
+  readings = st.readings;
+}
+
+takes_pending : (sizes : Sizes) (want : Option ScanWant) (e : Engine) (q : Pending) (bytes : List ℕ) (work : List Reading) → Takes sizes want e work → Takes sizes want (record e { input = record e.input { pending = q; buffer = bytes } }) work
+takes_pending sizes None e q bytes work h = (h.0, stands_pending sizes e q bytes work h.1)
+takes_pending sizes (Some want) e q bytes work h = (h.0, stands_pending sizes e q bytes work h.1)
+
+-- The engine behind a reading from what is pending.
+module _ (e : Engine) (i : Stored) where
+  abbrev pub behind : Engine
+  behind = record e { input = i }
+
+  page_at : i.pending.number ≡ e.input.pending.number → page_of behind ≡ page_of e
+  page_at is = ap (λ (n : ℕ). record { names = e.names.names; in_line = e.in_line; line = n; reports = e.reports; quiet = e.quiet }) is
+
+  pub token_page : (t : Token) → pulled e.categories e.input.pending ≡ TokenFrom t i.pending → page_of behind ≡ page_of e
+  token_page t is = page_at (subst (KeepsNumber e.input.pending) is (number_kept e.categories e.input.pending (settled e.input.pending.puts)))
+
+  pub lexeme_page : (x : Lexeme) → pulled e.categories e.input.pending ≡ LexemeFrom x i.pending → page_of behind ≡ page_of e
+  lexeme_page x is = page_at (subst (KeepsNumber e.input.pending) is (number_kept e.categories e.input.pending (settled e.input.pending.puts)))
+
+  pub invalid_page : pulled e.categories e.input.pending ≡ InvalidMet i.pending → page_of behind ≡ page_of e
+  invalid_page is = page_at (subst (KeepsNumber e.input.pending) is (number_kept e.categories e.input.pending (settled e.input.pending.puts)))
+
+  pub file_gone : pulled e.categories e.input.pending ≡ FileOver i.pending → page_of behind ≡ without_file (page_of e)
+  file_gone is =
+      let number : i.pending.number ≡ 0 = subst HasNoLine is (over_front e.categories e.input.pending (settled e.input.pending.puts)) in
+      ap (λ (n : ℕ). record { names = e.names.names; in_line = e.in_line; line = n; reports = e.reports; quiet = e.quiet }) number
+
+  -- less is pending
+  pub lighter_skip : pulled e.categories e.input.pending ≡ InvalidMet i.pending → pending_weight i.pending < pending_weight e.input.pending
+  lighter_skip is = subst (Lighter e.input.pending) is (lighter e.categories e.input.pending)
+
+  pub lighter_close : pulled e.categories e.input.pending ≡ FileOver i.pending → pending_weight i.pending < pending_weight e.input.pending
+  lighter_close is = subst (Lighter e.input.pending) is (lighter e.categories e.input.pending)
+
+module _ (sizes : Sizes) (e : Engine) (i : Stored) (others : i ≡ record e.input { pending = i.pending; buffer = i.buffer }) where
+  abbrev now : Engine
+  now = record e { input = i }
+
+  pub takes_still : (want : Option ScanWant) (work : List Reading) → Takes sizes want e work → Takes sizes want now work
+  takes_still want work h = subst (λ (x : Stored). Takes sizes want (record e { input = x }) work) (sym others) (takes_pending sizes want e i.pending i.buffer work h)
+
+  same_making : i.making ≡ e.input.making
+  same_making = ap (λ (x : Stored). x.making) others
+
+  module _ (work : List Reading) (w : World) where
+    abbrev at_settled : State
+    at_settled = record (state_of e work) { pending = settle e.input.pending }
+
+    at_behind : (q : Pending) → i.pending ≡ q → record (state_of e work) { pending = q } ≡ state_of now work
+    at_behind q is = ap (λ (x : Pending). record (state_of e work) { pending = x }) (sym is) ∙ ap (λ (m : Option (List Token)). record (state_of now work) { making = m }) (sym same_making)
+
+    did_settled : Did sizes (state_of e work) at_settled w w (Settled ∷ [])
+    did_settled = did_one sizes Settled _ _ w w refl refl (quiet_here Settled w tt)
+
+    -- and then the move that takes what was pulled
+    did_pull : (m : Move) (p : Pulled) → pulled e.categories e.input.pending ≡ p → after_pull (settle e.input.pending) p ≡ i.pending → IsQuiet m → refusal sizes m at_settled ≡ None →
+        made m at_settled ≡ record (state_of e work) { pending = after_pull (settle e.input.pending) (pulled e.categories (settle e.input.pending)) } → Did sizes (state_of e work) (state_of now work) w w (Settled ∷ m ∷ [])
+    did_pull m p is after q fits makes =
+        let next : i.pending ≡ after_pull (settle e.input.pending) (pulled e.categories (settle e.input.pending)) = sym (ap (after_pull (settle e.input.pending)) (pulled_settled e.categories e.input.pending ∙ is) ∙ after) in
+        did_join sizes _ _ _ w w w (Settled ∷ []) (m ∷ []) did_settled (did_one sizes m _ _ w w fits (makes ∙ at_behind _ next) (quiet_here m w q))
+
+    module _ (page : Page) (want : Option ScanWant) (onward : Seen → List Move) (check : List Move) where
+      abbrev plan : List Move
+      plan = handed page (enters_of want) onward check (pulled e.categories e.input.pending)
+
+      -- a token of a list
+      module _ (t : Token) (is : pulled e.categories e.input.pending ≡ TokenFrom t i.pending) where
+        token_plan : plan ≡ Settled ∷ Handed t ∷ onward (seen t)
+        token_plan = rw is refl
+
+        token_did : Did sizes (state_of e work) (state_of now work) w w (Settled ∷ Handed t ∷ [])
+        token_did = did_pull (Handed t) (TokenFrom t i.pending) is refl tt refl refl
+
+        pub token_rule : (w' : World) (e2 : Engine) (ruled : Ruled) → DoesOnward sizes (state_of now work) e2 w w' (onward (seen t)) ruled → DoesRule sizes (state_of e work) e2 w w' plan ruled
+        token_rule w' e2 ruled h = rule_by sizes _ e2 w w' _ _ ruled token_plan (step_join sizes _ (state_of now work) e2 w w w' (Settled ∷ Handed t ∷ []) (onward (seen t)) ruled token_did refl h)
+
+        pub token_cuts : (w' : World) (e2 : Engine) (b : Broken) → Cuts sizes (state_of now work) e2 work w w' (onward (seen t)) b → Cuts sizes (state_of e work) e2 work w w' plan b
+        token_cuts w' e2 b h = cuts_by sizes _ e2 work w w' _ _ b token_plan (later_cuts sizes _ (state_of now work) e2 work w w w' (Settled ∷ Handed t ∷ []) (onward (seen t)) b token_did h)
+
+      -- a character or a name of the line
+      module _ (x : Lexeme) (is : pulled e.categories e.input.pending ≡ LexemeFrom x i.pending) where
+        abbrev handed_token : Token
+        handed_token = token_of (enters_of want) page.names x
+
+        abbrev then_moves : List Move
+        then_moves = entered (new_name (enters_of want) page.names x) ++ onward (seen handed_token)
+
+        lexeme_plan : plan ≡ Settled ∷ Handed handed_token ∷ then_moves
+        lexeme_plan = rw is refl
+
+        lexeme_did : Did sizes (state_of e work) (state_of now work) w w (Settled ∷ Handed handed_token ∷ [])
+        lexeme_did = did_pull (Handed handed_token) (LexemeFrom x i.pending) is refl tt refl refl
+
+        pub lexeme_rule : (w' : World) (e2 : Engine) (ruled : Ruled) → DoesOnward sizes (state_of now work) e2 w w' then_moves ruled → DoesRule sizes (state_of e work) e2 w w' plan ruled
+        lexeme_rule w' e2 ruled h = rule_by sizes _ e2 w w' _ _ ruled lexeme_plan (step_join sizes _ (state_of now work) e2 w w w' (Settled ∷ Handed handed_token ∷ []) then_moves ruled lexeme_did refl h)
+
+        pub lexeme_cuts : (w' : World) (e2 : Engine) (b : Broken) → Cuts sizes (state_of now work) e2 work w w' then_moves b → Cuts sizes (state_of e work) e2 work w w' plan b
+        lexeme_cuts w' e2 b h = cuts_by sizes _ e2 work w w' _ _ b lexeme_plan (later_cuts sizes _ (state_of now work) e2 work w w w' (Settled ∷ Handed handed_token ∷ []) then_moves b lexeme_did h)
+
+      -- a line is taken
+      pub taken_rule : (line : List ℕ) → pulled e.categories e.input.pending ≡ LineTaken line i.pending → refused e.input.sizes (next_line e.input.pending) ≡ None → e.input.sizes ≡ sizes → Stands sizes now work →
+          Went sizes (state_of e work) now w w plan 1
+      taken_rule line is fits sized stands =
+          let plan_is : plan ≡ Settled ∷ Taken line ∷ [] = rw is refl in
+          went_by sizes _ now w w (Settled ∷ Taken line ∷ []) plan 1 plan_is (record {
+            work' = work;
+            stands = stands;
+            did = did_pull (Taken line) (LineTaken line i.pending) is refl tt (line_fits None fits sized) refl;
+            count = refl;
+          }) where
+            line_fits : (o : Option Full) → refused e.input.sizes (next_line e.input.pending) ≡ o → e.input.sizes ≡ sizes → refused sizes (next_line (settle e.input.pending)) ≡ o
+            line_fits o fits sized = ap (refused sizes) (line_settled e.input.pending) ∙ ap (λ (x : Sizes). refused x (next_line e.input.pending)) (sym sized) ∙ fits
+
+      -- it has no room
+      pub line_cuts : (line : List ℕ) (next : Pending) (full : Full) → pulled e.categories e.input.pending ≡ LineTaken line next → refused e.input.sizes (next_line e.input.pending) ≡ Some full → e.input.sizes ≡ sizes →
+          i.pending ≡ settle e.input.pending → Cuts sizes (state_of e work) now work w w plan (broken.Full full)
+      line_cuts line next full is r sized stays =
+          let plan_is : plan ≡ Settled ∷ Taken line ∷ [] = rw is refl in
+          let refuses : refused sizes (next_line (settle e.input.pending)) ≡ Some full = ap (refused sizes) (line_settled e.input.pending) ∙ ap (λ (x : Sizes). refused x (next_line e.input.pending)) (sym sized) ∙ r in
+          cuts_by sizes _ now work w w _ _ (broken.Full full) plan_is (later_cuts sizes _ at_settled now work w w w (Settled ∷ []) (Taken line ∷ []) (broken.Full full) did_settled
+          (full_cuts sizes at_settled now work w (Taken line) [] full (broken.Full full) refl refuses (at_behind _ stays)))
+
+      -- an invalid character is skipped
+      module _ (is : pulled e.categories e.input.pending ≡ InvalidMet i.pending) where
+        skipped_plan : plan ≡ Settled ∷ Skipped ∷ reported page reports.InvalidCharacter []
+        skipped_plan = rw is refl
+
+        skipped_did : Did sizes (state_of e work) (state_of now work) w w (Settled ∷ Skipped ∷ [])
+        skipped_did = did_pull Skipped (InvalidMet i.pending) is refl tt refl refl
+
+        pub skipped_rule : (w' : World) (e2 : Engine) (ruled : Ruled) → DoesOnward sizes (state_of now work) e2 w w' (reported page reports.InvalidCharacter []) ruled → DoesRule sizes (state_of e work) e2 w w' plan (freed ruled)
+        skipped_rule w' e2 ruled h =
+            rule_by sizes _ e2 w w' _ _ (freed ruled) skipped_plan (free_rule sizes _ e2 w w' _ ruled (onward_join sizes _ (state_of now work) e2 w w w' (Settled ∷ Skipped ∷ []) _ ruled skipped_did refl h))
+
+        pub skipped_cuts : (w' : World) (e2 : Engine) (b : Broken) → Cuts sizes (state_of now work) e2 work w w' (reported page reports.InvalidCharacter []) b → Cuts sizes (state_of e work) e2 work w w' plan b
+        skipped_cuts w' e2 b h = cuts_by sizes _ e2 work w w' _ _ b skipped_plan (later_cuts sizes _ (state_of now work) e2 work w w w' (Settled ∷ Skipped ∷ []) _ b skipped_did h)
+
+      -- the file has ended
+      module _ (is : pulled e.categories e.input.pending ≡ FileOver i.pending) where
+        closed_plan : plan ≡ Settled ∷ FileClosed ∷ check
+        closed_plan = rw is refl
+
+        closed_did : Did sizes (state_of e work) (state_of now work) w w (Settled ∷ FileClosed ∷ [])
+        closed_did = did_pull FileClosed (FileOver i.pending) is refl tt refl refl
+
+        pub closed_rule : (w' : World) (e2 : Engine) (ruled : Ruled) → DoesOnward sizes (state_of now work) e2 w w' check ruled → DoesRule sizes (state_of e work) e2 w w' plan (freed ruled)
+        closed_rule w' e2 ruled h =
+            rule_by sizes _ e2 w w' _ _ (freed ruled) closed_plan (free_rule sizes _ e2 w w' _ ruled (onward_join sizes _ (state_of now work) e2 w w w' (Settled ∷ FileClosed ∷ []) check ruled closed_did refl h))
+
+        pub closed_cuts : (w' : World) (e2 : Engine) (b : Broken) → Cuts sizes (state_of now work) e2 work w w' check b → Cuts sizes (state_of e work) e2 work w w' plan b
+        closed_cuts w' e2 b h = cuts_by sizes _ e2 work w w' _ _ b closed_plan (later_cuts sizes _ (state_of now work) e2 work w w w' (Settled ∷ FileClosed ∷ []) check b closed_did h)
+
+      -- nothing is left
+      module _ (is : pulled e.categories e.input.pending ≡ NothingLeft) (stays : i.pending ≡ settle e.input.pending) where
+        nothing_plan : plan ≡ Settled ∷ last_moves page.in_line last.NoEnd
+        nothing_plan = rw is refl
+
+        nothing_did : Did sizes (state_of e work) (state_of now work) w w (Settled ∷ [])
+        nothing_did = did_one sizes Settled _ _ w w refl (at_behind _ stays) (quiet_here Settled w tt)
+
+        pub no_end_rule : (w' : World) (e2 : Engine) (ruled : Ruled) (o : Outcome) → ruled ≡ Halted o → DoesOnward sizes (state_of now work) e2 w w' (last_moves page.in_line last.NoEnd) ruled → DoesRule sizes (state_of e work) e2 w w' plan ruled
+        no_end_rule w' e2 ruled o ends h =
+            let all : DoesOnward sizes (state_of e work) e2 w w' (Settled ∷ last_moves page.in_line last.NoEnd) ruled = onward_join sizes _ (state_of now work) e2 w w w' (Settled ∷ []) (last_moves page.in_line last.NoEnd) ruled nothing_did refl h in
+            rule_by sizes _ e2 w w' _ _ ruled nothing_plan (none_rule sizes _ e2 w w' _ ruled (λ (free : IsFree ruled). subst IsFree ends free) (λ (step : ruled ≡ Step). absurd (cc (sym step ∙ ends))) all)
+
+        pub no_end_cuts : (w' : World) (e2 : Engine) (b : Broken) → Cuts sizes (state_of now work) e2 work w w' (last_moves page.in_line last.NoEnd) b → Cuts sizes (state_of e work) e2 work w w' plan b
+        no_end_cuts w' e2 b h = cuts_by sizes _ e2 work w w' _ _ b nothing_plan (later_cuts sizes _ (state_of now work) e2 work w w w' (Settled ∷ []) (last_moves page.in_line last.NoEnd) b nothing_did h)
+
+-- WHAT WAS PULLED, by the answer
+
+module _ (p : Pulled) (a : answers.Pulled) (old new : Stored) (h : Pulls p a old new) where
+  pub token_at : (t : Token) → a ≡ answer.Token t → p ≡ TokenFrom t new.pending
+  token_at t is = subst (λ (x : answers.Pulled). Pulls p x old new) is h
+
+  pub lexeme_at : (l : answered.Lexed) → a ≡ answer.Lexeme l → ReadsLexeme p l new.pending new.buffer
+  lexeme_at l is = subst (λ (x : answers.Pulled). Pulls p x old new) is h
+
+  pub taken_at : a ≡ answer.Taken → (p ≡ LineTaken (taken_line old.pending.rest) new.pending) × (refused old.sizes (next_line old.pending) ≡ None)
+  taken_at is = subst (λ (x : answers.Pulled). Pulls p x old new) is h
+
+  pub invalid_at : a ≡ answer.Invalid → p ≡ InvalidMet new.pending
+  invalid_at is = subst (λ (x : answers.Pulled). Pulls p x old new) is h
+
+  pub over_at : a ≡ answer.FileOver → p ≡ FileOver new.pending
+  over_at is = subst (λ (x : answers.Pulled). Pulls p x old new) is h
+
+  pub nothing_left : a ≡ answer.Nothing → (p ≡ NothingLeft) × (new.pending ≡ settle old.pending)
+  nothing_left is = subst (λ (x : answers.Pulled). Pulls p x old new) is h
+
+-- WHAT A RULE ANSWERS
+
+pub rule_as : (sizes : Sizes) (s : State) (e' : Engine) (w w' : World) (ms : List Move) (r q : Ruled) → q ≡ r → DoesRule sizes s e' w w' ms r → DoesRule sizes s e' w w' ms q
+rule_as sizes s e' w w' ms r q is h = subst (λ (x : Ruled). DoesRule sizes s e' w w' ms x) (sym is) h
+
+pub lighter_after : (e e' : Engine) → SameFrames e e' → pending_weight e'.input.pending < pending_weight e.input.pending → weight e' < weight e
+lighter_after e e' h less = let asked : ask_weight e'.ask ≡ ask_weight e.ask = ap ask_weight h.ask in omega (arith, same_frames e e' h, asked, less)
+
+pub not_free : (r : Ruled) (o : Outcome) → r ≡ Halted o → IsFree r → ⊥
+not_free r o is h = subst IsFree is h
+
+pub steps_handed : (r : Ruled) (b : Bool) → (IsFree r → ⊥) → b ≡ true → StepsIf r b
+steps_handed Step b f h = h
+steps_handed Free b f h = absurd (f tt)
+steps_handed (Halted o) b f h = tt
+
+pub steps_freed : (r : Ruled) (b : Bool) → (IsFree r → ⊥) → b ≡ false → StepsIf (freed r) b
+steps_freed Step b f h = h
+steps_freed Free b f h = absurd (f tt)
+steps_freed (Halted o) b f h = tt
+
+pub steps_halted : (r : Ruled) (o : Outcome) (b : Bool) → r ≡ Halted o → StepsIf r b
+steps_halted r o b is = subst (λ (x : Ruled). StepsIf x b) (sym is) tt

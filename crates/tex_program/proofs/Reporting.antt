@@ -1,0 +1,330 @@
+-- Texts, reports and ends that the engine writes.
+use Rattle.std.proofs.Common.{◌≡◌, ℕ, ◌+◌, List, [], ◌∷◌, ◌++◌, refl, sym, ap, ◌∙◌, subst, Bool, true, false, reverse, arith}
+use Rattle.std.specs.Prelude.{Option, Some, None, Result, Ok, Err, IfErr, IsErrAnd, nat_lt, if◌then◌else◌}
+use Rattle.tex_defs.specs.declared.Sizes.{Sizes}
+use Rattle.tex_defs.specs.declared.Token.{Token}
+use Rattle.tex_defs.specs.declared.Meaning.{Meaning}
+use Rattle.tex_defs.specs.declared.Full.{Full}
+use Rattle.tex_defs.specs.declared.Fatal.{Fatal}
+use Rattle.tex_defs.specs.declared.Fatal.TheVariants as fatal
+use Rattle.prim_table.specs.Primitives.{primitive_names}
+use Rattle.tex_defs.specs.Places.{World, Transcript}
+use Rattle.plain_state.specs.Readings as reading
+use Rattle.plain_state.specs.Readings.{Val}
+use Rattle.plain_state.specs.Reports as reports
+use Rattle.plain_state.specs.Reports.{report_bytes, hundred_line, token_line_bytes}
+use Rattle.plain_state.specs.States as machine
+use Rattle.plain_state.specs.States.{State, Reading, Move, Written, Ended, Reported, Stopped, AtFatal, made, fed_with}
+use Rattle.plain_state.specs.Tables.{refusal}
+use Rattle.plain_machine.specs.Plan.{Page, reported, reports_room, token_line, no_file, effect}
+use Rattle.plain_machine.specs.Runs.{Wrote, steps, step_of}
+use Rattle.plain_machine.specs.Does.{Did}
+use Rattle.plain_machine.proofs.Doing.{did_join, did_one, wrote_join}
+use Rattle.plain_machine.proofs.Joins.{steps_join}
+use Rattle.world_io.specs.Told.{FilesTold, SinkTold, world}
+use Rattle.world_io.specs.declared.traits.Fault.{Fault}
+use Rattle.transcript.specs.Taken.{Took, TookFront}
+use Rattle.transcript.specs.Initial.{names_of}
+use Rattle.cs_hash.specs.Names.{Names, entered}
+use Rattle.string_pool.specs.Pool.{Pool}
+use Rattle.token_show.specs.declared.view.View.{View}
+use Rattle.token_lists.specs.Table.{Entry, tokens_at}
+use Rattle.input_state.specs.HeldLists.{first_list as first_held}
+use Rattle.frames.specs.Sees.{first_list}
+use Rattle.frames.specs.declared.scan.Ask.{Ask}
+use Rattle.frames.specs.declared.scan.Want.{Want as ScanWant}
+use Rattle.frames.specs.declared.frame.Frame.{Frame}
+use Rattle.frames.specs.declared.frame.Waiting.{Waiting}
+use Rattle.tex_program.specs.declared.broken.Broken.{Broken}
+use Rattle.tex_program.specs.declared.engine.Engine.{Engine}
+use Rattle.tex_program.specs.declared.broken.Broken.TheVariants as broken
+use Rattle.tex_program.specs.declared.reactions.Onward.{Onward}
+use Rattle.tex_program.specs.declared.reactions.Onward.TheVariants as onward
+use Rattle.tex_program.specs.declared.reactions.Last.{Last}
+use Rattle.tex_program.specs.declared.reactions.Last.TheVariants as last
+use Rattle.tex_program.specs.Faults.{broken_by}
+use Rattle.tex_program.specs.Begins.{outcome_of, outcome_of_last, last_moves, last_bytes, IsNoFeed, IsNoBegin}
+use Rattle.tex_program.specs.Stands.{Stands, WorkStands, Waits, WaitStands, EndsHere, OuterStand, AtMostOne, IsSized, SameFrames, SameState, OnlyColumn, state_of, page_of}
+use Rattle.tex_program.specs.Rules.{world_of, Takes, FitsOnward, Cuts, CountsReports, Went, Halts, Reports}
+use Rattle.tex_program.proofs.Cutting.{cuts_by, full_cuts, later_cuts, did_out, cut_out}
+use Rattle.tex_program.proofs.Joining.{IsQuiet, quiet_here, quiet_wrote, halts_on}
+
+-- WRITES
+
+-- the names of a view
+pub names_is : (v : View) (hash : Names) (pool : Pool) (names : List (List ℕ)) → v.hash.now ≡ hash → v.pool.now ≡ pool → entered hash pool.kept ≡ names → names_of v ≡ names
+names_is v hash pool names h p n = rw (h, p) n
+
+-- and its category codes
+pub shown_is : (text : List ℕ → List (List ℕ) → List Token → List ℕ) (v : View) (categories : List ℕ) (names : List (List ℕ)) (ts us : List Token) →
+    v.categories.now ≡ categories → names_of v ≡ names → ts ≡ us → text v.categories.now (names_of v) ts ≡ text categories names us
+shown_is text v categories names ts us c n t = cc
+
+first_same : (lists : List (List Token)) → first_held lists ≡ first_list lists
+first_same [] = refl
+first_same (ts ∷ lists) = refl
+
+-- the list that the innermost reading holds
+pub list_is : (table held : List (Option Entry)) (id : ℕ) (lists : List (List Token)) → table ≡ held → tokens_at held id ≡ first_held lists → tokens_at table id ≡ first_list lists
+list_is table held id lists t h = ap (λ (x : List (Option Entry)). tokens_at x id) t ∙ (h ∙ first_same lists)
+
+module _ (s s' : SinkTold) (e : Engine) (b' : Bool) (text shown : List ℕ) (is : shown ≡ text) where
+  only_column : OnlyColumn e (record e { in_line = b' })
+  only_column = record { outer = refl; top = refl; ask = refl; input = refl; names = refl; categories = refl; reports = refl; quiet = refl; sizes = refl }
+
+  -- what was taken, in other words
+  pub took_out : Took s s' e.in_line b' shown → (sizes : Sizes) (f : FilesTold) (work : List Reading) →
+      Did sizes (state_of e work) (state_of (record e { in_line = b' }) work) (world_of f s e) (world f s' b') (Written Transcript text ∷ [])
+  took_out h sizes f work = did_out sizes f s s' e (record e { in_line = b' }) work only_column text (subst (λ (bs : List ℕ). Took s s' e.in_line b' bs) is h)
+
+  -- and before a fault
+  pub err_out : {T : Type 0} → (r : Result T Broken) (fault : Fault) → IsErrAnd r (λ b. b ≡ broken_by fault) → TookFront s s' e.in_line b' shown fault →
+      IfErr r (λ b. (sizes : Sizes) (f : FilesTold) (work : List Reading) (more : List Move) →
+      Cuts sizes (state_of e work) (record e { in_line = b' }) work (world_of f s e) (world f s' b') (Written Transcript text ∷ more) b)
+  err_out (Ok x) fault h front = tt
+  err_out (Err b) fault h front = λ sizes f work more.
+      cut_out sizes f s s' e (record e { in_line = b' }) work only_column b fault text more h (subst (λ (bs : List ℕ). TookFront s s' e.in_line b' bs fault) is front)
+
+-- a token line that is written
+pub loud : (page : Page) (m : Meaning Unit) → page.quiet ≡ false → token_line page m ≡ Written Transcript (token_line_bytes page.names page.in_line m) ∷ []
+loud page m e = rw e refl
+
+-- and that is cut off
+pub loud_cuts : {T : Type 0} → (r : Result T Broken) (s s' : SinkTold) (e e' : Engine) (m : Meaning Unit) → e.quiet ≡ false →
+    IfErr r (λ b. (sizes : Sizes) (f : FilesTold) (work : List Reading) (more : List Move) →
+    Cuts sizes (state_of e work) e' work (world_of f s e) (world_of f s' e') (Written Transcript (token_line_bytes e.names.names e.in_line m) ∷ more) b) →
+    IfErr r (λ b. (sizes : Sizes) (f : FilesTold) (work : List Reading) → Cuts sizes (state_of e work) e' work (world_of f s e) (world_of f s' e') (token_line (page_of e) m) b)
+loud_cuts (Ok x) s s' e e' m q h = tt
+loud_cuts (Err b) s s' e e' m q h = λ sizes f work. cuts_by sizes _ e' work _ _ _ _ b (loud (page_of e) m q) (h sizes f work [])
+
+-- REPORTS
+
+abbrev no_file_lines : List ℕ
+no_file_lines = reports.emergency ++ reports.no_file_line
+
+abbrev first_text : Page → reports.Report → List ℕ
+first_text page report = report_bytes page.names page.in_line page.line report
+
+report_on : (page : Page) (report : reports.Report) (rest : List Move) → nat_lt page.reports reports_room ≡ true →
+    reported page report rest ≡ Written Transcript (first_text page report) ∷ Reported ∷ rest
+report_on page report rest e = rw e refl
+
+report_last : (page : Page) (report : reports.Report) (rest : List Move) → nat_lt page.reports reports_room ≡ false →
+    reported page report rest ≡ Written Transcript (first_text page report) ∷ Reported ∷ Written Transcript hundred_line ∷ Stopped (AtFatal fatal.HundredErrors) ∷ []
+report_last page report rest e = rw e refl
+
+-- the machine stops behind its last text
+stops : (sizes : Sizes) (s : State) (e' : Engine) (w w' : World) (bs : List ℕ) (o : machine.Outcome) → s.due ≡ [] → CountsReports o s e' → Wrote w w' (Written Transcript bs ∷ []) →
+    Halts sizes s e' w w' (Written Transcript bs ∷ Stopped o ∷ []) o 0
+stops sizes s e' w w' bs o due counts wrote = record {
+  t = made (Stopped o) (made (Written Transcript bs) s);
+  did = record { state = refl; fits = (refl, (refl, tt)); written = wrote_join w w' w' (Written Transcript bs ∷ []) (Stopped o ∷ []) wrote (quiet_here (Stopped o) w' tt) };
+  stopped = refl;
+  due = due;
+  reports = by_outcome o counts;
+  count = omega arith;
+} where
+  by_outcome : (o : machine.Outcome) → CountsReports o s e' → CountsReports o (made (Stopped o) (made (Written Transcript bs) s)) e'
+  by_outcome machine.Finished h = h
+  by_outcome (AtFatal f) h = tt
+
+-- where the machine stops of itself
+pub last_is : (sizes : Sizes) (st t : State) (e' : Engine) (w w' : World) (b : Bool) (l : Last) → st.due ≡ [] → e'.reports ≡ st.reports → Did sizes st t w w' (Written Transcript (last_bytes b l) ∷ []) →
+    Halts sizes st e' w w' (last_moves b l) (outcome_of (outcome_of_last l)) 0
+last_is sizes st t e' w w' b last.End due is d = stops sizes st e' w w' _ _ due (sym is) d.written
+last_is sizes st t e' w w' b last.NoEnd due is d = stops sizes st e' w w' _ _ due tt d.written
+
+pub last_cut : (sizes : Sizes) (s : State) (e' : Engine) (work : List Reading) (w w' : World) (b : Bool) (l : Last) (k : Broken) →
+    ((more : List Move) → Cuts sizes s e' work w w' (Written Transcript (last_bytes b l) ∷ more) k) → Cuts sizes s e' work w w' (last_moves b l) k
+last_cut sizes s e' work w w' b last.End k h = h _
+last_cut sizes s e' work w w' b last.NoEnd k h = h _
+
+-- a report that is counted
+module _ (sizes : Sizes) (s u : State) (w w1 : World) (text : List ℕ) (first : Did sizes s u w w1 (Written Transcript text ∷ [])) where
+  counted_first : Did sizes s (made Reported u) w w1 (Written Transcript text ∷ Reported ∷ [])
+  counted_first = did_join sizes s u (made Reported u) w w1 w1 (Written Transcript text ∷ []) (Reported ∷ []) first (did_one sizes Reported u (made Reported u) w1 w1 refl refl (quiet_here Reported w1 tt))
+
+  -- and behind which the run ends
+  module _ (w2 : World) (line : List ℕ) (f : Fatal) where
+    ends_behind : (e' : Engine) → u.due ≡ [] → Wrote w1 w2 (Written Transcript line ∷ []) → Halts sizes s e' w w2 (Written Transcript text ∷ Reported ∷ Written Transcript line ∷ Stopped (AtFatal f) ∷ []) (AtFatal f) 0
+    ends_behind e' due second =
+        halts_on sizes s (made Reported u) e' w w1 w2 (Written Transcript text ∷ Reported ∷ []) (Written Transcript line ∷ Stopped (AtFatal f) ∷ []) (AtFatal f) 0 0 counted_first refl
+        (stops sizes (made Reported u) e' w1 w2 line (AtFatal f) due tt second)
+
+    -- and its last line is cut off
+    cuts_behind : (v : State) (e' : Engine) (work : List Reading) (b : Broken) → made Reported u ≡ v → ((more : List Move) → Cuts sizes v e' work w1 w2 (Written Transcript line ∷ more) b) →
+        Cuts sizes s e' work w w2 (Written Transcript text ∷ Reported ∷ Written Transcript line ∷ Stopped (AtFatal f) ∷ []) b
+    cuts_behind v e' work b is h =
+        later_cuts sizes s v e' work w w1 w2 (Written Transcript text ∷ Reported ∷ []) (Written Transcript line ∷ Stopped (AtFatal f) ∷ []) b
+        (subst (λ (x : State). Did sizes s x w w1 (Written Transcript text ∷ Reported ∷ [])) is counted_first) (h (Stopped (AtFatal f) ∷ []))
+
+module _ (sizes : Sizes) (page : Page) (report : reports.Report) (rest : List Move) (s u : State) (w w1 : World) (first : Did sizes s u w w1 (Written Transcript (first_text page report) ∷ [])) where
+  pub reports_on : (s' : State) → nat_lt page.reports reports_room ≡ true → made Reported u ≡ s' → Reports sizes s s' w w1 page report rest
+  reports_on s' room is = record {
+    moves = report_on page report rest room;
+    did = subst (λ (x : State). Did sizes s x w w1 (Written Transcript (first_text page report) ∷ Reported ∷ [])) is (counted_first sizes s u w w1 (first_text page report) first);
+  }
+
+  -- the hundredth
+  module _ (w2 : World) (full : nat_lt page.reports reports_room ≡ false) where
+    pub hundredth : (e' : Engine) → u.due ≡ [] → Wrote w1 w2 (Written Transcript hundred_line ∷ []) → Halts sizes s e' w w2 (reported page report rest) (AtFatal fatal.HundredErrors) 0
+    hundredth e' due second =
+        subst (λ (ms : List Move). Halts sizes s e' w w2 ms (AtFatal fatal.HundredErrors) 0) (sym (report_last page report rest full))
+        (ends_behind sizes s u w w1 (first_text page report) first w2 hundred_line fatal.HundredErrors e' due second)
+
+    pub hundred_cuts : (v : State) (e' : Engine) (work : List Reading) (b : Broken) → made Reported u ≡ v → ((more : List Move) → Cuts sizes v e' work w1 w2 (Written Transcript hundred_line ∷ more) b) →
+        Cuts sizes s e' work w w2 (reported page report rest) b
+    hundred_cuts v e' work b is h = cuts_by sizes s e' work w w2 _ _ b (report_last page report rest full) (cuts_behind sizes s u w w1 (first_text page report) first w2 hundred_line fatal.HundredErrors v e' work b is h)
+
+-- a job whose file isn't held
+no_file_is : (file : List ℕ) (names : List (List ℕ)) (b : Bool) → names ≡ primitive_names → b ≡ false →
+    no_file file ≡ Written Transcript (report_bytes names b 0 (reports.NoSuchFile file)) ∷ Reported ∷ Written Transcript no_file_lines ∷ Stopped (AtFatal fatal.NoFile) ∷ []
+no_file_is file names b n c =
+    ap (λ (bs : List ℕ). Written Transcript bs ∷ Reported ∷ Written Transcript no_file_lines ∷ Stopped (AtFatal fatal.NoFile) ∷ [])
+    (ap (λ (x : List (List ℕ)). report_bytes x false 0 (reports.NoSuchFile file)) (sym n) ∙ ap (λ (x : Bool). report_bytes names x 0 (reports.NoSuchFile file)) (sym c))
+
+module _ (sizes : Sizes) (file : List ℕ) (names : List (List ℕ)) (b : Bool) (names_are : names ≡ primitive_names) (column : b ≡ false) (s : State) where
+  -- the first text is cut off
+  pub missing_cuts : (e' : Engine) (work : List Reading) (w w' : World) (k : Broken) → ((more : List Move) → Cuts sizes s e' work w w' (Written Transcript (report_bytes names b 0 (reports.NoSuchFile file)) ∷ more) k) →
+      Cuts sizes s e' work w w' (no_file file) k
+  missing_cuts e' work w w' k h = cuts_by sizes s e' work w w' _ _ k (no_file_is file names b names_are column) (h (Reported ∷ Written Transcript no_file_lines ∷ Stopped (AtFatal fatal.NoFile) ∷ []))
+
+  module _ (u : State) (w w1 w2 : World) (first : Did sizes s u w w1 (Written Transcript (report_bytes names b 0 (reports.NoSuchFile file)) ∷ [])) where
+    pub job_halts : (e' : Engine) → u.due ≡ [] → Wrote w1 w2 (Written Transcript no_file_lines ∷ []) → Halts sizes s e' w w2 (no_file file) (AtFatal fatal.NoFile) 0
+    job_halts e' due second =
+        subst (λ (ms : List Move). Halts sizes s e' w w2 ms (AtFatal fatal.NoFile) 0) (sym (no_file_is file names b names_are column))
+        (ends_behind sizes s u w w1 (report_bytes names b 0 (reports.NoSuchFile file)) first w2 no_file_lines fatal.NoFile e' due second)
+
+    pub job_cuts : (v : State) (e' : Engine) (work : List Reading) (k : Broken) → made Reported u ≡ v → ((more : List Move) → Cuts sizes v e' work w1 w2 (Written Transcript no_file_lines ∷ more) k) → Cuts sizes s e' work w w2 (no_file file) k
+    job_cuts v e' work k is h = cuts_by sizes s e' work w w2 _ _ k (no_file_is file names b names_are column)
+        (cuts_behind sizes s u w w1 (report_bytes names b 0 (reports.NoSuchFile file)) first w2 no_file_lines fatal.NoFile v e' work k is h)
+
+-- the engine counts a report
+pub counted_last : (e : Engine) (work : List Reading) (n : ℕ) → e.reports + 1 ≡ n → made Reported (state_of e work) ≡ state_of (record e { reports = n }) work
+counted_last e work n is = ap (λ (k : ℕ). record (state_of e work) { reports = k }) is
+
+-- WHAT STAYS
+
+-- the engine whose readings are as they were
+pub stands_still : (sizes : Sizes) (e e' : Engine) (work : List Reading) → SameFrames e e' → IsSized sizes e' → e'.input.making ≡ None → Stands sizes e work → Stands sizes e' work
+stands_still sizes e e' work same sized idle st = record {
+  sized = sized;
+  idle = idle;
+  readings =
+      subst (λ (x : List (List Token)). WorkStands e'.ask e'.top e'.outer.items x work) (sym same.lists)
+      (subst (λ (x : List Waiting). WorkStands e'.ask e'.top x e.input.gathered work) (sym (ap (λ (o : _). o.items) same.outer))
+      (subst (λ (x : Option Frame). WorkStands e'.ask x e.outer.items e.input.gathered work) (sym same.top)
+      (subst (λ (x : Ask). WorkStands x e.top e.outer.items e.input.gathered work) (sym same.ask) st.readings)));
+}
+
+-- or waits, as it did
+pub waits_still : (sizes : Sizes) (e e' : Engine) (work : List Reading) → SameFrames e e' → IsSized sizes e' → e'.input.making ≡ None → Waits sizes e work → Waits sizes e' work
+waits_still sizes e e' work same sized idle st = record {
+  sized = sized;
+  idle = idle;
+  readings =
+      subst (λ (x : List (List Token)). WaitStands e'.top e'.outer.items x work) (sym same.lists)
+      (subst (λ (x : List Waiting). WaitStands e'.top x e.input.gathered work) (sym (ap (λ (o : _). o.items) same.outer))
+      (subst (λ (x : Option Frame). WaitStands x e.outer.items e.input.gathered work) (sym same.top) st.readings));
+}
+
+-- the sizes and the reports are the same
+pub sized_still : (sizes : Sizes) (e e' : Engine) → e'.sizes ≡ e.sizes → e'.outer ≡ e.outer → e'.input.sizes ≡ e.input.sizes → e'.names ≡ e.names → e'.reports ≡ e.reports → IsSized sizes e → IsSized sizes e'
+sized_still sizes e e' own outer input names reports h = record {
+  few_reports = omega (arith, reports, h.few_reports);
+  small = h.small;
+  own = own ∙ h.own;
+  outer = ap (λ (o : _). o.size) outer ∙ h.outer;
+  input = input ∙ h.input;
+  names = ap (λ (n : _). n.sizes) names ∙ h.names;
+}
+
+pub ends_still : (sizes : Sizes) (e e' : Engine) (rs : List Reading) → SameFrames e e' → IsSized sizes e' → e'.input.making ≡ None → EndsHere sizes e rs → EndsHere sizes e' rs
+ends_still sizes e e' rs same sized idle h = record {
+  sized = sized;
+  idle = idle;
+  few = subst AtMostOne (sym same.lists) h.few;
+  outer = subst (λ (x : List Waiting). OuterStand (reverse x) rs) (sym (ap (λ (o : _). o.items) same.outer)) h.outer;
+}
+
+-- with these readings
+pub reads_now : (e e' : Engine) (work work' : List Reading) → SameState e e' → record (state_of e work) { work = work' } ≡ state_of e' work'
+reads_now e e' work work' same = let h = same.others in cc (same.pending, same.making, h.names, h.categories, h.in_line, h.reports, h.quiet)
+
+-- a report alone
+pub reports_went : (sizes : Sizes) (e e' : Engine) (work : List Reading) (w w' : World) (report : reports.Report) → Stands sizes e' work → Reports sizes (state_of e work) (state_of e' work) w w' (page_of e) report [] →
+    Went sizes (state_of e work) e' w w' (reported (page_of e) report []) 0
+reports_went sizes e e' work w w' report st h = record {
+  work' = work;
+  stands = st;
+  did = subst (λ (ms : List Move). Did sizes (state_of e work) (state_of e' work) w w' ms) (sym h.moves) h.did;
+  count = ap steps h.moves;
+}
+
+pub effect_none : (s : State) (ef : reading.Effect) → steps (effect s ef) ≡ 0
+effect_none s (reading.SetCategory code category) = refl
+effect_none s (reading.Say ts) = refl
+
+-- the innermost reading ends, behind moves without a step
+pub ends_behind_moves : (sizes : Sizes) (e e1 e2 : Engine) (r : Reading) (rs : List Reading) (f : FilesTold) (w : World) (s : SinkTold) (ms : List Move) (v : reading.Value) →
+    Did sizes (state_of e (r ∷ rs)) (state_of e1 (r ∷ rs)) w (world_of f s e1) ms → steps ms ≡ 0 → SameState e1 e2 → Stands sizes e2 (fed_with (Val v) rs) →
+    Went sizes (state_of e (r ∷ rs)) e2 w (world_of f s e2) (ms ++ Ended v ∷ []) 0
+ends_behind_moves sizes e e1 e2 r rs f w s ms v d n same stands = record {
+  work' = fed_with (Val v) rs;
+  stands = stands;
+  did = did_join sizes _ _ _ w _ _ ms (Ended v ∷ []) d
+      (did_one sizes (Ended v) _ _ _ _ refl (reads_now e1 e2 (r ∷ rs) (fed_with (Val v) rs) same) (quiet_wrote (Ended v) f s e1.in_line e2.in_line tt same.others.in_line));
+  count = steps_join ms (Ended v ∷ []) ∙ omega (arith, n);
+}
+
+-- WHAT BECOMES OF A TOKEN
+
+-- a move for which a table has no room: nothing has changed
+pub full_out : (sizes : Sizes) (e e' : Engine) (f : FilesTold) (s : SinkTold) (work : List Reading) (m : Move) (rest : List Move) (full : Full) → e' ≡ e → refusal sizes m (state_of e work) ≡ Some full →
+    Cuts sizes (state_of e work) e' work (world_of f s e) (world_of f s e') (m ∷ rest) (broken.Full full)
+full_out sizes e e' f s work m rest full is refused =
+    subst (λ (x : Engine). Cuts sizes (state_of e work) x work (world_of f s e) (world_of f s x) (m ∷ rest) (broken.Full full)) (sym is)
+    (full_cuts sizes (state_of e work) e work (world_of f s e) m rest full (broken.Full full) refl refused refl)
+
+-- a move of the readings alone
+pub reading_went : (sizes : Sizes) (e e' : Engine) (work work' : List Reading) (f : FilesTold) (s : SinkTold) (m : Move) → IsQuiet m → step_of m ≡ 0 → refusal sizes m (state_of e work) ≡ None →
+    made m (state_of e work) ≡ record (state_of e work) { work = work' } → SameState e e' → Stands sizes e' work' → Went sizes (state_of e work) e' (world_of f s e) (world_of f s e') (m ∷ []) 0
+reading_went sizes e e' work work' f s m quiet silent fits is same stands = record {
+  work' = work';
+  stands = stands;
+  did = did_one sizes m _ _ _ _ fits (is ∙ reads_now e e' work work' same) (quiet_wrote m f s e.in_line e'.in_line quiet same.others.in_line);
+  count = omega (arith, silent);
+}
+
+-- a token's line alone
+column_still : (sizes : Sizes) (e e' : Engine) (work : List Reading) → OnlyColumn e e' → Stands sizes e work → Stands sizes e' work
+column_still sizes e e' work only st =
+    stands_still sizes e e' work (record { outer = only.outer; top = only.top; ask = only.ask; lists = ap (λ (i : _). i.gathered) only.input })
+    (sized_still sizes e e' only.sizes only.outer (ap (λ (i : _). i.sizes) only.input) only.names only.reports st.sized) (ap (λ (i : _). i.making) only.input ∙ st.idle) st
+
+line_silent : (page : Page) (m : Meaning Unit) → steps (token_line page m) ≡ 0
+line_silent page m = silent page.quiet where
+  silent : (b : Bool) → steps (if b then [] else Written Transcript (token_line_bytes page.names page.in_line m) ∷ []) ≡ 0
+  silent true = refl
+  silent false = refl
+
+pub line_went : (sizes : Sizes) (e e' : Engine) (work : List Reading) (w w' : World) (m : Meaning Unit) → OnlyColumn e e' → Stands sizes e work → Did sizes (state_of e work) (state_of e' work) w w' (token_line (page_of e) m) →
+    Went sizes (state_of e work) e' w w' (token_line (page_of e) m) 0
+line_went sizes e e' work w w' m only st did = record { work' = work; stands = column_still sizes e e' work only st; did = did; count = line_silent (page_of e) m }
+
+-- what is made of a token fits where it is wanted
+pub fits_none : (sizes : Sizes) (e : Engine) (work : List Reading) (o : Onward) → IsNoFeed o → Takes sizes None e work → FitsOnward sizes o e work
+fits_none sizes e work onward.Skip h t = t.1
+fits_none sizes e work onward.Feed h t = absurd h
+fits_none sizes e work (onward.Begin k) h t = t
+fits_none sizes e work (onward.Report r) h t = t.1
+fits_none sizes e work onward.Line h t = t.1
+fits_none sizes e work onward.Finish h t = t.1
+
+pub fits_some : (sizes : Sizes) (e : Engine) (want : ScanWant) (work : List Reading) (o : Onward) → IsNoBegin o → Takes sizes (Some want) e work → FitsOnward sizes o e work
+fits_some sizes e want work onward.Skip h t = t.1
+fits_some sizes e want work onward.Feed h t = ((want, t.0), t.1)
+fits_some sizes e want work (onward.Begin k) h t = absurd h
+fits_some sizes e want work (onward.Report r) h t = t.1
+fits_some sizes e want work onward.Line h t = t.1
+fits_some sizes e want work onward.Finish h t = t.1

@@ -1,0 +1,19 @@
+-- A name that joins those that are entered.
+use Rattle.std.specs.Prelude.{◌≡◌, ℕ, List, [], ◌∷◌, ◌++◌, Some, None}
+use Rattle.tex_defs.specs.declared.Full.{Full}
+use Rattle.plain_state.specs.Tables.{new_name, refused}
+use Rattle.name_table.specs.Strings.{Strings}
+
+-- with these names behind those that are entered
+abbrev pub joined : Strings → List (List ℕ) → Strings
+joined table new = record table { names = table.names ++ new }
+
+-- there is room for the name that joins them, if one does
+abbrev pub EntryFits : Strings → List (List ℕ) → Type 0
+EntryFits table [] = Unit {0}
+EntryFits table (name ∷ names) = refused table.sizes (new_name name table.names table.others) ≡ None
+
+-- one joins them, for which there is none
+abbrev pub EntryRefused : Strings → List (List ℕ) → Full → Type 0
+EntryRefused table [] full = ⊥
+EntryRefused table (name ∷ names) full = refused table.sizes (new_name name table.names table.others) ≡ Some full

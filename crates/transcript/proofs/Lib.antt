@@ -1,0 +1,4 @@
+pub mod Columns
+pub mod Joins
+pub mod Styles
+pub mod Texts

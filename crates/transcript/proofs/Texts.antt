@@ -1,0 +1,60 @@
+-- Texts put behind one another.
+use Rattle.std.proofs.Common.{◌≡◌, ◌++◌, ◌∙◌, ap, sym, refl, append_assoc, ℕ, List, [], ◌∷◌, codes, Bool}
+use Rattle.std.specs.Fmt.{decimal, digits}
+use Rattle.std.proofs.lemmas.List.{append-nil}
+use Rattle.plain_state.specs.Printed.{printed_all}
+use Rattle.plain_state.specs.Reports as plain
+use Rattle.plain_state.specs.Reports.{fresh_line, plain_style, report_text, report_bytes}
+use Rattle.transcript.specs.Reported.{report_of, opening, subject}
+use Rattle.transcript.specs.declared.report.Report.{Report}
+use Rattle.transcript.specs.declared.report.Report.TheVariants.{UndefinedName, InvalidCharacter, ImproperConstant, MissingNumber, NumberTooBig, BadCharacterCode, InvalidCode, MissingBrace, FileEndedInText}
+
+-- three pieces and four
+pub three : (a b c d x y z : List ℕ) → x ≡ a ++ b → y ≡ x ++ c → z ≡ y ++ d → z ≡ a ++ (b ++ (c ++ d))
+three a b c d x y z h i j =
+    j ∙ ap (λ (t : List ℕ). t ++ d) (i ∙ ap (λ (t : List ℕ). t ++ c) h)
+    ∙ append_assoc (a ++ b) c d ∙ append_assoc a b (c ++ d)
+
+pub four : (a b c d e x y z w : List ℕ) → x ≡ a ++ b → y ≡ x ++ c → z ≡ y ++ d → w ≡ z ++ e → w ≡ a ++ (b ++ (c ++ (d ++ e)))
+four a b c d e x y z w h i j k =
+    k ∙ ap (λ (t : List ℕ). t ++ e) (three a b c d x y z h i j)
+    ∙ append_assoc a (b ++ (c ++ d)) e ∙ ap (λ (t : List ℕ). a ++ t) (append_assoc b (c ++ d) e ∙ ap (λ (t : List ℕ). b ++ t) (append_assoc c d e))
+
+-- a report's text is its opening, and the name in it
+report_is : (names : List (List ℕ)) (r : Report) → opening r ++ subject names r ≡ report_text names (report_of r)
+report_is names UndefinedName = refl
+report_is names InvalidCharacter = refl
+report_is names ImproperConstant = refl
+report_is names MissingNumber = refl
+report_is names NumberTooBig = refl
+report_is names (BadCharacterCode n) = append-nil (opening (BadCharacterCode n))
+report_is names (InvalidCode n greatest) = append-nil (opening (InvalidCode n greatest))
+report_is names MissingBrace = refl
+report_is names (FileEndedInText name) = refl
+
+-- what stands around a text
+around : (a b c d e : List ℕ) → ((a ++ b) ++ c) ++ (d ++ e) ≡ a ++ (b ++ ((c ++ d) ++ e))
+around a b c d e =
+    append_assoc (a ++ b) c (d ++ e) ∙ append_assoc a b (c ++ (d ++ e))
+    ∙ ap (λ (t : List ℕ). a ++ (b ++ t)) (sym (append_assoc c d e))
+
+pub report_parts : (names : List (List ℕ)) (b : Bool) (line : ℕ) (r : Report) (mark before shown behind : List ℕ) →
+    mark ≡ fresh_line b ++ codes "! " → before ≡ mark ++ opening r → shown ≡ subject names r → behind ≡ codes ".\nl." ++ (decimal line ++ 10 ∷ []) →
+    before ++ (shown ++ behind) ≡ report_bytes names b line (report_of r)
+report_parts names b line r mark before shown behind m i s l =
+    rw (i, m, s, l) (around (fresh_line b) (codes "! ") (opening r) (subject names r) (codes ".\nl." ++ (decimal line ++ 10 ∷ []))
+    ∙ ap (λ (t : List ℕ). fresh_line b ++ (codes "! " ++ (t ++ (codes ".\nl." ++ (decimal line ++ 10 ∷ []))))) (report_is names r))
+
+pub missing_parts : (names : List (List ℕ)) (b : Bool) (file mark before shown : List ℕ) →
+    mark ≡ fresh_line b ++ codes "! " → before ≡ mark ++ codes "I can't find file `" → shown ≡ printed_all (plain_style names) file →
+    before ++ (shown ++ codes "'.\nl.0\n") ≡ report_bytes names b 0 (plain.NoSuchFile file)
+unfolding digits
+missing_parts names b file mark before shown m i s =
+    let printed : List ℕ = printed_all (plain_style names) file in
+    rw (i, m, s) (around (fresh_line b) (codes "! ") (codes "I can't find file `") printed (codes "'.\nl.0\n")
+    ∙ ap (λ (t : List ℕ). fresh_line b ++ (codes "! " ++ (codes "I can't find file `" ++ t))) (sym (append_assoc printed (codes "'") (codes ".\nl.0\n"))))
+
+pub runaway_parts : (b : Bool) (head shown list : List ℕ) → head ≡ fresh_line b ++ codes "Runaway text?\n" → shown ≡ list →
+    head ++ (shown ++ []) ≡ fresh_line b ++ (codes "Runaway text?\n" ++ list)
+runaway_parts b head shown list h s =
+    rw (h, s, append-nil list) (append_assoc (fresh_line b) (codes "Runaway text?\n") list)

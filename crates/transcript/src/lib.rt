@@ -1,0 +1,19 @@
+//! The texts that the machine writes of itself, written to a sink piece by piece: messages, reports, token lines and
+//! runaway texts.
+//!
+//! *The TeXbook*, chapters 6, 8 and 20; *TeX: The Program*, parts 5 (printing), 6 (reporting errors), 22 (`runaway`)
+//! and 49 (`issue_message`). No call takes memory of its own. Each one says how much of its text the sink took, and
+//! keeps whether the transcript's column isn't 0.
+#![tactic(auto)]
+
+mod initial;
+mod message;
+mod report;
+#[cfg(test)]
+mod tests;
+mod writing;
+
+pub use initial::initial_view;
+pub use message::{write_message, write_runaway, write_token_line};
+pub use report::{Report, write_missing_file, write_report};
+pub use writing::{put, put_shown};
