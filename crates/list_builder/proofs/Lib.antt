@@ -1,0 +1,6 @@
+pub mod Parts
+pub mod Ends
+pub mod Groups
+pub mod Themselves
+pub mod Bodies
+pub mod Formed

@@ -1,0 +1,5 @@
+pub mod Definitions
+pub mod Stages
+pub mod Scans
+pub mod Forms
+pub mod Rows

@@ -1,0 +1,67 @@
+-- What a stage of the scanner stands for.
+use Rattle.std.specs.Prelude.{ℕ, ◌+◌, List, Option, Some, None}
+use Rattle.tex_defs.specs.declared.Token.{Token}
+use Rattle.list_builder.specs.declared.stage.Manner.{Manner}
+use Rattle.list_builder.specs.declared.stage.Stage.{Stage}
+use Rattle.list_builder.specs.declared.stage.Stage.TheVariants as stage
+use Rattle.list_builder.specs.declared.stage.Next.{Next}
+use Rattle.list_builder.specs.declared.stage.Next.TheVariants.{On, Finished}
+use Rattle.list_builder.specs.declared.stage.Step.{Step}
+use Rattle.list_builder.specs.Definitions.{Fed, Answer, Done, with_cell, body, reference, illegal, no_body, parameters, place, tenth, misnumbered, missing, first}
+
+-- what is answered on what is still to come, where this list has been built
+abbrev pub resume : Manner → Stage → List Token → List Fed → Answer
+resume m stage.First list fed = first m list fed
+resume m stage.FirstMissing list fed = missing m list fed
+resume m (stage.Parameters count) list fed = parameters m count list fed
+resume m (stage.Place count character) list fed = place m count character list fed
+resume m (stage.Misnumbered count character) list fed = misnumbered m count character list fed
+resume m (stage.Tenth count) list fed = tenth m count list fed
+resume m stage.BodyMissing list fed = no_body list fed
+resume m (stage.InBody b depth) list fed = body m b depth list fed
+resume m (stage.Reference b depth character) list fed = reference m b depth character list fed
+resume m (stage.Illegal b depth character) list fed = illegal m b depth character list fed
+
+-- the groups that are open
+abbrev pub depth_of : Stage → ℕ
+depth_of (stage.InBody b depth) = depth
+depth_of (stage.Reference b depth character) = depth
+depth_of (stage.Illegal b depth character) = depth
+depth_of s = 0
+
+-- a report is due
+abbrev pub IsTelling : Stage → Type 0
+IsTelling stage.FirstMissing = Unit {0}
+IsTelling (stage.Misnumbered count character) = Unit {0}
+IsTelling (stage.Tenth count) = Unit {0}
+IsTelling stage.BodyMissing = Unit {0}
+IsTelling (stage.Illegal b depth character) = Unit {0}
+IsTelling s = ⊥
+
+-- a token list may be handed over: the body is being read
+abbrev pub IsInBody : Stage → Type 0
+IsInBody (stage.InBody b depth) = Unit {0}
+IsInBody s = ⊥
+
+-- the list that a step leaves, and what is answered then
+abbrev pub grown : Step → List Token → List Token
+grown s list = with_cell (with_cell list s.first) s.second
+
+abbrev pub goes_by : Next → Manner → List Token → List Fed → Answer
+goes_by (On s) m list fed = resume m s list fed
+goes_by Finished m list fed = Done list
+
+abbrev pub goes : Step → Manner → List Token → List Fed → Answer
+goes s m list fed = goes_by s.next m (grown s list) fed
+
+abbrev pub depth_after : Next → ℕ
+depth_after (On s) = depth_of s
+depth_after Finished = 0
+
+-- how many tokens go into the list
+abbrev pub cell_count : Option Token → ℕ
+cell_count None = 0
+cell_count (Some t) = 1
+
+abbrev pub growth : Step → ℕ
+growth s = cell_count s.first + cell_count s.second

@@ -1,0 +1,354 @@
+// Where a scanner stands, apart from its list.
+ghost use Rattle.std.specs.Prelude.{◌≡◌, ◌≤◌, ◌<◌, ◌+◌, ◌^◌, List, [], ◌∷◌, ℕ, Option, None, Some, IfSome, true, false};
+ghost use Rattle.list_builder.specs.declared.stage.Next.TheVariants.{On};
+ghost use Rattle.tex_defs.specs.declared.Token.{Token};
+ghost use Rattle.list_builder.specs.declared.stage.Manner.{Manner};
+ghost use Rattle.token_lists.specs.Table.{Entry};
+ghost use Rattle.plain_state.specs.Readings.{has_category, is_other, means_category};
+ghost use Rattle.list_builder.specs.Definitions.{Fed, Tok, Told, body_want, number_want, is_parameter, character_of, is_number, number_of, means_relax, is_reference, first, parameters, place, body, reference};
+ghost use Rattle.list_builder.specs.Stages.{resume, depth_of, IsTelling, goes, depth_after, growth};
+ghost use Rattle.list_builder.specs.Scans.{answer_of, IsOpen};
+
+use crate::ask::{Ask, Report, Want};
+use tex_defs::{Meaning, Name, Seen, Token};
+
+/// How a list is read, from its first token to its last.
+#[derive(Clone, Copy, Debug, PartialEq, Eq)]
+pub struct Manner {
+    /// The name that is defined.
+    pub name: Name,
+    /// Whether the body is expanded.
+    pub expanded: bool,
+}
+
+/// What a body is.
+#[derive(Clone, Copy, Debug, PartialEq, Eq)]
+pub struct Body {
+    /// How many places a macro has; none in a balanced text, which has no parameters.
+    pub places: Option<u8>,
+    /// The brace that ended the parameter text behind a parameter character.
+    pub brace: Option<Token>,
+}
+
+/// Where a scanner stands.
+#[derive(Clone, Copy, Debug, PartialEq, Eq)]
+pub enum Stage {
+    /// In front of a text's first brace.
+    First,
+    /// Its first brace is missing, and the report comes.
+    FirstMissing,
+    /// In a parameter text, behind so many places.
+    Parameters(u8),
+    /// Behind so many places and a parameter character of this code.
+    Place(u8, u8),
+    /// The report of a wrong number comes; so many places will be there, the last of this character.
+    Misnumbered(u8, u8),
+    /// The report of a tenth place comes.
+    Tenth(u8),
+    /// The body is missing, and the report comes.
+    BodyMissing,
+    /// In a body, and in so many groups of it.
+    InBody(Body, usize),
+    /// The same, behind this parameter character.
+    Reference(Body, usize, Token),
+    /// The report of a wrong number comes, behind this parameter character.
+    Illegal(Body, usize, Token),
+}
+
+/// Where a scanner goes.
+#[derive(Clone, Copy, Debug, PartialEq, Eq)]
+pub enum Next {
+    On(Stage),
+    /// The list is complete.
+    Finished,
+}
+
+/// What a token comes to: at most two tokens go into the list.
+#[derive(Clone, Copy, Debug, PartialEq, Eq)]
+pub struct Step {
+    pub first: Option<Token>,
+    pub second: Option<Token>,
+    pub next: Next,
+}
+
+// Whether it is an explicit character of this category.
+fn has_category(token: Token, category: u8) -> bool
+    ensures { result ≡ has_category category token }
+{
+    match token {
+        Token::Char { cat, code: _ } => cat == category,
+        _ => false,
+    }
+}
+
+// Whether it means a character of this category.
+fn means_category(meaning: Meaning<()>, category: u8) -> bool
+    ensures { result ≡ means_category category meaning }
+{
+    match meaning {
+        Meaning::Char { cat, code: _ } => cat == category,
+        _ => false,
+    }
+}
+
+fn is_parameter(x: Seen) -> bool
+    ensures { result ≡ is_parameter x }
+{
+    means_category(x.meaning, 6)
+}
+
+// The code of the character that is meant.
+fn character_of(meaning: Meaning<()>) -> u8
+    ensures { result ≡ character_of meaning }
+{
+    match meaning {
+        Meaning::Char { cat: _, code } => code,
+        _ => 0,
+    }
+}
+
+// Whether it is this explicit character, of category 12.
+fn is_other(token: Token, code: u8) -> bool
+    ensures { result ≡ is_other code token }
+{
+    match token {
+        Token::Char { cat, code: own } => cat == 12 && own == code,
+        _ => false,
+    }
+}
+
+// The number of a place, of which there are `count`.
+fn number_of(token: Token, count: u8) -> Option<u8>
+    ensures some { IfSome result (λ n. (is_number count token ≡ true) × (n ≡ number_of token)) }
+    ensures none { result ≡ None → is_number count token ≡ false }
+{
+    match token {
+        Token::Char { cat, code } if cat == 12 && code >= 49 && code - 48 <= count => {
+            Some(code - 48)
+        }
+        _ => None,
+    }
+}
+
+fn means_relax(meaning: Meaning<()>) -> bool
+    ensures { result ≡ means_relax meaning }
+{
+    match meaning {
+        Meaning::RelaxMarked => true,
+        Meaning::Prim(number) => number == 1,
+        _ => false,
+    }
+}
+
+impl Body {
+    // Whether a token is a parameter character that stands for a parameter.
+    fn is_reference(self, x: Seen) -> bool
+        ensures { result ≡ is_reference self x }
+    {
+        self.places.is_some() && is_parameter(x)
+    }
+}
+
+impl Step {
+    // No token goes into the list.
+    fn to(stage: Stage) -> Step
+        ensures { result ≡ record { first = None; second = None; next = On stage } }
+    {
+        Step {
+            first: None,
+            second: None,
+            next: Next::On(stage),
+        }
+    }
+
+    // This token goes into the list.
+    fn with(token: Token, stage: Stage) -> Step
+        ensures { result ≡ record { first = Some token; second = None; next = On stage } }
+    {
+        Step {
+            first: Some(token),
+            second: None,
+            next: Next::On(stage),
+        }
+    }
+}
+
+impl Stage {
+    /// What it asks for.
+    pub fn ask(self, manner: Manner) -> Ask
+        ensures answer { (table : List (Option Entry)) (list : List Token) → answer_of table result list ≡ resume manner self list [] }
+        ensures goes_on { IsOpen result }
+    {
+        match self {
+            Stage::First => Ask::More(Want::Nonblank),
+            Stage::FirstMissing => Ask::Tells(Report::MissingBrace, true),
+            Stage::Parameters(_) | Stage::Place(_, _) => Ask::More(Want::Raw),
+            Stage::Misnumbered(_, _) => Ask::Tells(Report::NotConsecutive, true),
+            Stage::Tenth(_) => Ask::Tells(Report::AlreadyNine, false),
+            Stage::BodyMissing => Ask::Tells(Report::MissingBrace, false),
+            Stage::InBody(_, _) if manner.expanded => Ask::More(Want::Copied),
+            Stage::InBody(_, _) => Ask::More(Want::Raw),
+            Stage::Reference(_, _, _) if manner.expanded => Ask::More(Want::Expanded),
+            Stage::Reference(_, _, _) => Ask::More(Want::Raw),
+            Stage::Illegal(_, _, _) => Ask::Tells(Report::IllegalNumber(manner.name), true),
+        }
+    }
+
+    // In front of a text's first brace.
+    fn took_first(x: Seen) -> Step
+        ensures takes { (m : Manner) (list : List Token) (fed : List Fed) → first m list (Tok x ∷ fed) ≡ goes result m list fed }
+        ensures shallow { depth_after result.next ≡ 0 }
+    {
+        if means_category(x.meaning, 1) {
+            let body = Body {
+                places: None,
+                brace: None,
+            };
+            return Step::to(Stage::InBody(body, 0));
+        }
+        if means_category(x.meaning, 10) || means_relax(x.meaning) {
+            return Step::to(Stage::First);
+        }
+        Step::to(Stage::FirstMissing)
+    }
+
+    // In a parameter text.
+    fn took_parameters(count: u8, x: Seen) -> Step
+        ensures takes { (m : Manner) (list : List Token) (fed : List Fed) → parameters m count list (Tok x ∷ fed) ≡ goes result m list fed }
+        ensures shallow { depth_after result.next ≡ 0 }
+    {
+        if has_category(x.token, 1) {
+            let body = Body {
+                places: Some(count),
+                brace: None,
+            };
+            return Step::with(Token::EndPlaces, Stage::InBody(body, 0));
+        }
+        if has_category(x.token, 2) {
+            return Step::with(Token::EndPlaces, Stage::BodyMissing);
+        }
+        if is_parameter(x) {
+            return Step::to(Stage::Place(count, character_of(x.meaning)));
+        }
+        Step::with(x.token, Stage::Parameters(count))
+    }
+
+    // Behind a parameter character of a parameter text.
+    fn took_place(count: u8, character: u8, y: Seen) -> Step
+        ensures takes { (m : Manner) (list : List Token) (fed : List Fed) → place m count character list (Tok y ∷ fed) ≡ goes result m list fed }
+        ensures shallow { depth_after result.next ≡ 0 }
+    {
+        if has_category(y.token, 1) {
+            let body = Body {
+                places: Some(count),
+                brace: Some(y.token),
+            };
+            return Step {
+                first: Some(y.token),
+                second: Some(Token::EndPlaces),
+                next: Next::On(Stage::InBody(body, 0)),
+            };
+        }
+        if count >= 9 {
+            return Step::to(Stage::Tenth(count));
+        }
+        if is_other(y.token, 49 + count) {
+            return Step::with(Token::Place(character), Stage::Parameters(count + 1));
+        }
+        Step::to(Stage::Misnumbered(count + 1, character))
+    }
+
+    // In a body.
+    fn took_body(inside: Body, depth: usize, x: Seen) -> Step
+        requires { depth + 1 < 2 ^ 64 }
+        ensures takes { (m : Manner) (list : List Token) (fed : List Fed) → body m inside depth list (Tok x ∷ fed) ≡ goes result m list fed }
+        ensures shallow { depth_after result.next ≤ depth + growth result }
+    {
+        if has_category(x.token, 1) {
+            return Step::with(x.token, Stage::InBody(inside, depth + 1));
+        }
+        if has_category(x.token, 2) {
+            if depth == 0 {
+                return Step {
+                    first: inside.brace,
+                    second: None,
+                    next: Next::Finished,
+                };
+            }
+            return Step::with(x.token, Stage::InBody(inside, depth - 1));
+        }
+        if inside.is_reference(x) {
+            return Step::to(Stage::Reference(inside, depth, x.token));
+        }
+        Step::with(x.token, Stage::InBody(inside, depth))
+    }
+
+    // Behind a parameter character of a macro's body.
+    fn took_reference(inside: Body, depth: usize, character: Token, y: Seen) -> Step
+        ensures takes { (m : Manner) (list : List Token) (fed : List Fed) → reference m inside depth character list (Tok y ∷ fed) ≡ goes result m list fed }
+        ensures shallow { depth_after result.next ≡ depth }
+    {
+        if is_parameter(y) {
+            return Step::with(y.token, Stage::InBody(inside, depth));
+        }
+        let count = match inside.places {
+            Some(count) => count,
+            None => 0,
+        };
+        match number_of(y.token, count) {
+            Some(number) => Step::with(Token::Number(number), Stage::InBody(inside, depth)),
+            None => Step::to(Stage::Illegal(inside, depth, character)),
+        }
+    }
+
+    // What a token comes to. Where a report is due it comes to nothing.
+    pub fn took(self, x: Seen) -> Step
+        requires { depth_of self + 1 < 2 ^ 64 }
+        ensures takes { (m : Manner) (list : List Token) (fed : List Fed) → resume m self list (Tok x ∷ fed) ≡ goes result m list fed }
+        ensures shallow { depth_after result.next ≤ depth_of self + growth result }
+    {
+        match self {
+            Stage::First => Stage::took_first(x),
+            Stage::Parameters(count) => Stage::took_parameters(count, x),
+            Stage::Place(count, character) => Stage::took_place(count, character, x),
+            Stage::InBody(body, depth) => Stage::took_body(body, depth, x),
+            Stage::Reference(body, depth, character) => {
+                Stage::took_reference(body, depth, character, x)
+            }
+            Stage::FirstMissing
+            | Stage::Misnumbered(_, _)
+            | Stage::Tenth(_)
+            | Stage::BodyMissing
+            | Stage::Illegal(_, _, _) => Step::to(self),
+        }
+    }
+
+    // What the note comes to that its report was written. Where none was due it comes to nothing.
+    pub fn told(self) -> Step
+        ensures takes { (m : Manner) (list : List Token) (fed : List Fed) → resume m self list (Told ∷ fed) ≡ goes result m list fed }
+        ensures shallow { depth_after result.next ≤ depth_of self + growth result }
+    {
+        match self {
+            Stage::FirstMissing => {
+                let body = Body {
+                    places: None,
+                    brace: None,
+                };
+                Step::to(Stage::InBody(body, 0))
+            }
+            Stage::Misnumbered(count, character) => {
+                Step::with(Token::Place(character), Stage::Parameters(count))
+            }
+            Stage::Tenth(count) => Step::to(Stage::Parameters(count)),
+            Stage::BodyMissing => Step {
+                first: None,
+                second: None,
+                next: Next::Finished,
+            },
+            Stage::Illegal(body, depth, character) => {
+                Step::with(character, Stage::InBody(body, depth))
+            }
+            _ => Step::to(self),
+        }
+    }
+}
