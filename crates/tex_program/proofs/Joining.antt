@@ -71,13 +71,19 @@ on_ok (Err x) f h = tt
 pub onward_by : (sizes : Sizes) (s : State) (e' : Engine) (w w' : World) (ms ns : List Move) (ruled : Ruled) → ns ≡ ms → DoesOnward sizes s e' w w' ms ruled → DoesOnward sizes s e' w w' ns ruled
 onward_by sizes s e' w w' ms ns ruled e h = subst (λ (x : List Move). DoesOnward sizes s e' w w' x ruled) (sym e) h
 
-pub halts_on : (sizes : Sizes) (s u : State) (e' : Engine) (w v w' : World) (ms ns : List Move) (o : machine.Outcome) (k j : ℕ) → Did sizes s u w v ms → steps ms ≡ k → Halts sizes u e' v w' ns o j → Halts sizes s e' w w' (ms ++ ns) o (k + j)
-halts_on sizes s u e' w v w' ms ns o k j d n h = record {
+-- moves that leave the readings and the reports as they were
+abbrev pub Leaves : State → State → Type 0
+Leaves s u = (u.work ≡ s.work) × (u.reports ≡ s.reports)
+
+pub halts_on : (sizes : Sizes) (s u : State) (e' : Engine) (work : List Reading) (w v w' : World) (ms ns : List Move) (o : machine.Outcome) (k j : ℕ) → u.reports ≡ s.reports → Did sizes s u w v ms → steps ms ≡ k →
+    Halts sizes u e' work v w' ns o j → Halts sizes s e' work w w' (ms ++ ns) o (k + j)
+halts_on sizes s u e' work w v w' ms ns o k j same d n h = record {
   t = h.t;
   did = did_join sizes s u h.t w v w' ms ns d h.did;
   stopped = h.stopped;
   due = h.due;
   reports = h.reports;
+  same = λ few. h.same (omega (arith, few, same));
   count = omega (arith, steps_join ms ns, n, h.count);
 }
 
@@ -89,32 +95,36 @@ went_on sizes s u e' w v w' ms ns k j d n h = record {
   count = steps_join ms ns ∙ omega (arith, n, h.count);
 }
 
-pub halts_least : (sizes : Sizes) (s : State) (e' : Engine) (w w' : World) (ms : List Move) (o : machine.Outcome) (k j : ℕ) → k ≤ j → Halts sizes s e' w w' ms o k → Halts sizes s e' w w' ms o j
-halts_least sizes s e' w w' ms o k j le h = record { t = h.t; did = h.did; stopped = h.stopped; due = h.due; reports = h.reports; count = omega (arith, le, h.count) }
+pub halts_least : (sizes : Sizes) (s : State) (e' : Engine) (work : List Reading) (w w' : World) (ms : List Move) (o : machine.Outcome) (k j : ℕ) → k ≤ j → Halts sizes s e' work w w' ms o k → Halts sizes s e' work w w' ms o j
+halts_least sizes s e' work w w' ms o k j le h = record { t = h.t; did = h.did; stopped = h.stopped; due = h.due; reports = h.reports; same = h.same; count = omega (arith, le, h.count) }
 
 pub same_went : (sizes : Sizes) (s : State) (e' : Engine) (w w' : World) (ms : List Move) (k j : ℕ) → k ≡ j → Went sizes s e' w w' ms k → Went sizes s e' w w' ms j
 same_went sizes s e' w w' ms k j is h = subst (λ (x : ℕ). Went sizes s e' w w' ms x) is h
 
+-- the same readings
+halts_with : (sizes : Sizes) (s : State) (e' : Engine) (work works : List Reading) (w w' : World) (ms : List Move) (o : machine.Outcome) (k : ℕ) → work ≡ works → Halts sizes s e' work w w' ms o k → Halts sizes s e' works w w' ms o k
+halts_with sizes s e' work works w w' ms o k is h = subst (λ (x : List Reading). Halts sizes s e' x w w' ms o k) is h
+
 -- moves without a step, and then others
-pub onward_join : (sizes : Sizes) (s u : State) (e' : Engine) (w v w' : World) (ms ns : List Move) (ruled : Ruled) → Did sizes s u w v ms → steps ms ≡ 0 → DoesOnward sizes u e' v w' ns ruled → DoesOnward sizes s e' w w' (ms ++ ns) ruled
-onward_join sizes s u e' w v w' ms ns Step d n h = went_on sizes s u e' w v w' ms ns 0 0 d n h
-onward_join sizes s u e' w v w' ms ns Free d n h = h
-onward_join sizes s u e' w v w' ms ns (Halted o) d n h = halts_on sizes s u e' w v w' ms ns (outcome_of o) 0 0 d n h
+pub onward_join : (sizes : Sizes) (s u : State) (e' : Engine) (w v w' : World) (ms ns : List Move) (ruled : Ruled) → Leaves s u → Did sizes s u w v ms → steps ms ≡ 0 → DoesOnward sizes u e' v w' ns ruled → DoesOnward sizes s e' w w' (ms ++ ns) ruled
+onward_join sizes s u e' w v w' ms ns Step l d n h = went_on sizes s u e' w v w' ms ns 0 0 d n h
+onward_join sizes s u e' w v w' ms ns Free l d n h = h
+onward_join sizes s u e' w v w' ms ns (Halted o) l d n h = halts_on sizes s u e' s.work w v w' ms ns (outcome_of o) 0 0 l.1 d n (halts_with sizes u e' u.work s.work v w' ns (outcome_of o) 0 l.0 h)
 
 -- a step, and then moves without one
-pub step_join : (sizes : Sizes) (s u : State) (e' : Engine) (w v w' : World) (ms ns : List Move) (ruled : Ruled) → Did sizes s u w v ms → steps ms ≡ 1 → DoesOnward sizes u e' v w' ns ruled → DoesRule sizes s e' w w' (ms ++ ns) ruled
-step_join sizes s u e' w v w' ms ns Step d n h = went_on sizes s u e' w v w' ms ns 1 0 d n h
-step_join sizes s u e' w v w' ms ns Free d n h = absurd h
-step_join sizes s u e' w v w' ms ns (Halted o) d n h = halts_on sizes s u e' w v w' ms ns (outcome_of o) 1 0 d n h
+pub step_join : (sizes : Sizes) (s u : State) (e' : Engine) (w v w' : World) (ms ns : List Move) (ruled : Ruled) → Leaves s u → Did sizes s u w v ms → steps ms ≡ 1 → DoesOnward sizes u e' v w' ns ruled → DoesRule sizes s e' w w' (ms ++ ns) ruled
+step_join sizes s u e' w v w' ms ns Step l d n h = went_on sizes s u e' w v w' ms ns 1 0 d n h
+step_join sizes s u e' w v w' ms ns Free l d n h = absurd h
+step_join sizes s u e' w v w' ms ns (Halted o) l d n h = halts_on sizes s u e' s.work w v w' ms ns (outcome_of o) 1 0 l.1 d n (halts_with sizes u e' u.work s.work v w' ns (outcome_of o) 0 l.0 h)
 
 -- moves without a step alone
 pub free_rule : (sizes : Sizes) (s : State) (e' : Engine) (w w' : World) (ms : List Move) (ruled : Ruled) → DoesOnward sizes s e' w w' ms ruled → DoesRule sizes s e' w w' ms (freed ruled)
 free_rule sizes s e' w w' ms Step h = h
 free_rule sizes s e' w w' ms Free h = absurd h
-free_rule sizes s e' w w' ms (Halted o) h = halts_least sizes s e' w w' ms (outcome_of o) 0 1 (omega arith) h
+free_rule sizes s e' w w' ms (Halted o) h = halts_least sizes s e' s.work w w' ms (outcome_of o) 0 1 (omega arith) h
 
 -- moves without a step that end the run
 pub none_rule : (sizes : Sizes) (s : State) (e' : Engine) (w w' : World) (ms : List Move) (ruled : Ruled) → (IsFree ruled → ⊥) → (ruled ≡ Step → ⊥) → DoesOnward sizes s e' w w' ms ruled → DoesRule sizes s e' w w' ms ruled
 none_rule sizes s e' w w' ms Step f g h = absurd (g refl)
 none_rule sizes s e' w w' ms Free f g h = absurd h
-none_rule sizes s e' w w' ms (Halted o) f g h = halts_least sizes s e' w w' ms (outcome_of o) 0 1 (omega arith) h
+none_rule sizes s e' w w' ms (Halted o) f g h = halts_least sizes s e' s.work w w' ms (outcome_of o) 0 1 (omega arith) h

@@ -28,11 +28,12 @@ use Rattle.tex_program.specs.declared.broken.Broken.TheVariants as broken
 use Rattle.tex_program.specs.Begins.{outcome_of}
 use Rattle.tex_program.specs.Faults.{why_of}
 use Rattle.tex_program.specs.First.{Begins}
-use Rattle.tex_program.specs.Stands.{Stands, state_of}
+use Rattle.tex_program.specs.Stands.{Stands, FramesStand, SameFrames, state_of}
 use Rattle.tex_program.specs.Rules.{world_of, Halts, Cuts}
 use Rattle.tex_program.specs.Ran.{Came, Ran, CutBy}
 use Rattle.tex_program.specs.Says.{SaysSo, end_status}
 use Rattle.tex_program.proofs.Cutting.{later_cuts}
+use Rattle.tex_program.proofs.Reporting.{frames_still}
 use Rattle.tex_program.proofs.Running.{same_moment}
 
 -- A RUN'S STATUS
@@ -64,7 +65,7 @@ module _ (sizes : Sizes) (s : State) (n : ℕ) (w m w' : World) (e' : Engine) wh
   whole_of o ran = record { ms = ran.ms; t = ran.t; run = ran.run; stopped = ran.ends.0; written = ran.written }
 
   ending_of : (ran : Ran sizes s n e' w w' (Halted Finished)) (b : Bool) → nat_lt 0 e'.reports ≡ b → Ending sizes s n w w' b
-  ending_of ran b is = record { whole = whole_of Finished ran; reports = ap (nat_lt 0) ran.ends.1 ∙ is }
+  ending_of ran b is = record { whole = whole_of Finished ran; reports = ap (nat_lt 0) ran.ends.1.0 ∙ is }
 
   -- a run that has ended, with a report or without
   ended_with : (ran : Ran sizes s n e' w w' (Halted Finished)) (b : Bool) → nat_lt 0 e'.reports ≡ b → SaysSo sizes s n w w' (if b then 1 else 0)
@@ -114,11 +115,11 @@ cut_due sizes s s' w w' ms x why c = record {
   written = c.written;
 }
 
-due_cuts : (sizes : Sizes) (s : State) (e' : Engine) (work : List Reading) (w w' : World) (ms : List Move) (n : ℕ) (b : Broken) → steps ms ≤ n → Cuts sizes s e' work w w' ms b → CutBy sizes (record s { due = ms }) n e' w w' b
-due_cuts sizes s e' work w w' ms n b le h =
+due_cuts : (sizes : Sizes) (s : State) (e' : Engine) (work : List Reading) (w w' : World) (ms : List Move) (n : ℕ) (b : Broken) → steps ms ≤ n → FramesStand e' work → Cuts sizes s e' work w w' ms b → CutBy sizes (record s { due = ms }) n e' w w' b
+due_cuts sizes s e' work w w' ms n b le frames h =
     let off : CutOff sizes (record s { due = ms }) (record h.at { due = ms }) n w w' (why_of b) =
     due_cut sizes (record s { due = ms }) (record h.at { due = ms }) n w w' ms (why_of b) (cut_due sizes s h.at w w' ms ms (why_of b) h.cut) le refl in
-    record { t = off.t; cut = off.cut; work' = work; same = same_moment (why_of b) off.t h.at (state_of e' work) off.same h.same }
+    record { t = off.t; cut = off.cut; work' = work; frames = frames; same = same_moment (why_of b) off.t h.at (state_of e' work) off.same h.same }
 
 -- THE JOB BEGINS
 
@@ -131,16 +132,16 @@ module _ (sizes : Sizes) (e e' : Engine) (quiet : Bool) (file name : List ℕ) (
   kept_did d = subst (λ (x : List ℕ). Did sizes (state_of e []) (state_of e' []) before before (Kept x ∷ [])) is d
 
   -- a name for which a table has no room
-  pub kept_cut : (job : Option (List ℕ)) (n : ℕ) (b : Broken) (column : Bool) → column ≡ false → Begins sizes e quiet job →
+  pub kept_cut : (job : Option (List ℕ)) (n : ℕ) (b : Broken) (column : Bool) → column ≡ false → Begins sizes e quiet job → SameFrames e e' →
       ((more : List Move) → Cuts sizes (state_of e []) e' [] before before (Kept name ∷ more) b) → CutBy sizes (First quiet file job) n e' before (world f a column) b
-  kept_cut None n b column none begins h =
+  kept_cut None n b column none begins same h =
       subst (λ (x : Bool). CutBy sizes (First quiet file None) n e' before (world f a x) b) (sym none)
       (subst (λ (s : State). CutBy sizes s n e' before before b) (begins.state file)
-      (due_cuts sizes (state_of e []) e' [] before before (job_due file None) n b (omega arith) (subst (λ (x : List ℕ). Cuts sizes (state_of e []) e' [] before before (Kept x ∷ no_file file) b) is (h (no_file file)))))
-  kept_cut (Some bytes) n b column none begins h =
+      (due_cuts sizes (state_of e []) e' [] before before (job_due file None) n b (omega arith) (frames_still e e' [] same begins.stands.readings) (subst (λ (x : List ℕ). Cuts sizes (state_of e []) e' [] before before (Kept x ∷ no_file file) b) is (h (no_file file)))))
+  kept_cut (Some bytes) n b column none begins same h =
       subst (λ (x : Bool). CutBy sizes (First quiet file (Some bytes)) n e' before (world f a x) b) (sym none)
       (subst (λ (s : State). CutBy sizes s n e' before before b) (begins.state file)
-      (due_cuts sizes (state_of e []) e' [] before before (job_due file (Some bytes)) n b (omega arith) (subst (λ (x : List ℕ). Cuts sizes (state_of e []) e' [] before before (Kept x ∷ []) b) is (h []))))
+      (due_cuts sizes (state_of e []) e' [] before before (job_due file (Some bytes)) n b (omega arith) (frames_still e e' [] same begins.stands.readings) (subst (λ (x : List ℕ). Cuts sizes (state_of e []) e' [] before before (Kept x ∷ []) b) is (h []))))
 
   -- the file is held, and the run goes on
   pub kept_came : (bytes : List ℕ) → Begins sizes e quiet (Some bytes) → e'.in_line ≡ false → Stands sizes e' [] → Did sizes (state_of e []) (state_of e' []) before before (Kept name ∷ []) →
@@ -165,9 +166,9 @@ module _ (sizes : Sizes) (e e' : Engine) (quiet : Bool) (file name : List ℕ) (
 
   -- the file isn't held, and the run ends
   module _ (begins : Begins sizes e quiet None) (column : e'.in_line ≡ false) (d : Did sizes (state_of e []) (state_of e' []) before before (Kept name ∷ [])) (b : SinkTold) (e2 : Engine) (n : ℕ) where
-    pub refused_fails : Halts sizes (state_of e' []) e2 (world_of f a e') (world_of f b e2) (no_file file) (AtFatal NoFile) 0 → SaysSo sizes (First quiet file None) n before (world_of f b e2) 2
+    pub refused_fails : Halts sizes (state_of e' []) e2 [] (world_of f a e') (world_of f b e2) (no_file file) (AtFatal NoFile) 0 → SaysSo sizes (First quiet file None) n before (world_of f b e2) 2
     refused_fails halts =
-        let h : Halts sizes (state_of e' []) e2 before (world_of f b e2) (no_file file) (AtFatal NoFile) 0 = subst (λ (x : Bool). Halts sizes (state_of e' []) e2 (world f a x) (world_of f b e2) (no_file file) (AtFatal NoFile) 0) column halts in
+        let h : Halts sizes (state_of e' []) e2 [] before (world_of f b e2) (no_file file) (AtFatal NoFile) 0 = subst (λ (x : Bool). Halts sizes (state_of e' []) e2 [] (world f a x) (world_of f b e2) (no_file file) (AtFatal NoFile) 0) column halts in
         let all : Did sizes (state_of e []) h.t before (world_of f b e2) (job_due file None) =
         did_join sizes (state_of e []) (state_of e' []) h.t before before (world_of f b e2) (Kept (job_name file) ∷ []) (no_file file) (kept_did d) h.did in
         record {
@@ -188,11 +189,11 @@ module _ (sizes : Sizes) (e e' : Engine) (quiet : Bool) (file name : List ℕ) (
           };
         }
 
-    pub refused_cut : (k : Broken) → Cuts sizes (state_of e' []) e2 [] (world_of f a e') (world_of f b e2) (no_file file) k → CutBy sizes (First quiet file None) n e2 before (world_of f b e2) k
-    refused_cut k cuts =
+    pub refused_cut : (k : Broken) → SameFrames e e' → SameFrames e' e2 → Cuts sizes (state_of e' []) e2 [] (world_of f a e') (world_of f b e2) (no_file file) k → CutBy sizes (First quiet file None) n e2 before (world_of f b e2) k
+    refused_cut k first second cuts =
         let h : Cuts sizes (state_of e' []) e2 [] before (world_of f b e2) (no_file file) k = subst (λ (x : Bool). Cuts sizes (state_of e' []) e2 [] (world f a x) (world_of f b e2) (no_file file) k) column cuts in
         subst (λ (s : State). CutBy sizes s n e2 before (world_of f b e2) k) (begins.state file)
-        (due_cuts sizes (state_of e []) e2 [] before (world_of f b e2) (job_due file None) n k (omega arith)
+        (due_cuts sizes (state_of e []) e2 [] before (world_of f b e2) (job_due file None) n k (omega arith) (frames_still e' e2 [] second (frames_still e e' [] first begins.stands.readings))
         (later_cuts sizes (state_of e []) (state_of e' []) e2 [] before before (world_of f b e2) (Kept (job_name file) ∷ []) (no_file file) k (kept_did d) h))
 
 -- the job's file is held, or it isn't

@@ -104,7 +104,7 @@ module _ (sizes : Sizes) (e e1 e2 : Engine) (f : FilesTold) (s0 s1 : SinkTold) (
     pub away_rule : (ruled : Ruled) → DoesOnward sizes (state_of e2 work) e3 (world_of f s1 e2) (world_of f s3 e3) (reported (page_of e2) report []) ruled →
         DoesOnward sizes (state_of e work) e3 (world_of f s0 e) (world_of f s3 e3) (away_moves (page_of e) text report) ruled
     away_rule ruled on =
-        onward_join sizes (state_of e work) (state_of e2 work) e3 (world_of f s0 e) (world_of f s1 e2) (world_of f s3 e3) (Written Transcript text ∷ put_one right_brace) (reported (page_behind (page_of e) text) report []) ruled both refl
+        onward_join sizes (state_of e work) (state_of e2 work) e3 (world_of f s0 e) (world_of f s1 e2) (world_of f s3 e3) (Written Transcript text ∷ put_one right_brace) (reported (page_behind (page_of e) text) report []) ruled (refl, ap (λ (p : Page). p.reports) page ∙ only.reports) both refl
         (subst (λ (p : Page). DoesOnward sizes (state_of e2 work) e3 (world_of f s1 e2) (world_of f s3 e3) (reported p report []) ruled) away_page on)
 
     pub away_cuts : (b : Broken) → Cuts sizes (state_of e2 work) e3 work (world_of f s1 e2) (world_of f s3 e3) (reported (page_of e2) report []) b →
@@ -292,7 +292,7 @@ module _ (sizes : Sizes) (e : Engine) (work : List Reading) where
     pub name_rule : (e2 : Engine) (w w' : World) (ruled : Ruled) → names ≡ joined e.names new → EntryFits e.names new → IsSized sizes e →
         DoesOnward sizes (state_of (named names) work) e2 w w' (onward_of (page_of (named names)) want (seen t)) ruled → DoesOnward sizes (state_of e work) e2 w w' (name_moves (page_of e) want x) ruled
     name_rule e2 w w' ruled after fits sized h =
-        onward_join sizes _ (state_of (named names) work) e2 w w w' (entered new) _ ruled (did_entered names new w (few_names (enters_of want) e.names.names x) sized after fits) (entered_none new)
+        onward_join sizes (state_of e work) (state_of (named names) work) e2 w w w' (entered new) _ ruled (refl, refl) (did_entered names new w (few_names (enters_of want) e.names.names x) sized after fits) (entered_none new)
         (onward_by sizes _ e2 w w' _ _ ruled (onward_now after) h)
 
     pub name_cuts : (e2 : Engine) (w w' : World) (b : Broken) → names ≡ joined e.names new → EntryFits e.names new → IsSized sizes e →
@@ -456,7 +456,7 @@ module _ (sizes : Sizes) (e : Engine) (i : Stored) (others : i ≡ record e.inpu
         token_did = did_pull (Handed t) (TokenFrom t i.pending) is refl tt refl refl
 
         pub token_rule : (w' : World) (e2 : Engine) (ruled : Ruled) → DoesOnward sizes (state_of now work) e2 w w' (onward (seen t)) ruled → DoesRule sizes (state_of e work) e2 w w' plan ruled
-        token_rule w' e2 ruled h = rule_by sizes _ e2 w w' _ _ ruled token_plan (step_join sizes _ (state_of now work) e2 w w w' (Settled ∷ Handed t ∷ []) (onward (seen t)) ruled token_did refl h)
+        token_rule w' e2 ruled h = rule_by sizes _ e2 w w' _ _ ruled token_plan (step_join sizes (state_of e work) (state_of now work) e2 w w w' (Settled ∷ Handed t ∷ []) (onward (seen t)) ruled (refl, refl) token_did refl h)
 
         pub token_cuts : (w' : World) (e2 : Engine) (b : Broken) → Cuts sizes (state_of now work) e2 work w w' (onward (seen t)) b → Cuts sizes (state_of e work) e2 work w w' plan b
         token_cuts w' e2 b h = cuts_by sizes _ e2 work w w' _ _ b token_plan (later_cuts sizes _ (state_of now work) e2 work w w w' (Settled ∷ Handed t ∷ []) (onward (seen t)) b token_did h)
@@ -476,7 +476,7 @@ module _ (sizes : Sizes) (e : Engine) (i : Stored) (others : i ≡ record e.inpu
         lexeme_did = did_pull (Handed handed_token) (LexemeFrom x i.pending) is refl tt refl refl
 
         pub lexeme_rule : (w' : World) (e2 : Engine) (ruled : Ruled) → DoesOnward sizes (state_of now work) e2 w w' then_moves ruled → DoesRule sizes (state_of e work) e2 w w' plan ruled
-        lexeme_rule w' e2 ruled h = rule_by sizes _ e2 w w' _ _ ruled lexeme_plan (step_join sizes _ (state_of now work) e2 w w w' (Settled ∷ Handed handed_token ∷ []) then_moves ruled lexeme_did refl h)
+        lexeme_rule w' e2 ruled h = rule_by sizes _ e2 w w' _ _ ruled lexeme_plan (step_join sizes (state_of e work) (state_of now work) e2 w w w' (Settled ∷ Handed handed_token ∷ []) then_moves ruled (refl, refl) lexeme_did refl h)
 
         pub lexeme_cuts : (w' : World) (e2 : Engine) (b : Broken) → Cuts sizes (state_of now work) e2 work w w' then_moves b → Cuts sizes (state_of e work) e2 work w w' plan b
         lexeme_cuts w' e2 b h = cuts_by sizes _ e2 work w w' _ _ b lexeme_plan (later_cuts sizes _ (state_of now work) e2 work w w w' (Settled ∷ Handed handed_token ∷ []) then_moves b lexeme_did h)
@@ -514,7 +514,7 @@ module _ (sizes : Sizes) (e : Engine) (i : Stored) (others : i ≡ record e.inpu
 
         pub skipped_rule : (w' : World) (e2 : Engine) (ruled : Ruled) → DoesOnward sizes (state_of now work) e2 w w' (reported page reports.InvalidCharacter []) ruled → DoesRule sizes (state_of e work) e2 w w' plan (freed ruled)
         skipped_rule w' e2 ruled h =
-            rule_by sizes _ e2 w w' _ _ (freed ruled) skipped_plan (free_rule sizes _ e2 w w' _ ruled (onward_join sizes _ (state_of now work) e2 w w w' (Settled ∷ Skipped ∷ []) _ ruled skipped_did refl h))
+            rule_by sizes _ e2 w w' _ _ (freed ruled) skipped_plan (free_rule sizes _ e2 w w' _ ruled (onward_join sizes (state_of e work) (state_of now work) e2 w w w' (Settled ∷ Skipped ∷ []) _ ruled (refl, refl) skipped_did refl h))
 
         pub skipped_cuts : (w' : World) (e2 : Engine) (b : Broken) → Cuts sizes (state_of now work) e2 work w w' (reported page reports.InvalidCharacter []) b → Cuts sizes (state_of e work) e2 work w w' plan b
         skipped_cuts w' e2 b h = cuts_by sizes _ e2 work w w' _ _ b skipped_plan (later_cuts sizes _ (state_of now work) e2 work w w w' (Settled ∷ Skipped ∷ []) _ b skipped_did h)
@@ -529,7 +529,7 @@ module _ (sizes : Sizes) (e : Engine) (i : Stored) (others : i ≡ record e.inpu
 
         pub closed_rule : (w' : World) (e2 : Engine) (ruled : Ruled) → DoesOnward sizes (state_of now work) e2 w w' check ruled → DoesRule sizes (state_of e work) e2 w w' plan (freed ruled)
         closed_rule w' e2 ruled h =
-            rule_by sizes _ e2 w w' _ _ (freed ruled) closed_plan (free_rule sizes _ e2 w w' _ ruled (onward_join sizes _ (state_of now work) e2 w w w' (Settled ∷ FileClosed ∷ []) check ruled closed_did refl h))
+            rule_by sizes _ e2 w w' _ _ (freed ruled) closed_plan (free_rule sizes _ e2 w w' _ ruled (onward_join sizes (state_of e work) (state_of now work) e2 w w w' (Settled ∷ FileClosed ∷ []) check ruled (refl, refl) closed_did refl h))
 
         pub closed_cuts : (w' : World) (e2 : Engine) (b : Broken) → Cuts sizes (state_of now work) e2 work w w' check b → Cuts sizes (state_of e work) e2 work w w' plan b
         closed_cuts w' e2 b h = cuts_by sizes _ e2 work w w' _ _ b closed_plan (later_cuts sizes _ (state_of now work) e2 work w w w' (Settled ∷ FileClosed ∷ []) check b closed_did h)
@@ -544,7 +544,7 @@ module _ (sizes : Sizes) (e : Engine) (i : Stored) (others : i ≡ record e.inpu
 
         pub no_end_rule : (w' : World) (e2 : Engine) (ruled : Ruled) (o : Outcome) → ruled ≡ Halted o → DoesOnward sizes (state_of now work) e2 w w' (last_moves page.in_line last.NoEnd) ruled → DoesRule sizes (state_of e work) e2 w w' plan ruled
         no_end_rule w' e2 ruled o ends h =
-            let all : DoesOnward sizes (state_of e work) e2 w w' (Settled ∷ last_moves page.in_line last.NoEnd) ruled = onward_join sizes _ (state_of now work) e2 w w w' (Settled ∷ []) (last_moves page.in_line last.NoEnd) ruled nothing_did refl h in
+            let all : DoesOnward sizes (state_of e work) e2 w w' (Settled ∷ last_moves page.in_line last.NoEnd) ruled = onward_join sizes (state_of e work) (state_of now work) e2 w w w' (Settled ∷ []) (last_moves page.in_line last.NoEnd) ruled (refl, refl) nothing_did refl h in
             rule_by sizes _ e2 w w' _ _ ruled nothing_plan (none_rule sizes _ e2 w w' _ ruled (λ (free : IsFree ruled). subst IsFree ends free) (λ (step : ruled ≡ Step). absurd (cc (sym step ∙ ends))) all)
 
         pub no_end_cuts : (w' : World) (e2 : Engine) (b : Broken) → Cuts sizes (state_of now work) e2 work w w' (last_moves page.in_line last.NoEnd) b → Cuts sizes (state_of e work) e2 work w w' plan b

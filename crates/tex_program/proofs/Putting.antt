@@ -183,13 +183,14 @@ module _ (sizes : Sizes) (e e1 e2 : Engine) (f : FilesTold) (s0 s2 : SinkTold) (
         count = steps_join (given_back back r.fed) (written ++ Noted ∷ []) ∙ omega (arith, back_none back r.fed);
       })
 
-  pub told_halts : (o : Outcome) → Halts sizes (state_of e1 (r ∷ rs)) e2 (world_of f s0 e1) (world_of f s2 e2) (reported (page_of e1) report (Noted ∷ [])) o 0 →
-      Halts sizes (state_of e (r ∷ rs)) e2 (world_of f s0 e) (world_of f s2 e2) (told (page_of e) report back r.fed) o 1
-  told_halts o halts =
-      let h : Halts sizes (state_of e1 (r ∷ rs)) e2 (world_of f s0 e) (world_of f s2 e2) (reported (page_of e) report (Noted ∷ [])) o 0 =
-      subst (λ (p : Page). Halts sizes (state_of e1 (r ∷ rs)) e2 (world f s0 p.in_line) (world_of f s2 e2) (reported p report (Noted ∷ [])) o 0) page halts in
-      subst (λ (ms : List Move). Halts sizes (state_of e (r ∷ rs)) e2 (world_of f s0 e) (world_of f s2 e2) ms o 1) (sym (told_is (page_of e) report back r.fed once))
-      (halts_least sizes _ e2 _ _ _ o 0 1 (omega arith) (halts_on sizes _ _ e2 _ _ _ (given_back back r.fed) (reported (page_of e) report (Noted ∷ [])) o 0 0 given (back_none back r.fed) h))
+  pub told_halts : (o : Outcome) → e1.reports ≡ e.reports → Halts sizes (state_of e1 (r ∷ rs)) e2 (r ∷ rs) (world_of f s0 e1) (world_of f s2 e2) (reported (page_of e1) report (Noted ∷ [])) o 0 →
+      Halts sizes (state_of e (r ∷ rs)) e2 (r ∷ rs) (world_of f s0 e) (world_of f s2 e2) (told (page_of e) report back r.fed) o 1
+  told_halts o counted halts =
+      let h : Halts sizes (state_of e1 (r ∷ rs)) e2 (r ∷ rs) (world_of f s0 e) (world_of f s2 e2) (reported (page_of e) report (Noted ∷ [])) o 0 =
+      subst (λ (p : Page). Halts sizes (state_of e1 (r ∷ rs)) e2 (r ∷ rs) (world f s0 p.in_line) (world_of f s2 e2) (reported p report (Noted ∷ [])) o 0) page halts in
+      subst (λ (ms : List Move). Halts sizes (state_of e (r ∷ rs)) e2 (r ∷ rs) (world_of f s0 e) (world_of f s2 e2) ms o 1) (sym (told_is (page_of e) report back r.fed once))
+      (halts_least sizes _ e2 (r ∷ rs) _ _ _ o 0 1 (omega arith)
+      (halts_on sizes (state_of e (r ∷ rs)) (state_of e1 (r ∷ rs)) e2 (r ∷ rs) _ _ _ (given_back back r.fed) (reported (page_of e) report (Noted ∷ [])) o 0 0 counted given (back_none back r.fed) h))
 
   pub told_cuts : (b : Broken) → Cuts sizes (state_of e1 (r ∷ rs)) e2 (r ∷ rs) (world_of f s0 e1) (world_of f s2 e2) (reported (page_of e1) report (Noted ∷ [])) b →
       Cuts sizes (state_of e (r ∷ rs)) e2 (r ∷ rs) (world_of f s0 e) (world_of f s2 e2) (told (page_of e) report back r.fed) b

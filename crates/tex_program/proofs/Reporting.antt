@@ -1,5 +1,5 @@
 -- Texts, reports and ends that the engine writes.
-use Rattle.std.proofs.Common.{◌≡◌, ℕ, ◌+◌, List, [], ◌∷◌, ◌++◌, refl, sym, ap, ◌∙◌, subst, Bool, true, false, reverse, arith}
+use Rattle.std.proofs.Common.{◌≡◌, ℕ, ◌+◌, ◌≤◌, List, [], ◌∷◌, ◌++◌, refl, sym, ap, ◌∙◌, subst, Bool, true, false, reverse, arith}
 use Rattle.std.specs.Prelude.{Option, Some, None, Result, Ok, Err, IfErr, IsErrAnd, nat_lt, if◌then◌else◌}
 use Rattle.tex_defs.specs.declared.Sizes.{Sizes}
 use Rattle.tex_defs.specs.declared.Token.{Token}
@@ -44,10 +44,10 @@ use Rattle.tex_program.specs.declared.reactions.Last.{Last}
 use Rattle.tex_program.specs.declared.reactions.Last.TheVariants as last
 use Rattle.tex_program.specs.Faults.{broken_by}
 use Rattle.tex_program.specs.Begins.{outcome_of, outcome_of_last, last_moves, last_bytes, IsNoFeed, IsNoBegin}
-use Rattle.tex_program.specs.Stands.{Stands, WorkStands, Waits, WaitStands, EndsHere, OuterStand, AtMostOne, IsSized, SameFrames, SameState, OnlyColumn, state_of, page_of}
+use Rattle.tex_program.specs.Stands.{Stands, FramesStand, WorkStands, Waits, WaitStands, EndsHere, OuterStand, AtMostOne, IsSized, SameFrames, SameState, OnlyColumn, state_of, page_of}
 use Rattle.tex_program.specs.Rules.{world_of, Takes, FitsOnward, Cuts, CountsReports, Went, Halts, Reports}
 use Rattle.tex_program.proofs.Cutting.{cuts_by, full_cuts, later_cuts, did_out, cut_out}
-use Rattle.tex_program.proofs.Joining.{IsQuiet, quiet_here, quiet_wrote, halts_on}
+use Rattle.tex_program.proofs.Joining.{IsQuiet, quiet_here, quiet_wrote}
 
 -- WRITES
 
@@ -114,14 +114,28 @@ report_last : (page : Page) (report : reports.Report) (rest : List Move) → nat
 report_last page report rest e = rw e refl
 
 -- the machine stops behind its last text
-stops : (sizes : Sizes) (s : State) (e' : Engine) (w w' : World) (bs : List ℕ) (o : machine.Outcome) → s.due ≡ [] → CountsReports o s e' → Wrote w w' (Written Transcript bs ∷ []) →
-    Halts sizes s e' w w' (Written Transcript bs ∷ Stopped o ∷ []) o 0
-stops sizes s e' w w' bs o due counts wrote = record {
+stops_did : (sizes : Sizes) (s : State) (w w' : World) (bs : List ℕ) (o : machine.Outcome) → Wrote w w' (Written Transcript bs ∷ []) →
+    Did sizes s (made (Stopped o) (made (Written Transcript bs) s)) w w' (Written Transcript bs ∷ Stopped o ∷ [])
+stops_did sizes s w w' bs o wrote = record {
+  state = refl;
+  fits = (refl, (refl, tt));
+  written = wrote_join w w' w' (Written Transcript bs ∷ []) (Stopped o ∷ []) wrote (quiet_here (Stopped o) w' tt);
+}
+
+-- and the engine stands for its state, but for how it stopped
+stops_at : (sizes : Sizes) (s : State) (e' : Engine) (work : List Reading) (w w' : World) (bs : List ℕ) (o : machine.Outcome) → Did sizes s (state_of e' work) w w' (Written Transcript bs ∷ []) →
+    record (made (Stopped o) (made (Written Transcript bs) s)) { stopped = None } ≡ state_of e' work
+stops_at sizes s e' work w w' bs o d = ap (λ (x : State). record x { stopped = None }) d.state
+
+stops : (sizes : Sizes) (s : State) (e' : Engine) (work : List Reading) (w w' : World) (bs : List ℕ) (o : machine.Outcome) → s.due ≡ [] → CountsReports o s e' → Did sizes s (state_of e' work) w w' (Written Transcript bs ∷ []) →
+    Halts sizes s e' work w w' (Written Transcript bs ∷ Stopped o ∷ []) o 0
+stops sizes s e' work w w' bs o due counts d = record {
   t = made (Stopped o) (made (Written Transcript bs) s);
-  did = record { state = refl; fits = (refl, (refl, tt)); written = wrote_join w w' w' (Written Transcript bs ∷ []) (Stopped o ∷ []) wrote (quiet_here (Stopped o) w' tt) };
+  did = stops_did sizes s w w' bs o d.written;
   stopped = refl;
   due = due;
   reports = by_outcome o counts;
+  same = λ few. stops_at sizes s e' work w w' bs o d;
   count = omega arith;
 } where
   by_outcome : (o : machine.Outcome) → CountsReports o s e' → CountsReports o (made (Stopped o) (made (Written Transcript bs) s)) e'
@@ -129,10 +143,10 @@ stops sizes s e' w w' bs o due counts wrote = record {
   by_outcome (AtFatal f) h = tt
 
 -- where the machine stops of itself
-pub last_is : (sizes : Sizes) (st t : State) (e' : Engine) (w w' : World) (b : Bool) (l : Last) → st.due ≡ [] → e'.reports ≡ st.reports → Did sizes st t w w' (Written Transcript (last_bytes b l) ∷ []) →
-    Halts sizes st e' w w' (last_moves b l) (outcome_of (outcome_of_last l)) 0
-last_is sizes st t e' w w' b last.End due is d = stops sizes st e' w w' _ _ due (sym is) d.written
-last_is sizes st t e' w w' b last.NoEnd due is d = stops sizes st e' w w' _ _ due tt d.written
+pub last_is : (sizes : Sizes) (st : State) (e' : Engine) (work : List Reading) (w w' : World) (b : Bool) (l : Last) → st.due ≡ [] → e'.reports ≡ st.reports → Did sizes st (state_of e' work) w w' (Written Transcript (last_bytes b l) ∷ []) →
+    Halts sizes st e' work w w' (last_moves b l) (outcome_of (outcome_of_last l)) 0
+last_is sizes st e' work w w' b last.End due is d = stops sizes st e' work w w' _ _ due (sym is) d
+last_is sizes st e' work w w' b last.NoEnd due is d = stops sizes st e' work w w' _ _ due tt d
 
 pub last_cut : (sizes : Sizes) (s : State) (e' : Engine) (work : List Reading) (w w' : World) (b : Bool) (l : Last) (k : Broken) →
     ((more : List Move) → Cuts sizes s e' work w w' (Written Transcript (last_bytes b l) ∷ more) k) → Cuts sizes s e' work w w' (last_moves b l) k
@@ -146,10 +160,17 @@ module _ (sizes : Sizes) (s u : State) (w w1 : World) (text : List ℕ) (first :
 
   -- and behind which the run ends
   module _ (w2 : World) (line : List ℕ) (f : Fatal) where
-    ends_behind : (e' : Engine) → u.due ≡ [] → Wrote w1 w2 (Written Transcript line ∷ []) → Halts sizes s e' w w2 (Written Transcript text ∷ Reported ∷ Written Transcript line ∷ Stopped (AtFatal f) ∷ []) (AtFatal f) 0
-    ends_behind e' due second =
-        halts_on sizes s (made Reported u) e' w w1 w2 (Written Transcript text ∷ Reported ∷ []) (Written Transcript line ∷ Stopped (AtFatal f) ∷ []) (AtFatal f) 0 0 counted_first refl
-        (stops sizes (made Reported u) e' w1 w2 line (AtFatal f) due tt second)
+    ends_behind : (v : State) (e' : Engine) (work : List Reading) → u.due ≡ [] → Did sizes v (state_of e' work) w1 w2 (Written Transcript line ∷ []) → (s.reports ≤ reports_room → made Reported u ≡ v) →
+        Halts sizes s e' work w w2 (Written Transcript text ∷ Reported ∷ Written Transcript line ∷ Stopped (AtFatal f) ∷ []) (AtFatal f) 0
+    ends_behind v e' work due second is = record {
+      t = made (Stopped (AtFatal f)) (made (Written Transcript line) (made Reported u));
+      did = did_join sizes s (made Reported u) _ w w1 w2 (Written Transcript text ∷ Reported ∷ []) (Written Transcript line ∷ Stopped (AtFatal f) ∷ []) counted_first (stops_did sizes (made Reported u) w1 w2 line (AtFatal f) second.written);
+      stopped = refl;
+      due = due;
+      reports = tt;
+      same = λ few. ap (λ (x : State). record (made (Stopped (AtFatal f)) (made (Written Transcript line) x)) { stopped = None }) (is few) ∙ stops_at sizes v e' work w1 w2 line (AtFatal f) second;
+      count = omega arith;
+    }
 
     -- and its last line is cut off
     cuts_behind : (v : State) (e' : Engine) (work : List Reading) (b : Broken) → made Reported u ≡ v → ((more : List Move) → Cuts sizes v e' work w1 w2 (Written Transcript line ∷ more) b) →
@@ -167,10 +188,11 @@ module _ (sizes : Sizes) (page : Page) (report : reports.Report) (rest : List Mo
 
   -- the hundredth
   module _ (w2 : World) (full : nat_lt page.reports reports_room ≡ false) where
-    pub hundredth : (e' : Engine) → u.due ≡ [] → Wrote w1 w2 (Written Transcript hundred_line ∷ []) → Halts sizes s e' w w2 (reported page report rest) (AtFatal fatal.HundredErrors) 0
-    hundredth e' due second =
-        subst (λ (ms : List Move). Halts sizes s e' w w2 ms (AtFatal fatal.HundredErrors) 0) (sym (report_last page report rest full))
-        (ends_behind sizes s u w w1 (first_text page report) first w2 hundred_line fatal.HundredErrors e' due second)
+    pub hundredth : (v : State) (e' : Engine) (work : List Reading) → u.due ≡ [] → Did sizes v (state_of e' work) w1 w2 (Written Transcript hundred_line ∷ []) → (s.reports ≤ reports_room → made Reported u ≡ v) →
+        Halts sizes s e' work w w2 (reported page report rest) (AtFatal fatal.HundredErrors) 0
+    hundredth v e' work due second is =
+        subst (λ (ms : List Move). Halts sizes s e' work w w2 ms (AtFatal fatal.HundredErrors) 0) (sym (report_last page report rest full))
+        (ends_behind sizes s u w w1 (first_text page report) first w2 hundred_line fatal.HundredErrors v e' work due second is)
 
     pub hundred_cuts : (v : State) (e' : Engine) (work : List Reading) (b : Broken) → made Reported u ≡ v → ((more : List Move) → Cuts sizes v e' work w1 w2 (Written Transcript hundred_line ∷ more) b) →
         Cuts sizes s e' work w w2 (reported page report rest) b
@@ -190,10 +212,11 @@ module _ (sizes : Sizes) (file : List ℕ) (names : List (List ℕ)) (b : Bool) 
   missing_cuts e' work w w' k h = cuts_by sizes s e' work w w' _ _ k (no_file_is file names b names_are column) (h (Reported ∷ Written Transcript no_file_lines ∷ Stopped (AtFatal fatal.NoFile) ∷ []))
 
   module _ (u : State) (w w1 w2 : World) (first : Did sizes s u w w1 (Written Transcript (report_bytes names b 0 (reports.NoSuchFile file)) ∷ [])) where
-    pub job_halts : (e' : Engine) → u.due ≡ [] → Wrote w1 w2 (Written Transcript no_file_lines ∷ []) → Halts sizes s e' w w2 (no_file file) (AtFatal fatal.NoFile) 0
-    job_halts e' due second =
-        subst (λ (ms : List Move). Halts sizes s e' w w2 ms (AtFatal fatal.NoFile) 0) (sym (no_file_is file names b names_are column))
-        (ends_behind sizes s u w w1 (report_bytes names b 0 (reports.NoSuchFile file)) first w2 no_file_lines fatal.NoFile e' due second)
+    pub job_halts : (v : State) (e' : Engine) (work : List Reading) → u.due ≡ [] → Did sizes v (state_of e' work) w1 w2 (Written Transcript no_file_lines ∷ []) → (s.reports ≤ reports_room → made Reported u ≡ v) →
+        Halts sizes s e' work w w2 (no_file file) (AtFatal fatal.NoFile) 0
+    job_halts v e' work due second is =
+        subst (λ (ms : List Move). Halts sizes s e' work w w2 ms (AtFatal fatal.NoFile) 0) (sym (no_file_is file names b names_are column))
+        (ends_behind sizes s u w w1 (report_bytes names b 0 (reports.NoSuchFile file)) first w2 no_file_lines fatal.NoFile v e' work due second is)
 
     pub job_cuts : (v : State) (e' : Engine) (work : List Reading) (k : Broken) → made Reported u ≡ v → ((more : List Move) → Cuts sizes v e' work w1 w2 (Written Transcript no_file_lines ∷ more) k) → Cuts sizes s e' work w w2 (no_file file) k
     job_cuts v e' work k is h = cuts_by sizes s e' work w w2 _ _ k (no_file_is file names b names_are column)
@@ -205,17 +228,17 @@ counted_last e work n is = ap (λ (k : ℕ). record (state_of e work) { reports 
 
 -- WHAT STAYS
 
+-- the frames stand for the same readings
+pub frames_still : (e e' : Engine) (work : List Reading) → SameFrames e e' → FramesStand e work → FramesStand e' work
+frames_still e e' work same h =
+    subst (λ (x : List (List Token)). WorkStands e'.ask e'.top e'.outer.items x work) (sym same.lists)
+    (subst (λ (x : List Waiting). WorkStands e'.ask e'.top x e.input.gathered work) (sym (ap (λ (o : _). o.items) same.outer))
+    (subst (λ (x : Option Frame). WorkStands e'.ask x e.outer.items e.input.gathered work) (sym same.top)
+    (subst (λ (x : Ask). WorkStands x e.top e.outer.items e.input.gathered work) (sym same.ask) h)))
+
 -- the engine whose readings are as they were
 pub stands_still : (sizes : Sizes) (e e' : Engine) (work : List Reading) → SameFrames e e' → IsSized sizes e' → e'.input.making ≡ None → Stands sizes e work → Stands sizes e' work
-stands_still sizes e e' work same sized idle st = record {
-  sized = sized;
-  idle = idle;
-  readings =
-      subst (λ (x : List (List Token)). WorkStands e'.ask e'.top e'.outer.items x work) (sym same.lists)
-      (subst (λ (x : List Waiting). WorkStands e'.ask e'.top x e.input.gathered work) (sym (ap (λ (o : _). o.items) same.outer))
-      (subst (λ (x : Option Frame). WorkStands e'.ask x e.outer.items e.input.gathered work) (sym same.top)
-      (subst (λ (x : Ask). WorkStands x e.top e.outer.items e.input.gathered work) (sym same.ask) st.readings)));
-}
+stands_still sizes e e' work same sized idle st = record { sized = sized; idle = idle; readings = frames_still e e' work same st.readings }
 
 -- or waits, as it did
 pub waits_still : (sizes : Sizes) (e e' : Engine) (work : List Reading) → SameFrames e e' → IsSized sizes e' → e'.input.making ≡ None → Waits sizes e work → Waits sizes e' work

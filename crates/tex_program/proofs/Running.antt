@@ -20,10 +20,11 @@ use Rattle.tex_program.specs.declared.reactions.Outcome.{Outcome}
 use Rattle.tex_program.specs.declared.broken.Broken.{Broken}
 use Rattle.tex_program.specs.Begins.{outcome_of}
 use Rattle.tex_program.specs.Faults.{why_of}
-use Rattle.tex_program.specs.Stands.{Stands, state_of}
-use Rattle.tex_program.specs.Steps.{StepsIf}
+use Rattle.tex_program.specs.Stands.{Stands, SameFrames, state_of}
+use Rattle.tex_program.specs.Steps.{IsHalted, StepsIf}
 use Rattle.tex_program.specs.Rules.{DoesRule, Went, Halts, Cuts, IsMoment, plan_of}
 use Rattle.tex_program.specs.Ran.{Came, Stops, Settles, Ran, IsAt, CutBy, end_of}
+use Rattle.tex_program.proofs.Reporting.{frames_still}
 
 pub came_none : (sizes : Sizes) (e : Engine) (work : List Reading) (w : World) → Stands sizes e work → Came sizes (state_of e work) e w w 0
 came_none sizes e work w stands = record { ms = []; work' = work; stands = stands; moves = refl; count = refl; written = wrote_none w }
@@ -43,9 +44,9 @@ module _ (sizes : Sizes) (s : State) (e e' : Engine) (w w' w'' : World) (k : ℕ
         written = wrote_join w w' w'' came.ms plan came.written went.did.written;
       }
 
-  pub came_halts : (j : ℕ) (o : Outcome) → ((work : List Reading) → Stands sizes e work → Halts sizes (state_of e work) e' w' w'' (plan_of e work) (outcome_of o) 1) →
+  pub came_halts : (j : ℕ) (o : Outcome) → ((work : List Reading) → Stands sizes e work → Halts sizes (state_of e work) e' work w' w'' (plan_of e work) (outcome_of o) 1) → SameFrames e e' →
       ((work : List Reading) → Stands sizes e work → steps (plan_of e work) ≡ j) → Stops sizes s e' w w'' (k + j) o
-  came_halts j o does count =
+  came_halts j o does same count =
       let halts = does came.work' came.stands in
       let plan : List Move = plan_of e came.work' in
       record {
@@ -56,6 +57,7 @@ module _ (sizes : Sizes) (s : State) (e e' : Engine) (w w' w'' : World) (k : ℕ
         ends = stopped_ends halts.t (outcome_of o) halts.due halts.stopped;
         stopped = halts.stopped;
         reports = halts.reports;
+        stands = record { work' = came.work'; frames = frames_still e e' came.work' same came.stands.readings; same = halts.same came.stands.sized.few_reports };
         written = wrote_join w w' w'' came.ms plan came.written halts.did.written;
       }
 
@@ -83,6 +85,7 @@ module _ (sizes : Sizes) (s : State) (e e' : Engine) (w w' w'' : World) (k : ℕ
         ends = h.ends;
         stopped = h.stopped;
         reports = h.reports;
+        stands = h.stands;
         written = wrote_join w w' w'' came.ms h.ms came.written h.written;
       }
 
@@ -94,7 +97,7 @@ module _ (sizes : Sizes) (s : State) (e e' : Engine) (w w' w'' : World) (k : ℕ
   pub cut_by_join : (j n : ℕ) (b : Broken) → k + j ≤ n → ((work : List Reading) → Stands sizes e work → CutBy sizes (state_of e work) j e' w' w'' b) → CutBy sizes s n e' w w'' b
   cut_by_join j n b le on =
       let h = on came.work' came.stands in
-      record { t = h.t; cut = cut_on j n h.t (why_of b) le h.cut; work' = h.work'; same = h.same }
+      record { t = h.t; cut = cut_on j n h.t (why_of b) le h.cut; work' = h.work'; frames = h.frames; same = h.same }
 
   -- and a whole run
   comes_on : (i j n : ℕ) (t : State) (end : End) → j ≡ i → Comes sizes i n t end → Comes sizes j n t end
@@ -123,11 +126,11 @@ same_moment IsFault t at s e h = ap (λ (x : State). record x { in_line = s.in_l
 same_moment IsWant t at s e h = ap (λ (x : State). record x { in_line = s.in_line }) e ∙ ap but_due h
 
 -- a rule that is cut off
-pub rule_cut : (sizes : Sizes) (e e' : Engine) (work : List Reading) (w w' : World) (n : ℕ) (b : Broken) → steps (plan_of e work) ≤ n →
+pub rule_cut : (sizes : Sizes) (e e' : Engine) (work : List Reading) (w w' : World) (n : ℕ) (b : Broken) → steps (plan_of e work) ≤ n → SameFrames e e' → Stands sizes e work →
     Cuts sizes (state_of e work) e' work w w' (plan_of e work) b → CutBy sizes (state_of e work) n e' w w' b
-rule_cut sizes e e' work w w' n b le h =
+rule_cut sizes e e' work w w' n b le same stands h =
     let off : CutOff sizes (state_of e work) h.at n w w' (why_of b) = plan_cut sizes (state_of e work) h.at n w w' (plan_of e work) (why_of b) h.cut le refl refl in
-    record { t = off.t; cut = off.cut; work' = work; same = same_moment (why_of b) off.t h.at (state_of e' work) off.same h.same }
+    record { t = off.t; cut = off.cut; work' = work; frames = frames_still e e' work same stands.readings; same = same_moment (why_of b) off.t h.at (state_of e' work) off.same h.same }
 
 -- THE END OF A RUN
 
@@ -137,7 +140,7 @@ stops_whole sizes s e' w w' k n o le h = record {
   ms = h.ms;
   t = h.t;
   run = record { moves = h.moves; within = omega (arith, le, h.within); whole = h.ends };
-  ends = (h.stopped, h.reports);
+  ends = (h.stopped, (h.reports, h.stands));
   written = h.written;
 }
 
@@ -181,8 +184,11 @@ module _ (sizes : Sizes) (s : State) (e' : Engine) (w w' : World) (plan : List M
   pub as_free : r ≡ ruled.Free → DoesRule sizes s e' w w' plan r → Went sizes s e' w w' plan 0
   as_free is h = subst (λ (x : Ruled). DoesRule sizes s e' w w' plan x) is h
 
-  pub as_halted : (o : Outcome) → r ≡ ruled.Halted o → DoesRule sizes s e' w w' plan r → Halts sizes s e' w w' plan (outcome_of o) 1
+  pub as_halted : (o : Outcome) → r ≡ ruled.Halted o → DoesRule sizes s e' w w' plan r → Halts sizes s e' s.work w w' plan (outcome_of o) 1
   as_halted o is h = subst (λ (x : Ruled). DoesRule sizes s e' w w' plan x) is h
+
+pub when_halted : (r : Ruled) (o : Outcome) → r ≡ ruled.Halted o → IsHalted r
+when_halted r o is = subst IsHalted (sym is) tt
 
 pub same_count : (sizes : Sizes) (s : State) (e' : Engine) (w w' : World) (k : ℕ) → Came sizes s e' w w' (k + 0) → Came sizes s e' w w' k
 same_count sizes s e' w w' k h = subst (λ (x : ℕ). Came sizes s e' w w' x) (omega arith) h

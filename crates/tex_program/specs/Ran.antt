@@ -14,7 +14,7 @@ use Rattle.tex_program.specs.declared.engine.Ended.TheVariants.{Halted, Steps}
 use Rattle.tex_program.specs.declared.reactions.Outcome.{Outcome}
 use Rattle.tex_program.specs.Begins.{outcome_of}
 use Rattle.tex_program.specs.Faults.{why_of}
-use Rattle.tex_program.specs.Stands.{Stands, state_of}
+use Rattle.tex_program.specs.Stands.{Stands, FramesStand, state_of}
 use Rattle.tex_program.specs.Rules.{CountsReports, IsMoment}
 
 -- The machine has come from s to where the engine is.
@@ -26,6 +26,12 @@ pub record Came (sizes : Sizes) (s : State) (e' : Engine) (w w' : World) (k : �
   pub count : steps ms ≡ k
   pub written : Wrote w w' ms
 
+-- A run has ended in this state: the engine stands for it, with its open readings, but for how it stopped.
+pub record IsEnd (e' : Engine) (t : State) : Type 0 where
+  pub work' : List Reading
+  pub frames : FramesStand e' work'
+  pub same : record t { stopped = None } ≡ state_of e' work'
+
 -- The machine has come from s to its end, behind at most k steps.
 pub record Stops (sizes : Sizes) (s : State) (e' : Engine) (w w' : World) (k : ℕ) (o : Outcome) : Type 0 where
   pub ms : List Move
@@ -35,6 +41,7 @@ pub record Stops (sizes : Sizes) (s : State) (e' : Engine) (w w' : World) (k : �
   pub ends : next t ≡ Ends
   pub stopped : t.stopped ≡ Some (outcome_of o)
   pub reports : CountsReports (outcome_of o) t e'
+  pub stands : IsEnd e' t
   pub written : Wrote w w' ms
 
 -- The machine has come on without a step: to where one comes next, or to its end.
@@ -53,7 +60,7 @@ end_of (Halted o) = AtEnd
 end_of Steps = AtSteps
 
 abbrev pub EndsAs : Sizes → Ended → Engine → State → Type 0
-EndsAs sizes (Halted o) e' t = (t.stopped ≡ Some (outcome_of o)) × CountsReports (outcome_of o) t e'
+EndsAs sizes (Halted o) e' t = (t.stopped ≡ Some (outcome_of o)) × (CountsReports (outcome_of o) t e' × IsEnd e' t)
 EndsAs sizes Steps e' t = IsAt sizes e' t
 
 -- The whole run of at most n steps within the sizes, and how it ended.
@@ -64,10 +71,11 @@ pub record Ran (sizes : Sizes) (s : State) (n : ℕ) (e' : Engine) (w w' : World
   pub ends : EndsAs sizes ended e' t
   pub written : Wrote w w' ms
 
--- The run was cut off at a moment t: at a move that a table has no room for, or that calls the outside. The engine stands for it, but
--- for what is due; at a failed write its column is that of the bytes really written.
+-- The run was cut off at a moment t: at a move that a table has no room for, or that calls the outside. The engine stands for it, with
+-- its open readings, but for what is due; at a failed write its column is that of the bytes really written.
 pub record CutBy (sizes : Sizes) (s : State) (n : ℕ) (e' : Engine) (w w' : World) (b : Broken) : Type 0 where
   pub t : State
   pub cut : CutAt sizes s n t w w' (why_of b)
   pub work' : List Reading
+  pub frames : FramesStand e' work'
   pub same : IsMoment (why_of b) (but_due t) (state_of e' work')

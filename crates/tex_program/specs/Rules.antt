@@ -10,7 +10,7 @@ use Rattle.plain_state.specs.Lookup.{new_name, token_of}
 use Rattle.plain_state.specs.Names.{seen}
 use Rattle.plain_state.specs.States.{Reading, State, Move, Written, Reported}
 use Rattle.plain_state.specs.States as machine
-use Rattle.plain_machine.specs.Plan.{Page, planned, stomach, wanted, checked, without_file, reported, entered, enters_names}
+use Rattle.plain_machine.specs.Plan.{Page, planned, stomach, wanted, checked, without_file, reported, entered, enters_names, reports_room}
 use Rattle.plain_machine.specs.Runs.{steps}
 use Rattle.plain_machine.specs.Does.{Did, Cut, Why, IsFull, IsFault, IsWant}
 use Rattle.world_io.specs.Told.{FilesTold, SinkTold, world}
@@ -49,13 +49,15 @@ abbrev pub CountsReports : machine.Outcome → State → Engine → Type 0
 CountsReports machine.Finished t e = t.reports ≡ e.reports
 CountsReports (machine.AtFatal f) t e = Unit {0}
 
--- The machine has stopped, behind at most k steps.
-pub record Halts (sizes : Sizes) (s : State) (e' : Engine) (w w' : World) (moves : List Move) (o : machine.Outcome) (k : ℕ) : Type 0 where
+-- The machine has stopped, behind at most k steps. The engine stands for its last state, but for how it stopped, with the same
+-- readings, where its reports were no more than a run may have before its last.
+pub record Halts (sizes : Sizes) (s : State) (e' : Engine) (work : List Reading) (w w' : World) (moves : List Move) (o : machine.Outcome) (k : ℕ) : Type 0 where
   pub t : State
   pub did : Did sizes s t w w' moves
   pub stopped : t.stopped ≡ Some o
   pub due : t.due ≡ []
   pub reports : CountsReports o t e'
+  pub same : s.reports ≤ reports_room → record t { stopped = None } ≡ state_of e' work
   pub count : steps moves ≤ k
 
 -- A report is written and counted, behind which the rule goes on.
@@ -120,10 +122,10 @@ pub record Cuts (sizes : Sizes) (s : State) (e' : Engine) (work : List Reading) 
 abbrev pub DoesRule : Sizes → State → Engine → World → World → List Move → Ruled → Type 0
 DoesRule sizes s e' w w' moves Step = Went sizes s e' w w' moves 1
 DoesRule sizes s e' w w' moves Free = Went sizes s e' w w' moves 0
-DoesRule sizes s e' w w' moves (Halted o) = Halts sizes s e' w w' moves (outcome_of o) 1
+DoesRule sizes s e' w w' moves (Halted o) = Halts sizes s e' s.work w w' moves (outcome_of o) 1
 
 -- of moves without a step
 abbrev pub DoesOnward : Sizes → State → Engine → World → World → List Move → Ruled → Type 0
 DoesOnward sizes s e' w w' moves Step = Went sizes s e' w w' moves 0
 DoesOnward sizes s e' w w' moves Free = ⊥
-DoesOnward sizes s e' w w' moves (Halted o) = Halts sizes s e' w w' moves (outcome_of o) 0
+DoesOnward sizes s e' w w' moves (Halted o) = Halts sizes s e' s.work w w' moves (outcome_of o) 0

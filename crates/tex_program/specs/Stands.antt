@@ -80,6 +80,10 @@ WorkStands a None outer lists (r ∷ rs) = ⊥
 WorkStands a (Some frame) outer lists [] = ⊥
 WorkStands a (Some frame) outer lists (r ∷ rs) = Innermost a frame lists r × OuterStand (reverse outer) rs
 
+-- the open readings, with the lists that they hold, are these
+abbrev pub FramesStand : Engine → List Reading → Type 0
+FramesStand e work = WorkStands e.ask e.top e.outer.items e.input.gathered work
+
 -- the tables' sizes are these, a reading more than may be open can be counted, and the last report that a run may have hasn't come
 pub record IsSized (sizes : Sizes) (e : Engine) : Type 0 where
   pub few_reports : e.reports ≤ reports_room
@@ -93,7 +97,7 @@ pub record IsSized (sizes : Sizes) (e : Engine) : Type 0 where
 pub record Stands (sizes : Sizes) (e : Engine) (work : List Reading) : Type 0 where
   pub sized : IsSized sizes e
   pub idle : e.input.making ≡ None
-  pub readings : WorkStands e.ask e.top e.outer.items e.input.gathered work
+  pub readings : FramesStand e work
 
 -- The innermost reading waits for what comes.
 abbrev pub WaitStands : Option Frame → List Waiting → List (List Token) → List Reading → Type 0

@@ -44,6 +44,10 @@ abbrev pub IsFree : Ruled → Type 0
 IsFree Free = Unit {0}
 IsFree r = ⊥
 
+abbrev pub IsHalted : Ruled → Type 0
+IsHalted (Halted o) = Unit {0}
+IsHalted r = ⊥
+
 -- a rule that goes on has a step exactly where one comes next
 abbrev pub StepsIf : Ruled → Bool → Type 0
 StepsIf Step b = b ≡ true

@@ -25,7 +25,7 @@ ghost use Rattle.input_state.specs.Stored.{words as stored_words};
 ghost use Rattle.tex_program.specs.Begins.{outcome_of, outcome_of_last, last_moves, last_bytes, away_moves, onward_moves};
 ghost use Rattle.tex_program.specs.Stands.{Stands, Waits, WaitsWith, EndsHere, FeedsHere, FedFrame, IsSized, IsLast, Counts, SameState, SameOthers, SameFrames, OnlyColumn, state_of, page_of, frames, depth_full, top_grows, kept_lists, other_lists};
 ghost use Rattle.tex_program.specs.Rules.{world_of, plan_of, onward_of, enters_of, name_moves, check_of, away_text, Takes, Wants, FitsOnward, TopTakes, Cuts, Went, Reports, Halts, DoesRule, DoesOnward};
-ghost use Rattle.tex_program.specs.Steps.{stepping, IsStep, IsFree, StepsIf, freed, pending_weight, weight};
+ghost use Rattle.tex_program.specs.Steps.{stepping, IsStep, IsFree, IsHalted, StepsIf, freed, pending_weight, weight};
 ghost use Rattle.tex_program.specs.First.{Begins};
 ghost use Rattle.tex_program.specs.Ran.{Ran, Settles, CutBy};
 ghost use Rattle.tex_program.specs.declared.reactions.Outcome.TheVariants as outcomes;
@@ -254,7 +254,7 @@ impl Engine {
         ensures on { IfOk result (λ on. on ≡ true → (sizes : Sizes) (f : FilesTold) (work : List Reading) (rest : List Move) →
             Reports sizes (state_of self.old work) (state_of self.new work) (world_of f (S.told out.old) self.old) (world_of f (S.told out.new) self.new) (page_of self.old) (report_of report) rest) }
         ensures last { IfOk result (λ on. on ≡ false → (sizes : Sizes) (f : FilesTold) (work : List Reading) (rest : List Move) →
-            Halts sizes (state_of self.old work) self.new (world_of f (S.told out.old) self.old) (world_of f (S.told out.new) self.new) (reported (page_of self.old) (report_of report) rest) (AtFatal fatal.HundredErrors) 0) }
+            Halts sizes (state_of self.old work) self.new work (world_of f (S.told out.old) self.old) (world_of f (S.told out.new) self.new) (reported (page_of self.old) (report_of report) rest) (AtFatal fatal.HundredErrors) 0) }
         ensures err { IfErr result (λ b. (sizes : Sizes) (f : FilesTold) (work : List Reading) (rest : List Move) → self.old.reports ≤ reports_room →
             Cuts sizes (state_of self.old work) self.new work (world_of f (S.told out.old) self.old) (world_of f (S.told out.new) self.new) (reported (page_of self.old) (report_of report) rest) b) }
         ensures frames { SameFrames self.old self.new }
@@ -630,6 +630,7 @@ impl Engine {
         ensures err { IfErr result (λ b. (sizes : Sizes) (f : FilesTold) (work : List Reading) → FitsOnward sizes onward self.old work →
             Cuts sizes (state_of self.old work) self.new work (world_of f (S.told out.old) self.old) (world_of f (S.told out.new) self.new) (onward_moves (page_of self.old) seen onward) b) }
         ensures frames { OnErr result (SameFrames self.old self.new) }
+        ensures halts { IfOk result (λ ruled. IsHalted ruled → SameFrames self.old self.new) }
         ensures on { IfOk result (λ ruled. IsFree ruled → ⊥) }
         ensures idle { OnOk result (self.new.input.making ≡ None) }
     {
@@ -665,6 +666,7 @@ impl Engine {
         ensures err { IfErr result (λ b. (sizes : Sizes) (f : FilesTold) (work : List Reading) → Takes sizes want self.old work →
             Cuts sizes (state_of self.old work) self.new work (world_of f (S.told out.old) self.old) (world_of f (S.told out.new) self.new) (onward_of (page_of self.old) want (names.seen token)) b) }
         ensures frames { OnErr result (SameFrames self.old self.new) }
+        ensures halts { IfOk result (λ ruled. IsHalted ruled → SameFrames self.old self.new) }
         ensures on { IfOk result (λ ruled. IsFree ruled → ⊥) }
         ensures idle { OnOk result (self.new.input.making ≡ None) }
     {
@@ -688,6 +690,7 @@ impl Engine {
         ensures err { IfErr result (λ b. (sizes : Sizes) (f : FilesTold) (work : List Reading) (x : Lexeme) → IsLexeme self.old.input.buffer lexed x → Takes sizes want self.old work →
             Cuts sizes (state_of self.old work) self.new work (world_of f (S.told out.old) self.old) (world_of f (S.told out.new) self.new) (name_moves (page_of self.old) want x) b) }
         ensures frames { OnErr result (SameFrames self.old self.new) }
+        ensures halts { IfOk result (λ ruled. IsHalted ruled → SameFrames self.old self.new) }
         ensures on { IfOk result (λ ruled. IsFree ruled → ⊥) }
         ensures idle { OnOk result (self.new.input.making ≡ None) }
     {
@@ -758,6 +761,7 @@ impl Engine {
         ensures err { IfErr result (λ b. (sizes : Sizes) (f : FilesTold) (work : List Reading) → Takes sizes want self.old work →
             Cuts sizes (state_of self.old work) self.new work (world_of f (S.told out.old) self.old) (world_of f (S.told out.new) self.new) (handed (page_of self.old) (enters_of want) (onward_of (page_of self.old) want) (check_of self.old work) (pulled self.old.categories self.old.input.pending)) b) }
         ensures frames { OnErr result (SameFrames self.old self.new) }
+        ensures halts { IfOk result (λ ruled. IsHalted ruled → SameFrames self.old self.new) }
         ensures idle { OnOk result (self.new.input.making ≡ None) }
     {
         match self.input.pull(&self.categories)? {
@@ -791,6 +795,7 @@ impl Engine {
         ensures err { IfErr result (λ b. (sizes : Sizes) (f : FilesTold) (r : Reading) (rs : List Reading) → Waits sizes self.old (r ∷ rs) → Counts sizes self.old (r ∷ rs) → IsLast back r.fed → is_told r.fed ≡ false →
             Cuts sizes (state_of self.old (r ∷ rs)) self.new (r ∷ rs) (world_of f (S.told out.old) self.old) (world_of f (S.told out.new) self.new) (told (page_of self.old) (report_of report) (is_some back) r.fed) b) }
         ensures frames { OnErr result (SameFrames self.old self.new) }
+        ensures halts { IfOk result (λ ruled. IsHalted ruled → SameFrames self.old self.new) }
         ensures idle { OnOk result (self.new.input.making ≡ None) }
     {
         self.put_back(back)?;
@@ -811,6 +816,7 @@ impl Engine {
         ensures err { IfErr result (λ b. (sizes : Sizes) (f : FilesTold) (work : List Reading) → Stands sizes self.old work →
             Cuts sizes (state_of self.old work) self.new work (world_of f (S.told out.old) self.old) (world_of f (S.told out.new) self.new) (plan_of self.old work) b) }
         ensures frames { OnErr result (SameFrames self.old self.new) }
+        ensures halts { IfOk result (λ ruled. IsHalted ruled → SameFrames self.old self.new) }
         ensures idle { OnOk result (self.new.input.making ≡ None) }
     {
         if self.top.is_none() {
@@ -903,6 +909,7 @@ impl Engine {
         ensures did { OnOk result ((sizes : Sizes) (w : World) (work : List Reading) → IsSized sizes self.old → Did sizes (state_of self.old work) (state_of self.new work) w w (Kept name.now ∷ [])) }
         ensures err { IfErr result (λ b. (sizes : Sizes) (w : World) (work : List Reading) (more : List Move) → IsSized sizes self.old → Cuts sizes (state_of self.old work) self.new work w w (Kept name.now ∷ more) b) }
         ensures stands { OnOk result ((sizes : Sizes) (work : List Reading) → Stands sizes self.old work → Stands sizes self.new work) }
+        ensures frames { SameFrames self.old self.new }
         ensures column { self.new.in_line ≡ self.old.in_line }
         ensures input { self.new.input ≡ self.old.input }
     {
@@ -913,13 +920,14 @@ impl Engine {
     /// The report that a job's file isn't held, and what comes behind it.
     pub fn refuse_job<S: Sink>(&mut self, out: &mut S, file: &[u8]) -> Result<Outcome, Broken>
         ensures run { IfOk result (λ o. (sizes : Sizes) (f : FilesTold) (work : List Reading) → self.old.in_line ≡ false → self.old.names.names ≡ primitive_names →
-            Halts sizes (state_of self.old work) self.new (world_of f (S.told out.old) self.old) (world_of f (S.told out.new) self.new) (no_file file.now) (outcome_of o) 0) }
+            Halts sizes (state_of self.old work) self.new work (world_of f (S.told out.old) self.old) (world_of f (S.told out.new) self.new) (no_file file.now) (outcome_of o) 0) }
         ensures err { IfErr result (λ b. (sizes : Sizes) (f : FilesTold) (work : List Reading) → self.old.in_line ≡ false → self.old.names.names ≡ primitive_names → self.old.reports ≡ 0 →
             Cuts sizes (state_of self.old work) self.new work (world_of f (S.told out.old) self.old) (world_of f (S.told out.new) self.new) (no_file file.now) b) }
+        ensures frames { SameFrames self.old self.new }
         ensures no_file { IfOk result (λ o. o ≡ outcomes.Fatal fatal.NoFile) }
     {
         self.write_missing(out, file)?;
-        self.reports = 1;
+        self.reports = self.reports.min(REPORTS_ROOM) + 1;
         self.write_text(out, NO_FILE_LINES)?;
         Ok(Outcome::Fatal(Fatal::NoFile))
     }

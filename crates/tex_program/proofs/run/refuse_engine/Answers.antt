@@ -16,7 +16,7 @@ returns-in-Err-clause-says g c = λ sizes f quiet n begins.
     let a = g.S.Sink.told c.args.out.now in
     c.tell_broken.ensures.says sizes f (First quiet c.args.file.now None) n (world f a false) c.keep_name.new.self
     (kept_cut sizes c.args.engine.now c.keep_name.new.self quiet c.args.file.now c.job_name.result.now c.job_name.ensures f a None n c.in-Err.broken c.is_in_line.result
-    (c.is_in_line.ensures ∙ (c.keep_name.ensures.column ∙ begins.column)) begins (λ more. c.in-Err.ensures.err sizes (world f a false) [] more begins.stands.sized))
+    (c.is_in_line.ensures ∙ (c.keep_name.ensures.column ∙ begins.column)) begins c.keep_name.ensures.frames (λ more. c.in-Err.ensures.err sizes (world f a false) [] more begins.stands.sized))
 
 pub returns-in-Ok-clause-says : goal.returns-in-Ok-clause-says
 returns-in-Ok-clause-says g c = λ sizes f quiet n begins.
@@ -28,7 +28,7 @@ returns-in-Ok-clause-says g c = λ sizes f quiet n begins.
     let column = c.keep_name.ensures.column ∙ begins.column in
     let did = c.in_default.ensures.did sizes (world f a false) [] begins.stands.sized in
     let names = kept_names sizes c.args.engine.now e quiet c.args.file.now c.job_name.result.now c.job_name.ensures f a did begins.names in
-    let halts = subst (λ (o : Outcome). Halts sizes (state_of e []) e' (world_of f a e) (world_of f b e') (no_file c.args.file.now) (outcome_of o) 0) i.ensures.no_file (i.ensures.run sizes f [] column names) in
+    let halts = subst (λ (o : Outcome). Halts sizes (state_of e []) e' [] (world_of f a e) (world_of f b e') (no_file c.args.file.now) (outcome_of o) 0) i.ensures.no_file (i.ensures.run sizes f [] column names) in
     subst (λ (x : Bool). SaysSo sizes (First quiet c.args.file.now None) n (world f a false) (world f b x) 2) (sym c.is_in_line-in-Ok.ensures)
     (refused_fails sizes c.args.engine.now e quiet c.args.file.now c.job_name.result.now c.job_name.ensures f a begins column did b e' n halts)
 
@@ -45,4 +45,4 @@ returns-in-Err-refuse_job-clause-says g c = λ sizes f quiet n begins.
     let reports = kept_reports sizes c.args.engine.now e quiet c.args.file.now c.job_name.result.now c.job_name.ensures f a did begins.reports in
     c.tell_broken-in-Err-refuse_job.ensures.says sizes f (First quiet c.args.file.now None) n (world f a false) e'
     (subst (λ (x : Bool). CutBy sizes (First quiet c.args.file.now None) n e' (world f a false) (world f b x) i.broken) (sym c.is_in_line-in-Err-refuse_job.ensures)
-    (refused_cut sizes c.args.engine.now e quiet c.args.file.now c.job_name.result.now c.job_name.ensures f a begins column did b e' n i.broken (i.ensures.err sizes f [] column names reports)))
+    (refused_cut sizes c.args.engine.now e quiet c.args.file.now c.job_name.result.now c.job_name.ensures f a begins column did b e' n i.broken c.keep_name.ensures.frames c.refuse_job.ensures.frames (i.ensures.err sizes f [] column names reports)))

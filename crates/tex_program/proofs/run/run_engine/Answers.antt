@@ -13,7 +13,7 @@ returns-in-Err-clause-says g c = λ sizes f quiet bytes begins.
     let a = g.S.Sink.told c.args.out.now in
     c.tell_broken.ensures.says sizes f (First quiet c.args.file.now (Some bytes)) c.args.steps (world f a false) c.keep_name.new.self
     (kept_cut sizes c.args.engine.now c.keep_name.new.self quiet c.args.file.now c.job_name.result.now c.job_name.ensures f a (Some bytes) c.args.steps c.in-Err.broken c.is_in_line.result
-    (c.is_in_line.ensures ∙ (c.keep_name.ensures.column ∙ begins.column)) begins (λ more. c.in-Err.ensures.err sizes (world f a false) [] more begins.stands.sized))
+    (c.is_in_line.ensures ∙ (c.keep_name.ensures.column ∙ begins.column)) begins c.keep_name.ensures.frames (λ more. c.in-Err.ensures.err sizes (world f a false) [] more begins.stands.sized))
 
 pub returns-in-Ok-Halted-clause-says : goal.returns-in-Ok-Halted-clause-says
 returns-in-Ok-Halted-clause-says g c = λ sizes f quiet bytes begins.

@@ -11,4 +11,4 @@ returns-in_err-write_text-clause-err g c = let e = c.args.self.now in let i = c.
 
 pub returns-clause-rule : goal.returns-clause-rule
 returns-clause-rule g c = λ sizes f work. let e = c.args.self.now in
-    rw c.outcome.ensures (last_is sizes (state_of e work) _ _ _ _ e.in_line c.args.last refl c.write_text.ensures.only.reports (rw c.last_text.ensures at (c.in_ok-write_text.ensures.did sizes f work)))
+    rw c.outcome.ensures (last_is sizes (state_of e work) c.write_text.new.self work _ _ e.in_line c.args.last refl c.write_text.ensures.only.reports (rw c.last_text.ensures at (c.in_ok-write_text.ensures.did sizes f work)))

@@ -13,8 +13,9 @@ pub returns-in_err-write_text-clause-err : goal.returns-in_err-write_text-clause
 returns-in_err-write_text-clause-err g c = let e = c.args.self.now in let e1 = c.write_missing.new.self in let i = c.in_err-write_text in
     same_err c.from_residual-in_err-write_text.result i.field-0.0 _ c.from_residual-in_err-write_text.ensures.1
     (λ sizes f work column names none. job_cuts sizes c.args.file.now e.names.names e.in_line names column (state_of e work) (state_of e1 work) _ _ _ (c.in_ok-write_missing.ensures.did sizes f work) _ _ work i.field-0.0
-    (counted_last e1 work 1 (omega (arith, none, c.write_missing.ensures.only.reports))) (i.ensures.err sizes f work))
+    (counted_last e1 work _ (omega (arith, none, c.write_missing.ensures.only.reports))) (i.ensures.err sizes f work))
 
 pub returns-clause-run : goal.returns-clause-run
 returns-clause-run g c = λ sizes f work column names. let e = c.args.self.now in let e1 = c.write_missing.new.self in
-    job_halts sizes c.args.file.now e.names.names e.in_line names column (state_of e work) (state_of e1 work) _ _ _ (c.in_ok-write_missing.ensures.did sizes f work) c.write_text.new.self refl (c.in_ok-write_text.ensures.did sizes f work).written
+    job_halts sizes c.args.file.now e.names.names e.in_line names column (state_of e work) (state_of e1 work) _ _ _ (c.in_ok-write_missing.ensures.did sizes f work) _ c.write_text.new.self work refl (c.in_ok-write_text.ensures.did sizes f work)
+    (λ few. counted_last e1 work _ (omega (arith, few, c.write_missing.ensures.only.reports)))

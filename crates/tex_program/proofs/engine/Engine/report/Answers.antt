@@ -4,7 +4,7 @@ use Rattle.std.specs.Prelude.{nat_lt}
 use Rattle.plain_state.specs.States.{Reported}
 use Rattle.plain_machine.specs.Plan.{behind_report, reports_room}
 use Rattle.transcript.specs.Reported.{report_of}
-use Rattle.tex_program.specs.Stands.{page_of}
+use Rattle.tex_program.specs.Stands.{page_of, state_of}
 use Rattle.tex_program.proofs.Joining.{same_err}
 use Rattle.tex_program.proofs.Reporting.{reports_on, hundredth, hundred_cuts, counted_last}
 use Rattle.tex_program.proofs.engine.Engine.report.Goals as goal
@@ -28,4 +28,5 @@ returns-in_err-write_text-clause-err g c = let e = c.args.self.now in let i = c.
 pub returns-clause-last : goal.returns-clause-last
 returns-clause-last g c = λ no sizes f work rest. let e = c.args.self.now in
     let full : nat_lt e.reports reports_room ≡ false = grind (arith, common_steps, c.write_report.ensures.only.reports, c.if-self-lt-REPORTS_ROOM.false) in
-    hundredth sizes (page_of e) (report_of c.args.report) rest _ _ _ _ (c.in_ok-write_report.ensures.did sizes f work) _ full c.write_text.new.self refl (c.in_ok-write_text.ensures.did sizes f work).written
+    hundredth sizes (page_of e) (report_of c.args.report) rest _ _ _ _ (c.in_ok-write_report.ensures.did sizes f work) _ full (state_of (record c.write_report.new.self { reports = 100 }) work) c.write_text.new.self work refl (c.in_ok-write_text.ensures.did sizes f work)
+    (λ few. counted_last c.write_report.new.self work 100 (omega (arith, few, c.write_report.ensures.only.reports, c.if-self-lt-REPORTS_ROOM.false)))

@@ -4,7 +4,7 @@ use Rattle.tex_program.specs.Stands.{state_of}
 use Rattle.tex_program.specs.Rules.{world_of}
 use Rattle.tex_program.proofs.Joining.{same_err}
 use Rattle.tex_program.proofs.Stepping.{plan_one, stepping_needs}
-use Rattle.tex_program.proofs.Running.{came_none, came_on, came_halts, came_join, came_whole, cut_by_join, rule_cut, stops_join, stops_whole, as_step, as_none, as_some, as_halted, same_count, no_some}
+use Rattle.tex_program.proofs.Running.{came_none, came_on, came_halts, came_join, came_whole, cut_by_join, rule_cut, stops_join, stops_whole, as_step, as_none, as_some, as_halted, same_count, no_some, when_halted}
 use Rattle.tex_program.proofs.engine.Engine.run_steps.Goals as goal
 
 pub loop-outcome-init : goal.loop-outcome-init
@@ -39,7 +39,7 @@ returns-in_err-outcome-2-clause-err g c =
     (λ sizes f work stands. cut_by_join sizes (state_of c.args.self.now work) e c.rule.new.self _ _ _ (l.taken + 0)
     (came_join sizes (state_of c.args.self.now work) l.self e _ _ _ l.taken (l.invariant.1.1 sizes f work stands) 0 (λ w h. as_none sizes (state_of l.self w) e _ _ _ none (c.in_ok-outcome.ensures.run sizes f w h)))
     1 c.args.n i.field-0.0 (omega (arith, room))
-    (λ w h. rule_cut sizes e c.rule.new.self w _ _ 1 i.field-0.0 (omega (arith, plan_one sizes e (c.in_ok-outcome.ensures.waits none) w h)) (i.ensures.err sizes f w h)))
+    (λ w h. rule_cut sizes e c.rule.new.self w _ _ 1 i.field-0.0 (omega (arith, plan_one sizes e (c.in_ok-outcome.ensures.waits none) w h)) i.ensures.frames h (i.ensures.err sizes f w h)))
 
 pub returns-in-Halted-clause-run : goal.returns-in-Halted-clause-run
 returns-in-Halted-clause-run g c = λ sizes f work stands.
@@ -49,7 +49,7 @@ returns-in-Halted-clause-run g c = λ sizes f work stands.
     stops_whole sizes (state_of c.args.self.now work) c.rule.new.self _ _ (l.taken + 0 + 1) c.args.n o (omega (arith, room))
     (came_halts sizes (state_of c.args.self.now work) e c.rule.new.self _ _ _ (l.taken + 0)
     (came_join sizes (state_of c.args.self.now work) l.self e _ _ _ l.taken (l.invariant.1.1 sizes f work stands) 0 (λ w h. as_none sizes (state_of l.self w) e _ _ _ none (c.in_ok-outcome.ensures.run sizes f w h)))
-    1 o (λ w h. as_halted sizes _ c.rule.new.self _ _ _ _ o c.in-Halted.is (c.in_ok-outcome-2.ensures.rule sizes f w h)) (λ w h. plan_one sizes e (c.in_ok-outcome.ensures.waits none) w h))
+    1 o (λ w h. as_halted sizes _ c.rule.new.self _ _ _ _ o c.in-Halted.is (c.in_ok-outcome-2.ensures.rule sizes f w h)) (c.in_ok-outcome-2.ensures.halts (when_halted _ o c.in-Halted.is)) (λ w h. plan_one sizes e (c.in_ok-outcome.ensures.waits none) w h))
 
 pub loop-outcome-preserved : goal.loop-outcome-preserved
 loop-outcome-preserved g c =

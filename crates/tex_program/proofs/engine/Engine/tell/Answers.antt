@@ -37,5 +37,5 @@ returns-then-branch-clause-rule g c = let e = c.args.self.now in let e1 = c.put_
 pub returns-clause-rule : goal.returns-clause-rule
 returns-clause-rule g c = let e = c.args.self.now in let e1 = c.put_back.new.self in let e2 = c.report.new.self in let p = c.put_back.ensures in
     λ sizes f r rs waits counts last once. told_halts sizes e e1 e2 f (g.S.Sink.told c.args.out.now) (g.S.Sink.told c.report.new.out) r rs (report_of c.args.report) (is_some c.args.back) once p.page
-    (c.in_ok-put_back.ensures.did sizes (world_of f (g.S.Sink.told c.args.out.now) e) (r ∷ rs) r.fed counts waits.idle last) (AtFatal fatal.HundredErrors)
+    (c.in_ok-put_back.ensures.did sizes (world_of f (g.S.Sink.told c.args.out.now) e) (r ∷ rs) r.fed counts waits.idle last) (AtFatal fatal.HundredErrors) p.others.reports
     (c.in_ok-report.ensures.last c.if-branch.false sizes f (r ∷ rs) (Noted ∷ []))
