@@ -1,16 +1,13 @@
 -- Worked rows: what some definitions and texts come to.
-use Rattle.std.specs.Prelude.{◌≡◌, ℕ, ◌+◌, Bool, true, false, List, [], ◌∷◌, ◌++◌}
+use Rattle.std.specs.Prelude.{◌≡◌, ℕ, ◌+◌, true, false, List, [], ◌∷◌, ◌++◌}
 use Rattle.tex_defs.specs.declared.Token.{Token}
 use Rattle.tex_defs.specs.declared.Token.TheVariants.{Char, Named, Place, Number, EndPlaces}
-use Rattle.tex_defs.specs.declared.Name.{Name}
-use Rattle.tex_defs.specs.declared.Name.TheVariants.{Single, Empty}
-use Rattle.tex_defs.specs.declared.Meaning.{Meaning}
+use Rattle.tex_defs.specs.declared.Name.TheVariants.{Single}
 use Rattle.tex_defs.specs.declared.Meaning.TheVariants as means
-use Rattle.tex_defs.specs.declared.Seen.{Seen}
 use Rattle.list_builder.specs.declared.stage.Manner.{Manner}
 use Rattle.list_builder.specs.declared.ask.Want.TheVariants.{Raw, Expanded, Copied, Nonblank}
 use Rattle.list_builder.specs.declared.ask.Report.TheVariants.{NotConsecutive, AlreadyNine, IllegalNumber, MissingBrace}
-use Rattle.list_builder.specs.Definitions.{Fed, Tok, Told, Given, Answer, More, Tells, Done, definition, text}
+use Rattle.list_builder.specs.Definitions.{Fed, Tok, Told, Given, More, Tells, Done, definition, text}
 
 -- a character that is read with this category
 abbrev pub read : (category code : ℕ) → Fed

@@ -159,6 +159,8 @@ fn words_that_are_no_command_give_the_usage(rt: HostRuntime) -> Result<(), Fail>
     assert!(rt; usage(alloc, &["init", "-a"])?);
     assert!(rt; usage(alloc, &["init", "a", "b"])?);
     assert!(rt; usage(alloc, &["init", "--steps", "x", "a"])?);
+    assert!(rt; usage(alloc, &["init", "--steps=-1", "a"])?);
+    assert!(rt; usage(alloc, &["init", "--steps=1000000000000001", "a"])?);
     assert!(rt; usage(alloc, &["init", "--mem", "99", "a"])?);
     assert!(rt; usage(alloc, &["init", "--mem=16777217", "a"])?);
     assert!(rt; usage(alloc, &["run", "--fmt", "a", "b"])?);
@@ -358,6 +360,8 @@ fn characters_are_printed_as_tex_prints_them(rt: HostRuntime) -> Result<(), Fail
             0
         )?
     );
+    // \newlinechar is 0
+    assert!(rt; job(alloc, b"\\catcode0=12 \\message{a^^@b}\\end\n", b"a\nb\n", 0)?);
     Ok(())
 }
 
