@@ -1,19 +1,17 @@
 -- What is looked up in a map that has changed, and in the first map.
-use Rattle.std.proofs.Common.{◌≡◌, ◌≢◌, ℕ, zero, suc, ◌+◌, ◌-◌, ◌<◌, ◌≤◌, List, [], ◌∷◌, ◌++◌, length, get_or, set, map, replicate, Option, None, Some, inl, inr, refl, sym, ap, subst, ◌∙◌, append_assoc, arith, rules}
-use Rattle.std.specs.Prelude.{◌==◌, Bool, true, false, if◌then◌else◌}
+use Rattle.std.proofs.Common.{◌≡◌, ℕ, zero, suc, ◌+◌, ◌-◌, ◌<◌, ◌≤◌, List, [], ◌∷◌, ◌++◌, length, get_or, map, replicate, Option, None, Some, refl, sym, ap, subst, ◌∙◌, append_assoc, arith, rules}
+use Rattle.std.specs.Prelude.{◌==◌, false}
 use Rattle.std.specs.List.{range_with_len}
-use Rattle.std.proofs.lemmas.Bool.{cases_eq, ne_eqb}
+use Rattle.std.proofs.lemmas.Bool.{ne_eqb}
 use Rattle.std.proofs.lemmas.List.{get_or-set_same, get_or-set_other, get_or-replicate, get_or_append_left, get_or-append-add, length-replicate, map-append}
 use Rattle.std.proofs.lemmas.List.FromFn.{get_or-map-range_with_len, map-range_with_len_more}
 use Rattle.token_lists.specs.declared.ListRef.{ListRef}
-use Rattle.tex_defs.specs.declared.Name.{Name}
 use Rattle.tex_defs.specs.declared.Name.TheVariants as name
 use Rattle.tex_defs.specs.declared.Meaning.{Meaning}
 use Rattle.tex_defs.specs.declared.Meaning.TheVariants as means
-use Rattle.token_lists.specs.Codes.{IsName}
 use Rattle.plain_state.specs.Names.{name_meaning}
 use Rattle.meanings.specs.Locations.{fixed_locations, location, fixed_meaning}
-use Rattle.meanings.specs.Map.{Map, looked_up, meaning_of, set_at, defined, entered, first_cells, first_map, primitive_meaning, primitive_count, seen_as, without_list, numbered, all_numbered, IsPlaced, IsAssignable}
+use Rattle.meanings.specs.Map.{looked_up, meaning_of, set_at, first_cells, first_map, primitive_meaning, primitive_count, seen_as, without_list, numbered, all_numbered, IsPlaced}
 use Rattle.meanings.specs.Laws.{LocationsDiffer, OneNameChanges, EnteringDefinesNothing, FirstMeanings}
 
 appended : (cells : List (Meaning (Option ℕ))) (k : ℕ) → get_or (cells ++ means.Undefined ∷ []) k means.Undefined ≡ get_or cells k means.Undefined
@@ -66,8 +64,8 @@ first_primitive : (i : ℕ) → i < primitive_count → get_or first_cells (fixe
 first_primitive i below =
     let long : length (replicate {A = Meaning (Option ℕ)} fixed_locations means.Undefined) ≡ fixed_locations = length-replicate {A = Meaning (Option ℕ)} fixed_locations means.Undefined in
     subst (λ (x : ℕ). get_or first_cells (x + i) means.Undefined ≡ primitive_meaning (1 + i)) long (
-      get_or-append-add (replicate fixed_locations means.Undefined) (map primitive_meaning (range_with_len 1 primitive_count)) i means.Undefined
-      ∙ get_or-map-range_with_len primitive_meaning 1 primitive_count i (1 + i) means.Undefined below refl)
+    get_or-append-add (replicate fixed_locations means.Undefined) (map primitive_meaning (range_with_len 1 primitive_count)) i means.Undefined
+    ∙ get_or-map-range_with_len primitive_meaning 1 primitive_count i (1 + i) means.Undefined below refl)
 
 word_location : (n : ℕ) → 0 < n → location (name.Word n) ≡ Some (513 + n)
 word_location n some = let e : (n == 0) ≡ false = ne_eqb n 0 (λ none. absurd (omega (arith, some, none))) in rw e refl

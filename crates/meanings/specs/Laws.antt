@@ -1,5 +1,5 @@
 -- Laws of the map, in the words of its users.
-use Rattle.std.specs.Prelude.{◌≡◌, ◌≢◌, ℕ, ◌<◌, ◌≤◌, ◌^◌, Option, Some, codes}
+use Rattle.std.specs.Prelude.{◌≡◌, ◌≢◌, ℕ, ◌<◌, ◌≤◌, Option, Some, codes}
 use Rattle.tex_defs.specs.declared.Name.{Name}
 use Rattle.tex_defs.specs.declared.Name.TheVariants as name
 use Rattle.tex_defs.specs.declared.Meaning.{Meaning}

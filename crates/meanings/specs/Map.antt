@@ -1,6 +1,6 @@
 -- The map from names to meanings: a list with a meaning for each location. A macro has the number of its list, but for
 -- the meaning of the frozen `\endwrite`, which has none.
-use Rattle.std.specs.Prelude.{◌≡◌, ℕ, ◌+◌, ◌<◌, List, [], ◌∷◌, ◌++◌, length, map, replicate, slice_set, slice_index_or, Option, None, Some}
+use Rattle.std.specs.Prelude.{ℕ, ◌+◌, ◌<◌, List, [], ◌∷◌, ◌++◌, length, map, replicate, slice_set, slice_index_or, Option, None, Some}
 use Rattle.std.specs.List.{range_with_len}
 use Rattle.tex_defs.specs.declared.Name.{Name}
 use Rattle.tex_defs.specs.declared.Name.TheVariants.{Word}
@@ -16,9 +16,9 @@ pub record Map : Type 0 where
   pub cells : List (Meaning (Option ℕ))
   pub hash_size : ℕ
 
--- how many names of two or more characters were entered
-abbrev pub has_room : Map → Type 0
-has_room m = length m.cells < fixed_locations + m.hash_size
+-- one more name of two or more characters may be entered
+abbrev pub HasRoom : Map → Type 0
+HasRoom m = length m.cells < fixed_locations + m.hash_size
 
 -- what stands at a location, if the name has one
 abbrev pub looked_up : List (Meaning (Option ℕ)) → Option ℕ → Meaning (Option ℕ) → Meaning (Option ℕ)
@@ -29,11 +29,11 @@ looked_up cells (Some k) fixed = slice_index_or cells k means.Undefined
 abbrev pub meaning_of : Map → Name → Meaning (Option ℕ)
 meaning_of m n = looked_up m.cells (location n) (fixed_meaning n)
 
--- the name may be assigned: it has a location, and if it has two or more characters, it was entered
 abbrev pub IsPlaced : Option ℕ → ℕ → Type 0
 IsPlaced None count = ⊥
 IsPlaced (Some k) count = k < count
 
+-- the name may be assigned: it has a location, and if it has two or more characters, it was entered
 abbrev pub IsAssignable : Map → Name → Type 0
 IsAssignable m n = IsPlaced (location n) (length m.cells)
 

@@ -6,7 +6,7 @@ ghost use Rattle.token_lists.specs.Table.{holders_at};
 ghost use Rattle.token_lists.specs.Accounts.{Moves, Covers, Keeps, none};
 ghost use Rattle.token_lists.specs.Ids.{id_of};
 ghost use Rattle.meanings.specs.Locations.{fixed_locations, fixed_meaning};
-ghost use Rattle.meanings.specs.Map.{first_map, first_cells, meaning_of, defined, entered, has_room, IsAssignable, numbered, all_numbered, seen_as, primitive_meaning, primitive_count};
+ghost use Rattle.meanings.specs.Map.{first_map, first_cells, meaning_of, defined, entered, HasRoom, IsAssignable, numbered, all_numbered, seen_as, primitive_meaning, primitive_count};
 ghost use Rattle.meanings.specs.Holding.{held, cells_hold, list_of, meaning_holds, with_holder, without_holder};
 
 use crate::kept::{Kept, list_of, primitive, release, seen, share, without_list};
@@ -74,7 +74,9 @@ impl Meanings {
     /// There is no room for them. No other call takes memory.
     pub fn new(alloc: Global, sizes: &Sizes) -> Result<Meanings, AllocError>
         requires { first_out_of_range sizes.now ≡ None }
-        ensures { IfOk result (λ m. m ≡ first_map sizes.now.hash_size) }
+        ensures first { IfOk result (λ m. m ≡ first_map sizes.now.hash_size) }
+        ensures count { IfOk result (λ m. length m.cells ≡ fixed_locations + primitive_count) }
+        ensures free { IfOk result (λ m. (h : ℕ) → held m h ≡ 0) }
     {
         let hash_size = sizes.hash_size;
         let mut cells = Vec::with_capacity(alloc, FIXED + hash_size as usize)?;
@@ -85,7 +87,7 @@ impl Meanings {
 
     /// Gives the next name of two or more characters its location, in room that is there. It is undefined.
     pub fn enter(&mut self)
-        requires { has_room self.old }
+        requires { HasRoom self.old }
         ensures after { self.new ≡ entered self.old }
         ensures account { (h : ℕ) → held self.new h ≡ held self.old h }
     {

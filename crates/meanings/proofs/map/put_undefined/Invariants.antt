@@ -1,4 +1,4 @@
-use Rattle.std.proofs.Common.{◌≡◌, ◌≤◌, length, replicate}
+use Rattle.std.proofs.Common.{◌≡◌, length, replicate}
 use Rattle.std.specs.Prelude.{vec_capacity}
 use Rattle.tex_defs.specs.declared.Meaning.TheVariants.{Undefined}
 use Rattle.meanings.specs.Map.{all_numbered}

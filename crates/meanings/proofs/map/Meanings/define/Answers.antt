@@ -1,6 +1,6 @@
-use Rattle.std.proofs.Common.{◌≡◌, ℕ, ◌≤◌, ◌<◌, ◌∙◌, length, get_or, ap, sym, subst, refl, arith}
-use Rattle.meanings.specs.Map.{Map, numbered, all_numbered}
-use Rattle.meanings.specs.Holding.{held, list_of, meaning_holds, cells_hold}
+use Rattle.std.proofs.Common.{◌≡◌, ℕ, ◌≤◌, ◌<◌, length, get_or, ap, sym, arith}
+use Rattle.meanings.specs.Map.{Map, numbered}
+use Rattle.meanings.specs.Holding.{held, list_of, meaning_holds}
 use Rattle.meanings.proofs.Cells.{cell_holds_part, list_is_held, swapped, map_after, keeps_more, placed_below}
 use Rattle.meanings.proofs.map.Meanings.define.Goals as goal
 use Rattle.meanings.proofs.map.Meanings.define.Goals.{After-replace-old}
