@@ -14,6 +14,7 @@ ghost use Rattle.token_lists.specs.Refusals.{IsFull};
 ghost use Rattle.token_lists.specs.Chains.{noted_at, step, freed, len_of, IsWay};
 
 pub mod codes;
+pub mod laws;
 #[cfg(test)]
 mod tests;
 

@@ -1,0 +1,36 @@
+-- Laws of the map, in the words of its users.
+use Rattle.std.specs.Prelude.{◌≡◌, ◌≢◌, ℕ, ◌<◌, ◌≤◌, Option, Some, codes}
+use Rattle.tex_defs.specs.declared.Name.{Name}
+use Rattle.tex_defs.specs.declared.Name.TheVariants as name
+use Rattle.tex_defs.specs.declared.Meaning.{Meaning}
+use Rattle.token_lists.specs.Codes.{IsName}
+use Rattle.prim_table.specs.Primitives.{primitive_name}
+use Rattle.plain_state.specs.Names.{name_meaning}
+use Rattle.meanings.specs.Locations.{location, relax_number, end_group_number, fi_number}
+use Rattle.meanings.specs.Map.{Map, meaning_of, defined, entered, first_map, seen_as, primitive_count, IsAssignable}
+
+-- two names never share a location
+abbrev pub LocationsDiffer : Type 0
+LocationsDiffer = (a b : Name) (k : ℕ) → IsName a → IsName b → location a ≡ Some k → location b ≡ Some k → a ≡ b
+
+-- a definition gives its name the new meaning, and changes no other name's
+pub record OneNameChanges : Type 0 where
+  pub changes : (m : Map) (n : Name) (v : Meaning (Option ℕ)) → IsAssignable m n → meaning_of (defined m n v) n ≡ v
+  pub others : (m : Map) (n other : Name) (v : Meaning (Option ℕ)) → IsName n → IsName other → n ≢ other → meaning_of (defined m n v) other ≡ meaning_of m other
+
+-- where a name is entered, each name means what it meant
+abbrev pub EnteringDefinesNothing : Type 0
+EnteringDefinesNothing = (m : Map) (n : Name) → meaning_of (entered m) n ≡ meaning_of m n
+
+-- INITEX's names, but for the frozen ones, mean what the plain machine says
+pub record FirstMeanings : Type 0 where
+  pub active : (size c : ℕ) → c < 256 → seen_as (meaning_of (first_map size) (name.Active c)) ≡ name_meaning (name.Active c)
+  pub single : (size c : ℕ) → c < 256 → seen_as (meaning_of (first_map size) (name.Single c)) ≡ name_meaning (name.Single c)
+  pub empty : (size : ℕ) → seen_as (meaning_of (first_map size) name.Empty) ≡ name_meaning name.Empty
+  pub words : (size n : ℕ) → 0 < n → n ≤ primitive_count → seen_as (meaning_of (first_map size) (name.Word n)) ≡ name_meaning (name.Word n)
+
+-- the frozen names that are primitives have those primitives' names
+pub record FrozenNames : Type 0 where
+  pub relax : primitive_name relax_number ≡ codes "relax"
+  pub end_group : primitive_name end_group_number ≡ codes "endgroup"
+  pub fi : primitive_name fi_number ≡ codes "fi"

@@ -1,0 +1,177 @@
+ghost use Rattle.std.specs.Prelude.{◌≡◌, ℕ, ◌+◌, ◌≤◌, ◌<◌, ◌^◌, IfOk, IfSome, MatchOption, None, Some, length, vec_capacity, vec_len, replicate, map, ◌++◌};
+ghost use Rattle.std.specs.List.{range_with_len};
+ghost use Rattle.tex_defs.specs.Sizes.{first_out_of_range};
+ghost use Rattle.tex_defs.specs.declared.Meaning.TheVariants.{Undefined};
+ghost use Rattle.token_lists.specs.Table.{holders_at};
+ghost use Rattle.token_lists.specs.Accounts.{Moves, Covers, Keeps, none};
+ghost use Rattle.token_lists.specs.Ids.{id_of};
+ghost use Rattle.meanings.specs.Locations.{fixed_locations, fixed_meaning};
+ghost use Rattle.meanings.specs.Map.{first_map, first_cells, meaning_of, defined, entered, HasRoom, IsAssignable, numbered, all_numbered, seen_as, primitive_meaning, primitive_count};
+ghost use Rattle.meanings.specs.Holding.{held, cells_hold, list_of, meaning_holds, with_holder, without_holder};
+
+use crate::kept::{Kept, list_of, primitive, release, seen, share, without_list};
+use crate::locations::{FIXED, fixed, location};
+use prim_table::COUNT;
+use std::alloc::{AllocError, Global};
+use std::marker::Model;
+use std::mem;
+use tex_defs::{Meaning, Name, Sizes};
+use token_lists::{ListRef, Lists};
+
+/// What each name means, with a holder of each macro's list.
+///
+/// The frozen names have fixed meanings, but for `\inaccessible`: a name that was missing where one is to be assigned
+/// is that.
+#[must_use]
+#[derive(Debug)]
+pub struct Meanings {
+    // By the names' locations. There is room for all names that may be entered.
+    cells: Vec<Kept>,
+    hash_size: u32,
+}
+
+// Clauses see the meanings by their locations, each with the number of its list, and how many names may be entered.
+impl Model for Meanings {
+    ghost use Rattle.std.specs.Prelude.{◌+◌, ◌≤◌, vec_capacity};
+    ghost use Rattle.meanings.specs.Locations.{fixed_locations};
+    ghost use Rattle.meanings.specs.Map.{Map, all_numbered};
+
+    ghost Value = { Map };
+
+    ghost view = { λ m. record { cells = all_numbered m.cells.items; hash_size = m.hash_size } };
+
+    ghost invariant = { λ m. fixed_locations + m.hash_size ≤ vec_capacity m.cells };
+}
+
+// As many undefined names as have fixed locations.
+fn put_undefined(cells: &mut Vec<Kept>)
+    requires empty { vec_len cells.old ≡ 0 }
+    requires room { fixed_locations ≤ vec_capacity cells.old }
+    ensures after { all_numbered cells.new.items ≡ replicate fixed_locations Undefined }
+    ensures capacity { vec_capacity cells.new ≡ vec_capacity cells.old }
+{
+    for _k in 0..FIXED {
+        cells.push_reserved(Meaning::Undefined);
+    }
+}
+
+// What the names of the primitives mean, by their numbers.
+fn put_primitives(cells: &mut Vec<Kept>)
+    requires room { vec_len cells.old + primitive_count ≤ vec_capacity cells.old }
+    ensures after { all_numbered cells.new.items ≡ all_numbered cells.old.items ++ map primitive_meaning (range_with_len 1 primitive_count) }
+    ensures capacity { vec_capacity cells.new ≡ vec_capacity cells.old }
+{
+    for k in 0..COUNT {
+        cells.push_reserved(primitive(k + 1));
+    }
+}
+
+impl Meanings {
+    /// INITEX's meanings, with room for all names that may be entered: each name is undefined but the primitives that
+    /// mean something.
+    ///
+    /// # Errors
+    /// There is no room for them. No other call takes memory.
+    pub fn new(alloc: Global, sizes: &Sizes) -> Result<Meanings, AllocError>
+        requires { first_out_of_range sizes.now ≡ None }
+        ensures first { IfOk result (λ m. m ≡ first_map sizes.now.hash_size) }
+        ensures count { IfOk result (λ m. length m.cells ≡ fixed_locations + primitive_count) }
+        ensures free { IfOk result (λ m. (h : ℕ) → held m h ≡ 0) }
+    {
+        let hash_size = sizes.hash_size;
+        let mut cells = Vec::with_capacity(alloc, FIXED + hash_size as usize)?;
+        put_undefined(&mut cells);
+        put_primitives(&mut cells);
+        Ok(Meanings { cells, hash_size })
+    }
+
+    /// Gives the next name of two or more characters its location, in room that is there. It is undefined.
+    pub fn enter(&mut self)
+        requires { HasRoom self.old }
+        ensures after { self.new ≡ entered self.old }
+        ensures account { (h : ℕ) → held self.new h ≡ held self.old h }
+    {
+        self.cells.push_reserved(Meaning::Undefined);
+    }
+
+    // What stands at a name's location, if it has one and was entered.
+    fn cell(&self, name: Name) -> Option<&Kept>
+        ensures meaning { MatchOption result (meaning_of self.now name ≡ fixed_meaning name) (λ kept. meaning_of self.now name ≡ numbered kept.now) }
+        ensures held { IfSome result (λ kept. (h : ℕ) → meaning_holds (numbered kept.now) h ≤ held self.now h) }
+    {
+        match location(name) {
+            Some(at) => self.cells.get(at),
+            None => None,
+        }
+    }
+
+    /// What a name means, as readings see it: a macro without its list. A name that wasn't entered is undefined.
+    pub fn get(&self, name: Name) -> Meaning<()>
+        ensures { result ≡ seen_as (meaning_of self.now name) }
+    {
+        match self.cell(name) {
+            Some(kept) => seen(kept),
+            None => fixed(name),
+        }
+    }
+
+    /// The list of a name that is a macro. Only what the frozen `\endwrite` means is a macro without a list.
+    pub fn list(&self, name: Name) -> Option<&ListRef>
+        ensures list { MatchOption result (list_of (meaning_of self.now name) ≡ None) (λ r. list_of (meaning_of self.now name) ≡ Some (id_of r.now)) }
+        ensures held { IfSome result (λ r. 0 < held self.now (id_of r.now)) }
+    {
+        match self.cell(name) {
+            Some(kept) => list_of(kept),
+            None => None,
+        }
+    }
+
+    /// What a name means, to be given to another: a macro's list has one holder more and takes no word, as where `\let`
+    /// makes two names the same (*The TeXbook*, chapter 20). Each list has fewer than 2^32 - 1 holders.
+    pub fn shared(&self, lists: &mut Lists, name: Name) -> Kept
+        requires covered { Covers lists.old (held self.now) }
+        requires countable { IfSome (list_of (meaning_of self.now name)) (λ id. holders_at lists.old id + 1 < 2 ^ 32) }
+        ensures same { numbered result ≡ meaning_of self.now name }
+        ensures after { lists.new ≡ with_holder (list_of (meaning_of self.now name)) lists.old }
+        ensures account { Moves lists.old lists.new none (meaning_holds (numbered result)) }
+        ensures kept { Keeps lists.old lists.new none }
+    {
+        match self.cell(name) {
+            Some(kept) => share(lists, kept),
+            None => without_list(fixed(name)),
+        }
+    }
+
+    /// Gives a name that has a location a meaning. It is stored first, and then the list of the old one let go: so a name
+    /// that gets a share of its own list keeps it. The call takes no word.
+    pub fn define(&mut self, lists: &mut Lists, name: Name, value: Kept)
+        requires assignable { IsAssignable self.old name }
+        requires covered { Covers lists.old (λ h. meaning_holds (numbered value) h + held self.old h) }
+        ensures after { self.new ≡ defined self.old name (numbered value) }
+        ensures lists { lists.new ≡ without_holder (list_of (meaning_of self.old name)) lists.old }
+        ensures account { Moves lists.old lists.new (λ h. meaning_holds (numbered value) h + held self.old h) (held self.new) }
+        ensures kept { Keeps lists.old lists.new (λ h. meaning_holds (numbered value) h + held self.old h) }
+    {
+        let Some(at) = location(name) else {
+            unreachable!()
+        };
+        let old = mem::replace(&mut self.cells[at], value);
+        release(lists, old);
+    }
+
+    /// Lets all lists go, and with them the meanings.
+    pub fn close(self, lists: &mut Lists)
+        requires { Covers lists.old (held self) }
+        ensures account { Moves lists.old lists.new (held self) none }
+        ensures kept { Keeps lists.old lists.new (held self) }
+    {
+        let Meanings {
+            mut cells,
+            hash_size: _,
+        } = self;
+        while let Some(kept) = cells.pop() {
+            release(lists, kept);
+        }
+        cells.destroy_empty();
+    }
+}
