@@ -5,9 +5,9 @@ use Rattle.std.proofs.lemmas.List.{append-nil}
 use Rattle.plain_state.specs.Printed.{printed_all}
 use Rattle.plain_state.specs.Reports as plain
 use Rattle.plain_state.specs.Reports.{fresh_line, plain_style, report_text, report_bytes}
-use Rattle.transcript.specs.Reported.{report_of, opening, subject}
+use Rattle.transcript.specs.Reported.{report_of, opening, subject, closing}
 use Rattle.transcript.specs.declared.report.Report.{Report}
-use Rattle.transcript.specs.declared.report.Report.TheVariants.{UndefinedName, InvalidCharacter, ImproperConstant, MissingNumber, NumberTooBig, BadCharacterCode, InvalidCode, MissingBrace, FileEndedInText}
+use Rattle.transcript.specs.declared.report.Report.TheVariants.{UndefinedName, InvalidCharacter, ImproperConstant, MissingNumber, NumberTooBig, BadCharacterCode, InvalidCode, MissingBrace, FileEndedInText, PrefixWith, LongOrOuterWith}
 
 -- three pieces and four
 pub three : (a b c d x y z : List ℕ) → x ≡ a ++ b → y ≡ x ++ c → z ≡ y ++ d → z ≡ a ++ (b ++ (c ++ d))
@@ -20,8 +20,8 @@ four a b c d e x y z w h i j k =
     k ∙ ap (λ (t : List ℕ). t ++ e) (three a b c d x y z h i j)
     ∙ append_assoc a (b ++ (c ++ d)) e ∙ ap (λ (t : List ℕ). a ++ t) (append_assoc b (c ++ d) e ∙ ap (λ (t : List ℕ). b ++ t) (append_assoc c d e))
 
--- a report's text is its opening, and the name in it
-report_is : (names : List (List ℕ)) (r : Report) → opening r ++ subject names r ≡ report_text names (report_of r)
+-- a report's text is its opening, the name or meaning in it, and what closes it
+report_is : (names : List (List ℕ)) (r : Report) → opening r ++ (subject names r ++ closing r) ≡ report_text names (report_of r)
 report_is names UndefinedName = refl
 report_is names InvalidCharacter = refl
 report_is names ImproperConstant = refl
@@ -30,7 +30,9 @@ report_is names NumberTooBig = refl
 report_is names (BadCharacterCode n) = append-nil (opening (BadCharacterCode n))
 report_is names (InvalidCode n greatest) = append-nil (opening (InvalidCode n greatest))
 report_is names MissingBrace = refl
-report_is names (FileEndedInText name) = refl
+report_is names (FileEndedInText name) = ap (λ (t : List ℕ). codes "File ended while scanning text of " ++ t) (append-nil (subject names (FileEndedInText name)))
+report_is names (PrefixWith m) = refl
+report_is names (LongOrOuterWith m) = refl
 
 -- what stands around a text
 around : (a b c d e : List ℕ) → ((a ++ b) ++ c) ++ (d ++ e) ≡ a ++ (b ++ ((c ++ d) ++ e))
@@ -38,11 +40,16 @@ around a b c d e =
     append_assoc (a ++ b) c (d ++ e) ∙ append_assoc a b (c ++ (d ++ e))
     ∙ ap (λ (t : List ℕ). a ++ (b ++ t)) (sym (append_assoc c d e))
 
-pub report_parts : (names : List (List ℕ)) (b : Bool) (line : ℕ) (r : Report) (mark before shown behind : List ℕ) →
-    mark ≡ fresh_line b ++ codes "! " → before ≡ mark ++ opening r → shown ≡ subject names r → behind ≡ codes ".\nl." ++ (decimal line ++ 10 ∷ []) →
+-- what stands around a text, and closes it
+around_closed : (a b c d x e : List ℕ) → ((a ++ b) ++ c) ++ (d ++ (x ++ e)) ≡ a ++ (b ++ ((c ++ (d ++ x)) ++ e))
+around_closed a b c d x e =
+    ap (λ (t : List ℕ). ((a ++ b) ++ c) ++ t) (sym (append_assoc d x e)) ∙ around a b c (d ++ x) e
+
+pub report_parts : (names : List (List ℕ)) (b : Bool) (line : ℕ) (r : Report) (mark before shown close behind : List ℕ) →
+    mark ≡ fresh_line b ++ codes "! " → before ≡ mark ++ opening r → shown ≡ subject names r → close ≡ closing r → behind ≡ close ++ (codes ".\nl." ++ (decimal line ++ 10 ∷ [])) →
     before ++ (shown ++ behind) ≡ report_bytes names b line (report_of r)
-report_parts names b line r mark before shown behind m i s l =
-    rw (i, m, s, l) (around (fresh_line b) (codes "! ") (opening r) (subject names r) (codes ".\nl." ++ (decimal line ++ 10 ∷ []))
+report_parts names b line r mark before shown close behind m i s h l =
+    rw (i, m, s, l, h) (around_closed (fresh_line b) (codes "! ") (opening r) (subject names r) (closing r) (codes ".\nl." ++ (decimal line ++ 10 ∷ []))
     ∙ ap (λ (t : List ℕ). fresh_line b ++ (codes "! " ++ (t ++ (codes ".\nl." ++ (decimal line ++ 10 ∷ []))))) (report_is names r))
 
 pub missing_parts : (names : List (List ℕ)) (b : Bool) (file mark before shown : List ℕ) →

@@ -4,13 +4,13 @@ ghost use Rattle.std.specs.Fmt.{decimal};
 ghost use Rattle.plain_state.specs.Reports as plain;
 ghost use Rattle.plain_state.specs.Reports.{fresh_line, report_bytes};
 ghost use Rattle.transcript.specs.Initial.{IsInitialView, names_of};
-ghost use Rattle.transcript.specs.Reported.{report_of, opening, subject};
+ghost use Rattle.transcript.specs.Reported.{report_of, opening, subject, closing};
 ghost use Rattle.transcript.specs.Taken.{Took, TookFront};
 
 use crate::writing::put_around;
 use char_text::{Text, count_length, whole_number_length};
-use tex_defs::Name;
-use token_show::{Shown, View, name_text, show_bytes};
+use tex_defs::{Meaning, Name};
+use token_show::{Shown, View, meaning_head, name_text, show_bytes};
 use world_io::{Fault, Sink};
 
 /// What is reported.
@@ -27,6 +27,10 @@ pub enum Report {
     MissingBrace,
     /// The file ended in the text of this command.
     FileEndedInText(Name),
+    /// A prefix before a command of this meaning, which is no assignment.
+    PrefixWith(Meaning<()>),
+    /// `\long` or `\outer` before a command of this meaning, which is no definition.
+    LongOrOuterWith(Meaning<()>),
 }
 
 // What stands before a report: a line feed, where the column isn't 0, and the mark of a report.
@@ -66,7 +70,7 @@ fn put_invalid_code(text: &mut Text, n: i32, greatest: u8)
     text.put_count(u64::from(greatest));
 }
 
-// Puts a report's text, up to the name in it.
+// Puts a report's text, up to the name or meaning in it.
 fn put_opening(text: &mut Text, report: Report)
     requires { length text.old ≤ 3 }
     ensures { text.new ≡ text.old ++ opening report }
@@ -81,26 +85,45 @@ fn put_opening(text: &mut Text, report: Report)
         Report::InvalidCode(n, greatest) => put_invalid_code(text, n, greatest),
         Report::MissingBrace => text.put_bytes(b"Missing { inserted"),
         Report::FileEndedInText(_) => text.put_bytes(b"File ended while scanning text of "),
+        Report::PrefixWith(_) => text.put_bytes(b"You can't use a prefix with `"),
+        Report::LongOrOuterWith(_) => {
+            text.put_bytes(b"You can't use `\\long' or `\\outer' with `")
+        }
     }
 }
 
-// The name in a report's text, if there is one.
+// The name or meaning in a report's text, if there is one.
 fn show_subject<'a>(view: View<'a>, report: Report) -> Shown<'a>
     requires { IsInitialView view }
     ensures { result ≡ subject (names_of view.entry) report }
 {
     match report {
         Report::FileEndedInText(name) => name_text(view, name),
+        Report::PrefixWith(meaning) | Report::LongOrOuterWith(meaning) => {
+            meaning_head(view, &meaning)
+        }
         _ => show_bytes(view, b""),
     }
 }
 
-// What stands behind a report: the number of the line that is being read.
-fn line_number(line: u64) -> Text
-    ensures { result ≡ codes ".\nl." ++ (decimal line ++ 10 ∷ []) }
+// What closes a report's text behind the name or meaning in it.
+fn closing(report: Report) -> &'static [u8]
+    ensures { result.now ≡ closing report }
+{
+    match report {
+        Report::PrefixWith(_) | Report::LongOrOuterWith(_) => b"'",
+        _ => b"",
+    }
+}
+
+// What stands behind a report: what closes it, and the number of the line that is being read.
+fn line_number(close: &[u8], line: u64) -> Text
+    requires { length close.now ≤ 1 }
+    ensures { result ≡ close.now ++ (codes ".\nl." ++ (decimal line ++ 10 ∷ [])) }
 {
     let mut text = Text::new();
     count_length(line);
+    text.put_bytes(close);
     text.put_bytes(b".\nl.");
     text.put_count(line);
     text.put_char(b'\n');
@@ -123,7 +146,7 @@ pub fn write_report<S: Sink>(
 {
     let mut before = report_mark(*in_line);
     put_opening(&mut before, report);
-    let behind = line_number(line);
+    let behind = line_number(closing(report), line);
     put_around(
         out,
         in_line,

@@ -39,7 +39,7 @@ fn reports(rt: HostRuntime) -> Result<(), Fail> {
     assert_eq!(rt; entered, Ok(1));
     let categories = [12; 256];
     let view = initial_view(&lists, &hash, &pool, &categories);
-    let rows: [(Report, &[u8]); 9] = [
+    let rows: [(Report, &[u8]); 11] = [
         (
             Report::UndefinedName,
             b"! Undefined control sequence.\nl.7\n",
@@ -69,6 +69,14 @@ fn reports(rt: HostRuntime) -> Result<(), Fail> {
         (
             Report::FileEndedInText(Name::Word(1)),
             b"! File ended while scanning text of \\message.\nl.7\n",
+        ),
+        (
+            Report::PrefixWith(Meaning::Char { cat: 11, code: 120 }),
+            b"! You can't use a prefix with `the letter x'.\nl.7\n",
+        ),
+        (
+            Report::LongOrOuterWith(Meaning::Prim(35)),
+            b"! You can't use `\\long' or `\\outer' with `\\catcode'.\nl.7\n",
         ),
     ];
     for (report, wanted) in rows {
