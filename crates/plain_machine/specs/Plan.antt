@@ -11,7 +11,7 @@ use Rattle.plain_state.specs.Categories.{end_group}
 use Rattle.prim_table.specs.Primitives.{primitive_names}
 use Rattle.plain_state.specs.Names.{seen, name_of, means_relax, relax_primitive, end_primitive, message_primitive, catcode_primitive, long_primitive, outer_primitive, global_primitive}
 use Rattle.plain_state.specs.Lookup.{token_of, new_name}
-use Rattle.plain_state.specs.Reports.{Report, UndefinedName, InvalidCharacter, FileEndedInText, NoSuchFile, fresh_line, report_bytes, hundred_line, emergency, no_end_line, no_file_line, token_line_bytes, runaway_bytes, message_bytes}
+use Rattle.plain_state.specs.Reports.{Report, UndefinedName, InvalidCharacter, OfText, FileEnded, NoSuchFile, fresh_line, report_bytes, hundred_line, emergency, no_end_line, no_file_line, token_line_bytes, runaway_bytes, message_bytes}
 use Rattle.plain_state.specs.Lex.{NewLine}
 use Rattle.command_words.specs.Words.{job_name}
 use Rattle.plain_state.specs.Pending.{Pulled, TokenFrom, LexemeFrom, LineTaken, InvalidMet, FileOver, NothingLeft, Progress, NotBegun, Closed, pulled}
@@ -103,12 +103,12 @@ put_one t = Settled ∷ ListBegun ∷ ListGrown t ∷ Put (t ∷ []) ∷ []
 -- A text runs away: the list so far is shown, `}` inserted, and the report comes.
 abbrev pub ran_away : List ℕ → Page → Report → List Token → List Move
 ran_away categories page report list =
-    Written Transcript (runaway_bytes categories page.names page.in_line list)
-    ∷ (put_one right_brace ++ reported (page_behind page (runaway_bytes categories page.names page.in_line list)) report [])
+    Written Transcript (runaway_bytes OfText categories page.names page.in_line list)
+    ∷ (put_one right_brace ++ reported (page_behind page (runaway_bytes OfText categories page.names page.in_line list)) report [])
 
 -- the check where a file has ended while a reading goes on
 abbrev pub checked_reading : List ℕ → Page → Reading → Kind → List Move
-checked_reading categories page r (Text name) = ran_away categories page (FileEndedInText name) (so_far r.kind r.fed)
+checked_reading categories page r (Text name) = ran_away categories page (FileEnded OfText name) (so_far r.kind r.fed)
 checked_reading categories page r k = []
 
 abbrev pub checked : List ℕ → Page → List Reading → List Move
