@@ -3,10 +3,11 @@ use Rattle.std.proofs.Common.{ℕ, ◌+◌, ◌*◌, ◌<◌, Bool, true, false,
 use Rattle.std.specs.Prelude.{Option, Some, None, if◌then◌else◌, nat_le, not}
 use Rattle.tex_defs.specs.declared.Token.{Token}
 use Rattle.tex_defs.specs.declared.Name.{Name}
+use Rattle.tex_defs.specs.declared.Meaning.{Meaning}
 use Rattle.tex_defs.specs.declared.Seen.{Seen}
 use Rattle.plain_state.specs.Categories.{begin_group}
 use Rattle.plain_state.specs.Reports.{Report, MissingNumber, ImproperConstant}
-use Rattle.plain_state.specs.Readings.{Kind, Catcode, Message, Integer, Text, Fed, Tok, Val, Told, Int, Toks, is_other, is_digit, is_minus, is_plus, is_at_most, natural, code_of, digit_of_token, greatest_integer, greatest_character, greatest_category, improper_code, signed, means_category, SetCategory, Ask, Inner, Done, Act, Tells, ask, rank, catcode, message, integer, unsigned, constant, behind_code, behind_number, number_ended, digits, digits_dropped, too_big, missing, first_digit, bad_code, equals_behind, category_behind, bad_category, text, text_done, brace_missing, closes_at}
+use Rattle.plain_state.specs.Readings.{Kind, Catcode, Message, Prefixed, Integer, Text, Fed, Tok, Val, Told, Int, Toks, is_other, is_digit, is_minus, is_plus, is_at_most, natural, code_of, digit_of_token, greatest_integer, greatest_character, greatest_category, improper_code, signed, means_category, SetCategory, Ask, Inner, Done, Act, Tells, ask, rank, catcode, message, integer, unsigned, constant, behind_code, behind_number, number_ended, digits, digits_dropped, too_big, missing, first_digit, bad_code, equals_behind, category_behind, bad_category, text, text_done, brace_missing, closes_at, is_limiting, is_global, is_assignment, prefixed, behind_prefixes, prefix_refused, limit_refused}
 
 -- A reading begins only readings of a lower rank.
 abbrev pub Lower : ℕ → Ask → Type 0
@@ -137,9 +138,32 @@ lower_message name [] = omega arith
 lower_message name (Val (Toks ts) ∷ fed) = tt
 lower_message name (y ∷ fed) = tt
 
+lower_refused : (m : Meaning Unit) (fed : List Fed) → Lower 1 (prefix_refused m fed)
+lower_refused m [] = tt
+lower_refused m (Told ∷ fed) = tt
+lower_refused m (y ∷ fed) = tt
+
+lower_limit : (m : Meaning Unit) (fed : List Fed) → Lower 1 (limit_refused m fed)
+lower_limit m [] = tt
+lower_limit m (Told ∷ fed) = lower_catcode fed
+lower_limit m (y ∷ fed) = tt
+
+lower_behind : (limited : Bool) (m : Meaning Unit) (fed : List Fed) → Lower 1 (behind_prefixes limited m fed)
+lower_behind limited m fed =
+    lower_if 1 (is_assignment m) (if limited then limit_refused m fed else catcode fed) (prefix_refused m fed)
+    (lower_if 1 limited (limit_refused m fed) (catcode fed) (lower_limit m fed) (lower_catcode fed)) (lower_refused m fed)
+
+lower_prefixed : (limited : Bool) (fed : List Fed) → Lower 1 (prefixed limited fed)
+lower_prefixed limited [] = tt
+lower_prefixed limited (Tok x ∷ fed) =
+    lower_if 1 (is_limiting x.meaning) (prefixed true fed) (if is_global x.meaning then prefixed limited fed else behind_prefixes limited x.meaning fed) (lower_prefixed true fed)
+    (lower_if 1 (is_global x.meaning) (prefixed limited fed) (behind_prefixes limited x.meaning fed) (lower_prefixed limited fed) (lower_behind limited x.meaning fed))
+lower_prefixed limited (y ∷ fed) = tt
+
 pub lower : (k : Kind) (fed : List Fed) → Lower (rank k) (ask k fed)
 lower Catcode fed = lower_catcode fed
 lower (Message name) fed = lower_message name fed
+lower (Prefixed limited) fed = lower_prefixed limited fed
 lower Integer fed = lower_integer 0 false fed
 lower (Text name) fed = lower_text 0 fed
 
@@ -153,5 +177,6 @@ Starts a = Unit {0}
 pub starts : (k : Kind) → Starts (ask k [])
 starts Catcode = tt
 starts (Message name) = tt
+starts (Prefixed limited) = tt
 starts Integer = tt
 starts (Text name) = tt

@@ -9,7 +9,7 @@ use Rattle.plain_state.specs.Lex.{Lexed, Gives, Invalid, UsedUp, lexed}
 use Rattle.plain_state.specs.LexLaws.{LeavesLess}
 use Rattle.plain_state.proofs.LexRests.{less}
 use Rattle.plain_state.specs.Pending.{Pending, Progress, NotBegun, Begun as BegunFile, Closed, Pulled, TokenFrom, LexemeFrom, LineTaken, InvalidMet, FileOver, NothingLeft, Put as PutList, settle, settled, pulled, from_front, from_list, from_line, from_file}
-use Rattle.plain_state.specs.Reports.{Report, InvalidCharacter, FileEndedInText, report_bytes, hundred_line, runaway_bytes}
+use Rattle.plain_state.specs.Reports.{Report, InvalidCharacter, OfText, FileEnded, report_bytes, hundred_line, runaway_bytes}
 use Rattle.plain_state.specs.Readings.{Kind, Catcode, Message, Text, Fed, Tok, Val, Told, Value, Flag, Effect, SetCategory, Say, Ask, More, Inner, Done, Act, Tells, ask, so_far, rank}
 use Rattle.plain_state.specs.States.{State, Reading, Move, Handed, Settled, Skipped, FileClosed, Entered, Kept as KeptBytes, Noted, ListBegun, ListGrown, Put, SetCategoryOf, Written, Begun, Ended, Reported, Stopped, Outcome, AtFatal, made, fed_with}
 use Rattle.plain_machine.specs.Plan.{Page, page_of, plan, planned, answered, handed, checked, checked_reading, without_file, ran_away, right_brace, page_behind, reported, behind_report, reports_room, stomach, wanted, enters_names, effect, given_back, put_one, put_all, last_seen, is_told, begun_with}
@@ -215,12 +215,12 @@ module _ (s : State) (q : Pending) (e : s.stopped ≡ None) (less : pending_weig
 
   away_below : (u : State) (categories : List ℕ) (page : Page) (report : Report) (list : List Token) → u.stopped ≡ None → u.work ≡ s.work → u.pending ≡ q → Drops (weight s) (ran_away categories page report list) u
   away_below u categories page report list a b c =
-      let text : List ℕ = runaway_bytes categories page.names page.in_line list in
+      let text : List ℕ = runaway_bytes OfText categories page.names page.in_line list in
       drops_plain (weight s) u (Written Transcript text ∷ put_one right_brace) (reported (page_behind page text) report []) (refl, (refl, (refl, (refl, (refl, tt)))))
       (λ v k. drops_report (weight s) v (page_behind page text) report [] (some_weight s e) (λ x l. below u x a b c (kept_on u v x k l)))
 
   check_reading_below : (u : State) (categories : List ℕ) (page : Page) (r : Reading) (k : Kind) → u.stopped ≡ None → u.work ≡ s.work → u.pending ≡ q → Drops (weight s) (checked_reading categories page r k) u
-  check_reading_below u categories page r (Text name) a b c = away_below u categories page (FileEndedInText name) (so_far r.kind r.fed) a b c
+  check_reading_below u categories page r (Text name) a b c = away_below u categories page (FileEnded OfText name) (so_far r.kind r.fed) a b c
   check_reading_below u categories page r k a b c = below u u a b c (record { work = refl; stopped = refl; pending = refl })
 
   check_below : (u : State) (categories : List ℕ) (page : Page) (work : List Reading) → u.stopped ≡ None → u.work ≡ s.work → u.pending ≡ q → Drops (weight s) (checked categories page work) u

@@ -1,5 +1,5 @@
 -- The plain machine: the moves of the rule that comes next, and the next move.
-use Rattle.std.specs.Prelude.{ℕ, Bool, true, false, ◌==◌, List, [], ◌∷◌, ◌++◌, nat_lt, if◌then◌else◌, Option, Some, None}
+use Rattle.std.specs.Prelude.{ℕ, Bool, true, false, ◌==◌, ◌||◌, List, [], ◌∷◌, ◌++◌, nat_lt, if◌then◌else◌, Option, Some, None}
 use Rattle.tex_defs.specs.declared.Token.{Token}
 use Rattle.tex_defs.specs.declared.Token.TheVariants as token
 use Rattle.tex_defs.specs.declared.Meaning.{Meaning}
@@ -9,13 +9,13 @@ use Rattle.tex_defs.specs.declared.Fatal.TheVariants.{NoEnd, NoFile, HundredErro
 use Rattle.tex_defs.specs.Places.{Transcript}
 use Rattle.plain_state.specs.Categories.{end_group}
 use Rattle.prim_table.specs.Primitives.{primitive_names}
-use Rattle.plain_state.specs.Names.{seen, name_of, end_primitive, message_primitive, catcode_primitive}
+use Rattle.plain_state.specs.Names.{seen, name_of, means_relax, relax_primitive, end_primitive, message_primitive, catcode_primitive, long_primitive, outer_primitive, global_primitive}
 use Rattle.plain_state.specs.Lookup.{token_of, new_name}
-use Rattle.plain_state.specs.Reports.{Report, UndefinedName, InvalidCharacter, FileEndedInText, NoSuchFile, fresh_line, report_bytes, hundred_line, emergency, no_end_line, no_file_line, token_line_bytes, runaway_bytes, message_bytes}
+use Rattle.plain_state.specs.Reports.{Report, UndefinedName, InvalidCharacter, OfText, FileEnded, NoSuchFile, fresh_line, report_bytes, hundred_line, emergency, no_end_line, no_file_line, token_line_bytes, runaway_bytes, message_bytes}
 use Rattle.plain_state.specs.Lex.{NewLine}
 use Rattle.command_words.specs.Words.{job_name}
 use Rattle.plain_state.specs.Pending.{Pulled, TokenFrom, LexemeFrom, LineTaken, InvalidMet, FileOver, NothingLeft, Progress, NotBegun, Closed, pulled}
-use Rattle.plain_state.specs.Readings.{Kind, Catcode, Message, Text, Want, Raw, Expanded, Nonblank, Effect, SetCategory, Say, Fed, Tok, Val, Told, Flag, Ask, More, Inner, Done, Act, Tells, ask, so_far, is_space, is_undefined}
+use Rattle.plain_state.specs.Readings.{Kind, Catcode, Message, Text, Prefixed, Want, Raw, Expanded, Nonblank, Command, Effect, SetCategory, Say, Fed, Tok, Val, Told, Flag, Ask, More, Inner, Done, Act, Tells, ask, so_far, is_space, is_undefined}
 use Rattle.plain_state.specs.States.{Reading, Outcome, Finished, AtFatal, Move, Handed, Taken, Settled, Skipped, FileClosed, Entered, Kept, Feeds, Noted, ListBegun, ListGrown, Put, SetCategoryOf, Written, Begun, BegunWith, Ended, Reported, Stopped, State, made, in_line_after}
 
 -- What the texts of a rule depend on: the names entered, whether the transcript's column isn't 0, the number of the line
@@ -60,12 +60,16 @@ primitive page t number =
     if number == catcode_primitive then Begun Catcode ∷ []
     else if number == message_primitive then Begun (Message (name_of t)) ∷ []
     else if number == end_primitive then finish page.in_line
+    else if (number == long_primitive) || (number == outer_primitive) then Begun (Prefixed true) ∷ []
+    else if number == global_primitive then Begun (Prefixed false) ∷ []
+    else if number == relax_primitive then []
     else token_line page (means.Prim number)
 
 -- a token where no reading is open
 abbrev pub command : Page → Token → Meaning Unit → List Move
 command page t (means.Prim number) = primitive page t number
 command page t means.Undefined = reported page UndefinedName []
+command page t means.RelaxMarked = []
 command page t m = token_line page m
 
 -- a token read by X: an undefined name is reported, and dropped
@@ -76,6 +80,7 @@ abbrev pub wanted : Page → Want → Seen → List Move
 wanted page Raw x = Feeds x ∷ []
 wanted page Expanded x = expanded page x
 wanted page Nonblank x = if is_space x then [] else expanded page x
+wanted page Command x = if is_space x || means_relax x.meaning then [] else expanded page x
 
 abbrev pub stomach : Page → Seen → List Move
 stomach page x = command page x.token x.meaning
@@ -98,12 +103,12 @@ put_one t = Settled ∷ ListBegun ∷ ListGrown t ∷ Put (t ∷ []) ∷ []
 -- A text runs away: the list so far is shown, `}` inserted, and the report comes.
 abbrev pub ran_away : List ℕ → Page → Report → List Token → List Move
 ran_away categories page report list =
-    Written Transcript (runaway_bytes categories page.names page.in_line list)
-    ∷ (put_one right_brace ++ reported (page_behind page (runaway_bytes categories page.names page.in_line list)) report [])
+    Written Transcript (runaway_bytes OfText categories page.names page.in_line list)
+    ∷ (put_one right_brace ++ reported (page_behind page (runaway_bytes OfText categories page.names page.in_line list)) report [])
 
 -- the check where a file has ended while a reading goes on
 abbrev pub checked_reading : List ℕ → Page → Reading → Kind → List Move
-checked_reading categories page r (Text name) = ran_away categories page (FileEndedInText name) (so_far r.kind r.fed)
+checked_reading categories page r (Text name) = ran_away categories page (FileEnded OfText name) (so_far r.kind r.fed)
 checked_reading categories page r k = []
 
 abbrev pub checked : List ℕ → Page → List Reading → List Move
@@ -130,6 +135,7 @@ abbrev pub enters_names : Want → Bool
 enters_names Raw = true
 enters_names Expanded = false
 enters_names Nonblank = false
+enters_names Command = false
 
 abbrev pub effect : State → Effect → List Move
 effect s (SetCategory code category) = SetCategoryOf code category ∷ []

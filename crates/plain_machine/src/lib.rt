@@ -74,6 +74,14 @@ pub fn worked_rows()
     ensures entered_once { Enters (codes "\\catcode`\\foo 5 \\catcode`\\bar\\catcode`\\foo 5 \\end") (codes "foo" ∷ codes "bar" ∷ []) }
     ensures missing { Writes (codes "\\catcode`\\x=\\end\\end") (codes "! Missing number, treated as zero.\nl.1\n") Finished }
     ensures hats { Writes (first_line_usual ++ codes "\\message{^^41^^4a}\\end") (codes "AJ\n") Finished }
+    ensures relax { RunsSo (first_line_usual ++ codes "\\relax\\end\n") (codes "") 32 Finished }
+    ensures relax_before_a_brace { RunsSo (first_line_usual ++ codes "\\message\\relax {hi}\\end\n") (codes "hi\n") 37 Finished }
+    ensures relax_twice { Writes (first_line_usual ++ codes "\\message \\relax\\relax{hi}\\end\n") (codes "hi\n") Finished }
+    ensures global { RunsSo (first_line_usual ++ codes "\\global\\catcode`\\%=12 \\message{a%b}\\catcode`\\%=14 \\end\n") (codes "a%b\n") 54 Finished }
+    ensures long_assignment { RunsSo (first_line_usual ++ codes "\\global\\relax \\long\\catcode`\\%=12 \\message{%}\\catcode`\\%=14 \\end\n") (codes "! You can't use `\\long' or `\\outer' with `\\catcode'.\nl.2\n%\n") 54 Finished }
+    ensures prefix_before_a_message { RunsSo (first_line_usual ++ codes "\\global\\message{x}\\end\n") (codes "! You can't use a prefix with `\\message'.\nl.2\nx\n") 37 Finished }
+    ensures prefix_before_a_letter { RunsSo (first_line_usual ++ codes "\\outer x\\end\n") (codes "! You can't use a prefix with `the letter x'.\nl.2\n{the letter x}\n") 34 Finished }
+    ensures prefix_before_the_end { Writes (first_line_usual ++ codes "\\long\\foo\\global\\end\n") (codes "! Undefined control sequence.\nl.2\n! You can't use a prefix with `\\end'.\nl.2\n") Finished }
     ensures no_category { Writes (codes "\\catcode`\\x=16 ") (codes "! Invalid code (16), should be in the range 0..15.\nl.1\n! Emergency stop.\n*** (job aborted, no legal \\end found)\n") (AtFatal NoEnd) }
 {}
 

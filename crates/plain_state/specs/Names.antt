@@ -1,5 +1,5 @@
 -- The names that mean something, and what tokens mean.
-use Rattle.std.specs.Prelude.{ℕ, ◌==◌, Bool, true, if◌then◌else◌}
+use Rattle.std.specs.Prelude.{ℕ, ◌==◌, Bool, true, false, ◌||◌, if◌then◌else◌}
 use Rattle.tex_defs.specs.declared.Token.{Token}
 use Rattle.tex_defs.specs.declared.Token.TheVariants as token
 use Rattle.tex_defs.specs.declared.Name.{Name}
@@ -10,6 +10,9 @@ use Rattle.tex_defs.specs.declared.Meaning.TheVariants as means
 use Rattle.tex_defs.specs.declared.Seen.{Seen}
 
 -- the numbers of the primitives, as the table of all primitives has them
+abbrev pub relax_primitive : ℕ
+relax_primitive = 1
+
 abbrev pub end_primitive : ℕ
 end_primitive = 6
 
@@ -22,9 +25,21 @@ message_primitive = 9
 abbrev pub catcode_primitive : ℕ
 catcode_primitive = 35
 
+-- the prefixes of assignments
+abbrev pub long_primitive : ℕ
+long_primitive = 23
+
+abbrev pub outer_primitive : ℕ
+outer_primitive = 24
+
+abbrev pub global_primitive : ℕ
+global_primitive = 25
+
 -- the primitives that mean something already
 abbrev pub is_primitive : ℕ → Bool
-is_primitive number = if number == par_primitive then true else if number == end_primitive then true else if number == message_primitive then true else number == catcode_primitive
+is_primitive number =
+    (number == relax_primitive) || (number == par_primitive) || (number == end_primitive) || (number == message_primitive)
+    || (number == long_primitive) || (number == outer_primitive) || (number == global_primitive) || (number == catcode_primitive)
 
 abbrev pub name_meaning : Name → Meaning Unit
 name_meaning (Word number) = if is_primitive number then means.Prim number else means.Undefined
@@ -35,6 +50,16 @@ meaning (token.Char category c) = means.Char category c
 meaning (token.Named name) = name_meaning name
 meaning (token.Marked name) = name_meaning name
 meaning t = means.Undefined
+
+-- a primitive's own meaning, under whatever name
+abbrev pub means_primitive : ℕ → Meaning Unit → Bool
+means_primitive n (means.Prim number) = number == n
+means_primitive n m = false
+
+-- the meaning of `\relax`, also that of a name behind `\noexpand`
+abbrev pub means_relax : Meaning Unit → Bool
+means_relax means.RelaxMarked = true
+means_relax m = means_primitive relax_primitive m
 
 -- the name that a token is
 abbrev pub name_of : Token → Name

@@ -8,12 +8,15 @@ use Rattle.tex_defs.specs.declared.Meaning.{Meaning}
 use Rattle.tex_defs.specs.declared.Meaning.TheVariants as means
 use Rattle.tex_defs.specs.declared.Seen.{Seen}
 use Rattle.plain_state.specs.Categories.{begin_group, end_group, space, letter, other, is_between}
-use Rattle.plain_state.specs.Reports.{Report, ImproperConstant, MissingNumber, NumberTooBig, BadCharacterCode, InvalidCode, MissingBrace}
+use Rattle.plain_state.specs.Names.{means_primitive, long_primitive, outer_primitive, global_primitive, catcode_primitive}
+use Rattle.plain_state.specs.Reports.{Report, ImproperConstant, MissingNumber, NumberTooBig, BadCharacterCode, InvalidCode, MissingBrace, PrefixWith, LongOrOuterWith}
 
--- the commands of the stomach, an integer, a balanced text; a name is that of the command, as it was written
+-- The commands of the stomach, an integer, a balanced text; a name is that of the command, as it was written.
+-- A command with prefixes begins behind its first prefix: `limited` where that is `\long` or `\outer`.
 pub data Kind : Type 0 where
   Catcode : Kind
   Message : Name → Kind
+  Prefixed : (limited : Bool) → Kind
   Integer : Kind
   Text : Name → Kind
 
@@ -30,11 +33,12 @@ pub data Fed : Type 0 where
   Val : Value → Fed
   Told : Fed
 
--- a token raw, by X, or by X with spaces skipped
+-- a token raw, by X, by X with spaces skipped, or by X with spaces and `\relax` skipped
 pub data Want : Type 0 where
   Raw : Want
   Expanded : Want
   Nonblank : Want
+  Command : Want
 
 -- what a command does once it has been read
 pub data Effect : Type 0 where
@@ -223,9 +227,9 @@ brace_missing [] = Tells MissingBrace true
 brace_missing (Told ∷ fed) = text_done (closes_at 0 fed)
 brace_missing (x ∷ fed) = senseless
 
--- the first brace, perhaps implicit, and then the text
+-- the first brace, perhaps implicit, behind spaces and `\relax`, and then the text
 abbrev pub text : List Fed → Ask
-text [] = More Nonblank
+text [] = More Command
 text (Tok x ∷ fed) = if means_category begin_group x.meaning then text_done (closes_at 0 fed) else brace_missing fed
 text (x ∷ fed) = senseless
 
@@ -302,10 +306,52 @@ message name [] = Inner (Text name) false
 message name (Val (Toks ts) ∷ fed) = Act (Say ts)
 message name fed = senseless
 
+-- PREFIXES. `\long`, `\outer` and `\global` before an assignment, which then goes on in the same reading.
+
+-- `\long` or `\outer`, which are for definitions alone
+abbrev pub is_limiting : Meaning Unit → Bool
+is_limiting m = means_primitive long_primitive m || means_primitive outer_primitive m
+
+abbrev pub is_global : Meaning Unit → Bool
+is_global m = means_primitive global_primitive m
+
+-- the assignments, which may have prefixes
+abbrev pub is_assignment : Meaning Unit → Bool
+is_assignment m = means_primitive catcode_primitive m
+
+-- another command than an assignment is given back and reported, and the prefixes are lost
+abbrev pub prefix_refused : Meaning Unit → List Fed → Ask
+prefix_refused m [] = Tells (PrefixWith m) true
+prefix_refused m (Told ∷ fed) = Done (Flag true) false
+prefix_refused m (x ∷ fed) = senseless
+
+-- `\long` or `\outer` before an assignment that is no definition is reported, and it goes on as without them
+abbrev pub limit_refused : Meaning Unit → List Fed → Ask
+limit_refused m [] = Tells (LongOrOuterWith m) false
+limit_refused m (Told ∷ fed) = catcode fed
+limit_refused m (x ∷ fed) = senseless
+
+-- the command behind the prefixes, before which `\long` or `\outer` came or not
+abbrev pub behind_prefixes : (limited : Bool) → Meaning Unit → List Fed → Ask
+behind_prefixes limited m fed =
+    if is_assignment m then (
+    if limited then limit_refused m fed else catcode fed
+    ) else prefix_refused m fed
+
+-- further prefixes, and the command behind them
+abbrev pub prefixed : (limited : Bool) → List Fed → Ask
+prefixed limited [] = More Command
+prefixed limited (Tok x ∷ fed) =
+    if is_limiting x.meaning then prefixed true fed
+    else if is_global x.meaning then prefixed limited fed
+    else behind_prefixes limited x.meaning fed
+prefixed limited (x ∷ fed) = senseless
+
 -- What a reading of this kind asks for after all that it was fed with.
 abbrev pub ask : Kind → List Fed → Ask
 ask Catcode fed = catcode fed
 ask (Message name) fed = message name fed
+ask (Prefixed limited) fed = prefixed limited fed
 ask Integer fed = integer false fed
 ask (Text name) fed = text fed
 
@@ -343,5 +389,6 @@ gathered_by k fed = own_lists k fed ++ fed_lists fed
 abbrev pub rank : Kind → ℕ
 rank Catcode = 1
 rank (Message name) = 1
+rank (Prefixed limited) = 1
 rank Integer = 0
 rank (Text name) = 0

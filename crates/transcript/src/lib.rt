@@ -15,5 +15,5 @@ mod writing;
 
 pub use initial::initial_view;
 pub use message::{write_message, write_runaway, write_token_line};
-pub use report::{Report, write_missing_file, write_report};
+pub use report::{Report, Scanned, write_missing_file, write_report};
 pub use writing::{put, put_shown};

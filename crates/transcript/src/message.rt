@@ -3,11 +3,13 @@ ghost use Rattle.std.specs.Prelude.{◌≡◌, ◌++◌, codes, length, OnOk, If
 ghost use Rattle.token_lists.specs.Table.{IsHeld};
 ghost use Rattle.token_lists.specs.Ids.{build_id};
 ghost use Rattle.plain_state.specs.Printed.{initial_style, shown_all};
-ghost use Rattle.plain_state.specs.Reports.{fresh_line, message_bytes, token_line_bytes, runaway_bytes};
+ghost use Rattle.plain_state.specs.Reports.{fresh_line, message_bytes, token_line_bytes, runaway_word, runaway_bytes};
+ghost use Rattle.transcript.specs.Reported.{scanned_of};
 ghost use Rattle.token_show.specs.Views.{build_tokens};
 ghost use Rattle.transcript.specs.Initial.{IsInitialView, names_of, tokens_given};
 ghost use Rattle.transcript.specs.Taken.{Took, TookFront};
 
+use crate::report::Scanned;
 use crate::writing::put_around;
 use tex_defs::Meaning;
 use token_lists::Build;
@@ -61,31 +63,35 @@ pub fn write_token_line<S: Sink>(
     put_around(out, in_line, brace, meaning_head(view, &meaning), b"}\n")
 }
 
-// What stands before a text that runs away.
-fn runaway_head(in_line: bool) -> &'static [u8]
-    ensures { result.now ≡ fresh_line in_line ++ codes "Runaway text?\n" }
+// What stands before a definition, an argument or a text that runs away.
+fn runaway_head(what: Scanned, in_line: bool) -> &'static [u8]
+    ensures { result.now ≡ fresh_line in_line ++ (codes "Runaway " ++ (runaway_word (scanned_of what) ++ codes "?\n")) }
 {
-    if in_line {
-        b"\nRunaway text?\n"
-    } else {
-        b"Runaway text?\n"
+    match (what, in_line) {
+        (Scanned::Definition, true) => b"\nRunaway definition?\n",
+        (Scanned::Definition, false) => b"Runaway definition?\n",
+        (Scanned::Use, true) => b"\nRunaway argument?\n",
+        (Scanned::Use, false) => b"Runaway argument?\n",
+        (Scanned::Text, true) => b"\nRunaway text?\n",
+        (Scanned::Text, false) => b"Runaway text?\n",
     }
 }
 
-/// Writes what was built of a list whose text runs away, on a fresh line.
+/// Writes what was built of a list whose definition, argument or text runs away, on a fresh line.
 ///
 /// *TeX: The Program*, part 22 (`runaway`). At a fault the sink took a front of it.
 pub fn write_runaway<S: Sink>(
     out: &mut S,
     in_line: &mut bool,
     view: View<'_>,
+    what: Scanned,
     build: &Build,
 ) -> Result<(), Fault>
     requires initial { IsInitialView view }
     requires held { IsHeld view.lists.now (build_id build.now) }
-    ensures ok { OnOk result (Took (S.told out.old) (S.told out.new) in_line.old in_line.new (runaway_bytes view.entry.categories.now (names_of view.entry) in_line.old (build_tokens view.entry build.now))) }
-    ensures err { IfErr result (λ fault. TookFront (S.told out.old) (S.told out.new) in_line.old in_line.new (runaway_bytes view.entry.categories.now (names_of view.entry) in_line.old (build_tokens view.entry build.now)) fault) }
+    ensures ok { OnOk result (Took (S.told out.old) (S.told out.new) in_line.old in_line.new (runaway_bytes (scanned_of what) view.entry.categories.now (names_of view.entry) in_line.old (build_tokens view.entry build.now))) }
+    ensures err { IfErr result (λ fault. TookFront (S.told out.old) (S.told out.new) in_line.old in_line.new (runaway_bytes (scanned_of what) view.entry.categories.now (names_of view.entry) in_line.old (build_tokens view.entry build.now)) fault) }
 {
-    let head = runaway_head(*in_line);
+    let head = runaway_head(what, *in_line);
     put_around(out, in_line, head, show_runaway(view, build), b"")
 }

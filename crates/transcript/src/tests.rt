@@ -2,7 +2,7 @@
 ghost use Rattle.token_lists.specs.Ids.{IsBuilding};
 
 use crate::{
-    Report, initial_view, put, put_shown, write_message, write_missing_file, write_report,
+    Report, Scanned, initial_view, put, put_shown, write_message, write_missing_file, write_report,
     write_runaway, write_token_line,
 };
 use cs_hash::CsHash;
@@ -39,7 +39,7 @@ fn reports(rt: HostRuntime) -> Result<(), Fail> {
     assert_eq!(rt; entered, Ok(1));
     let categories = [12; 256];
     let view = initial_view(&lists, &hash, &pool, &categories);
-    let rows: [(Report, &[u8]); 9] = [
+    let rows: [(Report, &[u8]); 20] = [
         (
             Report::UndefinedName,
             b"! Undefined control sequence.\nl.7\n",
@@ -67,8 +67,52 @@ fn reports(rt: HostRuntime) -> Result<(), Fail> {
         ),
         (Report::MissingBrace, b"! Missing { inserted.\nl.7\n"),
         (
-            Report::FileEndedInText(Name::Word(1)),
+            Report::FileEnded(Scanned::Text, Name::Word(1)),
             b"! File ended while scanning text of \\message.\nl.7\n",
+        ),
+        (
+            Report::FileEnded(Scanned::Use, Name::Single(97)),
+            b"! File ended while scanning use of \\a.\nl.7\n",
+        ),
+        (
+            Report::Forbidden(Scanned::Definition, Name::Active(126)),
+            b"! Forbidden control sequence found while scanning definition of ~.\nl.7\n",
+        ),
+        (
+            Report::MissingName,
+            b"! Missing control sequence inserted.\nl.7\n",
+        ),
+        (
+            Report::NotConsecutive,
+            b"! Parameters must be numbered consecutively.\nl.7\n",
+        ),
+        (
+            Report::AlreadyNine,
+            b"! You already have nine parameters.\nl.7\n",
+        ),
+        (
+            Report::IllegalNumber(Name::Single(97)),
+            b"! Illegal parameter number in definition of \\a.\nl.7\n",
+        ),
+        (
+            Report::UseMismatch(Name::Single(97)),
+            b"! Use of \\a doesn't match its definition.\nl.7\n",
+        ),
+        (
+            Report::ExtraBrace(Name::Single(97)),
+            b"! Argument of \\a has an extra }.\nl.7\n",
+        ),
+        (
+            Report::ParagraphEnded(Name::Single(97)),
+            b"! Paragraph ended before \\a was complete.\nl.7\n",
+        ),
+        (
+            Report::PrefixWith(Meaning::Char { cat: 11, code: 120 }),
+            b"! You can't use a prefix with `the letter x'.\nl.7\n",
+        ),
+        (
+            Report::LongOrOuterWith(Meaning::Prim(35)),
+            b"! You can't use `\\long' or `\\outer' with `\\catcode'.\nl.7\n",
         ),
     ];
     for (report, wanted) in rows {
@@ -136,7 +180,7 @@ fn long_lists(rt: HostRuntime) -> Result<(), Fail> {
     let mut sink = MemSink::new(rt.alloc());
     let mut in_line = true;
     let said = write_message(&mut sink, &mut in_line, view, Some(&build));
-    let told = write_runaway(&mut sink, &mut in_line, view, &build);
+    let told = write_runaway(&mut sink, &mut in_line, view, Scanned::Text, &build);
     lists.abandon(build);
     assert_eq!(rt; appended, Ok(()));
     assert_eq!(rt; said, Ok(()));

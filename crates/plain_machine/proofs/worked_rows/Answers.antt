@@ -40,4 +40,12 @@ returns c = record {
   entered_once = refl;
   missing = (refl, refl);
   hats = (refl, refl);
+  relax = ((refl, refl), refl);
+  relax_before_a_brace = ((refl, refl), refl);
+  relax_twice = (refl, refl);
+  global = ((refl, refl), refl);
+  long_assignment = ((refl, refl), refl);
+  prefix_before_a_message = ((refl, refl), refl);
+  prefix_before_a_letter = ((refl, refl), refl);
+  prefix_before_the_end = (refl, refl);
 }
