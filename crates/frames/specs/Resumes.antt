@@ -2,7 +2,7 @@
 use Rattle.std.specs.Prelude.{◌≡◌, ◌≤◌, ℕ, length, Bool, false, if◌then◌else◌, List, [], ◌∷◌, ◌++◌, Option, Some, None, min}
 use Rattle.tex_defs.specs.declared.Token.{Token}
 use Rattle.tex_defs.specs.declared.Seen.{Seen}
-use Rattle.plain_state.specs.Readings.{Ask, Fed, integer, constant, first_digit, digits, digits_dropped, too_big, missing, greatest_integer, behind_number, catcode, bad_code, bad_category, equals_behind, behind_equals, message}
+use Rattle.plain_state.specs.Readings.{Ask, Fed, integer, constant, first_digit, digits, digits_dropped, too_big, missing, greatest_integer, behind_number, catcode, bad_code, bad_category, equals_behind, behind_equals, message, prefixed, prefix_refused, limit_refused}
 use Rattle.plain_state.specs.Readings as reading
 use Rattle.frames.specs.declared.scan.Radix.{Radix}
 use Rattle.frames.specs.declared.scan.Radix.TheVariants.{Octal, Decimal, Hexadecimal}
@@ -11,7 +11,9 @@ use Rattle.frames.specs.declared.scan.NumberScan.TheVariants.{Signs, Quote, Firs
 use Rattle.frames.specs.declared.frame.CodeScan.{CodeScan}
 use Rattle.frames.specs.declared.frame.CodeScan.TheVariants.{Start, BadCode, Equals, Value, BadCategory}
 use Rattle.frames.specs.declared.frame.Waiting.{Waiting}
-use Rattle.frames.specs.declared.frame.Waiting.TheVariants.{Catcode, Message}
+use Rattle.frames.specs.declared.frame.Waiting.TheVariants.{Catcode, Message, Prefixed}
+use Rattle.frames.specs.declared.prefix.PrefixScan.{PrefixScan}
+use Rattle.frames.specs.declared.prefix.PrefixScan.TheVariants.{Prefixes, Refused, LimitRefused, Code}
 use Rattle.frames.specs.declared.frame.Frame.{Frame}
 use Rattle.frames.specs.declared.frame.Frame.TheVariants.{Waits, Integer, Text}
 use Rattle.frames.specs.declared.scan.Ask as engine
@@ -46,14 +48,23 @@ resume_code (Equals code) fed = equals_behind code fed
 resume_code (Value code x) fed = behind_equals code x fed
 resume_code (BadCategory code category) fed = bad_category code category fed
 
+-- a command with prefixes
+abbrev pub resume_prefixed : PrefixScan → List Fed → Ask
+resume_prefixed (Prefixes limited) fed = prefixed limited fed
+resume_prefixed (Refused m) fed = prefix_refused m fed
+resume_prefixed (LimitRefused m) fed = limit_refused m fed
+resume_prefixed (Code scan) fed = resume_code scan fed
+
 -- a command that waits for an inner value
 abbrev pub resume_waiting : Waiting → List Fed → Ask
 resume_waiting (Catcode scan) fed = resume_code scan fed
 resume_waiting (Message name) fed = message name fed
+resume_waiting (Prefixed limited scan) fed = resume_prefixed scan fed
 
 abbrev pub waiting_kind : Waiting → reading.Kind
 waiting_kind (Catcode scan) = reading.Catcode
 waiting_kind (Message name) = reading.Message name
+waiting_kind (Prefixed limited scan) = reading.Prefixed limited
 
 -- what the frame answers once it is fed with this, where its reading holds these lists
 abbrev pub resume : Frame → List (List Token) → List Fed → Ask
@@ -70,6 +81,7 @@ frame_list f lists fed = []
 abbrev pub first_frame : Kind → Frame
 first_frame kinds.Catcode = Waits (Catcode Start)
 first_frame (kinds.Message name) = Waits (Message name)
+first_frame (kinds.Prefixed limited) = Waits (Prefixed limited (Prefixes limited))
 first_frame kinds.Integer = Integer (Signs false)
 first_frame (kinds.Text name) = Text name texts.First
 

@@ -5,9 +5,9 @@ use Rattle.plain_state.specs.Readings as reading
 use Rattle.frames.specs.declared.scan.Value.{Value}
 use Rattle.frames.specs.declared.scan.Value.TheVariants.{Int, Toks, Flag}
 use Rattle.frames.specs.declared.scan.Want.{Want}
-use Rattle.frames.specs.declared.scan.Want.TheVariants.{Raw, Expanded, Nonblank}
+use Rattle.frames.specs.declared.scan.Want.TheVariants.{Raw, Expanded, Nonblank, Command}
 use Rattle.frames.specs.declared.scan.Kind.{Kind}
-use Rattle.frames.specs.declared.scan.Kind.TheVariants.{Catcode, Message, Integer, Text}
+use Rattle.frames.specs.declared.scan.Kind.TheVariants.{Catcode, Message, Prefixed, Integer, Text}
 use Rattle.frames.specs.declared.scan.Effect.{Effect}
 use Rattle.frames.specs.declared.scan.Effect.TheVariants.{SetCategory, Say}
 use Rattle.frames.specs.declared.scan.Ask.{Ask}
@@ -28,6 +28,7 @@ value_of lists (Flag b) = reading.Flag b
 abbrev pub kind_of : Kind → reading.Kind
 kind_of Catcode = reading.Catcode
 kind_of (Message name) = reading.Message name
+kind_of (Prefixed limited) = reading.Prefixed limited
 kind_of Integer = reading.Integer
 kind_of (Text name) = reading.Text name
 
@@ -35,6 +36,7 @@ abbrev pub want_of : Want → reading.Want
 want_of Raw = reading.Raw
 want_of Expanded = reading.Expanded
 want_of Nonblank = reading.Nonblank
+want_of Command = reading.Command
 
 abbrev pub effect_of : List (List Token) → Effect → reading.Effect
 effect_of lists (SetCategory code category) = reading.SetCategory code category

@@ -9,6 +9,7 @@ ghost use Rattle.frames.specs.Resumes.{resume, resume_waiting, resume_code, firs
 ghost use Rattle.frames.specs.declared.frame.Waiting.TheVariants.{Catcode};
 ghost use Rattle.frames.specs.declared.frame.Frame.TheVariants.{Waits};
 
+use crate::prefix::PrefixScan;
 use crate::scan::{Ask, Effect, Kind, NumberScan, Value, Want, is_other, senseless};
 use crate::text::TextScan;
 use tex_defs::{Name, Seen};
@@ -35,6 +36,8 @@ pub enum Waiting {
     Catcode(CodeScan),
     /// `\message`, with its name as it was written.
     Message(Name),
+    /// A command with prefixes, and whether the first was `\long` or `\outer`.
+    Prefixed(bool, PrefixScan),
 }
 
 /// An open reading.
@@ -58,8 +61,9 @@ pub fn first_ask(kind: Kind) -> Ask
     match kind {
         Kind::Catcode => Ask::Inner(Waiting::Catcode(CodeScan::Start), Kind::Integer, None),
         Kind::Message(name) => Ask::Inner(Waiting::Message(name), Kind::Text(name), None),
+        Kind::Prefixed(_) => Ask::More(Want::Command),
         Kind::Integer => Ask::More(Want::Nonblank),
-        Kind::Text(_) => Ask::More(Want::Nonblank),
+        Kind::Text(_) => Ask::More(Want::Command),
     }
 }
 
@@ -76,7 +80,7 @@ fn within(n: i32, limit: u8) -> Option<u8>
 
 impl CodeScan {
     /// Takes the value of an inner reading: the character's code, or its category.
-    fn feed_value(&mut self, value: Value) -> Ask
+    pub fn feed_value(&mut self, value: Value) -> Ask
         ensures answer { (lists now : List (List Token)) → ask_of now result ≡ resume_code self.old (Val (value_of lists value) ∷ []) }
         ensures goes_on { IsOpen result → (lists : List (List Token)) (fed : List Fed) → resume_code self.old (Val (value_of lists value) ∷ fed) ≡ resume_code self.new fed }
         ensures none { GivesNone result }
@@ -110,7 +114,7 @@ impl CodeScan {
     }
 
     /// Goes on behind its report, with 0 in place of what was out of its range.
-    fn feed_told(&mut self) -> Ask
+    pub fn feed_told(&mut self) -> Ask
         ensures answer { (lists : List (List Token)) → ask_of lists result ≡ resume_code self.old (Told ∷ []) }
         ensures goes_on { IsOpen result → (fed : List Fed) → resume_code self.old (Told ∷ fed) ≡ resume_code self.new fed }
         ensures none { GivesNone result }
@@ -129,7 +133,7 @@ impl CodeScan {
     }
 
     /// Takes the token behind the character's code.
-    fn feed(&mut self, x: Seen) -> Ask
+    pub fn feed(&mut self, x: Seen) -> Ask
         ensures answer { (lists : List (List Token)) → ask_of lists result ≡ resume_code self.old (Tok x ∷ []) }
         ensures goes_on { IsOpen result → (fed : List Fed) → resume_code self.old (Tok x ∷ fed) ≡ resume_code self.new fed }
         ensures back { GivesBack result x }
@@ -163,6 +167,7 @@ impl Waiting {
                 Value::Toks => Ask::Act(Effect::Say),
                 _ => senseless(),
             },
+            Waiting::Prefixed(limited, scan) => scan.feed_value(*limited, value),
         }
     }
 
@@ -179,6 +184,7 @@ impl Waiting {
         match self {
             Waiting::Catcode(scan) => scan.feed_told(),
             Waiting::Message(_) => senseless(),
+            Waiting::Prefixed(limited, scan) => scan.feed_told(*limited),
         }
     }
 
@@ -194,6 +200,7 @@ impl Waiting {
         match self {
             Waiting::Catcode(scan) => scan.feed(x),
             Waiting::Message(_) => senseless(),
+            Waiting::Prefixed(limited, scan) => scan.feed(*limited, x),
         }
     }
 }
@@ -214,6 +221,9 @@ impl Frame {
         match kind {
             Kind::Catcode => Frame::Waits(Waiting::Catcode(CodeScan::Start)),
             Kind::Message(name) => Frame::Waits(Waiting::Message(name)),
+            Kind::Prefixed(limited) => {
+                Frame::Waits(Waiting::Prefixed(limited, PrefixScan::Prefixes(limited)))
+            }
             Kind::Integer => Frame::Integer(NumberScan::Signs(false)),
             Kind::Text(name) => Frame::Text(name, TextScan::First),
         }

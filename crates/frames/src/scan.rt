@@ -21,16 +21,19 @@ use transcript::Report;
 pub enum Kind {
     Catcode,
     Message(Name),
+    /// A command behind its first prefix, and whether that is `\long` or `\outer`.
+    Prefixed(bool),
     Integer,
     Text(Name),
 }
 
-/// How a token is read: as it stands, by expansion, or by expansion with spaces skipped.
+/// How a token is read: as it stands, by expansion, by expansion with spaces skipped, or with spaces and `\relax` skipped.
 #[derive(Clone, Copy, Debug, PartialEq, Eq)]
 pub enum Want {
     Raw,
     Expanded,
     Nonblank,
+    Command,
 }
 
 /// The value of a reading.

@@ -1,5 +1,8 @@
 // Readings, fed token by token.
-use crate::{Ask, CodeScan, Effect, Frame, Kind, Outer, Value, Waiting, Want, first_ask};
+use crate::{
+    Ask, CATCODE, CodeScan, Effect, Frame, GLOBAL, Kind, LONG, OUTER, Outer, PrefixScan, Value,
+    Waiting, Want, first_ask,
+};
 use std::test::Fail;
 use tex_defs::{Meaning, Name, Seen, Token};
 use transcript::Report;
@@ -31,6 +34,40 @@ fn a_report_comes_before_the_value(rt: HostRuntime) -> Result<(), Fail> {
     let letter = char_of(11, 120);
     assert!(rt; frame.feed(letter) == Ask::Tells(Report::MissingNumber, Some(letter)));
     assert!(rt; frame.feed_told() == Ask::Done(Value::Int(0), None));
+    Ok(())
+}
+
+/// A name that means this primitive.
+fn primitive(number: u16) -> Seen {
+    Seen {
+        token: Token::Named(Name::Word(number)),
+        meaning: Meaning::Prim(number),
+    }
+}
+
+#[test]
+fn prefixes_stand_before_assignments(rt: HostRuntime) -> Result<(), Fail> {
+    assert!(rt; first_ask(Kind::Prefixed(false)) == Ask::More(Want::Command));
+    let mut frame = Frame::new(Kind::Prefixed(false));
+    assert!(rt; frame.feed(primitive(GLOBAL)) == Ask::More(Want::Command));
+    let waits = Waiting::Prefixed(false, PrefixScan::Code(CodeScan::Start));
+    assert!(rt; frame.feed(primitive(CATCODE)) == Ask::Inner(waits, Kind::Integer, None));
+    let mut limited = Frame::new(Kind::Prefixed(false));
+    assert!(rt; limited.feed(primitive(OUTER)) == Ask::More(Want::Command));
+    let report = Report::LongOrOuterWith(Meaning::Prim(CATCODE));
+    assert!(rt; limited.feed(primitive(CATCODE)) == Ask::Tells(report, None));
+    assert!(rt; limited.feed_told() == Ask::Inner(waits, Kind::Integer, None));
+    Ok(())
+}
+
+#[test]
+fn another_command_is_given_back(rt: HostRuntime) -> Result<(), Fail> {
+    let mut frame = Frame::new(Kind::Prefixed(true));
+    assert!(rt; frame.feed(primitive(LONG)) == Ask::More(Want::Command));
+    let letter = char_of(11, 120);
+    let report = Report::PrefixWith(letter.meaning);
+    assert!(rt; frame.feed(letter) == Ask::Tells(report, Some(letter)));
+    assert!(rt; frame.feed_told() == Ask::Done(Value::Flag(true), None));
     Ok(())
 }
 

@@ -15,7 +15,7 @@ use Rattle.frames.specs.declared.scan.Ask.TheVariants.{More, Inner, Done, Act, T
 use Rattle.frames.specs.declared.frame.Frame.{Frame}
 use Rattle.frames.specs.declared.frame.Frame.TheVariants.{Waits, Integer, Text}
 use Rattle.frames.specs.declared.frame.Waiting.{Waiting}
-use Rattle.frames.specs.declared.frame.Waiting.TheVariants.{Catcode, Message}
+use Rattle.frames.specs.declared.frame.Waiting.TheVariants.{Catcode, Message, Prefixed}
 use Rattle.frames.specs.declared.scan.Value.TheVariants as values
 use Rattle.frames.specs.declared.scan.Value.{Value as EngineValue}
 use Rattle.frames.specs.declared.text.TextScan.{TextScan}
@@ -105,6 +105,7 @@ text_owned lists ts h = h ∙ ap (λ (x : List Token). x ∷ []) (sym (ap first_
 pub owned_of : (f : Frame) (lists : List (List Token)) → Owns f lists → OwnedBy (frame_kind f) lists
 owned_of (Waits (Catcode scan)) lists h = h
 owned_of (Waits (Message name)) lists h = h
+owned_of (Waits (Prefixed limited scan)) lists h = h
 owned_of (Integer scan) lists h = h
 owned_of (Text name scan) lists h = text_owned lists _ h
 
@@ -117,6 +118,7 @@ few_one lists ts h = subst AtMostOne (sym h) tt
 pub few_owned : (k : reading.Kind) (lists : List (List Token)) → OwnedBy k lists → AtMostOne lists
 few_owned reading.Catcode lists h = few_none lists h
 few_owned (reading.Message name) lists h = few_none lists h
+few_owned (reading.Prefixed limited) lists h = few_none lists h
 few_owned reading.Integer lists h = few_none lists h
 few_owned (reading.Text name) lists h = few_one lists _ h
 
@@ -129,6 +131,7 @@ one_after false x (ts ∷ lists) h = h
 pub owned_after : (f : Frame) (x : Seen) (lists : List (List Token)) → OwnedBy (frame_kind f) lists → OwnedBy (frame_kind f) (lists_after (frame_grows f x) x lists)
 owned_after (Waits (Catcode scan)) x lists h = h
 owned_after (Waits (Message name)) x lists h = h
+owned_after (Waits (Prefixed limited scan)) x lists h = h
 owned_after (Integer scan) x lists h = h
 owned_after (Text name scan) x lists h = one_after (frame_grows (Text name scan) x) x lists h
 
@@ -149,6 +152,7 @@ fed_bare (Val v ∷ fed) x h = ap (λ (l : List (List Token)). reading.value_lis
 none_came : (k : reading.Kind) (fed : List Fed) (lists : List (List Token)) → OwnedBy k lists → gathered_by k fed ≡ lists → fed_lists fed ≡ []
 none_came reading.Catcode fed lists o h = h ∙ o
 none_came (reading.Message name) fed lists o h = h ∙ o
+none_came (reading.Prefixed limited) fed lists o h = h ∙ o
 none_came reading.Integer fed lists o h = h ∙ o
 none_came (reading.Text name) fed lists o h = cc
 
@@ -156,6 +160,7 @@ holds_at : (f : Frame) (lists now : List (List Token)) (fed fed' : List Fed) →
     gathered_by (frame_kind f) fed' ≡ now
 holds_at (Waits (Catcode scan)) lists now fed fed' o none h b = none ∙ sym o
 holds_at (Waits (Message name)) lists now fed fed' o none h b = none ∙ sym o
+holds_at (Waits (Prefixed limited s)) lists now fed fed' o none h b = none ∙ sym o
 holds_at (Integer scan) lists now fed fed' o none h b = none ∙ sym o
 holds_at (Text name scan) lists now fed fed' o none h b = cc
 
@@ -163,12 +168,14 @@ holds_at (Text name scan) lists now fed fed' o none h b = cc
 owns_text : (f : Frame) (scan : TextScan) (name : Name) (lists now : List (List Token)) (fed : List Fed) → frame_kind f ≡ reading.Text name → Builds f lists now fed → frame_list f lists fed ≡ text_list scan (first_list now) [] → text_list scan (first_list now) [] ≡ first_list now
 owns_text (Waits (Catcode s)) scan name lists now fed k b h = absurd cc
 owns_text (Waits (Message n)) scan name lists now fed k b h = absurd cc
+owns_text (Waits (Prefixed limited s)) scan name lists now fed k b h = absurd cc
 owns_text (Integer s) scan name lists now fed k b h = absurd cc
 owns_text (Text n s) scan name lists now fed k b h = sym h ∙ b
 
 owns_now : (f f' : Frame) (lists now : List (List Token)) (fed : List Fed) → OwnedBy (frame_kind f') now → frame_kind f' ≡ frame_kind f → Builds f lists now fed → frame_list f lists fed ≡ frame_list f' now [] → Owns f' now
 owns_now f (Waits (Catcode s)) lists now fed o k b h = o
 owns_now f (Waits (Message n)) lists now fed o k b h = o
+owns_now f (Waits (Prefixed limited s)) lists now fed o k b h = o
 owns_now f (Integer s) lists now fed o k b h = o
 owns_now f (Text name scan) lists now fed o k b h = o ∙ ap (λ (ts : List Token). ts ∷ []) (sym (owns_text f scan name lists now fed (sym k) b h))
 
@@ -321,10 +328,12 @@ fed_value (Val w ∷ fed) v = ap (λ (l : List (List Token)). reading.value_list
 holds_value : (w : Waiting) (fed : List Fed) (v : Value) → gathered_by (waiting_kind w) fed ≡ [] → gathered_by (waiting_kind w) (fed ++ Val v ∷ []) ≡ reading.value_lists v
 holds_value (Catcode scan) fed v h = fed_value fed v ∙ ap (λ (l : List (List Token)). l ++ reading.value_lists v) h
 holds_value (Message name) fed v h = fed_value fed v ∙ ap (λ (l : List (List Token)). l ++ reading.value_lists v) h
+holds_value (Prefixed limited scan) fed v h = fed_value fed v ∙ ap (λ (l : List (List Token)). l ++ reading.value_lists v) h
 
 no_text : (w : Waiting) (fed : List Fed) → reading.so_far (waiting_kind w) fed ≡ []
 no_text (Catcode scan) fed = refl
 no_text (Message name) fed = refl
+no_text (Prefixed limited scan) fed = refl
 
 -- a command that is fed with a value goes on as this one
 pub record GoesBy (a : Ask) (waiting waiting' : Waiting) (lists : List (List Token)) (value : EngineValue) : Type 0 where
@@ -385,6 +394,7 @@ pub record StartsAs (a : Ask) (frame : Frame) (k : reading.Kind) : Type 0 where
 first_owned : (k : reading.Kind) → OwnedBy k (own_lists k [])
 first_owned reading.Catcode = refl
 first_owned (reading.Message name) = refl
+first_owned (reading.Prefixed limited) = refl
 first_owned reading.Integer = refl
 first_owned (reading.Text name) = refl
 

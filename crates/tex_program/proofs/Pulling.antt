@@ -129,6 +129,7 @@ takes_stands sizes (Some want) e work h = h.1
 owned_waiting : (w : Waiting) (lists : List (List Token)) (name : Name) → waiting_kind w ≡ reading.Text name → frame_list (frame.Waits w) lists [] ≡ first_list lists
 owned_waiting (waiting.Catcode scan) lists name is = cc
 owned_waiting (waiting.Message command) lists name is = cc
+owned_waiting (waiting.Prefixed limited scan) lists name is = cc
 
 owned : (g : Frame) (lists : List (List Token)) (name : Name) → frame_kind g ≡ reading.Text name → Owns g lists → frame_list g lists [] ≡ first_list lists
 owned (frame.Waits w) lists name is h = owned_waiting w lists name is
@@ -146,6 +147,7 @@ no_text : (categories : List ℕ) (page : Page) (r : Reading) (k : reading.Kind)
 no_text categories page r (reading.Text name) h = absurd h
 no_text categories page r reading.Catcode h = refl
 no_text categories page r (reading.Message name) h = refl
+no_text categories page r (reading.Prefixed limited) h = refl
 no_text categories page r reading.Integer h = refl
 
 module _ (sizes : Sizes) (e : Engine) (work : List Reading) where
@@ -169,6 +171,7 @@ module _ (sizes : Sizes) (e : Engine) (work : List Reading) where
   text_holds : (g : Frame) (lists : List (List Token)) → Owns g lists → lists ≡ [] → IsNoText (frame_kind g)
   text_holds (frame.Waits (waiting.Catcode scan)) lists h is = tt
   text_holds (frame.Waits (waiting.Message name)) lists h is = tt
+  text_holds (frame.Waits (waiting.Prefixed limited scan)) lists h is = tt
   text_holds (frame.Integer scan) lists h is = tt
   text_holds (frame.Text name scan) lists h is = cc
 
@@ -274,6 +277,7 @@ module _ (sizes : Sizes) (e : Engine) (work : List Reading) where
       by_want (Some asks.Raw) h = refl
       by_want (Some asks.Expanded) h = by_page (Some asks.Expanded) (h refl)
       by_want (Some asks.Nonblank) h = by_page (Some asks.Nonblank) (h refl)
+      by_want (Some asks.Command) h = by_page (Some asks.Command) (h refl)
 
     stands_named : names ≡ joined e.names new → Stands sizes e work → Stands sizes (named names) work
     stands_named after st = record {

@@ -1,6 +1,6 @@
 -- The next rule has a step exactly where the engine says so.
 use Rattle.std.proofs.Common.{◌≡◌, ℕ, List, [], ◌∷◌, ◌++◌, refl, sym, ap, ◌∙◌, arith, Bool, true, false}
-use Rattle.std.specs.Prelude.{Option, Some, None, if◌then◌else◌, ◌&&◌, is_some, nat_eq, nat_lt}
+use Rattle.std.specs.Prelude.{Option, Some, None, if◌then◌else◌, ◌&&◌, ◌||◌, is_some, nat_eq, nat_lt}
 use Rattle.tex_defs.specs.declared.Seen.{Seen}
 use Rattle.tex_defs.specs.declared.Sizes.{Sizes}
 use Rattle.tex_defs.specs.declared.Meaning.{Meaning}
@@ -8,7 +8,7 @@ use Rattle.tex_defs.specs.declared.Meaning.TheVariants as means
 use Rattle.tex_defs.specs.declared.Token.{Token}
 use Rattle.tex_defs.specs.declared.Fatal.TheVariants.{HundredErrors}
 use Rattle.tex_defs.specs.Places.{Transcript}
-use Rattle.plain_state.specs.Names.{seen, name_of, catcode_primitive, message_primitive, end_primitive}
+use Rattle.plain_state.specs.Names.{seen, name_of, means_relax, relax_primitive, catcode_primitive, message_primitive, end_primitive, long_primitive, outer_primitive, global_primitive}
 use Rattle.plain_state.specs.Lookup.{token_of, new_name}
 use Rattle.plain_state.specs.Readings as reading
 use Rattle.plain_state.specs.Readings.{is_space, is_undefined}
@@ -65,15 +65,23 @@ line_none page m = none_if page.quiet [] (Written Transcript (reports.token_line
 
 primitive_none : (page : Page) (t : Token) (n : ℕ) → steps (primitive page t n) ≡ 0
 primitive_none page t n =
-    none_if (nat_eq n catcode_primitive) (Begun reading.Catcode ∷ [])
-    (if nat_eq n message_primitive then Begun (reading.Message (name_of t)) ∷ [] else if nat_eq n end_primitive then finish page.in_line else token_line page (means.Prim n)) refl
-    (none_if (nat_eq n message_primitive) (Begun (reading.Message (name_of t)) ∷ []) (if nat_eq n end_primitive then finish page.in_line else token_line page (means.Prim n)) refl
-    (none_if (nat_eq n end_primitive) (finish page.in_line) (token_line page (means.Prim n)) refl (line_none page (means.Prim n))))
+    let line : List Move = token_line page (means.Prim n) in
+    let relax : List Move = if nat_eq n relax_primitive then [] else line in
+    let global : List Move = if nat_eq n global_primitive then Begun (reading.Prefixed false) ∷ [] else relax in
+    let limiting : List Move = if nat_eq n long_primitive || nat_eq n outer_primitive then Begun (reading.Prefixed true) ∷ [] else global in
+    let ending : List Move = if nat_eq n end_primitive then finish page.in_line else limiting in
+    let message : List Move = if nat_eq n message_primitive then Begun (reading.Message (name_of t)) ∷ [] else ending in
+    none_if (nat_eq n catcode_primitive) (Begun reading.Catcode ∷ []) message refl
+    (none_if (nat_eq n message_primitive) (Begun (reading.Message (name_of t)) ∷ []) ending refl
+    (none_if (nat_eq n end_primitive) (finish page.in_line) limiting refl
+    (none_if (nat_eq n long_primitive || nat_eq n outer_primitive) (Begun (reading.Prefixed true) ∷ []) global refl
+    (none_if (nat_eq n global_primitive) (Begun (reading.Prefixed false) ∷ []) relax refl
+    (none_if (nat_eq n relax_primitive) [] line refl (line_none page (means.Prim n)))))))
 
 command_none : (page : Page) (t : Token) (m : Meaning Unit) → steps (command page t m) ≡ 0
 command_none page t (means.Prim n) = primitive_none page t n
 command_none page t means.Undefined = reported_none page reports.UndefinedName [] refl
-command_none page t means.RelaxMarked = line_none page means.RelaxMarked
+command_none page t means.RelaxMarked = refl
 command_none page t (means.Char category code) = line_none page (means.Char category code)
 command_none page t (means.CharGiven code) = line_none page (means.CharGiven code)
 command_none page t (means.MathGiven code) = line_none page (means.MathGiven code)
@@ -87,6 +95,7 @@ wanted_none : (page : Page) (w : reading.Want) (x : Seen) → steps (wanted page
 wanted_none page reading.Raw x = refl
 wanted_none page reading.Expanded x = expanded_none page x
 wanted_none page reading.Nonblank x = none_if (is_space x) [] (expanded page x) refl (expanded_none page x)
+wanted_none page reading.Command x = none_if (is_space x || means_relax x.meaning) [] (expanded page x) refl (expanded_none page x)
 
 checked_none : (categories : List ℕ) (page : Page) (work : List Reading) → steps (checked categories page work) ≡ 0
 checked_none categories page [] = refl
@@ -97,6 +106,7 @@ checked_none categories page (r ∷ rs) = by_kind r.kind where
       omega (arith, none)
   by_kind reading.Catcode = refl
   by_kind (reading.Message name) = refl
+  by_kind (reading.Prefixed limited) = refl
   by_kind reading.Integer = refl
 
 told_none : (page : Page) (report : reports.Report) (back : Bool) (fed : List reading.Fed) → steps (told page report back fed) ≡ 0

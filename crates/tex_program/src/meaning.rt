@@ -2,7 +2,10 @@
 ghost use Rattle.std.specs.Prelude.{◌≡◌};
 ghost use Rattle.plain_state.specs.Names as names;
 
+use frames::{CATCODE, GLOBAL, LONG, OUTER};
 use tex_defs::{Meaning, Name, Seen, Token};
+
+pub const RELAX: u16 = 1;
 
 pub const PAR: u16 = 5;
 
@@ -10,17 +13,22 @@ pub const END: u16 = 6;
 
 pub const MESSAGE: u16 = 9;
 
-pub const CATCODE: u16 = 35;
+/// Whether this primitive means something already.
+fn is_primitive(number: u16) -> bool
+    ensures { result ≡ names.is_primitive number }
+{
+    matches!(
+        number,
+        RELAX | PAR | END | MESSAGE | LONG | OUTER | GLOBAL | CATCODE
+    )
+}
 
 /// What a name means.
 fn name_meaning(name: Name) -> Meaning<()>
     ensures { result ≡ names.name_meaning name }
 {
     match name {
-        Name::Word(number)
-            if number == PAR || number == END || number == MESSAGE || number == CATCODE => {
-            Meaning::Prim(number)
-        }
+        Name::Word(number) if is_primitive(number) => Meaning::Prim(number),
         _ => Meaning::Undefined,
     }
 }

@@ -4,8 +4,8 @@ ghost use Rattle.plain_machine.specs.Plan.{Page, wanted, stomach};
 ghost use Rattle.frames.specs.Sees.{want_of};
 ghost use Rattle.tex_program.specs.Begins.{onward_moves, outcome_of_last, IsNoFeed, IsNoBegin};
 
-use crate::meaning::{CATCODE, END, MESSAGE, name_of};
-use frames::{Kind, Want};
+use crate::meaning::{END, MESSAGE, RELAX, name_of};
+use frames::{CATCODE, GLOBAL, Kind, LONG, OUTER, Want};
 use tex_defs::{Fatal, Meaning, Seen};
 use transcript::Report;
 
@@ -40,7 +40,7 @@ impl Last {
 /// What is made of a token.
 #[derive(Clone, Copy)]
 pub enum Onward {
-    /// It is dropped: a space that isn't wanted.
+    /// It is dropped: a space that isn't wanted, or `\relax`.
     Skip,
     /// The innermost reading is fed with it.
     Feed,
@@ -65,6 +65,11 @@ pub fn react(want: Want, seen: Seen) -> Onward
         (Want::Nonblank, Meaning::Undefined) => Onward::Report(Report::UndefinedName),
         (Want::Nonblank, Meaning::Char { cat: 10, code: _ }) => Onward::Skip,
         (Want::Nonblank, _) => Onward::Feed,
+        (Want::Command, Meaning::Undefined) => Onward::Report(Report::UndefinedName),
+        (Want::Command, Meaning::Char { cat: 10, code: _ }) => Onward::Skip,
+        (Want::Command, Meaning::RelaxMarked) => Onward::Skip,
+        (Want::Command, Meaning::Prim(RELAX)) => Onward::Skip,
+        (Want::Command, _) => Onward::Feed,
     }
 }
 
@@ -77,6 +82,11 @@ pub fn obey(seen: Seen) -> Onward
         Meaning::Prim(CATCODE) => Onward::Begin(Kind::Catcode),
         Meaning::Prim(MESSAGE) => Onward::Begin(Kind::Message(name_of(seen.token))),
         Meaning::Prim(END) => Onward::Finish,
+        Meaning::Prim(LONG) => Onward::Begin(Kind::Prefixed(true)),
+        Meaning::Prim(OUTER) => Onward::Begin(Kind::Prefixed(true)),
+        Meaning::Prim(GLOBAL) => Onward::Begin(Kind::Prefixed(false)),
+        Meaning::Prim(RELAX) => Onward::Skip,
+        Meaning::RelaxMarked => Onward::Skip,
         Meaning::Undefined => Onward::Report(Report::UndefinedName),
         _ => Onward::Line,
     }
