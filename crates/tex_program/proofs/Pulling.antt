@@ -138,10 +138,10 @@ owned (frame.Text command scan) lists name is h = sym (ap first_list h)
 
 -- the moves of a text that runs away
 away_is : (categories : List ℕ) (page : Page) (r : Reading) (rs : List Reading) (name : Name) (list : List Token) → r.kind ≡ reading.Text name → so_far r.kind r.fed ≡ list →
-    checked categories page (r ∷ rs) ≡ away_moves page (runaway_bytes categories page.names page.in_line list) (reports.FileEndedInText name)
+    checked categories page (r ∷ rs) ≡ away_moves page (runaway_bytes reports.OfText categories page.names page.in_line list) (reports.FileEnded reports.OfText name)
 away_is categories page r rs name list k l =
     ap (checked_reading categories page r) k
-    ∙ ap (λ (x : List Token). away_moves page (runaway_bytes categories page.names page.in_line x) (reports.FileEndedInText name)) l
+    ∙ ap (λ (x : List Token). away_moves page (runaway_bytes reports.OfText categories page.names page.in_line x) (reports.FileEnded reports.OfText name)) l
 
 no_text : (categories : List ℕ) (page : Page) (r : Reading) (k : reading.Kind) → IsNoText k → checked_reading categories page r k ≡ []
 no_text categories page r (reading.Text name) h = absurd h
@@ -152,7 +152,7 @@ no_text categories page r reading.Integer h = refl
 
 module _ (sizes : Sizes) (e : Engine) (work : List Reading) where
   away_at : (t : Option Frame) (rs : List Reading) (name : Name) (want : ScanWant) → IsSome t → ((g : Frame) → t ≡ Some g → frame_kind g ≡ reading.Text name) → WorkStands (More want) t e.outer.items e.input.gathered rs →
-      checked e.categories (page_of e) rs ≡ away_moves (page_of e) (away_text e) (reports.FileEndedInText name)
+      checked e.categories (page_of e) rs ≡ away_moves (page_of e) (away_text e) (reports.FileEnded reports.OfText name)
   away_at None rs name want some kind st = cc
   away_at (Some g) [] name want some kind st = absurd st
   away_at (Some g) (r ∷ rs) name want some kind st =
@@ -162,9 +162,9 @@ module _ (sizes : Sizes) (e : Engine) (work : List Reading) where
 
   -- a text runs away
   pub runs_away : (name : Name) → IsSome e.top → ((g : Frame) → e.top ≡ Some g → frame_kind g ≡ reading.Text name) → Wants sizes e work →
-      checked e.categories (page_of e) work ≡ away_moves (page_of e) (away_text e) (reports.FileEndedInText name)
+      checked e.categories (page_of e) work ≡ away_moves (page_of e) (away_text e) (reports.FileEnded reports.OfText name)
   runs_away name some kind t = by_want t.0 t.1 where
-    by_want : (want : Option ScanWant) → Takes sizes want e work → checked e.categories (page_of e) work ≡ away_moves (page_of e) (away_text e) (reports.FileEndedInText name)
+    by_want : (want : Option ScanWant) → Takes sizes want e work → checked e.categories (page_of e) work ≡ away_moves (page_of e) (away_text e) (reports.FileEnded reports.OfText name)
     by_want None h = let open_top : IsSome {T = Frame} None = subst IsSome h.0 some in cc
     by_want (Some want) h = away_at e.top work name want some kind (subst (λ (a : Ask). WorkStands a e.top e.outer.items e.input.gathered work) h.0 h.1.readings)
 

@@ -102,7 +102,7 @@ checked_none categories page [] = refl
 checked_none categories page (r ∷ rs) = by_kind r.kind where
   by_kind : (k : reading.Kind) → steps (checked_reading categories page r k) ≡ 0
   by_kind (reading.Text name) =
-      let none = reported_none (page_behind page (reports.runaway_bytes categories page.names page.in_line (reading.so_far r.kind r.fed))) (reports.FileEndedInText name) [] refl in
+      let none = reported_none (page_behind page (reports.runaway_bytes reports.OfText categories page.names page.in_line (reading.so_far r.kind r.fed))) (reports.FileEnded reports.OfText name) [] refl in
       omega (arith, none)
   by_kind reading.Catcode = refl
   by_kind (reading.Message name) = refl

@@ -80,7 +80,7 @@ name_moves page want x = entered (new_name (enters_of want) page.names x) ++ onw
 
 -- what is shown of a text that runs away
 abbrev pub away_text : Engine → List ℕ
-away_text e = runaway_bytes e.categories e.names.names e.in_line (first_list e.input.gathered)
+away_text e = runaway_bytes reports.OfText e.categories e.names.names e.in_line (first_list e.input.gathered)
 
 -- what comes where the file has ended
 abbrev pub check_of : Engine → List Reading → List Move

@@ -9,7 +9,7 @@ ghost use Rattle.plain_state.specs.Pending.{pulled};
 ghost use Rattle.plain_state.specs.Names as names;
 ghost use Rattle.prim_table.specs.Primitives.{primitive_names};
 ghost use Rattle.plain_state.specs.Lex.{Lexeme};
-ghost use Rattle.plain_state.specs.Reports.{NoSuchFile, report_bytes, message_bytes, runaway_bytes};
+ghost use Rattle.plain_state.specs.Reports.{NoSuchFile, report_bytes, message_bytes, OfText, runaway_bytes};
 ghost use Rattle.plain_state.specs.Tables.{refusal, refused, memory, lists_words, words};
 ghost use Rattle.plain_state.specs.Readings.{Fed, Tok, Val, Told, rank, own_lists, Text as TextKind, Flag as FlagValue};
 ghost use Rattle.plain_state.specs.States.{State, Reading, Move, Kept, Feeds, Begun, BegunWith, Written, Ended as EndedMove, AtFatal, fresh, fed_with};
@@ -42,7 +42,7 @@ use name_table::NameTable;
 use std::alloc::{AllocError, Global};
 use tex_defs::{Fatal, Full, Meaning, Name, Seen, Sizes, Table, Token};
 use transcript::{
-    Report, initial_view, put, write_message, write_missing_file, write_report, write_runaway,
+    Report, Scanned, initial_view, put, write_message, write_missing_file, write_report, write_runaway,
     write_token_line,
 };
 use world_io::Sink;
@@ -222,14 +222,14 @@ impl Engine {
     /// Writes what is shown of a text that runs away: the list that the innermost reading holds.
     fn write_runaway<S: Sink>(&mut self, out: &mut S) -> Result<(), Broken>
         requires { self.old.input.gathered ≡ [] → ⊥ }
-        ensures did { OnOk result ((sizes : Sizes) (f : FilesTold) (work : List Reading) → Did sizes (state_of self.old work) (state_of self.new work) (world_of f (S.told out.old) self.old) (world_of f (S.told out.new) self.new) (Written Transcript (runaway_bytes self.old.categories self.old.names.names self.old.in_line (first_list self.old.input.gathered)) ∷ [])) }
-        ensures err { IfErr result (λ b. (sizes : Sizes) (f : FilesTold) (work : List Reading) (more : List Move) → Cuts sizes (state_of self.old work) self.new work (world_of f (S.told out.old) self.old) (world_of f (S.told out.new) self.new) (Written Transcript (runaway_bytes self.old.categories self.old.names.names self.old.in_line (first_list self.old.input.gathered)) ∷ more) b) }
+        ensures did { OnOk result ((sizes : Sizes) (f : FilesTold) (work : List Reading) → Did sizes (state_of self.old work) (state_of self.new work) (world_of f (S.told out.old) self.old) (world_of f (S.told out.new) self.new) (Written Transcript (runaway_bytes OfText self.old.categories self.old.names.names self.old.in_line (first_list self.old.input.gathered)) ∷ [])) }
+        ensures err { IfErr result (λ b. (sizes : Sizes) (f : FilesTold) (work : List Reading) (more : List Move) → Cuts sizes (state_of self.old work) self.new work (world_of f (S.told out.old) self.old) (world_of f (S.told out.new) self.new) (Written Transcript (runaway_bytes OfText self.old.categories self.old.names.names self.old.in_line (first_list self.old.input.gathered)) ∷ more) b) }
         ensures only { OnlyColumn self.old self.new }
     {
         let (hash, pool) = self.names.parts();
         let (lists, list) = self.input.list();
         let view = initial_view(lists, hash, pool, &self.categories);
-        write_runaway(out, &mut self.in_line, view, list)?;
+        write_runaway(out, &mut self.in_line, view, Scanned::Text, list)?;
         Ok(())
     }
 
@@ -746,7 +746,7 @@ impl Engine {
         ensures idle { OnOk result (self.new.input.making ≡ None) }
     {
         match self.text_name() {
-            Some(name) => self.run_away(out, Report::FileEndedInText(name)),
+            Some(name) => self.run_away(out, Report::FileEnded(Scanned::Text, name)),
             None => Ok(Ruled::Step),
         }
     }
