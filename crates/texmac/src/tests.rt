@@ -397,6 +397,51 @@ fn category_codes_are_read_in_each_form(rt: HostRuntime) -> Result<(), Fail> {
 }
 
 #[test]
+fn relax_does_nothing(rt: HostRuntime) -> Result<(), Fail> {
+    let alloc = rt.alloc();
+    assert!(rt; job(alloc, b"\\relax\\end\n", b"", 0)?);
+    assert!(rt; job(alloc, b"\\message\\relax {hi}\\end\n", b"hi\n", 0)?);
+    assert!(rt; job(alloc, b"\\message \\relax\\relax{hi}\\end\n", b"hi\n", 0)?);
+    Ok(())
+}
+
+#[test]
+fn prefixes_stand_before_assignments(rt: HostRuntime) -> Result<(), Fail> {
+    let alloc = rt.alloc();
+    let rows: [(&[u8], &[u8], u8); 5] = [
+        (
+            b"\\global\\catcode`\\%=12 \\message{a%b}\\catcode`\\%=14 \\end\n",
+            b"a%b\n",
+            0,
+        ),
+        (
+            b"\\global\\relax \\long\\catcode`\\%=12 \\message{%}\\catcode`\\%=14 \\end\n",
+            b"! You can't use `\\long' or `\\outer' with `\\catcode'.\nl.2\n%\n",
+            1,
+        ),
+        (
+            b"\\global\\message{x}\\end\n",
+            b"! You can't use a prefix with `\\message'.\nl.2\nx\n",
+            1,
+        ),
+        (
+            b"\\outer x\\end\n",
+            b"! You can't use a prefix with `the letter x'.\nl.2\n{the letter x}\n",
+            1,
+        ),
+        (
+            b"\\long\\foo\\global\\end\n",
+            b"! Undefined control sequence.\nl.2\n! You can't use a prefix with `\\end'.\nl.2\n",
+            1,
+        ),
+    ];
+    for (text, written, status) in rows {
+        assert!(rt; job(alloc, text, written, status)?);
+    }
+    Ok(())
+}
+
+#[test]
 fn categories_are_followed(rt: HostRuntime) -> Result<(), Fail> {
     let alloc = rt.alloc();
     // active, ignored, comment, escape
