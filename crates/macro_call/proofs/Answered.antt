@@ -41,15 +41,15 @@ parts_at old_table table macro cursor mode x s r o n e h = subst (λ (t : Step).
 
 module _ (old_table table : List (Option Entry)) (macro : ℕ) (old : ArgScan) (x : Token) (n : Option Present) (sound : IsSound old_table macro old) (account : Moves old_table table none none) where
   pub going : Parts old_table table macro old.cursor old.mode x step.Going old.present n → Answers old_table table macro old (record { cursor = old.cursor; mode = old.mode; braced = false; present = n; args = old.args }) x ask.More
-  going t = goes old_table table macro old x t.p t.was sound t.took.2 account t.q n t.now t.took.0 t.took.1 old.mode false _ _ t.took.3.goes_on.2 t.took.3.goes_on.0 t.took.3.goes_on.1 ask.More refl (λ h. refl)
+  going t = goes old_table table macro old x t.p t.was sound t.took.2 account t.q n t.now t.took.0 t.took.1 old.mode false _ _ t.took.3.goes_on.2 t.took.3.goes_on.0 t.took.3.goes_on.1 ask.More refl (λ h. refl) (λ left. tt)
       (case_on old_table table macro old x t.p t.was sound t.took.2 account _ t.took.3.met)
 
   pub skipped : Parts old_table table macro old.cursor old.mode x step.Skipped old.present n → Answers old_table table macro old (record { cursor = old.cursor; mode = old.mode; braced = false; present = n; args = old.args }) x ask.More
-  skipped t = goes old_table table macro old x t.p t.was sound t.took.2 account t.q n t.now t.took.0 t.took.1 old.mode false _ _ t.took.3.goes_on.2 t.took.3.goes_on.0 t.took.3.goes_on.1 ask.More refl (λ h. refl)
+  skipped t = goes old_table table macro old x t.p t.was sound t.took.2 account t.q n t.now t.took.0 t.took.1 old.mode false _ _ t.took.3.goes_on.2 t.took.3.goes_on.0 t.took.3.goes_on.1 ask.More refl (λ h. refl) (λ left. tt)
       (case_on old_table table macro old x t.p t.was sound t.took.2 account _ t.took.3.met)
 
   pub braced : Parts old_table table macro old.cursor old.mode x step.ExtraBrace old.present n → Answers old_table table macro old (record { cursor = old.cursor; mode = Short; braced = true; present = n; args = old.args }) x ask.ExtraBrace
-  braced t = goes old_table table macro old x t.p t.was sound t.took.2 account t.q n t.now t.took.0 t.took.1 Short true _ _ t.took.3.goes_on.2 t.took.3.goes_on.0 t.took.3.goes_on.1 ask.ExtraBrace refl (λ h. refl)
+  braced t = goes old_table table macro old x t.p t.was sound t.took.2 account t.q n t.now t.took.0 t.took.1 Short true _ _ t.took.3.goes_on.2 t.took.3.goes_on.0 t.took.3.goes_on.1 ask.ExtraBrace refl (λ h. refl) (λ left. tt)
       (case_on old_table table macro old x t.p t.was sound t.took.2 account _ t.took.3.met)
 
   -- the argument is whole
@@ -100,6 +100,7 @@ module _ (old_table table : List (Option Entry)) (macro : ℕ) (old : ArgScan) (
       answers = e.answers ∙ sym (whole_on []);
       goes_on = λ o. record { sound = e.sound o; same = λ fed. whole_on fed ∙ e.same o fed };
       owns = e.owns;
+      hands = e.hands;
       moves = λ h. omega (arith, mid_moves h, e.moves h);
       kept = record {
         tokens = λ h l. e.kept.tokens h (omega (arith, mid_moves h, l)) ∙ mid_kept.tokens h l;

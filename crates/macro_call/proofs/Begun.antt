@@ -17,6 +17,7 @@ use Rattle.macro_call.specs.Args.{cell_tokens, args_in, args_hold, IsFilled}
 use Rattle.macro_call.specs.Cursors.{IsOn, rest_at, delimiter_at}
 use Rattle.macro_call.specs.Scans.{resume, resume_by, IsBetween}
 use Rattle.macro_call.proofs.Entered.{entered}
+use Rattle.macro_call.proofs.Listed.{none_listed}
 
 module _ (table : List (Option Entry)) (macro : ℕ) (first : Cursor) (mode : ParMode) (args : Args) (count : args.count ≡ 0) (filled : IsFilled args) (held : (h : ℕ) → args_hold args h ≡ 0) (on : IsOn table macro first) (at : first.index ≡ 0) where
   whole : rest_at table macro first ≡ tokens_at table macro
@@ -44,6 +45,7 @@ module _ (table : List (Option Entry)) (macro : ℕ) (first : Cursor) (mode : Pa
       owns = λ h. omega (arith, held h);
       outside = omega (arith, held macro, on.held);
       filled = filled;
+      listed = none_listed table args count filled;
       room = omega (arith, count, few, ap (λ (ts : List Token). length (delimiters_of ts)) whole);
     }
 

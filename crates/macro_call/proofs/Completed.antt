@@ -1,8 +1,8 @@
 -- The list in work becomes an argument.
-use Rattle.std.proofs.Common.{◌≡◌, ◌≢◌, ℕ, ◌+◌, ◌<◌, List, [], ◌∷◌, ◌++◌, length, drop, Option, None, Some, refl, sym, ap, ap₂, subst, ◌∙◌, arith}
+use Rattle.std.proofs.Common.{◌≡◌, ◌≢◌, ℕ, ◌+◌, ◌<◌, List, [], ◌∷◌, ◌++◌, length, drop, set, Option, None, Some, refl, sym, ap, ap₂, subst, ◌∙◌, arith}
 use Rattle.tex_defs.specs.declared.Token.{Token}
 use Rattle.token_lists.specs.declared.ListRef.{ListRef}
-use Rattle.token_lists.specs.Ids.{build_id, IsBuilding}
+use Rattle.token_lists.specs.Ids.{id_of, build_id, IsBuilding}
 use Rattle.token_lists.specs.Table.{Entry, tokens_of, tokens_at, places_of, holders_at}
 use Rattle.token_lists.specs.Accounts.{Moves, Covers, Keeps, holds, cell_holds}
 use Rattle.macro_call.specs.Arguments.{delimiters_of}
@@ -13,10 +13,12 @@ use Rattle.macro_call.specs.declared.scan.ArgScan.{ArgScan}
 use Rattle.macro_call.specs.Args.{cell_tokens, args_in, args_hold, IsFilled}
 use Rattle.macro_call.specs.Cursors.{IsOn, rest_at, delimiter_at}
 use Rattle.macro_call.specs.Holds.{present_holds}
+use Rattle.macro_call.specs.Listed.{AreListed}
 use Rattle.macro_call.specs.Tables.{IsOnly}
 use Rattle.macro_call.specs.Scans.{scan_holds, IsWhole, IsBuildingIn, work_by, Completes}
 use Rattle.macro_call.proofs.Entered.{args_kept}
 use Rattle.macro_call.proofs.Releases.{holds_own}
+use Rattle.macro_call.proofs.Listed.{listed_kept, kept_listed}
 
 -- only one list, which nobody else holds, has changed
 module _ (old_table table : List (Option Entry)) (macro : ℕ) (old : ArgScan) (p : Present) (present : old.present ≡ Some p) (building : IsBuilding old_table p.build)
@@ -41,6 +43,9 @@ module _ (old_table table : List (Option Entry)) (macro : ℕ) (old : ArgScan) (
   pub args_stay : args_in table old.args ≡ args_in old_table old.args
   args_stay = args_kept old_table table old.args (λ h l. others.apart h (arg_apart h l))
 
+  pub args_listed : AreListed old_table old.args → AreListed table old.args
+  args_listed = listed_kept old_table table old.args (λ h l. others.apart h (arg_apart h l))
+
   pub macro_apart : macro ≢ build_id p.build
   macro_apart = shared_apart macro outside
 
@@ -60,6 +65,7 @@ module _ (old_table table : List (Option Entry)) (macro : ℕ) (old : ArgScan) (
     (others : IsOnly old_table table (build_id p.build)) (cell : Option ListRef) (args : Args) (cursor : Cursor)
     (tokens : cell_tokens table cell ≡ tokens_at old_table (build_id p.build)) (account : Moves old_table table (holds (build_id p.build)) (cell_holds cell))
     (filled : IsFilled args) (count : args.count ≡ old.args.count + 1) (held : (h : ℕ) → args_hold args h ≡ args_hold old.args h + cell_holds cell h)
+    (args_lists : args.lists ≡ set old.args.lists old.args.count cell) (some : (r : ListRef) → cell ≡ Some r → 0 < length (tokens_at table (id_of r)))
     (args_are : args_in table args ≡ args_in table old.args ++ cell_tokens table cell ∷ [])
     (on : IsOn table macro cursor) (ends : delimiter_at table macro cursor ≡ []) (same : delimiters_of (rest_at table macro cursor) ≡ delimiters_of (rest_at table macro old.cursor)) where
   building : IsBuilding old_table p.build
@@ -81,6 +87,7 @@ module _ (old_table table : List (Option Entry)) (macro : ℕ) (old : ArgScan) (
       owns = λ h. omega (arith, whole.owns h, holds_now h, account h, held h);
       outside = omega (arith, whole.outside, holds_now macro, account macro, held macro);
       filled = filled;
+      listed = kept_listed table old.args args cell (omega (arith, whole.room)) args_lists (args_listed old_table table macro old p present building whole.owns whole.outside others whole.listed) some;
       room = omega (arith, whole.room, count, ap length places);
     };
     args = args_are ∙ ap₂ (λ (us : List (List Token)) (ts : List Token). us ++ ts ∷ []) (args_stay old_table table macro old p present building whole.owns whole.outside others) (tokens ∙ sym (ap (work_by old_table) present));

@@ -26,6 +26,7 @@ use Rattle.macro_call.specs.Tables.{IsOnly}
 use Rattle.macro_call.specs.Scans.{resume, now_of, scan_holds, IsSound, IsBetween, Enters}
 use Rattle.macro_call.proofs.Delimited.{at_begin}
 use Rattle.macro_call.proofs.Releases.{holds_own}
+use Rattle.macro_call.proofs.Listed.{listed_kept}
 use Rattle.macro_call.proofs.Tables.{only_set, on_kept, tokens_kept}
 
 -- lists whose entries stay
@@ -110,6 +111,7 @@ module _ (old_table table : List (Option Entry)) (macro : ℕ) (old : ArgScan) (
     on = on_kept old_table table (build_id b) macro only macro_apart next on;
     outside = omega (arith, account macro, between.outside, old_holds macro, new_holds macro);
     filled = between.filled;
+    listed = listed_kept old_table table old.args (λ h l. only.apart h (held_apart h (omega (arith, old_holds h, between.owns h)))) between.listed;
     in_place = (is_building, stands, omega (arith, between.room, ap length places));
   }
 
@@ -135,6 +137,7 @@ module _ (old_table table : List (Option Entry)) (macro : ℕ) (old : ArgScan) (
     sound = λ o. is_sound;
     same = λ o. goes_on;
     owns = record { covered = covers; building = λ q e. subst (λ (r : Present). IsBuilding table r.build) (same_Some p q e) is_building };
+    hands = tt;
     moves = λ h. omega (arith, account h, old_holds h, new_holds h);
     kept = record {
       tokens = λ h l. ap tokens_of (only.apart h (held_apart h (omega (arith, l))));

@@ -11,6 +11,7 @@ pub mod Delimited
 pub mod Undelimited
 pub mod Taken
 pub mod Releases
+pub mod Listed
 pub mod Entered
 pub mod Completed
 pub mod Resumed

@@ -19,8 +19,8 @@ use Rattle.macro_call.specs.Cursors.{rest_at, delimiter_at}
 use Rattle.macro_call.specs.Holds.{present_holds}
 use Rattle.macro_call.specs.Stages.{Stage, Stands, stage_of, kept_in, read_in}
 use Rattle.macro_call.specs.Tables.{IsOnly}
-use Rattle.macro_call.specs.Scans.{resume, resume_by, now_of, scan_holds, Owns, IsSound, IsInPlace, Answers, answer_of, work_in, work_by, handed}
-use Rattle.macro_call.proofs.Completed.{holds_both, args_stay, macro_apart, macro_tokens, shared_kept}
+use Rattle.macro_call.specs.Scans.{resume, resume_by, now_of, scan_holds, Owns, IsSound, IsInPlace, Answers, answer_of, work_in, work_by, handed, HandsOut}
+use Rattle.macro_call.proofs.Completed.{holds_both, args_stay, args_listed, macro_apart, macro_tokens, shared_kept}
 use Rattle.macro_call.proofs.Tables.{on_kept}
 use Rattle.macro_call.proofs.Undelimited.{plain_kept, plain_read}
 
@@ -116,6 +116,7 @@ module _ (old_table table : List (Option Entry)) (macro : ℕ) (old : ArgScan) (
         on = on_kept old_table table (build_id p.build) macro others (macro_apart old_table table macro old p present here.0 sound.owns sound.outside others) old.cursor sound.on;
         outside = omega (arith, now_holds macro, account macro, sound.outside);
         filled = sound.filled;
+        listed = args_listed old_table table macro old p present here.0 sound.owns sound.outside others sound.listed;
         in_place = subst (IsInPlace table macro (record { cursor = old.cursor; mode = mode; braced = braced; present = n; args = old.args })) (sym now_present) now_in_place;
       }
 
@@ -123,13 +124,14 @@ module _ (old_table table : List (Option Entry)) (macro : ℕ) (old : ArgScan) (
       work = ap (work_by table) now_present ∙ sym (works (delimiter_at old_table macro old.cursor) (stage_of table q) stands) ∙ ap₂ (λ (u v : List Token). in_work (delimiter_at old_table macro old.cursor) u v) k r
 
       pub goes : (a : ArgAsk) → answer_of table a (work_in table (record { cursor = old.cursor; mode = mode; braced = braced; present = n; args = old.args })) ≡ now_of braced (work_in table (record { cursor = old.cursor; mode = mode; braced = braced; present = n; args = old.args })) →
-          ((h : ℕ) → handed a h ≡ 0) →
+          ((h : ℕ) → handed a h ≡ 0) → ((left : ℕ → ℕ) → HandsOut table a left) →
           ((fed : List Fed) → resume old_table macro old (Tok x ∷ fed) ≡ behind (args_in old_table old.args) (delimiters_of (rest_at old_table macro old.cursor)) (search (delimiter_at old_table macro old.cursor) (now_of braced) mode kept t fed)) →
           Answers old_table table macro old (record { cursor = old.cursor; mode = mode; braced = braced; present = n; args = old.args }) x a
-      goes a is gives on = record {
+      goes a is gives hands on = record {
         answers = is ∙ ap (now_of braced) work ∙ sym (on []);
         goes_on = λ o. record { sound = now_sound; same = λ fed. on fed ∙ sym (resumed fed) };
         owns = now_owns mode braced;
+        hands = hands _;
         moves = λ h. omega (arith, now_moves mode braced h, gives h);
         kept = shared_kept old_table table macro old p present here.0 sound.owns sound.outside others;
       }

@@ -6,4 +6,5 @@ pub mod Braces
 pub mod Stages
 pub mod Args
 pub mod Holds
+pub mod Listed
 pub mod Scans

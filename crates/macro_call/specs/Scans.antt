@@ -7,6 +7,7 @@ use Rattle.token_lists.specs.Ids.{build_id, IsBuilding}
 use Rattle.macro_call.specs.declared.par_mode.ParMode.{ParMode}
 use Rattle.macro_call.specs.declared.par_mode.ParMode.TheVariants.{Long, Short}
 use Rattle.macro_call.specs.Arguments.{start_of, delimiters_of, Fed, Tok, Answer, More, ExtraBraceFound, Called, Mismatch, Ended, search, behind, case_at, arguments, gathering}
+use Rattle.macro_call.specs.declared.args.Args.{Args}
 use Rattle.macro_call.specs.declared.cursor.Cursor.{Cursor}
 use Rattle.macro_call.specs.declared.present.Present.{Present}
 use Rattle.macro_call.specs.declared.present.Step.{Step}
@@ -16,6 +17,7 @@ use Rattle.macro_call.specs.declared.scan.ArgAsk.TheVariants as ask
 use Rattle.macro_call.specs.Args.{args_in, args_hold, IsFilled}
 use Rattle.macro_call.specs.Cursors.{IsOn, rest_at, delimiter_at}
 use Rattle.macro_call.specs.Holds.{present_holds}
+use Rattle.macro_call.specs.Listed.{AreListed}
 use Rattle.macro_call.specs.Tables.{IsGrownByPart, IsOnly}
 use Rattle.macro_call.specs.Stages.{stage_of, Stands, Took, kept_in, read_in}
 
@@ -62,6 +64,7 @@ pub record IsSound (table : List (Option Entry)) (macro : ℕ) (scan : ArgScan) 
   pub on : IsOn table macro scan.cursor
   pub outside : scan_holds scan macro < holders_at table macro
   pub filled : IsFilled scan.args
+  pub listed : AreListed table scan.args
   pub in_place : IsInPlace table macro scan scan.present
 
 abbrev pub answer_of : List (Option Entry) → ArgAsk → List Token → Answer
@@ -78,6 +81,18 @@ handed ask.ExtraBrace h = 0
 handed (ask.Called args) h = args_hold args h
 handed ask.Mismatch h = 0
 handed (ask.ParEnded silent) h = 0
+
+-- arguments that are handed out, and what is left: an argument without tokens has no list, and the scanner holds nothing
+pub record HandsAll (table : List (Option Entry)) (args : Args) (left : ℕ → ℕ) : Type 0 where
+  pub listed : AreListed table args
+  pub spent : (h : ℕ) → left h ≡ 0
+
+abbrev pub HandsOut : List (Option Entry) → ArgAsk → (ℕ → ℕ) → Type 0
+HandsOut table ask.More left = Unit {0}
+HandsOut table ask.ExtraBrace left = Unit {0}
+HandsOut table (ask.Called args) left = HandsAll table args left
+HandsOut table ask.Mismatch left = Unit {0}
+HandsOut table (ask.ParEnded silent) left = Unit {0}
 
 abbrev pub IsOpen : ArgAsk → Type 0
 IsOpen ask.More = Unit {0}
@@ -97,6 +112,7 @@ pub record Enters (old_table new_table : List (Option Entry)) (macro : ℕ) (old
   pub sound : IsOpen answer → IsSound new_table macro new
   pub same : IsOpen answer → (fed : List Fed) → arguments old.mode (args_in old_table old.args) (delimiters_of (rest_at old_table macro old.cursor)) fed ≡ resume new_table macro new fed
   pub owns : Owns new_table new
+  pub hands : HandsOut new_table answer (scan_holds new)
   pub moves : Moves old_table new_table (scan_holds old) (λ h. scan_holds new h + handed answer h)
   pub kept : Keeps old_table new_table (scan_holds old)
 
@@ -109,6 +125,7 @@ pub record IsBetween (table : List (Option Entry)) (macro : ℕ) (scan : ArgScan
   pub owns : Covers table (scan_holds scan)
   pub outside : scan_holds scan macro < holders_at table macro
   pub filled : IsFilled scan.args
+  pub listed : AreListed table scan.args
   pub room : scan.args.count + length (delimiters_of (rest_at table macro scan.cursor)) ≤ 9
 
 -- What a token comes to: the answer is what the definition asks for after it, and the scanner goes on behind it.
@@ -116,6 +133,7 @@ pub record Answers (old_table new_table : List (Option Entry)) (macro : ℕ) (ol
   pub answers : answer_of new_table answer (work_in new_table new) ≡ resume old_table macro old (Tok x ∷ [])
   pub goes_on : IsOpen answer → Next old_table new_table macro old new x
   pub owns : Owns new_table new
+  pub hands : HandsOut new_table answer (scan_holds new)
   pub moves : Moves old_table new_table (scan_holds old) (λ h. scan_holds new h + handed answer h)
   pub kept : Keeps old_table new_table (scan_holds old)
 
@@ -166,6 +184,7 @@ pub record IsWhole (table : List (Option Entry)) (macro : ℕ) (scan : ArgScan) 
   pub owns : Covers table (scan_holds scan)
   pub outside : scan_holds scan macro < holders_at table macro
   pub filled : IsFilled scan.args
+  pub listed : AreListed table scan.args
   pub room : scan.args.count + length (delimiters_of (rest_at table macro scan.cursor)) < 9
 
 -- the list in work becomes an argument, and the delimiter is passed

@@ -19,7 +19,7 @@ pub struct Args {
 }
 
 impl Args {
-    ghost use Rattle.std.specs.Prelude.{◌≡◌, ◌+◌, ◌<◌, ◌++◌, ◌∷◌, [], ℕ};
+    ghost use Rattle.std.specs.Prelude.{◌≡◌, ◌+◌, ◌<◌, ◌++◌, ◌∷◌, [], ℕ, slice_set};
     ghost use Rattle.token_lists.specs.Accounts.{Moves, Covers, Keeps, none, cell_holds};
     ghost use Rattle.macro_call.specs.Args.{args_hold, args_in, cell_tokens, IsFilled};
 
@@ -42,6 +42,7 @@ impl Args {
         ensures unchanged { lists.new ≡ lists.old }
         ensures filled { IsFilled self.new }
         ensures count { self.new.count ≡ self.old.count + 1 }
+        ensures lists { self.new.lists ≡ slice_set self.old.lists self.old.count cell }
         ensures account { (h : ℕ) → args_hold self.new h ≡ args_hold self.old h + cell_holds cell h }
         ensures tokens { args_in lists.new self.new ≡ args_in lists.old self.old ++ cell_tokens lists.old cell ∷ [] }
     {
