@@ -1,3 +1,4 @@
 pub mod Cells
+pub mod Listed
 pub mod Lookups
 pub mod Releases

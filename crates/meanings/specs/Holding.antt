@@ -1,9 +1,9 @@
 -- The lists that meanings hold.
-use Rattle.std.specs.Prelude.{ℕ, List, Option, None, Some, sum_by, slice_set}
+use Rattle.std.specs.Prelude.{◌≡◌, ℕ, ◌<◌, List, Option, None, Some, sum_by, slice_set}
 use Rattle.tex_defs.specs.declared.Meaning.{Meaning}
 use Rattle.tex_defs.specs.declared.Meaning.TheVariants as means
 use Rattle.token_lists.specs.Accounts.{holds}
-use Rattle.token_lists.specs.Table.{Entry, entry_at, one_more, one_less}
+use Rattle.token_lists.specs.Table.{Entry, entry_at, tokens_at, places_at, holders_at, one_more, one_less}
 use Rattle.meanings.specs.Map.{Map}
 
 -- the number of a macro's list
@@ -35,3 +35,8 @@ with_holder (Some id) table = slice_set table id (one_more (entry_at table id))
 abbrev pub without_holder : Option ℕ → List (Option Entry) → List (Option Entry)
 without_holder None table = table
 without_holder (Some id) table = slice_set table id (one_less (entry_at table id))
+
+-- lists may go with their last holders, and what is still held is as it was
+pub record Lasts (old new : List (Option Entry)) : Type 0 where
+  pub tokens : (h : ℕ) → 0 < holders_at new h → tokens_at new h ≡ tokens_at old h
+  pub places : (h : ℕ) → 0 < holders_at new h → places_at new h ≡ places_at old h

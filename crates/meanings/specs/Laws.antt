@@ -1,12 +1,15 @@
 -- Laws of the map, in the words of its users.
-use Rattle.std.specs.Prelude.{◌≡◌, ◌≢◌, ℕ, ◌<◌, ◌≤◌, Option, Some, codes}
+use Rattle.std.specs.Prelude.{◌≡◌, ◌≢◌, ℕ, ◌+◌, ◌<◌, ◌≤◌, List, length, Option, Some, codes}
 use Rattle.tex_defs.specs.declared.Name.{Name}
 use Rattle.tex_defs.specs.declared.Name.TheVariants as name
 use Rattle.tex_defs.specs.declared.Meaning.{Meaning}
+use Rattle.token_lists.specs.Accounts.{Covers, Keeps, Moves}
 use Rattle.token_lists.specs.Codes.{IsName}
+use Rattle.token_lists.specs.Table.{Entry, tokens_at}
 use Rattle.prim_table.specs.Primitives.{primitive_name}
 use Rattle.plain_state.specs.Names.{name_meaning}
 use Rattle.meanings.specs.Locations.{location, relax_number, end_group_number, fi_number}
+use Rattle.meanings.specs.Holding.{held, list_of}
 use Rattle.meanings.specs.Map.{Map, meaning_of, defined, entered, first_map, seen_as, primitive_count, IsAssignable}
 
 -- two names never share a location
@@ -34,3 +37,12 @@ pub record FrozenNames : Type 0 where
   pub relax : primitive_name relax_number ≡ codes "relax"
   pub end_group : primitive_name end_group_number ≡ codes "endgroup"
   pub fi : primitive_name fi_number ≡ codes "fi"
+
+-- Where other parts change which lists they hold, each macro keeps its tokens, and all that is held stays counted.
+pub record OthersLeaveMeanings : Type 0 where
+  pub covered : (m : Map) (old new : List (Option Entry)) (before after : ℕ → ℕ) → Covers old (λ h. before h + held m h) → Moves old new before after → Covers new (λ h. after h + held m h)
+  pub tokens : (m : Map) (old new : List (Option Entry)) (before : ℕ → ℕ) → Covers old (λ h. before h + held m h) → Keeps old new before → (n : Name) (id : ℕ) → list_of (meaning_of m n) ≡ Some id → tokens_at new id ≡ tokens_at old id
+
+-- no list is held more often than there are locations
+abbrev pub HeldWithinLocations : Type 0
+HeldWithinLocations = (m : Map) (h : ℕ) → held m h ≤ length m.cells

@@ -5,7 +5,7 @@ ghost use Rattle.token_lists.specs.Accounts.{Moves, Keeps, none};
 ghost use Rattle.token_lists.specs.Ids.{id_of};
 ghost use Rattle.plain_state.specs.Names.{is_primitive};
 ghost use Rattle.meanings.specs.Map.{numbered, numbered_list, seen_as, primitive_meaning, without_list};
-ghost use Rattle.meanings.specs.Holding.{list_of, list_holds, meaning_holds, with_holder, without_holder};
+ghost use Rattle.meanings.specs.Holding.{list_of, list_holds, meaning_holds, with_holder, without_holder, Lasts};
 
 use tex_defs::Meaning;
 use token_lists::{ListRef, Lists};
@@ -139,6 +139,7 @@ fn release_list(lists: &mut Lists, list: Option<ListRef>)
     ensures after { lists.new ≡ without_holder (numbered_list list) lists.old }
     ensures account { Moves lists.old lists.new (list_holds (numbered_list list)) none }
     ensures kept { Keeps lists.old lists.new (list_holds (numbered_list list)) }
+    ensures lasting { Lasts lists.old lists.new }
 {
     if let Some(list) = list {
         lists.release(list);
@@ -151,6 +152,7 @@ pub fn release(lists: &mut Lists, kept: Kept)
     ensures after { lists.new ≡ without_holder (list_of (numbered kept)) lists.old }
     ensures account { Moves lists.old lists.new (meaning_holds (numbered kept)) none }
     ensures kept { Keeps lists.old lists.new (meaning_holds (numbered kept)) }
+    ensures lasting { Lasts lists.old lists.new }
 {
     if let Meaning::Macro {
         long: _,

@@ -1,5 +1,5 @@
 //! What holds of each map of meanings. The functions do nothing; their contracts are the laws.
-ghost use Rattle.meanings.specs.Laws.{LocationsDiffer, OneNameChanges, EnteringDefinesNothing, FirstMeanings, FrozenNames};
+ghost use Rattle.meanings.specs.Laws.{LocationsDiffer, OneNameChanges, EnteringDefinesNothing, FirstMeanings, FrozenNames, OthersLeaveMeanings, HeldWithinLocations};
 
 /// Two names never share a location.
 pub fn locations_differ()
@@ -24,4 +24,14 @@ pub fn first_meanings()
 /// The frozen names that are primitives have those primitives' names.
 pub fn frozen_names()
     ensures { FrozenNames }
+{}
+
+/// Where other parts change which lists they hold, each macro keeps its tokens.
+pub fn others_leave_meanings()
+    ensures { OthersLeaveMeanings }
+{}
+
+/// No list is held more often than there are locations, so that its holders can be counted.
+pub fn held_within_locations()
+    ensures { HeldWithinLocations }
 {}

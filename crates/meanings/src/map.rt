@@ -7,7 +7,7 @@ ghost use Rattle.token_lists.specs.Accounts.{Moves, Covers, Keeps, none};
 ghost use Rattle.token_lists.specs.Ids.{id_of};
 ghost use Rattle.meanings.specs.Locations.{fixed_locations, fixed_meaning};
 ghost use Rattle.meanings.specs.Map.{first_map, first_cells, meaning_of, defined, entered, HasRoom, IsAssignable, numbered, all_numbered, seen_as, primitive_meaning, primitive_count};
-ghost use Rattle.meanings.specs.Holding.{held, cells_hold, list_of, meaning_holds, with_holder, without_holder};
+ghost use Rattle.meanings.specs.Holding.{held, cells_hold, list_of, meaning_holds, with_holder, without_holder, Lasts};
 
 use crate::kept::{Kept, list_of, primitive, release, seen, share, without_list};
 use crate::locations::{FIXED, fixed, location};
@@ -151,6 +151,7 @@ impl Meanings {
         ensures lists { lists.new ≡ without_holder (list_of (meaning_of self.old name)) lists.old }
         ensures account { Moves lists.old lists.new (λ h. meaning_holds (numbered value) h + held self.old h) (held self.new) }
         ensures kept { Keeps lists.old lists.new (λ h. meaning_holds (numbered value) h + held self.old h) }
+        ensures lasting { Lasts lists.old lists.new }
     {
         let Some(at) = location(name) else {
             unreachable!()
