@@ -4,12 +4,13 @@ use Rattle.std.specs.Prelude.{if◌then◌else◌, ◌==◌, ◌||◌, nat_le}
 use Rattle.tex_defs.specs.declared.Token.{Token}
 use Rattle.tex_defs.specs.declared.Token.TheVariants.{Place, Number, EndPlaces}
 use Rattle.plain_state.specs.Categories.{begin_group, end_group, space}
+use Rattle.plain_state.specs.Names.{means_relax}
 use Rattle.plain_state.specs.Readings.{has_category, means_category}
 use Rattle.list_builder.specs.declared.stage.Manner.{Manner}
 use Rattle.list_builder.specs.declared.stage.Stage.{Stage}
 use Rattle.list_builder.specs.declared.stage.Stage.TheVariants.{First, FirstMissing, Parameters, Misnumbered, Tenth, BodyMissing, InBody, Reference, Illegal}
 use Rattle.list_builder.specs.declared.stage.Stage.TheVariants as stage
-use Rattle.list_builder.specs.Definitions.{Fed, Tok, Told, Given, Answer, Done, is_parameter, character_of, is_digit, is_number, number_of, means_relax, is_reference, count_of, macro_body, text_body}
+use Rattle.list_builder.specs.Definitions.{Fed, Tok, Told, Given, Answer, Done, is_parameter, character_of, is_digit, is_number, number_of, is_reference, count_of, macro_body, text_body}
 use Rattle.list_builder.specs.Stages.{resume}
 
 split : (c : Bool) (p q p2 q2 : Answer) (ts : List Token) → (p ≡ Done ts → p2 ≡ Done ts) → (q ≡ Done ts → q2 ≡ Done ts) → (if c then p else q) ≡ Done ts → (if c then p2 else q2) ≡ Done ts

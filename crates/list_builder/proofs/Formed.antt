@@ -7,12 +7,13 @@ use Rattle.tex_defs.specs.declared.Token.{Token}
 use Rattle.tex_defs.specs.declared.Token.TheVariants.{Char, Named, Marked, Place, Number, EndPlaces}
 use Rattle.tex_defs.specs.declared.Meaning.{Meaning}
 use Rattle.plain_state.specs.Categories.{begin_group, end_group, space}
+use Rattle.plain_state.specs.Names.{means_relax}
 use Rattle.plain_state.specs.Readings.{has_category, means_category}
 use Rattle.list_builder.specs.declared.stage.Manner.{Manner}
 use Rattle.list_builder.specs.declared.stage.Stage.{Stage}
 use Rattle.list_builder.specs.declared.stage.Stage.TheVariants.{First, FirstMissing, Parameters, Misnumbered, Tenth, BodyMissing, InBody}
 use Rattle.list_builder.specs.declared.stage.Stage.TheVariants as stage
-use Rattle.list_builder.specs.Definitions.{Fed, Tok, Told, Given, Done, is_parameter, character_of, is_digit, means_relax, macro_body, text_body, with_cell}
+use Rattle.list_builder.specs.Definitions.{Fed, Tok, Told, Given, Done, is_parameter, character_of, is_digit, macro_body, text_body, with_cell}
 use Rattle.list_builder.specs.Stages.{resume}
 use Rattle.list_builder.specs.Forms.{closes, is_plain, are_plain, are_in_front, is_place, places, is_in_body, are_in_body, IsBegin, IsMacro, IsText, IsSeen, IsClean}
 use Rattle.list_builder.proofs.Groups.{both, both_left, both_right}

@@ -7,6 +7,7 @@ use Rattle.tex_defs.specs.declared.Meaning.{Meaning}
 use Rattle.tex_defs.specs.declared.Meaning.TheVariants as means
 use Rattle.tex_defs.specs.declared.Seen.{Seen}
 use Rattle.plain_state.specs.Categories.{begin_group, end_group, parameter, space, other, is_between}
+use Rattle.plain_state.specs.Names.{means_relax}
 use Rattle.plain_state.specs.Readings.{has_category, is_other, means_category}
 use Rattle.list_builder.specs.declared.ask.Want.{Want}
 use Rattle.list_builder.specs.declared.ask.Want.TheVariants.{Raw, Expanded, Copied, Nonblank}
@@ -51,15 +52,6 @@ is_number n t = false
 abbrev pub number_of : Token → ℕ
 number_of (Char category code) = code - 48
 number_of t = 0
-
--- the number of the primitive \relax
-abbrev pub relax_primitive : ℕ
-relax_primitive = 1
-
-abbrev pub means_relax : Meaning Unit → Bool
-means_relax means.RelaxMarked = true
-means_relax (means.Prim number) = number == relax_primitive
-means_relax m = false
 
 -- THE BODY, of a macro or of a text, up to the brace that closes it.
 

@@ -4,8 +4,9 @@ ghost use Rattle.list_builder.specs.declared.stage.Next.TheVariants.{On};
 ghost use Rattle.tex_defs.specs.declared.Token.{Token};
 ghost use Rattle.list_builder.specs.declared.stage.Manner.{Manner};
 ghost use Rattle.token_lists.specs.Table.{Entry};
+ghost use Rattle.plain_state.specs.Names.{means_relax};
 ghost use Rattle.plain_state.specs.Readings.{has_category, is_other, means_category};
-ghost use Rattle.list_builder.specs.Definitions.{Fed, Tok, Told, body_want, number_want, is_parameter, character_of, is_number, number_of, means_relax, is_reference, first, parameters, place, body, reference};
+ghost use Rattle.list_builder.specs.Definitions.{Fed, Tok, Told, body_want, number_want, is_parameter, character_of, is_number, number_of, is_reference, first, parameters, place, body, reference};
 ghost use Rattle.list_builder.specs.Stages.{resume, depth_of, IsTelling, goes, depth_after, growth};
 ghost use Rattle.list_builder.specs.Scans.{answer_of, IsOpen};
 
