@@ -1,14 +1,15 @@
 -- The machine run on small files: what it writes to the transcript within so many moves, the names that it enters, its
 -- status, and where a table is full.
-use Rattle.std.specs.Prelude.{ℕ, zero, suc, ◌+◌, false, List, [], ◌++◌, Option, Some, None, ◌≡◌, codes}
+use Rattle.std.specs.Prelude.{ℕ, zero, suc, ◌+◌, ◌≤◌, ◌⊎◌, false, List, [], ◌∷◌, ◌++◌, length, Option, Some, None, ◌≡◌, codes}
 use Rattle.tex_defs.specs.declared.Full.{Full}
 use Rattle.tex_defs.specs.declared.Sizes.{Sizes}
 use Rattle.prim_table.specs.Primitives.{primitive_names}
 use Rattle.plain_state.specs.Categories.{initial_categories}
 use Rattle.plain_state.specs.States.{State, Move, Written, Outcome}
 use Rattle.plain_state.specs.Tables.{refusal}
-use Rattle.plain_machine.specs.Plan.{Next, Ends, Goes, next_of, first_state}
-use Rattle.plain_machine.specs.Runs.{step_of}
+use Rattle.plain_machine.specs.Plan.{Next, Ends, Goes, next, next_of, first_state}
+use Rattle.plain_machine.specs.Runs.{step_of, steps, Moves, Trace}
+use Rattle.plain_machine.specs.Bounded.{FitMoves}
 
 abbrev pub text_of : Move → List ℕ
 text_of (Written p bs) = bs
@@ -26,13 +27,17 @@ with_move m r = record { text = text_of m ++ r.text; steps = step_of m + r.steps
 abbrev pub at_end : State → Result
 at_end s = record { text = []; steps = 0; names = s.names; stopped = s.stopped }
 
+-- more moves may come, so no end is told
+abbrev pub cut_short : State → Result
+cut_short s = record { text = []; steps = 0; names = s.names; stopped = None }
+
 abbrev pub went : State → (State → Result) → Next → Result
 went s onward Ends = at_end s
 went s onward (Goes m u) = with_move m (onward u)
 
--- the text, the steps, the names and the end of a run of at most n moves
+-- the text, the steps and the names of a run of at most n moves, and its end where it has ended
 unfoldable pub run_of : ℕ → State → Result
-run_of zero s = at_end s
+run_of zero s = cut_short s
 run_of (suc n) s = went s (λ u. run_of n u) (next_of s s.due)
 
 unfoldable pub job_of : List ℕ → Result
@@ -75,3 +80,59 @@ Fills sizes file full = job_fills sizes [] file ≡ Some full
 
 abbrev pub Fits : Sizes → List ℕ → Type 0
 Fits sizes file = job_fills sizes [] file ≡ None
+
+-- ROWS ARE RUNS
+
+-- what these moves write, one after another
+abbrev pub texts : List Move → List ℕ
+texts [] = []
+texts (m ∷ ms) = text_of m ++ texts ms
+
+-- what was told of the end of a run of these moves, which lead to t: how it stopped, where it has ended; nothing, where they are
+-- as many as may be
+abbrev pub Told : ℕ → List Move → State → Option Outcome → Type 0
+Told n ms t stopped = ((next t ≡ Ends) × (stopped ≡ t.stopped)) ⊎ ((length ms ≡ n) × (stopped ≡ None))
+
+-- The machine makes these moves from s, at most n of them, and this is what they come to.
+pub record IsRun (n : ℕ) (s : State) (r : Result) : Type 0 where
+  pub ms : List Move
+  pub t : State
+  pub moves : Moves s ms t
+  pub within : length ms ≤ n
+  pub told : Told n ms t r.stopped
+  pub text : r.text ≡ texts ms
+  pub count : r.steps ≡ steps ms
+  pub names : r.names ≡ t.names
+
+abbrev pub RowsAreRuns : Type 0
+RowsAreRuns = (n : ℕ) (s : State) → IsRun n s (run_of n s)
+
+-- The machine's whole run from s, within any bound that holds its steps, ends so, and this is what it comes to.
+pub record IsWhole (s : State) (r : Result) (o : Outcome) : Type 0 where
+  pub ms : List Move
+  pub t : State
+  pub trace : (k : ℕ) → r.steps ≤ k → Trace s k ms t
+  pub stopped : t.stopped ≡ Some o
+  pub text : r.text ≡ texts ms
+  pub count : r.steps ≡ steps ms
+  pub names : r.names ≡ t.names
+
+abbrev pub EndedRowsAreWhole : Type 0
+EndedRowsAreWhole = (n : ℕ) (s : State) (o : Outcome) → (run_of n s).stopped ≡ Some o → IsWhole s (run_of n s) o
+
+-- where these moves within the sizes lead to t: the run has ended, or they are as many as may be; or this table has no room for
+-- the next move
+abbrev pub EndsWith : Sizes → ℕ → List Move → State → Option Full → Type 0
+EndsWith sizes n ms t None = (next t ≡ Ends) ⊎ (length ms ≡ n)
+EndsWith sizes n ms t (Some full) = (m : Move) × ((u : State) × ((next t ≡ Goes m u) × (refusal sizes m t ≡ Some full)))
+
+-- The machine makes these moves, at most n of them, each of which fits, and this is the table that is full behind them, if one is.
+pub record FitsTo (sizes : Sizes) (n : ℕ) (s : State) (full : Option Full) : Type 0 where
+  pub ms : List Move
+  pub t : State
+  pub moves : FitMoves sizes s ms t
+  pub within : length ms ≤ n
+  pub ends : EndsWith sizes n ms t full
+
+abbrev pub RefusalsAreRuns : Type 0
+RefusalsAreRuns = (sizes : Sizes) (n : ℕ) (s : State) → FitsTo sizes n s (full_in sizes n s)

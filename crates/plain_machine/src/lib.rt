@@ -8,7 +8,7 @@ ghost use Rattle.tex_defs.specs.declared.Fatal.TheVariants.{NoEnd};
 ghost use Rattle.plain_state.specs.States.{Finished, AtFatal};
 ghost use Rattle.tex_defs.specs.declared.Table.TheVariants.{PoolSize, NumberOfStrings, HashSize, MainMemorySize, InputStackSize, BufferSize, ExpansionDepth};
 ghost use Rattle.tex_defs.specs.Sizes.{default_sizes};
-ghost use Rattle.plain_machine.specs.Rows.{Writes, Runs as RunsSo, Enters, Fills, Fits, first_line_usual};
+ghost use Rattle.plain_machine.specs.Rows.{Writes, Runs as RunsSo, Enters, Fills, Fits, RowsAreRuns, EndedRowsAreWhole, RefusalsAreRuns, first_line_usual};
 ghost use Rattle.plain_machine.specs.Runs.{RunsAreOne, EachHasRun, SumsOfSteps};
 ghost use Rattle.plain_machine.specs.Bounded.{BoundedRunsAreOne, EachHasBounded, BoundedIsFront};
 
@@ -41,6 +41,14 @@ pub fn each_has_bounded_run()
 /// A run within sizes makes the first moves of the machine's run, and all of them where no table was full.
 pub fn bounded_runs_are_fronts()
     ensures { BoundedIsFront }
+{}
+
+/// What is computed of a state are its first moves: what they write, the steps among them, and the names behind them. Where
+/// an end is told, they are the machine's whole run. Within sizes, the table that is told is that of the first move that has no room.
+pub fn rows_are_runs()
+    ensures moves { RowsAreRuns }
+    ensures whole { EndedRowsAreWhole }
+    ensures refusals { RefusalsAreRuns }
 {}
 
 /// The machine run on small files: what it writes, the steps it takes, and how it ends.

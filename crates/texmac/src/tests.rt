@@ -361,7 +361,14 @@ fn characters_are_printed_as_tex_prints_them(rt: HostRuntime) -> Result<(), Fail
         )?
     );
     // \newlinechar is 0
-    assert!(rt; job(alloc, b"\\catcode0=12 \\message{a^^@b}\\end\n", b"a\nb\n", 0)?);
+    assert!(rt;
+        job(
+            alloc,
+            b"\\catcode0=12 \\message{a^^@b}\\end\n",
+            b"a\nb\n",
+            0
+        )?
+    );
     Ok(())
 }
 
