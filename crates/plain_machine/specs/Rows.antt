@@ -5,7 +5,7 @@ use Rattle.tex_defs.specs.declared.Full.{Full}
 use Rattle.tex_defs.specs.declared.Sizes.{Sizes}
 use Rattle.prim_table.specs.Primitives.{primitive_names}
 use Rattle.plain_state.specs.Categories.{initial_categories}
-use Rattle.plain_state.specs.States.{State, Move, Written, Outcome}
+use Rattle.plain_state.specs.States.{State, Move, Written, Outcome, Finished}
 use Rattle.plain_state.specs.Tables.{refusal}
 use Rattle.plain_machine.specs.Plan.{Next, Ends, Goes, next, next_of, first_state}
 use Rattle.plain_machine.specs.Runs.{step_of, steps, Moves, Trace}
@@ -53,9 +53,9 @@ Writes file text outcome = ((job_of file).text ≡ text) × ((job_of file).stopp
 abbrev pub Runs : List ℕ → List ℕ → ℕ → Outcome → Type 0
 Runs file text steps outcome = Writes file text outcome × ((job_of file).steps ≡ steps)
 
--- beside the primitives' names these are entered
+-- beside the primitives' names these are entered, in a whole run
 abbrev pub Enters : List ℕ → List (List ℕ) → Type 0
-Enters file names = (job_of file).names ≡ primitive_names ++ names
+Enters file names = ((job_of file).names ≡ primitive_names ++ names) × ((job_of file).stopped ≡ Some Finished)
 
 -- WITHIN SIZES
 
@@ -78,8 +78,9 @@ job_fills sizes name bytes = full_in sizes 600 (first_state initial_categories f
 abbrev pub Fills : Sizes → List ℕ → Full → Type 0
 Fills sizes file full = job_fills sizes [] file ≡ Some full
 
+-- the whole run has room
 abbrev pub Fits : Sizes → List ℕ → Type 0
-Fits sizes file = job_fills sizes [] file ≡ None
+Fits sizes file = (job_fills sizes [] file ≡ None) × ((job_of file).stopped ≡ Some Finished)
 
 -- ROWS ARE RUNS
 
