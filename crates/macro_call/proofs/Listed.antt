@@ -8,10 +8,10 @@ use Rattle.token_lists.specs.declared.ListRef.{ListRef}
 use Rattle.token_lists.specs.Ids.{id_of}
 use Rattle.token_lists.specs.Table.{Entry, entry_at, tokens_of, tokens_at}
 use Rattle.token_lists.specs.Accounts.{cell_holds, cells_hold}
-use Rattle.macro_call.specs.declared.args.Args.{Args}
-use Rattle.macro_call.specs.Args.{args_hold, IsFilled}
+use Rattle.macro_args.specs.declared.args.Args.{Args}
+use Rattle.macro_args.specs.Args.{args_hold, IsFilled}
 use Rattle.macro_call.specs.Listed.{AreListed}
-use Rattle.macro_call.proofs.Releases.{holds_own}
+use Rattle.macro_args.proofs.Releases.{holds_own}
 
 -- the list of a cell is counted
 cell_counted : (cells : List (Option ListRef)) (i : ℕ) (r : ListRef) → get_or cells i None ≡ Some r → 0 < cells_hold cells (id_of r)

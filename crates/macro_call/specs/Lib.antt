@@ -4,7 +4,6 @@ pub mod Cursors
 pub mod Tables
 pub mod Braces
 pub mod Stages
-pub mod Args
 pub mod Holds
 pub mod Listed
 pub mod Scans
