@@ -17,7 +17,7 @@ use Rattle.macro_call.specs.declared.present.Step.TheVariants as step
 use Rattle.macro_call.specs.declared.scan.ArgScan.{ArgScan}
 use Rattle.macro_call.specs.declared.scan.ArgAsk.{ArgAsk}
 use Rattle.macro_call.specs.declared.scan.ArgAsk.TheVariants as ask
-use Rattle.macro_call.specs.Args.{args_in}
+use Rattle.macro_args.specs.Args.{args_in}
 use Rattle.macro_call.specs.Cursors.{rest_at, delimiter_at}
 use Rattle.macro_call.specs.Tables.{IsGrownByPart}
 use Rattle.macro_call.specs.Scans.{resume, scan_holds, IsSound, Answers, TookIn, CutIn, IsCutShort, Completes, Enters, work_by, held_by}

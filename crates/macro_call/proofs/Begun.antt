@@ -9,11 +9,11 @@ use Rattle.token_lists.specs.Accounts.{Moves, none, holds}
 use Rattle.std.specs.Prelude.{slice_set, map}
 use Rattle.macro_call.specs.declared.par_mode.ParMode.{ParMode}
 use Rattle.macro_call.specs.Arguments.{start_of, delimiters_of, Fed, gathering, arguments, call}
-use Rattle.macro_call.specs.declared.args.Args.{Args}
+use Rattle.macro_args.specs.declared.args.Args.{Args}
 use Rattle.macro_call.specs.declared.cursor.Cursor.{Cursor}
 use Rattle.macro_call.specs.declared.present.Present.{Present}
 use Rattle.macro_call.specs.declared.scan.ArgScan.{ArgScan}
-use Rattle.macro_call.specs.Args.{cell_tokens, args_in, args_hold, IsFilled}
+use Rattle.macro_args.specs.Args.{cell_tokens, args_in, args_hold, IsFilled}
 use Rattle.macro_call.specs.Cursors.{IsOn, rest_at, delimiter_at}
 use Rattle.macro_call.specs.Scans.{resume, resume_by, IsBetween}
 use Rattle.macro_call.proofs.Entered.{entered}

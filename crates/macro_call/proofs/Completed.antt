@@ -6,17 +6,17 @@ use Rattle.token_lists.specs.Ids.{build_id, IsBuilding}
 use Rattle.token_lists.specs.Table.{Entry, tokens_of, tokens_at, places_of, holders_at}
 use Rattle.token_lists.specs.Accounts.{Moves, Covers, Keeps, holds, cell_holds}
 use Rattle.macro_call.specs.Arguments.{delimiters_of}
-use Rattle.macro_call.specs.declared.args.Args.{Args}
+use Rattle.macro_args.specs.declared.args.Args.{Args}
 use Rattle.macro_call.specs.declared.cursor.Cursor.{Cursor}
 use Rattle.macro_call.specs.declared.present.Present.{Present}
 use Rattle.macro_call.specs.declared.scan.ArgScan.{ArgScan}
-use Rattle.macro_call.specs.Args.{cell_tokens, args_in, args_hold, IsFilled}
+use Rattle.macro_args.specs.Args.{cell_tokens, args_in, args_hold, IsFilled}
 use Rattle.macro_call.specs.Cursors.{IsOn, rest_at, delimiter_at}
 use Rattle.macro_call.specs.Holds.{present_holds}
 use Rattle.macro_call.specs.Tables.{IsOnly}
 use Rattle.macro_call.specs.Scans.{scan_holds, IsWhole, IsBuildingIn, work_by, Completes}
 use Rattle.macro_call.proofs.Entered.{args_kept}
-use Rattle.macro_call.proofs.Releases.{holds_own}
+use Rattle.macro_args.proofs.Releases.{holds_own}
 
 -- only one list, which nobody else holds, has changed
 module _ (old_table table : List (Option Entry)) (macro : ℕ) (old : ArgScan) (p : Present) (present : old.present ≡ Some p) (building : IsBuilding old_table p.build)

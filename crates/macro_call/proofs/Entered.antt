@@ -13,19 +13,19 @@ use Rattle.token_lists.specs.Table.{Entry, entry_at, tokens_of, tokens_at, place
 use Rattle.token_lists.specs.Accounts.{Moves, Covers, none, holds, cell_holds, cells_hold}
 use Rattle.macro_call.specs.Arguments.{start_of, delimiters_of, Fed, More, search, behind, arguments}
 use Rattle.macro_call.proofs.ArgumentRuns.{arguments_behind}
-use Rattle.macro_call.specs.declared.args.Args.{Args}
+use Rattle.macro_args.specs.declared.args.Args.{Args}
 use Rattle.macro_call.specs.declared.cursor.Cursor.{Cursor}
 use Rattle.macro_call.specs.declared.present.Present.{Present}
 use Rattle.macro_call.specs.declared.scan.ArgScan.{ArgScan}
 use Rattle.macro_call.specs.declared.scan.ArgAsk.TheVariants as ask
-use Rattle.macro_call.specs.Args.{cell_tokens, args_in, args_hold}
+use Rattle.macro_args.specs.Args.{cell_tokens, args_in, args_hold}
 use Rattle.macro_call.specs.Cursors.{IsOn, rest_at, delimiter_at}
 use Rattle.macro_call.specs.Holds.{present_holds}
 use Rattle.macro_call.specs.Stages.{Stands, stage_of, kept_in, read_in}
 use Rattle.macro_call.specs.Tables.{IsOnly}
 use Rattle.macro_call.specs.Scans.{resume, now_of, scan_holds, IsSound, IsBetween, Enters}
 use Rattle.macro_call.proofs.Delimited.{at_begin}
-use Rattle.macro_call.proofs.Releases.{holds_own}
+use Rattle.macro_args.proofs.Releases.{holds_own}
 use Rattle.macro_call.proofs.Tables.{only_set, on_kept, tokens_kept}
 
 -- lists whose entries stay

@@ -10,7 +10,6 @@ pub mod Groups
 pub mod Delimited
 pub mod Undelimited
 pub mod Taken
-pub mod Releases
 pub mod Entered
 pub mod Completed
 pub mod Resumed

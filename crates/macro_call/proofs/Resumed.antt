@@ -14,7 +14,7 @@ use Rattle.macro_call.proofs.ArgumentRuns.{search_at, found_after}
 use Rattle.macro_call.specs.declared.present.Present.{Present}
 use Rattle.macro_call.specs.declared.scan.ArgScan.{ArgScan}
 use Rattle.macro_call.specs.declared.scan.ArgAsk.{ArgAsk}
-use Rattle.macro_call.specs.Args.{args_in, args_hold}
+use Rattle.macro_args.specs.Args.{args_in, args_hold}
 use Rattle.macro_call.specs.Cursors.{rest_at, delimiter_at}
 use Rattle.macro_call.specs.Holds.{present_holds}
 use Rattle.macro_call.specs.Stages.{Stage, Stands, stage_of, kept_in, read_in}

@@ -4,6 +4,5 @@ pub mod Cursors
 pub mod Tables
 pub mod Braces
 pub mod Stages
-pub mod Args
 pub mod Holds
 pub mod Scans

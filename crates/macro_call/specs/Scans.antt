@@ -13,7 +13,7 @@ use Rattle.macro_call.specs.declared.present.Step.{Step}
 use Rattle.macro_call.specs.declared.scan.ArgScan.{ArgScan}
 use Rattle.macro_call.specs.declared.scan.ArgAsk.{ArgAsk}
 use Rattle.macro_call.specs.declared.scan.ArgAsk.TheVariants as ask
-use Rattle.macro_call.specs.Args.{args_in, args_hold, IsFilled}
+use Rattle.macro_args.specs.Args.{args_in, args_hold, IsFilled}
 use Rattle.macro_call.specs.Cursors.{IsOn, rest_at, delimiter_at}
 use Rattle.macro_call.specs.Holds.{present_holds}
 use Rattle.macro_call.specs.Tables.{IsGrownByPart, IsOnly}

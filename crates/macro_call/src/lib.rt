@@ -4,10 +4,8 @@
 //! keeps a place in it. The arguments are lists of their own.
 #![tactic(auto)]
 
-mod args;
 mod braces;
 mod builds;
-mod cells;
 mod cursor;
 mod laws;
 mod matches;
@@ -18,7 +16,6 @@ mod scan;
 mod tests;
 mod tokens;
 
-pub use args::Args;
 pub use cursor::Cursor;
 pub use laws::{
     arguments_are_shortest, calls_end_at_once, delimited_lists_are_balanced, matches_restart,

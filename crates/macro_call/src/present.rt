@@ -3,7 +3,7 @@ ghost use Rattle.std.specs.Prelude.{◌≡◌, ◌≢◌, ◌<◌, ◌+◌, ◌+
 ghost use Rattle.std.specs.Option.{ForSome};
 ghost use Rattle.token_lists.specs.Table.{tokens_at, entry_at};
 ghost use Rattle.token_lists.specs.Accounts.{Moves, none, holds, cell_holds};
-ghost use Rattle.macro_call.specs.Args.{cell_tokens};
+ghost use Rattle.macro_args.specs.Args.{cell_tokens};
 ghost use Rattle.macro_call.specs.Holds.{present_holds};
 ghost use Rattle.token_lists.specs.Ids.{id_of, build_id, IsBuilding};
 ghost use Rattle.token_lists.specs.Refusals.{IsFull};

@@ -9,7 +9,7 @@ ghost use Rattle.macro_call.specs.Arguments.{start_of, delimiters_of, gathering,
 ghost use Rattle.macro_call.specs.Cursors.{IsOn};
 ghost use Rattle.macro_call.specs.Scans.{resume, work_in, scan_holds, Owns, IsSound, answer_of, handed, IsOpen, Next, IsBetween, Enters, mode_of, Answers, IsCutShort, TookIn, CutIn, IsReady, IsWhole, Completes};
 
-use crate::args::Args;
+use macro_args::Args;
 use crate::cursor::{Cursor, at_first};
 use crate::par_mode::ParMode;
 use crate::present::{Present, Step, abandon};

@@ -3,7 +3,7 @@ use Rattle.token_lists.specs.Table.{Entry, holders_at}
 use Rattle.token_lists.specs.Accounts.{holds}
 use Rattle.token_lists.specs.Ids.{id_of}
 use Rattle.macro_call.specs.declared.present.Present.{Present}
-use Rattle.macro_call.specs.Args.{args_in, cell_tokens}
+use Rattle.macro_args.specs.Args.{args_in, cell_tokens}
 use Rattle.macro_call.specs.Scans.{Completes}
 use Rattle.macro_call.specs.Tables.{IsOnly}
 use Rattle.macro_call.proofs.Completed.{completed}

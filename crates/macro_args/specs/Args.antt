@@ -5,7 +5,7 @@ use Rattle.token_lists.specs.declared.ListRef.{ListRef}
 use Rattle.token_lists.specs.Ids.{id_of}
 use Rattle.token_lists.specs.Table.{Entry, tokens_at}
 use Rattle.token_lists.specs.Accounts.{cells_hold}
-use Rattle.macro_call.specs.declared.args.Args.{Args}
+use Rattle.macro_args.specs.declared.args.Args.{Args}
 
 -- the tokens of an argument
 abbrev pub cell_tokens : List (Option Entry) → Option ListRef → List Token
@@ -19,6 +19,7 @@ args_in table args = map (λ cell. cell_tokens table cell) (take args.count args
 abbrev pub args_hold : Args → ℕ → ℕ
 args_hold args h = cells_hold args.lists h
 
--- behind the last argument there is no list
+-- there are nine at most, and behind the last there is no list
 pub record IsFilled (args : Args) : Type 0 where
+  pub few : args.count ≤ 9
   pub free : (i : ℕ) → args.count ≤ i → slice_index_or args.lists i None ≡ None

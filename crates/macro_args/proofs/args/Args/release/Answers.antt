@@ -1,9 +1,9 @@
 use Rattle.std.proofs.Common.{drop, arith}
 use Rattle.token_lists.specs.Accounts.{cells_hold}
-use Rattle.macro_call.specs.Args.{args_hold}
-use Rattle.macro_call.proofs.Releases.{IsLeft, left_all, left_next, left_held, split_at, left_none}
-use Rattle.macro_call.proofs.args.Args.release.Goals as goal
-use Rattle.macro_call.proofs.args.Args.release.Goals.{After-release_cell, After-release_cell-2, After-release_cell-3, After-release_cell-4, After-release_cell-5, After-release_cell-6, After-release_cell-7, After-release_cell-8, After-release_cell-9}
+use Rattle.macro_args.specs.Args.{args_hold}
+use Rattle.macro_args.proofs.Releases.{IsLeft, left_all, left_next, left_held, split_at, left_none}
+use Rattle.macro_args.proofs.args.Args.release.Goals as goal
+use Rattle.macro_args.proofs.args.Args.release.Goals.{After-release_cell, After-release_cell-2, After-release_cell-3, After-release_cell-4, After-release_cell-5, After-release_cell-6, After-release_cell-7, After-release_cell-8, After-release_cell-9}
 
 left_1 : (c : After-release_cell) → IsLeft c.args.lists.now c.release_cell.new.lists (args_hold c.args.self) (cells_hold (drop 1 c.args.self.lists))
 left_1 c = left_next c.args.lists.now c.args.lists.now c.release_cell.new.lists (args_hold c.args.self) _ _ (cells_hold (drop 1 c.args.self.lists)) (left_all c.args.lists.now (args_hold c.args.self)) (split_at c.args.self.lists 0 (omega (arith, c.args.self.nine))) c.release_cell.ensures.account c.release_cell.ensures.kept

@@ -21,7 +21,7 @@ pub struct Args {
 impl Args {
     ghost use Rattle.std.specs.Prelude.{◌≡◌, ◌+◌, ◌<◌, ◌++◌, ◌∷◌, [], ℕ};
     ghost use Rattle.token_lists.specs.Accounts.{Moves, Covers, Keeps, none, cell_holds};
-    ghost use Rattle.macro_call.specs.Args.{args_hold, args_in, cell_tokens, IsFilled};
+    ghost use Rattle.macro_args.specs.Args.{args_hold, args_in, cell_tokens, IsFilled};
 
     /// No arguments.
     pub fn none() -> Args
@@ -35,7 +35,7 @@ impl Args {
         }
     }
 
-    // One argument more.
+    /// One argument more; without tokens it has no list.
     pub fn keep(&mut self, lists: &mut Lists, cell: Option<ListRef>)
         requires room { self.old.count < 9 }
         requires filled { IsFilled self.old }
@@ -55,6 +55,7 @@ impl Args {
         requires { Covers lists.old (args_hold self) }
         ensures account { Moves lists.old lists.new (args_hold self) none }
         ensures kept { Keeps lists.old lists.new (args_hold self) }
+        ensures size { length lists.new ≡ length lists.old }
     {
         let Args {
             lists: [a, b, c, d, e, f, g, h, i],
