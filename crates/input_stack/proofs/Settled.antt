@@ -116,7 +116,7 @@ count_length table cells zero l = refl
 count_length table [] (suc n) l = absurd (omega arith)
 count_length table (c ∷ cells) (suc n) l = omega (arith, count_length table cells n (omega arith))
 
-put_count : (table : List (Option Entry)) (c : Call) → IsCall table c → length (map number_of (arguments_in table c.args)) ≡ c.args.count
+pub put_count : (table : List (Option Entry)) (c : Call) → IsCall table c → length (map number_of (arguments_in table c.args)) ≡ c.args.count
 put_count table c a = count_length table c.args.lists c.args.count (omega (arith, a.filled.few, c.args.nine))
 
 -- the arguments of all calls that stand

@@ -1,23 +1,26 @@
 -- The level on top.
-use Rattle.std.proofs.Common.{◌≡◌, ℕ, ◌+◌, ◌<◌, ◌≤◌, List, [], ◌∷◌, ◌++◌, length, map, reverse, take, drop, get_or, Option, None, Some, Bool, true, false, not, ◌-◌, refl, sym, ap, ◌∙◌, subst, arith, add-one, vec_capacity}
+use Rattle.std.proofs.Common.{◌≡◌, ℕ, ◌+◌, ◌^◌, ◌<◌, ◌≤◌, List, [], ◌∷◌, ◌++◌, length, map, reverse, take, drop, get_or, Option, None, Some, Bool, true, false, not, ◌-◌, refl, sym, ap, ◌∙◌, subst, arith, add-one, vec_capacity}
 use Rattle.std.specs.Prelude.{All, IsTrue, slice_get, is_some}
 use Rattle.std.proofs.lemmas.List.{reverse-append, length-reverse, take_all}
-use Rattle.std.proofs.lemmas.List.Elements.{All-head, All-cons, All-nil}
+use Rattle.std.proofs.lemmas.List.Sums.{sum_by-cons}
+use Rattle.std.proofs.lemmas.List.Elements.{All-head, All-tail, All-nil}
 use Rattle.std.proofs.lemmas.Option.{none-some}
 use Rattle.std.proofs.Math.Seq.{take-suc}
 use Rattle.tex_defs.specs.declared.Token.{Token}
 use Rattle.token_lists.specs.Table.{Entry, holders_at}
 use Rattle.token_lists.specs.Accounts.{none, Moves, Keeps}
-use Rattle.input_stack.specs.Puts.{Put, Text, is_empty, is_finished, settled}
+use Rattle.input_stack.specs.Puts.{Put, Item, Text, is_empty, is_finished, settled, when_some, used_arguments}
 use Rattle.input_stack.specs.declared.level.Level.{Level}
 use Rattle.input_stack.specs.declared.level.Level.TheVariants as level
 use Rattle.input_stack.specs.declared.stack.InputStack.{InputStack}
-use Rattle.input_stack.specs.Pending.{Pending, settle, with_puts, without_top}
+use Rattle.input_stack.specs.Pending.{Pending, Below, settle, with_puts, without_top, used_parameters}
+use Rattle.input_stack.specs.Rest.{rest}
+use Rattle.input_stack.specs.CallViews.{put_of_call}
 use Rattle.input_stack.specs.Levels.{is_level_finished, is_level_passed, is_top_passed}
-use Rattle.input_stack.specs.View.{pending_in, innermost, held_in, level_holds, level_open, open_in, level_arguments, arguments_of}
-use Rattle.input_stack.specs.Standing.{IsLevel, IsUnfinished, AreUnfinished, AreRead, Fits, IsSized}
+use Rattle.input_stack.specs.View.{pending_in, put_of, innermost, held_in, level_holds, level_open, open_in, level_arguments, arguments_of}
+use Rattle.input_stack.specs.Standing.{IsLevel, IsUnfinished, AreUnfinished, AreRead, Fits, IsSized, Stands}
 use Rattle.input_stack.proofs.Kept.{beneath_read, held_cons}
-use Rattle.input_stack.proofs.Settled.{finished_goes, open_cons, arguments_cons}
+use Rattle.input_stack.proofs.Settled.{finished_goes, open_cons, arguments_cons, arguments_used, put_count}
 
 -- the last level is innermost
 pub top_is : (ls : List Level) (i : ℕ) (l : Level) → i + 1 ≡ length ls → l ≡ get_or ls i l → reverse ls ≡ l ∷ reverse (take i ls)
@@ -142,4 +145,45 @@ fits_changed s t l l' ls f is at within lv same count sized = record {
   few_small = omega (arith, f.few_small, sized.parameter_size);
   room = omega (arith, f.room, sized.size, sized.capacity);
   small = omega (arith, f.small, sized.size);
+}
+
+some_counts : (xs : List Item) (n : ℕ) → is_empty xs ≡ false → when_some xs n ≡ n
+some_counts [] n is = cc
+some_counts (x ∷ xs) n is = refl
+
+none_counts : (xs : List Item) → when_some xs 0 ≡ 0
+none_counts [] = refl
+none_counts (x ∷ xs) = refl
+
+-- where nothing is finished on top, the arguments that stand are used
+pub arguments_in_use : (table : List (Option Entry)) (ls : List Level) → AreRead table ls → is_finished (pending_in table ls).puts ≡ false → arguments_of ls ≡ used_parameters (pending_in table ls)
+arguments_in_use table [] a is = refl
+arguments_in_use table (level.List r ∷ ls) a is =
+    let q = pending_in table ls in
+    omega (arith, arguments_used table ls (All-tail (IsLevel table) (level.List r) ls a.levels) a.below, arguments_cons (level.List r) ls, none_counts (map Text (rest table r)), sum_by-cons (λ (p : Put). when_some p.items (length p.arguments)) (put_of table r) q.puts)
+arguments_in_use table (level.Call c ∷ ls) a is =
+    let q = pending_in table ls in
+    let p = put_of_call table c in
+    omega (arith, arguments_used table ls (All-tail (IsLevel table) (level.Call c) ls a.levels) a.below, arguments_cons (level.Call c) ls, put_count table c (All-head (IsLevel table) (level.Call c) ls a.levels), some_counts p.items (length p.arguments) is, sum_by-cons (λ (x : Put). when_some x.items (length x.arguments)) p q.puts)
+arguments_in_use table (level.Source s ∷ ls) a is =
+    let q = pending_in table ls in
+    omega (arith, arguments_used table ls (All-tail (IsLevel table) (level.Source s) ls a.levels) a.below, arguments_cons (level.Source s) ls, sum_by-cons (λ (b : Below). used_arguments b.puts) (record { source = s; puts = q.puts }) q.sources)
+
+-- NO LEVELS
+
+none_read : (table : List (Option Entry)) → AreRead table []
+none_read table = record { levels = All-nil (IsLevel table); below = tt; covers = λ h. omega arith }
+
+pub new_stands : (table : List (Option Entry)) (s : InputStack) → innermost s ≡ [] → length s.levels.items ≡ 0 → s.argument_levels ≡ 0 → s.arguments ≡ 0 → s.size ≤ vec_capacity s.levels → s.size < 2 ^ 32 → s.parameter_size < 2 ^ 32 → Stands table s
+new_stands table s none empty lv count room small few = record {
+  read = subst (AreRead table) (sym none) (none_read table);
+  fits = record {
+    within = omega (arith, empty, lv);
+    opens = omega (arith, lv, ap open_in none);
+    counts = omega (arith, count, ap arguments_of none);
+    few = omega (arith, count);
+    few_small = few;
+    room = room;
+    small = small;
+  };
 }

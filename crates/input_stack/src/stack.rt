@@ -1,4 +1,4 @@
-ghost use Rattle.std.specs.Prelude.{◌≡◌, ℕ, ◌+◌, ◌≤◌, ◌<◌, List, Option, [], ◌∷◌, IfOk, IfErr, MatchOption, MatchResult, OnOk, OnErr, None, Some, map, false, cond, IfSome, IsTrue, length};
+ghost use Rattle.std.specs.Prelude.{◌≡◌, ℕ, ◌+◌, ◌≤◌, ◌<◌, List, Option, [], ◌∷◌, IfOk, IfErr, MatchOption, MatchResult, OnOk, OnErr, None, Some, map, false, cond, IfSome, IsTrue, length, vec_capacity};
 ghost use Rattle.token_lists.specs.Table.{Entry, IsHeld, tokens_at, entry_at};
 ghost use Rattle.token_lists.specs.Ids.{id_of};
 ghost use Rattle.token_lists.specs.Accounts.{Moves, Keeps, Covers, none, holds};
@@ -89,13 +89,25 @@ impl InputStack {
     {
         let size = sizes.input_stack_size;
         let levels = Vec::with_capacity(alloc, size as usize)?;
-        Ok(InputStack {
+        Ok(InputStack::without_levels(levels, size, sizes.parameter_stack_size))
+    }
+
+    // No level, in this room.
+    fn without_levels(levels: Vec<Level>, size: u32, parameter_size: u32) -> InputStack
+        requires none { levels.items ≡ [] }
+        requires room { size ≤ vec_capacity levels }
+        ensures stands { (table : List (Option Entry)) → Stands table result }
+        ensures empty { innermost result ≡ [] }
+        ensures size { result.size ≡ size }
+        ensures parameter_size { result.parameter_size ≡ parameter_size }
+    {
+        InputStack {
             levels,
             argument_levels: 0,
             arguments: 0,
             size,
-            parameter_size: sizes.parameter_stack_size,
-        })
+            parameter_size,
+        }
     }
 
     /// The levels that stand, those that are finished too.

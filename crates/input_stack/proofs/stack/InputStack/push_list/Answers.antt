@@ -5,7 +5,7 @@ use Rattle.token_lists.specs.Table.{tokens_at}
 use Rattle.input_stack.specs.declared.level.Level.TheVariants as level
 use Rattle.input_stack.specs.Pending.{room}
 use Rattle.input_stack.specs.View.{innermost, pending, held}
-use Rattle.input_stack.proofs.Pushed.{no_tokens, some_tokens, empty_ok, refused, used_is, room_left, put_tokens, put_ok, put_read, put_moves}
+use Rattle.input_stack.proofs.Pushed.{no_tokens, some_tokens, empty_ok, empty_read, refused, used_is, room_left, put_tokens, put_ok, put_read, put_moves}
 use Rattle.input_stack.proofs.stack.InputStack.push_list.Goals as goal
 
 pub returns-then-is_none-clause-ok : goal.returns-then-is_none-clause-ok
@@ -78,3 +78,9 @@ returns-then-is_none-clause-tokens c = λ some.
     let n = id_of c.args.list in
     let none = no_tokens c.first.result c.is_none.result (tokens_at t n) c.is_none.ensures c.if-is_none.true c.first.ensures.ends in
     absurd (omega (arith, some, ap length none))
+
+pub returns-then-is_none-clause-stands : goal.returns-then-is_none-clause-stands
+returns-then-is_none-clause-stands c = record {
+  read = empty_read c.args.lists.now c.let_go.new.lists (id_of c.args.list) (innermost c.args.self.now) c.requires.held c.let_go.ensures.account c.let_go.ensures.kept c.requires.stands.read;
+  fits = c.requires.stands.fits;
+}
