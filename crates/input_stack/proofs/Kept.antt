@@ -1,5 +1,5 @@
 -- What the levels read stays where their lists are held.
-use Rattle.std.proofs.Common.{◌≡◌, ℕ, ◌+◌, ◌<◌, ◌≤◌, List, [], ◌∷◌, length, drop, Option, refl, sym, ap, subst, arith}
+use Rattle.std.proofs.Common.{◌≡◌, ℕ, ◌+◌, ◌<◌, ◌≤◌, List, [], ◌∷◌, length, drop, Option, refl, sym, ap, ap₂, subst, arith}
 use Rattle.std.specs.Prelude.{All, slice_get, IsSome, ◌↔◌, ◌==◌, true}
 use Rattle.std.proofs.lemmas.Bool.Decides.{nat_tests}
 use Rattle.std.proofs.lemmas.List.Elements.{All-head, All-tail, All-cons, All-nil}
@@ -11,7 +11,11 @@ use Rattle.input_stack.specs.declared.reader.Reader.{Reader}
 use Rattle.input_stack.specs.declared.level.Level.{Level}
 use Rattle.input_stack.specs.declared.level.Level.TheVariants as level
 use Rattle.input_stack.specs.Rest.{number, rest, IsAt}
-use Rattle.input_stack.specs.View.{pending_in, over, level_holds, held_in}
+use Rattle.input_stack.specs.Puts.{Put}
+use Rattle.input_stack.specs.CallViews.{IsSettled}
+use Rattle.input_stack.specs.View.{pending_in, in_front, over, level_holds, held_in}
+use Rattle.input_stack.proofs.CallKept as CallKept
+use Rattle.input_stack.proofs.CallKept.{call_same, call_stands}
 use Rattle.input_stack.specs.Standing.{IsLevel, IsUnfinished, AreUnfinished, AreUnfinishedBelow, AreRead}
 
 -- the lists that are held so often are as they were, and still held
@@ -24,9 +28,7 @@ pub held_cons : (l : Level) (ls : List Level) (h : ℕ) → held_in (l ∷ ls) h
 held_cons l ls h = sum_by-cons (λ (x : Level). level_holds x h) l ls
 
 pub holds_itself : (n : ℕ) → holds n n ≡ 1
-holds_itself n =
-    let e : (n == n) ≡ true = grind (arith, nat_tests) in
-    rw e refl
+holds_itself n = CallKept.holds_itself n
 
 stay_tail : (old new : List (Option Entry)) (l : Level) (ls : List Level) → Stay old new (held_in (l ∷ ls)) → Stay old new (held_in ls)
 stay_tail old new l ls s = record {
@@ -60,11 +62,14 @@ pending_stays old new (level.List r ∷ ls) s =
     let e = rest_stays old new r (stay_head old new r ls s) in
     let f = pending_stays old new ls (stay_tail old new (level.List r) ls s) in
     rw (e, f) refl
+pending_stays old new (level.Call c ∷ ls) s =
+    ap₂ in_front (call_same old new c (λ h some. s.tokens h (omega (arith, some, held_cons (level.Call c) ls h)))) (pending_stays old new ls (stay_tail old new (level.Call c) ls s))
 pending_stays old new (level.Source x ∷ ls) s = ap (over x) (pending_stays old new ls (stay_tail old new (level.Source x) ls s))
 
 pub levels_stay : (old new : List (Option Entry)) (ls : List Level) → Stay old new (held_in ls) → All (IsLevel old) ls → All (IsLevel new) ls
 levels_stay old new [] s a = All-nil (IsLevel new)
 levels_stay old new (level.List r ∷ ls) s a = All-cons (IsLevel new) (level.List r) ls (at_stays old new r (stay_head old new r ls s) (All-head (IsLevel old) (level.List r) ls a)) (levels_stay old new ls (stay_tail old new (level.List r) ls s) (All-tail (IsLevel old) (level.List r) ls a))
+levels_stay old new (level.Call c ∷ ls) s a = All-cons (IsLevel new) (level.Call c) ls (call_stands old new (held_in (level.Call c ∷ ls)) s.tokens s.places s.held c (λ h. omega (arith, held_cons (level.Call c) ls h)) (All-head (IsLevel old) (level.Call c) ls a)) (levels_stay old new ls (stay_tail old new (level.Call c) ls s) (All-tail (IsLevel old) (level.Call c) ls a))
 levels_stay old new (level.Source x ∷ ls) s a = All-cons (IsLevel new) (level.Source x) ls tt (levels_stay old new ls (stay_tail old new (level.Source x) ls s) (All-tail (IsLevel old) (level.Source x) ls a))
 
 pub unfinished_stay : (old new : List (Option Entry)) (ls : List Level) → Stay old new (held_in ls) → AreUnfinished old ls → AreUnfinished new ls
@@ -73,6 +78,9 @@ unfinished_stay old new (level.List r ∷ ls) s a =
     let e = rest_stays old new r (stay_head old new r ls s) in
     let some : 0 < length (rest old r) = All-head (IsUnfinished old) (level.List r) ls a in
     All-cons (IsUnfinished new) (level.List r) ls (subst (λ (ts : List Token). 0 < length ts) (sym e) some) (unfinished_stay old new ls (stay_tail old new (level.List r) ls s) (All-tail (IsUnfinished old) (level.List r) ls a))
+unfinished_stay old new (level.Call c ∷ ls) s a =
+    let e = call_same old new c (λ h some. s.tokens h (omega (arith, some, held_cons (level.Call c) ls h))) in
+    All-cons (IsUnfinished new) (level.Call c) ls (subst (λ (p : Put). IsSettled p.reading p.items) (sym e) (All-head (IsUnfinished old) (level.Call c) ls a)) (unfinished_stay old new ls (stay_tail old new (level.Call c) ls s) (All-tail (IsUnfinished old) (level.Call c) ls a))
 unfinished_stay old new (level.Source x ∷ ls) s a = All-cons (IsUnfinished new) (level.Source x) ls tt (unfinished_stay old new ls (stay_tail old new (level.Source x) ls s) (All-tail (IsUnfinished old) (level.Source x) ls a))
 
 pub all_below : (table : List (Option Entry)) (ls : List Level) → AreUnfinished table ls → AreUnfinishedBelow table ls
@@ -99,15 +107,18 @@ leave old new before after f covers moves keeps = record {
   held = λ h some. omega (arith, some, covers h, moves h);
 }
 
--- the levels beneath one whose list is let go
-pub beneath_read : (old new : List (Option Entry)) (r : Reader) (ls : List Level) → AreRead old (level.List r ∷ ls) → Moves old new (holds (number r)) none → Keeps old new (holds (number r)) → AreRead new ls × (pending_in new ls ≡ pending_in old ls)
-beneath_read old new r ls a moves keeps =
-    let s = leaves old new (holds (number r)) (held_in ls) (λ h. omega (arith, a.covers h, held_cons (level.List r) ls h)) moves keeps in (
+-- the levels beneath one that lets go what it holds
+pub beneath_read : (old new : List (Option Entry)) (l : Level) (ls : List Level) → AreRead old (l ∷ ls) → Moves old new (level_holds l) none → Keeps old new (level_holds l) → AreRead new ls × AreUnfinished new ls × (pending_in new ls ≡ pending_in old ls)
+beneath_read old new l ls a moves keeps =
+    let s = leaves old new (level_holds l) (held_in ls) (λ h. omega (arith, a.covers h, held_cons l ls h)) moves keeps in
+    let u = unfinished_stay old new ls s a.below in
+    (
       record {
-        levels = levels_stay old new ls s (All-tail (IsLevel old) (level.List r) ls a.levels);
-        below = all_below new ls (unfinished_stay old new ls s a.below);
-        covers = λ h. omega (arith, a.covers h, held_cons (level.List r) ls h, moves h);
+        levels = levels_stay old new ls s (All-tail (IsLevel old) l ls a.levels);
+        below = all_below new ls u;
+        covers = λ h. omega (arith, a.covers h, held_cons l ls h, moves h);
       },
+      u,
       pending_stays old new ls s,
     )
 

@@ -1,10 +1,17 @@
 pub mod Flats
 pub mod CallTokens
+pub mod Gaps
+pub mod CallItems
+pub mod CallKept
+pub mod CallPulled
+pub mod LevelItems
 pub mod Rests
 pub mod Kept
 pub mod Settled
+pub mod Closed
 pub mod Tops
 pub mod Pushed
+pub mod Called
 pub mod Backs
 pub mod Lines
 pub mod Given

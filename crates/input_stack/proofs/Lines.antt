@@ -9,9 +9,10 @@ use Rattle.input_stack.specs.declared.level.Source.{Source}
 use Rattle.input_stack.specs.declared.level.Level.TheVariants as level
 use Rattle.input_stack.specs.declared.stack.InputStack.{InputStack}
 use Rattle.input_stack.specs.Pending.{at_line}
-use Rattle.input_stack.specs.View.{pending_in, held_in, level_at, IsSourceOnTop}
-use Rattle.input_stack.specs.Standing.{IsLevel, AreRead, Fits}
+use Rattle.input_stack.specs.View.{pending_in, innermost, held_in, level_at, level_open, level_arguments, IsSourceOnTop}
+use Rattle.input_stack.specs.Standing.{IsLevel, AreRead, Fits, IsSized}
 use Rattle.input_stack.proofs.Kept.{held_cons, all_below}
+use Rattle.input_stack.proofs.Tops.{fits_changed, fits_fewer}
 
 -- the last level changes
 set_last : (ls : List Level) (i : ℕ) (l : Level) → i + 1 ≡ length ls → set ls i l ≡ take i ls ++ l ∷ []
@@ -25,6 +26,7 @@ top_set ls n l len some = ap reverse (set_last ls (n - 1) l (omega (arith, len, 
 
 at_top : (table : List (Option Entry)) (line : Line) (l : Level) (ls : List Level) → IsSourceOnTop (l ∷ ls) → pending_in table (level_at line l ∷ ls) ≡ at_line line (pending_in table (l ∷ ls))
 at_top table line (level.List r) ls top = absurd top
+at_top table line (level.Call c) ls top = absurd top
 at_top table line (level.Source s) ls top = refl
 
 pub line_begun : (table : List (Option Entry)) (line : Line) (l : Level) (xs ys ls : List Level) → xs ≡ l ∷ ls → ys ≡ level_at line l ∷ ls → IsSourceOnTop xs → pending_in table ys ≡ at_line line (pending_in table xs)
@@ -32,6 +34,7 @@ line_begun table line l xs ys ls is at top = ap (pending_in table) at ∙ at_top
 
 held_at : (line : Line) (l : Level) (ls : List Level) (h : ℕ) → held_in (level_at line l ∷ ls) h ≡ held_in (l ∷ ls) h
 held_at line (level.List r) ls h = refl
+held_at line (level.Call c) ls h = refl
 held_at line (level.Source s) ls h = omega (arith, held_cons (level.Source s) ls h, held_cons (level_at line (level.Source s)) ls h)
 
 pub line_held : (line : Line) (l : Level) (xs ys ls : List Level) (h : ℕ) → xs ≡ l ∷ ls → ys ≡ level_at line l ∷ ls → held_in ys h ≡ held_in xs h
@@ -39,6 +42,7 @@ line_held line l xs ys ls h is at = ap (λ (zs : List Level). held_in zs h) at �
 
 level_is : (table : List (Option Entry)) (line : Line) (l : Level) → IsLevel table l → IsLevel table (level_at line l)
 level_is table line (level.List r) a = a
+level_is table line (level.Call c) a = a
 level_is table line (level.Source s) a = tt
 
 read_at : (table : List (Option Entry)) (line : Line) (l : Level) (ls : List Level) → AreRead table (l ∷ ls) → AreRead table (level_at line l ∷ ls)
@@ -51,12 +55,19 @@ read_at table line l ls a = record {
 pub line_read : (table : List (Option Entry)) (line : Line) (l : Level) (xs ys ls : List Level) → xs ≡ l ∷ ls → ys ≡ level_at line l ∷ ls → AreRead table xs → AreRead table ys
 line_read table line l xs ys ls is at a = subst (AreRead table) (sym at) (read_at table line l ls (subst (AreRead table) is a))
 
-pub fits_same : (s t : InputStack) (l : Level) (i : ℕ) → t.levels.items ≡ set s.levels.items i l → t.size ≡ s.size → vec_capacity t.levels ≡ vec_capacity s.levels → Fits s → Fits t
-fits_same s t l i is size capacity f = record {
-  within = omega (arith, f.within, size, ap length is, length-set s.levels.items i l);
-  room = omega (arith, f.room, size, capacity);
-  small = omega (arith, f.small, size);
-}
+same_open : (line : Line) (l : Level) → level_open (level_at line l) ≡ level_open l
+same_open line (level.List r) = refl
+same_open line (level.Call c) = refl
+same_open line (level.Source s) = refl
+
+same_arguments : (line : Line) (l : Level) → level_arguments (level_at line l) ≡ level_arguments l
+same_arguments line (level.List r) = refl
+same_arguments line (level.Call c) = refl
+same_arguments line (level.Source s) = refl
+
+pub fits_at : (s t : InputStack) (line : Line) (l : Level) (ls : List Level) → innermost s ≡ l ∷ ls → innermost t ≡ level_at line l ∷ ls → t.argument_levels ≡ s.argument_levels → t.arguments ≡ s.arguments → IsSized s t → Fits s → Fits t
+fits_at s t line l ls is at lv count sized f =
+    fits_changed s t l (level_at line l) ls f is at (omega (arith, f.within, lv, ap length is, ap length at, length-reverse s.levels.items, length-reverse t.levels.items)) (omega (arith, lv, same_open line l)) (same_arguments line l) count sized
 
 -- the file goes
 pub source_under : (table : List (Option Entry)) (s : Source) (xs ls : List Level) → xs ≡ level.Source s ∷ ls → AreRead table xs → AreRead table ls
@@ -71,9 +82,5 @@ source_under table s xs ls is a =
 pub popped : (xs ys : List Level) (l : Level) → xs ≡ ys ++ l ∷ [] → reverse xs ≡ l ∷ reverse ys
 popped xs ys l is = ap reverse is ∙ reverse-append ys (l ∷ [])
 
-pub fits_popped : (s t : InputStack) (l : Level) → s.levels.items ≡ t.levels.items ++ l ∷ [] → t.size ≡ s.size → vec_capacity t.levels ≡ vec_capacity s.levels → Fits s → Fits t
-fits_popped s t l is size capacity f = record {
-  within = omega (arith, f.within, size, ap length (popped s.levels.items t.levels.items l is), length-reverse s.levels.items, length-reverse t.levels.items);
-  room = omega (arith, f.room, size, capacity);
-  small = omega (arith, f.small, size);
-}
+pub fits_popped : (s t : InputStack) (x : Source) → s.levels.items ≡ t.levels.items ++ level.Source x ∷ [] → t.argument_levels ≡ s.argument_levels → t.arguments ≡ s.arguments → IsSized s t → Fits s → Fits t
+fits_popped s t x is lv count sized f = fits_fewer s t (level.Source x) f (popped s.levels.items t.levels.items (level.Source x) is) (omega (arith, lv)) (omega (arith, count)) sized

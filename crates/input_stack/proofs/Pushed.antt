@@ -1,5 +1,5 @@
 -- A list in front.
-use Rattle.std.proofs.Common.{◌≡◌, ℕ, ◌+◌, ◌<◌, List, [], ◌∷◌, length, map, Option, None, Some, Bool, true, false, not, refl, sym, ap, ap₂, ◌∙◌, subst, arith, vec_capacity}
+use Rattle.std.proofs.Common.{◌≡◌, ℕ, ◌+◌, ◌<◌, List, [], ◌∷◌, length, map, Option, None, Some, Bool, true, false, not, refl, sym, ap, ap₂, ◌∙◌, subst, arith}
 use Rattle.std.specs.Prelude.{IsSome, ◌↔◌, is_some, nat_lt}
 use Rattle.std.proofs.lemmas.Bool.Decides.{nat_tests}
 use Rattle.std.proofs.lemmas.List.{length-reverse}
@@ -14,11 +14,11 @@ use Rattle.input_stack.specs.declared.level.Level.{Level}
 use Rattle.input_stack.specs.declared.level.Level.TheVariants as level
 use Rattle.input_stack.specs.declared.stack.InputStack.{InputStack}
 use Rattle.input_stack.specs.Rest.{number, rest, IsAt}
-use Rattle.input_stack.specs.Pending.{Pending, settle, put, plain_put, refusal, room, used_levels}
-use Rattle.input_stack.specs.View.{pending_in, put_of, in_front, innermost, held_in}
+use Rattle.input_stack.specs.Pending.{Pending, settle, put, plain_put, refusal, room, used_levels, used_parameters}
+use Rattle.input_stack.specs.View.{pending_in, put_of, in_front, innermost, level_holds, held_in}
 use Rattle.input_stack.specs.Standing.{IsLevel, AreUnfinished, AreRead, Fits}
 use Rattle.input_stack.proofs.Kept.{Stay, leaves, pending_stays, read_stays, held_cons, holds_itself}
-use Rattle.input_stack.proofs.Settled.{levels_used, used_settle}
+use Rattle.input_stack.proofs.Settled.{levels_used, used_settle, arguments_used, parameters_settle}
 
 pub no_tokens : (o : Option ℕ) (b : Bool) (ts : List Token) → is_some o ≡ not b → b ≡ true → IsSome o ↔ (0 < length ts) → ts ≡ []
 no_tokens o b [] k is ends = refl
@@ -51,8 +51,11 @@ pub refused : (n size : ℕ) (ts : List Token) (p : Pending) → 0 < length ts �
 refused n size [] p some is = absurd (omega arith)
 refused n size (t ∷ ts) p some is = rw is refl
 
-pub used_is : (table : List (Option Entry)) (s : InputStack) (p : Pending) → AreUnfinished table (innermost s) → pending_in table (innermost s) ≡ settle p → length s.levels.items ≡ used_levels p
-used_is table s p a is = sym (length-reverse s.levels.items) ∙ levels_used table (innermost s) a ∙ ap used_levels is ∙ used_settle p
+pub used_is : (table : List (Option Entry)) (s : InputStack) (p : Pending) → Fits s → AreUnfinished table (innermost s) → pending_in table (innermost s) ≡ settle p → length s.levels.items + s.argument_levels ≡ used_levels p
+used_is table s p f a is = omega (arith, length-reverse s.levels.items, f.opens, levels_used table (innermost s) a, ap used_levels is, used_settle p)
+
+pub parameters_are : (table : List (Option Entry)) (s : InputStack) (p : Pending) → Fits s → AreRead table (innermost s) → AreUnfinished table (innermost s) → pending_in table (innermost s) ≡ settle p → s.arguments ≡ used_parameters p
+parameters_are table s p f a u is = omega (arith, f.counts, arguments_used table (innermost s) a.levels u, ap used_parameters is, parameters_settle p)
 
 room_test : (size used : ℕ) (b : Bool) → nat_lt used size ≡ b → room size used ≡ None → used < size
 room_test size used true k is = grind (arith, nat_tests)
@@ -78,21 +81,15 @@ pub put_ok : (mid : List (Option Entry)) (r : Reader) (n : ℕ) (ts : List Token
 put_ok mid r n ts xs ls p is a b some q =
     ap (pending_in mid) is ∙ ap₂ in_front (same_put mid r n ts a b) q ∙ put_is n ts p some
 
-pub put_read : (old mid : List (Option Entry)) (r : Reader) (n : ℕ) (xs ls : List Level) (f : ℕ → ℕ) → xs ≡ level.List r ∷ ls → number r ≡ n → IsAt mid r → AreRead mid ls → AreUnfinished mid ls → Covers old (λ h. holds n h + f h) → Moves old mid f (held_in ls) → AreRead mid xs
-put_read old mid r n xs ls f is a at read unfinished covers moves =
-    let k : AreRead mid (level.List r ∷ ls) = record {
-      levels = All-cons (IsLevel mid) (level.List r) ls at read.levels;
+-- a level on top of others that aren't finished
+pub put_read : (old mid : List (Option Entry)) (l : Level) (xs ls : List Level) (f : ℕ → ℕ) → xs ≡ l ∷ ls → IsLevel mid l → AreRead mid ls → AreUnfinished mid ls → Covers old (λ h. level_holds l h + f h) → Moves old mid f (held_in ls) → AreRead mid xs
+put_read old mid l xs ls f is at read unfinished covers moves =
+    let k : AreRead mid (l ∷ ls) = record {
+      levels = All-cons (IsLevel mid) l ls at read.levels;
       below = unfinished;
-      covers = λ h. omega (arith, held_cons (level.List r) ls h, covers h, moves h, ap (λ (m : ℕ). holds m h) a);
+      covers = λ h. omega (arith, held_cons l ls h, covers h, moves h);
     } in
     subst (λ (ys : List Level). AreRead mid ys) (sym is) k
 
-pub put_moves : (old mid : List (Option Entry)) (r : Reader) (n : ℕ) (xs ls : List Level) (f : ℕ → ℕ) → xs ≡ level.List r ∷ ls → number r ≡ n → Moves old mid f (held_in ls) → Moves old mid (λ h. holds n h + f h) (held_in xs)
-put_moves old mid r n xs ls f is a moves h = omega (arith, held_cons (level.List r) ls h, moves h, ap (λ (m : ℕ). holds m h) a, ap (λ (ys : List Level). held_in ys h) is)
-
-pub fits_more : (s t : InputStack) → Fits s → length s.levels.items < s.size → length t.levels.items ≡ length s.levels.items + 1 → t.size ≡ s.size → vec_capacity t.levels ≡ vec_capacity s.levels → Fits t
-fits_more s t f some more size capacity = record {
-  within = omega (arith, some, more, size);
-  room = omega (arith, f.room, size, capacity);
-  small = omega (arith, f.small, size);
-}
+pub put_moves : (old mid : List (Option Entry)) (l : Level) (xs ls : List Level) (f : ℕ → ℕ) → xs ≡ l ∷ ls → Moves old mid f (held_in ls) → Moves old mid (λ h. level_holds l h + f h) (held_in xs)
+put_moves old mid l xs ls f is moves h = omega (arith, held_cons l ls h, moves h, ap (λ (ys : List Level). held_in ys h) is)

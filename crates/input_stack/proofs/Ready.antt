@@ -14,9 +14,11 @@ use Rattle.input_stack.specs.declared.level.Level.TheVariants as level
 use Rattle.input_stack.specs.Rest.{rest, number}
 use Rattle.input_stack.specs.Pending.{Pending, Below, plain_put}
 use Rattle.line_lexer.specs.declared.Ahead.{Ahead}
-use Rattle.input_stack.specs.Puts.{Item, next_item}
+use Rattle.input_stack.specs.Puts.{Item, Put, next_item, first, without_gaps, flat}
+use Rattle.input_stack.specs.CallViews.{put_of_call}
+use Rattle.input_stack.proofs.Gaps.{first_of, gaps_first, gaps_none}
 use Rattle.input_stack.specs.Pulls.{looks, is_ready, item_looks, item_ready, line_looks, line_ready, is_token, IsInBuffer}
-use Rattle.input_stack.specs.Levels.{level_looks, when_left, is_ahead, IsLevelInBuffer}
+use Rattle.input_stack.specs.Levels.{level_looks, when_left, when_met, is_ahead, IsLevelInBuffer}
 use Rattle.input_stack.specs.View.{pending_in, in_front}
 use Rattle.input_stack.specs.Standing.{IsLevel}
 
@@ -43,6 +45,14 @@ item_ready_is c b bs (Some x) = refl
 pub ready_is : (c b : List ℕ) (p : Pending) → is_ahead (looks c b p) ≡ is_ready c b p
 ready_is c b p = item_ready_is c b p.sources (next_item p.puts)
 
+items_some : (c b : List ℕ) (bs : List Below) (xs ys : List Item) (r : Ahead) → when_met (first xs) ≡ Some r → r ≡ item_looks c b bs (first_of xs ys)
+items_some c b bs [] ys r is = absurd (none-some r is)
+items_some c b bs (x ∷ xs) ys r is = sym (same_Some _ _ is)
+
+items_none : (xs : List Item) → when_met (first xs) ≡ None → xs ≡ []
+items_none [] is = refl
+items_none (x ∷ xs) is = absurd (none-some _ (sym is))
+
 list_some : (c b : List ℕ) (n : ℕ) (ts : List Token) (q : Pending) (r : Ahead) → when_left ts ≡ Some r → r ≡ looks c b (in_front (plain_put n ts) q)
 list_some c b n [] q r is = absurd (none-some r is)
 list_some c b n (t ∷ ts) q r is = sym (same_Some _ _ is)
@@ -51,20 +61,30 @@ list_none : (c b : List ℕ) (n : ℕ) (ts : List Token) (q : Pending) → when_
 list_none c b n [] q is = refl
 list_none c b n (t ∷ ts) q is = absurd (none-some _ (sym is))
 
+call_some : (c b : List ℕ) (p : Put) (q : Pending) (r : Ahead) → when_met (first (without_gaps p.items)) ≡ Some r → r ≡ looks c b (in_front p q)
+call_some c b p q r is = items_some c b q.sources (without_gaps p.items) (flat q.puts) r is ∙ ap (item_looks c b q.sources) (sym (gaps_first p.items (flat q.puts)))
+
+call_none : (c b : List ℕ) (p : Put) (q : Pending) → when_met (first (without_gaps p.items)) ≡ None → looks c b q ≡ looks c b (in_front p q)
+call_none c b p q is = ap (λ (xs : List Item). item_looks c b q.sources (first xs)) (sym (gaps_none p.items (flat q.puts) (items_none (without_gaps p.items) is)))
+
 level_some : (table : List (Option Entry)) (c b : List ℕ) (l : Level) (ls : List Level) (r : Ahead) → level_looks table c b l ≡ Some r → r ≡ looks c b (pending_in table (l ∷ ls))
 level_some table c b (level.List x) ls r is = list_some c b (number x) (rest table x) (pending_in table ls) r is
+level_some table c b (level.Call x) ls r is = call_some c b (put_of_call table x) (pending_in table ls) r is
 level_some table c b (level.Source s) ls r is = sym (same_Some _ _ is)
 
 level_none : (table : List (Option Entry)) (c b : List ℕ) (l : Level) (ls : List Level) → level_looks table c b l ≡ None → looks c b (pending_in table ls) ≡ looks c b (pending_in table (l ∷ ls))
 level_none table c b (level.List x) ls is = list_none c b (number x) (rest table x) (pending_in table ls) is
+level_none table c b (level.Call x) ls is = call_none c b (put_of_call table x) (pending_in table ls) is
 level_none table c b (level.Source s) ls is = absurd (none-some _ (sym is))
 
 under_in_buffer : (table : List (Option Entry)) (c b : List ℕ) (l : Level) (ls : List Level) (n : ℕ) → level_looks table c b l ≡ None → IsInBuffer (pending_in table (l ∷ ls)).sources n → IsInBuffer (pending_in table ls).sources n
 under_in_buffer table c b (level.List x) ls n is h = h
+under_in_buffer table c b (level.Call x) ls n is h = h
 under_in_buffer table c b (level.Source s) ls n is h = absurd (none-some _ (sym is))
 
 at_in_buffer : (table : List (Option Entry)) (l : Level) (ls : List Level) (n : ℕ) → IsInBuffer (pending_in table (l ∷ ls)).sources n → IsLevelInBuffer l n
 at_in_buffer table (level.List x) ls n h = tt
+at_in_buffer table (level.Call x) ls n h = tt
 at_in_buffer table (level.Source s) ls n h = h
 
 pub ready_some : (table : List (Option Entry)) (c b : List ℕ) (l : Level) (xs ls : List Level) (o : Option Ahead) (r : Ahead) → xs ≡ l ∷ ls → o ≡ level_looks table c b l → o ≡ Some r → r ≡ looks c b (pending_in table xs)

@@ -1,5 +1,5 @@
 -- What one level gives.
-use Rattle.std.specs.Prelude.{◌≡◌, ℕ, ◌≤◌, List, [], ◌∷◌, Option, None, Some, Bool, true, false}
+use Rattle.std.specs.Prelude.{◌≡◌, ℕ, ◌≤◌, List, [], ◌∷◌, Option, None, Some, Bool, true, false, map}
 use Rattle.plain_state.specs.Lex as plain
 use Rattle.line_lexer.specs.Answers.{state_of, rest_of, looks_of}
 use Rattle.line_lexer.specs.declared.Ahead.{Ahead}
@@ -13,9 +13,12 @@ use Rattle.input_stack.specs.declared.level.Source.{Source}
 use Rattle.input_stack.specs.declared.level.Pulled.{Pulled}
 use Rattle.input_stack.specs.declared.level.Pulled.TheVariants as pulled_as
 use Rattle.input_stack.specs.Rest.{rest, number, IsAt}
-use Rattle.input_stack.specs.Pulls.{LineGives}
+use Rattle.input_stack.specs.Pulls.{LineGives, token_in}
+use Rattle.input_stack.specs.declared.call.Call.{Call}
+use Rattle.input_stack.specs.Puts.{Item, Text, first, without_gaps, is_empty}
+use Rattle.input_stack.specs.CallViews.{items_of, CallGives, Closes}
 
-pub record ListGives (table : List (Option Entry)) (old new : List ℕ) (r : Reader) (after : Level) (result : Pulled) : Type 0 where
+pub record ListGives (table after_table : List (Option Entry)) (old new : List ℕ) (r : Reader) (after : Level) (result : Pulled) : Type 0 where
   pub reader : Reader
   pub token : Token
   pub is : after ≡ level.List reader
@@ -24,18 +27,63 @@ pub record ListGives (table : List (Option Entry)) (old new : List ℕ) (r : Rea
   pub gives : rest table r ≡ token ∷ rest table reader
   pub answer : result ≡ pulled_as.Token token
   pub bytes : new ≡ old
+  pub lists : after_table ≡ table
 
-pub record SourceGives (categories old new : List ℕ) (s : Source) (after : Level) (result : Pulled) : Type 0 where
+pub record SourceGives (table after_table : List (Option Entry)) (categories old new : List ℕ) (s : Source) (after : Level) (result : Pulled) : Type 0 where
   pub source : Source
   pub is : after ≡ level.Source source
   pub gives : LineGives categories old new s source result
+  pub lists : after_table ≡ table
 
-abbrev pub LevelPulls : List (Option Entry) → (categories old new : List ℕ) → Level → Level → Pulled → Type 0
-LevelPulls table categories old new (level.List r) after result = ListGives table old new r after result
-LevelPulls table categories old new (level.Source s) after result = SourceGives categories old new s after result
+-- a call's level closes
+pub record CallCloses (table after_table : List (Option Entry)) (c : Call) (after : Level) (result : Bool) : Type 0 where
+  pub call : Call
+  pub is : after ≡ level.Call call
+  pub closes : Closes table after_table c call result
+
+-- a call hands an item on
+pub record CallLevelGives (table after_table : List (Option Entry)) (old new : List ℕ) (c : Call) (after : Level) (result : Pulled) : Type 0 where
+  pub call : Call
+  pub is : after ≡ level.Call call
+  pub item : Item
+  pub left : List Item
+  pub next : without_gaps (items_of table c) ≡ item ∷ left
+  pub gives : CallGives table after_table c call item left
+  pub answer : result ≡ pulled_as.Token (token_in item)
+  pub bytes : new ≡ old
+
+abbrev pub LevelPulls : (table after_table : List (Option Entry)) → (categories old new : List ℕ) → Level → Level → Pulled → Type 0
+LevelPulls table after_table categories old new (level.List r) after result = ListGives table after_table old new r after result
+LevelPulls table after_table categories old new (level.Call c) after result = CallLevelGives table after_table old new c after result
+LevelPulls table after_table categories old new (level.Source s) after result = SourceGives table after_table categories old new s after result
+
+-- the next item of a list or a call that is no gap
+abbrev pub level_item : List (Option Entry) → Level → Option Item
+level_item table (level.List r) = first (map Text (rest table r))
+level_item table (level.Call c) = first (without_gaps (items_of table c))
+level_item table (level.Source s) = None
+
+-- of a list or a call nothing is left
+abbrev pub is_level_finished : List (Option Entry) → Level → Bool
+is_level_finished table (level.List r) = is_empty (map Text (rest table r))
+is_level_finished table (level.Call c) = is_empty (items_of table c)
+is_level_finished table (level.Source s) = false
+
+-- of a list or a call nothing is left but gaps
+abbrev pub is_level_passed : List (Option Entry) → Level → Bool
+is_level_passed table (level.List r) = is_empty (map Text (rest table r))
+is_level_passed table (level.Call c) = is_empty (without_gaps (items_of table c))
+is_level_passed table (level.Source s) = false
+
+-- an argument's level on a call goes, where no token is left of it
+abbrev pub LevelCloses : (table after_table : List (Option Entry)) → Level → Level → Bool → Type 0
+LevelCloses table after_table (level.List r) after result = (after ≡ level.List r) × (after_table ≡ table) × (result ≡ false)
+LevelCloses table after_table (level.Call c) after result = CallCloses table after_table c after result
+LevelCloses table after_table (level.Source s) after result = (after ≡ level.Source s) × (after_table ≡ table) × (result ≡ false)
 
 abbrev pub IsLevelInBuffer : Level → ℕ → Type 0
 IsLevelInBuffer (level.List r) n = Unit {0}
+IsLevelInBuffer (level.Call c) n = Unit {0}
 IsLevelInBuffer (level.Source s) n = (s.line.at ≤ s.line.end) × (s.line.end ≤ n)
 
 abbrev pub is_ahead : Ahead → Bool
@@ -48,7 +96,17 @@ abbrev pub when_left : List Token → Option Ahead
 when_left [] = None
 when_left (t ∷ ts) = Some ahead.Token
 
+abbrev pub when_met : Option Item → Option Ahead
+when_met None = None
+when_met (Some x) = Some ahead.Token
+
 -- what this level gives, where it gives something
 abbrev pub level_looks : List (Option Entry) → List ℕ → List ℕ → Level → Option Ahead
 level_looks table categories bytes (level.List r) = when_left (rest table r)
+level_looks table categories bytes (level.Call c) = when_met (first (without_gaps (items_of table c)))
 level_looks table categories bytes (level.Source s) = Some (looks_of (plain.lexed categories (state_of s.line.state) (rest_of bytes s.line)))
+
+-- a list or a call is on top of which nothing is left but gaps
+abbrev pub is_top_passed : List (Option Entry) → List Level → Bool
+is_top_passed table [] = false
+is_top_passed table (l ∷ ls) = is_level_passed table l

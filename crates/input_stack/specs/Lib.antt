@@ -3,9 +3,11 @@ pub mod Flat
 pub mod Calls
 pub mod Backs
 pub mod Rest
+pub mod CallViews
 pub mod Levels
 pub mod Pending
 pub mod Pulls
 pub mod View
 pub mod Standing
 pub mod Lasting
+pub mod Pushes

@@ -1,10 +1,10 @@
 -- What is pending: lists in front of the innermost line, and the open files and lines of `\read`, innermost first,
 -- each with the lists that stand in front of what is beneath it.
-use Rattle.std.specs.Prelude.{◌≡◌, ℕ, ◌+◌, List, [], ◌∷◌, ◌++◌, map, Option, None, Some, cond, nat_lt, sum_by}
+use Rattle.std.specs.Prelude.{◌≡◌, ℕ, ◌+◌, List, [], ◌∷◌, ◌++◌, map, Option, None, Some, cond, nat_lt, sum_by, nat_le, drop}
 use Rattle.tex_defs.specs.declared.Token.{Token}
 use Rattle.tex_defs.specs.declared.Full.{Full}
-use Rattle.tex_defs.specs.declared.Table.TheVariants.{InputStackSize}
-use Rattle.input_stack.specs.Puts.{Item, Text, Put, used, standing, settled, put_in_front, lists_of}
+use Rattle.tex_defs.specs.declared.Table.TheVariants.{InputStackSize, ParameterStackSize}
+use Rattle.input_stack.specs.Puts.{Item, Text, Put, used, used_arguments, standing, standing_arguments, settled, put_in_front, lists_of}
 use Rattle.token_lists.specs.Accounts.{holds}
 use Rattle.line_lexer.specs.declared.Line.{Line}
 use Rattle.world_io.specs.declared.traits.InId.{InId}
@@ -36,6 +36,14 @@ levels p = standing p.puts + levels_below p.sources
 abbrev pub used_levels : Pending → ℕ
 used_levels p = used p.puts + sum_by (λ b. 1 + used b.puts) p.sources
 
+-- the arguments of all calls that stand
+abbrev pub arguments : Pending → ℕ
+arguments p = standing_arguments p.puts + sum_by (λ b. standing_arguments b.puts) p.sources
+
+-- the arguments that are used
+abbrev pub used_parameters : Pending → ℕ
+used_parameters p = used_arguments p.puts + sum_by (λ b. used_arguments b.puts) p.sources
+
 -- a list of these tokens, without arguments
 abbrev pub plain_put : ℕ → List Token → Put
 plain_put n ts = record { list = n; arguments = []; reading = None; items = map Text ts }
@@ -43,6 +51,10 @@ plain_put n ts = record { list = n; arguments = []; reading = None; items = map 
 -- the finished lists at the top go
 abbrev pub settle : Pending → Pending
 settle p = with_puts (settled p.puts) p
+
+-- the list on top goes
+abbrev pub without_top : Pending → Pending
+without_top p = with_puts (drop 1 p.puts) p
 
 -- a list in front; one without tokens is none
 abbrev pub put : Put → Pending → Pending
@@ -60,6 +72,25 @@ room size used = cond (nat_lt used size) None (Some (levels_full used size))
 abbrev pub refusal : ℕ → List Item → Pending → Option Full
 refusal size [] p = None
 refusal size (x ∷ xs) p = room size (used_levels p)
+
+-- the refusal of a call's arguments
+abbrev pub parameters_full : ℕ → ℕ → Full
+parameters_full used size = record { table = ParameterStackSize; used = used; size = size }
+
+-- why there is no room for so many arguments more
+abbrev pub parameter_room : ℕ → ℕ → ℕ → Option Full
+parameter_room size used count = cond (nat_le (used + count) size) None (Some (parameters_full used size))
+
+-- the first refusal of two
+abbrev pub either : Option Full → Option Full → Option Full
+either None second = second
+either (Some full) second = Some full
+
+-- The refusal of a macro call with so many arguments and these items: the arguments are asked for before the level. A
+-- call without items needs none of them.
+abbrev pub call_refusal : (size parameter_size : ℕ) → ℕ → List Item → Pending → Option Full
+call_refusal size parameter_size count [] p = None
+call_refusal size parameter_size count (x ∷ xs) p = either (parameter_room parameter_size (used_parameters p) count) (room size (used_levels p))
 
 -- a file, or a line of `\read` without one, in front of all that is pending
 abbrev pub open_over : Option InId → Line → Pending → Pending

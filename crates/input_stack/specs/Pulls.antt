@@ -111,3 +111,14 @@ item_looks categories bytes bs None = line_looks categories bytes bs
 -- what comes next: a token from a list, or what the line gives, nothing more where there is no line
 abbrev pub looks : List ℕ → List ℕ → Pending → Ahead
 looks categories bytes p = item_looks categories bytes p.sources (next_item p.puts)
+
+-- what is next and what it leaves are the same
+pub record Passes (p q : Pending) : Type 0 where
+  pub next : next_item q.puts ≡ next_item p.puts
+  pub pulled : pulled q.puts ≡ pulled p.puts
+  pub sources : q.sources ≡ p.sources
+
+-- the next item is handed on, and where there is none the innermost line gives something
+abbrev pub PullsTop : (categories old new : List ℕ) → Pending → Pending → Option Item → Pulled → Type 0
+PullsTop categories old new p q (Some x) result = (result ≡ pulled_as.Token (token_in x)) × (q ≡ with_puts (pulled p.puts) p) × (new ≡ old)
+PullsTop categories old new p q None result = PullsFrom categories old new p.sources q.sources result × (q.puts ≡ [])

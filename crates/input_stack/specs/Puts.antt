@@ -56,6 +56,10 @@ when_some (x ∷ xs) n = n
 abbrev pub used_arguments : List Put → ℕ
 used_arguments puts = sum_by (λ p. when_some p.items (length p.arguments)) puts
 
+-- the arguments of the calls that stand, those that are finished too
+abbrev pub standing_arguments : List Put → ℕ
+standing_arguments puts = sum_by (λ p. length p.arguments) puts
+
 -- the levels that stand, those that are finished too
 abbrev pub standing_of : Put → ℕ
 standing_of p = 1 + count_of p.reading

@@ -1,6 +1,7 @@
 ghost use Rattle.token_lists.specs.Accounts.{Moves, Keeps, none};
 ghost use Rattle.input_stack.specs.Backs.{IsBegun, begun_holds};
 
+use crate::call::Call;
 use crate::reader::Reader;
 use line_lexer::{Lexed, Line};
 use tex_defs::Token;
@@ -14,10 +15,11 @@ pub struct Source {
     pub line: Line,
 }
 
-/// A level of input.
+/// A level of input. An argument that is being read has a level of its own, which stands on that of its call.
 #[derive(Debug)]
 pub enum Level {
     List(Reader),
+    Call(Call),
     Source(Source),
 }
 

@@ -4,11 +4,15 @@
 //! call; a level keeps a holder of its list, and is at the place of the next token.
 #![tactic(auto)]
 
+mod call;
 pub mod laws;
 pub mod level;
+mod levels;
 mod line;
+mod met;
 mod pull;
 mod reader;
+mod release;
 mod stack;
 #[cfg(test)]
 mod tests;

@@ -1,8 +1,9 @@
 // What one level gives.
-ghost use Rattle.std.specs.Prelude.{◌≡◌, length};
+ghost use Rattle.std.specs.Prelude.{◌≡◌, length, false};
 ghost use Rattle.input_stack.specs.Pulls.{answer_of};
 ghost use Rattle.input_stack.specs.Standing.{IsLevel, IsUnfinished};
-ghost use Rattle.input_stack.specs.Levels.{LevelPulls, IsLevelInBuffer, level_looks, is_ahead};
+ghost use Rattle.input_stack.specs.CallViews.{IsCountable};
+ghost use Rattle.input_stack.specs.Levels.{LevelPulls, IsLevelInBuffer, level_item, is_level_passed, level_looks, is_ahead};
 
 use crate::level::{Level, Pulled};
 use line_lexer::{Ahead, Lexed, looks, next};
@@ -21,21 +22,27 @@ fn line_answer(id: Option<InId>, lexed: Lexed) -> Pulled
     }
 }
 
-/// What an unfinished level gives.
+/// What an unfinished level gives, of which more is left than gaps.
 pub fn pull_level(
     level: &mut Level,
-    lists: &Lists,
+    lists: &mut Lists,
     bytes: &mut [u8],
     categories: &[u8; 256],
 ) -> Pulled
-    requires level { IsLevel lists.now level.old }
-    requires unfinished { IsUnfinished lists.now level.old }
+    requires level { IsLevel lists.old level.old }
+    requires unfinished { IsUnfinished lists.old level.old }
+    requires more { is_level_passed lists.old level.old ≡ false }
+    requires countable { IsCountable lists.old (level_item lists.old level.old) }
     requires in_buffer { IsLevelInBuffer level.old (length bytes.old) }
     ensures size { length bytes.new ≡ length bytes.old }
-    ensures pulls { LevelPulls lists.now categories.now bytes.old bytes.new level.old level.new result }
+    ensures pulls { LevelPulls lists.old lists.new categories.now bytes.old bytes.new level.old level.new result }
 {
     match level {
         Level::List(reader) => match reader.pull(lists) {
+            Some(token) => Pulled::Token(token),
+            None => Pulled::Bottom,
+        },
+        Level::Call(call) => match call.pull(lists) {
             Some(token) => Pulled::Token(token),
             None => Pulled::Bottom,
         },
@@ -59,6 +66,10 @@ pub fn level_looks(
 {
     match level {
         Level::List(reader) => match reader.peek(lists) {
+            Some(_) => Some(Ahead::Token),
+            None => None,
+        },
+        Level::Call(call) => match call.next(lists) {
             Some(_) => Some(Ahead::Token),
             None => None,
         },

@@ -1,12 +1,21 @@
 // A list that is being read.
-ghost use Rattle.std.specs.Prelude.{◌≡◌, ℕ, ◌<◌, [], ◌∷◌, MatchOption, slice_get};
+ghost use Rattle.std.specs.Prelude.{◌≡◌, ℕ, ◌<◌, ◌+◌, [], ◌∷◌, MatchOption, IsSome, drop, slice_get};
 ghost use Rattle.token_lists.specs.Table.{IsHeld, tokens_at};
 ghost use Rattle.token_lists.specs.Ids.{id_of};
+ghost use Rattle.token_lists.specs.Accounts.{IsReading};
 ghost use Rattle.input_stack.specs.Rest.{IsAt, rest, number};
+ghost use Rattle.input_stack.specs.Calls.{body_of};
 
 use mem_words::Place;
 use tex_defs::Token;
 use token_lists::{ListRef, Lists};
+
+/// A place in a list: that of a token, or past the last, and how many tokens stand before it.
+#[derive(Clone, Copy, Debug)]
+pub struct Spot {
+    at: Option<Place>,
+    read: u32,
+}
 
 /// A holder of a list, the place of the list's next token, and how many tokens were read.
 #[derive(Debug)]
@@ -21,6 +30,7 @@ impl Reader {
     pub fn new(lists: &Lists, list: ListRef) -> Reader
         requires { IsHeld lists.now (id_of list) }
         ensures same { number result ≡ id_of list }
+        ensures list { result.list ≡ list }
         ensures at_front { IsAt lists.now result }
         ensures whole { rest lists.now result ≡ tokens_at lists.now (id_of list) }
     {
@@ -43,6 +53,7 @@ impl Reader {
     pub fn pull(&mut self, lists: &Lists) -> Option<Token>
         requires { IsAt lists.now self.old }
         ensures same { number self.new ≡ number self.old }
+        ensures list { self.new.list ≡ self.old.list }
         ensures at_next { IsAt lists.now self.new }
         ensures token { MatchOption result (rest lists.now self.old ≡ []) (λ t. rest lists.now self.old ≡ t ∷ rest lists.now self.new) }
         ensures end { MatchOption result (self.new ≡ self.old) (λ _. Unit {0}) }
@@ -56,9 +67,73 @@ impl Reader {
         Some(token)
     }
 
+    /// Goes behind the first end mark of what is left: to a macro's body. Without one nothing is left.
+    pub fn skip_places(&mut self, lists: &Lists)
+        requires { IsAt lists.now self.old }
+        ensures same { number self.new ≡ number self.old }
+        ensures list { self.new.list ≡ self.old.list }
+        ensures at_next { IsAt lists.now self.new }
+        ensures body { rest lists.now self.new ≡ body_of (rest lists.now self.old) }
+    {
+        while let Some(token) = self.pull(lists) {
+            if let Token::EndPlaces = token {
+                return;
+            }
+        }
+    }
+
+    /// Where the next token stands.
+    pub fn spot(&self) -> Spot
+        ensures at { result.at ≡ self.now.at }
+        ensures read { result.read ≡ self.now.read }
+    {
+        Spot {
+            at: self.at,
+            read: self.read,
+        }
+    }
+
+    /// The token at a spot of the list, if one stands there.
+    pub fn at(&self, lists: &Lists, spot: Spot) -> Option<Token>
+        requires { IsReading lists.now (number self.now) spot.at spot.read }
+        ensures { result ≡ slice_get (drop spot.read (tokens_at lists.now (number self.now))) 0 }
+    {
+        match spot.at {
+            Some(place) => Some(lists.token(place)),
+            None => None,
+        }
+    }
+
+    /// The spot behind one where a token stands.
+    pub fn behind(&self, lists: &Lists, spot: Spot) -> Spot
+        requires reading { IsReading lists.now (number self.now) spot.at spot.read }
+        requires some { IsSome (slice_get (drop spot.read (tokens_at lists.now (number self.now))) 0) }
+        ensures reading { IsReading lists.now (number self.now) result.at result.read }
+        ensures read { result.read ≡ spot.read + 1 }
+    {
+        let Some(place) = spot.at else { return spot };
+        // No list is longer than the words in use, so that the count goes on.
+        let _words = lists.used();
+        Spot {
+            at: lists.next(place),
+            read: spot.read + 1,
+        }
+    }
+
+    /// Goes on at a spot of the list.
+    pub fn go_to(&mut self, spot: Spot)
+        ensures list { self.new.list ≡ self.old.list }
+        ensures at { self.new.at ≡ spot.at }
+        ensures read { self.new.read ≡ spot.read }
+    {
+        self.at = spot.at;
+        self.read = spot.read;
+    }
+
     /// The list, which is given back.
     pub fn into_list(self) -> ListRef
-        ensures { id_of result ≡ number self }
+        ensures same { id_of result ≡ number self }
+        ensures list { result ≡ self.list }
     {
         let Reader {
             list,

@@ -1,21 +1,29 @@
-ghost use Rattle.std.specs.Prelude.{◌≡◌, ℕ, ◌+◌, ◌≤◌, ◌<◌, List, Option, [], ◌∷◌, IfOk, IfErr, MatchOption, MatchResult, OnOk, OnErr, None, Some, map, false, IsTrue, length, vec_capacity};
+ghost use Rattle.std.specs.Prelude.{◌≡◌, ℕ, ◌+◌, ◌≤◌, ◌<◌, List, Option, [], ◌∷◌, IfOk, IfErr, MatchOption, MatchResult, OnOk, OnErr, None, Some, map, false, cond, IfSome, IsTrue, length, vec_capacity};
 ghost use Rattle.token_lists.specs.Table.{Entry, IsHeld, tokens_at, entry_at};
 ghost use Rattle.token_lists.specs.Ids.{id_of};
 ghost use Rattle.token_lists.specs.Accounts.{Moves, Keeps, Covers, none, holds};
-ghost use Rattle.input_stack.specs.Puts.{is_finished, Text};
-ghost use Rattle.input_stack.specs.Rest.{number};
-ghost use Rattle.input_stack.specs.Pending.{Pending, levels, settle, put, plain_put, refusal, room, used_levels, open_over, at_line, Ends};
+ghost use Rattle.macro_args.specs.Args.{IsFilled};
+ghost use Rattle.input_stack.specs.Puts.{is_finished, next_item, Text};
+ghost use Rattle.input_stack.specs.Calls.{call_put};
+ghost use Rattle.input_stack.specs.CallViews.{arguments_in, met, is_opening, opened, Shares, IsCountable};
+ghost use Rattle.input_stack.specs.Pushes.{pushed_holds, call_refused};
+ghost use Rattle.input_stack.specs.Levels.{is_top_passed};
+ghost use Rattle.input_stack.specs.Pending.{levels, arguments, used_parameters, without_top, either, parameter_room, settle, put, plain_put, refusal, room, used_levels, open_over, at_line, Ends};
 ghost use Rattle.input_stack.specs.Backs.{begun_holds, IsBegun, LacksMemory, PutsBack, Refuses};
-ghost use Rattle.input_stack.specs.View.{pending, held, innermost, IsSourceOnTop, level_at};
-ghost use Rattle.input_stack.specs.Pulls.{Pulls, IsInBuffer, looks, is_ready, is_line_end};
-ghost use Rattle.input_stack.specs.Standing.{Stands, Fits, AreUnfinished, AreRead};
-ghost use Rattle.input_stack.specs.Lasting.{Lasts};
-ghost use Rattle.input_stack.specs.declared.level.Level.TheVariants as level;
+ghost use Rattle.input_stack.specs.View.{pending, held, innermost, IsSourceOnTop, level_at, level_open, level_arguments};
+ghost use Rattle.input_stack.specs.Pulls.{Pulls, PullsTop, Passes, IsInBuffer, looks, is_ready, is_line_end};
+ghost use Rattle.input_stack.specs.Standing.{Stands, Fits, IsSized, AreUnfinished, AreRead};
+ghost use Rattle.input_stack.specs.Lasting.{Lasts, LastsBut};
 
+use crate::call::Call;
 use crate::level::{Begun, Level, Pulled, Source};
+use crate::levels::{argument_levels, arguments, close_argument, is_finished, is_passed, next_item, release};
+use crate::met::is_opening;
 use crate::pull::{is_token, level_looks, pull_level};
 use crate::reader::Reader;
+use crate::release::let_go;
 use line_lexer::{Ahead, Line};
+use macro_args::Args;
 use std::alloc::{AllocError, Global};
 use tex_defs::{Full, Sizes, Table, Token};
 use token_lists::{ListRef, Lists};
@@ -25,17 +33,12 @@ use world_io::InId;
 #[derive(Debug)]
 pub struct InputStack {
     levels: Vec<Level>,
+    // The levels of arguments, each on that of its call.
+    argument_levels: u32,
+    // The arguments of all calls.
+    arguments: u32,
     size: u32,
-}
-
-// Lets a holder of a list go.
-fn let_go(lists: &mut Lists, list: ListRef)
-    requires { IsHeld lists.old (id_of list) }
-    ensures account { Moves lists.old lists.new (holds (id_of list)) none }
-    ensures kept { Keeps lists.old lists.new (holds (id_of list)) }
-    ensures lasting { Lasts lists.old lists.new }
-{
-    lists.release(list);
+    parameter_size: u32,
 }
 
 // A list of one token.
@@ -57,6 +60,13 @@ fn begun(lists: &mut Lists, token: Token) -> Result<ListRef, (Full, Begun)>
     }
 }
 
+// How many levels go or come.
+fn one_if(test: bool) -> u32
+    ensures { result ≡ cond test 1 0 }
+{
+    if test { 1 } else { 0 }
+}
+
 // This file or line of `\read` goes on at a line.
 fn begin_at(level: &mut Level, line: Line)
     ensures { level.new ≡ level_at line level.old }
@@ -75,10 +85,29 @@ impl InputStack {
         ensures empty { IfOk result (λ s. innermost s ≡ []) }
         ensures stands { (table : List (Option Entry)) → IfOk result (Stands table) }
         ensures size { IfOk result (λ s. s.size ≡ sizes.now.input_stack_size) }
+        ensures parameter_size { IfOk result (λ s. s.parameter_size ≡ sizes.now.parameter_stack_size) }
     {
         let size = sizes.input_stack_size;
         let levels = Vec::with_capacity(alloc, size as usize)?;
-        Ok(InputStack { levels, size })
+        Ok(InputStack::without_levels(levels, size, sizes.parameter_stack_size))
+    }
+
+    // No level, in this room.
+    fn without_levels(levels: Vec<Level>, size: u32, parameter_size: u32) -> InputStack
+        requires none { levels.items ≡ [] }
+        requires room { size ≤ vec_capacity levels }
+        ensures stands { (table : List (Option Entry)) → Stands table result }
+        ensures empty { innermost result ≡ [] }
+        ensures size { result.size ≡ size }
+        ensures parameter_size { result.parameter_size ≡ parameter_size }
+    {
+        InputStack {
+            levels,
+            argument_levels: 0,
+            arguments: 0,
+            size,
+            parameter_size,
+        }
     }
 
     /// The levels that stand, those that are finished too.
@@ -86,7 +115,17 @@ impl InputStack {
         requires { Fits self.now }
         ensures { (table : List (Option Entry)) → result ≡ levels (pending table self.now) }
     {
-        self.levels.len() as u32
+        self.levels.len() as u32 + self.argument_levels
+    }
+
+    /// The arguments of all calls that stand, those that are finished too. Where nothing on top is finished, these are
+    /// what is used of the parameter stack.
+    pub fn arguments(&self) -> u32
+        requires { Fits self.now }
+        ensures standing { (table : List (Option Entry)) → Stands table self.now → result ≡ arguments (pending table self.now) }
+        ensures used { (table : List (Option Entry)) → Stands table self.now → is_finished (pending table self.now).puts ≡ false → result ≡ used_parameters (pending table self.now) }
+    {
+        self.arguments
     }
 
     // Whether nothing is left of the list on top.
@@ -95,43 +134,72 @@ impl InputStack {
         ensures { result ≡ is_finished (pending lists.now self.now).puts }
     {
         let count = self.levels.len();
-        if count == 0 {
-            return false;
-        }
-        match &self.levels[count - 1] {
-            Level::List(reader) => reader.peek(lists).is_none(),
-            Level::Source(_) => false,
-        }
+        count > 0 && is_finished(&self.levels[count - 1], lists)
     }
 
-    // Takes the list on top off.
-    fn pop(&mut self) -> Option<Reader>
-        ensures list { MatchOption result ((table : List (Option Entry)) → (pending table self.old).puts ≡ []) (λ r. innermost self.old ≡ level.List r ∷ innermost self.new) }
-        ensures size { self.new.size ≡ self.old.size }
-        ensures capacity { vec_capacity self.new.levels ≡ vec_capacity self.old.levels }
+    // Whether nothing is left of the list on top but gaps.
+    fn is_passed(&self, lists: &Lists) -> bool
+        requires { Stands lists.now self.now }
+        ensures { result ≡ is_top_passed lists.now (innermost self.now) }
     {
-        match self.levels.pop() {
-            Some(Level::List(reader)) => Some(reader),
-            Some(Level::Source(_)) => None,
-            None => None,
-        }
+        let count = self.levels.len();
+        count > 0 && is_passed(&self.levels[count - 1], lists)
     }
 
-    // The finished list on top goes.
+    // Takes the level on top off.
+    fn take(&mut self) -> Option<Level>
+        requires { Fits self.old }
+        ensures top { MatchOption result (innermost self.old ≡ []) (λ l. innermost self.old ≡ l ∷ innermost self.new) }
+        ensures fits { Fits self.new }
+        ensures fewer { IfSome result (λ _. length self.new.levels.items < length self.old.levels.items) }
+        ensures open_fewer { self.new.argument_levels ≤ self.old.argument_levels }
+        ensures sizes { IsSized self.old self.new }
+    {
+        let Some(level) = self.levels.pop() else {
+            return None;
+        };
+        self.argument_levels -= argument_levels(&level);
+        self.arguments -= arguments(&level);
+        Some(level)
+    }
+
+    // The list or the call on top goes, with what is left of it.
     fn drop_top(&mut self, lists: &mut Lists)
         requires stands { Stands lists.old self.old }
-        requires finished { IsTrue (is_finished (pending lists.old self.old).puts) }
+        requires in_front { 0 < length (pending lists.old self.old).puts }
         ensures stands { Stands lists.new self.new }
-        ensures settled { settle (pending lists.new self.new) ≡ settle (pending lists.old self.old) }
+        ensures beneath { AreUnfinished lists.new (innermost self.new) }
+        ensures after { pending lists.new self.new ≡ without_top (pending lists.old self.old) }
         ensures fewer { length self.new.levels.items < length self.old.levels.items }
+        ensures open_fewer { self.new.argument_levels ≤ self.old.argument_levels }
         ensures account { Moves lists.old lists.new (held self.old) (held self.new) }
         ensures kept { Keeps lists.old lists.new (held self.old) }
         ensures lasting { Lasts lists.old lists.new }
-        ensures size { self.new.size ≡ self.old.size }
+        ensures sizes { IsSized self.old self.new }
     {
-        if let Some(reader) = self.pop() {
-            let_go(lists, reader.into_list());
+        if let Some(level) = self.take() {
+            release(level, lists);
         }
+    }
+
+    // The argument's level on top goes, if no token is left of it.
+    fn close_argument(&mut self, lists: &mut Lists)
+        requires stands { Stands lists.old self.old }
+        requires unfinished { is_finished (pending lists.old self.old).puts ≡ false }
+        ensures stands { Stands lists.new self.new }
+        ensures after { pending lists.new self.new ≡ settle (pending lists.old self.old) }
+        ensures unfinished { AreUnfinished lists.new (innermost self.new) }
+        ensures account { Moves lists.old lists.new (held self.old) (held self.new) }
+        ensures kept { Keeps lists.old lists.new (held self.old) }
+        ensures lasting { Lasts lists.old lists.new }
+        ensures sizes { IsSized self.old self.new }
+    {
+        let count = self.levels.len();
+        if count == 0 {
+            return;
+        }
+        let closed = close_argument(&mut self.levels[count - 1], lists);
+        self.argument_levels -= one_if(closed);
     }
 
     /// The finished lists on top go, from the top down.
@@ -144,29 +212,70 @@ impl InputStack {
         ensures kept { Keeps lists.old lists.new (held self.old) }
         ensures lasting { Lasts lists.old lists.new }
         ensures size { self.new.size ≡ self.old.size }
+        ensures parameter_size { self.new.parameter_size ≡ self.old.parameter_size }
     {
         while self.is_finished(lists) {
             self.drop_top(lists);
         }
+        self.close_argument(lists);
     }
 
-    // Puts a level on top.
-    fn put(&mut self, level: Level)
-        requires { length self.old.levels.items < vec_capacity self.old.levels }
-        ensures list { innermost self.new ≡ level ∷ innermost self.old }
-        ensures more { length self.new.levels.items ≡ length self.old.levels.items + 1 }
-        ensures size { self.new.size ≡ self.old.size }
-        ensures capacity { vec_capacity self.new.levels ≡ vec_capacity self.old.levels }
+    // The lists and calls on top go of which nothing is left but gaps.
+    fn pass_gaps(&mut self, lists: &mut Lists)
+        requires stands { Stands lists.old self.old }
+        requires unfinished { AreUnfinished lists.old (innermost self.old) }
+        ensures stands { Stands lists.new self.new }
+        ensures unfinished { AreUnfinished lists.new (innermost self.new) }
+        ensures passed { is_top_passed lists.new (innermost self.new) ≡ false }
+        ensures same { Passes (pending lists.old self.old) (pending lists.new self.new) }
+        ensures fewer { length self.new.levels.items ≤ length self.old.levels.items }
+        ensures open_fewer { self.new.argument_levels ≤ self.old.argument_levels }
+        ensures account { Moves lists.old lists.new (held self.old) (held self.new) }
+        ensures kept { Keeps lists.old lists.new (held self.old) }
+        ensures lasting { Lasts lists.old lists.new }
+        ensures sizes { IsSized self.old self.new }
     {
+        while self.is_passed(lists) {
+            self.drop_top(lists);
+        }
+    }
+
+    // Whether the next item is an argument's first token.
+    fn is_opening(&self, lists: &Lists) -> bool
+        requires { Stands lists.now self.now }
+        ensures { result ≡ is_opening (met (next_item (pending lists.now self.now).puts)) }
+    {
+        let mut at = self.levels.len();
+        while at > 0 {
+            at -= 1;
+            let level = &self.levels[at];
+            if !is_passed(level, lists) {
+                return is_opening(next_item(level, lists));
+            }
+        }
+        false
+    }
+
+    // Puts a level on top, on which no argument's level stands.
+    fn put(&mut self, level: Level)
+        requires fits { Fits self.old }
+        requires room { length self.old.levels.items + self.old.argument_levels < self.old.size }
+        requires closed { level_open level ≡ 0 }
+        requires few { self.old.arguments + level_arguments level ≤ self.old.parameter_size }
+        ensures list { innermost self.new ≡ level ∷ innermost self.old }
+        ensures fits { Fits self.new }
+        ensures sizes { IsSized self.old self.new }
+    {
+        self.arguments += arguments(&level);
         self.levels.push_reserved(level);
     }
 
     // Why there is no room for one more level.
     fn full(&self) -> Option<Full>
         requires { Fits self.now }
-        ensures { result ≡ room self.now.size (length self.now.levels.items) }
+        ensures { result ≡ room self.now.size (length self.now.levels.items + self.now.argument_levels) }
     {
-        let used = self.levels.len() as u32;
+        let used = self.levels.len() as u32 + self.argument_levels;
         if used < self.size {
             return None;
         }
@@ -175,6 +284,14 @@ impl InputStack {
             used,
             size: self.size,
         })
+    }
+
+    // Why there is no room for an argument's level, if one opens.
+    fn opening_full(&self, opening: bool) -> Option<Full>
+        requires { Fits self.now }
+        ensures { result ≡ cond opening (room self.now.size (length self.now.levels.items + self.now.argument_levels)) None }
+    {
+        if opening { self.full() } else { None }
     }
 
     /// Why there is no room for one more level, once the finished lists on top have gone.
@@ -187,6 +304,7 @@ impl InputStack {
         ensures kept { Keeps lists.old lists.new (held self.old) }
         ensures lasting { Lasts lists.old lists.new }
         ensures size { self.new.size ≡ self.old.size }
+        ensures parameter_size { self.new.parameter_size ≡ self.old.parameter_size }
     {
         self.drop_finished(lists);
         self.full()
@@ -208,6 +326,7 @@ impl InputStack {
         ensures kept { MatchResult result (λ _. Keeps lists.old lists.new (λ h. holds (id_of list) h + held self.old h)) (λ _. Keeps lists.old lists.new (held self.old)) }
         ensures lasting { Lasts lists.old lists.new }
         ensures size { self.new.size ≡ self.old.size }
+        ensures parameter_size { self.new.parameter_size ≡ self.old.parameter_size }
     {
         if lists.first(&list).is_none() {
             let_go(lists, list);
@@ -219,6 +338,61 @@ impl InputStack {
         }
         let reader = Reader::new(lists, list);
         self.put(Level::List(reader));
+        Ok(())
+    }
+
+    // Why there is no room for the level of a call with so many arguments.
+    fn call_full(&self, count: u32) -> Option<Full>
+        requires fits { Fits self.now }
+        requires few { count ≤ 9 }
+        ensures { result ≡ either (parameter_room self.now.parameter_size self.now.arguments count) (room self.now.size (length self.now.levels.items + self.now.argument_levels)) }
+    {
+        if count > self.parameter_size - self.arguments {
+            return Some(Full {
+                table: Table::ParameterStackSize,
+                used: self.arguments,
+                size: self.parameter_size,
+            });
+        }
+        self.full()
+    }
+
+    /// Puts a macro's body in front, each parameter number replaced by its argument. The list is the macro's: its
+    /// parameter text, the end mark and its body. Nothing is copied, and a call without a body is let go.
+    ///
+    /// # Errors
+    /// Once the finished lists on top have gone: the arguments of all calls and these pass the parameter stack size, or
+    /// the levels are at the size of the input stack. The macro's list and the arguments are handed back.
+    pub fn push_macro(
+        &mut self,
+        lists: &mut Lists,
+        body: ListRef,
+        args: Args,
+    ) -> Result<(), (Full, ListRef, Args)>
+        requires stands { Stands lists.old self.old }
+        requires filled { IsFilled args }
+        requires held { Covers lists.old (λ h. pushed_holds body args h + held self.old h) }
+        ensures stands { Stands lists.new self.new }
+        ensures ok { OnOk result (pending lists.new self.new ≡ put (call_put (id_of body) (tokens_at lists.old (id_of body)) (arguments_in lists.old args)) (pending lists.old self.old)) }
+        ensures err { OnErr result (pending lists.new self.new ≡ settle (pending lists.old self.old)) }
+        ensures refused { MatchResult result (λ _. call_refused self.old lists.old body args ≡ None) (λ e. (call_refused self.old lists.old body args ≡ Some e.0) × (e.1 ≡ body) × (e.2 ≡ args)) }
+        ensures account { MatchResult result (λ _. Moves lists.old lists.new (λ h. pushed_holds body args h + held self.old h) (held self.new)) (λ _. Moves lists.old lists.new (held self.old) (held self.new)) }
+        ensures kept { MatchResult result (λ _. Keeps lists.old lists.new (λ h. pushed_holds body args h + held self.old h)) (λ _. Keeps lists.old lists.new (held self.old)) }
+        ensures lasting { Lasts lists.old lists.new }
+        ensures size { self.new.size ≡ self.old.size }
+        ensures parameter_size { self.new.parameter_size ≡ self.old.parameter_size }
+    {
+        let mut reader = Reader::new(lists, body);
+        reader.skip_places(lists);
+        if reader.peek(lists).is_none() {
+            release(Level::Call(Call::new(reader, args)), lists);
+            return Ok(());
+        }
+        self.drop_finished(lists);
+        if let Some(full) = self.call_full(args.count as u32) {
+            return Err((full, reader.into_list(), args));
+        }
+        self.put(Level::Call(Call::new(reader, args)));
         Ok(())
     }
 
@@ -238,6 +412,7 @@ impl InputStack {
         ensures account { MatchResult result (λ _. Moves lists.old lists.new (held self.old) (held self.new)) (λ e. Moves lists.old lists.new (held self.old) (λ h. begun_holds e.1 h + held self.new h)) }
         ensures kept { Keeps lists.old lists.new (held self.old) }
         ensures size { self.new.size ≡ self.old.size }
+        ensures parameter_size { self.new.parameter_size ≡ self.old.parameter_size }
     {
         self.drop_finished(lists);
         let list = match begun(lists, token) {
@@ -265,6 +440,7 @@ impl InputStack {
         ensures kept { Keeps lists.old lists.new (held self.old) }
         ensures lasting { Lasts lists.old lists.new }
         ensures size { self.new.size ≡ self.old.size }
+        ensures parameter_size { self.new.parameter_size ≡ self.old.parameter_size }
     {
         self.drop_finished(lists);
         if let Some(full) = self.full() {
@@ -281,6 +457,7 @@ impl InputStack {
         ensures stands { (table : List (Option Entry)) → Stands table self.old → Stands table self.new }
         ensures held { (h : ℕ) → held self.new h ≡ held self.old h }
         ensures size { self.new.size ≡ self.old.size }
+        ensures parameter_size { self.new.parameter_size ≡ self.old.parameter_size }
     {
         let count = self.levels.len();
         if count == 0 {
@@ -296,6 +473,7 @@ impl InputStack {
         ensures stands { (table : List (Option Entry)) → Stands table self.old → Stands table self.new }
         ensures held { (h : ℕ) → held self.new h ≡ held self.old h }
         ensures size { self.new.size ≡ self.old.size }
+        ensures parameter_size { self.new.parameter_size ≡ self.old.parameter_size }
     {
         let Some(level) = self.levels.pop() else {
             return None;
@@ -303,6 +481,7 @@ impl InputStack {
         match level {
             Level::Source(source) => source.id,
             Level::List(_reader) => unreachable!(),
+            Level::Call(_call) => unreachable!(),
         }
     }
 
@@ -319,21 +498,24 @@ impl InputStack {
     ) -> Result<Pulled, Full>
         requires stands { Stands lists.old self.old }
         requires in_buffer { IsInBuffer (pending lists.old self.old).sources (length bytes.old) }
+        requires countable { IsCountable lists.old (next_item (pending lists.old self.old).puts) }
         ensures stands { Stands lists.new self.new }
         ensures in_buffer { IsInBuffer (pending lists.new self.new).sources (length bytes.new) }
         ensures line_end { IsTrue (is_line_end result) → IsSourceOnTop (innermost self.new) }
         ensures pulls { Pulls self.old.size categories.now bytes.old bytes.new (pending lists.old self.old) (pending lists.new self.new) result }
         ensures account { Moves lists.old lists.new (held self.old) (held self.new) }
         ensures kept { Keeps lists.old lists.new (held self.old) }
-        ensures lasting { Lasts lists.old lists.new }
+        ensures lasting { LastsBut lists.old lists.new (opened (next_item (pending lists.old self.old).puts)) }
         ensures size { self.new.size ≡ self.old.size }
+        ensures parameter_size { self.new.parameter_size ≡ self.old.parameter_size }
     {
         self.drop_finished(lists);
-        let count = self.levels.len();
-        if count == 0 {
-            return Ok(Pulled::Bottom);
+        let opening = self.is_opening(lists);
+        if let Some(full) = self.opening_full(opening) {
+            return Err(full);
         }
-        Ok(pull_level(&mut self.levels[count - 1], lists, bytes, categories))
+        self.pass_gaps(lists);
+        Ok(self.pull_top(lists, bytes, categories, opening))
     }
 
     /// What the next pull gives: a token of a list or of the line, an invalid character, or nothing more of the line.
@@ -362,6 +544,36 @@ impl InputStack {
         is_token(self.looks(lists, bytes, categories))
     }
 
+    // What the level on top gives, of which more is left than gaps; nothing is pending where there is none.
+    fn pull_top(
+        &mut self,
+        lists: &mut Lists,
+        bytes: &mut [u8],
+        categories: &[u8; 256],
+        opening: bool,
+    ) -> Pulled
+        requires opening { opening ≡ is_opening (met (next_item (pending lists.old self.old).puts)) }
+        requires stands { Stands lists.old self.old }
+        requires unfinished { AreUnfinished lists.old (innermost self.old) }
+        requires passed { is_top_passed lists.old (innermost self.old) ≡ false }
+        requires room { IsTrue opening → length self.old.levels.items + self.old.argument_levels < self.old.size }
+        requires countable { IsCountable lists.old (next_item (pending lists.old self.old).puts) }
+        requires in_buffer { IsInBuffer (pending lists.old self.old).sources (length bytes.old) }
+        ensures stands { Stands lists.new self.new }
+        ensures bytes { length bytes.new ≡ length bytes.old }
+        ensures pulls { PullsTop categories.now bytes.old bytes.new (pending lists.old self.old) (pending lists.new self.new) (next_item (pending lists.old self.old).puts) result }
+        ensures shares { Shares lists.old lists.new (opened (next_item (pending lists.old self.old).puts)) }
+        ensures held { (h : ℕ) → held self.new h ≡ held self.old h + opened (next_item (pending lists.old self.old).puts) h }
+        ensures sizes { IsSized self.old self.new }
+    {
+        let count = self.levels.len();
+        if count == 0 {
+            return Pulled::Bottom;
+        }
+        self.argument_levels += one_if(opening);
+        pull_level(&mut self.levels[count - 1], lists, bytes, categories)
+    }
+
     // The level on top goes, if there is one.
     fn drop_level(&mut self, lists: &mut Lists) -> bool
         requires { AreRead lists.old (innermost self.old) }
@@ -374,10 +586,7 @@ impl InputStack {
         let Some(level) = self.levels.pop() else {
             return false;
         };
-        match level {
-            Level::List(reader) => let_go(lists, reader.into_list()),
-            Level::Source(_) => {}
-        }
+        release(level, lists);
         true
     }
 
@@ -389,7 +598,13 @@ impl InputStack {
     {
         let mut stack = self;
         while stack.drop_level(lists) {}
-        let InputStack { levels, size: _ } = stack;
+        let InputStack {
+            levels,
+            argument_levels: _,
+            arguments: _,
+            size: _,
+            parameter_size: _,
+        } = stack;
         levels.destroy_empty();
     }
 }

@@ -25,7 +25,10 @@ use Rattle.input_stack.specs.declared.level.Pulled.{Pulled as Given}
 use Rattle.input_stack.specs.declared.level.Pulled.TheVariants as given_as
 use Rattle.input_stack.specs.Rest.{number, rest}
 use Rattle.input_state.specs.HeldLists.{HeldLists, pending_of, ahead_of, front_ahead, line_rest, line_state, line_levels, IsLineIn}
-use Rattle.input_state.specs.HeldViews.{front, fronts, line_of, IsSingle}
+use Rattle.input_stack.specs.CallViews.{opened, IsCountable}
+use Rattle.input_stack.specs.Lasting.{Lasts, LastsBut}
+use Rattle.input_state.specs.HeldViews.{front, fronts, line_of, IsSingle, ArePlain, IsSimple}
+use Rattle.input_state.proofs.Levels.{is_plain_put, plain_is, plain_settled}
 use Rattle.input_state.specs.Reads.{Reads}
 use Rattle.input_state.specs.Given.{GivesMore}
 use Rattle.input_state.specs.Given as answers
@@ -64,16 +67,46 @@ top_none : (t : List (Option Entry)) (n : ℕ) (ts : List Token) (qs : List Put)
 top_none t n [] qs more is = more is
 top_none t n (u ∷ us) qs more is = absurd (none-some (Text u) (sym is))
 
-module _ (t s : List (Option Entry)) where
-  pub next_some : (ls : List Level) (x : Item) → next_item (pending_in s ls).puts ≡ Some x → IsNext t (pending_in s ls).puts x
-  next_some [] x is = absurd (none-some x is)
-  next_some (level.List r ∷ ls) x is = top_some t (number r) (rest s r) (pending_in s ls).puts x (next_some ls x) is
-  next_some (level.Source l ∷ ls) x is = absurd (none-some x is)
+module _ (t : List (Option Entry)) where
+  pub next_some : (ps : List Put) → ArePlain ps → (x : Item) → next_item ps ≡ Some x → IsNext t ps x
+  next_some [] a x is = absurd (none-some x is)
+  next_some (p ∷ ps) a x is =
+      let e = is_plain_put p a.0 in
+      subst (λ (q : Put). IsNext t (q ∷ ps) x) (sym e) (top_some t p.list (map token_in p.items) ps x (next_some ps a.1 x) (ap (λ (q : Put). next_item (q ∷ ps)) (sym e) ∙ is))
 
-  pub next_none : (ls : List Level) → next_item (pending_in s ls).puts ≡ None → plain.settled (fronts t (pending_in s ls).puts) ≡ []
-  next_none [] is = refl
-  next_none (level.List r ∷ ls) is = top_none t (number r) (rest s r) (pending_in s ls).puts (next_none ls) is
-  next_none (level.Source l ∷ ls) is = refl
+  pub next_none : (ps : List Put) → ArePlain ps → next_item ps ≡ None → plain.settled (fronts t ps) ≡ []
+  next_none [] a is = refl
+  next_none (p ∷ ps) a is =
+      let e = is_plain_put p a.0 in
+      subst (λ (q : Put). plain.settled (fronts t (q ∷ ps)) ≡ []) (sym e) (top_none t p.list (map token_in p.items) ps (next_none ps a.1) (ap (λ (q : Put). next_item (q ∷ ps)) (sym e) ∙ is))
+
+-- no argument's first token is next
+pub none_opens : (ps : List Put) → ArePlain ps → (o : Option Item) → next_item ps ≡ o → (h : ℕ) → opened o h ≡ 0
+none_opens ps a None is h = refl
+none_opens ps a (Some x) is h =
+    let k = next_some [] ps a x is in
+    ap (λ (y : Item). opened (Some y) h) k.is
+
+pub plain_countable : (table : List (Option Entry)) (ps : List Put) → ArePlain ps → (o : Option Item) → next_item ps ≡ o → IsCountable table o
+plain_countable table ps a None is = tt
+plain_countable table ps a (Some x) is =
+    let k = next_some [] ps a x is in
+    subst (λ (y : Item). IsCountable table (Some y)) (sym k.is) tt
+
+pub plain_lasts : (old new : List (Option Entry)) (ps : List Put) → ArePlain ps → LastsBut old new (opened (next_item ps)) → Lasts old new
+plain_lasts old new ps a l = record { size = l.size; fewer = λ h. omega (arith, l.fewer h, none_opens ps a (next_item ps) refl h); tokens = l.tokens }
+
+-- what is left of plain lists is plain
+plain_rest : (p : Put) (t : Token) (ts : List Token) (ps : List Put) → ArePlain ps → ArePlain (pulled (plain_put p.list (t ∷ ts) ∷ ps))
+plain_rest p t ts ps a = (plain_is p.list ts, a)
+
+plain_next : (p : Put) (ts : List Token) (ps : List Put) → ArePlain ps → ArePlain (pulled ps) → ArePlain (pulled (plain_put p.list ts ∷ ps))
+plain_next p [] ps a b = b
+plain_next p (t ∷ ts) ps a b = plain_rest p t ts ps a
+
+pub plain_pulled : (ps : List Put) → ArePlain ps → ArePlain (pulled ps)
+plain_pulled [] a = tt
+plain_pulled (p ∷ ps) a = subst (λ (q : Put). ArePlain (pulled (q ∷ ps))) (sym (is_plain_put p a.0)) (plain_next p (map token_in p.items) ps a.1 (plain_pulled ps a.1))
 
 -- WHAT COMES NEXT
 
@@ -85,7 +118,7 @@ line_ahead : (c b : List ℕ) (bs : List Below) → line_looks c b bs ≡ looks_
 line_ahead c b [] = sym (ap looks_of (nothing_left c lex.NewLine))
 line_ahead c b (x ∷ xs) = refl
 
-module _ (t s : List (Option Entry)) (c b : List ℕ) (ls : List Level) (p : plain.Pending) (puts : p.puts ≡ fronts t (pending_in s ls).puts) (line : p.line ≡ line_rest b (line_of (pending_in s ls).sources)) (state : p.lex ≡ line_state (line_of (pending_in s ls).sources)) where
+module _ (t s : List (Option Entry)) (c b : List ℕ) (ls : List Level) (p : plain.Pending) (texts : ArePlain (pending_in s ls).puts) (puts : p.puts ≡ fronts t (pending_in s ls).puts) (line : p.line ≡ line_rest b (line_of (pending_in s ls).sources)) (state : p.lex ≡ line_state (line_of (pending_in s ls).sources)) where
   front_is : (ps : List plain.Put) → plain.settled (fronts t (pending_in s ls).puts) ≡ ps → ahead_of c p ≡ front_ahead c p ps
   front_is ps e = ap (λ (qs : List plain.Put). front_ahead c p (plain.settled qs)) puts ∙ ap (front_ahead c p) e
 
@@ -93,9 +126,9 @@ module _ (t s : List (Option Entry)) (c b : List ℕ) (ls : List Level) (p : pla
   line_is = line_ahead c b (pending_in s ls).sources ∙ ap₂ (λ (x : lex.LineState) (l : List ℕ). looks_of (lexed c x l)) (sym state) (sym line)
 
   pub item_ahead : (o : Option Item) → next_item (pending_in s ls).puts ≡ o → item_looks c b (pending_in s ls).sources o ≡ ahead_of c p
-  item_ahead None is = line_is ∙ sym (front_is [] (next_none t s ls is))
+  item_ahead None is = line_is ∙ sym (front_is [] (next_none t (pending_in s ls).puts texts is))
   item_ahead (Some x) is =
-      let k = next_some t s ls x is in
+      let k = next_some t (pending_in s ls).puts texts x is in
       sym (front_is (k.put ∷ k.below) k.first)
 
   pub looks_are : looks c b (pending_in s ls) ≡ ahead_of c p
@@ -155,7 +188,7 @@ module _ (c b d : List ℕ) (sizes : Sizes) (p : plain.Pending) (front_none : pl
 abbrev pub seen : List (Option Entry) → Pending → List ℕ → List ℕ → plain.Progress → ℕ → plain.Pending
 seen t p bytes left file number = record { puts = fronts t p.puts; line = line_rest bytes (line_of p.sources); lex = line_state (line_of p.sources); rest = left; file = file; number = number }
 
-module _ (t s : List (Option Entry)) (c b d : List ℕ) (ls : List Level) (q : Pending) (sizes : Sizes) (left : List ℕ) (file : plain.Progress) (num : ℕ) (more : ahead_of c (seen t (pending_in s ls) b left file num) ≢ ahead.End) (same : length d ≡ length b) where
+module _ (t s : List (Option Entry)) (c b d : List ℕ) (ls : List Level) (q : Pending) (texts : ArePlain (pending_in s ls).puts) (sizes : Sizes) (left : List ℕ) (file : plain.Progress) (num : ℕ) (more : ahead_of c (seen t (pending_in s ls) b left file num) ≢ ahead.End) (same : length d ≡ length b) where
   text_reads : (x : Item) (r : Result Given Full) → IsNext t (pending_in s ls).puts x → r ≡ Ok (given_as.Token (token_in x)) → q ≡ with_puts (pulled (pending_in s ls).puts) (pending_in s ls) → d ≡ b → IsRead c d sizes (seen t (pending_in s ls) b left file num) (seen t q d left file num) r
   text_reads x r k is after bytes =
       let pp = seen t (pending_in s ls) b left file num in
@@ -188,12 +221,12 @@ module _ (t s : List (Option Entry)) (c b d : List ℕ) (ls : List Level) (q : P
       subst (λ (z : plain.Pending). IsRead c d sizes pp z (Ok r)) then_pending k
 
   item_reads : (size : ℕ) (o : Option Item) (r : Result Given Full) → next_item (pending_in s ls).puts ≡ o → PullsItem size c b d (pending_in s ls) q o r → IsLineIn (line_of (pending_in s ls).sources) (length b) → IsRead c d sizes (seen t (pending_in s ls) b left file num) (seen t q d left file num) r
-  item_reads size None (Ok r) is h inside = source_seen (pending_in s ls).sources refl r h.0.0 h.0.1 (next_none t s ls is) inside
+  item_reads size None (Ok r) is h inside = source_seen (pending_in s ls).sources refl r h.0.0 h.0.1 (next_none t (pending_in s ls).puts texts is) inside
   item_reads size None (Err f) is h inside =
       let e = h.1 in
       cc
   item_reads size (Some x) r is h inside =
-      let k = next_some t s ls x is in
+      let k = next_some t (pending_in s ls).puts texts x is in
       let hands : HandsOn b d (pending_in s ls) q x None r = subst (λ (y : Item). HandsOn b d (pending_in s ls) q x (refused_at size y (pending_in s ls)) r) k.is h in
       text_reads x r k hands.0 hands.1 hands.2
 
@@ -220,6 +253,20 @@ item_single size c b d p q None (Err f) h =
 
 pub pull_single : (size : ℕ) (c b d : List ℕ) (p q : Pending) (r : Result Given Full) → Pulls size c b d p q r → (IsSingle p.sources → IsSingle q.sources) × (line_levels (line_of q.sources) ≡ line_levels (line_of p.sources))
 pull_single size c b d p q r h = item_single size c b d p q (next_item p.puts) r h
+
+hands_plain : (b d : List ℕ) (p q : Pending) (x : Item) (o : Option Full) (r : Result Given Full) → ArePlain p.puts → HandsOn b d p q x o r → ArePlain q.puts
+hands_plain b d p q x None r a h = subst (λ (z : Pending). ArePlain z.puts) (sym h.1) (plain_pulled p.puts a)
+hands_plain b d p q x (Some f) r a h = subst (λ (z : Pending). ArePlain z.puts) (sym h.1) (plain_settled p.puts a)
+
+item_plain : (size : ℕ) (c b d : List ℕ) (p q : Pending) (o : Option Item) (r : Result Given Full) → ArePlain p.puts → PullsItem size c b d p q o r → ArePlain q.puts
+item_plain size c b d p q (Some x) r a h = hands_plain b d p q x (refused_at size x p) r a h
+item_plain size c b d p q None (Ok r) a h = subst ArePlain (sym h.0.1) tt
+item_plain size c b d p q None (Err f) a h =
+    let e = h.1 in
+    cc
+
+pub pull_simple : (size : ℕ) (c b d : List ℕ) (p q : Pending) (r : Result Given Full) → Pulls size c b d p q r → IsSimple p → IsSimple q
+pull_simple size c b d p q r h a = record { single = (pull_single size c b d p q r h).0 a.single; plain = item_plain size c b d p q (next_item p.puts) r a.plain h }
 
 -- the same, as the views say it
 pub same_reads : (c b d left : List ℕ) (file : plain.Progress) (num : ℕ) (old v now n : HeldLists) (a r : answered.Pulled) → old ≡ v → n ≡ now → a ≡ r → Reads (plain.pulled c (pending_of old b left file num)) r old.sizes (pending_of old b left file num) (pending_of now d left file num) d →

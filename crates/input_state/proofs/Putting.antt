@@ -12,13 +12,13 @@ use Rattle.token_lists.specs.Table.{Entry, tokens_at}
 use Rattle.token_lists.specs.Accounts.{holds, Moves, Keeps}
 use Rattle.input_stack.specs.Puts.{Put, Text, put_in_front}
 use Rattle.input_stack.specs.Pending.{Pending, put, plain_put, refusal, room, used_levels}
-use Rattle.input_stack.specs.View.{pending, held, innermost}
+use Rattle.input_stack.specs.View.{pending, held}
 use Rattle.input_stack.specs.Standing.{Stands}
 use Rattle.input_stack.specs.Lasting.{Lasts}
 use Rattle.input_stack.specs.declared.stack.InputStack.{InputStack}
 use Rattle.input_state.specs.HeldLists.{HeldLists, made, level_held}
-use Rattle.input_state.specs.HeldViews.{fronts, text, line_of, lists_of, builds, IsSingle, IsShared, IsSound}
-use Rattle.input_state.proofs.Levels.{texts_back, fronts_settled, levels_used}
+use Rattle.input_state.specs.HeldViews.{fronts, text, line_of, lists_of, builds, IsSimple, IsShared, IsSound}
+use Rattle.input_state.proofs.Levels.{texts_back, fronts_settled, levels_used, simple_put}
 use Rattle.input_state.proofs.Sharing.{Moved, moved, built_cons}
 use Rattle.input_state.proofs.ListViews.{held_lists, moved_view}
 use Rattle.input_state.proofs.Refusing.{levels_refused}
@@ -41,7 +41,7 @@ module _ (old new : List (Option Entry)) (s t : InputStack) (a : Build) (gathere
     moved_now : Moved old new t (reverse gathered)
     moved_now =
         moved old new s t (a ∷ []) (reverse gathered) shared_now stands
-        (subst (λ (p : Pending). IsSingle p.sources) (sym after) sound.shared.single)
+        (subst (λ (p : Pending). IsSimple p) (sym after) (simple_put n (tokens_at old n) (pending old s) sound.shared.simple))
         (λ h. omega (arith, moves h, built_cons a [] h, keeps_now h))
         (record { tokens = λ h l. keeps.tokens h (omega (arith, l, built_cons a [] h, keeps_now h)); places = λ h l. keeps.places h (omega (arith, l, built_cons a [] h, keeps_now h)) })
         lasts
@@ -74,5 +74,5 @@ module _ (old new : List (Option Entry)) (s t : InputStack) (a : Build) (gathere
   -- the levels have room
   pub put_fits : (v : HeldLists) (f : Full) → lists_of old (pending old s) making gathered sizes ≡ v → refused v.sizes (level_held v ∷ []) ≡ None → refusal s.size (map Text (tokens_at old n)) (pending old s) ≡ Some f → ⊥
   put_fits v f is fits refuses =
-      let none = levels_refused sizes (used_levels (pending old s)) _ s.size (levels_used old old (innermost s) sound.shared.single) sound.levels ∙ ap (λ (w : HeldLists). refused w.sizes (level_held w ∷ [])) is ∙ fits in
+      let none = levels_refused sizes (used_levels (pending old s)) _ s.size (levels_used old (pending old s) sound.shared.simple) sound.levels ∙ ap (λ (w : HeldLists). refused w.sizes (level_held w ∷ [])) is ∙ fits in
       none-some f (sym (refusal_none (tokens_at old n) (pending old s) s.size none) ∙ refuses)

@@ -18,7 +18,7 @@ use Rattle.input_stack.specs.declared.stack.InputStack.{InputStack}
 use Rattle.input_stack.proofs.Helds.{others}
 use Rattle.input_stack.proofs.Kept.{holds_itself}
 use Rattle.input_state.specs.Changes.{IsOnly}
-use Rattle.input_state.specs.HeldViews.{fronts, text, built, IsShared, IsSingle}
+use Rattle.input_state.specs.HeldViews.{fronts, text, built, IsShared, IsSimple}
 use Rattle.input_state.proofs.Levels.{fronts_stay}
 
 -- the lists that are held so often are as they were
@@ -145,7 +145,7 @@ module _ (old new : List (Option Entry)) (stack : InputStack) (xs zs us ys : Lis
   changed = record {
     shared = record {
       stands = stand.0;
-      single = subst (λ (p : Pending). IsSingle p.sources) (sym stand.1) shared.single;
+      simple = subst (λ (p : Pending). IsSimple p) (sym stand.1) shared.simple;
       building = now_building;
       counted = λ h. omega (arith, shared.counted h, moves h, parts zs h, parts us h);
       sole = only_sole old new id only shared.sole sole;
@@ -164,7 +164,7 @@ pub record Moved (old new : List (Option Entry)) (t : InputStack) (bs : List Bui
   pub in_front : fronts new (pending new t).puts ≡ fronts old (pending new t).puts
   pub texts : map (text new) bs ≡ map (text old) bs
 
-module _ (old new : List (Option Entry)) (s t : InputStack) (zs bs : List Build) (shared : IsShared old s (zs ++ bs)) (stands : Stands new t) (single : IsSingle (pending new t).sources) (moves : (h : ℕ) → holders_at new h + (built zs h + held s h) ≡ holders_at old h + held t h) (keeps : Keeps old new (λ h. built zs h + held s h)) (lasts : Lasts old new) where
+module _ (old new : List (Option Entry)) (s t : InputStack) (zs bs : List Build) (shared : IsShared old s (zs ++ bs)) (stands : Stands new t) (simple : IsSimple (pending new t)) (moves : (h : ℕ) → holders_at new h + (built zs h + held s h) ≡ holders_at old h + held t h) (keeps : Keeps old new (λ h. built zs h + held s h)) (lasts : Lasts old new) where
   built_stay : Stay old new (built bs)
   built_stay = record {
     tokens = λ h some. keeps.tokens h (omega (arith, some, shared.counted h, built_append zs bs h));
@@ -179,7 +179,7 @@ module _ (old new : List (Option Entry)) (s t : InputStack) (zs bs : List Build)
   moved = record {
     shared = record {
       stands = stands;
-      single = single;
+      simple = simple;
       building = building_stays old new bs built_stay (all_right old zs bs shared.building);
       counted = counted_now;
       sole = λ h. omega (arith, shared.sole h, lasts.fewer h);

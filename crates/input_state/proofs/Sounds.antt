@@ -22,8 +22,8 @@ use Rattle.input_stack.specs.declared.level.Level.{Level}
 use Rattle.input_stack.proofs.Kept.{holds_itself}
 use Rattle.input_state.specs.Changes.{IsOnly}
 use Rattle.input_state.specs.HeldLists.{HeldLists, words_held}
-use Rattle.input_state.specs.HeldViews.{text, made_text, line_of, lists_of, builds, built, IsSingle, IsShared, IsSound}
-use Rattle.input_state.proofs.Levels.{fronts_settled}
+use Rattle.input_state.specs.HeldViews.{text, made_text, line_of, lists_of, builds, built, IsSingle, IsSimple, ArePlain, IsShared, IsSound}
+use Rattle.input_state.proofs.Levels.{fronts_settled, simple_settled}
 use Rattle.input_state.proofs.Sharing.{Changed, Moved, changed, moved, built_cons, all_right}
 use Rattle.input_state.proofs.ListViews.{held_lists, reverse_push, moved_view}
 use Rattle.input_state.proofs.Words.{words_are, gathered_few}
@@ -97,26 +97,26 @@ module _ (old new : List (Option Entry)) (s t : InputStack) (making : Option Bui
   keeps_none : Keeps old new (λ h. built [] h + held s h)
   keeps_none = record { tokens = λ h l. keeps.tokens h (omega (arith, l)); places = λ h l. keeps.places h (omega (arith, l)) }
 
-  pub levels_moved : IsSingle (pending new t).sources → Moved old new t (builds making gathered)
-  levels_moved single = moved old new s t [] (builds making gathered) sound.shared stands single (λ h. omega (arith, moves h)) keeps_none lasts
+  pub levels_moved : IsSimple (pending new t) → Moved old new t (builds making gathered)
+  levels_moved simple = moved old new s t [] (builds making gathered) sound.shared stands simple (λ h. omega (arith, moves h)) keeps_none lasts
 
-  pub levels_sound : IsSingle (pending new t).sources → IsSound new t making gathered sizes capacity
-  levels_sound single = record {
-    shared = (levels_moved single).shared;
+  pub levels_sound : IsSimple (pending new t) → IsSound new t making gathered sizes capacity
+  levels_sound simple = record {
+    shared = (levels_moved simple).shared;
     memory = lasts.size ∙ sound.memory;
     levels = size ∙ sound.levels;
     room = sound.room;
   }
 
-  settled_single : pending new t ≡ settle (pending old s) → IsSingle (pending new t).sources
-  settled_single after = subst (λ (p : Pending). IsSingle p.sources) (sym after) sound.shared.single
+  settled_simple : pending new t ≡ settle (pending old s) → IsSimple (pending new t)
+  settled_simple after = subst (λ (p : Pending). IsSimple p) (sym after) (simple_settled (pending old s) sound.shared.simple)
 
   pub settled_sound : pending new t ≡ settle (pending old s) → IsSound new t making gathered sizes capacity
-  settled_sound after = levels_sound (settled_single after)
+  settled_sound after = levels_sound (settled_simple after)
 
   pub settled_view : (v : HeldLists) → lists_of old (pending old s) making gathered sizes ≡ v → pending new t ≡ settle (pending old s) → lists_of new (pending new t) making gathered sizes ≡ record v { puts = plain.settled v.puts }
   settled_view v is after =
-      moved_view old new t making gathered sizes (levels_moved (settled_single after))
+      moved_view old new t making gathered sizes (levels_moved (settled_simple after))
       ∙ ap (λ (p : Pending). lists_of old p making gathered sizes) after
       ∙ ap (λ (ps : List plain.Put). held_lists ps (made_text old making) (map (text old) (reverse gathered)) (line_of (pending old s).sources) sizes) (fronts_settled old (pending old s).puts)
       ∙ ap (λ (w : HeldLists). record w { puts = plain.settled w.puts }) is
@@ -124,11 +124,11 @@ module _ (old new : List (Option Entry)) (s t : InputStack) (making : Option Bui
 -- THE LEVELS ALONE
 
 module _ (table : List (Option Entry)) (s t : InputStack) (making : Option Build) (gathered : List Build) (sizes : Sizes) (capacity : ℕ) (sound : IsSound table s making gathered sizes capacity) (stands : Stands table t) (held_same : (h : ℕ) → held t h ≡ held s h) (size : t.size ≡ s.size) where
-  pub line_sound : IsSingle (pending table t).sources → IsSound table t making gathered sizes capacity
-  line_sound single = record {
+  pub line_sound : IsSimple (pending table t) → IsSound table t making gathered sizes capacity
+  line_sound simple = record {
     shared = record {
       stands = stands;
-      single = single;
+      simple = simple;
       building = sound.shared.building;
       counted = λ h. omega (arith, sound.shared.counted h, held_same h);
       sole = sound.shared.sole;
@@ -143,16 +143,16 @@ single_at line [] single = tt
 single_at line (b ∷ []) single = single
 single_at line (b ∷ c ∷ bs) single = absurd single
 
-pub line_single : (p q : Pending) (line : Line) → IsSingle p.sources → q ≡ at_line line p → IsSingle q.sources
-line_single p q line single is = subst (λ (r : Pending). IsSingle r.sources) (sym is) (single_at line p.sources single)
+pub line_simple : (p q : Pending) (line : Line) → IsSimple p → q ≡ at_line line p → IsSimple q
+line_simple p q line simple is = subst (λ (r : Pending). IsSimple r) (sym is) (record { single = single_at line p.sources simple.single; plain = simple.plain })
 
-ends_single : (bs : List Below) (q : Pending) (id : Option InId) → IsSingle bs → EndsIn bs q id → IsSingle q.sources
+ends_single : (bs : List Below) (q : Pending) (id : Option InId) → IsSingle bs → EndsIn bs q id → IsSimple q
 ends_single [] q id single ends = absurd ends
-ends_single (b ∷ []) q id single ends = subst (λ (r : Pending). IsSingle r.sources) (sym ends.1) tt
+ends_single (b ∷ []) q id single ends = subst (λ (r : Pending). IsSimple r) (sym ends.1) (record { single = tt; plain = subst ArePlain (sym single) tt })
 ends_single (b ∷ c ∷ bs) q id single ends = absurd single
 
-pub end_single : (p q : Pending) (id : Option InId) → IsSingle p.sources → Ends p q id → IsSingle q.sources
-end_single p q id single ends = ends_single p.sources q id single ends
+pub end_simple : (p q : Pending) (id : Option InId) → IsSimple p → Ends p q id → IsSimple q
+end_simple p q id simple ends = ends_single p.sources q id simple.single ends
 
 -- NO LISTS
 
@@ -166,7 +166,7 @@ new_sound table stack items sizes capacity is empty stands size none room =
     let zero_at : (h : ℕ) → holders_at table h ≡ 0 = λ h. ap (λ (t : List (Option Entry)). holders_at t h) is ∙ ap holders_of (none_at sizes.main_memory_size h) in
     let s : IsShared table stack [] = record {
       stands = stands;
-      single = subst (λ (ls : List Level). IsSingle (pending_in table ls).sources) (sym empty) tt;
+      simple = subst (λ (ls : List Level). IsSimple (pending_in table ls)) (sym empty) (record { single = tt; plain = tt });
       building = All-nil (IsBuilding table);
       counted = λ h. omega (arith, zero_at h, ap (λ (ls : List Level). held_in ls h) empty);
       sole = λ h. omega (arith, zero_at h);

@@ -38,7 +38,7 @@ words_are table stack making gathered sizes shared =
     let ns = held_lists (pending table stack) in
     let ms = map build_id bs in
     let counted = words_counted table (ns ++ ms) (λ h. omega (arith, shared.counted h, held_puts table (innermost stack) h, build_times bs h, sum_by-append (λ (n : ℕ). holds n h) ns ms)) shared.sole in
-    omega (arith, counted, sum_by-append (words_at table) ns ms, held_words table table (innermost stack) shared.single, build_words table bs, all_words table making (reverse gathered))
+    omega (arith, counted, sum_by-append (words_at table) ns ms, held_words table (pending table stack) shared.simple, build_words table bs, all_words table making (reverse gathered))
 
 -- a list takes a word
 few : (us : List (List Token)) → length us ≤ lists_words us

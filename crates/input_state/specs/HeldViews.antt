@@ -8,7 +8,7 @@ use Rattle.token_lists.specs.declared.Build.{Build}
 use Rattle.token_lists.specs.Ids.{build_id, IsBuilding}
 use Rattle.token_lists.specs.Table.{Entry, tokens_at, holders_at}
 use Rattle.token_lists.specs.Accounts.{holds}
-use Rattle.input_stack.specs.Puts.{Put}
+use Rattle.input_stack.specs.Puts.{Put, Text}
 use Rattle.input_stack.specs.Pending.{Pending, Below}
 use Rattle.input_stack.specs.Pulls.{token_in}
 use Rattle.input_stack.specs.View.{pending, held}
@@ -50,6 +50,21 @@ IsSingle [] = Unit {0}
 IsSingle (b ∷ []) = b.puts ≡ []
 IsSingle (b ∷ c ∷ bs) = ⊥
 
+-- a list without arguments
+pub record IsPlain (p : Put) : Type 0 where
+  pub arguments : p.arguments ≡ []
+  pub reading : p.reading ≡ None
+  pub texts : p.items ≡ map Text (map token_in p.items)
+
+abbrev pub ArePlain : List Put → Type 0
+ArePlain [] = Unit {0}
+ArePlain (p ∷ ps) = IsPlain p × ArePlain ps
+
+-- lists without arguments, in front of one file at most
+pub record IsSimple (p : Pending) : Type 0 where
+  pub single : IsSingle p.sources
+  pub plain : ArePlain p.puts
+
 -- all lists that are being built
 abbrev pub builds : Option Build → List Build → List Build
 builds making gathered = option_to_list making ++ reverse gathered
@@ -61,7 +76,7 @@ built bs h = sum_by (λ b. holds (build_id b) h) bs
 -- Each list has one holder, a level or a build.
 pub record IsShared (table : List (Option Entry)) (stack : InputStack) (bs : List Build) : Type 0 where
   pub stands : Stands table stack
-  pub single : IsSingle (pending table stack).sources
+  pub simple : IsSimple (pending table stack)
   pub building : All (IsBuilding table) bs
   pub counted : (h : ℕ) → holders_at table h ≡ held stack h + built bs h
   pub sole : (h : ℕ) → holders_at table h ≤ 1

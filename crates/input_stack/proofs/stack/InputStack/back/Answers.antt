@@ -70,3 +70,12 @@ returns-in-Err-push_list-clause-refused c =
       subst (λ (m : ℕ). IsHeld c.push_list.new.lists m) (sym same) h,
       ap (tokens_at c.push_list.new.lists) same ∙ x.tokens (omega (arith, ap length b.tokens)) ∙ b.tokens,
     )
+
+pub returns-in-Err-clause-stands : goal.returns-in-Err-clause-stands
+returns-in-Err-clause-stands c =
+    let e = c.drop_finished.ensures in
+    let b = c.in-Err.ensures in
+    record {
+      read = begun_read c.drop_finished.new.lists c.begun.new.lists (innermost c.drop_finished.new.self) (begun_holds c.in-Err.refused.1) e.stands.read b.account b.kept;
+      fits = e.stands.fits;
+    }

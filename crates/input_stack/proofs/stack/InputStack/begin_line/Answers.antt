@@ -1,7 +1,7 @@
 use Rattle.std.proofs.Common.{arith, ◌-◌, refl, ap, ◌∙◌, reverse, take, set}
 use Rattle.input_stack.specs.View.{innermost, level_at}
 use Rattle.input_stack.proofs.Tops.{top_of}
-use Rattle.input_stack.proofs.Lines.{top_set, line_begun, line_held, line_read, fits_same}
+use Rattle.input_stack.proofs.Lines.{top_set, line_begun, line_held, line_read, fits_at}
 use Rattle.input_stack.proofs.stack.InputStack.begin_line.Goals as goal
 
 pub returns-clause-after : goal.returns-clause-after
@@ -22,7 +22,7 @@ returns-clause-stands c = λ table stands.
     let f = top_set s.levels.items n (level_at c.args.line l) (omega (arith, c.len-count.ensures, s.levels.ok)) c.if-count-eq0.false in
     record {
       read = line_read table c.args.line l (innermost s) _ (reverse (take (n - 1) s.levels.items)) e (ap (λ x. reverse (set s.levels.items (n - 1) x)) c.begin_at.ensures ∙ f) stands.read;
-      fits = fits_same s _ c.begin_at.new.level (n - 1) refl refl refl stands.fits;
+      fits = fits_at s _ c.args.line l (reverse (take (n - 1) s.levels.items)) e (ap (λ x. reverse (set s.levels.items (n - 1) x)) c.begin_at.ensures ∙ f) refl refl (record { size = refl; parameter_size = refl; capacity = refl }) stands.fits;
     }
 
 pub returns-clause-held : goal.returns-clause-held

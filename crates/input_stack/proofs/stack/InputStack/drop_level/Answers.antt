@@ -1,26 +1,33 @@
 use Rattle.std.proofs.Common.{◌∙◌, ◌++◌, ◌∷◌, [], ap, subst}
-use Rattle.token_lists.specs.Accounts.{Moves, Keeps, holds, none}
 use Rattle.input_stack.specs.declared.level.Level.{Level}
-use Rattle.input_stack.specs.declared.level.Level.TheVariants as level
 use Rattle.input_stack.specs.View.{innermost}
 use Rattle.input_stack.specs.Standing.{AreRead}
 use Rattle.input_stack.proofs.Kept.{beneath_read}
-use Rattle.input_stack.proofs.Lines.{popped, source_under}
+use Rattle.input_stack.proofs.Lines.{popped}
+use Rattle.input_stack.proofs.Tops.{top_level, top_covers, dropped_held, dropped_keeps}
 use Rattle.input_stack.proofs.stack.InputStack.drop_level.Goals as goal
 
-pub returns-in-List-clause-read : goal.returns-in-List-clause-read
-returns-in-List-clause-read c =
+pub release-requires-clause-level : goal.release-requires-clause-level
+release-requires-clause-level c =
     let s = c.args.self.now in
-    let old = c.args.lists.now in
-    let new = c.let_go.new.lists in
-    let r = c.in-List.reader in
-    let i = c.in-Some.ensures.items ∙ ap (λ (l : Level). c.pop.new.self.items ++ l ∷ []) c.in-List.is in
-    let a : AreRead old (level.List r ∷ _) = subst (AreRead old) (popped s.levels.items c.pop.new.self.items (level.List r) i) c.requires in
-    (beneath_read old new r _ a (subst (λ k. Moves old new (holds k) none) c.into_list.ensures c.let_go.ensures.account) (subst (λ k. Keeps old new (holds k)) c.into_list.ensures c.let_go.ensures.kept)).0
+    top_level c.args.lists.now (innermost s) _ c.in-Some.level (popped s.levels.items c.pop.new.self.items c.in-Some.level c.in-Some.ensures.items) c.requires
 
-pub returns-in-Source-clause-read : goal.returns-in-Source-clause-read
-returns-in-Source-clause-read c =
+pub release-requires-clause-held : goal.release-requires-clause-held
+release-requires-clause-held c =
     let s = c.args.self.now in
-    let x = c.in-Source.field-0 in
-    let i = c.in-Some.ensures.items ∙ ap (λ (l : Level). c.pop.new.self.items ++ l ∷ []) c.in-Source.is in
-    source_under c.args.lists.now x (innermost s) _ (popped s.levels.items c.pop.new.self.items (level.Source x) i) c.requires
+    top_covers c.args.lists.now (innermost s) _ c.in-Some.level (popped s.levels.items c.pop.new.self.items c.in-Some.level c.in-Some.ensures.items) c.requires
+
+pub returns-clause-read : goal.returns-clause-read
+returns-clause-read c =
+    let s = c.args.self.now in
+    (beneath_read c.args.lists.now c.release.new.lists c.in-Some.level _ (subst (AreRead c.args.lists.now) (popped s.levels.items c.pop.new.self.items c.in-Some.level c.in-Some.ensures.items) c.requires) c.release.ensures.account c.release.ensures.kept).0
+
+pub returns-clause-account : goal.returns-clause-account
+returns-clause-account c =
+    let s = c.args.self.now in
+    dropped_held c.args.lists.now c.release.new.lists c.in-Some.level (innermost s) _ (popped s.levels.items c.pop.new.self.items c.in-Some.level c.in-Some.ensures.items) c.release.ensures.account
+
+pub returns-clause-kept : goal.returns-clause-kept
+returns-clause-kept c =
+    let s = c.args.self.now in
+    dropped_keeps c.args.lists.now c.release.new.lists c.in-Some.level (innermost s) _ (popped s.levels.items c.pop.new.self.items c.in-Some.level c.in-Some.ensures.items) c.release.ensures.kept

@@ -12,5 +12,5 @@ returns-clause-stands c = λ table stands.
     let i = c.in-Some.ensures.items ∙ ap (λ (l : Level). c.pop.new.self.items ++ l ∷ []) c.in-Source.is in
     record {
       read = source_under table x (innermost s) _ (popped s.levels.items c.pop.new.self.items (level.Source x) i) stands.read;
-      fits = fits_popped s _ (level.Source x) i refl c.in-Some.ensures.capacity stands.fits;
+      fits = fits_popped s _ x i refl refl (record { size = refl; parameter_size = refl; capacity = c.in-Some.ensures.capacity }) stands.fits;
     }

@@ -7,4 +7,4 @@ use Rattle.input_stack.proofs.stack.InputStack.levels.Goals as goal
 pub returns : goal.returns
 returns c = λ table.
     let s = c.args.self.now in
-    omega (arith, c.len.ensures, s.levels.ok, c.requires.within, c.requires.small, levels_are table (innermost s), length-reverse s.levels.items)
+    omega (arith, c.len.ensures, s.levels.ok, c.requires.within, c.requires.small, c.requires.opens, levels_are table (innermost s), length-reverse s.levels.items)

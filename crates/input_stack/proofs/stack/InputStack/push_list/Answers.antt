@@ -1,9 +1,11 @@
-use Rattle.std.proofs.Common.{◌≡◌, ◌<◌, ◌∙◌, sym, ap, refl, arith, length, ℕ}
+use Rattle.std.proofs.Common.{◌≡◌, ◌<◌, ◌+◌, ◌∙◌, sym, ap, refl, arith, length, ℕ}
 use Rattle.token_lists.specs.Ids.{id_of}
+use Rattle.token_lists.specs.Accounts.{holds}
 use Rattle.token_lists.specs.Table.{tokens_at}
+use Rattle.input_stack.specs.declared.level.Level.TheVariants as level
 use Rattle.input_stack.specs.Pending.{room}
 use Rattle.input_stack.specs.View.{innermost, pending, held}
-use Rattle.input_stack.proofs.Pushed.{no_tokens, some_tokens, empty_ok, refused, used_is, room_left, put_tokens, put_ok, put_read, put_moves, fits_more}
+use Rattle.input_stack.proofs.Pushed.{no_tokens, some_tokens, empty_ok, empty_read, refused, used_is, room_left, put_tokens, put_ok, put_read, put_moves}
 use Rattle.input_stack.proofs.stack.InputStack.push_list.Goals as goal
 
 pub returns-then-is_none-clause-ok : goal.returns-then-is_none-clause-ok
@@ -20,9 +22,9 @@ returns-in-Some-clause-refused c =
     let s = c.drop_finished.new.self in
     let e = c.drop_finished.ensures in
     let some : 0 < length (tokens_at t n) = some_tokens c.first.result c.is_none.result (tokens_at t n) c.is_none.ensures c.if-is_none.false c.first.ensures.ends in
-    let u : length s.levels.items ≡ _ = used_is c.drop_finished.new.lists s p e.unfinished e.after in
-    let k = refused (length s.levels.items) c.args.self.now.size (tokens_at t n) p some u in
-    let m = ap (λ (z : ℕ). room z (length s.levels.items)) e.size in
+    let u = used_is c.drop_finished.new.lists s p e.stands.fits e.unfinished e.after in
+    let k = refused (length s.levels.items + s.argument_levels) c.args.self.now.size (tokens_at t n) p some u in
+    let m = ap (λ (z : ℕ). room z (length s.levels.items + s.argument_levels)) e.size in
     (sym k ∙ sym m ∙ sym c.full.ensures ∙ c.in-Some.is, refl)
 
 pub returns-clause-refused : goal.returns-clause-refused
@@ -33,21 +35,25 @@ returns-clause-refused c =
     let s = c.drop_finished.new.self in
     let e = c.drop_finished.ensures in
     let some : 0 < length (tokens_at t n) = some_tokens c.first.result c.is_none.result (tokens_at t n) c.is_none.ensures c.if-is_none.false c.first.ensures.ends in
-    let u : length s.levels.items ≡ _ = used_is c.drop_finished.new.lists s p e.unfinished e.after in
-    let k = refused (length s.levels.items) c.args.self.now.size (tokens_at t n) p some u in
-    let m = ap (λ (z : ℕ). room z (length s.levels.items)) e.size in
+    let u = used_is c.drop_finished.new.lists s p e.stands.fits e.unfinished e.after in
+    let k = refused (length s.levels.items + s.argument_levels) c.args.self.now.size (tokens_at t n) p some u in
+    let m = ap (λ (z : ℕ). room z (length s.levels.items + s.argument_levels)) e.size in
     sym k ∙ sym m ∙ sym c.full.ensures ∙ c.in_default.is
+
+pub put-requires-clause-room : goal.put-requires-clause-room
+put-requires-clause-room c =
+    let s = c.drop_finished.new.self in
+    room_left s.size (length s.levels.items + s.argument_levels) (sym c.full.ensures ∙ c.in_default.is)
 
 pub returns-clause-stands : goal.returns-clause-stands
 returns-clause-stands c =
-    let n = id_of c.args.list in
     let t = c.args.lists.now in
     let s = c.drop_finished.new.self in
     let u = c.put.new.self in
     let e = c.drop_finished.ensures in
     record {
-      read = put_read t c.drop_finished.new.lists c.new-reader.result n (innermost u) (innermost s) (held c.args.self.now) c.put.ensures.list c.new-reader.ensures.same c.new-reader.ensures.at_front e.stands.read e.unfinished c.requires.held e.account;
-      fits = fits_more s u e.stands.fits (room_left s.size (length s.levels.items) (sym c.full.ensures ∙ c.in_default.is)) c.put.ensures.more c.put.ensures.size c.put.ensures.capacity;
+      read = put_read t c.drop_finished.new.lists (level.List c.new-reader.result) (innermost u) (innermost s) (held c.args.self.now) c.put.ensures.list c.new-reader.ensures.at_front e.stands.read e.unfinished (λ h. omega (arith, c.requires.held h, ap (λ (n : ℕ). holds n h) c.new-reader.ensures.same)) e.account;
+      fits = c.put.ensures.fits;
     }
 
 pub returns-clause-ok : goal.returns-clause-ok
@@ -62,10 +68,9 @@ returns-clause-ok c =
     put_ok c.drop_finished.new.lists c.new-reader.result n (tokens_at t n) (innermost u) (innermost s) (pending t c.args.self.now) c.put.ensures.list c.new-reader.ensures.same (c.new-reader.ensures.whole ∙ same) some e.after
 
 pub returns-clause-account : goal.returns-clause-account
-returns-clause-account c =
-    let n = id_of c.args.list in
+returns-clause-account c = λ h.
     let e = c.drop_finished.ensures in
-    put_moves c.args.lists.now c.drop_finished.new.lists c.new-reader.result n (innermost c.put.new.self) (innermost c.drop_finished.new.self) (held c.args.self.now) c.put.ensures.list c.new-reader.ensures.same e.account
+    omega (arith, put_moves c.args.lists.now c.drop_finished.new.lists (level.List c.new-reader.result) (innermost c.put.new.self) (innermost c.drop_finished.new.self) (held c.args.self.now) c.put.ensures.list e.account h, ap (λ (n : ℕ). holds n h) c.new-reader.ensures.same)
 
 pub returns-then-is_none-clause-tokens : goal.returns-then-is_none-clause-tokens
 returns-then-is_none-clause-tokens c = λ some.
@@ -73,3 +78,9 @@ returns-then-is_none-clause-tokens c = λ some.
     let n = id_of c.args.list in
     let none = no_tokens c.first.result c.is_none.result (tokens_at t n) c.is_none.ensures c.if-is_none.true c.first.ensures.ends in
     absurd (omega (arith, some, ap length none))
+
+pub returns-then-is_none-clause-stands : goal.returns-then-is_none-clause-stands
+returns-then-is_none-clause-stands c = record {
+  read = empty_read c.args.lists.now c.let_go.new.lists (id_of c.args.list) (innermost c.args.self.now) c.requires.held c.let_go.ensures.account c.let_go.ensures.kept c.requires.stands.read;
+  fits = c.requires.stands.fits;
+}

@@ -1,0 +1,56 @@
+use Rattle.std.proofs.Common.{◌∙◌, sym, ap, ap₂, refl, subst, List, ℕ, map, drop, None, Some, arith}
+use Rattle.tex_defs.specs.declared.Token.{Token}
+use Rattle.tex_defs.specs.declared.Token.TheVariants.{Number}
+use Rattle.token_lists.specs.Ids.{id_of}
+use Rattle.token_lists.specs.Table.{tokens_at}
+use Rattle.token_lists.specs.Accounts.{holds}
+use Rattle.input_stack.specs.Puts.{Item, Later, first}
+use Rattle.input_stack.specs.CallViews.{HandsOn, is_gap}
+use Rattle.input_stack.proofs.CallItems.{item_is, item_past, first_met, empty_met}
+use Rattle.input_stack.proofs.call.hand_on.Goals as goal
+
+pub returns-in-Some-first_of : goal.returns-in-Some-first_of
+returns-in-Some-first_of c =
+    let t = c.args.lists.now in
+    let n = id_of c.in-Some.list in
+    let e = item_is t c.args.args.now c.args.token c.in-Number.n c.saturating_sub-place.result (Some c.in-Some.list) c.requires.filled c.if-place-args.true c.saturating_sub-place.ensures c.in-Number.is c.in-Some.is in
+    let f = first_met n (tokens_at t n) c.in-Some-first_of.first (sym c.in-Some-first_of.is ∙ c.first_of.ensures) in
+    subst (λ (xs : List Item). HandsOn t c.opened.new.lists xs c.in-Some-first_of.first (Some c.opened.result)) (sym (e ∙ f)) (record {
+      token = refl;
+      left = ap₂ (λ (k : ℕ) (ts : List Token). map (Later k) ts) c.opened.ensures.same c.opened.ensures.left;
+      reading = ap (λ (k : ℕ). Some k) c.opened.ensures.same;
+      levels = refl;
+      at_next = c.opened.ensures.at_next;
+      holds = λ h. ap (λ (k : ℕ). holds k h) c.opened.ensures.same;
+      shares = c.opened.ensures.shares;
+    })
+
+pub returns-in_default-first_of : goal.returns-in_default-first_of
+returns-in_default-first_of c =
+    let t = c.args.lists.now in
+    let n = id_of c.in-Some.list in
+    let e = item_is t c.args.args.now c.args.token c.in-Number.n c.saturating_sub-place.result (Some c.in-Some.list) c.requires.filled c.if-place-args.true c.saturating_sub-place.ensures c.in-Number.is c.in-Some.is in
+    let f = empty_met n (tokens_at t n) (sym c.in_default-first_of.is ∙ c.first_of.ensures) in
+    let g = ap (λ (xs : List Item). is_gap (first xs)) (sym (e ∙ f)) ∙ c.requires.some in
+    cc
+
+pub returns-in_default-lists : goal.returns-in_default-lists
+returns-in_default-lists c =
+    let t = c.args.lists.now in
+    let e = item_is t c.args.args.now c.args.token c.in-Number.n c.saturating_sub-place.result None c.requires.filled c.if-place-args.true c.saturating_sub-place.ensures c.in-Number.is c.in_default-lists.is in
+    let g = ap (λ (xs : List Item). is_gap (first xs)) (sym e) ∙ c.requires.some in
+    cc
+
+pub returns-else-place-args : goal.returns-else-place-args
+returns-else-place-args c =
+    let t = c.args.lists.now in
+    let e = item_past t c.args.args.now c.args.token c.in-Number.n c.saturating_sub-place.result c.if-place-args.false c.saturating_sub-place.ensures c.in-Number.is in
+    subst (λ (xs : List Item). HandsOn t t xs (Number c.in-Number.n) None) (sym e) (record {
+      token = refl;
+      left = refl;
+      reading = refl;
+      levels = refl;
+      at_next = tt;
+      holds = λ h. refl;
+      shares = record { size = refl; tokens = λ h. refl; places = λ h. refl; holders = λ h. omega arith; held = λ h some. absurd (omega (arith, some)) };
+    })

@@ -1,0 +1,244 @@
+// A macro call that is being read.
+ghost use Rattle.std.specs.Prelude.{◌≡◌, ◌+◌, ◌<◌, ◌^◌, Some, None, IfSome, false, drop, length, slice_get};
+ghost use Rattle.token_lists.specs.Table.{IsHeld, tokens_at, holders_at};
+ghost use Rattle.token_lists.specs.Ids.{id_of};
+ghost use Rattle.token_lists.specs.Accounts.{IsReading, Moves, Keeps, Covers, none, holds};
+ghost use Rattle.macro_args.specs.Args.{IsFilled};
+ghost use Rattle.input_stack.specs.Puts.{first, without_gaps, is_empty};
+ghost use Rattle.input_stack.specs.Calls.{substituted, token_items};
+ghost use Rattle.input_stack.specs.Rest.{IsAt, rest, number};
+ghost use Rattle.input_stack.specs.CallViews.{arguments_in, open_tokens, open_number, open_holds, items_of, call_holds, call_open, met, is_gap, IsCall, IsSettled, IsCountable, CallPulls, AreHeld, Shares, HandsOn, Closes};
+ghost use Rattle.input_stack.specs.Lasting.{Lasts};
+
+use crate::met::Met;
+use crate::reader::{Reader, Spot};
+use crate::release::let_go;
+use macro_args::Args;
+use std::mem;
+use tex_defs::Token;
+use token_lists::{ListRef, Lists};
+
+/// A macro's body that is being read, the argument whose level stands on it, and all arguments of the call.
+#[derive(Debug)]
+pub struct Call {
+    body: Reader,
+    argument: Option<Reader>,
+    args: Args,
+}
+
+// The first token of a list, if it has one.
+fn first_of(lists: &Lists, list: &ListRef) -> Option<Token>
+    requires { IsHeld lists.now (id_of list.now) }
+    ensures { result ≡ slice_get (tokens_at lists.now (id_of list.now)) 0 }
+{
+    match lists.first(list) {
+        Some(place) => Some(lists.token(place)),
+        None => None,
+    }
+}
+
+// What a token of a body stands for, which comes first of it.
+fn item_of(lists: &Lists, args: &Args, token: Token) -> Met
+    requires filled { IsFilled args.now }
+    requires held { AreHeld lists.now args.now }
+    ensures { Some result ≡ met (first (token_items (arguments_in lists.now args.now) token)) }
+{
+    if let Token::Number(n) = token {
+        let place = (n as usize).saturating_sub(1);
+        if place < args.count {
+            return match &args.lists[place] {
+                Some(list) => match first_of(lists, list) {
+                    Some(first) => Met::First(first),
+                    None => Met::Gap,
+                },
+                None => Met::Gap,
+            };
+        }
+    }
+    Met::Text(token)
+}
+
+// A second holder of a list, behind the list's first token.
+fn opened(lists: &mut Lists, list: &ListRef) -> Reader
+    requires held { IsHeld lists.old (id_of list.now) }
+    requires countable { holders_at lists.old (id_of list.now) + 1 < 2 ^ 32 }
+    ensures same { number result ≡ id_of list.now }
+    ensures at_next { IsAt lists.new result }
+    ensures left { rest lists.new result ≡ drop 1 (tokens_at lists.old (id_of list.now)) }
+    ensures shares { Shares lists.old lists.new (holds (id_of list.now)) }
+{
+    let shared = lists.share(list);
+    let mut reader = Reader::new(lists, shared);
+    let _first = reader.pull(lists);
+    reader
+}
+
+// Lets the holder go that an argument's level has, if one is open.
+fn let_level_go(lists: &mut Lists, argument: Option<Reader>)
+    requires { IfSome argument (λ r. IsHeld lists.old (number r)) }
+    ensures account { Moves lists.old lists.new (open_holds argument) none }
+    ensures kept { Keeps lists.old lists.new (open_holds argument) }
+    ensures lasting { Lasts lists.old lists.new }
+    ensures free { argument ≡ None → lists.new ≡ lists.old }
+{
+    if let Some(reader) = argument {
+        let_go(lists, reader.into_list());
+    }
+}
+
+// The first token of what a token of a body stands for, and the argument of which it is.
+fn hand_on(lists: &mut Lists, args: &Args, token: Token) -> (Token, Option<Reader>)
+    requires filled { IsFilled args.now }
+    requires held { AreHeld lists.old args.now }
+    requires some { is_gap (first (token_items (arguments_in lists.old args.now) token)) ≡ false }
+    requires countable { IsCountable lists.old (first (token_items (arguments_in lists.old args.now) token)) }
+    ensures { HandsOn lists.old lists.new (token_items (arguments_in lists.old args.now) token) result.0 result.1 }
+{
+    if let Token::Number(n) = token {
+        let place = (n as usize).saturating_sub(1);
+        if place < args.count {
+            if let Some(list) = &args.lists[place] {
+                if let Some(first) = first_of(lists, list) {
+                    return (first, Some(opened(lists, list)));
+                }
+            }
+        }
+    }
+    (token, None)
+}
+
+impl Call {
+    /// A call that reads what is left of its macro's list.
+    pub fn new(body: Reader, args: Args) -> Call
+        ensures { result ≡ record { body = body; argument = None; args = args } }
+    {
+        Call {
+            body,
+            argument: None,
+            args,
+        }
+    }
+
+    /// How many of its levels are an argument's: 1 or none.
+    pub fn argument_levels(&self) -> u32
+        ensures { result ≡ call_open self.now }
+    {
+        match self.argument {
+            Some(_) => 1,
+            None => 0,
+        }
+    }
+
+    /// How many arguments it has.
+    pub fn arguments(&self) -> u32
+        requires { self.now.args.count < 2 ^ 32 }
+        ensures { result ≡ self.now.args.count }
+    {
+        self.args.count as u32
+    }
+
+    // The next token of the argument whose level is open, if one is left.
+    fn later(&self, lists: &Lists) -> Option<Token>
+        requires { IfSome self.now.argument (λ r. IsAt lists.now r) }
+        ensures { result ≡ slice_get (open_tokens lists.now self.now.argument) 0 }
+    {
+        match &self.argument {
+            Some(argument) => argument.peek(lists),
+            None => None,
+        }
+    }
+
+    // The spot in the macro's list behind the gaps in front of the body.
+    fn behind_gaps(&self, lists: &Lists) -> Spot
+        requires { IsCall lists.now self.now }
+        ensures reading { IsReading lists.now (number self.now.body) result.at result.read }
+        ensures behind { substituted (arguments_in lists.now self.now.args) (drop result.read (tokens_at lists.now (number self.now.body))) ≡ without_gaps (substituted (arguments_in lists.now self.now.args) (rest lists.now self.now.body)) }
+    {
+        let mut spot = self.body.spot();
+        while let Some(token) = self.body.at(lists, spot) {
+            let Met::Gap = item_of(lists, &self.args, token) else {
+                return spot;
+            };
+            spot = self.body.behind(lists, spot);
+        }
+        spot
+    }
+
+    /// The next item that is no gap, if one is left.
+    pub fn next(&self, lists: &Lists) -> Option<Met>
+        requires { IsCall lists.now self.now }
+        ensures { result ≡ met (first (without_gaps (items_of lists.now self.now))) }
+    {
+        if let Some(token) = self.later(lists) {
+            return Some(Met::Later(token));
+        }
+        let spot = self.behind_gaps(lists);
+        match self.body.at(lists, spot) {
+            Some(token) => Some(item_of(lists, &self.args, token)),
+            None => None,
+        }
+    }
+
+    /// Whether nothing is left of it.
+    pub fn is_finished(&self, lists: &Lists) -> bool
+        requires { IsCall lists.now self.now }
+        ensures { result ≡ is_empty (items_of lists.now self.now) }
+    {
+        self.later(lists).is_none() && self.body.peek(lists).is_none()
+    }
+
+    /// An argument's level of which no token is left goes, with its holder. Whether one went.
+    pub fn close_argument(&mut self, lists: &mut Lists) -> bool
+        requires call { IsCall lists.old self.old }
+        requires held { Covers lists.old (call_holds self.old) }
+        ensures closes { Closes lists.old lists.new self.old self.new result }
+        ensures lasting { Lasts lists.old lists.new }
+    {
+        if self.later(lists).is_some() {
+            return false;
+        }
+        let argument = mem::replace(&mut self.argument, None);
+        let went = argument.is_some();
+        let_level_go(lists, argument);
+        went
+    }
+
+    /// Passes over the gaps in front, and hands on the item behind them.
+    pub fn pull(&mut self, lists: &mut Lists) -> Option<Token>
+        requires call { IsCall lists.old self.old }
+        requires settled { IsSettled (open_number self.old.argument) (items_of lists.old self.old) }
+        requires countable { IsCountable lists.old (first (without_gaps (items_of lists.old self.old))) }
+        ensures { CallPulls lists.old lists.new self.old self.new (without_gaps (items_of lists.old self.old)) result }
+    {
+        if let Some(argument) = &mut self.argument {
+            return argument.pull(lists);
+        }
+        let spot = self.behind_gaps(lists);
+        self.body.go_to(spot);
+        let Some(token) = self.body.pull(lists) else {
+            return None;
+        };
+        let (handed, argument) = hand_on(lists, &self.args, token);
+        let none = mem::replace(&mut self.argument, argument);
+        let_level_go(lists, none);
+        Some(handed)
+    }
+
+    /// Lets all that it holds go.
+    pub fn release(self, lists: &mut Lists)
+        requires filled { IsFilled self.args }
+        requires held { Covers lists.old (call_holds self) }
+        ensures account { Moves lists.old lists.new (call_holds self) none }
+        ensures kept { Keeps lists.old lists.new (call_holds self) }
+        ensures size { length lists.new ≡ length lists.old }
+    {
+        let Call {
+            body,
+            argument,
+            args,
+        } = self;
+        let_go(lists, body.into_list());
+        let_level_go(lists, argument);
+        args.release(lists);
+    }
+}
