@@ -1,5 +1,5 @@
 -- What stands in front of a call.
-use Rattle.std.proofs.Common.{zero, suc, ◌≡◌, ℕ, ◌+◌, ◌-◌, ◌<◌, ◌≤◌, List, [], ◌∷◌, ◌++◌, map, length, take, drop, get_or, Option, None, Some, Bool, true, false, not, refl, sym, ap, ap₂, ◌∙◌, subst, arith, add-one}
+use Rattle.std.proofs.Common.{zero, suc, ◌≡◌, ℕ, ◌+◌, ◌-◌, ◌<◌, ◌≤◌, List, [], ◌∷◌, ◌++◌, map, length, take, drop, get_or, Option, None, Some, Bool, true, false, not, refl, sym, ap, ◌∙◌, arith, add-one}
 use Rattle.std.specs.Prelude.{slice_get, is_some}
 use Rattle.std.proofs.lemmas.List.Sums.{sum_by-cons}
 use Rattle.std.proofs.lemmas.Option.{same_Some, none-some}
@@ -7,7 +7,7 @@ use Rattle.tex_defs.specs.declared.Token.{Token}
 use Rattle.tex_defs.specs.declared.Token.TheVariants.{Char, Named, Marked, Place, Number, EndPlaces}
 use Rattle.token_lists.specs.declared.ListRef.{ListRef}
 use Rattle.token_lists.specs.Ids.{id_of}
-use Rattle.token_lists.specs.Table.{Entry, tokens_at}
+use Rattle.token_lists.specs.Table.{Entry}
 use Rattle.token_lists.specs.Accounts.{cell_holds, cells_hold}
 use Rattle.macro_args.specs.declared.args.Args.{Args}
 use Rattle.macro_args.specs.Args.{IsFilled}
@@ -17,7 +17,7 @@ use Rattle.input_stack.specs.declared.met.Met.TheVariants as met_as
 use Rattle.input_stack.specs.Puts.{Item, Text, First, Later, Gap, first, without_gaps, is_empty}
 use Rattle.input_stack.specs.Calls.{Argument, spread, argument_items, placed_argument, token_items, substituted}
 use Rattle.input_stack.specs.Rest.{rest, number}
-use Rattle.input_stack.specs.CallViews.{argument_in, arguments_in, arguments_hold, open_tokens, open_items, met, met_of}
+use Rattle.input_stack.specs.CallViews.{argument_in, arguments_in, arguments_hold, open_tokens, open_items, met}
 use Rattle.input_stack.proofs.CallKept.{holds_itself}
 
 -- ARGUMENTS BY THEIR NUMBERS

@@ -33,8 +33,8 @@ cells_same old new (None ∷ cells) same =
 cells_same old new (Some r ∷ cells) same =
     let n = id_of r in
     ap₂ (λ (ts : List Token) (xs : List (Option Argument)). Some (record { list = n; tokens = ts }) ∷ xs)
-      (same n (omega (arith, sum_by-cons (λ (c : Option ListRef). cell_holds c n) (Some r) cells, holds_itself n)))
-      (cells_same old new cells (λ h some. same h (omega (arith, some, sum_by-cons (λ (c : Option ListRef). cell_holds c h) (Some r) cells))))
+    (same n (omega (arith, sum_by-cons (λ (c : Option ListRef). cell_holds c n) (Some r) cells, holds_itself n)))
+    (cells_same old new cells (λ h some. same h (omega (arith, some, sum_by-cons (λ (c : Option ListRef). cell_holds c h) (Some r) cells))))
 
 pub arguments_same : (old new : List (Option Entry)) (args : Args) → Same old new (arguments_hold args) → arguments_in new args ≡ arguments_in old args
 arguments_same old new args same = cells_same old new (take args.count args.lists) same

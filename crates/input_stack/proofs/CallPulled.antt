@@ -1,19 +1,18 @@
 -- What a call hands on.
-use Rattle.std.proofs.Common.{◌≡◌, ℕ, ◌+◌, ◌-◌, ◌<◌, List, [], ◌∷◌, ◌++◌, map, length, drop, Option, None, Some, Bool, true, false, refl, sym, ap, ap₂, ◌∙◌, subst, arith}
-use Rattle.std.specs.Prelude.{slice_get, is_some, MatchOption, IfSome}
-use Rattle.std.proofs.lemmas.Option.{same_Some, none-some}
+use Rattle.std.proofs.Common.{◌≡◌, ℕ, ◌-◌, List, [], ◌∷◌, ◌++◌, map, length, drop, Option, None, Some, Bool, true, false, refl, sym, ap, ap₂, ◌∙◌, subst, arith}
+use Rattle.std.specs.Prelude.{slice_get, is_some, MatchOption}
+use Rattle.std.proofs.lemmas.Option.{none-some}
 use Rattle.tex_defs.specs.declared.Token.{Token}
 use Rattle.tex_defs.specs.declared.Token.TheVariants.{Char, Named, Marked, Place, Number, EndPlaces}
-use Rattle.token_lists.specs.Table.{Entry, tokens_at, holders_at, IsHeld}
+use Rattle.token_lists.specs.Table.{Entry}
 use Rattle.token_lists.specs.Accounts.{holds, none, Moves, Keeps}
 use Rattle.macro_args.specs.declared.args.Args.{Args}
 use Rattle.input_stack.specs.declared.reader.Reader.{Reader}
 use Rattle.input_stack.specs.declared.call.Call.{Call}
-use Rattle.input_stack.specs.Puts.{Item, Put, Text, First, Later, Gap, first, without_gaps, argument_of, count_of, later_of}
+use Rattle.input_stack.specs.Puts.{Item, Text, First, Later, Gap, first, without_gaps, count_of}
 use Rattle.input_stack.specs.Calls.{Argument, number_of, spread, placed_argument, token_items, substituted}
-use Rattle.input_stack.specs.Pulls.{token_in}
 use Rattle.input_stack.specs.Rest.{number, rest, IsAt}
-use Rattle.input_stack.specs.CallViews.{arguments_in, open_items, open_number, open_tokens, open_holds, call_holds, call_open, put_of_call, items_of, opened, is_gap, IsCall, IsSettled, IsCountable, Shares, Hands, HandsOn, CallGives, CallPulls, Closes}
+use Rattle.input_stack.specs.CallViews.{arguments_in, open_items, open_number, open_tokens, open_holds, items_of, is_gap, IsCall, IsSettled, IsCountable, Hands, HandsOn, CallGives, CallPulls, Closes}
 use Rattle.input_stack.proofs.CallKept.{arguments_same, at_same}
 
 -- AN ARGUMENT'S LEVEL GOES
@@ -167,8 +166,8 @@ module _ (old new : List (Option Entry)) (c : Call) (m : Reader) (argument : Opt
       ∙ ap (λ (ts : List Token). xs ++ substituted (arguments_in old c.args) (drop m.read ts)) (s.tokens (number m)) in
       record {
         after =
-          ap₂ (λ (n : ℕ) (ys : List Item). record { list = n; arguments = map number_of (arguments_in new c.args); reading = open_number argument; items = ys }) same left
-          ∙ ap₂ (λ (o : Option ℕ) (args : List (Option Argument)). record { list = number c.body; arguments = map number_of args; reading = o; items = xs ++ substituted (arguments_in old c.args) (rest old m) }) hands.reading a;
+            ap₂ (λ (n : ℕ) (ys : List Item). record { list = n; arguments = map number_of (arguments_in new c.args); reading = open_number argument; items = ys }) same left
+            ∙ ap₂ (λ (o : Option ℕ) (args : List (Option Argument)). record { list = number c.body; arguments = map number_of args; reading = o; items = xs ++ substituted (arguments_in old c.args) (rest old m) }) hands.reading a;
         stands = record {
           body = at_same old new m (s.tokens (number m)) (s.places (number m)) (omega (arith, s.holders (number m), at.held)) at;
           argument = hands.at_next;

@@ -1,12 +1,12 @@
 -- A macro call in front.
-use Rattle.std.proofs.Common.{◌≡◌, ℕ, ◌+◌, ◌<◌, ◌≤◌, List, [], ◌∷◌, ◌++◌, map, length, Option, None, Some, Bool, true, false, not, refl, sym, ap, ap₂, ◌∙◌, subst, arith}
+use Rattle.std.proofs.Common.{◌≡◌, ℕ, ◌+◌, ◌<◌, ◌≤◌, List, [], ◌∷◌, map, Option, None, Some, Bool, true, false, not, refl, sym, ap, ap₂, ◌∙◌, subst, arith}
 use Rattle.std.specs.Prelude.{slice_get, is_some}
 use Rattle.std.proofs.lemmas.Option.{none-some}
 use Rattle.tex_defs.specs.declared.Token.{Token}
 use Rattle.tex_defs.specs.declared.Full.{Full}
 use Rattle.token_lists.specs.declared.ListRef.{ListRef}
 use Rattle.token_lists.specs.Ids.{id_of}
-use Rattle.token_lists.specs.Table.{Entry, tokens_at, places_at, holders_at, IsHeld}
+use Rattle.token_lists.specs.Table.{Entry, tokens_at, holders_at}
 use Rattle.token_lists.specs.Accounts.{holds, none, Moves, Keeps}
 use Rattle.macro_args.specs.declared.args.Args.{Args}
 use Rattle.macro_args.specs.Args.{IsFilled}
@@ -18,7 +18,7 @@ use Rattle.input_stack.specs.Puts.{Item, Put, put_top, is_empty}
 use Rattle.input_stack.specs.Calls.{number_of, substituted, body_of, call_put}
 use Rattle.input_stack.specs.Rest.{number, rest, IsAt}
 use Rattle.input_stack.specs.Pending.{Pending, with_puts, settle, put, room, used_levels, used_parameters, parameter_room, either, call_refusal}
-use Rattle.input_stack.specs.CallViews.{arguments_in, arguments_hold, call_holds, put_of_call, items_of, IsCall}
+use Rattle.input_stack.specs.CallViews.{arguments_in, call_holds, put_of_call, IsCall}
 use Rattle.input_stack.specs.Pushes.{pushed_holds}
 use Rattle.input_stack.specs.View.{pending_in, in_front, held_in}
 use Rattle.input_stack.specs.Standing.{AreRead}

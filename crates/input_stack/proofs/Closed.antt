@@ -1,12 +1,12 @@
 -- An argument's level of which no token is left goes.
-use Rattle.std.proofs.Common.{◌≡◌, ℕ, ◌+◌, ◌-◌, ◌<◌, ◌≤◌, List, [], ◌∷◌, ◌++◌, map, length, Option, None, Some, Bool, true, false, cond, refl, sym, ap, ap₂, ◌∙◌, subst, arith}
-use Rattle.std.specs.Prelude.{slice_get, All}
+use Rattle.std.proofs.Common.{◌≡◌, ℕ, ◌+◌, ◌-◌, ◌<◌, ◌≤◌, List, [], ◌∷◌, ◌++◌, map, length, Option, None, Some, Bool, true, false, cond, refl, sym, ap, ◌∙◌, subst, arith}
+use Rattle.std.specs.Prelude.{slice_get}
 use Rattle.std.proofs.lemmas.Option.{none-some}
 use Rattle.std.proofs.lemmas.List.Elements.{All-head, All-tail, All-cons}
 use Rattle.tex_defs.specs.declared.Token.{Token}
 use Rattle.tex_defs.specs.declared.Token.TheVariants.{Char, Named, Marked, Place, Number, EndPlaces}
-use Rattle.token_lists.specs.Table.{Entry, tokens_at, places_at, holders_at, IsHeld}
-use Rattle.token_lists.specs.Accounts.{holds, none, Moves, Keeps}
+use Rattle.token_lists.specs.Table.{Entry, holders_at}
+use Rattle.token_lists.specs.Accounts.{none, Moves, Keeps}
 use Rattle.input_stack.specs.declared.reader.Reader.{Reader}
 use Rattle.input_stack.specs.declared.call.Call.{Call}
 use Rattle.input_stack.specs.declared.level.Level.{Level}
@@ -15,7 +15,7 @@ use Rattle.input_stack.specs.Puts.{Item, Put, Text, Later, is_empty, is_finished
 use Rattle.input_stack.specs.Calls.{Argument, spread, placed_argument, token_items, substituted}
 use Rattle.input_stack.specs.Rest.{number, rest}
 use Rattle.input_stack.specs.Pending.{Pending, settle}
-use Rattle.input_stack.specs.CallViews.{arguments_in, open_items, open_tokens, open_number, open_holds, call_holds, call_open, items_of, put_of_call, IsCall, IsSettled, Closes}
+use Rattle.input_stack.specs.CallViews.{arguments_in, open_items, open_tokens, open_number, open_holds, call_holds, items_of, put_of_call, IsCall, IsSettled, Closes}
 use Rattle.input_stack.specs.Levels.{LevelCloses, is_level_finished}
 use Rattle.input_stack.specs.View.{pending_in, in_front, level_holds, level_open, level_arguments, held_in}
 use Rattle.input_stack.specs.Standing.{IsLevel, IsUnfinished, AreUnfinished, AreRead}

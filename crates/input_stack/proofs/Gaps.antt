@@ -1,5 +1,5 @@
 -- Gaps in front of items.
-use Rattle.std.proofs.Common.{◌≡◌, ℕ, ◌<◌, List, [], ◌∷◌, ◌++◌, map, length, Option, None, Some, true, false, refl, sym, ap, ◌∙◌, subst, arith}
+use Rattle.std.proofs.Common.{◌≡◌, ℕ, ◌<◌, List, [], ◌∷◌, ◌++◌, map, length, Option, Some, true, false, refl, sym, ap, ◌∙◌, subst, arith}
 use Rattle.input_stack.specs.Puts.{Item, Put, Text, First, Later, Gap, first, without_gaps, flat, next_item, pulled, pulled_top, is_empty, argument_of}
 use Rattle.tex_defs.specs.declared.Token.{Token}
 use Rattle.token_lists.specs.Table.{Entry}

@@ -1,7 +1,6 @@
 -- What the levels read stays where their lists are held.
 use Rattle.std.proofs.Common.{◌≡◌, ℕ, ◌+◌, ◌<◌, ◌≤◌, List, [], ◌∷◌, length, drop, Option, refl, sym, ap, ap₂, subst, arith}
-use Rattle.std.specs.Prelude.{All, slice_get, IsSome, ◌↔◌, ◌==◌, true}
-use Rattle.std.proofs.lemmas.Bool.Decides.{nat_tests}
+use Rattle.std.specs.Prelude.{All, slice_get, IsSome, ◌↔◌}
 use Rattle.std.proofs.lemmas.List.Elements.{All-head, All-tail, All-cons, All-nil}
 use Rattle.std.proofs.lemmas.List.Sums.{sum_by-cons}
 use Rattle.tex_defs.specs.declared.Token.{Token}
@@ -111,8 +110,7 @@ leave old new before after f covers moves keeps = record {
 pub beneath_read : (old new : List (Option Entry)) (l : Level) (ls : List Level) → AreRead old (l ∷ ls) → Moves old new (level_holds l) none → Keeps old new (level_holds l) → AreRead new ls × AreUnfinished new ls × (pending_in new ls ≡ pending_in old ls)
 beneath_read old new l ls a moves keeps =
     let s = leaves old new (level_holds l) (held_in ls) (λ h. omega (arith, a.covers h, held_cons l ls h)) moves keeps in
-    let u = unfinished_stay old new ls s a.below in
-    (
+    let u = unfinished_stay old new ls s a.below in (
       record {
         levels = levels_stay old new ls s (All-tail (IsLevel old) l ls a.levels);
         below = all_below new ls u;

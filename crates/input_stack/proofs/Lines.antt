@@ -1,6 +1,6 @@
 -- Files and lines on top.
-use Rattle.std.proofs.Common.{zero, suc, ◌≡◌, ℕ, ◌+◌, ◌-◌, List, [], ◌∷◌, ◌++◌, length, reverse, take, set, Option, refl, sym, ap, ◌∙◌, subst, arith, vec_capacity}
-use Rattle.std.proofs.lemmas.List.{reverse-append, length-reverse, length-set}
+use Rattle.std.proofs.Common.{zero, suc, ◌≡◌, ℕ, ◌+◌, ◌-◌, List, [], ◌∷◌, ◌++◌, length, reverse, take, set, Option, refl, sym, ap, ◌∙◌, subst, arith}
+use Rattle.std.proofs.lemmas.List.{reverse-append, length-reverse}
 use Rattle.std.proofs.lemmas.List.Elements.{All-head, All-tail, All-cons}
 use Rattle.line_lexer.specs.declared.Line.{Line}
 use Rattle.token_lists.specs.Table.{Entry}

@@ -13,7 +13,7 @@ use Rattle.input_stack.specs.declared.reader.Reader.{Reader}
 use Rattle.input_stack.specs.declared.level.Level.{Level}
 use Rattle.input_stack.specs.declared.level.Level.TheVariants as level
 use Rattle.input_stack.specs.declared.stack.InputStack.{InputStack}
-use Rattle.input_stack.specs.Rest.{number, rest, IsAt}
+use Rattle.input_stack.specs.Rest.{number, rest}
 use Rattle.input_stack.specs.Pending.{Pending, settle, put, plain_put, refusal, room, used_levels, used_parameters}
 use Rattle.input_stack.specs.View.{pending_in, put_of, in_front, innermost, level_holds, held_in}
 use Rattle.input_stack.specs.Standing.{IsLevel, AreUnfinished, AreRead, Fits}

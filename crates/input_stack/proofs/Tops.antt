@@ -1,10 +1,9 @@
 -- The level on top.
-use Rattle.std.proofs.Common.{◌≡◌, ℕ, ◌+◌, ◌^◌, ◌<◌, ◌≤◌, List, [], ◌∷◌, ◌++◌, length, map, reverse, take, drop, get_or, Option, None, Some, Bool, true, false, not, ◌-◌, refl, sym, ap, ◌∙◌, subst, arith, add-one, vec_capacity}
-use Rattle.std.specs.Prelude.{All, IsTrue, slice_get, is_some}
+use Rattle.std.proofs.Common.{◌≡◌, ℕ, ◌+◌, ◌^◌, ◌<◌, ◌≤◌, List, [], ◌∷◌, ◌++◌, length, map, reverse, take, drop, get_or, Option, Bool, true, false, ◌-◌, refl, sym, ap, ◌∙◌, subst, arith, add-one, vec_capacity}
+use Rattle.std.specs.Prelude.{All, IsTrue}
 use Rattle.std.proofs.lemmas.List.{reverse-append, length-reverse, take_all}
 use Rattle.std.proofs.lemmas.List.Sums.{sum_by-cons}
 use Rattle.std.proofs.lemmas.List.Elements.{All-head, All-tail, All-nil}
-use Rattle.std.proofs.lemmas.Option.{none-some}
 use Rattle.std.proofs.Math.Seq.{take-suc}
 use Rattle.tex_defs.specs.declared.Token.{Token}
 use Rattle.token_lists.specs.Table.{Entry, holders_at}
@@ -18,7 +17,7 @@ use Rattle.input_stack.specs.Rest.{rest}
 use Rattle.input_stack.specs.CallViews.{put_of_call}
 use Rattle.input_stack.specs.Levels.{is_level_finished, is_level_passed, is_top_passed}
 use Rattle.input_stack.specs.View.{pending_in, put_of, innermost, held_in, level_holds, level_open, open_in, level_arguments, arguments_of}
-use Rattle.input_stack.specs.Standing.{IsLevel, IsUnfinished, AreUnfinished, AreRead, Fits, IsSized, Stands}
+use Rattle.input_stack.specs.Standing.{IsLevel, AreUnfinished, AreRead, Fits, IsSized, Stands}
 use Rattle.input_stack.proofs.Kept.{beneath_read, held_cons}
 use Rattle.input_stack.proofs.Settled.{finished_goes, open_cons, arguments_cons, arguments_used, put_count}
 

@@ -11,7 +11,7 @@ use Rattle.input_stack.specs.declared.reader.Reader.{Reader}
 use Rattle.input_stack.specs.declared.call.Call.{Call}
 use Rattle.input_stack.specs.declared.met.Met.{Met}
 use Rattle.input_stack.specs.declared.met.Met.TheVariants as met_as
-use Rattle.input_stack.specs.Puts.{Item, Text, First, Later, Gap, Put, later_of, argument_of, count_of, without_gaps, first}
+use Rattle.input_stack.specs.Puts.{Item, Text, First, Later, Gap, Put, later_of, argument_of, count_of}
 use Rattle.input_stack.specs.Calls.{Argument, number_of, substituted}
 use Rattle.input_stack.specs.Pulls.{token_in}
 use Rattle.input_stack.specs.Rest.{rest, number, IsAt}

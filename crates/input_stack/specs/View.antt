@@ -1,5 +1,5 @@
 -- The levels of a stack as what is pending.
-use Rattle.std.specs.Prelude.{ℕ, ◌+◌, List, [], ◌∷◌, reverse, Option, sum_by}
+use Rattle.std.specs.Prelude.{ℕ, List, [], ◌∷◌, reverse, Option, sum_by}
 use Rattle.input_stack.specs.Puts.{Put}
 use Rattle.token_lists.specs.Table.{Entry}
 use Rattle.token_lists.specs.Accounts.{holds}

@@ -17,7 +17,9 @@ ghost use Rattle.input_stack.specs.Lasting.{Lasts, LastsBut};
 
 use crate::call::Call;
 use crate::level::{Begun, Level, Pulled, Source};
-use crate::levels::{argument_levels, arguments, close_argument, is_finished, is_passed, next_item, release};
+use crate::levels::{
+    argument_levels, arguments, close_argument, is_finished, is_passed, next_item, release,
+};
 use crate::met::is_opening;
 use crate::pull::{is_token, level_looks, pull_level};
 use crate::reader::Reader;

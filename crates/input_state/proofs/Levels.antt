@@ -45,11 +45,14 @@ text_later (t ∷ ts) x xs is =
 
 plain_top : (p : Put) (xs : List Item) (below rest : List Put) → p.items ≡ xs → IsPlain p → ArePlain below → ArePlain rest → ArePlain (settled_top p xs below rest)
 plain_top p [] below rest at a b c = b
-plain_top p (x ∷ xs) below rest at a b c = (record {
-  arguments = a.arguments;
-  reading = text_later (map token_in p.items) x xs (sym at ∙ a.texts);
-  texts = sym at ∙ a.texts ∙ ap (λ (ys : List Item). map Text (map token_in ys)) at;
-}, c)
+plain_top p (x ∷ xs) below rest at a b c = (
+  record {
+    arguments = a.arguments;
+    reading = text_later (map token_in p.items) x xs (sym at ∙ a.texts);
+    texts = sym at ∙ a.texts ∙ ap (λ (ys : List Item). map Text (map token_in ys)) at;
+  },
+  c,
+)
 
 pub plain_settled : (ps : List Put) → ArePlain ps → ArePlain (settled ps)
 plain_settled [] a = tt

@@ -9,11 +9,11 @@ ghost use Rattle.macro_call.specs.Arguments.{start_of, delimiters_of, gathering,
 ghost use Rattle.macro_call.specs.Cursors.{IsOn};
 ghost use Rattle.macro_call.specs.Scans.{resume, work_in, scan_holds, Owns, IsSound, answer_of, handed, IsOpen, Next, IsBetween, Enters, mode_of, Answers, IsCutShort, TookIn, CutIn, IsReady, IsWhole, Completes};
 
-use macro_args::Args;
 use crate::cursor::{Cursor, at_first};
 use crate::par_mode::ParMode;
 use crate::present::{Present, Step, abandon};
 use crate::tokens::same;
+use macro_args::Args;
 use std::mem;
 use tex_defs::{Full, Seen, Token};
 use token_lists::{Build, ListRef, Lists};

@@ -1,4 +1,4 @@
-use Rattle.std.proofs.Common.{◌∙◌, sym, ap, ap₂, refl, subst, List, ℕ, map, drop, None, Some, arith}
+use Rattle.std.proofs.Common.{◌∙◌, sym, ap, ap₂, refl, subst, List, ℕ, map, None, Some, arith}
 use Rattle.tex_defs.specs.declared.Token.{Token}
 use Rattle.tex_defs.specs.declared.Token.TheVariants.{Number}
 use Rattle.token_lists.specs.Ids.{id_of}

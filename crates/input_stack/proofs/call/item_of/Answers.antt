@@ -1,4 +1,4 @@
-use Rattle.std.proofs.Common.{◌∙◌, sym, ap, List, None, Some, arith}
+use Rattle.std.proofs.Common.{◌∙◌, sym, ap, List, None, Some}
 use Rattle.token_lists.specs.Ids.{id_of}
 use Rattle.token_lists.specs.Table.{tokens_at}
 use Rattle.input_stack.specs.Puts.{Item, first}

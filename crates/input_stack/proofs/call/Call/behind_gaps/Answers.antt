@@ -1,6 +1,5 @@
-use Rattle.std.proofs.Common.{◌∙◌, ◌+◌, sym, ap, ℕ, drop, List}
+use Rattle.std.proofs.Common.{◌∙◌, ◌+◌, sym, ap, ℕ, drop}
 use Rattle.token_lists.specs.Table.{tokens_at}
-use Rattle.tex_defs.specs.declared.Token.{Token}
 use Rattle.input_stack.specs.Puts.{without_gaps}
 use Rattle.input_stack.specs.Calls.{substituted}
 use Rattle.input_stack.specs.Rest.{number}

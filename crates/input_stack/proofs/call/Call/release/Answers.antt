@@ -19,11 +19,11 @@ returns-clause-kept c =
     let filled = λ (h : ℕ). filled_holds c.args.self.args h c.requires.filled in
     record {
       tokens = λ h l.
-        c.release.ensures.kept.tokens h (omega (arith, l, same h, filled h, c.let_go.ensures.account h, c.let_level_go.ensures.account h))
-        ∙ c.let_level_go.ensures.kept.tokens h (omega (arith, l, same h, c.let_go.ensures.account h))
-        ∙ c.let_go.ensures.kept.tokens h (omega (arith, l, same h));
+          c.release.ensures.kept.tokens h (omega (arith, l, same h, filled h, c.let_go.ensures.account h, c.let_level_go.ensures.account h))
+          ∙ c.let_level_go.ensures.kept.tokens h (omega (arith, l, same h, c.let_go.ensures.account h))
+          ∙ c.let_go.ensures.kept.tokens h (omega (arith, l, same h));
       places = λ h l.
-        c.release.ensures.kept.places h (omega (arith, l, same h, filled h, c.let_go.ensures.account h, c.let_level_go.ensures.account h))
-        ∙ c.let_level_go.ensures.kept.places h (omega (arith, l, same h, c.let_go.ensures.account h))
-        ∙ c.let_go.ensures.kept.places h (omega (arith, l, same h));
+          c.release.ensures.kept.places h (omega (arith, l, same h, filled h, c.let_go.ensures.account h, c.let_level_go.ensures.account h))
+          ∙ c.let_level_go.ensures.kept.places h (omega (arith, l, same h, c.let_go.ensures.account h))
+          ∙ c.let_go.ensures.kept.places h (omega (arith, l, same h));
     }

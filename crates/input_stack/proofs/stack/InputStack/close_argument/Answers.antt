@@ -1,5 +1,5 @@
-use Rattle.std.proofs.Common.{◌≡◌, ◌-◌, ◌+◌, ◌∙◌, refl, sym, ap, subst, arith, length, reverse, take, set, ℕ}
-use Rattle.std.proofs.lemmas.List.{length-reverse, length-set}
+use Rattle.std.proofs.Common.{◌-◌, refl, ap, arith, reverse, take}
+use Rattle.std.proofs.lemmas.List.{length-set}
 use Rattle.input_stack.specs.View.{innermost, open_in}
 use Rattle.input_stack.proofs.Tops.{top_of, top_level, top_covers, fits_changed}
 use Rattle.input_stack.proofs.Lines.{top_set}

@@ -1,5 +1,4 @@
-use Rattle.std.proofs.Common.{◌∙◌, ◌++◌, ◌∷◌, [], ap, subst}
-use Rattle.input_stack.specs.declared.level.Level.{Level}
+use Rattle.std.proofs.Common.{subst}
 use Rattle.input_stack.specs.View.{innermost}
 use Rattle.input_stack.specs.Standing.{AreRead}
 use Rattle.input_stack.proofs.Kept.{beneath_read}

@@ -1,7 +1,4 @@
-use Rattle.std.proofs.Common.{◌≡◌, ◌<◌, ◌∙◌, ap, sym, subst, arith, length, List}
-use Rattle.token_lists.specs.Accounts.{Moves, Keeps}
-use Rattle.input_stack.specs.declared.level.Level.{Level}
-use Rattle.input_stack.specs.View.{innermost, pending_in}
+use Rattle.input_stack.specs.View.{innermost}
 use Rattle.input_stack.proofs.Tops.{top_level, top_covers, dropped, dropped_held, dropped_keeps}
 use Rattle.input_stack.proofs.stack.InputStack.drop_top.Goals as goal
 

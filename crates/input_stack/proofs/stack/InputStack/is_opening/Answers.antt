@@ -1,4 +1,4 @@
-use Rattle.std.proofs.Common.{◌≡◌, ◌∙◌, sym, ap, arith, Option}
+use Rattle.std.proofs.Common.{◌∙◌, sym, ap, arith, Option}
 use Rattle.input_stack.specs.Puts.{Item}
 use Rattle.input_stack.specs.CallViews.{met, is_opening}
 use Rattle.input_stack.proofs.Ready.{take_top, ready_level, ready_under}

@@ -1,4 +1,4 @@
-use Rattle.std.proofs.Common.{◌≡◌, ◌∙◌, sym, arith}
+use Rattle.std.proofs.Common.{◌∙◌, sym, arith}
 use Rattle.input_stack.specs.View.{pending, innermost}
 use Rattle.input_stack.specs.Pending.{without_top}
 use Rattle.input_stack.proofs.Gaps.{passed_some, passes_on}

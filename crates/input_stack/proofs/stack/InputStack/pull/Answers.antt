@@ -1,4 +1,4 @@
-use Rattle.std.proofs.Common.{◌≡◌, ◌+◌, ◌∙◌, sym, ap, arith, length, ℕ, Option, cond, None}
+use Rattle.std.proofs.Common.{◌+◌, ◌∙◌, sym, ap, arith, length, ℕ, Option, cond, None}
 use Rattle.input_stack.specs.Puts.{Item, next_item}
 use Rattle.input_stack.specs.CallViews.{opened}
 use Rattle.input_stack.specs.Pending.{room}

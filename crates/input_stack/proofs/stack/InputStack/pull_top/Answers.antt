@@ -1,10 +1,9 @@
-use Rattle.std.proofs.Common.{◌≡◌, ◌-◌, ◌+◌, ◌∙◌, refl, sym, ap, subst, arith, length, reverse, take, set, ℕ, Option, cond, Bool, false}
+use Rattle.std.proofs.Common.{◌-◌, ◌+◌, ◌∙◌, refl, sym, ap, subst, arith, length, reverse, take, ℕ, Option, cond, Bool}
 use Rattle.std.proofs.lemmas.List.{length-reverse, length-set}
 use Rattle.input_stack.specs.Puts.{Item}
 use Rattle.input_stack.specs.CallViews.{met, is_opening, opened, Shares, IsCountable}
-use Rattle.input_stack.specs.Levels.{level_item, is_top_passed}
-use Rattle.input_stack.specs.View.{innermost, pending, held_in, open_in}
-use Rattle.input_stack.proofs.Settled.{open_cons}
+use Rattle.input_stack.specs.Levels.{is_top_passed}
+use Rattle.input_stack.specs.View.{innermost, held_in}
 use Rattle.input_stack.proofs.Tops.{top_of, top_level, fits_changed}
 use Rattle.input_stack.proofs.Lines.{top_set}
 use Rattle.input_stack.proofs.Gaps.{top_next}

@@ -1,4 +1,4 @@
-use Rattle.std.proofs.Common.{◌≡◌, ◌+◌, ◌∙◌, sym, ap, length, ℕ}
+use Rattle.std.proofs.Common.{◌+◌, ◌∙◌, sym, ap, length, ℕ}
 use Rattle.input_stack.specs.Pending.{room}
 use Rattle.input_stack.specs.View.{pending}
 use Rattle.input_stack.proofs.Pushed.{used_is, room_left}

@@ -1,4 +1,4 @@
-use Rattle.std.proofs.Common.{◌≡◌, ◌<◌, ◌+◌, ◌∙◌, sym, ap, refl, arith, length, ℕ}
+use Rattle.std.proofs.Common.{◌<◌, ◌+◌, ◌∙◌, sym, ap, refl, arith, length, ℕ}
 use Rattle.token_lists.specs.Ids.{id_of}
 use Rattle.token_lists.specs.Accounts.{holds}
 use Rattle.token_lists.specs.Table.{tokens_at}
