@@ -85,7 +85,7 @@ pub fn without_list(meaning: Meaning<()>) -> Kept
 fn is_primitive(number: u16) -> bool
     ensures { result ≡ is_primitive number }
 {
-    matches!(number, 5 | 6 | 9 | 35)
+    matches!(number, 1 | 5 | 6 | 9 | 23 | 24 | 25 | 35)
 }
 
 // What the name of a primitive means at first.
