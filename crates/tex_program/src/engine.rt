@@ -42,8 +42,8 @@ use name_table::NameTable;
 use std::alloc::{AllocError, Global};
 use tex_defs::{Fatal, Full, Meaning, Name, Seen, Sizes, Table, Token};
 use transcript::{
-    Report, Scanned, initial_view, put, write_message, write_missing_file, write_report, write_runaway,
-    write_token_line,
+    Report, Scanned, initial_view, put, write_message, write_missing_file, write_report,
+    write_runaway, write_token_line,
 };
 use world_io::Sink;
 
