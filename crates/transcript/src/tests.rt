@@ -30,6 +30,84 @@ fn append_copies(
     Ok(())
 }
 
+/// Each report with its text, where the name numbered 1 is `message`, on line 7.
+const REPORTS: [(Report, &[u8]); 20] = [
+    (
+        Report::UndefinedName,
+        b"! Undefined control sequence.\nl.7\n",
+    ),
+    (
+        Report::InvalidCharacter,
+        b"! Text line contains an invalid character.\nl.7\n",
+    ),
+    (
+        Report::ImproperConstant,
+        b"! Improper alphabetic constant.\nl.7\n",
+    ),
+    (
+        Report::MissingNumber,
+        b"! Missing number, treated as zero.\nl.7\n",
+    ),
+    (Report::NumberTooBig, b"! Number too big.\nl.7\n"),
+    (
+        Report::BadCharacterCode(-2147483648),
+        b"! Bad character code (-2147483648).\nl.7\n",
+    ),
+    (
+        Report::InvalidCode(16, 15),
+        b"! Invalid code (16), should be in the range 0..15.\nl.7\n",
+    ),
+    (Report::MissingBrace, b"! Missing { inserted.\nl.7\n"),
+    (
+        Report::FileEnded(Scanned::Text, Name::Word(1)),
+        b"! File ended while scanning text of \\message.\nl.7\n",
+    ),
+    (
+        Report::FileEnded(Scanned::Use, Name::Single(97)),
+        b"! File ended while scanning use of \\a.\nl.7\n",
+    ),
+    (
+        Report::Forbidden(Scanned::Definition, Name::Active(126)),
+        b"! Forbidden control sequence found while scanning definition of ~.\nl.7\n",
+    ),
+    (
+        Report::MissingName,
+        b"! Missing control sequence inserted.\nl.7\n",
+    ),
+    (
+        Report::NotConsecutive,
+        b"! Parameters must be numbered consecutively.\nl.7\n",
+    ),
+    (
+        Report::AlreadyNine,
+        b"! You already have nine parameters.\nl.7\n",
+    ),
+    (
+        Report::IllegalNumber(Name::Single(97)),
+        b"! Illegal parameter number in definition of \\a.\nl.7\n",
+    ),
+    (
+        Report::UseMismatch(Name::Single(97)),
+        b"! Use of \\a doesn't match its definition.\nl.7\n",
+    ),
+    (
+        Report::ExtraBrace(Name::Single(97)),
+        b"! Argument of \\a has an extra }.\nl.7\n",
+    ),
+    (
+        Report::ParagraphEnded(Name::Single(97)),
+        b"! Paragraph ended before \\a was complete.\nl.7\n",
+    ),
+    (
+        Report::PrefixWith(Meaning::Char { cat: 11, code: 120 }),
+        b"! You can't use a prefix with `the letter x'.\nl.7\n",
+    ),
+    (
+        Report::LongOrOuterWith(Meaning::Prim(35)),
+        b"! You can't use `\\long' or `\\outer' with `\\catcode'.\nl.7\n",
+    ),
+];
+
 #[test]
 fn reports(rt: HostRuntime) -> Result<(), Fail> {
     let lists = Lists::new(rt.alloc(), 100)?;
@@ -39,83 +117,7 @@ fn reports(rt: HostRuntime) -> Result<(), Fail> {
     assert_eq!(rt; entered, Ok(1));
     let categories = [12; 256];
     let view = initial_view(&lists, &hash, &pool, &categories);
-    let rows: [(Report, &[u8]); 20] = [
-        (
-            Report::UndefinedName,
-            b"! Undefined control sequence.\nl.7\n",
-        ),
-        (
-            Report::InvalidCharacter,
-            b"! Text line contains an invalid character.\nl.7\n",
-        ),
-        (
-            Report::ImproperConstant,
-            b"! Improper alphabetic constant.\nl.7\n",
-        ),
-        (
-            Report::MissingNumber,
-            b"! Missing number, treated as zero.\nl.7\n",
-        ),
-        (Report::NumberTooBig, b"! Number too big.\nl.7\n"),
-        (
-            Report::BadCharacterCode(-2147483648),
-            b"! Bad character code (-2147483648).\nl.7\n",
-        ),
-        (
-            Report::InvalidCode(16, 15),
-            b"! Invalid code (16), should be in the range 0..15.\nl.7\n",
-        ),
-        (Report::MissingBrace, b"! Missing { inserted.\nl.7\n"),
-        (
-            Report::FileEnded(Scanned::Text, Name::Word(1)),
-            b"! File ended while scanning text of \\message.\nl.7\n",
-        ),
-        (
-            Report::FileEnded(Scanned::Use, Name::Single(97)),
-            b"! File ended while scanning use of \\a.\nl.7\n",
-        ),
-        (
-            Report::Forbidden(Scanned::Definition, Name::Active(126)),
-            b"! Forbidden control sequence found while scanning definition of ~.\nl.7\n",
-        ),
-        (
-            Report::MissingName,
-            b"! Missing control sequence inserted.\nl.7\n",
-        ),
-        (
-            Report::NotConsecutive,
-            b"! Parameters must be numbered consecutively.\nl.7\n",
-        ),
-        (
-            Report::AlreadyNine,
-            b"! You already have nine parameters.\nl.7\n",
-        ),
-        (
-            Report::IllegalNumber(Name::Single(97)),
-            b"! Illegal parameter number in definition of \\a.\nl.7\n",
-        ),
-        (
-            Report::UseMismatch(Name::Single(97)),
-            b"! Use of \\a doesn't match its definition.\nl.7\n",
-        ),
-        (
-            Report::ExtraBrace(Name::Single(97)),
-            b"! Argument of \\a has an extra }.\nl.7\n",
-        ),
-        (
-            Report::ParagraphEnded(Name::Single(97)),
-            b"! Paragraph ended before \\a was complete.\nl.7\n",
-        ),
-        (
-            Report::PrefixWith(Meaning::Char { cat: 11, code: 120 }),
-            b"! You can't use a prefix with `the letter x'.\nl.7\n",
-        ),
-        (
-            Report::LongOrOuterWith(Meaning::Prim(35)),
-            b"! You can't use `\\long' or `\\outer' with `\\catcode'.\nl.7\n",
-        ),
-    ];
-    for (report, wanted) in rows {
+    for (report, wanted) in REPORTS {
         let mut sink = MemSink::new(rt.alloc());
         let mut in_line = false;
         assert_eq!(rt;
