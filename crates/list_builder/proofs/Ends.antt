@@ -1,10 +1,9 @@
 -- A list that is complete stays so.
 use Rattle.std.proofs.Common.{◌≡◌, Bool, true, false, List, [], ◌∷◌, ◌++◌, ◌+◌, ◌-◌, Some, None}
-use Rattle.std.specs.Prelude.{if◌then◌else◌, ◌==◌, ◌||◌, nat_le}
+use Rattle.std.specs.Prelude.{if◌then◌else◌, ◌==◌, nat_le}
 use Rattle.tex_defs.specs.declared.Token.{Token}
 use Rattle.tex_defs.specs.declared.Token.TheVariants.{Place, Number, EndPlaces}
-use Rattle.plain_state.specs.Categories.{begin_group, end_group, space}
-use Rattle.plain_state.specs.Names.{means_relax}
+use Rattle.plain_state.specs.Categories.{begin_group, end_group}
 use Rattle.plain_state.specs.Readings.{has_category, means_category}
 use Rattle.list_builder.specs.declared.stage.Manner.{Manner}
 use Rattle.list_builder.specs.declared.stage.Stage.{Stage}
@@ -23,7 +22,7 @@ ends m First list (Told ∷ fed) more ts e = ends m First list fed more ts e
 ends m First list (Given us ∷ fed) more ts e = ends m First list fed more ts e
 ends m First list (Tok x ∷ fed) more ts e =
     split (means_category begin_group x.meaning) _ _ _ _ ts (λ h. ends m (InBody text_body 0) list fed more ts h)
-    (λ g. split (means_category space x.meaning || means_relax x.meaning) _ _ _ _ ts (λ h. ends m First list fed more ts h) (λ h. ends m FirstMissing list fed more ts h) g) e
+    (λ h. ends m FirstMissing list fed more ts h) e
 ends m FirstMissing list [] more ts e = cc
 ends m FirstMissing list (Told ∷ fed) more ts e = ends m (InBody text_body 0) list fed more ts e
 ends m FirstMissing list (Given us ∷ fed) more ts e = ends m FirstMissing list fed more ts e

@@ -1,13 +1,12 @@
 -- What definitions and texts come to.
 use Rattle.std.proofs.Common.{◌≡◌, ℕ, ◌+◌, ◌≤◌, Bool, true, false, List, [], ◌∷◌, ◌++◌, Option, Some, None, refl, sym, ap, ◌∙◌, arith, append_assoc}
-use Rattle.std.specs.Prelude.{if◌then◌else◌, ◌&&◌, ◌||◌, nat_le}
+use Rattle.std.specs.Prelude.{if◌then◌else◌, ◌&&◌, nat_le}
 use Rattle.std.proofs.lemmas.Bool.Decides.{nat_tests}
 use Rattle.std.proofs.lemmas.List.{append-nil}
 use Rattle.tex_defs.specs.declared.Token.{Token}
 use Rattle.tex_defs.specs.declared.Token.TheVariants.{Char, Named, Marked, Place, Number, EndPlaces}
 use Rattle.tex_defs.specs.declared.Meaning.{Meaning}
-use Rattle.plain_state.specs.Categories.{begin_group, end_group, space}
-use Rattle.plain_state.specs.Names.{means_relax}
+use Rattle.plain_state.specs.Categories.{begin_group, end_group}
 use Rattle.plain_state.specs.Readings.{has_category, means_category}
 use Rattle.list_builder.specs.declared.stage.Manner.{Manner}
 use Rattle.list_builder.specs.declared.stage.Stage.{Stage}
@@ -57,7 +56,7 @@ texts m First (Given us ∷ fed) ts w clean e = texts m First fed ts tt clean.1 
 texts m First (Tok x ∷ fed) ts w clean e =
     chosen (means_category begin_group x.meaning) _ _ ts
     (λ a i. text_of ts (completed [] m (InBody text_body 0) [] fed ts (stood_begun [] 0) clean.1 i))
-    (λ a g. chosen (means_category space x.meaning || means_relax x.meaning) _ _ ts (λ o i. texts m First fed ts tt clean.1 i) (λ o i. texts m FirstMissing fed ts tt clean.1 i) g) e
+    (λ a i. texts m FirstMissing fed ts tt clean.1 i) e
 texts m FirstMissing [] ts w clean e = absurd (cc)
 texts m FirstMissing (Told ∷ fed) ts w clean e = text_of ts (completed [] m (InBody text_body 0) [] fed ts (stood_begun [] 0) clean e)
 texts m FirstMissing (Given us ∷ fed) ts w clean e = texts m FirstMissing fed ts tt clean.1 e

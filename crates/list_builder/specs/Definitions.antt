@@ -1,16 +1,15 @@
 -- The list of a definition and that of a balanced text, as functions of all that was read.
 -- The TeXbook, chapter 20; TeX: The Program, part 27.
-use Rattle.std.specs.Prelude.{ℕ, ◌+◌, ◌-◌, ◌==◌, Bool, true, false, ◌&&◌, ◌||◌, nat_le, if◌then◌else◌, List, [], ◌∷◌, ◌++◌, Option, Some, None, is_some}
+use Rattle.std.specs.Prelude.{ℕ, ◌+◌, ◌-◌, ◌==◌, Bool, true, false, ◌&&◌, nat_le, if◌then◌else◌, List, [], ◌∷◌, ◌++◌, Option, Some, None, is_some}
 use Rattle.tex_defs.specs.declared.Token.{Token}
 use Rattle.tex_defs.specs.declared.Token.TheVariants.{Char, Place, Number, EndPlaces}
 use Rattle.tex_defs.specs.declared.Meaning.{Meaning}
 use Rattle.tex_defs.specs.declared.Meaning.TheVariants as means
 use Rattle.tex_defs.specs.declared.Seen.{Seen}
-use Rattle.plain_state.specs.Categories.{begin_group, end_group, parameter, space, other, is_between}
-use Rattle.plain_state.specs.Names.{means_relax}
+use Rattle.plain_state.specs.Categories.{begin_group, end_group, parameter, other, is_between}
 use Rattle.plain_state.specs.Readings.{has_category, is_other, means_category}
 use Rattle.list_builder.specs.declared.ask.Want.{Want}
-use Rattle.list_builder.specs.declared.ask.Want.TheVariants.{Raw, Expanded, Copied, Nonblank}
+use Rattle.list_builder.specs.declared.ask.Want.TheVariants.{Raw, Expanded, Copied, Command}
 use Rattle.list_builder.specs.declared.ask.Report.{Report}
 use Rattle.list_builder.specs.declared.ask.Report.TheVariants.{NotConsecutive, AlreadyNine, IllegalNumber, MissingBrace}
 use Rattle.list_builder.specs.declared.stage.Manner.{Manner}
@@ -155,8 +154,8 @@ abbrev mutual
 abbrev pub definition : Manner → List Fed → Answer
 definition m fed = parameters m 0 [] fed
 
--- A BALANCED TEXT. Its first brace, perhaps implicit, is sought by expansion, behind spaces and \relax; where another
--- token comes, that is put back and a brace taken.
+-- A BALANCED TEXT. Its first brace, perhaps implicit, is sought by expansion, with spaces and \relax skipped before they
+-- are fed; where another token comes, that is put back and a brace taken.
 
 abbrev pub text_body : Body
 text_body = record { places = None; brace = None }
@@ -168,12 +167,11 @@ missing m list (Given ts ∷ fed) = missing m list fed
 missing m list (Tok x ∷ fed) = missing m list fed
 
 abbrev pub first : Manner → (list : List Token) → List Fed → Answer
-first m list [] = More Nonblank list
+first m list [] = More Command list
 first m list (Told ∷ fed) = first m list fed
 first m list (Given ts ∷ fed) = first m list fed
 first m list (Tok x ∷ fed) =
     if means_category begin_group x.meaning then body m text_body 0 list fed
-    else if means_category space x.meaning || means_relax x.meaning then first m list fed
     else missing m list fed
 
 -- what a balanced text asks for

@@ -5,7 +5,7 @@ use Rattle.tex_defs.specs.declared.Token.TheVariants.{Char, Named, Place, Number
 use Rattle.tex_defs.specs.declared.Name.TheVariants.{Single}
 use Rattle.tex_defs.specs.declared.Meaning.TheVariants as means
 use Rattle.list_builder.specs.declared.stage.Manner.{Manner}
-use Rattle.list_builder.specs.declared.ask.Want.TheVariants.{Raw, Expanded, Copied, Nonblank}
+use Rattle.list_builder.specs.declared.ask.Want.TheVariants.{Raw, Expanded, Copied, Command}
 use Rattle.list_builder.specs.declared.ask.Report.TheVariants.{NotConsecutive, AlreadyNine, IllegalNumber, MissingBrace}
 use Rattle.list_builder.specs.Definitions.{Fed, Tok, Told, Given, More, Tells, Done, definition, text}
 
@@ -100,11 +100,14 @@ pub record WorkedTexts : Type 0 where
   pub plain : text raw (left ∷ letter 97 ∷ mark ∷ digit 1 ∷ right ∷ []) ≡ Done (Char 11 97 ∷ Char 6 35 ∷ Char 12 49 ∷ [])
   pub none : text raw (left ∷ right ∷ []) ≡ Done []
   pub nested : text raw (left ∷ left ∷ right ∷ right ∷ []) ≡ Done (Char 1 123 ∷ Char 2 125 ∷ [])
-  -- the first brace: behind \relax, by a name; but a name closes nothing
-  pub by_name : text raw (relax ∷ implicit 1 ∷ implicit 2 ∷ right ∷ []) ≡ Done (Named (Single 98) ∷ [])
-  pub first : text raw [] ≡ More Nonblank []
+  -- the first brace may be a name's; but a name closes nothing
+  pub by_name : text raw (implicit 1 ∷ implicit 2 ∷ right ∷ []) ≡ Done (Named (Single 98) ∷ [])
+  pub first : text raw [] ≡ More Command []
   pub wanted : text raw (left ∷ []) ≡ More Raw []
   pub wanted_expanded : text expanded (left ∷ []) ≡ More Copied []
   -- where it is missing
   pub missing : text raw (letter 97 ∷ []) ≡ Tells MissingBrace true []
+  -- what is skipped before it is fed is no brace either
+  pub relax_missing : text raw (relax ∷ []) ≡ Tells MissingBrace true []
+  pub space_missing : text raw (read 10 32 ∷ []) ≡ Tells MissingBrace true []
   pub behind_missing : text raw (letter 97 ∷ Told ∷ letter 97 ∷ right ∷ []) ≡ Done (Char 11 97 ∷ [])

@@ -11,8 +11,8 @@ pub enum Want {
     Expanded,
     /// By expansion; the tokens of a token list behind `\the` are handed over as they are, as a list.
     Copied,
-    /// By expansion, with spaces skipped.
-    Nonblank,
+    /// By expansion, with spaces and `\relax` skipped.
+    Command,
 }
 
 /// What is reported. *The TeXbook*, chapters 20 and 27.

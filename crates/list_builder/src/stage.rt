@@ -4,7 +4,6 @@ ghost use Rattle.list_builder.specs.declared.stage.Next.TheVariants.{On};
 ghost use Rattle.tex_defs.specs.declared.Token.{Token};
 ghost use Rattle.list_builder.specs.declared.stage.Manner.{Manner};
 ghost use Rattle.token_lists.specs.Table.{Entry};
-ghost use Rattle.plain_state.specs.Names.{means_relax};
 ghost use Rattle.plain_state.specs.Readings.{has_category, is_other, means_category};
 ghost use Rattle.list_builder.specs.Definitions.{Fed, Tok, Told, body_want, number_want, is_parameter, character_of, is_number, number_of, is_reference, first, parameters, place, body, reference};
 ghost use Rattle.list_builder.specs.Stages.{resume, depth_of, IsTelling, goes, depth_after, growth};
@@ -131,16 +130,6 @@ fn number_of(token: Token, count: u8) -> Option<u8>
     }
 }
 
-fn means_relax(meaning: Meaning<()>) -> bool
-    ensures { result ≡ means_relax meaning }
-{
-    match meaning {
-        Meaning::RelaxMarked => true,
-        Meaning::Prim(number) => number == 1,
-        _ => false,
-    }
-}
-
 impl Body {
     // Whether a token is a parameter character that stands for a parameter.
     fn is_reference(self, x: Seen) -> bool
@@ -181,7 +170,7 @@ impl Stage {
         ensures goes_on { IsOpen result }
     {
         match self {
-            Stage::First => Ask::More(Want::Nonblank),
+            Stage::First => Ask::More(Want::Command),
             Stage::FirstMissing => Ask::Tells(Report::MissingBrace, true),
             Stage::Parameters(_) | Stage::Place(_, _) => Ask::More(Want::Raw),
             Stage::Misnumbered(_, _) => Ask::Tells(Report::NotConsecutive, true),
@@ -206,9 +195,6 @@ impl Stage {
                 brace: None,
             };
             return Step::to(Stage::InBody(body, 0));
-        }
-        if means_category(x.meaning, 10) || means_relax(x.meaning) {
-            return Step::to(Stage::First);
         }
         Step::to(Stage::FirstMissing)
     }

@@ -326,7 +326,7 @@ fn list_in_work_is_lent(rt: HostRuntime) -> Result<(), Fail> {
         }
     };
     scan.abandon(&mut lists);
-    assert_eq!(rt; (begun, used, wants), (true, 1, Some(Want::Nonblank)));
+    assert_eq!(rt; (begun, used, wants), (true, 1, Some(Want::Command)));
     assert_eq!(rt; lists.used(), 0);
     Ok(())
 }

@@ -1,5 +1,5 @@
 -- What a scanner answers to a token in a place.
-use Rattle.std.proofs.Common.{◌≡◌, ℕ, List, [], ◌∷◌, ◌++◌, take, drop, true, false, Option, None, Some, refl, sym, ap, ap₂, subst, ◌∙◌, arith, inl, inr, Result, Ok, Err}
+use Rattle.std.proofs.Common.{◌≡◌, ℕ, List, [], ◌∷◌, ◌++◌, take, drop, Bool, true, false, Option, None, Some, refl, sym, ap, ap₂, subst, ◌∙◌, arith, inl, inr, Result, Ok, Err}
 use Rattle.std.specs.Result.{IfOk, OnErr}
 use Rattle.tex_defs.specs.declared.Full.{Full}
 use Rattle.std.proofs.lemmas.Option.{none-some}
@@ -9,7 +9,7 @@ use Rattle.token_lists.specs.Table.{Entry, tokens_at}
 use Rattle.token_lists.specs.Accounts.{Moves, Keeps, none}
 use Rattle.macro_call.specs.declared.par_mode.ParMode.{ParMode}
 use Rattle.macro_call.specs.declared.par_mode.ParMode.TheVariants.{Short}
-use Rattle.macro_call.specs.Arguments.{delimiters_of, Fed, Tok, arguments}
+use Rattle.macro_call.specs.Arguments.{delimiters_of, Fed, Tok, Ended, arguments, is_checked}
 use Rattle.macro_call.specs.declared.cursor.Cursor.{Cursor}
 use Rattle.macro_call.specs.declared.present.Present.{Present}
 use Rattle.macro_call.specs.declared.present.Step.{Step}
@@ -51,6 +51,16 @@ module _ (old_table table : List (Option Entry)) (macro : ℕ) (old : ArgScan) (
   pub braced : Parts old_table table macro old.cursor old.mode x step.ExtraBrace old.present n → Answers old_table table macro old (record { cursor = old.cursor; mode = Short; braced = true; present = n; args = old.args }) x ask.ExtraBrace
   braced t = goes old_table table macro old x t.p t.was sound t.took.2 account t.q n t.now t.took.0 t.took.1 Short true _ _ t.took.3.goes_on.2 t.took.3.goes_on.0 t.took.3.goes_on.1 ask.ExtraBrace refl (λ h. refl) (λ left. tt)
       (case_on old_table table macro old x t.p t.was sound t.took.2 account _ t.took.3.met)
+
+  pub ended : (silent : Bool) → silent ≡ is_checked old.mode → Parts old_table table macro old.cursor old.mode x step.ParEnded old.present n → Answers old_table table macro old (record { cursor = old.cursor; mode = old.mode; braced = false; present = n; args = old.args }) x (ask.ParEnded silent)
+  ended silent is t = record {
+    answers = ap₂ (λ (b : Bool) (ts : List Token). Ended b ts) is (ap (work_by table) t.now ∙ t.took.3.goes_on) ∙ sym (case_on old_table table macro old x t.p t.was sound t.took.2 account _ t.took.3.met []);
+    goes_on = λ o. absurd o;
+    owns = now_owns old_table table macro old x t.p t.was sound t.took.2 account t.q n t.now t.took.0 t.took.1 old.mode false;
+    hands = tt;
+    moves = λ h. omega (arith, now_moves old_table table macro old x t.p t.was sound t.took.2 account t.q n t.now t.took.0 t.took.1 old.mode false h);
+    kept = shared_kept old_table table macro old t.p t.was (here old_table table macro old x t.p t.was sound t.took.2 account).0 sound.owns sound.outside t.took.2;
+  }
 
   -- the argument is whole
   module _ (taken : ArgScan) (is : taken ≡ record { cursor = old.cursor; mode = old.mode; braced = false; present = n; args = old.args }) (between_table : List (Option Entry)) (mid : ArgScan)

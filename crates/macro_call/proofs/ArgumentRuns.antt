@@ -10,16 +10,16 @@ use Rattle.macro_call.specs.ArgumentLaws.{IsClosed}
 pub arguments_behind : (mode : ParMode) (args places : List (List Token)) (ds : List Token) (fed : List Fed) → arguments mode args (ds ∷ places) fed ≡ behind args places (search ds More mode [] [] fed)
 arguments_behind mode args places ds fed = at (search ds More mode [] [] fed)
   where
-    at : (found : Found) → (elim found [ Sought answer ↦ answer | Gathered next a rest ↦ arguments next (args ++ a ∷ []) places rest | Failed next ↦ Ended (is_checked next) ]) ≡ behind args places found
+    at : (found : Found) → (elim found [ Sought answer ↦ answer | Gathered next a rest ↦ arguments next (args ++ a ∷ []) places rest | Failed next list ↦ Ended (is_checked next) list ]) ≡ behind args places found
     at (Sought a) = refl
     at (Gathered next a rest) = refl
-    at (Failed next) = refl
+    at (Failed next list) = refl
 
 -- what the search comes to once the case is known
 abbrev pub found_after : List Token → ParMode → (kept t : List Token) → Token → List Fed → Case → Found
 found_after ds mode kept t x fed (Argument a) = Gathered mode a fed
 found_after ds mode kept t x fed ExtraBrace = search ds ExtraBraceFound Short (kept ++ t) [] fed
-found_after ds mode kept t x fed ParEnded = Failed mode
+found_after ds mode kept t x fed ParEnded = Failed mode (kept ++ t)
 found_after ds mode kept t x fed Skipped = search ds More mode kept t fed
 found_after ds mode kept t x fed Going = search ds More mode kept (t ++ x ∷ []) fed
 
@@ -30,7 +30,7 @@ search_at ds now mode kept t x fed c e = at (case_at ds mode kept t x) ∙ ap (f
     at : (d : Case) → (elim d [
       | Argument a ↦ Gathered mode a fed
       | ExtraBrace ↦ search ds ExtraBraceFound Short (kept ++ t) [] fed
-      | ParEnded ↦ Failed mode
+      | ParEnded ↦ Failed mode (kept ++ t)
       | Skipped ↦ search ds More mode kept t fed
       | Going ↦ search ds More mode kept (t ++ x ∷ []) fed
     ]) ≡ found_after ds mode kept t x fed d
@@ -44,7 +44,7 @@ search_at ds now mode kept t x fed c e = at (case_at ds mode kept t x) ∙ ap (f
 abbrev Grows : Found → Found → List Fed → Type 0
 Grows (Sought a) found more = IsClosed a → ⊥
 Grows (Gathered mode a rest) found more = found ≡ Gathered mode a (rest ++ more)
-Grows (Failed mode) found more = found ≡ Failed mode
+Grows (Failed mode list) found more = found ≡ Failed mode list
 
 case_grows : (ds : List Token) (mode : ParMode) (kept t : List Token) (x : Token) (fed more : List Fed) (c : Case) →
     ((now : List Token → Answer) (mode : ParMode) (kept t : List Token) → ((w : List Token) → IsClosed (now w) → ⊥) → Grows (search ds now mode kept t fed) (search ds now mode kept t (fed ++ more)) more) →
@@ -74,7 +74,7 @@ found_stays : (args places : List (List Token)) (more : List Fed) (f g : Found) 
     behind args places g ≡ behind args places f
 found_stays args places more (Sought a) g h c ih = absurd (h c)
 found_stays args places more (Gathered mode a rest) g h c ih = ap (behind args places) h ∙ ih mode (args ++ a ∷ []) rest c
-found_stays args places more (Failed mode) g h c ih = ap (behind args places) h
+found_stays args places more (Failed mode list) g h c ih = ap (behind args places) h
 
 arguments_stay : (places : List (List Token)) (more : List Fed) (mode : ParMode) (args : List (List Token)) (fed : List Fed) → IsClosed (arguments mode args places fed) → arguments mode args places (fed ++ more) ≡ arguments mode args places fed
 arguments_stay [] more mode args fed c = refl

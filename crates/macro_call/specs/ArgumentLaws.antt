@@ -10,7 +10,7 @@ IsClosed (More work) = ⊥
 IsClosed (ExtraBraceFound work) = ⊥
 IsClosed (Called args) = Unit {0}
 IsClosed Mismatch = Unit {0}
-IsClosed (Ended silent) = Unit {0}
+IsClosed (Ended silent list) = Unit {0}
 
 -- What ends a call is decided by the fewest tokens: nothing that follows changes it.
 abbrev pub CallsEndAtOnce : Type 0

@@ -217,13 +217,13 @@ pub data Fed : Type 0 where
 
 -- What it answers: more is needed, with the list in work; an extra `}`, with the list in work; the arguments; that the
 -- tokens before the first place don't match; that a `\par` ended it, silently where the macro counts as not \long only
--- since a check.
+-- since a check, with all that was read of the present argument in front of the `\par`.
 pub data Answer : Type 0 where
   More : List Token → Answer
   ExtraBraceFound : List Token → Answer
   Called : List (List Token) → Answer
   Mismatch : Answer
-  Ended : (silent : Bool) → Answer
+  Ended : (silent : Bool) → List Token → Answer
 
 abbrev pub is_checked : ParMode → Bool
 is_checked Long = false
@@ -237,10 +237,11 @@ in_work ds kept t = kept ++ unmatched ds 0 t
 pub data Found : Type 0 where
   Sought : Answer → Found
   Gathered : ParMode → List Token → List Fed → Found
-  Failed : ParMode → Found
+  Failed : ParMode → List Token → Found
 
 -- The first m at which the tokens read meet a case: t was read so far and met none. Behind an extra `}` no match
--- begins before it, and the macro counts as not \long.
+-- begins before it, and the macro counts as not \long. A `\par` that ends the call isn't in the list; a partial match
+-- that it broke off is.
 abbrev pub search : List Token → (now : List Token → Answer) → ParMode → (kept t : List Token) → List Fed → Found
 search ds now mode kept t [] = Sought (now (in_work ds kept t))
 search ds now mode kept t (Cut ∷ fed) = search ds More Checked kept t fed
@@ -249,7 +250,7 @@ search ds now mode kept t (Tok x ∷ fed) =
     elim (case_at ds mode kept t x) [
       | Argument a ↦ Gathered mode a fed
       | ExtraBrace ↦ search ds ExtraBraceFound Short (kept ++ t) [] fed
-      | ParEnded ↦ Failed mode
+      | ParEnded ↦ Failed mode (kept ++ t)
       | Skipped ↦ search ds More mode kept t fed
       | Going ↦ search ds More mode kept (t ++ x ∷ []) fed
     ]
@@ -261,14 +262,14 @@ arguments mode args (ds ∷ places) fed =
     elim (search ds More mode [] [] fed) [
       | Sought answer ↦ answer
       | Gathered next a rest ↦ arguments next (args ++ a ∷ []) places rest
-      | Failed next ↦ Ended (is_checked next)
+      | Failed next list ↦ Ended (is_checked next) list
     ]
 
 -- once the search in a place has come to this
 abbrev pub behind : (args places : List (List Token)) → Found → Answer
 behind args places (Sought a) = a
 behind args places (Gathered mode a rest) = arguments mode (args ++ a ∷ []) places rest
-behind args places (Failed mode) = Ended (is_checked mode)
+behind args places (Failed mode list) = Ended (is_checked mode) list
 
 -- The tokens before the first place must be equal one by one.
 abbrev pub call : ParMode → (start : List Token) → (places : List (List Token)) → List Fed → Answer

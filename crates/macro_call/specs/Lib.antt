@@ -1,5 +1,6 @@
 pub mod Arguments
 pub mod ArgumentLaws
+pub mod Rows
 pub mod Cursors
 pub mod Tables
 pub mod Braces

@@ -72,7 +72,7 @@ answer_of table ask.More work = More work
 answer_of table ask.ExtraBrace work = ExtraBraceFound work
 answer_of table (ask.Called args) work = Called (args_in table args)
 answer_of table ask.Mismatch work = Mismatch
-answer_of table (ask.ParEnded silent) work = Ended silent
+answer_of table (ask.ParEnded silent) work = Ended silent work
 
 -- what the answer hands out
 abbrev pub handed : ArgAsk → ℕ → ℕ

@@ -1,5 +1,6 @@
 // Laws of macro arguments: the functions have no bodies, their contracts are the laws.
 ghost use Rattle.macro_call.specs.ArgumentLaws.{CallsEndAtOnce, ArgumentsAreShortest, DelimitedListsAreBalanced, OneGroupLosesBraces, MatchesRestart};
+ghost use Rattle.macro_call.specs.Rows.{WorkedCalls};
 
 /// What ends a call is decided by the fewest tokens.
 pub fn calls_end_at_once()
@@ -24,4 +25,9 @@ pub fn one_group_loses_braces()
 /// The partial match is the longest that may go on, so a match that fails begins again at the next token.
 pub fn matches_restart()
     ensures { MatchesRestart }
+{}
+
+/// Worked rows: what some calls come to that a `\par` ends.
+pub fn worked_calls()
+    ensures { WorkedCalls }
 {}

@@ -43,7 +43,8 @@ pub enum ArgAsk {
     Mismatch,
     /// A right brace that closes nothing came: "Argument of \a has an extra }". It is put back behind a `\par`.
     ExtraBrace,
-    /// A `\par` ended the call: "Paragraph ended before \a was complete", or, where this is true, without a report.
+    /// A `\par` ended the call: "Paragraph ended before \a was complete", or, where this is true, without a report. The
+    /// list in work is all that was read of the present argument in front of the `\par`, for the runaway text.
     ParEnded(bool),
 }
 

@@ -1,7 +1,7 @@
 use Rattle.std.proofs.Common.{refl}
 use Rattle.token_lists.specs.Ids.{id_of}
 use Rattle.macro_call.specs.declared.present.Step.TheVariants as step
-use Rattle.macro_call.proofs.Answered.{parts_at, going, skipped, braced, whole_ok, whole_err, cut_step}
+use Rattle.macro_call.proofs.Answered.{parts_at, going, skipped, braced, ended, whole_ok, whole_err, cut_step}
 use Rattle.macro_call.proofs.scan.ArgScan.feed_place.Goals as goal
 
 pub returns-in-Err-clause-cut_short : goal.returns-in-Err-clause-cut_short
@@ -24,6 +24,11 @@ pub returns-in-ExtraBrace-clause-answers : goal.returns-in-ExtraBrace-clause-ans
 returns-in-ExtraBrace-clause-answers c =
     braced c.args.lists.now c.take_step.new.lists (id_of c.args.list.now) c.args.self.now c.args.x c.take_step.new.present c.requires.sound c.take_step.ensures.account
     (parts_at c.args.lists.now c.take_step.new.lists (id_of c.args.list.now) c.args.self.now.cursor c.args.self.now.mode c.args.x c.in-Ok.step step.ExtraBrace c.args.self.now.present c.take_step.new.present c.in-ExtraBrace.is c.in-Ok.ensures.took)
+
+pub returns-in-ParEnded-clause-answers : goal.returns-in-ParEnded-clause-answers
+returns-in-ParEnded-clause-answers c =
+    ended c.args.lists.now c.take_step.new.lists (id_of c.args.list.now) c.args.self.now c.args.x c.take_step.new.present c.requires.sound c.take_step.ensures.account c.is_checked.result c.is_checked.ensures
+    (parts_at c.args.lists.now c.take_step.new.lists (id_of c.args.list.now) c.args.self.now.cursor c.args.self.now.mode c.args.x c.in-Ok.step step.ParEnded c.args.self.now.present c.take_step.new.present c.in-ParEnded.is c.in-Ok.ensures.took)
 
 pub returns-in-Skipped-clause-answers : goal.returns-in-Skipped-clause-answers
 returns-in-Skipped-clause-answers c =

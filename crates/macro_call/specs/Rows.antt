@@ -1,0 +1,42 @@
+-- Worked rows: what some calls come to that a `\par` ends.
+use Rattle.std.specs.Prelude.{◌≡◌, ℕ, true, false, List, [], ◌∷◌}
+use Rattle.tex_defs.specs.declared.Token.{Token}
+use Rattle.tex_defs.specs.declared.Token.TheVariants.{Char, Named, Place, EndPlaces}
+use Rattle.tex_defs.specs.declared.Name.TheVariants.{Word}
+use Rattle.plain_state.specs.Names.{par_primitive}
+use Rattle.macro_call.specs.declared.par_mode.ParMode.TheVariants.{Long, Short}
+use Rattle.macro_call.specs.Arguments.{Tok, Cut, Settled, More, ExtraBraceFound, Ended, gathering}
+
+abbrev pub letter : ℕ → Token
+letter code = Char 11 code
+
+abbrev pub left : Token
+left = Char 1 123
+
+abbrev pub right : Token
+right = Char 2 125
+
+abbrev pub par : Token
+par = Named (Word par_primitive)
+
+-- the list of \def\a#1ab{}, and that of \def\a#1{}
+abbrev pub up_to_ab : List Token
+up_to_ab = Place 35 ∷ letter 97 ∷ letter 98 ∷ EndPlaces ∷ []
+
+abbrev pub one_place : List Token
+one_place = Place 35 ∷ EndPlaces ∷ []
+
+pub record WorkedCalls : Type 0 where
+  -- xa: the `a` is a partial match, and isn't in the list yet
+  pub matching : gathering up_to_ab Short (Tok (letter 120) ∷ Tok (letter 97) ∷ []) ≡ More (letter 120 ∷ [])
+  -- xa\par: it has entered the list, and the `\par` hasn't
+  pub broken_match : gathering up_to_ab Short (Tok (letter 120) ∷ Tok (letter 97) ∷ Tok par ∷ []) ≡ Ended false (letter 120 ∷ letter 97 ∷ [])
+  -- {x\par
+  pub open_group : gathering one_place Short (Tok left ∷ Tok (letter 120) ∷ Tok par ∷ []) ≡ Ended false (left ∷ letter 120 ∷ [])
+  -- \par alone
+  pub alone : gathering one_place Short (Tok par ∷ []) ≡ Ended false []
+  -- xa}: the brace isn't in the list, and the `\par` that is put behind it ends a \long macro's call too
+  pub braced : gathering up_to_ab Long (Tok (letter 120) ∷ Tok (letter 97) ∷ Tok right ∷ []) ≡ ExtraBraceFound (letter 120 ∷ letter 97 ∷ [])
+  pub behind_brace : gathering up_to_ab Long (Tok (letter 120) ∷ Tok (letter 97) ∷ Tok right ∷ Settled ∷ Tok par ∷ []) ≡ Ended false (letter 120 ∷ letter 97 ∷ [])
+  -- behind a check the same without a report
+  pub checked : gathering one_place Long (Tok left ∷ Tok (letter 120) ∷ Cut ∷ Tok par ∷ []) ≡ Ended true (left ∷ letter 120 ∷ [])
