@@ -1,7 +1,8 @@
 -- The plain machine: the moves of the rule that comes next, and the next move.
-use Rattle.std.specs.Prelude.{ℕ, Bool, true, false, ◌==◌, ◌||◌, List, [], ◌∷◌, ◌++◌, nat_lt, if◌then◌else◌, Option, Some, None}
+use Rattle.std.specs.Prelude.{ℕ, Bool, true, false, ◌==◌, ◌||◌, List, [], ◌∷◌, ◌++◌, length, zero, suc, map, drop, slice_index_or, nat_lt, if◌then◌else◌, Option, Some, None}
 use Rattle.tex_defs.specs.declared.Token.{Token}
 use Rattle.tex_defs.specs.declared.Token.TheVariants as token
+use Rattle.tex_defs.specs.declared.Name.{Name}
 use Rattle.tex_defs.specs.declared.Meaning.{Meaning}
 use Rattle.tex_defs.specs.declared.Meaning.TheVariants as means
 use Rattle.tex_defs.specs.declared.Seen.{Seen}
@@ -9,26 +10,43 @@ use Rattle.tex_defs.specs.declared.Fatal.TheVariants.{NoEnd, NoFile, HundredErro
 use Rattle.tex_defs.specs.Places.{Transcript}
 use Rattle.plain_state.specs.Categories.{end_group}
 use Rattle.prim_table.specs.Primitives.{primitive_names}
-use Rattle.plain_state.specs.Names.{seen, name_of, means_relax, relax_primitive, end_primitive, message_primitive, catcode_primitive, long_primitive, outer_primitive, global_primitive}
+use Rattle.plain_state.specs.Names.{name_of, means_relax, relax_primitive, end_primitive, message_primitive, catcode_primitive, long_primitive, outer_primitive, global_primitive, def_primitive, gdef_primitive, edef_primitive, xdef_primitive}
+use Rattle.plain_state.specs.Tokens.{Want, Raw, Expanded, Copied, Nonblank, Command, is_space, is_undefined, is_outer, space_token}
+use Rattle.plain_state.specs.Meanings.{name_meaning, seen, first_meanings}
+use Rattle.plain_state.specs.Puts.{Item, Put as PutList, call_put}
 use Rattle.plain_state.specs.Lookup.{token_of, new_name}
-use Rattle.plain_state.specs.Reports.{Report, UndefinedName, InvalidCharacter, OfText, FileEnded, NoSuchFile, fresh_line, report_bytes, hundred_line, emergency, no_end_line, no_file_line, token_line_bytes, runaway_bytes, message_bytes}
+use Rattle.plain_state.specs.Reports.{Report, UndefinedName, InvalidCharacter, Scanned, OfDefinition, OfUse, OfText, FileEnded, Forbidden, NoSuchFile, fresh_line, report_bytes, hundred_line, emergency, no_end_line, no_file_line, token_line_bytes, runaway_bytes, message_bytes}
 use Rattle.plain_state.specs.Lex.{NewLine}
 use Rattle.command_words.specs.Words.{job_name}
-use Rattle.plain_state.specs.Pending.{Pulled, TokenFrom, LexemeFrom, LineTaken, InvalidMet, FileOver, NothingLeft, Progress, NotBegun, Closed, pulled}
-use Rattle.plain_state.specs.Readings.{Kind, Catcode, Message, Text, Prefixed, Want, Raw, Expanded, Nonblank, Command, Effect, SetCategory, Say, Fed, Tok, Val, Told, Flag, Ask, More, Inner, Done, Act, Tells, ask, so_far, is_space, is_undefined}
-use Rattle.plain_state.specs.States.{Reading, Outcome, Finished, AtFatal, Move, Handed, Taken, Settled, Skipped, FileClosed, Entered, Kept, Feeds, Noted, ListBegun, ListGrown, Put, SetCategoryOf, Written, Begun, BegunWith, Ended, Reported, Stopped, State, made, in_line_after}
+use Rattle.plain_state.specs.Pending.{Pulled, TokenFrom, LexemeFrom, LineTaken, InvalidMet, FileOver, NothingLeft, Progress, NotBegun, Closed as ClosedFile, pulled}
+use Rattle.plain_state.specs.Arguments.{has_parameters, arguments_in, work_in}
+use Rattle.plain_state.specs.Arguments as call
+use Rattle.plain_state.specs.Readings.{Kind, Catcode, Message, Text, Prefixed, Define, Definition, Arguments, Effect, SetCategory, Say, SetMacro, Fed, Tok, Val, Told, Cut, Flag, Ask, More, Inner, Done, Act, Tells, Inserts, Calls, Fails, RunsAway, Closes, ask, so_far, gathered_by, par_token}
+use Rattle.plain_state.specs.States.{Reading, Outcome, Finished, AtFatal, Move, Handed, Taken, Settled, Skipped, FileClosed, Entered, Kept, Grows, Feeds, Noted, Checked, Completed, Opened, ListBegun, ListGrown, Put, Called, CalledWith, SetCategoryOf, Defined, Written, Begun, BegunWith, Ended, Closed, Reported, Stopped, State, made, in_line_after}
 
--- What the texts of a rule depend on: the names entered, whether the transcript's column isn't 0, the number of the line
--- that is read, the reports so far, and whether token lines are left out.
+-- What the moves of a rule depend on: the category codes, the names entered and what they mean, the macros' lists, whether the
+-- transcript's column isn't 0, the number of the line that is read, the reports so far, and whether token lines are left out.
 pub record Page : Type 0 where
+  pub categories : List ℕ
   pub names : List (List ℕ)
+  pub meanings : List (Meaning (Option ℕ))
+  pub macros : List (List Token)
   pub in_line : Bool
   pub line : ℕ
   pub reports : ℕ
   pub quiet : Bool
 
 abbrev pub page_of : State → Page
-page_of s = record { names = s.names; in_line = s.in_line; line = s.pending.number; reports = s.reports; quiet = s.quiet }
+page_of s = record {
+  categories = s.categories;
+  names = s.names;
+  meanings = s.meanings;
+  macros = s.macros;
+  in_line = s.in_line;
+  line = s.pending.number;
+  reports = s.reports;
+  quiet = s.quiet;
+}
 
 -- `\end`: the run ends on a fresh line
 abbrev pub finish : Bool → List Move
@@ -55,13 +73,48 @@ reported page report rest = Written Transcript (report_bytes page.names page.in_
 abbrev pub token_line : Page → Meaning Unit → List Move
 token_line page m = if page.quiet then [] else Written Transcript (token_line_bytes page.names page.in_line m) ∷ []
 
+-- a token put in front: the list of it is begun, grown and put, once the finished lists in front have gone
+abbrev pub put_one : Token → List Move
+put_one t = Settled ∷ ListBegun ∷ ListGrown t ∷ Put (t ∷ []) ∷ []
+
+-- CALLS OF MACROS
+
+-- the body of a macro is put; one without items isn't, and nothing is asked for
+abbrev pub body_put : PutList → List Item → List Move
+body_put p [] = []
+body_put p (x ∷ xs) = Settled ∷ Called p ∷ []
+
+abbrev pub put_body : PutList → List Move
+put_body p = body_put p p.items
+
+-- a macro with a parameter text gathers its arguments
+abbrev pub called_by : Name → (long : Bool) → (number : ℕ) → List Token → List Move
+called_by name long number ts =
+    if has_parameters ts then Begun (Arguments name long number ts) ∷ []
+    else put_body (call_put number ts [])
+
+abbrev pub called_list : Page → Name → (long : Bool) → Option ℕ → List Move
+called_list page name long None = []
+called_list page name long (Some number) = called_by name long number (slice_index_or page.macros number [])
+
+abbrev pub called_meaning : Page → Name → Meaning (Option ℕ) → List Move
+called_meaning page name (means.Macro long outer list) = called_list page name long list
+called_meaning page name m = []
+
+-- a macro's name is expanded
+abbrev pub called : Page → Token → List Move
+called page t = called_meaning page (name_of t) (name_meaning page.meanings (name_of t))
+
 abbrev pub primitive : Page → Token → ℕ → List Move
 primitive page t number =
     if number == catcode_primitive then Begun Catcode ∷ []
     else if number == message_primitive then Begun (Message (name_of t)) ∷ []
     else if number == end_primitive then finish page.in_line
-    else if (number == long_primitive) || (number == outer_primitive) then Begun (Prefixed true) ∷ []
-    else if number == global_primitive then Begun (Prefixed false) ∷ []
+    else if number == long_primitive then Begun (Prefixed true false) ∷ []
+    else if number == outer_primitive then Begun (Prefixed false true) ∷ []
+    else if number == global_primitive then Begun (Prefixed false false) ∷ []
+    else if (number == def_primitive) || (number == gdef_primitive) then Begun (Define false) ∷ []
+    else if (number == edef_primitive) || (number == xdef_primitive) then Begun (Define true) ∷ []
     else if number == relax_primitive then []
     else token_line page (means.Prim number)
 
@@ -70,50 +123,131 @@ abbrev pub command : Page → Token → Meaning Unit → List Move
 command page t (means.Prim number) = primitive page t number
 command page t means.Undefined = reported page UndefinedName []
 command page t means.RelaxMarked = []
+command page t (means.Macro long outer list) = called page t
 command page t m = token_line page m
-
--- a token read by X: an undefined name is reported, and dropped
-abbrev pub expanded : Page → Seen → List Move
-expanded page x = if is_undefined x.meaning then reported page UndefinedName [] else Feeds x ∷ []
-
-abbrev pub wanted : Page → Want → Seen → List Move
-wanted page Raw x = Feeds x ∷ []
-wanted page Expanded x = expanded page x
-wanted page Nonblank x = if is_space x then [] else expanded page x
-wanted page Command x = if is_space x || means_relax x.meaning then [] else expanded page x
 
 abbrev pub stomach : Page → Seen → List Move
 stomach page x = command page x.token x.meaning
 
+-- FEEDING A READING
+
+-- the tokens by which a list becomes another that goes on from it
+abbrev pub grown_to : List Token → List Token → List Move
+grown_to before after = map Grows (drop (length before) after)
+
+-- a place that is reached has its list begun
+abbrev pub opened : Option (List Token) → List Move
+opened None = []
+opened (Some work) = Opened ∷ []
+
+-- in a place: either an argument is whole, or its list goes on
+abbrev pub in_place : Seen → List Token → (complete : List (List Token)) → Option (List Token) → List Move
+in_place x work (a ∷ more) next = grown_to work a ++ Feeds x ∷ Completed a ∷ opened next
+in_place x work [] None = Feeds x ∷ []
+in_place x work [] (Some after) = grown_to work after ++ Feeds x ∷ []
+
+-- by the list in work, the arguments that are whole now and weren't, and the list in work then
+abbrev pub argument_fed : Seen → Option (List Token) → (complete : List (List Token)) → Option (List Token) → List Move
+argument_fed x None complete next = Feeds x ∷ opened next
+argument_fed x (Some work) complete next = in_place x work complete next
+
+abbrev pub call_fed : Seen → (before after : call.Answer) → List Move
+call_fed x before after = argument_fed x (work_in before) (drop (length (arguments_in before)) (arguments_in after)) (work_in after)
+
+-- A token is fed: the list that is built grows by what goes into it, and the reading goes on behind the token.
+abbrev pub feeding_kind : Kind → List Fed → Seen → List Move
+feeding_kind (Arguments name long number ts) fed x = call_fed x (gathered_by long ts fed) (gathered_by long ts (fed ++ Tok x ∷ []))
+feeding_kind k fed x = grown_to (so_far k fed) (so_far k (fed ++ Tok x ∷ [])) ++ Feeds x ∷ []
+
+abbrev pub feeding : Reading → Seen → List Move
+feeding r x = feeding_kind r.kind r.fed x
+
+-- the note that a report was written
+abbrev pub noting : Reading → List Move
+noting r = grown_to (so_far r.kind r.fed) (so_far r.kind (r.fed ++ Told ∷ [])) ++ Noted ∷ []
+
+-- a token read by X: an undefined name is reported and dropped, a macro called, and another token fed
+abbrev pub expanded_as : Page → Token → Meaning Unit → List Move → List Move
+expanded_as page t means.Undefined feeds = reported page UndefinedName []
+expanded_as page t (means.Macro long outer list) feeds = called page t
+expanded_as page t m feeds = feeds
+
+abbrev pub expanded : Page → Seen → List Move → List Move
+expanded page x feeds = expanded_as page x.token x.meaning feeds
+
+abbrev pub wanted : Page → Want → List Move → Seen → List Move
+wanted page Raw feeds x = feeds
+wanted page Expanded feeds x = expanded page x feeds
+wanted page Copied feeds x = expanded page x feeds
+wanted page Nonblank feeds x = if is_space x then [] else expanded page x feeds
+wanted page Command feeds x = if is_space x || means_relax x.meaning then [] else expanded page x feeds
+
+-- CHECKS, where a file has ended or the name of an \outer macro has come
+
+-- what is read then: the innermost of the open definitions, calls and texts, with the list that it has built so far
+pub record Scanning : Type 0 where
+  pub what : Scanned
+  pub name : Name
+  pub list : List Token
+
+abbrev pub first_of : (held : ℕ) → List (List Token) → List Token
+first_of zero lists = []
+first_of (suc n) [] = []
+first_of (suc n) (ts ∷ lists) = ts
+
+abbrev pub scanning_kind : Kind → List Token → Option Scanning → Option Scanning
+scanning_kind (Text name) list beneath = Some (record { what = OfText; name = name; list = list })
+scanning_kind (Definition name expanded) list beneath = Some (record { what = OfDefinition; name = name; list = list })
+scanning_kind (Arguments name long number ts) list beneath = Some (record { what = OfUse; name = name; list = list })
+scanning_kind k list beneath = beneath
+
+abbrev pub scanning : List Reading → List (List Token) → Option Scanning
+scanning [] lists = None
+scanning (r ∷ rs) lists = scanning_kind r.kind (first_of r.holds lists) (scanning rs (drop r.holds lists))
+
 abbrev pub right_brace : Token
 right_brace = token.Char end_group 125
 
+-- what is inserted at a check
+abbrev pub inserted_at : Scanned → Token
+inserted_at OfDefinition = right_brace
+inserted_at OfText = right_brace
+inserted_at OfUse = par_token
+
+-- a call notes that a check came
+abbrev pub check_noted : Scanned → List Move → List Move
+check_noted OfUse rest = Checked ∷ rest
+check_noted what rest = rest
+
 -- where the file has ended
 abbrev pub without_file : Page → Page
-without_file page = record { names = page.names; in_line = page.in_line; line = 0; reports = page.reports; quiet = page.quiet }
+without_file page = record page { line = 0 }
 
 -- behind a text
 abbrev pub page_behind : Page → List ℕ → Page
-page_behind page text = record { names = page.names; in_line = in_line_after page.in_line text; line = page.line; reports = page.reports; quiet = page.quiet }
+page_behind page text = record page { in_line = in_line_after page.in_line text }
 
--- a token put in front: the list of it is begun, grown and put, once the finished lists in front have gone
-abbrev pub put_one : Token → List Move
-put_one t = Settled ∷ ListBegun ∷ ListGrown t ∷ Put (t ∷ []) ∷ []
+abbrev pub away_text : Page → Scanning → List ℕ
+away_text page s = runaway_bytes s.what page.categories page.names page.in_line s.list
 
--- A text runs away: the list so far is shown, `}` inserted, and the report comes.
-abbrev pub ran_away : List ℕ → Page → Report → List Token → List Move
-ran_away categories page report list =
-    Written Transcript (runaway_bytes OfText categories page.names page.in_line list)
-    ∷ (put_one right_brace ++ reported (page_behind page (runaway_bytes OfText categories page.names page.in_line list)) report [])
+-- The list so far is shown, `}` or `\par` inserted, and the report comes.
+abbrev pub ran_away : Page → Report → Scanning → List Move → List Move
+ran_away page report s rest =
+    Written Transcript (away_text page s)
+    ∷ (put_one (inserted_at s.what) ++ reported (page_behind page (away_text page s)) report (check_noted s.what rest))
 
 -- the check where a file has ended while a reading goes on
-abbrev pub checked_reading : List ℕ → Page → Reading → Kind → List Move
-checked_reading categories page r (Text name) = ran_away categories page (FileEnded OfText name) (so_far r.kind r.fed)
-checked_reading categories page r k = []
+abbrev pub checked : Page → Option Scanning → List Move
+checked page None = []
+checked page (Some s) = ran_away page (FileEnded s.what s.name) s []
 
-abbrev pub checked : List ℕ → Page → List Reading → List Move
-checked categories page [] = []
-checked categories page (r ∷ rs) = checked_reading categories page r r.kind
+-- The name of an \outer macro is put back where a reading goes on, and a space takes its place.
+abbrev pub met_outer : Page → Option Scanning → Token → (onward : Seen → List Move) → List Move
+met_outer page None t onward = onward (seen page.meanings t)
+met_outer page (Some s) t onward = put_one t ++ ran_away page (Forbidden s.what s.name) s (onward (seen page.meanings space_token))
+
+abbrev pub met : Page → Option Scanning → (onward : Seen → List Move) → Seen → List Move
+met page s onward x = if is_outer x.meaning then met_outer page s x.token onward else onward x
 
 -- names that join those that are entered
 abbrev pub entered : List (List ℕ) → List Move
@@ -121,24 +255,24 @@ entered [] = []
 entered (name ∷ names) = Entered name ∷ []
 
 -- The next token or line, and what is made of the token. A reading that enters names enters a new one behind the step.
-abbrev pub handed : Page → (enters : Bool) → (Seen → List Move) → List Move → Pulled → List Move
-handed page enters onward check (TokenFrom t p) = Settled ∷ Handed t ∷ onward (seen t)
-handed page enters onward check (LexemeFrom x p) =
-    Settled ∷ Handed (token_of enters page.names x) ∷ (entered (new_name enters page.names x) ++ onward (seen (token_of enters page.names x)))
-handed page enters onward check (LineTaken line p) = Settled ∷ Taken line ∷ []
-handed page enters onward check (InvalidMet p) = Settled ∷ Skipped ∷ reported page InvalidCharacter []
-handed page enters onward check (FileOver p) = Settled ∷ FileClosed ∷ check
-handed page enters onward check NothingLeft = Settled ∷ no_end page.in_line
+abbrev pub handed : Page → (enters : Bool) → Option Scanning → (onward : Seen → List Move) → Pulled → List Move
+handed page enters s onward (TokenFrom t p) = Settled ∷ Handed t ∷ met page s onward (seen page.meanings t)
+handed page enters s onward (LexemeFrom x p) =
+    Settled ∷ Handed (token_of enters page.names x)
+    ∷ (entered (new_name enters page.names x) ++ met page s onward (seen page.meanings (token_of enters page.names x)))
+handed page enters s onward (LineTaken line p) = Settled ∷ Taken line ∷ []
+handed page enters s onward (InvalidMet p) = Settled ∷ Skipped ∷ reported page InvalidCharacter []
+handed page enters s onward (FileOver p) = Settled ∷ FileClosed ∷ checked (without_file page) s
+handed page enters s onward NothingLeft = Settled ∷ no_end page.in_line
 
 -- a raw reading enters names
 abbrev pub enters_names : Want → Bool
 enters_names Raw = true
-enters_names Expanded = false
-enters_names Nonblank = false
-enters_names Command = false
+enters_names want = false
 
 abbrev pub effect : State → Effect → List Move
 effect s (SetCategory code category) = SetCategoryOf code category ∷ []
+effect s (SetMacro name long outer ts) = Defined name long outer ts ∷ []
 effect s (Say ts) = Written Transcript (message_bytes s.categories s.names s.in_line ts) ∷ []
 
 -- the last token that a reading was fed with, where it comes last
@@ -147,6 +281,7 @@ last_seen [] = []
 last_seen (Tok x ∷ []) = x ∷ []
 last_seen (Val v ∷ []) = []
 last_seen (Told ∷ []) = []
+last_seen (Cut ∷ []) = []
 last_seen (x ∷ y ∷ fed) = last_seen (y ∷ fed)
 
 -- a report was the last
@@ -172,22 +307,54 @@ begun_with k lent (x ∷ xs) = if lent then Begun k ∷ [] else BegunWith k x �
 abbrev pub begun : Kind → Bool → Reading → List Move
 begun k begins r = if begins then begun_with k r.lent (last_seen r.fed) else Begun k ∷ []
 
--- A reading reports once, and then goes on; one that would report again for nothing new ends.
-abbrev pub told : Page → Report → Bool → List Fed → List Move
-told page report back fed =
-    if is_told fed then Ended (Flag false) ∷ []
-    else given_back back fed ++ reported page report (Noted ∷ [])
+abbrev pub put_inserted : Option Token → List Move
+put_inserted None = []
+put_inserted (Some t) = put_one t
+
+-- A reading reports once, and then goes on; one that would report again for nothing new ends. A token may be inserted.
+abbrev pub told : Page → Report → Option Token → Bool → Reading → List Move
+told page report inserted back r =
+    if is_told r.fed then Ended (Flag false) ∷ []
+    else given_back back r.fed ++ (put_inserted inserted ++ reported page report (noting r))
+
+-- the arguments of a call are there: they pass to the body, which is put; one without items isn't
+abbrev pub arguments_put : PutList → List Item → List Move
+arguments_put p [] = Closed ∷ []
+arguments_put p (x ∷ xs) = Settled ∷ CalledWith p ∷ []
+
+abbrev pub put_with : PutList → List Move
+put_with p = arguments_put p p.items
+
+abbrev pub called_with : Kind → List (List Token) → List Move
+called_with (Arguments name long number ts) args = put_with (call_put number ts args)
+called_with k args = Closed ∷ []
+
+-- a reading reports, and ends
+abbrev pub failed : Page → Report → List Move
+failed page report = reported page report (Closed ∷ [])
+
+-- it ran away: the list so far is shown, the last token put back, and the report comes
+abbrev pub failed_away : Page → Report → Option Scanning → List Fed → List Move
+failed_away page report None fed = given_back true fed ++ failed page report
+failed_away page report (Some s) fed =
+    Written Transcript (away_text page s)
+    ∷ (given_back true fed ++ failed (page_behind page (away_text page s)) report)
 
 -- what comes of an answer
 abbrev pub answered : State → List Reading → Reading → Ask → List Move
-answered s work r (More want) = handed (page_of s) (enters_names want) (wanted (page_of s) want) (checked s.categories (without_file (page_of s)) work) (pulled s.categories s.pending)
+answered s work r (More want) = handed (page_of s) (enters_names want) (scanning work s.gathered) (λ x. wanted (page_of s) want (feeding r x) x) (pulled s.categories s.pending)
 answered s work r (Inner k begins) = begun k begins r
 answered s work r (Done v back) = given_back back r.fed ++ Ended v ∷ []
 answered s work r (Act e) = effect s e ++ Ended (Flag true) ∷ []
-answered s work r (Tells report back) = told (page_of s) report back r.fed
+answered s work r (Tells report back) = told (page_of s) report None back r
+answered s work r (Inserts t report back) = told (page_of s) report (Some t) back r
+answered s work r (Calls args) = called_with r.kind args
+answered s work r (Fails report) = failed (page_of s) report
+answered s work r (RunsAway report) = failed_away (page_of s) report (scanning work s.gathered) r.fed
+answered s work r Closes = Closed ∷ []
 
 abbrev pub planned : State → List Reading → List Move
-planned s [] = handed (page_of s) false (stomach (page_of s)) [] (pulled s.categories s.pending)
+planned s [] = handed (page_of s) false None (stomach (page_of s)) (pulled s.categories s.pending)
 planned s (r ∷ rs) = answered s (r ∷ rs) r (ask r.kind r.fed)
 
 -- the moves of the next rule
@@ -231,17 +398,21 @@ abbrev pub job_due : List ℕ → Option (List ℕ) → List Move
 job_due file job = Kept (job_name file) ∷ file_missing file job
 
 abbrev pub job_progress : Option (List ℕ) → Progress
-job_progress None = Closed
+job_progress None = ClosedFile
 job_progress (Some bytes) = NotBegun
 
--- where the job of a file begins, which has these bytes, if it is held: the primitives' names are entered
-abbrev pub first_state : List ℕ → Bool → List ℕ → Option (List ℕ) → State
-first_state categories quiet file job = record {
+-- where the job of a file begins, which has these bytes, if it is held: the primitives' names are entered, and these of
+-- them mean something
+abbrev pub first_state : (is_primitive : ℕ → Bool) → List ℕ → Bool → List ℕ → Option (List ℕ) → State
+first_state is_primitive categories quiet file job = record {
   pending = record { puts = []; line = []; lex = NewLine; rest = file_opened job; file = job_progress job; number = 0 };
   categories = categories;
   names = primitive_names;
   strings = [];
+  meanings = first_meanings is_primitive;
+  macros = [];
   work = [];
+  gathered = [];
   making = None;
   in_line = false;
   reports = 0;

@@ -5,6 +5,7 @@ use Rattle.tex_defs.specs.declared.Full.{Full}
 use Rattle.tex_defs.specs.declared.Sizes.{Sizes}
 use Rattle.prim_table.specs.Primitives.{primitive_names}
 use Rattle.plain_state.specs.Categories.{initial_categories}
+use Rattle.plain_state.specs.Names.{is_known}
 use Rattle.plain_state.specs.States.{State, Move, Written, Outcome, Finished}
 use Rattle.plain_state.specs.Tables.{refusal}
 use Rattle.plain_machine.specs.Plan.{Next, Ends, Goes, next, next_of, first_state}
@@ -41,7 +42,7 @@ run_of zero s = cut_short s
 run_of (suc n) s = went s (λ u. run_of n u) (next_of s s.due)
 
 unfoldable pub job_of : List ℕ → Result
-job_of bytes = run_of 600 (first_state initial_categories false [] (Some bytes))
+job_of bytes = run_of 600 (first_state is_known initial_categories false [] (Some bytes))
 
 -- `{`, `}`, `#` and `^` get their usual categories
 abbrev pub first_line_usual : List ℕ
@@ -73,7 +74,7 @@ full_in sizes zero s = None
 full_in sizes (suc n) s = went_within sizes s (λ u. full_in sizes n u) (next_of s s.due)
 
 unfoldable pub job_fills : Sizes → List ℕ → List ℕ → Option Full
-job_fills sizes name bytes = full_in sizes 600 (first_state initial_categories false name (Some bytes))
+job_fills sizes name bytes = full_in sizes 600 (first_state is_known initial_categories false name (Some bytes))
 
 abbrev pub Fills : Sizes → List ℕ → Full → Type 0
 Fills sizes file full = job_fills sizes [] file ≡ Some full

@@ -93,6 +93,25 @@ pub fn worked_rows()
     ensures no_category { Writes (codes "\\catcode`\\x=16 ") (codes "! Invalid code (16), should be in the range 0..15.\nl.1\n! Emergency stop.\n*** (job aborted, no legal \\end found)\n") (AtFatal NoEnd) }
 {}
 
+/// The machine run on small files with macros.
+pub fn worked_macros()
+    ensures delimited { Writes (first_line_usual ++ codes "\\def\\a#1ab{[#1]}\\message{\\a xaab}\\end\n") (codes "[xa]\n") Finished }
+    ensures groups { Writes (first_line_usual ++ codes "\\def\\a#1.{(#1)}\\message{\\a{x}.\\a{x}{y}.}\\end\n") (codes "(x)({x}{y})\n") Finished }
+    ensures steps { RunsSo (first_line_usual ++ codes "\\def\\a#1.{#1#1}\\a xy.\\end\n") (codes "{the letter x}\n{the letter y}\n{the letter x}\n{the letter y}\n") 50 Finished }
+    ensures extra_brace { Writes (first_line_usual ++ codes "\\def\\a#1{}\\a}\\end\n") (codes "! Argument of \\a has an extra }.\nl.2\nRunaway argument?\n! Paragraph ended before \\a was complete.\nl.2\n{\\par}\n{end-group character }}\n") Finished }
+    ensures open_call { Writes (first_line_usual ++ codes "\\def\\a#1{}\n\\a{x") (codes "{blank space  }\nRunaway argument?\n{x \n! File ended while scanning use of \\a.\nl.0\n! Emergency stop.\n*** (job aborted, no legal \\end found)\n") (AtFatal NoEnd) }
+    ensures mismatch { Writes (first_line_usual ++ codes "\\def\\a b#1{}\\a x\\end\n") (codes "! Use of \\a doesn't match its definition.\nl.2\n") Finished }
+    ensures long { Writes (first_line_usual ++ codes "\\long\\def\\a#1.{(#1)}\\message{\\a x\\par y.}\\end\n") (codes "(x\\par y)\n") Finished }
+    ensures paragraph { Writes (first_line_usual ++ codes "\\def\\a#1.{(#1)}\\a xy\\par z\\end\n") (codes "Runaway argument?\nxy\n! Paragraph ended before \\a was complete.\nl.2\n{\\par}\n{the letter z}\n") Finished }
+    ensures outer_in_text { Writes (first_line_usual ++ codes "\\outer\\def\\a{}\\message{x\\a y}\\end\n") (codes "Runaway text?\nx\n! Forbidden control sequence found while scanning text of \\message.\nl.2\nx \n{the letter y}\n{end-group character }}\n") Finished }
+    ensures numbering { Writes (first_line_usual ++ codes "\\def\\a#2{#1}\\message{\\a x}\\end\n") (codes "! Parameters must be numbered consecutively.\nl.2\n! Use of \\a doesn't match its definition.\nl.2\n\n") Finished }
+    ensures illegal { Writes (first_line_usual ++ codes "\\def\\a#1{#2}\\message{\\a x}\\end\n") (codes "! Illegal parameter number in definition of \\a.\nl.2\n##2\n") Finished }
+    ensures brace_place { Writes (first_line_usual ++ codes "\\def\\a#1#{(#1)}\\message{\\a xy{z}}\\end\n") (codes "(xy){z}\n") Finished }
+    ensures expanded { Writes (first_line_usual ++ codes "\\def\\b{x}\\edef\\a{\\b\\b}\\def\\b{y}\\message{\\a}\\end\n") (codes "xx\n") Finished }
+    ensures missing_name { Writes (first_line_usual ++ codes "\\def x\\end\n") (codes "! Missing control sequence inserted.\nl.2\n! Missing { inserted.\nl.2\n") Finished }
+    ensures no_body { Writes (first_line_usual ++ codes "\\def\\a}\\message{\\a}\\end\n") (codes "! Missing { inserted.\nl.2\n\n") Finished }
+{}
+
 /// Small files within small sizes: the first table that is full, what is used of it, and its size.
 pub fn worked_refusals()
     ensures fits { Fits default_sizes (first_line_usual ++ codes "\\message{hi}\\catcode`\\foo 5 \\end") }

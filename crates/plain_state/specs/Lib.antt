@@ -5,8 +5,13 @@ pub mod Lines
 pub mod Lex
 pub mod Lookup
 pub mod Names
+pub mod Tokens
+pub mod Meanings
+pub mod Puts
 pub mod Pending
 pub mod Reports
+pub mod Arguments
+pub mod Definitions
 pub mod Readings
 pub mod States
 pub mod Tables

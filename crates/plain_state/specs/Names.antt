@@ -1,4 +1,4 @@
--- The names that mean something, and what tokens mean.
+-- The primitives that mean something, and the names that tokens are.
 use Rattle.std.specs.Prelude.{ℕ, ◌==◌, Bool, true, false, ◌||◌, if◌then◌else◌}
 use Rattle.tex_defs.specs.declared.Token.{Token}
 use Rattle.tex_defs.specs.declared.Token.TheVariants as token
@@ -7,7 +7,6 @@ use Rattle.tex_defs.specs.declared.Name.TheVariants.{Word}
 use Rattle.tex_defs.specs.declared.Name.TheVariants as name
 use Rattle.tex_defs.specs.declared.Meaning.{Meaning}
 use Rattle.tex_defs.specs.declared.Meaning.TheVariants as means
-use Rattle.tex_defs.specs.declared.Seen.{Seen}
 
 -- the numbers of the primitives, as the table of all primitives has them
 abbrev pub relax_primitive : ℕ
@@ -35,21 +34,31 @@ outer_primitive = 24
 abbrev pub global_primitive : ℕ
 global_primitive = 25
 
--- the primitives that mean something already
+-- the definitions
+abbrev pub def_primitive : ℕ
+def_primitive = 26
+
+abbrev pub gdef_primitive : ℕ
+gdef_primitive = 27
+
+abbrev pub edef_primitive : ℕ
+edef_primitive = 28
+
+abbrev pub xdef_primitive : ℕ
+xdef_primitive = 29
+
+abbrev pub is_definition_primitive : ℕ → Bool
+is_definition_primitive number = (number == def_primitive) || (number == gdef_primitive) || (number == edef_primitive) || (number == xdef_primitive)
+
+-- the primitives that mean something to the program already
 abbrev pub is_primitive : ℕ → Bool
 is_primitive number =
     (number == relax_primitive) || (number == par_primitive) || (number == end_primitive) || (number == message_primitive)
     || (number == long_primitive) || (number == outer_primitive) || (number == global_primitive) || (number == catcode_primitive)
 
-abbrev pub name_meaning : Name → Meaning Unit
-name_meaning (Word number) = if is_primitive number then means.Prim number else means.Undefined
-name_meaning n = means.Undefined
-
-abbrev pub meaning : Token → Meaning Unit
-meaning (token.Char category c) = means.Char category c
-meaning (token.Named name) = name_meaning name
-meaning (token.Marked name) = name_meaning name
-meaning t = means.Undefined
+-- those that mean something to the plain machine
+abbrev pub is_known : ℕ → Bool
+is_known number = is_primitive number || is_definition_primitive number
 
 -- a primitive's own meaning, under whatever name
 abbrev pub means_primitive : ℕ → Meaning Unit → Bool
@@ -66,7 +75,3 @@ abbrev pub name_of : Token → Name
 name_of (token.Named name) = name
 name_of (token.Marked name) = name
 name_of t = name.Empty
-
--- a token with what it means now
-abbrev pub seen : Token → Seen
-seen t = record { token = t; meaning = meaning t }

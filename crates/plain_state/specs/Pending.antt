@@ -2,6 +2,7 @@
 use Rattle.std.specs.Prelude.{ℕ, ◌+◌, List, [], ◌∷◌, ◌++◌}
 use Rattle.tex_defs.specs.declared.Token.{Token}
 use Rattle.plain_state.specs.Lines.{end_char, first_line, behind_feed}
+use Rattle.plain_state.specs.Puts.{Item, Put, settled, passed, with_put, item_token}
 use Rattle.plain_state.specs.Lex.{LineState, NewLine, Lexeme, Lexed, Gives, Invalid, UsedUp, lexed}
 
 -- A file is open and not begun until its first line is taken. It is closed behind its last line.
@@ -10,13 +11,8 @@ pub data Progress : Type 0 where
   Begun : Progress
   Closed : Progress
 
--- A list that was put in front: all its tokens, and those of them that are still to be read.
-pub record Put : Type 0 where
-  pub whole : List Token
-  pub left : List Token
-
 pub record Pending : Type 0 where
-  -- innermost first; a list whose last token was handed on stays until the next reading or the next push begins
+  -- innermost first; a list whose last item was read stays until the next reading or the next push begins
   pub puts : List Put
   -- the rest of the line, with its state
   pub line : List ℕ
@@ -39,32 +35,15 @@ pub data Pulled : Type 0 where
 
 -- THE LISTS IN FRONT
 
-abbrev pub settled_top : Put → List Token → List Put → List Put → List Put
-settled_top p [] below rest = below
-settled_top p (t ∷ ts) below rest = p ∷ rest
-
--- without the finished lists in front
-abbrev pub settled : List Put → List Put
-settled [] = []
-settled (p ∷ ps) = settled_top p p.left (settled ps) ps
-
 abbrev pub with_puts : List Put → Pending → Pending
 with_puts ps p = record { puts = ps; line = p.line; lex = p.lex; rest = p.rest; file = p.file; number = p.number }
 
 abbrev pub settle : Pending → Pending
 settle p = with_puts (settled p.puts) p
 
--- a list of these tokens, none of them read
-abbrev pub new_put : List Token → Put
-new_put ts = record { whole = ts; left = ts }
-
--- a list in front of all that is pending; one without tokens is none
-abbrev pub with_put : List Token → List Put → List Put
-with_put [] ps = ps
-with_put (t ∷ ts) ps = new_put (t ∷ ts) ∷ ps
-
-abbrev pub put_front : List Token → Pending → Pending
-put_front ts p = with_puts (with_put ts p.puts) p
+-- a list in front of all that is pending; one without items is none
+abbrev pub put_front : Put → Pending → Pending
+put_front x p = with_puts (with_put x p.puts) p
 
 -- THE LINE AND THE FILE
 
@@ -97,20 +76,20 @@ from_line p UsedUp = from_file p.file p.number p.rest
 
 -- THE NEXT READING
 
-abbrev pub read_on : Put → List Token → Put
-read_on p ts = record { whole = p.whole; left = ts }
+abbrev pub read_on : Put → List Item → Put
+read_on p xs = record { list = p.list; arguments = p.arguments; items = xs }
 
-abbrev pub from_list : List ℕ → Pending → Put → List Put → List Token → Pulled
+abbrev pub from_list : List ℕ → Pending → Put → List Put → List Item → Pulled
 from_list categories p x ps [] = from_line p (lexed categories p.lex p.line)
-from_list categories p x ps (t ∷ ts) = TokenFrom t (with_puts (read_on x ts ∷ ps) p)
+from_list categories p x ps (i ∷ is) = TokenFrom (item_token i) (with_puts (read_on x is ∷ ps) p)
 
--- lists in front come first, then the line, then the file
+-- lists in front come first, then the line, then the file; gaps are passed over
 abbrev pub from_front : List ℕ → Pending → List Put → Pulled
 from_front categories p [] = from_line p (lexed categories p.lex p.line)
-from_front categories p (x ∷ ps) = from_list categories p x ps x.left
+from_front categories p (x ∷ ps) = from_list categories p x ps x.items
 
 abbrev pub pulled : List ℕ → Pending → Pulled
-pulled categories p = from_front categories p (settled p.puts)
+pulled categories p = from_front categories p (passed p.puts)
 
 -- what is pending after it
 abbrev pub after_pull : Pending → Pulled → Pending

@@ -4,21 +4,30 @@ use Rattle.tex_defs.specs.declared.Token.{Token}
 use Rattle.tex_defs.specs.declared.Token.TheVariants as token
 use Rattle.tex_defs.specs.declared.Name.{Name}
 use Rattle.tex_defs.specs.declared.Name.TheVariants as name
+use Rattle.tex_defs.specs.declared.Frozen.TheVariants as frozen
 use Rattle.tex_defs.specs.declared.Meaning.{Meaning}
-use Rattle.tex_defs.specs.declared.Meaning.TheVariants as means
 use Rattle.tex_defs.specs.declared.Seen.{Seen}
-use Rattle.plain_state.specs.Categories.{begin_group, end_group, space, letter, other, is_between}
-use Rattle.plain_state.specs.Names.{means_primitive, long_primitive, outer_primitive, global_primitive, catcode_primitive}
-use Rattle.plain_state.specs.Reports.{Report, ImproperConstant, MissingNumber, NumberTooBig, BadCharacterCode, InvalidCode, MissingBrace, PrefixWith, LongOrOuterWith}
+use Rattle.plain_state.specs.Categories.{begin_group, end_group, letter, other, is_between}
+use Rattle.plain_state.specs.Tokens.{Want, Raw, Expanded, Nonblank, Command, has_category, is_other, is_space_token, means_category, is_space}
+use Rattle.plain_state.specs.Names.{means_primitive, par_primitive, long_primitive, outer_primitive, global_primitive, def_primitive, gdef_primitive, edef_primitive, xdef_primitive, catcode_primitive}
+use Rattle.plain_state.specs.Reports.{Report, ImproperConstant, MissingNumber, NumberTooBig, BadCharacterCode, InvalidCode, MissingBrace, MissingName, UseMismatch, ExtraBrace, ParagraphEnded, PrefixWith, LongOrOuterWith}
+use Rattle.plain_state.specs.Arguments.{Long, Short, ParMode, gathering, begins_with_place, work_in}
+use Rattle.plain_state.specs.Arguments as call
+use Rattle.plain_state.specs.Definitions.{Manner, definition}
+use Rattle.plain_state.specs.Definitions as build
 
--- The commands of the stomach, an integer, a balanced text; a name is that of the command, as it was written.
--- A command with prefixes begins behind its first prefix: `limited` where that is `\long` or `\outer`.
+-- The commands of the stomach, an integer, a balanced text, the definition of a name, the arguments of a call; a name is that of
+-- the command or the macro, as it was written. A command with prefixes begins behind its first prefix, and remembers whether
+-- that is `\long` or `\outer`; a definition is expanded or not. A call has the number of the macro and its list.
 pub data Kind : Type 0 where
   Catcode : Kind
   Message : Name → Kind
-  Prefixed : (limited : Bool) → Kind
+  Prefixed : (long outer : Bool) → Kind
+  Define : (expanded : Bool) → Kind
   Integer : Kind
   Text : Name → Kind
+  Definition : Name → (expanded : Bool) → Kind
+  Arguments : Name → (long : Bool) → (number : ℕ) → (text : List Token) → Kind
 
 -- the value of a reading
 pub data Value : Type 0 where
@@ -27,58 +36,38 @@ pub data Value : Type 0 where
   -- a command is done
   Flag : Bool → Value
 
--- what a reading is fed with: a token, the value of an inner reading, or a note that its report was written
+-- what a reading is fed with: a token, the value of an inner reading, a note that its report was written, or a note that a
+-- check came: a file's end or the name of an \outer macro
 pub data Fed : Type 0 where
   Tok : Seen → Fed
   Val : Value → Fed
   Told : Fed
-
--- a token raw, by X, by X with spaces skipped, or by X with spaces and `\relax` skipped
-pub data Want : Type 0 where
-  Raw : Want
-  Expanded : Want
-  Nonblank : Want
-  Command : Want
+  Cut : Fed
 
 -- what a command does once it has been read
 pub data Effect : Type 0 where
   SetCategory : (code category : ℕ) → Effect
   Say : List Token → Effect
+  SetMacro : Name → (long outer : Bool) → List Token → Effect
 
 -- What a reading asks for: a token; an inner reading, which may begin with the last token; to end with a value,
--- or to report, where the last token may be given back before; to act and end.
+-- or to report, where the last token may be given back before, and then another be inserted; to act and end. A call asks that
+-- its body be put, with these arguments; to report and end; to report that it ran away, and end; or to end.
 pub data Ask : Type 0 where
   More : Want → Ask
   Inner : Kind → (begins : Bool) → Ask
   Done : Value → (give_back : Bool) → Ask
   Act : Effect → Ask
   Tells : Report → (give_back : Bool) → Ask
+  Inserts : Token → Report → (give_back : Bool) → Ask
+  Calls : List (List Token) → Ask
+  Fails : Report → Ask
+  RunsAway : Report → Ask
+  Closes : Ask
 
 -- The end of a reading that was fed with what it didn't ask for, to which no run comes.
 abbrev pub senseless : Ask
 senseless = Done (Flag false) false
-
--- an explicit character of this category
-abbrev pub has_category : ℕ → Token → Bool
-has_category n (token.Char category code) = category == n
-has_category n t = false
-
--- an explicit character of category 12
-abbrev pub is_other : ℕ → Token → Bool
-is_other n (token.Char category code) = (category == other) && (code == n)
-is_other n t = false
-
--- the meaning is a character of this category
-abbrev pub means_category : ℕ → Meaning Unit → Bool
-means_category n (means.Char category code) = category == n
-means_category n m = false
-
-abbrev pub is_undefined : Meaning Unit → Bool
-is_undefined means.Undefined = true
-is_undefined m = false
-
-abbrev pub is_space : Seen → Bool
-is_space x = means_category space x.meaning
 
 -- INTEGERS. Signs, then a constant or digits, then one space.
 
@@ -306,16 +295,83 @@ message name [] = Inner (Text name) false
 message name (Val (Toks ts) ∷ fed) = Act (Say ts)
 message name fed = senseless
 
+-- DEFINITIONS. The name to be assigned is read raw, behind spaces, and then the list of the macro.
+
+-- the name that may be assigned: no frozen one, but for `\inaccessible`
+abbrev pub name_to_assign : Token → Option Name
+name_to_assign (token.Named (name.Frozen frozen.Inaccessible)) = Some (name.Frozen frozen.Inaccessible)
+name_to_assign (token.Named (name.Frozen f)) = None
+name_to_assign (token.Named n) = Some n
+name_to_assign t = None
+
+-- what is inserted where it is missing
+abbrev pub inaccessible : Token
+inaccessible = token.Named (name.Frozen frozen.Inaccessible)
+
+abbrev pub is_character : Token → Bool
+is_character (token.Char category code) = true
+is_character t = false
+
+-- behind the name
+abbrev pub definition_behind : (expanded long outer : Bool) → Name → List Fed → Ask
+definition_behind expanded long outer name [] = Inner (Definition name expanded) false
+definition_behind expanded long outer name (Val (Toks ts) ∷ fed) = Act (SetMacro name long outer ts)
+definition_behind expanded long outer name fed = senseless
+
+-- where the name is missing, a character is given back, `\inaccessible` inserted, and the name is read again
+abbrev mutual
+  pub define : (expanded long outer : Bool) → List Fed → Ask
+  define expanded long outer [] = More Raw
+  define expanded long outer (Tok x ∷ fed) =
+      if is_space_token x.token then define expanded long outer fed
+      else name_behind expanded long outer x.token (name_to_assign x.token) fed
+  define expanded long outer (x ∷ fed) = senseless
+
+  pub name_behind : (expanded long outer : Bool) → Token → Option Name → List Fed → Ask
+  name_behind expanded long outer t (Some name) fed = definition_behind expanded long outer name fed
+  name_behind expanded long outer t None [] = Inserts inaccessible MissingName (is_character t)
+  name_behind expanded long outer t None (Told ∷ fed) = define expanded long outer fed
+  name_behind expanded long outer t None (x ∷ fed) = senseless
+
+-- what the list is made of
+abbrev pub build_fed : List Fed → List build.Fed
+build_fed [] = []
+build_fed (Tok x ∷ fed) = build.Tok x ∷ build_fed fed
+build_fed (Told ∷ fed) = build.Told ∷ build_fed fed
+build_fed (x ∷ fed) = build_fed fed
+
+abbrev pub build_ask : build.Answer → Ask
+build_ask (build.More want list) = More want
+build_ask (build.Tells report give_back list) = Tells report give_back
+build_ask (build.Done list) = Done (Toks list) false
+
+abbrev pub built : build.Answer → List Token
+built (build.More want list) = list
+built (build.Tells report give_back list) = list
+built (build.Done list) = list
+
+abbrev pub manner : Name → Bool → Manner
+manner name expanded = record { name = name; expanded = expanded }
+
 -- PREFIXES. `\long`, `\outer` and `\global` before an assignment, which then goes on in the same reading.
 
--- `\long` or `\outer`, which are for definitions alone
-abbrev pub is_limiting : Meaning Unit → Bool
-is_limiting m = means_primitive long_primitive m || means_primitive outer_primitive m
+abbrev pub is_long : Meaning Unit → Bool
+is_long m = means_primitive long_primitive m
+
+abbrev pub is_outer_prefix : Meaning Unit → Bool
+is_outer_prefix m = means_primitive outer_primitive m
 
 abbrev pub is_global : Meaning Unit → Bool
 is_global m = means_primitive global_primitive m
 
--- the assignments, which may have prefixes
+-- the definitions; `\edef` and `\xdef` are expanded
+abbrev pub is_raw_definition : Meaning Unit → Bool
+is_raw_definition m = means_primitive def_primitive m || means_primitive gdef_primitive m
+
+abbrev pub is_expanded_definition : Meaning Unit → Bool
+is_expanded_definition m = means_primitive edef_primitive m || means_primitive xdef_primitive m
+
+-- the other assignments, which may have prefixes too
 abbrev pub is_assignment : Meaning Unit → Bool
 is_assignment m = means_primitive catcode_primitive m
 
@@ -331,35 +387,81 @@ limit_refused m [] = Tells (LongOrOuterWith m) false
 limit_refused m (Told ∷ fed) = catcode fed
 limit_refused m (x ∷ fed) = senseless
 
--- the command behind the prefixes, before which `\long` or `\outer` came or not
-abbrev pub behind_prefixes : (limited : Bool) → Meaning Unit → List Fed → Ask
-behind_prefixes limited m fed =
-    if is_assignment m then (
-    if limited then limit_refused m fed else catcode fed
+-- the command behind the prefixes, among which `\long` and `\outer` came or not
+abbrev pub behind_prefixes : (long outer : Bool) → Meaning Unit → List Fed → Ask
+behind_prefixes long outer m fed =
+    if is_raw_definition m then define false long outer fed
+    else if is_expanded_definition m then define true long outer fed
+    else if is_assignment m then (
+    if long || outer then limit_refused m fed else catcode fed
     ) else prefix_refused m fed
 
 -- further prefixes, and the command behind them
-abbrev pub prefixed : (limited : Bool) → List Fed → Ask
-prefixed limited [] = More Command
-prefixed limited (Tok x ∷ fed) =
-    if is_limiting x.meaning then prefixed true fed
-    else if is_global x.meaning then prefixed limited fed
-    else behind_prefixes limited x.meaning fed
-prefixed limited (x ∷ fed) = senseless
+abbrev pub prefixed : (long outer : Bool) → List Fed → Ask
+prefixed long outer [] = More Command
+prefixed long outer (Tok x ∷ fed) =
+    if is_long x.meaning then prefixed true outer fed
+    else if is_outer_prefix x.meaning then prefixed long true fed
+    else if is_global x.meaning then prefixed long outer fed
+    else behind_prefixes long outer x.meaning fed
+prefixed long outer (x ∷ fed) = senseless
+
+-- THE ARGUMENTS OF A CALL
+
+abbrev pub call_fed : List Fed → List call.Fed
+call_fed [] = []
+call_fed (Tok x ∷ fed) = call.Tok x.token ∷ call_fed fed
+call_fed (Told ∷ fed) = call.Settled ∷ call_fed fed
+call_fed (Cut ∷ fed) = call.Cut ∷ call_fed fed
+call_fed (x ∷ fed) = call_fed fed
+
+abbrev pub mode_of : (long : Bool) → ParMode
+mode_of true = Long
+mode_of false = Short
+
+-- what has been gathered after all that the call was fed with
+abbrev pub gathered_by : (long : Bool) → (text : List Token) → List Fed → call.Answer
+gathered_by long text fed = gathering text (mode_of long) (call_fed fed)
+
+abbrev pub par_token : Token
+par_token = token.Named (name.Word par_primitive)
+
+-- an extra `}` is given back and `\par` inserted
+abbrev pub call_ask : Name → call.Answer → Ask
+call_ask name (call.More args work) = More Raw
+call_ask name (call.ExtraBraceFound args work) = Inserts par_token (ExtraBrace name) true
+call_ask name (call.Called args) = Calls args
+call_ask name call.Mismatch = Fails (UseMismatch name)
+call_ask name (call.Ended false args work) = RunsAway (ParagraphEnded name)
+call_ask name (call.Ended true args work) = Closes
+
+-- a call begins with a token
+abbrev pub arguments_ask : Name → (long : Bool) → (text : List Token) → List Fed → Ask
+arguments_ask name long text [] = More Raw
+arguments_ask name long text (x ∷ fed) = call_ask name (gathered_by long text (x ∷ fed))
 
 -- What a reading of this kind asks for after all that it was fed with.
 abbrev pub ask : Kind → List Fed → Ask
 ask Catcode fed = catcode fed
 ask (Message name) fed = message name fed
-ask (Prefixed limited) fed = prefixed limited fed
+ask (Prefixed long outer) fed = prefixed long outer fed
+ask (Define expanded) fed = define expanded false false fed
 ask Integer fed = integer false fed
 ask (Text name) fed = text fed
+ask (Definition name expanded) fed = build_ask (definition (manner name expanded) (build_fed fed))
+ask (Arguments name long number ts) fed = arguments_ask name long ts fed
 
 -- LISTS
 
--- the list that it has built so far
+abbrev pub list_or_none : Option (List Token) → List Token
+list_or_none None = []
+list_or_none (Some ts) = ts
+
+-- the list that it builds, as far as it is built; of a call that of the present argument
 abbrev pub so_far : Kind → List Fed → List Token
 so_far (Text name) fed = text_so_far fed
+so_far (Definition name expanded) fed = built (definition (manner name expanded) (build_fed fed))
+so_far (Arguments name long number ts) fed = list_or_none (work_in (gathered_by long ts fed))
 so_far k fed = []
 
 -- a value's list; one without tokens is none
@@ -371,24 +473,17 @@ abbrev pub value_lists : Value → List (List Token)
 value_lists (Toks ts) = list_of_tokens ts
 value_lists v = []
 
-abbrev pub fed_lists : List Fed → List (List Token)
-fed_lists [] = []
-fed_lists (Val v ∷ fed) = value_lists v ++ fed_lists fed
-fed_lists (x ∷ fed) = fed_lists fed
-
--- the list that it builds, which is begun with the reading
-abbrev pub own_lists : Kind → List Fed → List (List Token)
-own_lists (Text name) fed = text_so_far fed ∷ []
-own_lists k fed = []
-
--- The lists that a reading holds: the one that it builds, and those of the inner values that it was fed with.
-abbrev pub gathered_by : Kind → List Fed → List (List Token)
-gathered_by k fed = own_lists k fed ++ fed_lists fed
+-- The list that it builds, which is begun with the reading, or, of a call, as a place is reached.
+abbrev pub own_lists : Kind → List (List Token)
+own_lists (Text name) = [] ∷ []
+own_lists (Definition name expanded) = [] ∷ []
+own_lists (Arguments name long number ts) = if begins_with_place ts then [] ∷ [] else []
+own_lists k = []
 
 -- A reading begins only readings of a lower rank before a token comes.
 abbrev pub rank : Kind → ℕ
 rank Catcode = 1
 rank (Message name) = 1
-rank (Prefixed limited) = 1
-rank Integer = 0
-rank (Text name) = 0
+rank (Prefixed long outer) = 1
+rank (Define expanded) = 1
+rank k = 0

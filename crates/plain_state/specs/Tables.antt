@@ -1,15 +1,18 @@
 -- What counts as used of each table, what a move needs, and where it doesn't fit.
-use Rattle.std.specs.Prelude.{ℕ, ◌+◌, ◌-◌, List, [], ◌∷◌, ◌++◌, length, sum_by, nat_le, Option, Some, None, if◌then◌else◌}
+use Rattle.std.specs.Prelude.{ℕ, suc, ◌+◌, ◌==◌, ◌||◌, Bool, true, false, List, [], ◌∷◌, ◌++◌, length, sum_by, nat_le, Option, Some, None, if◌then◌else◌}
 use Rattle.tex_defs.specs.declared.Token.{Token}
 use Rattle.tex_defs.specs.declared.Table.{Table}
-use Rattle.tex_defs.specs.declared.Table.TheVariants.{PoolSize, NumberOfStrings, HashSize, MainMemorySize, InputStackSize, BufferSize, ExpansionDepth}
+use Rattle.tex_defs.specs.declared.Table.TheVariants.{PoolSize, NumberOfStrings, HashSize, MainMemorySize, InputStackSize, ParameterStackSize, BufferSize, ExpansionDepth}
 use Rattle.tex_defs.specs.declared.Full.{Full}
 use Rattle.tex_defs.specs.declared.Sizes.{Sizes}
 use Rattle.tex_defs.specs.Sizes.{size_of}
 use Rattle.plain_state.specs.Lines.{first_bytes}
-use Rattle.plain_state.specs.Pending.{Pending, Progress, NotBegun, Begun as BegunFile, Put as PutList}
-use Rattle.plain_state.specs.Readings.{Fed, Tok, gathered_by, own_lists}
-use Rattle.plain_state.specs.States.{Reading, Move, Taken, Entered, Kept, Feeds, ListBegun, ListGrown, Put, Begun, BegunWith, State}
+use Rattle.tex_defs.specs.declared.Meaning.{Meaning}
+use Rattle.tex_defs.specs.declared.Meaning.TheVariants as means
+use Rattle.plain_state.specs.Puts.{Item, First, Put as PutList, Whole, Own, Macro, put_levels, put_parameters, next_item}
+use Rattle.plain_state.specs.Pending.{Pending, Progress, NotBegun, Begun as BegunFile}
+use Rattle.plain_state.specs.Readings.{list_of_tokens, own_lists}
+use Rattle.plain_state.specs.States.{Reading, Move, Handed, Taken, Entered, Kept, Grows, Opened, ListBegun, ListGrown, Put, Called, CalledWith, Begun, BegunWith, State}
 
 -- MAIN MEMORY: each list that is held takes one word, and one for each of its tokens.
 
@@ -19,35 +22,59 @@ list_words ts = 1 + length ts
 abbrev pub lists_words : List (List Token) → ℕ
 lists_words lists = sum_by list_words lists
 
+-- a list in front that is its own; a macro's list is counted once, whoever holds it
+abbrev pub whole_words : Whole → ℕ
+whole_words (Own ts) = list_words ts
+whole_words (Macro number) = 0
+
+-- the arguments of a call; one without tokens is no list
+abbrev pub argument_words : List (List Token) → ℕ
+argument_words arguments = sum_by (λ a. lists_words (list_of_tokens a)) arguments
+
 -- the lists in front
 abbrev pub put_words : List PutList → ℕ
-put_words puts = sum_by (λ p. list_words p.whole) puts
+put_words puts = sum_by (λ p. whole_words p.list + argument_words p.arguments) puts
 
 -- the list that is being made
 abbrev pub made_words : Option (List Token) → ℕ
 made_words None = 0
 made_words (Some ts) = list_words ts
 
--- the lists of the open readings, innermost first
-abbrev pub gathered : List Reading → List (List Token)
-gathered [] = []
-gathered (r ∷ rs) = gathered_by r.kind r.fed ++ gathered rs
-
 -- the words of the lists that are held in front, being made and gathered
 abbrev pub held_words : List PutList → Option (List Token) → List (List Token) → ℕ
 held_words puts making lists = put_words puts + (made_words making + lists_words lists)
 
+-- a macro's list is held by the location of a name, and by each list in front that is its
+abbrev pub is_number : ℕ → Option ℕ → Bool
+is_number n None = false
+is_number n (Some number) = number == n
+
+abbrev pub means_macro : ℕ → Meaning (Option ℕ) → Bool
+means_macro n (means.Macro long outer list) = is_number n list
+means_macro n m = false
+
+abbrev pub is_meant : ℕ → List (Meaning (Option ℕ)) → Bool
+is_meant n [] = false
+is_meant n (m ∷ ms) = means_macro n m || is_meant n ms
+
+abbrev pub is_whole : ℕ → Whole → Bool
+is_whole n (Own ts) = false
+is_whole n (Macro number) = number == n
+
+abbrev pub is_put : ℕ → List PutList → Bool
+is_put n [] = false
+is_put n (p ∷ ps) = is_whole n p.list || is_put n ps
+
+-- the words of the macros' lists that are held, the first of which has the number n
+abbrev pub macro_words : ℕ → List (Meaning (Option ℕ)) → List PutList → List (List Token) → ℕ
+macro_words n meanings puts [] = 0
+macro_words n meanings puts (ts ∷ macros) = (if is_meant n meanings || is_put n puts then list_words ts else 0) + macro_words (suc n) meanings puts macros
+
 abbrev pub words : State → ℕ
-words s = held_words s.pending.puts s.making (gathered s.work)
+words s = macro_words 0 s.meanings s.pending.puts s.macros + held_words s.pending.puts s.making s.gathered
 
--- THE INPUT STACK: a level for each list in front with a token left, and one for a file that is begun.
-
-abbrev pub level_of : List Token → ℕ
-level_of [] = 0
-level_of (t ∷ ts) = 1
-
-abbrev pub put_levels : List PutList → ℕ
-put_levels puts = sum_by (λ p. level_of p.left) puts
+-- THE INPUT STACK: a level for each list in front with an item left, one for the argument within which such a list
+-- stands, and one for a file that is begun.
 
 abbrev pub file_levels : Progress → ℕ
 file_levels BegunFile = 1
@@ -85,6 +112,15 @@ memory need used = record { table = MainMemorySize; used = used; need = need }
 abbrev pub level : Pending → Demand
 level p = record { table = InputStackSize; used = levels p; need = 1 }
 
+-- an argument's level opens with its first token
+abbrev pub opened_level : Option Item → Pending → List Demand
+opened_level (Some (First t)) p = level p ∷ []
+opened_level x p = []
+
+-- the arguments of a call
+abbrev pub parameters : PutList → Pending → Demand
+parameters x p = record { table = ParameterStackSize; used = put_parameters p.puts; need = length x.arguments }
+
 abbrev pub depth : List Reading → Demand
 depth work = record { table = ExpansionDepth; used = length work; need = 1 }
 
@@ -111,22 +147,21 @@ file_level f p = []
 abbrev pub next_line : Pending → List Demand
 next_line p = buffer p.rest ∷ file_level p.file p
 
--- the words that a reading's lists grow by
-abbrev pub growth : List Reading → Fed → ℕ
-growth [] x = 0
-growth (r ∷ rs) x = lists_words (gathered_by r.kind (r.fed ++ x ∷ [])) - lists_words (gathered_by r.kind r.fed)
-
 -- What a move needs, in the order in which the tables are asked.
 abbrev pub demands : Move → State → List Demand
 demands (Taken line) s = next_line s.pending
 demands (Entered name) s = new_name name s.names s.strings
 demands (Kept bytes) s = string bytes s.names s.strings
-demands (Feeds x) s = memory (growth s.work (Tok x)) (words s) ∷ []
+demands (Handed t) s = opened_level (next_item s.pending.puts) s.pending
+demands (Grows t) s = memory 1 (words s) ∷ []
+demands Opened s = memory 1 (words s) ∷ []
 demands ListBegun s = memory 1 (words s) ∷ []
 demands (ListGrown t) s = memory 1 (words s) ∷ []
 demands (Put ts) s = level s.pending ∷ []
-demands (Begun k) s = depth s.work ∷ memory (lists_words (own_lists k [])) (words s) ∷ []
-demands (BegunWith k x) s = depth s.work ∷ memory (lists_words (own_lists k (Tok x ∷ []))) (words s) ∷ []
+demands (Called p) s = level s.pending ∷ []
+demands (CalledWith p) s = parameters p s.pending ∷ level s.pending ∷ []
+demands (Begun k) s = depth s.work ∷ memory (lists_words (own_lists k)) (words s) ∷ []
+demands (BegunWith k x) s = depth s.work ∷ memory (lists_words (own_lists k)) (words s) ∷ []
 demands m s = []
 
 -- one more of what the table holds would pass its size

@@ -1,0 +1,28 @@
+use Rattle.std.proofs.Common.{refl}
+use Rattle.std.specs.Fmt.{digits}
+use Rattle.prim_table.specs.Primitives.{primitive_name, primitive_names, command_names, assignment_names, expandable_names, conditional_names, integer_names, dimension_names, glue_names, token_names}
+use Rattle.plain_machine.specs.Rows.{job_of, run_of}
+use Rattle.plain_state.specs.Categories.{initial_categories}
+use Rattle.plain_state.specs.Lex.{headed, letters, behind_letters, lexed}
+use Rattle.plain_state.specs.Lookup.{number_from}
+use Rattle.plain_machine.proofs.worked_macros.Goals as goal
+
+pub returns : goal.returns
+unfolding job_of run_of initial_categories digits headed letters behind_letters lexed number_from primitive_names primitive_name command_names assignment_names expandable_names conditional_names integer_names dimension_names glue_names token_names
+returns c = record {
+  delimited = (refl, refl);
+  groups = (refl, refl);
+  steps = ((refl, refl), refl);
+  extra_brace = (refl, refl);
+  open_call = (refl, refl);
+  mismatch = (refl, refl);
+  long = (refl, refl);
+  paragraph = (refl, refl);
+  outer_in_text = (refl, refl);
+  numbering = (refl, refl);
+  illegal = (refl, refl);
+  brace_place = (refl, refl);
+  expanded = (refl, refl);
+  missing_name = (refl, refl);
+  no_body = (refl, refl);
+}
