@@ -11,18 +11,25 @@ pub returns : goal.returns
 unfolding job_of run_of initial_categories digits headed letters behind_letters lexed number_from primitive_names primitive_name command_names assignment_names expandable_names conditional_names integer_names dimension_names glue_names token_names
 returns c = record {
   delimited = (refl, refl);
+  delimiter_overlaps = (refl, refl);
   groups = (refl, refl);
-  steps = ((refl, refl), refl);
-  extra_brace = (refl, refl);
-  open_call = (refl, refl);
-  mismatch = (refl, refl);
-  long = (refl, refl);
-  paragraph = (refl, refl);
-  outer_in_text = (refl, refl);
-  numbering = (refl, refl);
-  illegal = (refl, refl);
+  inner_groups = (refl, refl);
+  undelimited = (refl, refl);
+  nine = (refl, refl);
   brace_place = (refl, refl);
-  expanded = (refl, refl);
-  missing_name = (refl, refl);
-  no_body = (refl, refl);
+  long = (refl, refl);
+  long_by_name = (refl, refl);
+  arguments_read_again = (refl, refl);
+  nested = (refl, refl);
+  redefined = (refl, refl);
+  redefined_in_its_body = (refl, refl);
+  par = (refl, refl);
+  active = (refl, refl);
+  active_mismatch = (refl, refl);
+  number = (refl, refl);
+  inner_space = (refl, refl);
+  outer_again = (refl, refl);
+  global = (refl, refl);
+  steps = ((refl, refl), refl);
+  gap_steps = ((refl, refl), refl);
 }
