@@ -12,19 +12,14 @@ unfolding job_of run_of initial_categories digits headed letters behind_letters 
 returns c = record {
   mismatch = (refl, refl);
   mismatch_brace = (refl, refl);
+  category_differs = (refl, refl);
   extra_brace = (refl, refl);
   extra_brace_delimited = (refl, refl);
   extra_brace_long = (refl, refl);
   extra_brace_in_a_match = (refl, refl);
+  extra_brace_breaks_a_match = (refl, refl);
   extra_brace_then_par = (refl, refl);
-  paragraph = (refl, refl);
-  paragraph_undelimited = (refl, refl);
-  paragraph_in_a_group = (refl, refl);
-  paragraph_in_a_match = (refl, refl);
   prefix = (refl, refl);
   prefix_letter = (refl, refl);
   prefix_nothing = (refl, refl);
-  cut_at_62 = (refl, refl);
-  cut_beyond_62 = (refl, refl);
-  cut_behind_a_name = (refl, refl);
 }

@@ -10,11 +10,6 @@ use Rattle.plain_machine.proofs.worked_definitions.Goals as goal
 pub returns : goal.returns
 unfolding job_of run_of initial_categories digits headed letters behind_letters lexed number_from primitive_names primitive_name command_names assignment_names expandable_names conditional_names integer_names dimension_names glue_names token_names
 returns c = record {
-  expanded = (refl, refl);
-  expanded_arguments = (refl, refl);
-  expanded_number = (refl, refl);
-  expanded_spaces = (refl, refl);
-  expanded_undefined = (refl, refl);
   missing_name = (refl, refl);
   missing_name_defined = (refl, refl);
   numbering = (refl, refl);
@@ -27,8 +22,6 @@ returns c = record {
   illegal_without_places = (refl, refl);
   illegal_letter = (refl, refl);
   illegal_brace = (refl, refl);
-  illegal_expanded = (refl, refl);
   no_body = (refl, refl);
   no_body_places = (refl, refl);
-  entered = (refl, refl);
 }

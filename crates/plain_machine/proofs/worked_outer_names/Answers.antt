@@ -5,23 +5,18 @@ use Rattle.plain_machine.specs.Rows.{job_of, run_of}
 use Rattle.plain_state.specs.Categories.{initial_categories}
 use Rattle.plain_state.specs.Lex.{headed, letters, behind_letters, lexed}
 use Rattle.plain_state.specs.Lookup.{number_from}
-use Rattle.plain_machine.proofs.worked_checks.Goals as goal
+use Rattle.plain_machine.proofs.worked_outer_names.Goals as goal
 
 pub returns : goal.returns
 unfolding job_of run_of initial_categories digits headed letters behind_letters lexed number_from primitive_names primitive_name command_names assignment_names expandable_names conditional_names integer_names dimension_names glue_names token_names
 returns c = record {
-  ended_parameters = (refl, refl);
-  ended_definition = (refl, refl);
-  ended_expanded = (refl, refl);
-  ended_use = (refl, refl);
-  ended_delimited = (refl, refl);
-  ended_before_the_first = (refl, refl);
-  ended_without_a_token = (refl, refl);
   outer_parameters = (refl, refl);
   outer_parameters_behind = (refl, refl);
   outer_definition = (refl, refl);
   outer_use = (refl, refl);
   outer_use_long = (refl, refl);
+  outer_in_a_match = (refl, refl);
+  outer_behind_the_first = (refl, refl);
   outer_undelimited = (refl, refl);
   outer_in_a_group = (refl, refl);
   outer_before_the_first = (refl, refl);

@@ -5,7 +5,7 @@ use Rattle.plain_machine.specs.Rows.{job_fills, full_in, job_of, run_of}
 use Rattle.plain_state.specs.Categories.{initial_categories}
 use Rattle.plain_state.specs.Lex.{headed, letters, behind_letters, lexed}
 use Rattle.plain_state.specs.Lookup.{number_from}
-use Rattle.plain_machine.proofs.worked_macro_refusals.Goals as goal
+use Rattle.plain_machine.proofs.worked_levels.Goals as goal
 
 pub returns : goal.returns
 unfolding job_fills full_in job_of run_of initial_categories digits headed letters behind_letters lexed number_from primitive_names primitive_name command_names assignment_names expandable_names conditional_names integer_names dimension_names glue_names token_names
@@ -23,17 +23,10 @@ returns c = record {
   call_depth = refl;
   call_depth_fits = (refl, refl);
   plain_call_depth = (refl, refl);
-  growing_in_100 = refl;
-  growing_in_101 = refl;
-  growing_in_102 = refl;
-  shared = refl;
-  shared_fits = (refl, refl);
-  argument_words = refl;
-  argument_words_fits = (refl, refl);
-  two_arguments = refl;
-  two_arguments_fits = (refl, refl);
-  redefined = refl;
-  redefined_fits = (refl, refl);
-  read_body = refl;
-  read_body_fits = (refl, refl);
+  argument_levels = refl;
+  argument_levels_fit = (refl, refl);
+  last_of_an_argument = (refl, refl);
+  empty_body = (refl, refl);
+  parameters_first = refl;
+  then_the_level = refl;
 }

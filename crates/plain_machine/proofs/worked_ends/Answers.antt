@@ -5,31 +5,17 @@ use Rattle.plain_machine.specs.Rows.{job_of, run_of}
 use Rattle.plain_state.specs.Categories.{initial_categories}
 use Rattle.plain_state.specs.Lex.{headed, letters, behind_letters, lexed}
 use Rattle.plain_state.specs.Lookup.{number_from}
-use Rattle.plain_machine.proofs.worked_macros.Goals as goal
+use Rattle.plain_machine.proofs.worked_ends.Goals as goal
 
 pub returns : goal.returns
 unfolding job_of run_of initial_categories digits headed letters behind_letters lexed number_from primitive_names primitive_name command_names assignment_names expandable_names conditional_names integer_names dimension_names glue_names token_names
 returns c = record {
-  delimited = (refl, refl);
-  delimiter_overlaps = (refl, refl);
-  groups = (refl, refl);
-  inner_groups = (refl, refl);
-  undelimited = (refl, refl);
-  nine = (refl, refl);
-  brace_place = (refl, refl);
-  long = (refl, refl);
-  long_by_name = (refl, refl);
-  arguments_read_again = (refl, refl);
-  nested = (refl, refl);
-  redefined = (refl, refl);
-  redefined_in_its_body = (refl, refl);
-  par = (refl, refl);
-  active = (refl, refl);
-  active_mismatch = (refl, refl);
-  number = (refl, refl);
-  inner_space = (refl, refl);
-  outer_again = (refl, refl);
-  global = (refl, refl);
-  steps = ((refl, refl), refl);
-  gap_steps = ((refl, refl), refl);
+  ended_parameters = (refl, refl);
+  ended_definition = (refl, refl);
+  ended_expanded = (refl, refl);
+  ended_use = (refl, refl);
+  ended_delimited = (refl, refl);
+  ended_in_a_match = (refl, refl);
+  ended_before_the_first = (refl, refl);
+  ended_without_a_token = (refl, refl);
 }
