@@ -4,9 +4,8 @@ use Rattle.std.specs.Prelude.{◌==◌, if◌then◌else◌}
 use Rattle.std.proofs.lemmas.Bool.{and_parts, and_right, eq-eqb, ne_eqb, true≢false, cases_eq}
 use Rattle.std.proofs.lemmas.List.{append-nil}
 use Rattle.tex_defs.specs.declared.Token.{Token}
-use Rattle.macro_call.specs.declared.par_mode.ParMode.{ParMode}
-use Rattle.macro_call.specs.declared.par_mode.ParMode.TheVariants.{Long}
-use Rattle.macro_call.specs.Arguments.{is_begin, is_end, is_par, is_space, is_short, open_behind, open_after, all_close, is_group, inner, undelimited_case, is_single, is_extra, Case, Argument, ExtraBrace, ParEnded, Skipped, Going}
+use Rattle.plain_state.specs.Tokens.{is_space_token}
+use Rattle.plain_state.specs.Arguments.{ParMode, Long, is_begin, is_end, is_par, is_short, open_behind, open_after, all_close, is_group, inner, undelimited_case, is_single, is_extra, Case, Argument, ExtraBrace, ParEnded, Skipped, Going}
 use Rattle.macro_call.proofs.ArgumentTokens.{no_par_end}
 use Rattle.macro_call.proofs.ArgumentGroups.{without_last_on, ends_in_brace_on}
 use Rattle.macro_call.proofs.ArgumentMatches.{open_after_on, all_close_on}
@@ -126,13 +125,13 @@ module _ (mode : ParMode) (x : Token) where
   pub first_ends : is_end x ≡ false → (is_short mode && is_par x) ≡ true → ParEnded ≡ undelimited_case mode [] x
   first_ends e s = sym (rw (e, s) refl)
 
-  pub first_skips : is_end x ≡ false → (is_short mode && is_par x) ≡ false → is_space x ≡ true → Skipped ≡ undelimited_case mode [] x
+  pub first_skips : is_end x ≡ false → (is_short mode && is_par x) ≡ false → is_space_token x ≡ true → Skipped ≡ undelimited_case mode [] x
   first_skips e s b = sym (rw (e, s, b) refl)
 
-  pub first_begins : is_end x ≡ false → (is_short mode && is_par x) ≡ false → is_space x ≡ false → is_begin x ≡ true → Going ≡ undelimited_case mode [] x
+  pub first_begins : is_end x ≡ false → (is_short mode && is_par x) ≡ false → is_space_token x ≡ false → is_begin x ≡ true → Going ≡ undelimited_case mode [] x
   first_begins e s b g = sym (rw (e, s, b, g) refl)
 
-  pub first_single : is_end x ≡ false → (is_short mode && is_par x) ≡ false → is_space x ≡ false → is_begin x ≡ false → Argument (x ∷ []) ≡ undelimited_case mode [] x
+  pub first_single : is_end x ≡ false → (is_short mode && is_par x) ≡ false → is_space_token x ≡ false → is_begin x ≡ false → Argument (x ∷ []) ≡ undelimited_case mode [] x
   first_single e s b g = sym (rw (e, s, b, g) refl)
 
 pub plain_begins : (x : Token) → is_begin x ≡ true → IsPlain (x ∷ []) 1

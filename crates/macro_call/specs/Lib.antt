@@ -1,9 +1,9 @@
-pub mod Arguments
 pub mod ArgumentLaws
 pub mod Rows
 pub mod Cursors
 pub mod Tables
 pub mod Braces
+pub mod Modes
 pub mod Stages
 pub mod Holds
 pub mod Listed

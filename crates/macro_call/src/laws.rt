@@ -27,7 +27,7 @@ pub fn matches_restart()
     ensures { MatchesRestart }
 {}
 
-/// Worked rows: what some calls come to that a `\par` ends.
+/// Worked rows: what some calls come to.
 pub fn worked_calls()
     ensures { WorkedCalls }
 {}

@@ -7,8 +7,9 @@ ghost use Rattle.macro_args.specs.Args.{cell_tokens};
 ghost use Rattle.macro_call.specs.Holds.{present_holds};
 ghost use Rattle.token_lists.specs.Ids.{id_of, build_id, IsBuilding};
 ghost use Rattle.token_lists.specs.Refusals.{IsFull};
-ghost use Rattle.macro_call.specs.Arguments.{is_end, delimited_case, undelimited_case, case_at};
+ghost use Rattle.plain_state.specs.Arguments.{is_end, delimited_case, undelimited_case, case_at};
 ghost use Rattle.macro_call.specs.Cursors.{IsOn, delimiter_at, rest_at};
+ghost use Rattle.macro_call.specs.Modes.{par_mode};
 ghost use Rattle.macro_call.specs.Stages.{stage_of, kept_in, read_in, Stands, StandsAt, StandsPlain, Releases, Took};
 ghost use Rattle.macro_call.specs.Tables.{IsOnly, IsGrownByPart};
 
@@ -123,7 +124,7 @@ impl Present {
         ensures building { IsBuilding lists.new self.new.build }
         ensures others { IsOnly lists.old lists.new (build_id self.old.build) }
         ensures account { Moves lists.old lists.new none none }
-        ensures took { IfOk result (λ step. Took [] (stage_of lists.old self.old) x step (stage_of lists.new self.new) (undelimited_case mode (tokens_at lists.old (build_id self.old.build)) x)) }
+        ensures took { IfOk result (λ step. Took [] (stage_of lists.old self.old) x step (stage_of lists.new self.new) (undelimited_case (par_mode mode) (tokens_at lists.old (build_id self.old.build)) x)) }
         ensures full { IfErr result (λ f. IsFull f lists.new) }
         ensures cut_short { OnErr result (tokens_at lists.new (build_id self.old.build) ≡ tokens_at lists.old (build_id self.old.build)) }
     {
@@ -151,7 +152,7 @@ impl Present {
         ensures building { IsBuilding lists.new self.new.build }
         ensures others { IsOnly lists.old lists.new (build_id self.old.build) }
         ensures account { Moves lists.old lists.new none none }
-        ensures took { IfOk result (λ step. Took [] (stage_of lists.old self.old) x step (stage_of lists.new self.new) (undelimited_case mode (tokens_at lists.old (build_id self.old.build)) x)) }
+        ensures took { IfOk result (λ step. Took [] (stage_of lists.old self.old) x step (stage_of lists.new self.new) (undelimited_case (par_mode mode) (tokens_at lists.old (build_id self.old.build)) x)) }
         ensures full { IfErr result (λ f. IsFull f lists.new) }
         ensures cut_short { OnErr result (tokens_at lists.new (build_id self.old.build) ≡ tokens_at lists.old (build_id self.old.build)) }
     {
@@ -207,7 +208,7 @@ impl Present {
         ensures building { IsBuilding lists.new self.new.build }
         ensures others { IsOnly lists.old lists.new (build_id self.old.build) }
         ensures account { Moves lists.old lists.new none none }
-        ensures took { IfOk result (λ step. Took (delimiter_at lists.old (id_of list.now) delimiter) (stage_of lists.old self.old) x step (stage_of lists.new self.new) (delimited_case (delimiter_at lists.old (id_of list.now) delimiter) mode (kept_in (stage_of lists.old self.old)) (read_in (delimiter_at lists.old (id_of list.now) delimiter) (stage_of lists.old self.old)) x)) }
+        ensures took { IfOk result (λ step. Took (delimiter_at lists.old (id_of list.now) delimiter) (stage_of lists.old self.old) x step (stage_of lists.new self.new) (delimited_case (delimiter_at lists.old (id_of list.now) delimiter) (par_mode mode) (kept_in (stage_of lists.old self.old)) (read_in (delimiter_at lists.old (id_of list.now) delimiter) (stage_of lists.old self.old)) x)) }
         ensures full { IfErr result (λ f. IsFull f lists.new) }
         ensures cut_short { OnErr result (IsGrownByPart (tokens_at lists.old (build_id self.old.build)) (tokens_at lists.new (build_id self.old.build)) (take self.old.matched (delimiter_at lists.old (id_of list.now) delimiter) ++ x ∷ [])) }
     {
@@ -252,7 +253,7 @@ impl Present {
         ensures building { IsBuilding lists.new self.new.build }
         ensures others { IsOnly lists.old lists.new (build_id self.old.build) }
         ensures account { Moves lists.old lists.new none none }
-        ensures took { IfOk result (λ step. Took (delimiter_at lists.old (id_of list.now) delimiter) (stage_of lists.old self.old) x step (stage_of lists.new self.new) (delimited_case (delimiter_at lists.old (id_of list.now) delimiter) mode (kept_in (stage_of lists.old self.old)) (read_in (delimiter_at lists.old (id_of list.now) delimiter) (stage_of lists.old self.old)) x)) }
+        ensures took { IfOk result (λ step. Took (delimiter_at lists.old (id_of list.now) delimiter) (stage_of lists.old self.old) x step (stage_of lists.new self.new) (delimited_case (delimiter_at lists.old (id_of list.now) delimiter) (par_mode mode) (kept_in (stage_of lists.old self.old)) (read_in (delimiter_at lists.old (id_of list.now) delimiter) (stage_of lists.old self.old)) x)) }
         ensures full { IfErr result (λ f. IsFull f lists.new) }
         ensures cut_short { OnErr result (IsGrownByPart (tokens_at lists.old (build_id self.old.build)) (tokens_at lists.new (build_id self.old.build)) (take self.old.matched (delimiter_at lists.old (id_of list.now) delimiter) ++ x ∷ [])) }
     {
@@ -292,7 +293,7 @@ impl Present {
         ensures building { IsBuilding lists.new self.new.build }
         ensures others { IsOnly lists.old lists.new (build_id self.old.build) }
         ensures account { Moves lists.old lists.new none none }
-        ensures took { IfOk result (λ step. Took (delimiter_at lists.old (id_of list.now) delimiter) (stage_of lists.old self.old) x step (stage_of lists.new self.new) (case_at (delimiter_at lists.old (id_of list.now) delimiter) mode (kept_in (stage_of lists.old self.old)) (read_in (delimiter_at lists.old (id_of list.now) delimiter) (stage_of lists.old self.old)) x)) }
+        ensures took { IfOk result (λ step. Took (delimiter_at lists.old (id_of list.now) delimiter) (stage_of lists.old self.old) x step (stage_of lists.new self.new) (case_at (delimiter_at lists.old (id_of list.now) delimiter) (par_mode mode) (kept_in (stage_of lists.old self.old)) (read_in (delimiter_at lists.old (id_of list.now) delimiter) (stage_of lists.old self.old)) x)) }
         ensures full { IfErr result (λ f. IsFull f lists.new) }
         ensures cut_short { OnErr result (IsGrownByPart (tokens_at lists.old (build_id self.old.build)) (tokens_at lists.new (build_id self.old.build)) (take self.old.matched (delimiter_at lists.old (id_of list.now) delimiter) ++ x ∷ [])) }
     {

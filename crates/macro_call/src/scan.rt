@@ -5,9 +5,10 @@ ghost use Rattle.token_lists.specs.Table.{Entry, tokens_at, IsHeld};
 ghost use Rattle.token_lists.specs.Accounts.{Moves, Keeps, none};
 ghost use Rattle.token_lists.specs.Ids.{id_of, build_id};
 ghost use Rattle.token_lists.specs.Refusals.{IsFull};
-ghost use Rattle.macro_call.specs.Arguments.{start_of, delimiters_of, gathering, Fed, Tok, Cut, Settled};
+ghost use Rattle.plain_state.specs.Arguments.{start_of, delimiters_of, gathering, Fed, Tok, Cut, Settled};
 ghost use Rattle.macro_call.specs.Cursors.{IsOn};
-ghost use Rattle.macro_call.specs.Scans.{resume, work_in, scan_holds, Owns, IsSound, answer_of, handed, IsOpen, Next, IsBetween, Enters, mode_of, Answers, IsCutShort, TookIn, CutIn, IsReady, IsWhole, Completes};
+ghost use Rattle.macro_call.specs.Modes.{mode_of};
+ghost use Rattle.macro_call.specs.Scans.{resume, scan_holds, Owns, IsSound, answer_of, handed, IsOpen, Next, IsBetween, Enters, Answers, IsCutShort, TookIn, CutIn, IsReady, IsWhole, Completes};
 
 use crate::cursor::{Cursor, at_first};
 use crate::par_mode::ParMode;
