@@ -10,7 +10,7 @@ use Rattle.token_lists.specs.Table.{Entry, tokens_at}
 use Rattle.token_lists.specs.Accounts.{Moves, Keeps, none}
 use Rattle.macro_call.specs.declared.par_mode.ParMode.{ParMode}
 use Rattle.macro_call.specs.declared.par_mode.ParMode.TheVariants.{Short}
-use Rattle.plain_state.specs.Arguments.{delimiters_of, Fed, Tok, Ended, arguments, is_checked, work_in}
+use Rattle.plain_state.specs.Arguments.{delimiters_of, Fed, Tok, Ended, arguments, is_checked, work_in, case_at}
 use Rattle.macro_call.specs.declared.cursor.Cursor.{Cursor}
 use Rattle.macro_call.specs.declared.present.Present.{Present}
 use Rattle.macro_call.specs.declared.present.Step.{Step}
@@ -21,11 +21,11 @@ use Rattle.macro_call.specs.declared.scan.ArgAsk.TheVariants as ask
 use Rattle.macro_args.specs.Args.{args_in}
 use Rattle.macro_call.specs.Cursors.{rest_at, delimiter_at}
 use Rattle.macro_call.specs.Modes.{par_mode}
-use Rattle.macro_call.specs.Stages.{stage_of, kept_in, read_in}
+use Rattle.macro_call.specs.Stages.{stage_of, kept_in, read_in, gained}
 use Rattle.macro_call.specs.Tables.{IsGrownByPart}
-use Rattle.macro_call.specs.Scans.{resume, scan_holds, IsSound, Answers, TookIn, CutIn, IsCutShort, Completes, Enters, work_by, work_tokens, held_by}
+use Rattle.macro_call.specs.Scans.{resume, scan_holds, IsSound, Answers, TookIn, CutIn, IsCutShort, Completes, Enters, work_by, work_tokens}
 use Rattle.macro_call.proofs.Completed.{args_stay, macro_tokens, shared_kept}
-use Rattle.macro_call.proofs.Resumed.{case_on, goes, now_owns, now_moves, here}
+use Rattle.macro_call.proofs.Resumed.{case_on, growth, goes, now_owns, now_moves, here}
 
 pub record Parts (old_table table : List (Option Entry)) (macro : ℕ) (cursor : Cursor) (mode : ParMode) (x : Token) (s : Step) (o n : Option Present) : Type 0 where
   pub p : Present
@@ -149,19 +149,24 @@ module _ (old_table table : List (Option Entry)) (macro : ℕ) (old : ArgScan) (
     whole_err new_table new (Err g) e f = whole_cut new_table new e f
 
 -- the memory is full at a step
-pub cut_step : (old_table table : List (Option Entry)) (macro : ℕ) (old : ArgScan) (x : Token) (o n : Option Present) → old.present ≡ o → IsSound old_table macro old → Moves old_table table none none → CutIn old_table table macro old.cursor x o n →
+pub cut_step : (old_table table : List (Option Entry)) (macro : ℕ) (old : ArgScan) (x : Token) (o n : Option Present) → old.present ≡ o → IsSound old_table macro old → Moves old_table table none none → CutIn old_table table macro old.cursor old.mode x o n →
     IsCutShort old_table table macro old (record { cursor = old.cursor; mode = old.mode; braced = old.braced; present = n; args = old.args }) x
 cut_step old_table table macro old x None n e sound account h = absurd h
 cut_step old_table table macro old x (Some p) None e sound account h = absurd h
 cut_step old_table table macro old x (Some p) (Some q) e sound account h =
     let building = (here old_table table macro old x p e sound h.2 account).0 in
+    let met = case_at (delimiter_at old_table macro old.cursor) (par_mode old.mode) (kept_in (stage_of old_table p)) (read_in (delimiter_at old_table macro old.cursor) (stage_of old_table p)) x in
     record {
       owns = now_owns old_table table macro old x p e sound h.2 account q (Some q) refl h.0 h.1 old.mode old.braced;
       moves = now_moves old_table table macro old x p e sound h.2 account q (Some q) refl h.0 h.1 old.mode old.braced;
       kept = shared_kept old_table table macro old p e building sound.owns sound.outside h.2;
-      stage = inl (
-        args_stay old_table table macro old p e building sound.owns sound.outside h.2,
-        subst (λ (o : Option Present). IsGrownByPart (unwrap_or (work_by old_table o) []) (tokens_at table (build_id q.build)) (held_by (delimiter_at old_table macro old.cursor) o ++ x ∷ [])) (sym e)
-            (subst (λ (i : ℕ). IsGrownByPart (tokens_at old_table (build_id p.build)) (tokens_at table i) (take p.matched (delimiter_at old_table macro old.cursor) ++ x ∷ [])) (sym h.0) h.3),
-      );
+      stage = inl (record {
+        was = tokens_at old_table (build_id p.build);
+        now = tokens_at table (build_id q.build);
+        before = ap (work_by old_table) e;
+        after = refl;
+        part = subst (IsGrownByPart (tokens_at old_table (build_id p.build)) (tokens_at table (build_id q.build))) (sym (growth old_table table macro old x p e sound h.2 account met refl))
+            (subst (λ (i : ℕ). IsGrownByPart (tokens_at old_table (build_id p.build)) (tokens_at table i) (gained (delimiter_at old_table macro old.cursor) (stage_of old_table p) x met)) (sym h.0) h.3);
+        args = args_stay old_table table macro old p e building sound.owns sound.outside h.2;
+      });
     }

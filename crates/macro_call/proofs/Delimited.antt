@@ -39,7 +39,7 @@ module _ (ds list : List Token) (m depth : ℕ) (x : Token) (at : IsAt ds list m
   new_part = partial_on ds 0 (list ++ take m ds) x ∙ ap (λ (l : List Token). partial ds (open_after 0 l) (partial ds 0 (list ++ take m ds) ++ x ∷ [])) at.rest
       ∙ ap (λ (p : List Token). partial ds (open_after 0 list) (p ++ x ∷ [])) at.part ∙ ap (λ (k : ℕ). partial ds k (take m ds ++ x ∷ [])) before ∙ matches
 
-  new_rest : unmatched ds 0 ((list ++ take m ds) ++ x ∷ []) ≡ list ++ take i (take m ds ++ x ∷ [])
+  pub new_rest : unmatched ds 0 ((list ++ take m ds) ++ x ∷ []) ≡ list ++ take i (take m ds ++ x ∷ [])
   new_rest = unmatched_on ds 0 (list ++ take m ds) x ∙ ap (λ (l : List Token). l ++ unmatched ds (open_after 0 l) (partial ds 0 (list ++ take m ds) ++ x ∷ [])) at.rest
       ∙ ap (λ (p : List Token). list ++ unmatched ds (open_after 0 list) (p ++ x ∷ [])) at.part ∙ ap (λ (k : ℕ). list ++ unmatched ds k (take m ds ++ x ∷ [])) before ∙ ap (λ (l : List Token). list ++ l) leaves
 

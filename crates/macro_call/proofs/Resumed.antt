@@ -1,6 +1,5 @@
 -- What a scanner will answer behind a token in a place.
 use Rattle.std.proofs.Common.{◌≡◌, ℕ, ◌+◌, ◌<◌, List, [], ◌∷◌, ◌++◌, length, drop, Bool, true, false, Option, None, Some, refl, sym, ap, ap₂, subst, ◌∙◌, arith}
-use Rattle.std.specs.Prelude.{◌==◌, ◌&&◌}
 use Rattle.std.proofs.lemmas.List.{take-append-drop}
 use Rattle.std.proofs.lemmas.Option.{same_Some}
 use Rattle.tex_defs.specs.declared.Token.{Token}
@@ -9,7 +8,7 @@ use Rattle.token_lists.specs.Table.{Entry}
 use Rattle.token_lists.specs.Accounts.{Moves, none, holds}
 use Rattle.macro_call.specs.declared.par_mode.ParMode.{ParMode}
 use Rattle.macro_call.specs.declared.par_mode.ParMode.TheVariants as mode
-use Rattle.plain_state.specs.Arguments.{start_of, delimiters_of, open_behind, unmatched, Checked, Case, Fed, Tok, Cut, Settled, Answer, search, behind, call, case_at, in_work, sought, work_in}
+use Rattle.plain_state.specs.Arguments.{start_of, delimiters_of, unmatched, Checked, Case, Fed, Tok, Cut, Settled, Answer, search, behind, call, case_at, in_work, sought, work_in}
 use Rattle.plain_state.specs.Arguments as plain
 use Rattle.macro_call.proofs.ArgumentRuns.{search_at, found_after}
 use Rattle.macro_call.specs.declared.present.Present.{Present}
@@ -19,12 +18,14 @@ use Rattle.macro_args.specs.Args.{args_in, args_hold}
 use Rattle.macro_call.specs.Cursors.{rest_at, delimiter_at}
 use Rattle.macro_call.specs.Holds.{present_holds}
 use Rattle.macro_call.specs.Modes.{par_mode}
-use Rattle.macro_call.specs.Stages.{Stage, Stands, stage_of, kept_in, read_in}
+use Rattle.macro_call.specs.Growths.{growth_of}
+use Rattle.macro_call.specs.Stages.{Stage, Stands, stage_of, kept_in, read_in, target_at, gained}
 use Rattle.macro_call.specs.Tables.{IsOnly}
 use Rattle.macro_call.specs.Scans.{resume, resume_by, scan_holds, Owns, IsSound, IsInPlace, Answers, answer_of, work_of, work_by, handed, HandsOut}
 use Rattle.macro_call.proofs.Completed.{holds_both, args_stay, args_listed, macro_apart, macro_tokens, shared_kept}
+use Rattle.macro_call.proofs.Growths.{work-sought, growth_met}
 use Rattle.macro_call.proofs.Tables.{on_kept}
-use Rattle.macro_call.proofs.Undelimited.{plain_kept, plain_read}
+use Rattle.macro_call.proofs.Undelimited.{plain_kept, plain_read, unmatched_nil}
 
 -- a check, and a brace that was dealt with
 cut_call : (mode : plain.ParMode) (start : List Token) (places : List (List Token)) (fed : List Fed) → call mode start places (Cut ∷ fed) ≡ call Checked start places fed
@@ -48,22 +49,9 @@ settle_by table macro scan None fed = settle_call (par_mode scan.mode) (start_of
 settle_by table macro scan (Some p) fed = refl
 
 -- the list in work is the list of the stage
-unmatched_nil : (n : ℕ) (t : List Token) → unmatched [] n t ≡ t
-unmatched_nil n [] = refl
-unmatched_nil n (x ∷ xs) = let e : ((n == 0) && false) ≡ false = no (n == 0) in rw e (ap (λ (ys : List Token). x ∷ ys) (unmatched_nil (open_behind n x) xs))
-  where
-    no : (b : Bool) → (b && false) ≡ false
-    no true = refl
-    no false = refl
-
 works : (ds : List Token) (s : Stage) → Stands ds s → in_work ds (kept_in s) (read_in ds s) ≡ s.list
 works [] s h = ap₂ (λ (k t : List Token). k ++ unmatched [] 0 t) (plain_kept s h) (plain_read s h) ∙ unmatched_nil 0 s.list
 works (d ∷ ds) s h = ap (λ (ys : List Token). kept_in s ++ ys) h.1.rest ∙ take-append-drop s.from s.list
-
--- what is answered in a place has the list in work
-pub work-sought : (args : List (List Token)) (braced : Bool) (ts : List Token) → work_in (sought args braced ts) ≡ Some ts
-work-sought args true ts = refl
-work-sought args false ts = refl
 
 in_place_by : (table : List (Option Entry)) (macro : ℕ) (scan : ArgScan) (o : Option Present) (p : Present) → o ≡ Some p → IsInPlace table macro scan o → IsInPlace table macro scan (Some p)
 in_place_by table macro scan o p e h = subst (IsInPlace table macro scan) e h
@@ -87,6 +75,16 @@ module _ (old_table table : List (Option Entry)) (macro : ℕ) (old : ArgScan) (
       ap (λ (o : Option Present). resume_by old_table macro old o (Tok x ∷ fed)) present
       ∙ ap (behind (args_in old_table old.args) (delimiters_of (rest_at old_table macro old.cursor)))
       (search_at (delimiter_at old_table macro old.cursor) old.braced (par_mode old.mode) (kept_in (stage_of old_table p)) (read_in (delimiter_at old_table macro old.cursor) (stage_of old_table p)) x fed c is)
+
+  -- what goes into the list in work
+  pub growth : (met : Case) → met ≡ case_at (delimiter_at old_table macro old.cursor) (par_mode old.mode) (kept_in (stage_of old_table p)) (read_in (delimiter_at old_table macro old.cursor) (stage_of old_table p)) x →
+      growth_of (resume old_table macro old []) (resume old_table macro old (Tok x ∷ [])) ≡ gained (delimiter_at old_table macro old.cursor) (stage_of old_table p) x met
+  growth met is =
+      ap₂ growth_of (ap (λ (o : Option Present). resume_by old_table macro old o []) present) (case_on met is [])
+      ∙ growth_met (delimiter_at old_table macro old.cursor) (par_mode old.mode) (kept_in (stage_of old_table p)) (read_in (delimiter_at old_table macro old.cursor) (stage_of old_table p)) x
+      (args_in old_table old.args) (delimiters_of (rest_at old_table macro old.cursor)) old.braced met
+      ∙ ap (λ (ts : List Token). drop (length ts) (target_at (delimiter_at old_table macro old.cursor) (kept_in (stage_of old_table p)) (read_in (delimiter_at old_table macro old.cursor) (stage_of old_table p)) x met))
+      (works (delimiter_at old_table macro old.cursor) (stage_of old_table p) here.1)
 
   module _ (q : Present) (n : Option Present) (now_present : n ≡ Some q) (same_build : build_id q.build ≡ build_id p.build) (building : IsBuilding table q.build) where
     now_holds : (h : ℕ) → present_holds n h + args_hold old.args h ≡ scan_holds old h

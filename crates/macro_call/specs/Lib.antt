@@ -1,4 +1,5 @@
 pub mod ArgumentLaws
+pub mod Growths
 pub mod Rows
 pub mod Cursors
 pub mod Tables

@@ -1,5 +1,5 @@
 -- What a scanner will answer on what is still to come.
-use Rattle.std.specs.Prelude.{false, ◌≡◌, ◌≢◌, ℕ, ◌+◌, ◌<◌, ◌≤◌, List, [], ◌∷◌, ◌++◌, ◌⊎◌, Option, None, Some, option_map, unwrap_or, length, take}
+use Rattle.std.specs.Prelude.{false, ◌≡◌, ◌≢◌, ℕ, ◌+◌, ◌<◌, ◌≤◌, List, [], ◌∷◌, ◌++◌, ◌⊎◌, Option, None, Some, option_map, unwrap_or, length}
 use Rattle.tex_defs.specs.declared.Token.{Token}
 use Rattle.token_lists.specs.Table.{Entry, holders_at, tokens_at}
 use Rattle.token_lists.specs.Accounts.{Covers, Moves, Keeps}
@@ -19,7 +19,8 @@ use Rattle.macro_call.specs.Holds.{present_holds}
 use Rattle.macro_call.specs.Listed.{AreListed}
 use Rattle.macro_call.specs.Modes.{par_mode}
 use Rattle.macro_call.specs.Tables.{IsGrownByPart, IsOnly}
-use Rattle.macro_call.specs.Stages.{stage_of, Stands, Took, kept_in, read_in}
+use Rattle.macro_call.specs.Growths.{growth_of}
+use Rattle.macro_call.specs.Stages.{stage_of, Stands, Took, gained, kept_in, read_in}
 
 -- in front of the first place the rest of the parameter text is matched; in a place its delimiter is sought
 abbrev pub resume_by : List (Option Entry) → (macro : ℕ) → ArgScan → Option Present → List Fed → Answer
@@ -139,18 +140,21 @@ pub record Answers (old_table new_table : List (Option Entry)) (macro : ℕ) (ol
   pub moves : Moves old_table new_table (scan_holds old) (λ h. scan_holds new h + handed answer h)
   pub kept : Keeps old_table new_table (scan_holds old)
 
--- what the match holds back of the tokens that were read
-abbrev pub held_by : List Token → Option Present → List Token
-held_by ds None = []
-held_by ds (Some p) = take p.matched ds
+-- The memory is full within a growth: the list in work has some of the tokens that go into it, from the first on, and not all.
+pub record IsCutInGrowth (old_table new_table : List (Option Entry)) (macro : ℕ) (old new : ArgScan) (x : Token) : Type 0 where
+  pub was : List Token
+  pub now : List Token
+  pub before : work_of old_table old ≡ Some was
+  pub after : work_of new_table new ≡ Some now
+  pub part : IsGrownByPart was now (growth_of (resume old_table macro old []) (resume old_table macro old (Tok x ∷ [])))
+  pub args : args_in new_table new.args ≡ args_in old_table old.args
 
--- The memory is full. Either the list in work has some of the tokens that go into it, from the first on; or the
--- argument is whole, and the next one's list isn't begun.
+-- The memory is full: within a growth; or the argument is whole, and the next one's list isn't begun.
 pub record IsCutShort (old_table new_table : List (Option Entry)) (macro : ℕ) (old new : ArgScan) (x : Token) : Type 0 where
   pub owns : Owns new_table new
   pub moves : Moves old_table new_table (scan_holds old) (scan_holds new)
   pub kept : Keeps old_table new_table (scan_holds old)
-  pub stage : ((args_in new_table new.args ≡ args_in old_table old.args) × IsGrownByPart (work_tokens old_table old) (work_tokens new_table new) (held_by (delimiter_at old_table macro old.cursor) old.present ++ x ∷ []))
+  pub stage : IsCutInGrowth old_table new_table macro old new x
       ⊎ ((new.present ≡ None) × ((fed : List Fed) → resume old_table macro old (Tok x ∷ fed) ≡ arguments (par_mode new.mode) (args_in new_table new.args) (delimiters_of (rest_at new_table macro new.cursor)) fed))
 
 -- an argument is being gathered, and its list isn't the macro's
@@ -167,12 +171,13 @@ TookIn old_table new_table macro cursor mode x taken (Some p) (Some q) =
     × Took (delimiter_at old_table macro cursor) (stage_of old_table p) x taken (stage_of new_table q) (case_at (delimiter_at old_table macro cursor) (par_mode mode) (kept_in (stage_of old_table p)) (read_in (delimiter_at old_table macro cursor) (stage_of old_table p)) x)
 
 -- the same where the memory is full
-abbrev pub CutIn : (old_table new_table : List (Option Entry)) → (macro : ℕ) → Cursor → Token → (old new : Option Present) → Type 0
-CutIn old_table new_table macro cursor x None new = ⊥
-CutIn old_table new_table macro cursor x (Some p) None = ⊥
-CutIn old_table new_table macro cursor x (Some p) (Some q) =
+abbrev pub CutIn : (old_table new_table : List (Option Entry)) → (macro : ℕ) → Cursor → ParMode → Token → (old new : Option Present) → Type 0
+CutIn old_table new_table macro cursor mode x None new = ⊥
+CutIn old_table new_table macro cursor mode x (Some p) None = ⊥
+CutIn old_table new_table macro cursor mode x (Some p) (Some q) =
     (build_id q.build ≡ build_id p.build) × IsBuilding new_table q.build × IsOnly old_table new_table (build_id p.build)
-    × IsGrownByPart (tokens_at old_table (build_id p.build)) (tokens_at new_table (build_id p.build)) (take p.matched (delimiter_at old_table macro cursor) ++ x ∷ [])
+    × IsGrownByPart (tokens_at old_table (build_id p.build)) (tokens_at new_table (build_id p.build))
+    (gained (delimiter_at old_table macro cursor) (stage_of old_table p) x (case_at (delimiter_at old_table macro cursor) (par_mode mode) (kept_in (stage_of old_table p)) (read_in (delimiter_at old_table macro cursor) (stage_of old_table p)) x))
 
 abbrev pub IsBuildingIn : List (Option Entry) → Option Present → Type 0
 IsBuildingIn table None = ⊥
