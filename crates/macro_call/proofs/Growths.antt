@@ -12,6 +12,10 @@ pub work-sought : (args : List (List Token)) (braced : Bool) (ts : List Token) �
 work-sought args true ts = refl
 work-sought args false ts = refl
 
+pub arguments-sought : (args : List (List Token)) (braced : Bool) (ts : List Token) → arguments_in (sought args braced ts) ≡ args
+arguments-sought args true ts = refl
+arguments-sought args false ts = refl
+
 arguments-begun : (mode : ParMode) (args places : List (List Token)) → arguments_in (arguments mode args places []) ≡ args
 arguments-begun mode args [] = refl
 arguments-begun mode args (ds ∷ places) = refl

@@ -1,5 +1,5 @@
 -- What a scanner will answer behind a token in a place.
-use Rattle.std.proofs.Common.{◌≡◌, ℕ, ◌+◌, ◌<◌, List, [], ◌∷◌, ◌++◌, length, drop, Bool, true, false, Option, None, Some, refl, sym, ap, ap₂, subst, ◌∙◌, arith}
+use Rattle.std.proofs.Common.{◌≡◌, ℕ, ◌+◌, ◌<◌, List, [], ◌∷◌, ◌++◌, length, take, drop, map, Bool, true, false, Option, None, Some, refl, sym, ap, ap₂, subst, ◌∙◌, arith}
 use Rattle.std.proofs.lemmas.List.{take-append-drop}
 use Rattle.std.proofs.lemmas.Option.{same_Some}
 use Rattle.tex_defs.specs.declared.Token.{Token}
@@ -8,22 +8,22 @@ use Rattle.token_lists.specs.Table.{Entry}
 use Rattle.token_lists.specs.Accounts.{Moves, none, holds}
 use Rattle.macro_call.specs.declared.par_mode.ParMode.{ParMode}
 use Rattle.macro_call.specs.declared.par_mode.ParMode.TheVariants as mode
-use Rattle.plain_state.specs.Arguments.{start_of, delimiters_of, unmatched, Checked, Case, Fed, Tok, Cut, Settled, Answer, search, behind, call, case_at, in_work, sought, work_in}
+use Rattle.plain_state.specs.Arguments.{start_of, delimiters_of, unmatched, Checked, Case, Fed, Tok, Cut, Settled, Answer, search, behind, call, case_at, in_work, More, sought, arguments_in, work_in}
 use Rattle.plain_state.specs.Arguments as plain
 use Rattle.macro_call.proofs.ArgumentRuns.{search_at, found_after}
 use Rattle.macro_call.specs.declared.present.Present.{Present}
 use Rattle.macro_call.specs.declared.scan.ArgScan.{ArgScan}
 use Rattle.macro_call.specs.declared.scan.ArgAsk.{ArgAsk}
-use Rattle.macro_args.specs.Args.{args_in, args_hold}
+use Rattle.macro_args.specs.Args.{cell_tokens, args_in, args_hold}
 use Rattle.macro_call.specs.Cursors.{rest_at, delimiter_at}
 use Rattle.macro_call.specs.Holds.{present_holds}
 use Rattle.macro_call.specs.Modes.{par_mode}
 use Rattle.macro_call.specs.Growths.{growth_of}
 use Rattle.macro_call.specs.Stages.{Stage, Stands, stage_of, kept_in, read_in, target_at, gained}
 use Rattle.macro_call.specs.Tables.{IsOnly}
-use Rattle.macro_call.specs.Scans.{resume, resume_by, scan_holds, Owns, IsSound, IsInPlace, Answers, answer_of, work_of, work_by, handed, HandsOut}
+use Rattle.macro_call.specs.Scans.{resume, resume_by, scan_holds, Owns, IsSound, IsInPlace, Answers, answer_of, work_of, work_by, handed, HandsOut, ScannersHaveLists}
 use Rattle.macro_call.proofs.Completed.{holds_both, args_stay, args_listed, macro_apart, macro_tokens, shared_kept}
-use Rattle.macro_call.proofs.Growths.{work-sought, growth_met}
+use Rattle.macro_call.proofs.Growths.{work-sought, arguments-sought, growth_met}
 use Rattle.macro_call.proofs.Tables.{on_kept}
 use Rattle.macro_call.proofs.Undelimited.{plain_kept, plain_read, unmatched_nil}
 
@@ -55,6 +55,26 @@ works (d ∷ ds) s h = ap (λ (ys : List Token). kept_in s ++ ys) h.1.rest ∙ t
 
 in_place_by : (table : List (Option Entry)) (macro : ℕ) (scan : ArgScan) (o : Option Present) (p : Present) → o ≡ Some p → IsInPlace table macro scan o → IsInPlace table macro scan (Some p)
 in_place_by table macro scan o p e h = subst (IsInPlace table macro scan) e h
+
+-- in front of the first place there is no list yet
+front_more : (mode : plain.ParMode) (start : List Token) (places : List (List Token)) → 0 < length start → call mode start places [] ≡ More [] None
+front_more mode [] places some = absurd (omega arith)
+front_more mode (d ∷ ds) places some = refl
+
+lists_by : (table : List (Option Entry)) (macro : ℕ) (scan : ArgScan) (o : Option Present) → IsInPlace table macro scan o →
+    (args_in table scan.args ≡ arguments_in (resume_by table macro scan o [])) × (work_by table o ≡ work_in (resume_by table macro scan o []))
+lists_by table macro scan None h =
+    let more = front_more (par_mode scan.mode) (start_of (rest_at table macro scan.cursor)) (delimiters_of (rest_at table macro scan.cursor)) h.2 in
+    (ap (λ (n : ℕ). map (λ cell. cell_tokens table cell) (take n scan.args.lists)) h.0 ∙ sym (ap arguments_in more), sym (ap work_in more))
+lists_by table macro scan (Some p) h =
+    let list = in_work (delimiter_at table macro scan.cursor) (kept_in (stage_of table p)) (read_in (delimiter_at table macro scan.cursor) (stage_of table p)) in
+    (sym (arguments-sought (args_in table scan.args) scan.braced list),
+        ap Some (sym (works (delimiter_at table macro scan.cursor) (stage_of table p) h.1)) ∙ sym (work-sought (args_in table scan.args) scan.braced list))
+
+pub has_lists : ScannersHaveLists
+has_lists table macro scan sound =
+    let both = lists_by table macro scan scan.present sound.in_place in
+    record { args = both.0; work = both.1 }
 
 module _ (old_table table : List (Option Entry)) (macro : ℕ) (old : ArgScan) (x : Token) (p : Present) (present : old.present ≡ Some p) (sound : IsSound old_table macro old)
     (others : IsOnly old_table table (build_id p.build)) (account : Moves old_table table none none) where

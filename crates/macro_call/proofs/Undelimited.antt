@@ -192,9 +192,6 @@ module _ (s : Stage) (x : Token) (now : List Token) (stands : StandsPlain s) (sa
   cut_going met is = subst (λ (c : Case). IsGrownByPart s.list now (gained [] s x c)) is
       (by_token Going (ap₂ (λ (k t : List Token). k ++ unmatched [] 0 (t ++ x ∷ [])) (plain_kept s stands) (plain_read s stands) ∙ unmatched_nil 0 (s.list ++ x ∷ [])))
 
-  pub cut_single : (met : Case) → s.list ≡ [] → Argument (x ∷ []) ≡ met → IsGrownByPart s.list now (gained [] s x met)
-  cut_single met z is = subst (λ (c : Case). IsGrownByPart s.list now (gained [] s x c)) is (by_token (Argument (x ∷ [])) (ap (λ (ts : List Token). ts ++ x ∷ []) (sym z)))
-
 pub plain_by : (list list' : List Token) (depth depth' : ℕ) → IsPlain list depth → list' ≡ list → depth' ≡ depth → IsPlain list' depth'
 plain_by list list' depth depth' at l d = subst (λ (n : ℕ). IsPlain list' n) (sym d) (subst (λ (ts : List Token). IsPlain ts depth) (sym l) at)
 

@@ -1,10 +1,11 @@
--- Worked rows: what some calls come to, most of which a `\par` ends.
-use Rattle.std.specs.Prelude.{◌≡◌, ℕ, true, false, List, [], ◌∷◌, None, Some}
+-- Worked rows: what some calls come to, most of which a `\par` ends, and what goes into the list in work.
+use Rattle.std.specs.Prelude.{◌≡◌, ℕ, true, false, List, [], ◌∷◌, ◌++◌, None, Some}
 use Rattle.tex_defs.specs.declared.Token.{Token}
 use Rattle.tex_defs.specs.declared.Token.TheVariants.{Char, Named, Place, EndPlaces}
 use Rattle.tex_defs.specs.declared.Name.TheVariants.{Word}
 use Rattle.plain_state.specs.Names.{par_primitive}
-use Rattle.plain_state.specs.Arguments.{Long, Short, Tok, Cut, Settled, More, ExtraBraceFound, Ended, gathering}
+use Rattle.macro_call.specs.Growths.{growth_of}
+use Rattle.plain_state.specs.Arguments.{Long, Short, Fed, Tok, Cut, Settled, More, ExtraBraceFound, Ended, gathering}
 
 abbrev pub letter : ℕ → Token
 letter code = Char 11 code
@@ -47,3 +48,22 @@ pub record WorkedCalls : Type 0 where
   pub behind_brace : gathering up_to_ab Long (Tok (letter 120) ∷ Tok (letter 97) ∷ Tok right ∷ Settled ∷ Tok par ∷ []) ≡ Ended false [] (letter 120 ∷ letter 97 ∷ [])
   -- behind a check the same without a report
   pub checked : gathering one_place Long (Tok left ∷ Tok (letter 120) ∷ Cut ∷ Tok par ∷ []) ≡ Ended true [] (left ∷ letter 120 ∷ [])
+
+-- what goes into the list in work by a token, behind the tokens before
+abbrev pub grown : (text : List Token) → (fed : List Fed) → Token → List Token
+grown text fed x = growth_of (gathering text Short fed) (gathering text Short (fed ++ Tok x ∷ []))
+
+abbrev pub x_a : List Fed
+x_a = Tok (letter 120) ∷ Tok (letter 97) ∷ []
+
+pub record WorkedGrowths : Type 0 where
+  -- behind xa the letters c, a, b and a `\par`
+  pub broken : grown up_to_ab x_a (letter 99) ≡ letter 97 ∷ letter 99 ∷ []
+  pub again : grown up_to_ab x_a (letter 97) ≡ letter 97 ∷ []
+  pub whole : grown up_to_ab x_a (letter 98) ≡ []
+  pub ended : grown up_to_ab x_a par ≡ letter 97 ∷ []
+  -- without a delimiter, at once a letter, or behind {x the brace
+  pub single : grown one_place [] (letter 120) ≡ letter 120 ∷ []
+  pub group : grown one_place (Tok left ∷ Tok (letter 120) ∷ []) right ≡ []
+  -- in front of the first place
+  pub in_front : grown two_places [] (letter 98) ≡ []

@@ -5,7 +5,7 @@ use Rattle.token_lists.specs.Table.{Entry, holders_at, tokens_at}
 use Rattle.token_lists.specs.Accounts.{Covers, Moves, Keeps}
 use Rattle.token_lists.specs.Ids.{build_id, IsBuilding}
 use Rattle.macro_call.specs.declared.par_mode.ParMode.{ParMode}
-use Rattle.plain_state.specs.Arguments.{start_of, delimiters_of, Fed, Tok, Answer, More, ExtraBraceFound, Called, Mismatch, Ended, search, behind, case_at, arguments, gathering, work_in}
+use Rattle.plain_state.specs.Arguments.{start_of, delimiters_of, Fed, Tok, Answer, More, ExtraBraceFound, Called, Mismatch, Ended, search, behind, case_at, arguments, gathering, arguments_in, work_in}
 use Rattle.macro_args.specs.declared.args.Args.{Args}
 use Rattle.macro_call.specs.declared.cursor.Cursor.{Cursor}
 use Rattle.macro_call.specs.declared.present.Present.{Present}
@@ -65,6 +65,14 @@ pub record IsSound (table : List (Option Entry)) (macro : ℕ) (scan : ArgScan) 
   pub filled : IsFilled scan.args
   pub listed : AreListed table scan.args
   pub in_place : IsInPlace table macro scan scan.present
+
+-- what a scanner has of the call is what is answered so far
+pub record HasLists (table : List (Option Entry)) (macro : ℕ) (scan : ArgScan) : Type 0 where
+  pub args : args_in table scan.args ≡ arguments_in (resume table macro scan [])
+  pub work : work_of table scan ≡ work_in (resume table macro scan [])
+
+abbrev pub ScannersHaveLists : Type 0
+ScannersHaveLists = (table : List (Option Entry)) (macro : ℕ) (scan : ArgScan) → IsSound table macro scan → HasLists table macro scan
 
 -- what an answer says, where the scanner has these arguments and this list in work
 abbrev pub answer_of : List (Option Entry) → ArgAsk → (args : List (List Token)) → (work : Option (List Token)) → Answer
