@@ -1,5 +1,5 @@
 -- What goes into the list in work, by the case of a token.
-use Rattle.std.proofs.Common.{◌≡◌, List, [], ◌∷◌, ◌++◌, length, drop, Bool, true, false, Option, Some, refl, ap, ◌∙◌, arith}
+use Rattle.std.proofs.Common.{◌≡◌, List, [], ◌∷◌, ◌++◌, length, drop, Bool, true, false, Some, refl, ap, ◌∙◌, arith}
 use Rattle.std.proofs.lemmas.List.{drop_at, drop_all, append-nil}
 use Rattle.tex_defs.specs.declared.Token.{Token}
 use Rattle.plain_state.specs.Arguments.{ParMode, Case, Argument, ExtraBrace, ParEnded, Skipped, Going, in_work, sought, arguments, behind, arguments_in, work_in}

@@ -1,5 +1,5 @@
 -- What a scanner will answer behind a token in a place.
-use Rattle.std.proofs.Common.{◌≡◌, ℕ, ◌+◌, ◌<◌, List, [], ◌∷◌, ◌++◌, length, take, drop, map, Bool, true, false, Option, None, Some, refl, sym, ap, ap₂, subst, ◌∙◌, arith}
+use Rattle.std.proofs.Common.{◌≡◌, ℕ, ◌+◌, ◌<◌, List, [], ◌∷◌, ◌++◌, length, take, drop, map, Bool, false, Option, None, Some, refl, sym, ap, ap₂, subst, ◌∙◌, arith}
 use Rattle.std.proofs.lemmas.List.{take-append-drop}
 use Rattle.std.proofs.lemmas.Option.{same_Some}
 use Rattle.tex_defs.specs.declared.Token.{Token}
@@ -67,9 +67,10 @@ lists_by table macro scan None h =
     let more = front_more (par_mode scan.mode) (start_of (rest_at table macro scan.cursor)) (delimiters_of (rest_at table macro scan.cursor)) h.2 in
     (ap (λ (n : ℕ). map (λ cell. cell_tokens table cell) (take n scan.args.lists)) h.0 ∙ sym (ap arguments_in more), sym (ap work_in more))
 lists_by table macro scan (Some p) h =
-    let list = in_work (delimiter_at table macro scan.cursor) (kept_in (stage_of table p)) (read_in (delimiter_at table macro scan.cursor) (stage_of table p)) in
-    (sym (arguments-sought (args_in table scan.args) scan.braced list),
-        ap Some (sym (works (delimiter_at table macro scan.cursor) (stage_of table p) h.1)) ∙ sym (work-sought (args_in table scan.args) scan.braced list))
+    let list = in_work (delimiter_at table macro scan.cursor) (kept_in (stage_of table p)) (read_in (delimiter_at table macro scan.cursor) (stage_of table p)) in (
+      sym (arguments-sought (args_in table scan.args) scan.braced list),
+      ap Some (sym (works (delimiter_at table macro scan.cursor) (stage_of table p) h.1)) ∙ sym (work-sought (args_in table scan.args) scan.braced list),
+    )
 
 pub has_lists : ScannersHaveLists
 has_lists table macro scan sound =

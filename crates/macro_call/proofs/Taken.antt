@@ -39,7 +39,6 @@ all_kept : (ds : List Token) (s : Stage) → s.list ++ take s.matched ds ≡ kep
 all_kept ds s = ap (λ (ts : List Token). ts ++ take s.matched ds) (sym (list_whole s)) ∙ append_assoc (kept_in s) (drop s.from s.list) (take s.matched ds)
 
 module _ (ds : List Token) (old new : Stage) (x : Token) (mode : ParMode) (out : ℕ) (at : StandsAt ds old) (rel : Releases ds old x out) where
-
   pub took_whole : new.list ≡ without_braces old.list → out ≡ 0 → old.matched + 1 ≡ length ds → Took ds old x step.Argument new (delimited_case ds mode (kept_in old) (read_in ds old) x)
   took_whole e z l = record {
     met = ap Argument e ∙ ap (λ (ts : List Token). Argument (without_braces ts)) (sym (list_whole old))
