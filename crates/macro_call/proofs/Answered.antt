@@ -1,5 +1,6 @@
 -- What a scanner answers to a token in a place.
-use Rattle.std.proofs.Common.{◌≡◌, ℕ, List, [], ◌∷◌, ◌++◌, take, drop, Bool, true, false, Option, None, Some, refl, sym, ap, ap₂, subst, ◌∙◌, arith, inl, inr, Result, Ok, Err}
+use Rattle.std.proofs.Common.{◌≡◌, ℕ, List, [], ◌∷◌, ◌++◌, drop, Bool, true, false, Option, None, Some, refl, sym, ap, ap₂, subst, ◌∙◌, arith, inl, inr, Result, Ok, Err}
+use Rattle.std.specs.Prelude.{unwrap_or}
 use Rattle.std.specs.Result.{IfOk, OnErr}
 use Rattle.tex_defs.specs.declared.Full.{Full}
 use Rattle.std.proofs.lemmas.Option.{none-some}
@@ -9,7 +10,7 @@ use Rattle.token_lists.specs.Table.{Entry, tokens_at}
 use Rattle.token_lists.specs.Accounts.{Moves, Keeps, none}
 use Rattle.macro_call.specs.declared.par_mode.ParMode.{ParMode}
 use Rattle.macro_call.specs.declared.par_mode.ParMode.TheVariants.{Short}
-use Rattle.macro_call.specs.Arguments.{delimiters_of, Fed, Tok, Ended, arguments, is_checked}
+use Rattle.plain_state.specs.Arguments.{delimiters_of, Fed, Tok, Ended, arguments, is_checked, work_in, case_at}
 use Rattle.macro_call.specs.declared.cursor.Cursor.{Cursor}
 use Rattle.macro_call.specs.declared.present.Present.{Present}
 use Rattle.macro_call.specs.declared.present.Step.{Step}
@@ -19,10 +20,12 @@ use Rattle.macro_call.specs.declared.scan.ArgAsk.{ArgAsk}
 use Rattle.macro_call.specs.declared.scan.ArgAsk.TheVariants as ask
 use Rattle.macro_args.specs.Args.{args_in}
 use Rattle.macro_call.specs.Cursors.{rest_at, delimiter_at}
+use Rattle.macro_call.specs.Modes.{par_mode}
+use Rattle.macro_call.specs.Stages.{stage_of, kept_in, read_in, gained}
 use Rattle.macro_call.specs.Tables.{IsGrownByPart}
-use Rattle.macro_call.specs.Scans.{resume, scan_holds, IsSound, Answers, TookIn, CutIn, IsCutShort, Completes, Enters, work_by, held_by}
+use Rattle.macro_call.specs.Scans.{resume, scan_holds, IsSound, Answers, TookIn, CutIn, IsCutShort, Completes, Enters, work_by, work_tokens}
 use Rattle.macro_call.proofs.Completed.{args_stay, macro_tokens, shared_kept}
-use Rattle.macro_call.proofs.Resumed.{case_on, goes, now_owns, now_moves, here}
+use Rattle.macro_call.proofs.Resumed.{case_on, growth, goes, now_owns, now_moves, here}
 
 pub record Parts (old_table table : List (Option Entry)) (macro : ℕ) (cursor : Cursor) (mode : ParMode) (x : Token) (s : Step) (o n : Option Present) : Type 0 where
   pub p : Present
@@ -41,20 +44,24 @@ parts_at old_table table macro cursor mode x s r o n e h = subst (λ (t : Step).
 
 module _ (old_table table : List (Option Entry)) (macro : ℕ) (old : ArgScan) (x : Token) (n : Option Present) (sound : IsSound old_table macro old) (account : Moves old_table table none none) where
   pub going : Parts old_table table macro old.cursor old.mode x step.Going old.present n → Answers old_table table macro old (record { cursor = old.cursor; mode = old.mode; braced = false; present = n; args = old.args }) x ask.More
-  going t = goes old_table table macro old x t.p t.was sound t.took.2 account t.q n t.now t.took.0 t.took.1 old.mode false _ _ t.took.3.goes_on.2 t.took.3.goes_on.0 t.took.3.goes_on.1 ask.More refl (λ h. refl) (λ left. tt)
+  going t = goes old_table table macro old x t.p t.was sound t.took.2 account t.q n t.now t.took.0 t.took.1 old.mode false _ _ t.took.3.goes_on.2 t.took.3.goes_on.0 t.took.3.goes_on.1 ask.More (λ args ts. refl) (λ h. refl) (λ left. tt)
       (case_on old_table table macro old x t.p t.was sound t.took.2 account _ t.took.3.met)
 
   pub skipped : Parts old_table table macro old.cursor old.mode x step.Skipped old.present n → Answers old_table table macro old (record { cursor = old.cursor; mode = old.mode; braced = false; present = n; args = old.args }) x ask.More
-  skipped t = goes old_table table macro old x t.p t.was sound t.took.2 account t.q n t.now t.took.0 t.took.1 old.mode false _ _ t.took.3.goes_on.2 t.took.3.goes_on.0 t.took.3.goes_on.1 ask.More refl (λ h. refl) (λ left. tt)
+  skipped t = goes old_table table macro old x t.p t.was sound t.took.2 account t.q n t.now t.took.0 t.took.1 old.mode false _ _ t.took.3.goes_on.2 t.took.3.goes_on.0 t.took.3.goes_on.1 ask.More (λ args ts. refl) (λ h. refl) (λ left. tt)
       (case_on old_table table macro old x t.p t.was sound t.took.2 account _ t.took.3.met)
 
   pub braced : Parts old_table table macro old.cursor old.mode x step.ExtraBrace old.present n → Answers old_table table macro old (record { cursor = old.cursor; mode = Short; braced = true; present = n; args = old.args }) x ask.ExtraBrace
-  braced t = goes old_table table macro old x t.p t.was sound t.took.2 account t.q n t.now t.took.0 t.took.1 Short true _ _ t.took.3.goes_on.2 t.took.3.goes_on.0 t.took.3.goes_on.1 ask.ExtraBrace refl (λ h. refl) (λ left. tt)
+  braced t = goes old_table table macro old x t.p t.was sound t.took.2 account t.q n t.now t.took.0 t.took.1 Short true _ _ t.took.3.goes_on.2 t.took.3.goes_on.0 t.took.3.goes_on.1 ask.ExtraBrace (λ args ts. refl) (λ h. refl) (λ left. tt)
       (case_on old_table table macro old x t.p t.was sound t.took.2 account _ t.took.3.met)
 
-  pub ended : (silent : Bool) → silent ≡ is_checked old.mode → Parts old_table table macro old.cursor old.mode x step.ParEnded old.present n → Answers old_table table macro old (record { cursor = old.cursor; mode = old.mode; braced = false; present = n; args = old.args }) x (ask.ParEnded silent)
+  pub ended : (silent : Bool) → silent ≡ is_checked (par_mode old.mode) → Parts old_table table macro old.cursor old.mode x step.ParEnded old.present n → Answers old_table table macro old (record { cursor = old.cursor; mode = old.mode; braced = false; present = n; args = old.args }) x (ask.ParEnded silent)
   ended silent is t = record {
-    answers = ap₂ (λ (b : Bool) (ts : List Token). Ended b ts) is (ap (work_by table) t.now ∙ t.took.3.goes_on) ∙ sym (case_on old_table table macro old x t.p t.was sound t.took.2 account _ t.took.3.met []);
+    answers = ap₂ (λ (b : Bool) (ts : List Token). Ended b (args_in table old.args) ts) is (ap (λ (o : Option Present). unwrap_or (work_by table o) []) t.now ∙ t.took.3.goes_on)
+        ∙ ap (λ (us : List (List Token)). Ended (is_checked (par_mode old.mode)) us (kept_in (stage_of old_table t.p) ++ read_in (delimiter_at old_table macro old.cursor) (stage_of old_table t.p)))
+        (args_stay old_table table macro old t.p t.was (here old_table table macro old x t.p t.was sound t.took.2 account).0 sound.owns sound.outside t.took.2)
+        ∙ sym (case_on old_table table macro old x t.p t.was sound t.took.2 account _ t.took.3.met []);
+    work = ap (work_by table) t.now ∙ ap Some t.took.3.goes_on ∙ sym (ap work_in (case_on old_table table macro old x t.p t.was sound t.took.2 account _ t.took.3.met []));
     goes_on = λ o. absurd o;
     owns = now_owns old_table table macro old x t.p t.was sound t.took.2 account t.q n t.now t.took.0 t.took.1 old.mode false;
     hands = tt;
@@ -78,8 +85,8 @@ module _ (old_table table : List (Option Entry)) (macro : ℕ) (old : ArgScan) (
     taken_mode : mid.mode ≡ old.mode
     taken_mode = done.mode ∙ ap (λ (s : ArgScan). s.mode) is
 
-    value : work_by table taken.present ≡ tokens_at table (build_id t.q.build)
-    value = ap (λ (s : ArgScan). work_by table s.present) is ∙ ap (work_by table) t.now
+    value : work_tokens table taken ≡ tokens_at table (build_id t.q.build)
+    value = ap (work_tokens table) is ∙ ap (λ (o : Option Present). unwrap_or (work_by table o) []) t.now
 
     mid_args : args_in between_table mid.args ≡ args_in old_table old.args ++ tokens_at table (build_id t.q.build) ∷ []
     mid_args = done.args ∙ ap₂ (λ (us : List (List Token)) (ts : List Token). us ++ ts ∷ []) taken_args value
@@ -99,15 +106,16 @@ module _ (old_table table : List (Option Entry)) (macro : ℕ) (old : ArgScan) (
       places = λ h l. done.kept.places h (omega (arith, taken_moves h, l)) ∙ taken_kept.places h l;
     }
 
-    whole_on : (fed : List Fed) → resume old_table macro old (Tok x ∷ fed) ≡ arguments mid.mode (args_in between_table mid.args) (delimiters_of (rest_at between_table macro mid.cursor)) fed
+    whole_on : (fed : List Fed) → resume old_table macro old (Tok x ∷ fed) ≡ arguments (par_mode mid.mode) (args_in between_table mid.args) (delimiters_of (rest_at between_table macro mid.cursor)) fed
     whole_on fed =
         case_on old_table table macro old x t.p t.was sound t.took.2 account _ t.took.3.met fed
-        ∙ ap (λ (m : ParMode). arguments m (args_in old_table old.args ++ tokens_at table (build_id t.q.build) ∷ []) (delimiters_of (rest_at old_table macro old.cursor)) fed) (sym taken_mode)
-        ∙ ap₂ (λ (us ps : List (List Token)). arguments mid.mode us ps fed) (sym mid_args) (sym (done.places ∙ taken_places))
+        ∙ ap (λ (m : ParMode). arguments (par_mode m) (args_in old_table old.args ++ tokens_at table (build_id t.q.build) ∷ []) (delimiters_of (rest_at old_table macro old.cursor)) fed) (sym taken_mode)
+        ∙ ap₂ (λ (us ps : List (List Token)). arguments (par_mode mid.mode) us ps fed) (sym mid_args) (sym (done.places ∙ taken_places))
 
     pub whole_answers : (new_table : List (Option Entry)) (new : ArgScan) (a : ArgAsk) → Enters between_table new_table macro mid new a → Answers old_table new_table macro old new x a
     whole_answers new_table new a e = record {
       answers = e.answers ∙ sym (whole_on []);
+      work = e.work ∙ sym (ap work_in (whole_on []));
       goes_on = λ o. record { sound = e.sound o; same = λ fed. whole_on fed ∙ e.same o fed };
       owns = e.owns;
       hands = e.hands;
@@ -141,19 +149,24 @@ module _ (old_table table : List (Option Entry)) (macro : ℕ) (old : ArgScan) (
     whole_err new_table new (Err g) e f = whole_cut new_table new e f
 
 -- the memory is full at a step
-pub cut_step : (old_table table : List (Option Entry)) (macro : ℕ) (old : ArgScan) (x : Token) (o n : Option Present) → old.present ≡ o → IsSound old_table macro old → Moves old_table table none none → CutIn old_table table macro old.cursor x o n →
+pub cut_step : (old_table table : List (Option Entry)) (macro : ℕ) (old : ArgScan) (x : Token) (o n : Option Present) → old.present ≡ o → IsSound old_table macro old → Moves old_table table none none → CutIn old_table table macro old.cursor old.mode x o n →
     IsCutShort old_table table macro old (record { cursor = old.cursor; mode = old.mode; braced = old.braced; present = n; args = old.args }) x
 cut_step old_table table macro old x None n e sound account h = absurd h
 cut_step old_table table macro old x (Some p) None e sound account h = absurd h
 cut_step old_table table macro old x (Some p) (Some q) e sound account h =
     let building = (here old_table table macro old x p e sound h.2 account).0 in
+    let met = case_at (delimiter_at old_table macro old.cursor) (par_mode old.mode) (kept_in (stage_of old_table p)) (read_in (delimiter_at old_table macro old.cursor) (stage_of old_table p)) x in
     record {
       owns = now_owns old_table table macro old x p e sound h.2 account q (Some q) refl h.0 h.1 old.mode old.braced;
       moves = now_moves old_table table macro old x p e sound h.2 account q (Some q) refl h.0 h.1 old.mode old.braced;
       kept = shared_kept old_table table macro old p e building sound.owns sound.outside h.2;
-      stage = inl (
-        args_stay old_table table macro old p e building sound.owns sound.outside h.2,
-        subst (λ (o : Option Present). IsGrownByPart (work_by old_table o) (tokens_at table (build_id q.build)) (held_by (delimiter_at old_table macro old.cursor) o ++ x ∷ [])) (sym e)
-            (subst (λ (i : ℕ). IsGrownByPart (tokens_at old_table (build_id p.build)) (tokens_at table i) (take p.matched (delimiter_at old_table macro old.cursor) ++ x ∷ [])) (sym h.0) h.3),
-      );
+      stage = inl (record {
+        was = tokens_at old_table (build_id p.build);
+        now = tokens_at table (build_id q.build);
+        before = ap (work_by old_table) e;
+        after = refl;
+        part = subst (IsGrownByPart (tokens_at old_table (build_id p.build)) (tokens_at table (build_id q.build))) (sym (growth old_table table macro old x p e sound h.2 account met refl))
+            (subst (λ (i : ℕ). IsGrownByPart (tokens_at old_table (build_id p.build)) (tokens_at table i) (gained (delimiter_at old_table macro old.cursor) (stage_of old_table p) x met)) (sym h.0) h.3);
+        args = args_stay old_table table macro old p e building sound.owns sound.outside h.2;
+      });
     }

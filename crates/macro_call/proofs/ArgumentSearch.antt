@@ -4,8 +4,7 @@ use Rattle.std.specs.Prelude.{◌==◌}
 use Rattle.std.proofs.lemmas.Bool.{and_parts, false_from_ne_true, not-true}
 use Rattle.std.proofs.lemmas.List.{take_at}
 use Rattle.tex_defs.specs.declared.Token.{Token}
-use Rattle.macro_call.specs.declared.par_mode.ParMode.TheVariants.{Long}
-use Rattle.macro_call.specs.Arguments.{is_end, open_after, open_behind, all_close, is_delimited, is_extra, front, without_braces, delimited_case, Argument, Going, More, Gathered, search}
+use Rattle.plain_state.specs.Arguments.{is_end, open_after, open_behind, all_close, is_delimited, is_extra, front, without_braces, delimited_case, Long, Argument, Going, Gathered, search}
 use Rattle.macro_call.specs.ArgumentLaws.{IsShortest, ArgumentsAreShortest, fed_with}
 use Rattle.macro_call.proofs.ArgumentMatches.{delimited_is, is_delimited_by}
 use Rattle.macro_call.proofs.ArgumentRuns.{search_at}
@@ -39,17 +38,17 @@ module _ (d : Token) (ds a rest : List Token) (short : IsShortest (d ∷ ds) a r
       let m : is_extra t x ≡ false = no_extra 0 t x (y ∷ us) (ap (all_close 0) e ∙ closes) in
       sym (rw (n, m) refl)
 
-  found : (us t : List Token) (x : Token) → t ++ x ∷ us ≡ a ++ d ∷ ds → search (d ∷ ds) More Long [] t (fed_with (x ∷ us ++ rest)) ≡ Gathered Long (without_braces a) (fed_with rest)
-  found [] t x e = search_at (d ∷ ds) More Long [] t x (fed_with rest) (Argument (without_braces a)) (whole_case t x e)
+  found : (us t : List Token) (x : Token) → t ++ x ∷ us ≡ a ++ d ∷ ds → search (d ∷ ds) false Long [] t (fed_with (x ∷ us ++ rest)) ≡ Gathered Long (without_braces a) (fed_with rest)
+  found [] t x e = search_at (d ∷ ds) false Long [] t x (fed_with rest) (Argument (without_braces a)) (whole_case t x e)
   found (y ∷ us) t x e =
-      search_at (d ∷ ds) More Long [] t x (fed_with (y ∷ us ++ rest)) Going (early_case t x y us e)
+      search_at (d ∷ ds) false Long [] t x (fed_with (y ∷ us ++ rest)) Going (early_case t x y us e)
       ∙ found us (t ++ x ∷ []) y (append_assoc t (x ∷ []) (y ∷ us) ∙ e)
 
 starts : (d : Token) (ds a rest : List Token) → IsShortest (d ∷ ds) a rest → all_close 0 (a ++ d ∷ ds) ≡ true →
-    search (d ∷ ds) More Long [] [] (fed_with (a ++ (d ∷ ds ++ rest))) ≡ Gathered Long (without_braces a) (fed_with rest)
+    search (d ∷ ds) false Long [] [] (fed_with (a ++ (d ∷ ds ++ rest))) ≡ Gathered Long (without_braces a) (fed_with rest)
 starts d ds [] rest short closes = found d ds [] rest short closes ds [] d refl
 starts d ds (x ∷ xs) rest short closes =
-    ap (λ (l : List Token). search (d ∷ ds) More Long [] [] (fed_with (x ∷ l))) (sym (append_assoc xs (d ∷ ds) rest))
+    ap (λ (l : List Token). search (d ∷ ds) false Long [] [] (fed_with (x ∷ l))) (sym (append_assoc xs (d ∷ ds) rest))
     ∙ found d ds (x ∷ xs) rest short closes (xs ++ d ∷ ds) [] x refl
 
 pub shortest : ArgumentsAreShortest

@@ -8,7 +8,8 @@ use Rattle.token_lists.specs.Table.{Entry, entry_at, tokens_at, empty}
 use Rattle.token_lists.specs.Accounts.{Moves, none, holds}
 use Rattle.std.specs.Prelude.{slice_set, map}
 use Rattle.macro_call.specs.declared.par_mode.ParMode.{ParMode}
-use Rattle.macro_call.specs.Arguments.{start_of, delimiters_of, Fed, gathering, arguments, call}
+use Rattle.macro_call.specs.Modes.{par_mode}
+use Rattle.plain_state.specs.Arguments.{start_of, delimiters_of, Fed, gathering, arguments, call}
 use Rattle.macro_args.specs.declared.args.Args.{Args}
 use Rattle.macro_call.specs.declared.cursor.Cursor.{Cursor}
 use Rattle.macro_call.specs.declared.present.Present.{Present}
@@ -26,9 +27,9 @@ module _ (table : List (Option Entry)) (macro : ℕ) (first : Cursor) (mode : Pa
   no_args : args_in table args ≡ []
   no_args = ap (λ (n : ℕ). map (λ cell. cell_tokens table cell) (take n args.lists)) count
 
-  pub begun_start : (scan : ArgScan) (cursor : Cursor) → scan.cursor ≡ cursor → scan.mode ≡ mode → cursor ≡ first → (fed : List Fed) → resume_by table macro scan None fed ≡ gathering (tokens_at table macro) mode fed
+  pub begun_start : (scan : ArgScan) (cursor : Cursor) → scan.cursor ≡ cursor → scan.mode ≡ mode → cursor ≡ first → (fed : List Fed) → resume_by table macro scan None fed ≡ gathering (tokens_at table macro) (par_mode mode) fed
   begun_start scan cursor c m f fed =
-      ap₂ (λ (k : Cursor) (n : ParMode). gathering (rest_at table macro k) n fed) (c ∙ f) m ∙ ap (λ (ts : List Token). gathering ts mode fed) whole
+      ap₂ (λ (k : Cursor) (n : ParMode). gathering (rest_at table macro k) (par_mode n) fed) (c ∙ f) m ∙ ap (λ (ts : List Token). gathering ts (par_mode mode) fed) whole
 
   module _ (new_table : List (Option Entry)) (next : Cursor) (c : ℕ) (b : Build) (p : Present) (step : rest_at table macro first ≡ Place c ∷ rest_at table macro next) (next_on : IsOn table macro next)
       (fresh : entry_at table (build_id b) ≡ None) (building : IsBuilding new_table b) (set : new_table ≡ slice_set table (build_id b) (Some empty)) (within : build_id b < length table)
@@ -49,16 +50,16 @@ module _ (table : List (Option Entry)) (macro : ℕ) (first : Cursor) (mode : Pa
       room = omega (arith, count, few, ap (λ (ts : List Token). length (delimiters_of ts)) whole);
     }
 
-    pub begun_place : (fed : List Fed) → resume new_table macro (record { cursor = next; mode = mode; braced = false; present = Some p; args = args }) fed ≡ gathering (tokens_at table macro) mode fed
+    pub begun_place : (fed : List Fed) → resume new_table macro (record { cursor = next; mode = mode; braced = false; present = Some p; args = args }) fed ≡ gathering (tokens_at table macro) (par_mode mode) fed
     begun_place fed =
         sym ((entered table new_table macro (record { cursor = first; mode = mode; braced = false; present = None; args = args }) next c b p between step next_on fresh building set within account is zeros).same tt fed)
-        ∙ ap (λ (us : List (List Token)). arguments mode us (delimiters_of (rest_at table macro first)) fed) no_args
-        ∙ sym (ap (λ (ts : List Token). call mode ts (delimiters_of (rest_at table macro first)) fed) ends)
-        ∙ ap (λ (ts : List Token). gathering ts mode fed) whole
+        ∙ ap (λ (us : List (List Token)). arguments (par_mode mode) us (delimiters_of (rest_at table macro first)) fed) no_args
+        ∙ sym (ap (λ (ts : List Token). call (par_mode mode) ts (delimiters_of (rest_at table macro first)) fed) ends)
+        ∙ ap (λ (ts : List Token). gathering ts (par_mode mode) fed) whole
 
   -- as the code has it
   pub new_start : (t : List (Option Entry)) (cursor : Cursor) (present : Option Present) (m : ParMode) → t ≡ table → cursor ≡ first → present ≡ None → m ≡ mode → (fed : List Fed) →
-      resume t macro (record { cursor = cursor; mode = m; braced = false; present = present; args = args }) fed ≡ gathering (tokens_at table macro) mode fed
+      resume t macro (record { cursor = cursor; mode = m; braced = false; present = present; args = args }) fed ≡ gathering (tokens_at table macro) (par_mode mode) fed
   new_start t cursor present m e f g h fed =
       ap (λ (u : List (Option Entry)). resume u macro (record { cursor = cursor; mode = m; braced = false; present = present; args = args }) fed) e
       ∙ ap (λ (o : Option Present). resume table macro (record { cursor = cursor; mode = m; braced = false; present = o; args = args }) fed) g

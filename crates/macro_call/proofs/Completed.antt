@@ -1,11 +1,12 @@
 -- The list in work becomes an argument.
+use Rattle.std.specs.Prelude.{unwrap_or}
 use Rattle.std.proofs.Common.{◌≡◌, ◌≢◌, ℕ, ◌+◌, ◌<◌, List, [], ◌∷◌, ◌++◌, length, drop, set, Option, None, Some, refl, sym, ap, ap₂, subst, ◌∙◌, arith}
 use Rattle.tex_defs.specs.declared.Token.{Token}
 use Rattle.token_lists.specs.declared.ListRef.{ListRef}
 use Rattle.token_lists.specs.Ids.{id_of, build_id, IsBuilding}
 use Rattle.token_lists.specs.Table.{Entry, tokens_of, tokens_at, places_of, holders_at}
 use Rattle.token_lists.specs.Accounts.{Moves, Covers, Keeps, holds, cell_holds}
-use Rattle.macro_call.specs.Arguments.{delimiters_of}
+use Rattle.plain_state.specs.Arguments.{delimiters_of}
 use Rattle.macro_args.specs.declared.args.Args.{Args}
 use Rattle.macro_call.specs.declared.cursor.Cursor.{Cursor}
 use Rattle.macro_call.specs.declared.present.Present.{Present}
@@ -90,7 +91,7 @@ module _ (old_table table : List (Option Entry)) (macro : ℕ) (old : ArgScan) (
       listed = kept_listed table old.args args cell (omega (arith, whole.room)) args_lists (args_listed old_table table macro old p present building whole.owns whole.outside others whole.listed) some;
       room = omega (arith, whole.room, count, ap length places);
     };
-    args = args_are ∙ ap₂ (λ (us : List (List Token)) (ts : List Token). us ++ ts ∷ []) (args_stay old_table table macro old p present building whole.owns whole.outside others) (tokens ∙ sym (ap (work_by old_table) present));
+    args = args_are ∙ ap₂ (λ (us : List (List Token)) (ts : List Token). us ++ ts ∷ []) (args_stay old_table table macro old p present building whole.owns whole.outside others) (tokens ∙ sym (ap (λ (o : Option Present). unwrap_or (work_by old_table o) []) present));
     places = places;
     mode = refl;
     moves = λ h. omega (arith, holds_now h, account h, held h);

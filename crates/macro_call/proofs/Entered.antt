@@ -1,5 +1,5 @@
 -- The next place is entered.
-use Rattle.std.proofs.Common.{◌≡◌, ◌≢◌, ℕ, ◌+◌, ◌<◌, List, [], ◌∷◌, ◌++◌, length, take, drop, map, Bool, Option, None, Some, refl, sym, ap, ap₂, subst, ◌∙◌, arith}
+use Rattle.std.proofs.Common.{◌≡◌, ◌≢◌, ℕ, ◌+◌, ◌<◌, List, [], ◌∷◌, ◌++◌, length, take, drop, map, Bool, false, Option, None, Some, refl, sym, ap, ap₂, subst, ◌∙◌, arith}
 use Rattle.std.specs.Prelude.{slice_set}
 use Rattle.std.proofs.lemmas.List.{get_or-set_same}
 use Rattle.std.proofs.lemmas.List.Sums.{sum_by-cons, sum_by-take-le}
@@ -11,7 +11,7 @@ use Rattle.token_lists.specs.declared.ListRef.{ListRef}
 use Rattle.token_lists.specs.Ids.{id_of, build_id, IsBuilding}
 use Rattle.token_lists.specs.Table.{Entry, entry_at, tokens_of, tokens_at, places_of, holders_of, holders_at, empty}
 use Rattle.token_lists.specs.Accounts.{Moves, Covers, none, holds, cell_holds, cells_hold}
-use Rattle.macro_call.specs.Arguments.{start_of, delimiters_of, Fed, More, search, behind, arguments}
+use Rattle.plain_state.specs.Arguments.{start_of, delimiters_of, Fed, More, search, behind, arguments, work_in}
 use Rattle.macro_call.proofs.ArgumentRuns.{arguments_behind}
 use Rattle.macro_args.specs.declared.args.Args.{Args}
 use Rattle.macro_call.specs.declared.cursor.Cursor.{Cursor}
@@ -21,9 +21,10 @@ use Rattle.macro_call.specs.declared.scan.ArgAsk.TheVariants as ask
 use Rattle.macro_args.specs.Args.{cell_tokens, args_in, args_hold}
 use Rattle.macro_call.specs.Cursors.{IsOn, rest_at, delimiter_at}
 use Rattle.macro_call.specs.Holds.{present_holds}
+use Rattle.macro_call.specs.Modes.{par_mode}
 use Rattle.macro_call.specs.Stages.{Stands, stage_of, kept_in, read_in}
 use Rattle.macro_call.specs.Tables.{IsOnly}
-use Rattle.macro_call.specs.Scans.{resume, now_of, scan_holds, IsSound, IsBetween, Enters}
+use Rattle.macro_call.specs.Scans.{resume, scan_holds, IsSound, IsBetween, Enters}
 use Rattle.macro_call.proofs.Delimited.{at_begin}
 use Rattle.macro_args.proofs.Releases.{holds_own}
 use Rattle.macro_call.proofs.Listed.{listed_kept}
@@ -121,19 +122,20 @@ module _ (old_table table : List (Option Entry)) (macro : ℕ) (old : ArgScan) (
   read_none : read_in (delimiter_at table macro next) (stage_of table p) ≡ []
   read_none = ap₂ (λ (k : ℕ) (ts : List Token). drop k ts ++ take p.matched (delimiter_at table macro next)) zeros.0 nothing ∙ take_nothing p.matched (delimiter_at table macro next) zeros.1
 
-  goes_on : (fed : List Fed) → arguments old.mode (args_in old_table old.args) (delimiters_of (rest_at old_table macro old.cursor)) fed
+  goes_on : (fed : List Fed) → arguments (par_mode old.mode) (args_in old_table old.args) (delimiters_of (rest_at old_table macro old.cursor)) fed
       ≡ resume table macro (record { cursor = next; mode = old.mode; braced = old.braced; present = Some p; args = old.args }) fed
   goes_on fed =
-      ap (λ (ps : List (List Token)). arguments old.mode (args_in old_table old.args) ps fed) places
-      ∙ arguments_behind old.mode (args_in old_table old.args) (delimiters_of (rest_at table macro next)) (delimiter_at table macro next) fed
-      ∙ ap (λ (args : List (List Token)). behind args (delimiters_of (rest_at table macro next)) (search (delimiter_at table macro next) More old.mode [] [] fed)) (sym same_args)
-      ∙ ap (λ (k : List Token). behind (args_in table old.args) (delimiters_of (rest_at table macro next)) (search (delimiter_at table macro next) More old.mode k [] fed)) (sym kept_none)
-      ∙ ap (λ (t : List Token). behind (args_in table old.args) (delimiters_of (rest_at table macro next)) (search (delimiter_at table macro next) More old.mode (kept_in (stage_of table p)) t fed)) (sym read_none)
-      ∙ ap (λ (s : Bool). behind (args_in table old.args) (delimiters_of (rest_at table macro next)) (search (delimiter_at table macro next) (now_of s) old.mode (kept_in (stage_of table p)) (read_in (delimiter_at table macro next) (stage_of table p)) fed)) (sym between.settled)
+      ap (λ (ps : List (List Token)). arguments (par_mode old.mode) (args_in old_table old.args) ps fed) places
+      ∙ arguments_behind (par_mode old.mode) (args_in old_table old.args) (delimiters_of (rest_at table macro next)) (delimiter_at table macro next) fed
+      ∙ ap (λ (args : List (List Token)). behind args (delimiters_of (rest_at table macro next)) (search (delimiter_at table macro next) false (par_mode old.mode) [] [] fed)) (sym same_args)
+      ∙ ap (λ (k : List Token). behind (args_in table old.args) (delimiters_of (rest_at table macro next)) (search (delimiter_at table macro next) false (par_mode old.mode) k [] fed)) (sym kept_none)
+      ∙ ap (λ (t : List Token). behind (args_in table old.args) (delimiters_of (rest_at table macro next)) (search (delimiter_at table macro next) false (par_mode old.mode) (kept_in (stage_of table p)) t fed)) (sym read_none)
+      ∙ ap (λ (s : Bool). behind (args_in table old.args) (delimiters_of (rest_at table macro next)) (search (delimiter_at table macro next) s (par_mode old.mode) (kept_in (stage_of table p)) (read_in (delimiter_at table macro next) (stage_of table p)) fed)) (sym between.settled)
 
   pub entered : Enters old_table table macro old (record { cursor = next; mode = old.mode; braced = old.braced; present = Some p; args = old.args }) ask.More
   entered = record {
-    answers = ap More nothing ∙ sym (ap (λ (ps : List (List Token)). arguments old.mode (args_in old_table old.args) ps []) places);
+    answers = ap₂ (λ (us : List (List Token)) (ts : List Token). More us (Some ts)) same_args nothing ∙ sym (ap (λ (ps : List (List Token)). arguments (par_mode old.mode) (args_in old_table old.args) ps []) places);
+    work = ap Some nothing ∙ sym (ap (λ (ps : List (List Token)). work_in (arguments (par_mode old.mode) (args_in old_table old.args) ps [])) places);
     sound = λ o. is_sound;
     same = λ o. goes_on;
     owns = record { covered = covers; building = λ q e. subst (λ (r : Present). IsBuilding table r.build) (same_Some p q e) is_building };

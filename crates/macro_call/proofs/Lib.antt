@@ -13,6 +13,7 @@ pub mod Taken
 pub mod Listed
 pub mod Entered
 pub mod Completed
+pub mod Growths
 pub mod Resumed
 pub mod Answered
 pub mod Begun

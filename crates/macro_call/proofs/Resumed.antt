@@ -1,6 +1,5 @@
 -- What a scanner will answer behind a token in a place.
-use Rattle.std.proofs.Common.{◌≡◌, ℕ, ◌+◌, ◌<◌, List, [], ◌∷◌, ◌++◌, length, drop, Bool, true, false, Option, None, Some, refl, sym, ap, ap₂, subst, ◌∙◌, arith}
-use Rattle.std.specs.Prelude.{◌==◌, ◌&&◌}
+use Rattle.std.proofs.Common.{◌≡◌, ℕ, ◌+◌, ◌<◌, List, [], ◌∷◌, ◌++◌, length, take, drop, map, Bool, false, Option, None, Some, refl, sym, ap, ap₂, subst, ◌∙◌, arith}
 use Rattle.std.proofs.lemmas.List.{take-append-drop}
 use Rattle.std.proofs.lemmas.Option.{same_Some}
 use Rattle.tex_defs.specs.declared.Token.{Token}
@@ -8,58 +7,75 @@ use Rattle.token_lists.specs.Ids.{build_id, IsBuilding}
 use Rattle.token_lists.specs.Table.{Entry}
 use Rattle.token_lists.specs.Accounts.{Moves, none, holds}
 use Rattle.macro_call.specs.declared.par_mode.ParMode.{ParMode}
-use Rattle.macro_call.specs.declared.par_mode.ParMode.TheVariants.{Checked}
-use Rattle.macro_call.specs.Arguments.{start_of, delimiters_of, open_behind, unmatched, Case, Fed, Tok, Cut, Settled, search, behind, call, case_at, in_work}
+use Rattle.macro_call.specs.declared.par_mode.ParMode.TheVariants as mode
+use Rattle.plain_state.specs.Arguments.{start_of, delimiters_of, unmatched, Checked, Case, Fed, Tok, Cut, Settled, Answer, search, behind, call, case_at, in_work, More, sought, arguments_in, work_in}
+use Rattle.plain_state.specs.Arguments as plain
 use Rattle.macro_call.proofs.ArgumentRuns.{search_at, found_after}
 use Rattle.macro_call.specs.declared.present.Present.{Present}
 use Rattle.macro_call.specs.declared.scan.ArgScan.{ArgScan}
 use Rattle.macro_call.specs.declared.scan.ArgAsk.{ArgAsk}
-use Rattle.macro_args.specs.Args.{args_in, args_hold}
+use Rattle.macro_args.specs.Args.{cell_tokens, args_in, args_hold}
 use Rattle.macro_call.specs.Cursors.{rest_at, delimiter_at}
 use Rattle.macro_call.specs.Holds.{present_holds}
-use Rattle.macro_call.specs.Stages.{Stage, Stands, stage_of, kept_in, read_in}
+use Rattle.macro_call.specs.Modes.{par_mode}
+use Rattle.macro_call.specs.Growths.{growth_of}
+use Rattle.macro_call.specs.Stages.{Stage, Stands, stage_of, kept_in, read_in, target_at, gained}
 use Rattle.macro_call.specs.Tables.{IsOnly}
-use Rattle.macro_call.specs.Scans.{resume, resume_by, now_of, scan_holds, Owns, IsSound, IsInPlace, Answers, answer_of, work_in, work_by, handed, HandsOut}
+use Rattle.macro_call.specs.Scans.{resume, resume_by, scan_holds, Owns, IsSound, IsInPlace, Answers, answer_of, work_of, work_by, handed, HandsOut, ScannersHaveLists}
 use Rattle.macro_call.proofs.Completed.{holds_both, args_stay, args_listed, macro_apart, macro_tokens, shared_kept}
+use Rattle.macro_call.proofs.Growths.{work-sought, arguments-sought, growth_met}
 use Rattle.macro_call.proofs.Tables.{on_kept}
-use Rattle.macro_call.proofs.Undelimited.{plain_kept, plain_read}
+use Rattle.macro_call.proofs.Undelimited.{plain_kept, plain_read, unmatched_nil}
 
 -- a check, and a brace that was dealt with
-cut_call : (mode : ParMode) (start : List Token) (places : List (List Token)) (fed : List Fed) → call mode start places (Cut ∷ fed) ≡ call Checked start places fed
+cut_call : (mode : plain.ParMode) (start : List Token) (places : List (List Token)) (fed : List Fed) → call mode start places (Cut ∷ fed) ≡ call Checked start places fed
 cut_call mode [] [] fed = refl
 cut_call mode [] (ds ∷ places) fed = refl
 cut_call mode (d ∷ ds) places fed = refl
 
 pub cut_by : (table : List (Option Entry)) (macro : ℕ) (scan : ArgScan) (o : Option Present) (fed : List Fed) →
-    resume_by table macro scan o (Cut ∷ fed) ≡ resume_by table macro (record { cursor = scan.cursor; mode = Checked; braced = false; present = scan.present; args = scan.args }) o fed
-cut_by table macro scan None fed = cut_call scan.mode (start_of (rest_at table macro scan.cursor)) (delimiters_of (rest_at table macro scan.cursor)) fed
+    resume_by table macro scan o (Cut ∷ fed) ≡ resume_by table macro (record { cursor = scan.cursor; mode = mode.Checked; braced = false; present = scan.present; args = scan.args }) o fed
+cut_by table macro scan None fed = cut_call (par_mode scan.mode) (start_of (rest_at table macro scan.cursor)) (delimiters_of (rest_at table macro scan.cursor)) fed
 cut_by table macro scan (Some p) fed = refl
 
-settle_call : (mode : ParMode) (start : List Token) (places : List (List Token)) (fed : List Fed) → call mode start places (Settled ∷ fed) ≡ call mode start places fed
+settle_call : (mode : plain.ParMode) (start : List Token) (places : List (List Token)) (fed : List Fed) → call mode start places (Settled ∷ fed) ≡ call mode start places fed
 settle_call mode [] [] fed = refl
 settle_call mode [] (ds ∷ places) fed = refl
 settle_call mode (d ∷ ds) places fed = refl
 
 pub settle_by : (table : List (Option Entry)) (macro : ℕ) (scan : ArgScan) (o : Option Present) (fed : List Fed) →
     resume_by table macro scan o (Settled ∷ fed) ≡ resume_by table macro (record { cursor = scan.cursor; mode = scan.mode; braced = false; present = scan.present; args = scan.args }) o fed
-settle_by table macro scan None fed = settle_call scan.mode (start_of (rest_at table macro scan.cursor)) (delimiters_of (rest_at table macro scan.cursor)) fed
+settle_by table macro scan None fed = settle_call (par_mode scan.mode) (start_of (rest_at table macro scan.cursor)) (delimiters_of (rest_at table macro scan.cursor)) fed
 settle_by table macro scan (Some p) fed = refl
 
 -- the list in work is the list of the stage
-unmatched_nil : (n : ℕ) (t : List Token) → unmatched [] n t ≡ t
-unmatched_nil n [] = refl
-unmatched_nil n (x ∷ xs) = let e : ((n == 0) && false) ≡ false = no (n == 0) in rw e (ap (λ (ys : List Token). x ∷ ys) (unmatched_nil (open_behind n x) xs))
-  where
-    no : (b : Bool) → (b && false) ≡ false
-    no true = refl
-    no false = refl
-
 works : (ds : List Token) (s : Stage) → Stands ds s → in_work ds (kept_in s) (read_in ds s) ≡ s.list
 works [] s h = ap₂ (λ (k t : List Token). k ++ unmatched [] 0 t) (plain_kept s h) (plain_read s h) ∙ unmatched_nil 0 s.list
 works (d ∷ ds) s h = ap (λ (ys : List Token). kept_in s ++ ys) h.1.rest ∙ take-append-drop s.from s.list
 
 in_place_by : (table : List (Option Entry)) (macro : ℕ) (scan : ArgScan) (o : Option Present) (p : Present) → o ≡ Some p → IsInPlace table macro scan o → IsInPlace table macro scan (Some p)
 in_place_by table macro scan o p e h = subst (IsInPlace table macro scan) e h
+
+-- in front of the first place there is no list yet
+front_more : (mode : plain.ParMode) (start : List Token) (places : List (List Token)) → 0 < length start → call mode start places [] ≡ More [] None
+front_more mode [] places some = absurd (omega arith)
+front_more mode (d ∷ ds) places some = refl
+
+lists_by : (table : List (Option Entry)) (macro : ℕ) (scan : ArgScan) (o : Option Present) → IsInPlace table macro scan o →
+    (args_in table scan.args ≡ arguments_in (resume_by table macro scan o [])) × (work_by table o ≡ work_in (resume_by table macro scan o []))
+lists_by table macro scan None h =
+    let more = front_more (par_mode scan.mode) (start_of (rest_at table macro scan.cursor)) (delimiters_of (rest_at table macro scan.cursor)) h.2 in
+    (ap (λ (n : ℕ). map (λ cell. cell_tokens table cell) (take n scan.args.lists)) h.0 ∙ sym (ap arguments_in more), sym (ap work_in more))
+lists_by table macro scan (Some p) h =
+    let list = in_work (delimiter_at table macro scan.cursor) (kept_in (stage_of table p)) (read_in (delimiter_at table macro scan.cursor) (stage_of table p)) in (
+      sym (arguments-sought (args_in table scan.args) scan.braced list),
+      ap Some (sym (works (delimiter_at table macro scan.cursor) (stage_of table p) h.1)) ∙ sym (work-sought (args_in table scan.args) scan.braced list),
+    )
+
+pub has_lists : ScannersHaveLists
+has_lists table macro scan sound =
+    let both = lists_by table macro scan scan.present sound.in_place in
+    record { args = both.0; work = both.1 }
 
 module _ (old_table table : List (Option Entry)) (macro : ℕ) (old : ArgScan) (x : Token) (p : Present) (present : old.present ≡ Some p) (sound : IsSound old_table macro old)
     (others : IsOnly old_table table (build_id p.build)) (account : Moves old_table table none none) where
@@ -73,13 +89,23 @@ module _ (old_table table : List (Option Entry)) (macro : ℕ) (old : ArgScan) (
   old_rest = ap (drop old.cursor.index) (macro_tokens old_table table macro old p present here.0 sound.owns sound.outside others)
 
   -- what is answered once the case is known
-  pub case_on : (c : Case) → c ≡ case_at (delimiter_at old_table macro old.cursor) old.mode (kept_in (stage_of old_table p)) (read_in (delimiter_at old_table macro old.cursor) (stage_of old_table p)) x → (fed : List Fed) →
+  pub case_on : (c : Case) → c ≡ case_at (delimiter_at old_table macro old.cursor) (par_mode old.mode) (kept_in (stage_of old_table p)) (read_in (delimiter_at old_table macro old.cursor) (stage_of old_table p)) x → (fed : List Fed) →
       resume old_table macro old (Tok x ∷ fed) ≡ behind (args_in old_table old.args) (delimiters_of (rest_at old_table macro old.cursor))
-      (found_after (delimiter_at old_table macro old.cursor) old.mode (kept_in (stage_of old_table p)) (read_in (delimiter_at old_table macro old.cursor) (stage_of old_table p)) x fed c)
+      (found_after (delimiter_at old_table macro old.cursor) (par_mode old.mode) (kept_in (stage_of old_table p)) (read_in (delimiter_at old_table macro old.cursor) (stage_of old_table p)) x fed c)
   case_on c is fed =
       ap (λ (o : Option Present). resume_by old_table macro old o (Tok x ∷ fed)) present
       ∙ ap (behind (args_in old_table old.args) (delimiters_of (rest_at old_table macro old.cursor)))
-      (search_at (delimiter_at old_table macro old.cursor) (now_of old.braced) old.mode (kept_in (stage_of old_table p)) (read_in (delimiter_at old_table macro old.cursor) (stage_of old_table p)) x fed c is)
+      (search_at (delimiter_at old_table macro old.cursor) old.braced (par_mode old.mode) (kept_in (stage_of old_table p)) (read_in (delimiter_at old_table macro old.cursor) (stage_of old_table p)) x fed c is)
+
+  -- what goes into the list in work
+  pub growth : (met : Case) → met ≡ case_at (delimiter_at old_table macro old.cursor) (par_mode old.mode) (kept_in (stage_of old_table p)) (read_in (delimiter_at old_table macro old.cursor) (stage_of old_table p)) x →
+      growth_of (resume old_table macro old []) (resume old_table macro old (Tok x ∷ [])) ≡ gained (delimiter_at old_table macro old.cursor) (stage_of old_table p) x met
+  growth met is =
+      ap₂ growth_of (ap (λ (o : Option Present). resume_by old_table macro old o []) present) (case_on met is [])
+      ∙ growth_met (delimiter_at old_table macro old.cursor) (par_mode old.mode) (kept_in (stage_of old_table p)) (read_in (delimiter_at old_table macro old.cursor) (stage_of old_table p)) x
+      (args_in old_table old.args) (delimiters_of (rest_at old_table macro old.cursor)) old.braced met
+      ∙ ap (λ (ts : List Token). drop (length ts) (target_at (delimiter_at old_table macro old.cursor) (kept_in (stage_of old_table p)) (read_in (delimiter_at old_table macro old.cursor) (stage_of old_table p)) x met))
+      (works (delimiter_at old_table macro old.cursor) (stage_of old_table p) here.1)
 
   module _ (q : Present) (n : Option Present) (now_present : n ≡ Some q) (same_build : build_id q.build ≡ build_id p.build) (building : IsBuilding table q.build) where
     now_holds : (h : ℕ) → present_holds n h + args_hold old.args h ≡ scan_holds old h
@@ -97,11 +123,11 @@ module _ (old_table table : List (Option Entry)) (macro : ℕ) (old : ArgScan) (
 
     module _ (mode : ParMode) (braced : Bool) (kept t : List Token) (stands : Stands (delimiter_at old_table macro old.cursor) (stage_of table q)) (k : kept_in (stage_of table q) ≡ kept) (r : read_in (delimiter_at old_table macro old.cursor) (stage_of table q) ≡ t) where
       resumed : (fed : List Fed) → resume_by table macro (record { cursor = old.cursor; mode = mode; braced = braced; present = n; args = old.args }) n fed
-          ≡ behind (args_in old_table old.args) (delimiters_of (rest_at old_table macro old.cursor)) (search (delimiter_at old_table macro old.cursor) (now_of braced) mode kept t fed)
+          ≡ behind (args_in old_table old.args) (delimiters_of (rest_at old_table macro old.cursor)) (search (delimiter_at old_table macro old.cursor) braced (par_mode mode) kept t fed)
       resumed fed =
           ap (λ (o : Option Present). resume_by table macro (record { cursor = old.cursor; mode = mode; braced = braced; present = n; args = old.args }) o fed) now_present
-          ∙ ap₂ (λ (args : List (List Token)) (rest : List Token). behind args (delimiters_of rest) (search (start_of rest) (now_of braced) mode (kept_in (stage_of table q)) (read_in (start_of rest) (stage_of table q)) fed)) old_args old_rest
-          ∙ ap₂ (λ (u v : List Token). behind (args_in old_table old.args) (delimiters_of (rest_at old_table macro old.cursor)) (search (delimiter_at old_table macro old.cursor) (now_of braced) mode u v fed)) k r
+          ∙ ap₂ (λ (args : List (List Token)) (rest : List Token). behind args (delimiters_of rest) (search (start_of rest) braced (par_mode mode) (kept_in (stage_of table q)) (read_in (start_of rest) (stage_of table q)) fed)) old_args old_rest
+          ∙ ap₂ (λ (u v : List Token). behind (args_in old_table old.args) (delimiters_of (rest_at old_table macro old.cursor)) (search (delimiter_at old_table macro old.cursor) braced (par_mode mode) u v fed)) k r
 
       now_in_place : IsInPlace table macro (record { cursor = old.cursor; mode = mode; braced = braced; present = n; args = old.args }) (Some q)
       now_in_place = (
@@ -120,15 +146,17 @@ module _ (old_table table : List (Option Entry)) (macro : ℕ) (old : ArgScan) (
         in_place = subst (IsInPlace table macro (record { cursor = old.cursor; mode = mode; braced = braced; present = n; args = old.args })) (sym now_present) now_in_place;
       }
 
-      work : work_in table (record { cursor = old.cursor; mode = mode; braced = braced; present = n; args = old.args }) ≡ in_work (delimiter_at old_table macro old.cursor) kept t
-      work = ap (work_by table) now_present ∙ sym (works (delimiter_at old_table macro old.cursor) (stage_of table q) stands) ∙ ap₂ (λ (u v : List Token). in_work (delimiter_at old_table macro old.cursor) u v) k r
+      work : work_of table (record { cursor = old.cursor; mode = mode; braced = braced; present = n; args = old.args }) ≡ Some (in_work (delimiter_at old_table macro old.cursor) kept t)
+      work = ap (work_by table) now_present
+          ∙ ap Some (sym (works (delimiter_at old_table macro old.cursor) (stage_of table q) stands) ∙ ap₂ (λ (u v : List Token). in_work (delimiter_at old_table macro old.cursor) u v) k r)
 
-      pub goes : (a : ArgAsk) → answer_of table a (work_in table (record { cursor = old.cursor; mode = mode; braced = braced; present = n; args = old.args })) ≡ now_of braced (work_in table (record { cursor = old.cursor; mode = mode; braced = braced; present = n; args = old.args })) →
+      pub goes : (a : ArgAsk) → ((args : List (List Token)) (ts : List Token) → answer_of table a args (Some ts) ≡ sought args braced ts) →
           ((h : ℕ) → handed a h ≡ 0) → ((left : ℕ → ℕ) → HandsOut table a left) →
-          ((fed : List Fed) → resume old_table macro old (Tok x ∷ fed) ≡ behind (args_in old_table old.args) (delimiters_of (rest_at old_table macro old.cursor)) (search (delimiter_at old_table macro old.cursor) (now_of braced) mode kept t fed)) →
+          ((fed : List Fed) → resume old_table macro old (Tok x ∷ fed) ≡ behind (args_in old_table old.args) (delimiters_of (rest_at old_table macro old.cursor)) (search (delimiter_at old_table macro old.cursor) braced (par_mode mode) kept t fed)) →
           Answers old_table table macro old (record { cursor = old.cursor; mode = mode; braced = braced; present = n; args = old.args }) x a
       goes a is gives hands on = record {
-        answers = is ∙ ap (now_of braced) work ∙ sym (on []);
+        answers = ap₂ (answer_of table a) old_args work ∙ is (args_in old_table old.args) (in_work (delimiter_at old_table macro old.cursor) kept t) ∙ sym (on []);
+        work = work ∙ sym (ap work_in (on []) ∙ work-sought (args_in old_table old.args) braced (in_work (delimiter_at old_table macro old.cursor) kept t));
         goes_on = λ o. record { sound = now_sound; same = λ fed. on fed ∙ sym (resumed fed) };
         owns = now_owns mode braced;
         hands = hands _;

@@ -1,7 +1,7 @@
 -- Lists that change, and those that don't.
-use Rattle.std.proofs.Common.{zero, suc, inl, inr, ◌≡◌, ◌≢◌, ℕ, ◌+◌, ◌-◌, ◌<◌, ◌≤◌, List, [], ◌∷◌, ◌++◌, length, take, drop, Option, None, Some, refl, sym, ap, subst, ◌∙◌, arith, append_assoc}
+use Rattle.std.proofs.Common.{zero, suc, inl, inr, ◌≡◌, ◌≢◌, ℕ, ◌+◌, ◌-◌, ◌<◌, ◌≤◌, List, [], ◌∷◌, ◌++◌, length, take, drop, Option, None, Some, refl, sym, ap, subst, ◌∙◌, arith, append_assoc, length-append, length-drop}
 use Rattle.std.specs.Prelude.{slice_set, slice_get, IsSome, ◌↔◌}
-use Rattle.std.proofs.lemmas.List.{get_or-set_same, get_or-set_other, get_or_past, take-append-drop, take-append-le, length-take-le, append-nil}
+use Rattle.std.proofs.lemmas.List.{get_or-set_same, get_or-set_other, get_or_past, take-append-drop, take-append-le, length-take-le, drop_at}
 use Rattle.std.proofs.lemmas.List.Sums.{get_or-le-sum_by}
 use Rattle.std.proofs.lemmas.Bool.{cases_lt}
 use Rattle.tex_defs.specs.declared.Token.{Token}
@@ -76,12 +76,13 @@ take_take (suc i) zero w h = absurd (omega arith)
 take_take (suc i) (suc n) [] h = refl
 take_take (suc i) (suc n) (x ∷ xs) h = ap (λ (l : List Token). x ∷ l) (take_take i n xs (omega arith))
 
-pub part_of : (old now w : List Token) (i count : ℕ) → i ≤ count → now ≡ old ++ take i w → IsGrownByPart old now (take count w)
-part_of old now w i count h e = record {
+pub part_of : (old now w : List Token) (i count : ℕ) → i < count → count ≤ length w → now ≡ old ++ take i w → IsGrownByPart old now (take count w)
+part_of old now w i count h l e = record {
   front = take i w;
   behind = drop i (take count w);
-  whole = sym (take-append-drop i (take count w)) ∙ ap (λ (l : List Token). l ++ drop i (take count w)) (take_take i count w h);
+  whole = sym (take-append-drop i (take count w)) ∙ ap (λ (ts : List Token). ts ++ drop i (take count w)) (take_take i count w (omega arith));
   grown = e;
+  some = omega (arith, length-drop i (take count w), length-take-le count w l);
 }
 
 -- the same of more tokens
@@ -91,13 +92,16 @@ part_more old now tokens more part = record {
   behind = part.behind ++ more;
   whole = ap (λ (l : List Token). l ++ more) part.whole ∙ append_assoc part.front part.behind more;
   grown = part.grown;
+  some = omega (arith, part.some, length-append part.behind more);
 }
 
-pub part_whole : (old now tokens more : List Token) → now ≡ old ++ tokens → IsGrownByPart old now (tokens ++ more)
-part_whole old now tokens more e = record { front = tokens; behind = more; whole = refl; grown = e }
+-- only the last is left
+pub part_last : (old now tokens : List Token) (x : Token) → now ≡ old ++ tokens → IsGrownByPart old now (tokens ++ x ∷ [])
+part_last old now tokens x e = record { front = tokens; behind = x ∷ []; whole = refl; grown = e; some = omega arith }
 
-pub part_none : (old now tokens : List Token) → now ≡ old → IsGrownByPart old now tokens
-part_none old now tokens e = record { front = []; behind = tokens; whole = refl; grown = e ∙ sym (append-nil old) }
+-- what goes into a list, by what it becomes
+pub part_to : (old now tokens whole : List Token) → whole ≡ old ++ tokens → IsGrownByPart old now tokens → IsGrownByPart old now (drop (length old) whole)
+part_to old now tokens whole e part = subst (IsGrownByPart old now) (sym (ap (drop (length old)) e ∙ drop_at old tokens (length old) refl)) part
 
 pub take_front : (i m : ℕ) (ds more : List Token) → i ≤ m → m ≤ length ds → take i (take m ds ++ more) ≡ take i ds
 take_front i m ds more h l = take-append-le i (take m ds) more (omega (arith, length-take-le m ds l)) ∙ take_take i m ds h
@@ -112,8 +116,3 @@ length_within table id = elim (cases_lt id (length table)) [
     by : (o : Option Entry) → words_of o ≤ words table → length (tokens_of o) ≤ words table
     by None h = omega arith
     by (Some e) h = omega arith
-
-pub part_front : (old now : List Token) (i m : ℕ) (ds more : List Token) → i ≤ m → m ≤ length ds → IsGrownByPart old now (take i ds) → IsGrownByPart old now (take m ds ++ more)
-part_front old now i m ds more h l part =
-    let e : take m ds ++ more ≡ take i ds ++ drop i (take m ds ++ more) = sym (take-append-drop i (take m ds ++ more)) ∙ ap (λ (ts : List Token). ts ++ drop i (take m ds ++ more)) (take_front i m ds more h l) in
-    subst (IsGrownByPart old now) (sym e) (part_more old now (take i ds) (drop i (take m ds ++ more)) part)

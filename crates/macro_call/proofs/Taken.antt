@@ -4,13 +4,13 @@ use Rattle.std.specs.Prelude.{◌==◌, IsTrue, ◌↔◌}
 use Rattle.std.proofs.lemmas.Bool.{cases_lt, true≢false}
 use Rattle.std.proofs.lemmas.List.{take-append-drop, append-nil, take-append-le, drop-append-le, take_all, drop_all, length-take-le}
 use Rattle.tex_defs.specs.declared.Token.{Token}
-use Rattle.macro_call.specs.declared.par_mode.ParMode.{ParMode}
-use Rattle.macro_call.specs.Arguments.{is_end, is_par, is_short, open_behind, open_after, partial, unmatched, delimited_case, without_braces, Argument}
-use Rattle.macro_call.specs.Stages.{IsAt, Stage, StandsAt, Took, Releases, kept_in, read_in}
+use Rattle.plain_state.specs.Arguments.{ParMode, is_end, is_par, is_short, open_behind, open_after, partial, unmatched, in_work, delimited_case, without_braces, Case, Argument, ExtraBrace, ParEnded, Going}
+use Rattle.macro_call.specs.Stages.{IsAt, Stage, StandsAt, Took, Releases, kept_in, read_in, target_at, gained}
+use Rattle.macro_call.specs.Tables.{IsGrownByPart}
 use Rattle.macro_call.specs.declared.present.Step.TheVariants as step
 use Rattle.macro_call.proofs.Fronts.{behind_bound}
-use Rattle.macro_call.proofs.Tables.{take_front}
-use Rattle.macro_call.proofs.Delimited.{at_begin, before_is, met_argument, met_extra, met_par, met_going, at_on, new_whole, stands_from}
+use Rattle.macro_call.proofs.Tables.{take_front, part_more, part_last, part_to}
+use Rattle.macro_call.proofs.Delimited.{at_begin, before_is, met_argument, met_extra, met_par, met_going, at_on, new_rest, new_whole, stands_from}
 
 open_bound : (l : List Token) (n : ℕ) → open_after n l ≤ n + length l
 open_bound [] n = omega arith
@@ -30,19 +30,21 @@ at_by : (ds list now : List Token) (m k d e : ℕ) → now ≡ list → k ≡ m 
 at_by ds list now m k d e l p q at =
     subst (λ (ts : List Token). IsAt ds ts k e) (sym l) (subst (λ (n : ℕ). IsAt ds list n e) (sym p) (subst (λ (n : ℕ). IsAt ds list m n) (sym q) at))
 
-module _ (ds : List Token) (old new : Stage) (x : Token) (mode : ParMode) (out : ℕ) (at : StandsAt ds old) (rel : Releases ds old x out) where
-  whole : kept_in old ++ drop old.from old.list ≡ old.list
-  whole = take-append-drop old.from old.list
+-- the list is what was kept and what was read since
+list_whole : (s : Stage) → kept_in s ++ drop s.from s.list ≡ s.list
+list_whole s = take-append-drop s.from s.list
 
+-- with the matched tokens it is all that was read
+all_kept : (ds : List Token) (s : Stage) → s.list ++ take s.matched ds ≡ kept_in s ++ read_in ds s
+all_kept ds s = ap (λ (ts : List Token). ts ++ take s.matched ds) (sym (list_whole s)) ∙ append_assoc (kept_in s) (drop s.from s.list) (take s.matched ds)
+
+module _ (ds : List Token) (old new : Stage) (x : Token) (mode : ParMode) (out : ℕ) (at : StandsAt ds old) (rel : Releases ds old x out) where
   pub took_whole : new.list ≡ without_braces old.list → out ≡ 0 → old.matched + 1 ≡ length ds → Took ds old x step.Argument new (delimited_case ds mode (kept_in old) (read_in ds old) x)
   took_whole e z l = record {
-    met = ap Argument e ∙ ap (λ (ts : List Token). Argument (without_braces ts)) (sym whole)
+    met = ap Argument e ∙ ap (λ (ts : List Token). Argument (without_braces ts)) (sym (list_whole old))
         ∙ met_argument ds (drop old.from old.list) old.matched old.depth x at.1 rel.depth out rel.before rel.within rel.part rel.rest mode (kept_in old) z l;
     goes_on = tt;
   }
-
-  all_kept : old.list ++ take old.matched ds ≡ kept_in old ++ read_in ds old
-  all_kept = ap (λ (ts : List Token). ts ++ take old.matched ds) (sym whole) ∙ append_assoc (kept_in old) (drop old.from old.list) (take old.matched ds)
 
   module _ (open_yet : old.matched + 1 < length ds + out) where
     short : old.matched + 1 - out < length ds
@@ -58,7 +60,7 @@ module _ (ds : List Token) (old new : Stage) (x : Token) (mode : ParMode) (out :
         record {
           met = met_extra ds (drop old.from old.list) old.matched old.depth x at.1 rel.depth out rel.before rel.within rel.part rel.rest short mode (kept_in old) e z;
           goes_on = (
-            take_all new.from new.list (omega (arith, f)) ∙ l ∙ all_kept,
+            take_all new.from new.list (omega (arith, f)) ∙ l ∙ all_kept ds old,
             ap (λ (k : ℕ). drop new.from new.list ++ take k ds) m ∙ append-nil (drop new.from new.list) ∙ nothing,
             stands_from ds new some (omega (arith, f), at_by ds [] (drop new.from new.list) 0 new.matched 0 new.depth nothing m (d ∙ z) (at_begin ds some)),
           );
@@ -69,7 +71,7 @@ module _ (ds : List Token) (old new : Stage) (x : Token) (mode : ParMode) (out :
           Took ds old x step.ParEnded new (delimited_case ds mode (kept_in old) (read_in ds old) x)
       took_par l o p = record {
         met = met_par ds (drop old.from old.list) old.matched old.depth x at.1 rel.depth out rel.before rel.within rel.part rel.rest short inside mode (kept_in old) o p;
-        goes_on = l ∙ all_kept;
+        goes_on = l ∙ all_kept ds old;
       }
 
       pub took_on : new.list ≡ old.list ++ take out (take old.matched ds ++ x ∷ []) → new.from ≡ old.from → new.matched ≡ old.matched + 1 - out → new.depth ≡ open_behind old.depth x →
@@ -91,6 +93,58 @@ module _ (ds : List Token) (old new : Stage) (x : Token) (mode : ParMode) (out :
               ),
             );
           }
+
+-- Where the memory is full the list in work has some of the tokens that go into it.
+module _ (ds : List Token) (old : Stage) (x : Token) (mode : ParMode) (out : ℕ) (at : StandsAt ds old) (rel : Releases ds old x out) (open_yet : old.matched + 1 < length ds + out) (now : List Token) where
+  yet : old.matched + 1 - out < length ds
+  yet = omega (arith, at.1.fits)
+
+  within : old.matched ≤ length ds
+  within = omega (arith, at.1.fits)
+
+  -- without its partial match it has what went out of the match
+  goes_into : in_work ds (kept_in old) (read_in ds old ++ x ∷ []) ≡ old.list ++ take out (take old.matched ds ++ x ∷ [])
+  goes_into =
+      ap (λ (ts : List Token). kept_in old ++ ts) (new_rest ds (drop old.from old.list) old.matched old.depth x at.1 rel.depth out rel.before rel.within rel.part rel.rest)
+      ∙ sym (append_assoc (kept_in old) (drop old.from old.list) (take out (take old.matched ds ++ x ∷ [])))
+      ∙ ap (λ (ts : List Token). ts ++ take out (take old.matched ds ++ x ∷ [])) (list_whole old)
+
+  met_part : (met : Case) (tokens : List Token) → target_at ds (kept_in old) (read_in ds old) x met ≡ old.list ++ tokens → met ≡ delimited_case ds mode (kept_in old) (read_in ds old) x → IsGrownByPart old.list now tokens →
+      IsGrownByPart old.list now (gained ds old x (delimited_case ds mode (kept_in old) (read_in ds old) x))
+  met_part met tokens e is part = subst (λ (c : Case). IsGrownByPart old.list now (gained ds old x c)) is (part_to old.list now tokens (target_at ds (kept_in old) (read_in ds old) x met) e part)
+
+  -- an extra brace: all matched tokens go into it
+  pub cut_brace : is_end x ≡ true → old.depth ≡ 0 → IsGrownByPart old.list now (take old.matched ds) → IsGrownByPart old.list now (gained ds old x (delimited_case ds mode (kept_in old) (read_in ds old) x))
+  cut_brace e z part =
+      met_part ExtraBrace (take old.matched ds) (sym (all_kept ds old))
+      (met_extra ds (drop old.from old.list) old.matched old.depth x at.1 rel.depth out rel.before rel.within rel.part rel.rest yet mode (kept_in old) e z) part
+
+  module _ (inside : (is_end x && (old.depth == 0)) ≡ false) where
+    is_going : (out ≡ old.matched + 1 → (is_short mode && is_par x) ≡ false) → Going ≡ delimited_case ds mode (kept_in old) (read_in ds old) x
+    is_going p = met_going ds (drop old.from old.list) old.matched old.depth x at.1 rel.depth out rel.before rel.within rel.part rel.rest yet inside mode (kept_in old) p
+
+    -- a match goes on: what went out of it
+    pub cut_out : out ≤ old.matched → IsGrownByPart old.list now (take out ds) → IsGrownByPart old.list now (gained ds old x (delimited_case ds mode (kept_in old) (read_in ds old) x))
+    cut_out o part =
+        met_part Going (take out ds) (goes_into ∙ ap (λ (ts : List Token). old.list ++ ts) (take_front out old.matched ds (x ∷ []) o within)) (is_going (λ e. absurd (omega arith))) part
+
+    module _ (last : out ≡ old.matched + 1) where
+      goes_all : in_work ds (kept_in old) (read_in ds old ++ x ∷ []) ≡ old.list ++ (take old.matched ds ++ x ∷ [])
+      goes_all = goes_into ∙ ap (λ (ts : List Token). old.list ++ ts) (take_all out (take old.matched ds ++ x ∷ []) (omega (arith, length-append (take old.matched ds) (x ∷ []), length-take-le old.matched ds within)))
+
+      -- it is broken off, and only its tokens go into the list in front of a `\par` that ends the call
+      pub cut_all : IsGrownByPart old.list now (take old.matched ds) → IsGrownByPart old.list now (gained ds old x (delimited_case ds mode (kept_in old) (read_in ds old) x))
+      cut_all part = by (is_short mode && is_par x) refl
+        where
+          by : (b : Bool) → (is_short mode && is_par x) ≡ b → IsGrownByPart old.list now (gained ds old x (delimited_case ds mode (kept_in old) (read_in ds old) x))
+          by true p =
+              met_part ParEnded (take old.matched ds) (sym (all_kept ds old))
+              (met_par ds (drop old.from old.list) old.matched old.depth x at.1 rel.depth out rel.before rel.within rel.part rel.rest yet inside mode (kept_in old) last p) part
+          by false p = met_part Going (take old.matched ds ++ x ∷ []) goes_all (is_going (λ e. p)) (part_more old.list now (take old.matched ds) (x ∷ []) part)
+
+      -- else the token too
+      pub cut_last : (is_short mode && is_par x) ≡ false → now ≡ old.list ++ take old.matched ds → IsGrownByPart old.list now (gained ds old x (delimited_case ds mode (kept_in old) (read_in ds old) x))
+      cut_last p e = met_part Going (take old.matched ds ++ x ∷ []) goes_all (is_going (λ e. p)) (part_last old.list now (take old.matched ds) x e)
 
 -- the list behind the matched tokens, of which some went out of the match
 pub out_front : (items now : List Token) (m out : ℕ) (ds : List Token) (x : Token) → out ≤ m → m ≤ length ds → now ≡ items ++ take out ds → now ≡ items ++ take out (take m ds ++ x ∷ [])

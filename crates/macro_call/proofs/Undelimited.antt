@@ -1,17 +1,18 @@
 -- One token more at a place without a delimiter.
-use Rattle.std.proofs.Common.{◌≡◌, ℕ, zero, suc, ◌+◌, ◌-◌, ◌<◌, ◌≤◌, List, [], ◌∷◌, ◌++◌, length, take, drop, refl, sym, ap, subst, ◌∙◌, arith, Bool, true, false, not, ◌&&◌, inl, inr}
+use Rattle.std.proofs.Common.{◌≡◌, ℕ, zero, suc, ◌+◌, ◌-◌, ◌<◌, ◌≤◌, List, [], ◌∷◌, ◌++◌, length, take, drop, refl, sym, ap, ap₂, subst, ◌∙◌, arith, Bool, true, false, not, ◌&&◌, inl, inr}
 use Rattle.std.specs.Prelude.{◌==◌, if◌then◌else◌}
 use Rattle.std.proofs.lemmas.Bool.{and_parts, and_right, eq-eqb, ne_eqb, true≢false, cases_eq}
 use Rattle.std.proofs.lemmas.List.{append-nil}
 use Rattle.tex_defs.specs.declared.Token.{Token}
-use Rattle.macro_call.specs.declared.par_mode.ParMode.{ParMode}
-use Rattle.macro_call.specs.declared.par_mode.ParMode.TheVariants.{Long}
-use Rattle.macro_call.specs.Arguments.{is_begin, is_end, is_par, is_space, is_short, open_behind, open_after, all_close, is_group, inner, undelimited_case, is_single, is_extra, Case, Argument, ExtraBrace, ParEnded, Skipped, Going}
+use Rattle.plain_state.specs.Tokens.{is_space_token}
+use Rattle.plain_state.specs.Arguments.{ParMode, Long, is_begin, is_end, is_par, is_short, open_behind, open_after, unmatched, all_close, is_group, inner, undelimited_case, is_single, is_extra, Case, Argument, ExtraBrace, ParEnded, Skipped, Going}
 use Rattle.macro_call.proofs.ArgumentTokens.{no_par_end}
 use Rattle.macro_call.proofs.ArgumentGroups.{without_last_on, ends_in_brace_on}
 use Rattle.macro_call.proofs.ArgumentMatches.{open_after_on, all_close_on}
-use Rattle.macro_call.specs.Stages.{IsPlain, Stage, StandsPlain, kept_in, read_in, Took}
+use Rattle.macro_call.specs.Stages.{IsPlain, Stage, StandsPlain, kept_in, read_in, target_at, gained, Took}
+use Rattle.macro_call.specs.Tables.{IsGrownByPart}
 use Rattle.macro_call.proofs.Fronts.{behind_bound}
+use Rattle.macro_call.proofs.Tables.{part_last, part_to}
 use Rattle.macro_call.specs.declared.present.Step.TheVariants as step
 
 up_by : (b e : Bool) (n : ℕ) → not (e && (n == 0)) ≡ true → (if b then (n + 1) + 1 else if e then (n + 1) - 1 else n + 1) ≡ (if b then n + 1 else if e then n - 1 else n) + 1
@@ -126,13 +127,13 @@ module _ (mode : ParMode) (x : Token) where
   pub first_ends : is_end x ≡ false → (is_short mode && is_par x) ≡ true → ParEnded ≡ undelimited_case mode [] x
   first_ends e s = sym (rw (e, s) refl)
 
-  pub first_skips : is_end x ≡ false → (is_short mode && is_par x) ≡ false → is_space x ≡ true → Skipped ≡ undelimited_case mode [] x
+  pub first_skips : is_end x ≡ false → (is_short mode && is_par x) ≡ false → is_space_token x ≡ true → Skipped ≡ undelimited_case mode [] x
   first_skips e s b = sym (rw (e, s, b) refl)
 
-  pub first_begins : is_end x ≡ false → (is_short mode && is_par x) ≡ false → is_space x ≡ false → is_begin x ≡ true → Going ≡ undelimited_case mode [] x
+  pub first_begins : is_end x ≡ false → (is_short mode && is_par x) ≡ false → is_space_token x ≡ false → is_begin x ≡ true → Going ≡ undelimited_case mode [] x
   first_begins e s b g = sym (rw (e, s, b, g) refl)
 
-  pub first_single : is_end x ≡ false → (is_short mode && is_par x) ≡ false → is_space x ≡ false → is_begin x ≡ false → Argument (x ∷ []) ≡ undelimited_case mode [] x
+  pub first_single : is_end x ≡ false → (is_short mode && is_par x) ≡ false → is_space_token x ≡ false → is_begin x ≡ false → Argument (x ∷ []) ≡ undelimited_case mode [] x
   first_single e s b g = sym (rw (e, s, b, g) refl)
 
 pub plain_begins : (x : Token) → is_begin x ≡ true → IsPlain (x ∷ []) 1
@@ -176,6 +177,20 @@ module _ (old new : Stage) (x : Token) (met : Case) (stands : StandsPlain old) w
           s,
         );
       }
+
+-- a match of nothing holds nothing back
+pub unmatched_nil : (n : ℕ) (t : List Token) → unmatched [] n t ≡ t
+unmatched_nil n [] = refl
+unmatched_nil n (x ∷ xs) = let e : ((n == 0) && false) ≡ false = and_false (n == 0) in rw e (ap (λ (ys : List Token). x ∷ ys) (unmatched_nil (open_behind n x) xs))
+
+-- Where the memory is full the list in work is as it was, and the token should have gone into it.
+module _ (s : Stage) (x : Token) (now : List Token) (stands : StandsPlain s) (same : now ≡ s.list) where
+  by_token : (met : Case) → target_at [] (kept_in s) (read_in [] s) x met ≡ s.list ++ x ∷ [] → IsGrownByPart s.list now (gained [] s x met)
+  by_token met e = part_to s.list now (x ∷ []) (target_at [] (kept_in s) (read_in [] s) x met) e (part_last s.list now [] x (same ∙ sym (append-nil s.list)))
+
+  pub cut_going : (met : Case) → Going ≡ met → IsGrownByPart s.list now (gained [] s x met)
+  cut_going met is = subst (λ (c : Case). IsGrownByPart s.list now (gained [] s x c)) is
+      (by_token Going (ap₂ (λ (k t : List Token). k ++ unmatched [] 0 (t ++ x ∷ [])) (plain_kept s stands) (plain_read s stands) ∙ unmatched_nil 0 (s.list ++ x ∷ [])))
 
 pub plain_by : (list list' : List Token) (depth depth' : ℕ) → IsPlain list depth → list' ≡ list → depth' ≡ depth → IsPlain list' depth'
 plain_by list list' depth depth' at l d = subst (λ (n : ℕ). IsPlain list' n) (sym d) (subst (λ (ts : List Token). IsPlain ts depth) (sym l) at)

@@ -1,16 +1,14 @@
 -- What an argument is, said without the search for it.
-use Rattle.std.specs.Prelude.{[], ◌∷◌, ◌≡◌, ◌≢◌, ◌↔◌, ◌≤◌, ◌<◌, true, List, ◌++◌, length}
+use Rattle.std.specs.Prelude.{[], ◌∷◌, ◌≡◌, ◌≢◌, ◌↔◌, ◌≤◌, ◌<◌, true, false, List, ◌++◌, length}
 use Rattle.tex_defs.specs.declared.Token.{Token}
-use Rattle.macro_call.specs.declared.par_mode.ParMode.{ParMode}
-use Rattle.macro_call.specs.declared.par_mode.ParMode.TheVariants.{Long}
-use Rattle.macro_call.specs.Arguments.{is_begin, is_end, open_after, all_close, is_balanced, is_prefix, partial, unmatched, is_delimited, without_braces, Fed, Tok, Answer, More, ExtraBraceFound, Called, Mismatch, Ended, Gathered, search, gathering}
+use Rattle.plain_state.specs.Arguments.{ParMode, Long, is_begin, is_end, open_after, all_close, is_balanced, is_prefix, partial, unmatched, is_delimited, without_braces, Fed, Tok, Answer, More, ExtraBraceFound, Called, Mismatch, Ended, Gathered, search, gathering}
 
 abbrev pub IsClosed : Answer → Type 0
-IsClosed (More work) = ⊥
-IsClosed (ExtraBraceFound work) = ⊥
+IsClosed (More args work) = ⊥
+IsClosed (ExtraBraceFound args work) = ⊥
 IsClosed (Called args) = Unit {0}
 IsClosed Mismatch = Unit {0}
-IsClosed (Ended silent list) = Unit {0}
+IsClosed (Ended silent args work) = Unit {0}
 
 -- What ends a call is decided by the fewest tokens: nothing that follows changes it.
 abbrev pub CallsEndAtOnce : Type 0
@@ -30,7 +28,7 @@ pub record IsShortest (ds a rest : List Token) : Type 0 where
 -- one group.
 abbrev pub ArgumentsAreShortest : Type 0
 ArgumentsAreShortest = (d : Token) (ds a rest : List Token) → IsShortest (d ∷ ds) a rest → all_close 0 (a ++ d ∷ ds) ≡ true →
-    search (d ∷ ds) More Long [] [] (fed_with (a ++ (d ∷ ds ++ rest))) ≡ Gathered Long (without_braces a) (fed_with rest)
+    search (d ∷ ds) false Long [] [] (fed_with (a ++ (d ∷ ds ++ rest))) ≡ Gathered Long (without_braces a) (fed_with rest)
 
 -- A list is delimited exactly where it is a balanced list and then the delimiter.
 abbrev pub DelimitedListsAreBalanced : Type 0

@@ -1,9 +1,10 @@
-pub mod Arguments
 pub mod ArgumentLaws
+pub mod Growths
 pub mod Rows
 pub mod Cursors
 pub mod Tables
 pub mod Braces
+pub mod Modes
 pub mod Stages
 pub mod Holds
 pub mod Listed

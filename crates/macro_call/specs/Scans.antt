@@ -1,12 +1,11 @@
 -- What a scanner will answer on what is still to come.
-use Rattle.std.specs.Prelude.{Bool, true, false, ◌≡◌, ◌≢◌, ℕ, ◌+◌, ◌<◌, ◌≤◌, List, [], ◌∷◌, ◌++◌, ◌⊎◌, Option, None, Some, length, take}
+use Rattle.std.specs.Prelude.{false, ◌≡◌, ◌≢◌, ℕ, ◌+◌, ◌<◌, ◌≤◌, List, [], ◌∷◌, ◌++◌, ◌⊎◌, Option, None, Some, option_map, unwrap_or, length}
 use Rattle.tex_defs.specs.declared.Token.{Token}
 use Rattle.token_lists.specs.Table.{Entry, holders_at, tokens_at}
 use Rattle.token_lists.specs.Accounts.{Covers, Moves, Keeps}
 use Rattle.token_lists.specs.Ids.{build_id, IsBuilding}
 use Rattle.macro_call.specs.declared.par_mode.ParMode.{ParMode}
-use Rattle.macro_call.specs.declared.par_mode.ParMode.TheVariants.{Long, Short}
-use Rattle.macro_call.specs.Arguments.{start_of, delimiters_of, Fed, Tok, Answer, More, ExtraBraceFound, Called, Mismatch, Ended, search, behind, case_at, arguments, gathering}
+use Rattle.plain_state.specs.Arguments.{start_of, delimiters_of, Fed, Tok, Answer, More, ExtraBraceFound, Called, Mismatch, Ended, search, behind, case_at, arguments, gathering, arguments_in, work_in}
 use Rattle.macro_args.specs.declared.args.Args.{Args}
 use Rattle.macro_call.specs.declared.cursor.Cursor.{Cursor}
 use Rattle.macro_call.specs.declared.present.Present.{Present}
@@ -18,31 +17,31 @@ use Rattle.macro_args.specs.Args.{args_in, args_hold, IsFilled}
 use Rattle.macro_call.specs.Cursors.{IsOn, rest_at, delimiter_at}
 use Rattle.macro_call.specs.Holds.{present_holds}
 use Rattle.macro_call.specs.Listed.{AreListed}
+use Rattle.macro_call.specs.Modes.{par_mode}
 use Rattle.macro_call.specs.Tables.{IsGrownByPart, IsOnly}
-use Rattle.macro_call.specs.Stages.{stage_of, Stands, Took, kept_in, read_in}
-
--- what is answered where nothing follows
-abbrev pub now_of : Bool → List Token → Answer
-now_of true work = ExtraBraceFound work
-now_of false work = More work
+use Rattle.macro_call.specs.Growths.{growth_of}
+use Rattle.macro_call.specs.Stages.{stage_of, Stands, Took, gained, kept_in, read_in}
 
 -- in front of the first place the rest of the parameter text is matched; in a place its delimiter is sought
 abbrev pub resume_by : List (Option Entry) → (macro : ℕ) → ArgScan → Option Present → List Fed → Answer
-resume_by table macro scan None fed = gathering (rest_at table macro scan.cursor) scan.mode fed
+resume_by table macro scan None fed = gathering (rest_at table macro scan.cursor) (par_mode scan.mode) fed
 resume_by table macro scan (Some p) fed =
     behind (args_in table scan.args) (delimiters_of (rest_at table macro scan.cursor))
-    (search (delimiter_at table macro scan.cursor) (now_of scan.braced) scan.mode (kept_in (stage_of table p)) (read_in (delimiter_at table macro scan.cursor) (stage_of table p)) fed)
+    (search (delimiter_at table macro scan.cursor) scan.braced (par_mode scan.mode) (kept_in (stage_of table p)) (read_in (delimiter_at table macro scan.cursor) (stage_of table p)) fed)
 
 abbrev pub resume : List (Option Entry) → (macro : ℕ) → ArgScan → List Fed → Answer
 resume table macro scan fed = resume_by table macro scan scan.present fed
 
 -- the list in work, if an argument is being gathered
-abbrev pub work_by : List (Option Entry) → Option Present → List Token
-work_by table None = []
-work_by table (Some p) = tokens_at table (build_id p.build)
+abbrev pub work_by : List (Option Entry) → Option Present → Option (List Token)
+work_by table present = option_map (λ p. tokens_at table (build_id p.build)) present
 
-abbrev pub work_in : List (Option Entry) → ArgScan → List Token
-work_in table scan = work_by table scan.present
+abbrev pub work_of : List (Option Entry) → ArgScan → Option (List Token)
+work_of table scan = work_by table scan.present
+
+-- its tokens
+abbrev pub work_tokens : List (Option Entry) → ArgScan → List Token
+work_tokens table scan = unwrap_or (work_of table scan) []
 
 -- what a scanner holds: the list in work and its arguments' lists
 abbrev pub scan_holds : ArgScan → ℕ → ℕ
@@ -67,12 +66,21 @@ pub record IsSound (table : List (Option Entry)) (macro : ℕ) (scan : ArgScan) 
   pub listed : AreListed table scan.args
   pub in_place : IsInPlace table macro scan scan.present
 
-abbrev pub answer_of : List (Option Entry) → ArgAsk → List Token → Answer
-answer_of table ask.More work = More work
-answer_of table ask.ExtraBrace work = ExtraBraceFound work
-answer_of table (ask.Called args) work = Called (args_in table args)
-answer_of table ask.Mismatch work = Mismatch
-answer_of table (ask.ParEnded silent) work = Ended silent work
+-- what a scanner has of the call is what is answered so far
+pub record HasLists (table : List (Option Entry)) (macro : ℕ) (scan : ArgScan) : Type 0 where
+  pub args : args_in table scan.args ≡ arguments_in (resume table macro scan [])
+  pub work : work_of table scan ≡ work_in (resume table macro scan [])
+
+abbrev pub ScannersHaveLists : Type 0
+ScannersHaveLists = (table : List (Option Entry)) (macro : ℕ) (scan : ArgScan) → IsSound table macro scan → HasLists table macro scan
+
+-- what an answer says, where the scanner has these arguments and this list in work
+abbrev pub answer_of : List (Option Entry) → ArgAsk → (args : List (List Token)) → (work : Option (List Token)) → Answer
+answer_of table ask.More args work = More args work
+answer_of table ask.ExtraBrace args work = ExtraBraceFound args (unwrap_or work [])
+answer_of table (ask.Called called) args work = Called (args_in table called)
+answer_of table ask.Mismatch args work = Mismatch
+answer_of table (ask.ParEnded silent) args work = Ended silent args (unwrap_or work [])
 
 -- what the answer hands out
 abbrev pub handed : ArgAsk → ℕ → ℕ
@@ -108,9 +116,10 @@ pub record Next (old_table new_table : List (Option Entry)) (macro : ℕ) (old n
 
 -- Behind the tokens in front of the first place, or behind a delimiter: the next place is entered, or the call is made.
 pub record Enters (old_table new_table : List (Option Entry)) (macro : ℕ) (old new : ArgScan) (answer : ArgAsk) : Type 0 where
-  pub answers : answer_of new_table answer (work_in new_table new) ≡ arguments old.mode (args_in old_table old.args) (delimiters_of (rest_at old_table macro old.cursor)) []
+  pub answers : answer_of new_table answer (args_in new_table new.args) (work_of new_table new) ≡ arguments (par_mode old.mode) (args_in old_table old.args) (delimiters_of (rest_at old_table macro old.cursor)) []
+  pub work : work_of new_table new ≡ work_in (arguments (par_mode old.mode) (args_in old_table old.args) (delimiters_of (rest_at old_table macro old.cursor)) [])
   pub sound : IsOpen answer → IsSound new_table macro new
-  pub same : IsOpen answer → (fed : List Fed) → arguments old.mode (args_in old_table old.args) (delimiters_of (rest_at old_table macro old.cursor)) fed ≡ resume new_table macro new fed
+  pub same : IsOpen answer → (fed : List Fed) → arguments (par_mode old.mode) (args_in old_table old.args) (delimiters_of (rest_at old_table macro old.cursor)) fed ≡ resume new_table macro new fed
   pub owns : Owns new_table new
   pub hands : HandsOut new_table answer (scan_holds new)
   pub moves : Moves old_table new_table (scan_holds old) (λ h. scan_holds new h + handed answer h)
@@ -128,28 +137,33 @@ pub record IsBetween (table : List (Option Entry)) (macro : ℕ) (scan : ArgScan
   pub listed : AreListed table scan.args
   pub room : scan.args.count + length (delimiters_of (rest_at table macro scan.cursor)) ≤ 9
 
--- What a token comes to: the answer is what the definition asks for after it, and the scanner goes on behind it.
+-- What a token comes to: the answer is what the definition asks for after it, the list in work is the definition's, and the
+-- scanner goes on behind the token.
 pub record Answers (old_table new_table : List (Option Entry)) (macro : ℕ) (old new : ArgScan) (x : Token) (answer : ArgAsk) : Type 0 where
-  pub answers : answer_of new_table answer (work_in new_table new) ≡ resume old_table macro old (Tok x ∷ [])
+  pub answers : answer_of new_table answer (args_in new_table new.args) (work_of new_table new) ≡ resume old_table macro old (Tok x ∷ [])
+  pub work : work_of new_table new ≡ work_in (resume old_table macro old (Tok x ∷ []))
   pub goes_on : IsOpen answer → Next old_table new_table macro old new x
   pub owns : Owns new_table new
   pub hands : HandsOut new_table answer (scan_holds new)
   pub moves : Moves old_table new_table (scan_holds old) (λ h. scan_holds new h + handed answer h)
   pub kept : Keeps old_table new_table (scan_holds old)
 
--- what the match holds back of the tokens that were read
-abbrev pub held_by : List Token → Option Present → List Token
-held_by ds None = []
-held_by ds (Some p) = take p.matched ds
+-- The memory is full within a growth: the list in work has some of the tokens that go into it, from the first on, and not all.
+pub record IsCutInGrowth (old_table new_table : List (Option Entry)) (macro : ℕ) (old new : ArgScan) (x : Token) : Type 0 where
+  pub was : List Token
+  pub now : List Token
+  pub before : work_of old_table old ≡ Some was
+  pub after : work_of new_table new ≡ Some now
+  pub part : IsGrownByPart was now (growth_of (resume old_table macro old []) (resume old_table macro old (Tok x ∷ [])))
+  pub args : args_in new_table new.args ≡ args_in old_table old.args
 
--- The memory is full. Either the list in work has some of the tokens that go into it, from the first on; or the
--- argument is whole, and the next one's list isn't begun.
+-- The memory is full: within a growth; or the argument is whole, and the next one's list isn't begun.
 pub record IsCutShort (old_table new_table : List (Option Entry)) (macro : ℕ) (old new : ArgScan) (x : Token) : Type 0 where
   pub owns : Owns new_table new
   pub moves : Moves old_table new_table (scan_holds old) (scan_holds new)
   pub kept : Keeps old_table new_table (scan_holds old)
-  pub stage : ((args_in new_table new.args ≡ args_in old_table old.args) × IsGrownByPart (work_in old_table old) (work_in new_table new) (held_by (delimiter_at old_table macro old.cursor) old.present ++ x ∷ []))
-      ⊎ ((new.present ≡ None) × ((fed : List Fed) → resume old_table macro old (Tok x ∷ fed) ≡ arguments new.mode (args_in new_table new.args) (delimiters_of (rest_at new_table macro new.cursor)) fed))
+  pub stage : IsCutInGrowth old_table new_table macro old new x
+      ⊎ ((new.present ≡ None) × ((fed : List Fed) → resume old_table macro old (Tok x ∷ fed) ≡ arguments (par_mode new.mode) (args_in new_table new.args) (delimiters_of (rest_at new_table macro new.cursor)) fed))
 
 -- an argument is being gathered, and its list isn't the macro's
 abbrev pub IsReady : List (Option Entry) → (macro : ℕ) → Cursor → Option Present → Type 0
@@ -162,15 +176,16 @@ TookIn old_table new_table macro cursor mode x taken None new = ⊥
 TookIn old_table new_table macro cursor mode x taken (Some p) None = ⊥
 TookIn old_table new_table macro cursor mode x taken (Some p) (Some q) =
     (build_id q.build ≡ build_id p.build) × IsBuilding new_table q.build × IsOnly old_table new_table (build_id p.build)
-    × Took (delimiter_at old_table macro cursor) (stage_of old_table p) x taken (stage_of new_table q) (case_at (delimiter_at old_table macro cursor) mode (kept_in (stage_of old_table p)) (read_in (delimiter_at old_table macro cursor) (stage_of old_table p)) x)
+    × Took (delimiter_at old_table macro cursor) (stage_of old_table p) x taken (stage_of new_table q) (case_at (delimiter_at old_table macro cursor) (par_mode mode) (kept_in (stage_of old_table p)) (read_in (delimiter_at old_table macro cursor) (stage_of old_table p)) x)
 
 -- the same where the memory is full
-abbrev pub CutIn : (old_table new_table : List (Option Entry)) → (macro : ℕ) → Cursor → Token → (old new : Option Present) → Type 0
-CutIn old_table new_table macro cursor x None new = ⊥
-CutIn old_table new_table macro cursor x (Some p) None = ⊥
-CutIn old_table new_table macro cursor x (Some p) (Some q) =
+abbrev pub CutIn : (old_table new_table : List (Option Entry)) → (macro : ℕ) → Cursor → ParMode → Token → (old new : Option Present) → Type 0
+CutIn old_table new_table macro cursor mode x None new = ⊥
+CutIn old_table new_table macro cursor mode x (Some p) None = ⊥
+CutIn old_table new_table macro cursor mode x (Some p) (Some q) =
     (build_id q.build ≡ build_id p.build) × IsBuilding new_table q.build × IsOnly old_table new_table (build_id p.build)
-    × IsGrownByPart (tokens_at old_table (build_id p.build)) (tokens_at new_table (build_id p.build)) (take p.matched (delimiter_at old_table macro cursor) ++ x ∷ [])
+    × IsGrownByPart (tokens_at old_table (build_id p.build)) (tokens_at new_table (build_id p.build))
+    (gained (delimiter_at old_table macro cursor) (stage_of old_table p) x (case_at (delimiter_at old_table macro cursor) (par_mode mode) (kept_in (stage_of old_table p)) (read_in (delimiter_at old_table macro cursor) (stage_of old_table p)) x))
 
 abbrev pub IsBuildingIn : List (Option Entry) → Option Present → Type 0
 IsBuildingIn table None = ⊥
@@ -190,13 +205,8 @@ pub record IsWhole (table : List (Option Entry)) (macro : ℕ) (scan : ArgScan) 
 -- the list in work becomes an argument, and the delimiter is passed
 pub record Completes (old_table new_table : List (Option Entry)) (macro : ℕ) (old new : ArgScan) : Type 0 where
   pub between : IsBetween new_table macro new
-  pub args : args_in new_table new.args ≡ args_in old_table old.args ++ work_in old_table old ∷ []
+  pub args : args_in new_table new.args ≡ args_in old_table old.args ++ work_tokens old_table old ∷ []
   pub places : delimiters_of (rest_at new_table macro new.cursor) ≡ delimiters_of (rest_at old_table macro old.cursor)
   pub mode : new.mode ≡ old.mode
   pub moves : Moves old_table new_table (scan_holds old) (scan_holds new)
   pub kept : Keeps old_table new_table (scan_holds old)
-
--- how a call begins
-abbrev pub mode_of : Bool → ParMode
-mode_of true = Long
-mode_of false = Short

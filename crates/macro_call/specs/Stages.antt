@@ -3,7 +3,7 @@ use Rattle.std.specs.Prelude.{◌≡◌, ℕ, ◌+◌, ◌<◌, ◌≤◌, true,
 use Rattle.tex_defs.specs.declared.Token.{Token}
 use Rattle.token_lists.specs.Table.{Entry, tokens_at}
 use Rattle.token_lists.specs.Ids.{build_id}
-use Rattle.macro_call.specs.Arguments.{is_begin, open_after, all_close, partial, unmatched, Case, Argument, ExtraBrace, ParEnded, Skipped, Going}
+use Rattle.plain_state.specs.Arguments.{is_begin, open_after, all_close, partial, unmatched, in_work, Case, Argument, ExtraBrace, ParEnded, Skipped, Going}
 use Rattle.macro_call.specs.declared.present.Present.{Present}
 use Rattle.macro_call.specs.declared.present.Step.{Step}
 use Rattle.macro_call.specs.declared.present.Step.TheVariants as step
@@ -73,6 +73,18 @@ GoesOn ds step.ExtraBrace kept t x s = (kept_in s ≡ kept ++ t) × (read_in ds 
 GoesOn ds step.ParEnded kept t x s = s.list ≡ kept ++ t
 GoesOn ds step.Skipped kept t x s = (kept_in s ≡ kept) × (read_in ds s ≡ t) × Stands ds s
 GoesOn ds step.Going kept t x s = (kept_in s ≡ kept) × (read_in ds s ≡ t ++ x ∷ []) × Stands ds s
+
+-- What the list in work becomes by a token: the argument; all that was read in front of the token; or what isn't held back.
+abbrev pub target_at : List Token → (kept t : List Token) → Token → Case → List Token
+target_at ds kept t x (Argument a) = a
+target_at ds kept t x ExtraBrace = kept ++ t
+target_at ds kept t x ParEnded = kept ++ t
+target_at ds kept t x Skipped = in_work ds kept t
+target_at ds kept t x Going = in_work ds kept (t ++ x ∷ [])
+
+-- the tokens that go into it then
+abbrev pub gained : List Token → Stage → Token → Case → List Token
+gained ds s x met = drop (length s.list) (target_at ds (kept_in s) (read_in ds s) x met)
 
 -- what a step at a place comes to
 pub record Took (ds : List Token) (before : Stage) (x : Token) (taken : Step) (after : Stage) (met_case : Case) : Type 0 where

@@ -1,6 +1,7 @@
 // Laws of macro arguments: the functions have no bodies, their contracts are the laws.
 ghost use Rattle.macro_call.specs.ArgumentLaws.{CallsEndAtOnce, ArgumentsAreShortest, DelimitedListsAreBalanced, OneGroupLosesBraces, MatchesRestart};
-ghost use Rattle.macro_call.specs.Rows.{WorkedCalls};
+ghost use Rattle.macro_call.specs.Rows.{WorkedCalls, WorkedGrowths};
+ghost use Rattle.macro_call.specs.Scans.{ScannersHaveLists};
 
 /// What ends a call is decided by the fewest tokens.
 pub fn calls_end_at_once()
@@ -27,7 +28,17 @@ pub fn matches_restart()
     ensures { MatchesRestart }
 {}
 
-/// Worked rows: what some calls come to that a `\par` ends.
+/// Worked rows: what some calls come to.
 pub fn worked_calls()
     ensures { WorkedCalls }
+{}
+
+/// Worked rows: what goes into the list in work by some tokens.
+pub fn worked_growths()
+    ensures { WorkedGrowths }
+{}
+
+/// A scanner that goes on has the arguments and the list in work that the definition answers so far.
+pub fn scanners_have_lists()
+    ensures { ScannersHaveLists }
 {}

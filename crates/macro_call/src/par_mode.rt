@@ -1,6 +1,7 @@
 // How a macro call takes `\par`.
 ghost use Rattle.std.specs.Prelude.{◌≡◌};
-ghost use Rattle.macro_call.specs.Arguments.{is_short, is_checked};
+ghost use Rattle.plain_state.specs.Arguments.{is_short, is_checked};
+ghost use Rattle.macro_call.specs.Modes.{par_mode};
 
 /// Whether a `\par` may stand in the arguments of a call. *The TeXbook*, chapter 20 (`\long`).
 #[derive(Clone, Copy, Debug, PartialEq, Eq)]
@@ -16,7 +17,7 @@ pub enum ParMode {
 impl ParMode {
     /// Whether a `\par` ends the call.
     pub fn is_short(self) -> bool
-        ensures { result ≡ is_short self }
+        ensures { result ≡ is_short (par_mode self) }
     {
         match self {
             ParMode::Long => false,
@@ -27,7 +28,7 @@ impl ParMode {
 
     /// Whether a `\par` that ends the call is lost without a report.
     pub fn is_checked(self) -> bool
-        ensures { result ≡ is_checked self }
+        ensures { result ≡ is_checked (par_mode self) }
     {
         match self {
             ParMode::Long => false,

@@ -7,9 +7,10 @@ ghost use Rattle.macro_args.specs.Args.{cell_tokens};
 ghost use Rattle.macro_call.specs.Holds.{present_holds};
 ghost use Rattle.token_lists.specs.Ids.{id_of, build_id, IsBuilding};
 ghost use Rattle.token_lists.specs.Refusals.{IsFull};
-ghost use Rattle.macro_call.specs.Arguments.{is_end, delimited_case, undelimited_case, case_at};
+ghost use Rattle.plain_state.specs.Arguments.{is_end, delimited_case, undelimited_case, case_at};
 ghost use Rattle.macro_call.specs.Cursors.{IsOn, delimiter_at, rest_at};
-ghost use Rattle.macro_call.specs.Stages.{stage_of, kept_in, read_in, Stands, StandsAt, StandsPlain, Releases, Took};
+ghost use Rattle.macro_call.specs.Modes.{par_mode};
+ghost use Rattle.macro_call.specs.Stages.{stage_of, kept_in, read_in, gained, Stands, StandsAt, StandsPlain, Releases, Took};
 ghost use Rattle.macro_call.specs.Tables.{IsOnly, IsGrownByPart};
 
 use crate::braces::without_braces;
@@ -123,9 +124,10 @@ impl Present {
         ensures building { IsBuilding lists.new self.new.build }
         ensures others { IsOnly lists.old lists.new (build_id self.old.build) }
         ensures account { Moves lists.old lists.new none none }
-        ensures took { IfOk result (λ step. Took [] (stage_of lists.old self.old) x step (stage_of lists.new self.new) (undelimited_case mode (tokens_at lists.old (build_id self.old.build)) x)) }
+        ensures took { IfOk result (λ step. Took [] (stage_of lists.old self.old) x step (stage_of lists.new self.new) (undelimited_case (par_mode mode) (tokens_at lists.old (build_id self.old.build)) x)) }
         ensures full { IfErr result (λ f. IsFull f lists.new) }
-        ensures cut_short { OnErr result (tokens_at lists.new (build_id self.old.build) ≡ tokens_at lists.old (build_id self.old.build)) }
+        ensures unchanged { OnErr result (tokens_at lists.new (build_id self.old.build) ≡ tokens_at lists.old (build_id self.old.build)) }
+        ensures cut_short { OnErr result (IsGrownByPart (tokens_at lists.old (build_id self.old.build)) (tokens_at lists.new (build_id self.old.build)) (gained [] (stage_of lists.old self.old) x (undelimited_case (par_mode mode) (tokens_at lists.old (build_id self.old.build)) x))) }
     {
         if self.depth == 1 && is_end(x) {
             lists.drop_first(&mut self.build);
@@ -151,9 +153,10 @@ impl Present {
         ensures building { IsBuilding lists.new self.new.build }
         ensures others { IsOnly lists.old lists.new (build_id self.old.build) }
         ensures account { Moves lists.old lists.new none none }
-        ensures took { IfOk result (λ step. Took [] (stage_of lists.old self.old) x step (stage_of lists.new self.new) (undelimited_case mode (tokens_at lists.old (build_id self.old.build)) x)) }
+        ensures took { IfOk result (λ step. Took [] (stage_of lists.old self.old) x step (stage_of lists.new self.new) (undelimited_case (par_mode mode) (tokens_at lists.old (build_id self.old.build)) x)) }
         ensures full { IfErr result (λ f. IsFull f lists.new) }
-        ensures cut_short { OnErr result (tokens_at lists.new (build_id self.old.build) ≡ tokens_at lists.old (build_id self.old.build)) }
+        ensures unchanged { OnErr result (tokens_at lists.new (build_id self.old.build) ≡ tokens_at lists.old (build_id self.old.build)) }
+        ensures cut_short { OnErr result (IsGrownByPart (tokens_at lists.old (build_id self.old.build)) (tokens_at lists.new (build_id self.old.build)) (gained [] (stage_of lists.old self.old) x (undelimited_case (par_mode mode) (tokens_at lists.old (build_id self.old.build)) x))) }
     {
         if self.depth > 0 {
             return self.feed_group(lists, mode, x);
@@ -207,9 +210,9 @@ impl Present {
         ensures building { IsBuilding lists.new self.new.build }
         ensures others { IsOnly lists.old lists.new (build_id self.old.build) }
         ensures account { Moves lists.old lists.new none none }
-        ensures took { IfOk result (λ step. Took (delimiter_at lists.old (id_of list.now) delimiter) (stage_of lists.old self.old) x step (stage_of lists.new self.new) (delimited_case (delimiter_at lists.old (id_of list.now) delimiter) mode (kept_in (stage_of lists.old self.old)) (read_in (delimiter_at lists.old (id_of list.now) delimiter) (stage_of lists.old self.old)) x)) }
+        ensures took { IfOk result (λ step. Took (delimiter_at lists.old (id_of list.now) delimiter) (stage_of lists.old self.old) x step (stage_of lists.new self.new) (delimited_case (delimiter_at lists.old (id_of list.now) delimiter) (par_mode mode) (kept_in (stage_of lists.old self.old)) (read_in (delimiter_at lists.old (id_of list.now) delimiter) (stage_of lists.old self.old)) x)) }
         ensures full { IfErr result (λ f. IsFull f lists.new) }
-        ensures cut_short { OnErr result (IsGrownByPart (tokens_at lists.old (build_id self.old.build)) (tokens_at lists.new (build_id self.old.build)) (take self.old.matched (delimiter_at lists.old (id_of list.now) delimiter) ++ x ∷ [])) }
+        ensures cut_short { OnErr result (IsGrownByPart (tokens_at lists.old (build_id self.old.build)) (tokens_at lists.new (build_id self.old.build)) (gained (delimiter_at lists.old (id_of list.now) delimiter) (stage_of lists.old self.old) x (delimited_case (delimiter_at lists.old (id_of list.now) delimiter) (par_mode mode) (kept_in (stage_of lists.old self.old)) (read_in (delimiter_at lists.old (id_of list.now) delimiter) (stage_of lists.old self.old)) x))) }
     {
         let _used = lists.used();
         let depth = behind(self.depth, x);
@@ -252,9 +255,9 @@ impl Present {
         ensures building { IsBuilding lists.new self.new.build }
         ensures others { IsOnly lists.old lists.new (build_id self.old.build) }
         ensures account { Moves lists.old lists.new none none }
-        ensures took { IfOk result (λ step. Took (delimiter_at lists.old (id_of list.now) delimiter) (stage_of lists.old self.old) x step (stage_of lists.new self.new) (delimited_case (delimiter_at lists.old (id_of list.now) delimiter) mode (kept_in (stage_of lists.old self.old)) (read_in (delimiter_at lists.old (id_of list.now) delimiter) (stage_of lists.old self.old)) x)) }
+        ensures took { IfOk result (λ step. Took (delimiter_at lists.old (id_of list.now) delimiter) (stage_of lists.old self.old) x step (stage_of lists.new self.new) (delimited_case (delimiter_at lists.old (id_of list.now) delimiter) (par_mode mode) (kept_in (stage_of lists.old self.old)) (read_in (delimiter_at lists.old (id_of list.now) delimiter) (stage_of lists.old self.old)) x)) }
         ensures full { IfErr result (λ f. IsFull f lists.new) }
-        ensures cut_short { OnErr result (IsGrownByPart (tokens_at lists.old (build_id self.old.build)) (tokens_at lists.new (build_id self.old.build)) (take self.old.matched (delimiter_at lists.old (id_of list.now) delimiter) ++ x ∷ [])) }
+        ensures cut_short { OnErr result (IsGrownByPart (tokens_at lists.old (build_id self.old.build)) (tokens_at lists.new (build_id self.old.build)) (gained (delimiter_at lists.old (id_of list.now) delimiter) (stage_of lists.old self.old) x (delimited_case (delimiter_at lists.old (id_of list.now) delimiter) (par_mode mode) (kept_in (stage_of lists.old self.old)) (read_in (delimiter_at lists.old (id_of list.now) delimiter) (stage_of lists.old self.old)) x))) }
     {
         let _used = lists.used();
         let before = if self.matched > 0 { 0 } else { self.depth };
@@ -275,7 +278,7 @@ impl Present {
     /// Takes a token at a place with this delimiter, which is empty where there is none.
     ///
     /// # Errors
-    /// All words are used; the list in work has some of the tokens that go into it, from the first on.
+    /// All words are used; the list in work has some of the tokens that go into it, from the first on, and not all.
     pub fn feed(
         &mut self,
         lists: &mut Lists,
@@ -292,9 +295,9 @@ impl Present {
         ensures building { IsBuilding lists.new self.new.build }
         ensures others { IsOnly lists.old lists.new (build_id self.old.build) }
         ensures account { Moves lists.old lists.new none none }
-        ensures took { IfOk result (λ step. Took (delimiter_at lists.old (id_of list.now) delimiter) (stage_of lists.old self.old) x step (stage_of lists.new self.new) (case_at (delimiter_at lists.old (id_of list.now) delimiter) mode (kept_in (stage_of lists.old self.old)) (read_in (delimiter_at lists.old (id_of list.now) delimiter) (stage_of lists.old self.old)) x)) }
+        ensures took { IfOk result (λ step. Took (delimiter_at lists.old (id_of list.now) delimiter) (stage_of lists.old self.old) x step (stage_of lists.new self.new) (case_at (delimiter_at lists.old (id_of list.now) delimiter) (par_mode mode) (kept_in (stage_of lists.old self.old)) (read_in (delimiter_at lists.old (id_of list.now) delimiter) (stage_of lists.old self.old)) x)) }
         ensures full { IfErr result (λ f. IsFull f lists.new) }
-        ensures cut_short { OnErr result (IsGrownByPart (tokens_at lists.old (build_id self.old.build)) (tokens_at lists.new (build_id self.old.build)) (take self.old.matched (delimiter_at lists.old (id_of list.now) delimiter) ++ x ∷ [])) }
+        ensures cut_short { OnErr result (IsGrownByPart (tokens_at lists.old (build_id self.old.build)) (tokens_at lists.new (build_id self.old.build)) (gained (delimiter_at lists.old (id_of list.now) delimiter) (stage_of lists.old self.old) x (case_at (delimiter_at lists.old (id_of list.now) delimiter) (par_mode mode) (kept_in (stage_of lists.old self.old)) (read_in (delimiter_at lists.old (id_of list.now) delimiter) (stage_of lists.old self.old)) x))) }
     {
         if delimiter.next_along(lists).is_none() {
             return self.feed_undelimited(lists, mode, x);

@@ -5,9 +5,10 @@ ghost use Rattle.token_lists.specs.Table.{Entry, tokens_at, IsHeld};
 ghost use Rattle.token_lists.specs.Accounts.{Moves, Keeps, none};
 ghost use Rattle.token_lists.specs.Ids.{id_of, build_id};
 ghost use Rattle.token_lists.specs.Refusals.{IsFull};
-ghost use Rattle.macro_call.specs.Arguments.{start_of, delimiters_of, gathering, Fed, Tok, Cut, Settled};
+ghost use Rattle.plain_state.specs.Arguments.{start_of, delimiters_of, gathering, Fed, Tok, Cut, Settled};
 ghost use Rattle.macro_call.specs.Cursors.{IsOn};
-ghost use Rattle.macro_call.specs.Scans.{resume, work_in, scan_holds, Owns, IsSound, answer_of, handed, IsOpen, Next, IsBetween, Enters, mode_of, Answers, IsCutShort, TookIn, CutIn, IsReady, IsWhole, Completes};
+ghost use Rattle.macro_call.specs.Modes.{mode_of};
+ghost use Rattle.macro_call.specs.Scans.{resume, scan_holds, Owns, IsSound, answer_of, handed, IsOpen, Next, IsBetween, Enters, Answers, IsCutShort, TookIn, CutIn, IsReady, IsWhole, Completes};
 
 use crate::cursor::{Cursor, at_first};
 use crate::par_mode::ParMode;
@@ -60,7 +61,7 @@ fn take_step(
     requires on { IsOn lists.old (id_of list.now) cursor }
     requires ready { IsReady lists.old (id_of list.now) cursor present.old }
     ensures took { IfOk result (λ step. TookIn lists.old lists.new (id_of list.now) cursor mode x step present.old present.new) }
-    ensures cut_short { OnErr result (CutIn lists.old lists.new (id_of list.now) cursor x present.old present.new) }
+    ensures cut_short { OnErr result (CutIn lists.old lists.new (id_of list.now) cursor mode x present.old present.new) }
     ensures account { Moves lists.old lists.new none none }
     ensures full { IfErr result (λ f. IsFull f lists.new) }
 {
@@ -199,8 +200,8 @@ impl ArgScan {
     /// stands behind it. After an answer that ends the call, or a refusal, it may only lend its list and be abandoned.
     ///
     /// # Errors
-    /// All words are used: some of the tokens that go into the list in work are in it, or the argument is whole and
-    /// the next one's list isn't begun.
+    /// All words are used: some of the tokens that go into the list in work are in it, from the first on, and not all; or
+    /// the argument is whole, and the next one's list isn't begun.
     pub fn feed(&mut self, lists: &mut Lists, list: &ListRef, seen: Seen) -> Result<ArgAsk, Full>
         requires { IsSound lists.old (id_of list.now) self.old }
         ensures answers { IfOk result (λ answer. Answers lists.old lists.new (id_of list.now) self.old self.new seen.token answer) }

@@ -3,7 +3,7 @@ ghost use Rattle.std.specs.Prelude.{◌≡◌, ◌≤◌, ◌<◌, ◌+◌, ◌+
 ghost use Rattle.tex_defs.specs.declared.Token.TheVariants.{Char, Place, EndPlaces};
 ghost use Rattle.token_lists.specs.Table.{tokens_at, IsHeld};
 ghost use Rattle.token_lists.specs.Ids.{id_of};
-ghost use Rattle.macro_call.specs.Arguments.{start_of, delimiters_of};
+ghost use Rattle.plain_state.specs.Arguments.{start_of, delimiters_of};
 ghost use Rattle.macro_call.specs.Scans.{IsSound};
 
 use crate::builds::store;

@@ -1,6 +1,7 @@
 // What a token is to the matching of arguments.
 ghost use Rattle.std.specs.Prelude.{◌≡◌};
-ghost use Rattle.macro_call.specs.Arguments.{same, is_begin, is_end, is_space, is_par};
+ghost use Rattle.plain_state.specs.Arguments.{same, is_begin, is_end, is_par};
+ghost use Rattle.plain_state.specs.Tokens.{is_space_token};
 
 use tex_defs::{Name, Token};
 
@@ -36,7 +37,7 @@ pub fn is_end(x: Token) -> bool
 
 // A space token.
 pub fn is_space(x: Token) -> bool
-    ensures { result ≡ is_space x }
+    ensures { result ≡ is_space_token x }
 {
     match x {
         Token::Char { cat, code } => cat == 10 && code == 32,

@@ -2,7 +2,7 @@ use Rattle.std.proofs.Common.{◌≡◌, ◌++◌, ◌∷◌, [], ℕ, List, len
 use Rattle.tex_defs.specs.declared.Token.{Token}
 use Rattle.token_lists.specs.Table.{tokens_at}
 use Rattle.token_lists.specs.Ids.{id_of, build_id}
-use Rattle.macro_call.specs.Arguments.{start_of}
+use Rattle.plain_state.specs.Arguments.{start_of}
 use Rattle.macro_call.specs.Cursors.{delimiter_at}
 use Rattle.macro_call.specs.Tables.{IsOnly}
 use Rattle.macro_call.proofs.Fronts.{take_on}
@@ -31,4 +31,4 @@ loop-i-preserved c =
 pub returns-in-Err-clause-err : goal.returns-in-Err-clause-err
 returns-in-Err-clause-err c =
     let unchanged : tokens_at c.store.new.lists (build_id c.args.build.now) ≡ tokens_at c.loop-i.lists (build_id c.args.build.now) = ap (λ t. tokens_at t (build_id c.args.build.now)) c.in-Err.ensures.err in
-    part_of (tokens_at c.args.lists.now (build_id c.args.build.now)) (tokens_at c.store.new.lists (build_id c.args.build.now)) (delimiter_at c.args.lists.now (id_of c.args.list.now) c.args.delimiter) c.loop-i._i c.args.count (omega arith) (unchanged ∙ c.loop-i.invariant.6)
+    part_of (tokens_at c.args.lists.now (build_id c.args.build.now)) (tokens_at c.store.new.lists (build_id c.args.build.now)) (delimiter_at c.args.lists.now (id_of c.args.list.now) c.args.delimiter) c.loop-i._i c.args.count (omega arith) c.requires.inside (unchanged ∙ c.loop-i.invariant.6)

@@ -1,12 +1,13 @@
-use Rattle.std.proofs.Common.{◌≡◌, ◌∷◌, [], ℕ, ◌<◌, ◌≤◌, List, length, sym, ap, ◌∙◌, arith}
+use Rattle.std.proofs.Common.{◌≡◌, ℕ, ◌<◌, ◌≤◌, List, length, sym, ap, ◌∙◌, arith}
 use Rattle.tex_defs.specs.declared.Token.{Token}
 use Rattle.token_lists.specs.Table.{tokens_at}
 use Rattle.token_lists.specs.Ids.{id_of, build_id}
 use Rattle.macro_call.specs.Cursors.{delimiter_at}
+use Rattle.macro_call.specs.Modes.{par_mode}
 use Rattle.macro_call.specs.Stages.{stage_of, Releases}
 use Rattle.macro_call.proofs.Cursors.{delimiter_within}
-use Rattle.macro_call.proofs.Tables.{length_within, part_more}
-use Rattle.macro_call.proofs.Taken.{depth_within, released_by, took_whole, took_brace, not_whole}
+use Rattle.macro_call.proofs.Tables.{length_within}
+use Rattle.macro_call.proofs.Taken.{depth_within, released_by, took_whole, took_brace, cut_brace, not_whole}
 use Rattle.macro_call.proofs.present.Present.feed_delimited.Goals as goal
 use Rattle.macro_call.proofs.present.Present.feed_delimited.Goals.{After-released-out, Joined-self-gt0, then-self-gt0, else-self-gt0}
 
@@ -42,16 +43,20 @@ pub returns-then-completes-clause-took : goal.returns-then-completes-clause-took
 returns-then-completes-clause-took c =
     let ds : List Token = delimiter_at c.args.lists.now (id_of c.args.list.now) c.args.delimiter in
     let p = c.completes.ensures.0 c.if-completes.true in
-    took_whole ds (stage_of c.args.lists.now c.args.self.now) _ c.args.x c.args.mode c.released-out.result c.requires.stands (released (goal.at.returns-then-completes-clause-took c).After-released-out)
+    took_whole ds (stage_of c.args.lists.now c.args.self.now) _ c.args.x (par_mode c.args.mode) c.released-out.result c.requires.stands (released (goal.at.returns-then-completes-clause-took c).After-released-out)
     (ap (tokens_at c.without_braces.new.lists) c.without_braces.ensures.same ∙ c.without_braces.ensures.stripped) p.0 p.1
 
 pub returns-in-Err-clause-cut_short : goal.returns-in-Err-clause-cut_short
-returns-in-Err-clause-cut_short c = part_more _ _ _ (c.args.x ∷ []) c.in-Err.ensures.cut_short
+returns-in-Err-clause-cut_short c =
+    let ds : List Token = delimiter_at c.args.lists.now (id_of c.args.list.now) c.args.delimiter in
+    cut_brace ds (stage_of c.args.lists.now c.args.self.now) c.args.x (par_mode c.args.mode) c.released-out.result c.requires.stands (released (goal.at.returns-in-Err-clause-cut_short c).After-released-out)
+    (not_whole ds c.args.self.now.matched c.released-out.result c.completes.result c.requires.stands.1.fits c.completes.ensures c.if-completes.false) _
+    (sym c.is_end.ensures ∙ c.if-is_end.true) c.if-self-eq0.true c.in-Err.ensures.cut_short
 
 pub returns-then-self-eq0-clause-took : goal.returns-then-self-eq0-clause-took
 returns-then-self-eq0-clause-took c =
     let ds : List Token = delimiter_at c.args.lists.now (id_of c.args.list.now) c.args.delimiter in
-    took_brace ds (stage_of c.args.lists.now c.args.self.now) _ c.args.x c.args.mode c.released-out.result c.requires.stands (released (goal.at.returns-then-self-eq0-clause-took c).After-released-out)
+    took_brace ds (stage_of c.args.lists.now c.args.self.now) _ c.args.x (par_mode c.args.mode) c.released-out.result c.requires.stands (released (goal.at.returns-then-self-eq0-clause-took c).After-released-out)
     (not_whole ds c.args.self.now.matched c.released-out.result c.completes.result c.requires.stands.1.fits c.completes.ensures c.if-completes.false)
     (ap (tokens_at c.keep.new.lists) c.keep.ensures.same ∙ c.in_default.ensures.kept.0)
     (c.in_default.ensures.kept.1 ∙ ap (λ (k : ℕ). length (tokens_at c.keep.new.lists k)) (sym c.keep.ensures.same)) c.in_default.ensures.kept.2 c.in_default.ensures.kept.3
