@@ -4,3 +4,4 @@ pub mod Bounded
 pub mod Does
 pub mod Meaning
 pub mod Rows
+pub mod Numbers

@@ -1,0 +1,43 @@
+-- The same state with other numbers of its macros: what they are called is seen nowhere.
+use Rattle.std.specs.Prelude.{◌≡◌, ℕ, ◌<◌, ◌||◌, true, List, [], length, map, slice_index_or, Option, None, Some}
+use Rattle.tex_defs.specs.declared.Token.{Token}
+use Rattle.tex_defs.specs.declared.Meaning.{Meaning}
+use Rattle.tex_defs.specs.declared.Meaning.TheVariants as means
+use Rattle.plain_state.specs.Puts.{Put, Whole, Own, Macro}
+use Rattle.plain_state.specs.Pending.{Pending, with_puts}
+use Rattle.plain_state.specs.Tables.{is_meant, is_put}
+
+abbrev pub number_of : (ℕ → ℕ) → Option ℕ → Option ℕ
+number_of number None = None
+number_of number (Some n) = Some (number n)
+
+abbrev pub meaning_of : (ℕ → ℕ) → Meaning (Option ℕ) → Meaning (Option ℕ)
+meaning_of number (means.Macro long outer list) = means.Macro long outer (number_of number list)
+meaning_of number m = m
+
+abbrev pub meanings_of : (ℕ → ℕ) → List (Meaning (Option ℕ)) → List (Meaning (Option ℕ))
+meanings_of number cells = map (meaning_of number) cells
+
+abbrev pub whole_of : (ℕ → ℕ) → Whole → Whole
+whole_of number (Own ts) = Own ts
+whole_of number (Macro n) = Macro (number n)
+
+abbrev pub put_of : (ℕ → ℕ) → Put → Put
+put_of number p = record { list = whole_of number p.list; arguments = p.arguments; items = p.items }
+
+abbrev pub puts_of : (ℕ → ℕ) → List Put → List Put
+puts_of number puts = map (put_of number) puts
+
+abbrev pub pending_of : (ℕ → ℕ) → Pending → Pending
+pending_of number p = with_puts (puts_of number p.puts) p
+
+-- a macro that a name means, or whose body is read
+abbrev pub IsHeld : ℕ → List (Meaning (Option ℕ)) → List Put → Type 0
+IsHeld n meanings puts = (is_meant n meanings || is_put n puts) ≡ true
+
+-- Each macro that is held has its list under its other number, and no two have the same.
+pub record Tied (number : ℕ → ℕ) (macros : List (List Token)) (meanings : List (Meaning (Option ℕ))) (puts : List Put) (lists : List (List Token)) : Type 0 where
+  pub inside : (n : ℕ) → IsHeld n meanings puts → n < length lists
+  pub within : (n : ℕ) → IsHeld n meanings puts → number n < length macros
+  pub tokens : (n : ℕ) → IsHeld n meanings puts → slice_index_or macros (number n) [] ≡ slice_index_or lists n []
+  pub apart : (n m : ℕ) → IsHeld n meanings puts → IsHeld m meanings puts → number n ≡ number m → n ≡ m
