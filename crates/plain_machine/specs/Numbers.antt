@@ -4,7 +4,7 @@ use Rattle.tex_defs.specs.declared.Token.{Token}
 use Rattle.tex_defs.specs.declared.Meaning.{Meaning}
 use Rattle.tex_defs.specs.declared.Meaning.TheVariants as means
 use Rattle.plain_state.specs.Puts.{Put, Whole, Own, Macro}
-use Rattle.plain_state.specs.Pending.{Pending, with_puts}
+use Rattle.plain_state.specs.Pending.{Pending, with_puts, Pulled, TokenFrom, LexemeFrom, LineTaken, InvalidMet, FileOver, NothingLeft}
 use Rattle.plain_state.specs.Tables.{is_meant, is_put}
 
 abbrev pub number_of : (ℕ → ℕ) → Option ℕ → Option ℕ
@@ -30,6 +30,14 @@ puts_of number puts = map (put_of number) puts
 
 abbrev pub pending_of : (ℕ → ℕ) → Pending → Pending
 pending_of number p = with_puts (puts_of number p.puts) p
+
+abbrev pub pulled_of : (ℕ → ℕ) → Pulled → Pulled
+pulled_of number (TokenFrom t next) = TokenFrom t (pending_of number next)
+pulled_of number (LexemeFrom x next) = LexemeFrom x (pending_of number next)
+pulled_of number (LineTaken line next) = LineTaken line (pending_of number next)
+pulled_of number (InvalidMet next) = InvalidMet (pending_of number next)
+pulled_of number (FileOver next) = FileOver (pending_of number next)
+pulled_of number NothingLeft = NothingLeft
 
 -- a macro that a name means, or whose body is read
 abbrev pub IsHeld : ℕ → List (Meaning (Option ℕ)) → List Put → Type 0
