@@ -16,7 +16,7 @@ use Rattle.plain_state.specs.Lex.{Lexed, Gives, Invalid, UsedUp, lexed}
 use Rattle.plain_state.specs.Puts.{Item, First, Text, Later, Gap, Whole, Own, Macro, Put, put_top, with_put, settled_top, settled, without_gaps, passed_top, passed, top_item, next_item, put_levels, put_parameters, levels_of, when_some, token_put, call_put}
 use Rattle.plain_state.specs.Pending.{Pending, Progress, NotBegun, Begun, Closed, Pulled, TokenFrom, LexemeFrom, LineTaken, InvalidMet, FileOver, NothingLeft, with_puts, settle, put_front, from_file, from_line, from_list, from_front, pulled, after_pull, read_on}
 use Rattle.plain_state.specs.Meanings.{location, fixed_meaning, frozen_meaning, looked_up, name_meaning, set_at, assigned, seen_as, token_meaning, seen, first_meaning, first_meanings, primitive_count, fixed_locations}
-use Rattle.plain_state.specs.Tables.{whole_words, argument_words, put_words, levels, file_levels, level, opened_level, parameters, file_level, next_line}
+use Rattle.plain_state.specs.Tables.{whole_words, lists_words, argument_words, put_words, made_words, held_words, levels, file_levels, level, opened_level, parameters, file_level, next_line}
 use Rattle.plain_machine.specs.Numbers.{number_of, meaning_of, meanings_of, whole_of, put_of, puts_of, pending_of, pulled_of}
 
 module _ (number : ℕ → ℕ) where
@@ -75,6 +75,9 @@ module _ (number : ℕ → ℕ) where
 
   pub put_words_of : (ps : List Put) → put_words (puts_of number ps) ≡ put_words ps
   put_words_of ps = sums_of (λ p. whole_words p.list + argument_words p.arguments) (λ p. ap (λ (n : ℕ). n + argument_words p.arguments) (whole_words_of p.list)) 0 ps
+
+  pub held_words_of : (ps : List Put) (making : Option (List Token)) (lists : List (List Token)) → held_words (puts_of number ps) making lists ≡ held_words ps making lists
+  held_words_of ps making lists = ap (λ (n : ℕ). n + (made_words making + lists_words lists)) (put_words_of ps)
 
   -- WHAT IS PENDING
 

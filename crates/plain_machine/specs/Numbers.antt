@@ -1,5 +1,5 @@
 -- The same state with other numbers of its macros: what they are called is seen nowhere.
-use Rattle.std.specs.Prelude.{◌≡◌, ℕ, ◌<◌, ◌||◌, true, List, [], length, map, slice_index_or, Option, None, Some}
+use Rattle.std.specs.Prelude.{◌≡◌, ℕ, ◌<◌, ◌==◌, ◌||◌, true, List, [], length, map, slice_index_or, Option, None, Some, if◌then◌else◌}
 use Rattle.tex_defs.specs.declared.Token.{Token}
 use Rattle.tex_defs.specs.declared.Meaning.{Meaning}
 use Rattle.tex_defs.specs.declared.Meaning.TheVariants as means
@@ -38,6 +38,10 @@ pulled_of number (LineTaken line next) = LineTaken line (pending_of number next)
 pulled_of number (InvalidMet next) = InvalidMet (pending_of number next)
 pulled_of number (FileOver next) = FileOver (pending_of number next)
 pulled_of number NothingLeft = NothingLeft
+
+-- the same numbers, but for one
+abbrev pub renumbered : (number : ℕ → ℕ) → (id new : ℕ) → ℕ → ℕ
+renumbered number id new n = if n == id then new else number n
 
 -- a macro that a name means, or whose body is read
 abbrev pub IsHeld : ℕ → List (Meaning (Option ℕ)) → List Put → Type 0
