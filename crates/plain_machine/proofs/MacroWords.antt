@@ -89,8 +89,8 @@ module _ (number : ℕ → ℕ) (macros lists : List (List Token)) where
 
   -- by taking out one at a time
   step : (bound : ℕ) (p q : ℕ → Bool) → Renumbers number macros lists p q → ((n : ℕ) → p n ≡ true → n < suc bound)
-    → ((p' q' : ℕ → Bool) → Renumbers number macros lists p' q' → ((n : ℕ) → p' n ≡ true → n < bound) → tally q' 0 macros ≡ tally p' 0 lists)
-    → (p bound ≡ true) ⊎ (p bound ≡ false) → tally q 0 macros ≡ tally p 0 lists
+      → ((p' q' : ℕ → Bool) → Renumbers number macros lists p' q' → ((n : ℕ) → p' n ≡ true → n < bound) → tally q' 0 macros ≡ tally p' 0 lists)
+      → (p bound ≡ true) ⊎ (p bound ≡ false) → tally q 0 macros ≡ tally p 0 lists
   step bound p q r below fewer (inl h) =
       let k : ℕ = number bound in
       let out : tally q 0 macros ≡ list_words (slice_index_or macros k []) + tally (without k q) 0 macros = tally_out q 0 k k macros (omega arith) (r.forth bound h) (r.within bound h) in
@@ -174,8 +174,12 @@ module _ (number : ℕ → ℕ) where
 pub words_tied : (number : ℕ → ℕ) (macros : List (List Token)) (meanings : List (Meaning (Option ℕ))) (puts : List Put) (lists : List (List Token)) → Tied number macros meanings puts lists → macro_words 0 (meanings_of number meanings) (puts_of number puts) macros ≡ macro_words 0 meanings puts lists
 words_tied number macros meanings puts lists t =
     let r : Renumbers number macros lists (is_held meanings puts) (is_held (meanings_of number meanings) (puts_of number puts)) = record {
-      inside = t.inside; within = t.within; tokens = t.tokens; apart = t.apart;
-      forth = held_forth number meanings puts; back = held_back number meanings puts;
+      inside = t.inside;
+      within = t.within;
+      tokens = t.tokens;
+      apart = t.apart;
+      forth = held_forth number meanings puts;
+      back = held_back number meanings puts;
     } in
     let left : macro_words 0 (meanings_of number meanings) (puts_of number puts) macros ≡ tally (is_held (meanings_of number meanings) (puts_of number puts)) 0 macros = tally_is (meanings_of number meanings) (puts_of number puts) 0 macros in
     let right : macro_words 0 meanings puts lists ≡ tally (is_held meanings puts) 0 lists = tally_is meanings puts 0 lists in

@@ -160,8 +160,8 @@ module _ (number : ℕ → ℕ) (macros : List (List Token)) where
 
     put_held : (x : Put) → ((n : ℕ) → is_whole n x.list ≡ true → IsHeld n meanings puts) → Tied number macros meanings (with_put x puts) lists
     put_held x held = tied_fewer meanings (with_put x puts) (λ n h.
-      ⊎_elim (λ a. or_left (is_meant n meanings) (is_put n puts) a)
-      (λ a. ⊎_elim (λ b. held n b) (λ b. or_right (is_meant n meanings) (is_put n puts) b) (put_with_put n x puts a)) (or_cases (is_meant n meanings) (is_put n (with_put x puts)) h))
+        ⊎_elim (λ a. or_left (is_meant n meanings) (is_put n puts) a)
+        (λ a. ⊎_elim (λ b. held n b) (λ b. or_right (is_meant n meanings) (is_put n puts) b) (put_with_put n x puts a)) (or_cases (is_meant n meanings) (is_put n (with_put x puts)) h))
 
     macro_held : (id : ℕ) (w : Whole) → w ≡ Macro id → IsHeld id meanings puts → (n : ℕ) → is_whole n w ≡ true → IsHeld n meanings puts
     macro_held id w e held n h =
