@@ -6,8 +6,8 @@ use Rattle.tex_defs.specs.declared.Token.{Token}
 use Rattle.tex_defs.specs.declared.Meaning.{Meaning}
 use Rattle.tex_defs.specs.declared.Meaning.TheVariants as means
 use Rattle.plain_state.specs.Puts.{Put, Whole, Own, Macro}
-use Rattle.plain_state.specs.Tables.{list_words, is_number, means_macro, is_meant, is_whole, is_put, macro_words, held_words}
-use Rattle.plain_machine.specs.Numbers.{number_of, meaning_of, meanings_of, whole_of, put_of, puts_of, Tied}
+use Rattle.plain_state.specs.Tables.{list_words, means_macro, is_meant, is_whole, is_put, macro_words, held_words}
+use Rattle.plain_machine.specs.Numbers.{meaning_of, meanings_of, whole_of, puts_of, Tied}
 use Rattle.plain_machine.proofs.Renumbering.{held_words_of}
 
 abbrev is_held : List (Meaning (Option ℕ)) → List Put → ℕ → Bool

@@ -1,6 +1,6 @@
 -- Macros stay under their other numbers: lists are put and read, and a macro is defined.
-use Rattle.std.proofs.Common.{◌≡◌, ℕ, zero, suc, ◌+◌, ◌<◌, ◌≤◌, Bool, true, false, ◌||◌, ◌⊎◌, List, [], ◌∷◌, ◌++◌, map, length, set, replicate, Option, Some, None, refl, ap, ◌∙◌, ⊎_elim, inl, inr, arith}
-use Rattle.std.specs.Prelude.{◌==◌, if◌then◌else◌, slice_index_or}
+use Rattle.std.proofs.Common.{◌≡◌, ℕ, zero, suc, ◌<◌, ◌≤◌, Bool, true, false, ◌||◌, ◌⊎◌, List, [], ◌∷◌, ◌++◌, map, length, set, replicate, Option, Some, None, refl, ap, ◌∙◌, ⊎_elim, inl, inr, arith}
+use Rattle.std.specs.Prelude.{if◌then◌else◌, slice_index_or}
 use Rattle.std.specs.List.{range_with_len}
 use Rattle.std.proofs.lemmas.Bool.{eqb-true, eq-eqb, ne_eqb, or_cases, or_parts, or_left, or_right, cases_eq, false_from_ne_true}
 use Rattle.std.proofs.lemmas.List.{get_or_at, get_or_append_left, length-append}
@@ -9,11 +9,11 @@ use Rattle.tex_defs.specs.declared.Name.{Name}
 use Rattle.tex_defs.specs.declared.Meaning.{Meaning}
 use Rattle.tex_defs.specs.declared.Meaning.TheVariants as means
 use Rattle.plain_state.specs.Lex.{Lexed, Gives, Invalid, UsedUp, lexed}
-use Rattle.plain_state.specs.Puts.{Item, Whole, Own, Macro, Put, put_top, with_put, settled_top, settled, without_gaps, passed_top, passed, token_put}
+use Rattle.plain_state.specs.Puts.{Item, Whole, Own, Macro, Put, put_top, with_put, settled_top, settled, without_gaps, passed_top, passed}
 use Rattle.plain_state.specs.Pending.{Pending, Progress, NotBegun, Begun, Closed, from_file, from_line, from_list, from_front, pulled, after_pull}
 use Rattle.plain_state.specs.Meanings.{location, set_at, assigned, first_meaning, first_meanings, primitive_count, fixed_locations}
 use Rattle.plain_state.specs.Tables.{is_number, means_macro, is_meant, is_whole, is_put}
-use Rattle.plain_machine.specs.Numbers.{number_of, meaning_of, meanings_of, whole_of, put_of, puts_of, pending_of, renumbered, IsHeld, Tied}
+use Rattle.plain_machine.specs.Numbers.{meaning_of, meanings_of, whole_of, put_of, puts_of, renumbered, IsHeld, Tied}
 use Rattle.plain_machine.proofs.Renumbering.{assigned_of}
 use Rattle.plain_machine.proofs.MacroWords.{either}
 
@@ -149,7 +149,7 @@ module _ (number : ℕ → ℕ) (macros : List (List Token)) where
     pub tied_fewer : (meanings' : List (Meaning (Option ℕ))) (puts' : List Put) → ((n : ℕ) → IsHeld n meanings' puts' → IsHeld n meanings puts) → Tied number macros meanings' puts' lists
     tied_fewer meanings' puts' fewer = tied_kept meanings meanings' puts puts' lists lists t (λ n h. (fewer n h, refl)) refl
 
-    tied_puts : (puts' : List Put) → ((n : ℕ) → is_put n puts' ≡ true → is_put n puts ≡ true) → Tied number macros meanings puts' lists
+    pub tied_puts : (puts' : List Put) → ((n : ℕ) → is_put n puts' ≡ true → is_put n puts ≡ true) → Tied number macros meanings puts' lists
     tied_puts puts' fewer = tied_fewer meanings puts' (λ n h. held_more n meanings meanings puts' puts (λ a. a) (fewer n) h)
 
     pub tied_settled : Tied number macros meanings (settled puts) lists
