@@ -207,6 +207,10 @@ delimiters_of (Place c ∷ xs) = start_of xs ∷ delimiters_of xs
 delimiters_of (EndPlaces ∷ xs) = []
 delimiters_of (x ∷ xs) = delimiters_of xs
 
+-- A macro has nine places at most: no further one is looked for.
+abbrev pub places_of : List Token → List (List Token)
+places_of text = take 9 (delimiters_of text)
+
 -- THE CALL
 
 -- What a call is fed with: a token; that a check came here (a file's end or an \outer name); that the extra `}` that
@@ -288,7 +292,7 @@ call mode (d ∷ ds) places (Tok x ∷ fed) = if same x d then call mode ds plac
 
 -- what the call of a macro with this list answers
 abbrev pub gathering : (text : List Token) → ParMode → List Fed → Answer
-gathering text mode fed = call mode (start_of text) (delimiters_of text) fed
+gathering text mode fed = call mode (start_of text) (places_of text) fed
 
 -- the macro has a parameter text: where it has none, nothing is gathered
 abbrev pub has_parameters : (text : List Token) → Bool
