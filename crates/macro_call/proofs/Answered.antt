@@ -1,6 +1,6 @@
 -- What a scanner answers to a token in a place.
-use Rattle.std.proofs.Common.{◌≡◌, ℕ, List, [], ◌∷◌, ◌++◌, drop, Bool, true, false, Option, None, Some, refl, sym, ap, ap₂, subst, ◌∙◌, arith, inl, inr, Result, Ok, Err}
-use Rattle.std.specs.Prelude.{unwrap_or}
+use Rattle.std.proofs.Common.{◌≡◌, ℕ, ◌<◌, length, List, [], ◌∷◌, ◌++◌, drop, Bool, true, false, Option, None, Some, refl, sym, ap, ap₂, subst, ◌∙◌, arith, inl, inr, Result, Ok, Err}
+use Rattle.std.specs.Prelude.{unwrap_or, option_map}
 use Rattle.std.specs.Result.{IfOk, OnErr}
 use Rattle.tex_defs.specs.declared.Full.{Full}
 use Rattle.std.proofs.lemmas.Option.{none-some}
@@ -10,7 +10,7 @@ use Rattle.token_lists.specs.Table.{Entry, tokens_at}
 use Rattle.token_lists.specs.Accounts.{Moves, Keeps, none}
 use Rattle.macro_call.specs.declared.par_mode.ParMode.{ParMode}
 use Rattle.macro_call.specs.declared.par_mode.ParMode.TheVariants.{Short}
-use Rattle.plain_state.specs.Arguments.{delimiters_of, Fed, Tok, Ended, arguments, is_checked, work_in, case_at}
+use Rattle.plain_state.specs.Arguments.{Fed, Tok, Ended, arguments, is_checked, work_in, case_at}
 use Rattle.macro_call.specs.declared.cursor.Cursor.{Cursor}
 use Rattle.macro_call.specs.declared.present.Present.{Present}
 use Rattle.macro_call.specs.declared.present.Step.{Step}
@@ -19,13 +19,16 @@ use Rattle.macro_call.specs.declared.scan.ArgScan.{ArgScan}
 use Rattle.macro_call.specs.declared.scan.ArgAsk.{ArgAsk}
 use Rattle.macro_call.specs.declared.scan.ArgAsk.TheVariants as ask
 use Rattle.macro_args.specs.Args.{args_in}
-use Rattle.macro_call.specs.Cursors.{rest_at, delimiter_at}
+use Rattle.macro_call.specs.Cursors.{delimiter_at}
 use Rattle.macro_call.specs.Modes.{par_mode}
-use Rattle.macro_call.specs.Stages.{stage_of, kept_in, read_in, gained}
+use Rattle.macro_call.specs.Stages.{Stage, stage_of, kept_in, read_in, gained}
 use Rattle.macro_call.specs.Tables.{IsGrownByPart}
-use Rattle.macro_call.specs.Scans.{resume, scan_holds, IsSound, Answers, TookIn, CutIn, IsCutShort, Completes, Enters, work_by, work_tokens}
+use Rattle.macro_call.specs.PlainScans.{Scan, with_work, places_behind}
+use Rattle.macro_call.specs.Scans.{resume, left_at, behind_at, scan_holds, IsSound, Answers, TookIn, CutIn, IsCutShort, Completes, Enters, args_left, args_with, work_by, work_tokens}
+use Rattle.macro_call.specs.Growths.{target_of}
+use Rattle.macro_call.proofs.Growths.{arguments-more}
 use Rattle.macro_call.proofs.Completed.{args_stay, macro_tokens, shared_kept}
-use Rattle.macro_call.proofs.Resumed.{case_on, growth, goes, now_owns, now_moves, here}
+use Rattle.macro_call.proofs.Resumed.{case_on, target, growth, goes, now_owns, now_moves, here}
 
 pub record Parts (old_table table : List (Option Entry)) (macro : ℕ) (cursor : Cursor) (mode : ParMode) (x : Token) (s : Step) (o n : Option Present) : Type 0 where
   pub p : Present
@@ -61,6 +64,8 @@ module _ (old_table table : List (Option Entry)) (macro : ℕ) (old : ArgScan) (
         ∙ ap (λ (us : List (List Token)). Ended (is_checked (par_mode old.mode)) us (kept_in (stage_of old_table t.p) ++ read_in (delimiter_at old_table macro old.cursor) (stage_of old_table t.p)))
         (args_stay old_table table macro old t.p t.was (here old_table table macro old x t.p t.was sound t.took.2 account).0 sound.owns sound.outside t.took.2)
         ∙ sym (case_on old_table table macro old x t.p t.was sound t.took.2 account _ t.took.3.met []);
+    args = args_stay old_table table macro old t.p t.was (here old_table table macro old x t.p t.was sound t.took.2 account).0 sound.owns sound.outside t.took.2
+        ∙ sym (ap args_left (case_on old_table table macro old x t.p t.was sound t.took.2 account _ t.took.3.met []));
     work = ap (work_by table) t.now ∙ ap Some t.took.3.goes_on ∙ sym (ap work_in (case_on old_table table macro old x t.p t.was sound t.took.2 account _ t.took.3.met []));
     goes_on = λ o. absurd o;
     owns = now_owns old_table table macro old x t.p t.was sound t.took.2 account t.q n t.now t.took.0 t.took.1 old.mode false;
@@ -78,9 +83,10 @@ module _ (old_table table : List (Option Entry)) (macro : ℕ) (old : ArgScan) (
     taken_args : args_in table taken.args ≡ args_in old_table old.args
     taken_args = ap (λ (s : ArgScan). args_in table s.args) is ∙ args_stay old_table table macro old t.p t.was building sound.owns sound.outside t.took.2
 
-    taken_places : delimiters_of (rest_at table macro taken.cursor) ≡ delimiters_of (rest_at old_table macro old.cursor)
-    taken_places = ap (λ (s : ArgScan). delimiters_of (rest_at table macro s.cursor)) is
-        ∙ ap (λ (ts : List Token). delimiters_of (drop old.cursor.index ts)) (macro_tokens old_table table macro old t.p t.was building sound.owns sound.outside t.took.2)
+    taken_places : behind_at table macro taken ≡ behind_at old_table macro old
+    taken_places = ap (λ (s : ArgScan). behind_at table macro s) is
+        ∙ ap₂ (λ (us : List (List Token)) (ts : List Token). places_behind us (drop old.cursor.index ts)) (args_stay old_table table macro old t.p t.was building sound.owns sound.outside t.took.2)
+        (macro_tokens old_table table macro old t.p t.was building sound.owns sound.outside t.took.2)
 
     taken_mode : mid.mode ≡ old.mode
     taken_mode = done.mode ∙ ap (λ (s : ArgScan). s.mode) is
@@ -106,15 +112,16 @@ module _ (old_table table : List (Option Entry)) (macro : ℕ) (old : ArgScan) (
       places = λ h l. done.kept.places h (omega (arith, taken_moves h, l)) ∙ taken_kept.places h l;
     }
 
-    whole_on : (fed : List Fed) → resume old_table macro old (Tok x ∷ fed) ≡ arguments (par_mode mid.mode) (args_in between_table mid.args) (delimiters_of (rest_at between_table macro mid.cursor)) fed
+    whole_on : (fed : List Fed) → resume old_table macro old (Tok x ∷ fed) ≡ arguments (par_mode mid.mode) (args_in between_table mid.args) (left_at between_table macro mid) fed
     whole_on fed =
         case_on old_table table macro old x t.p t.was sound t.took.2 account _ t.took.3.met fed
-        ∙ ap (λ (m : ParMode). arguments (par_mode m) (args_in old_table old.args ++ tokens_at table (build_id t.q.build) ∷ []) (delimiters_of (rest_at old_table macro old.cursor)) fed) (sym taken_mode)
+        ∙ ap (λ (m : ParMode). arguments (par_mode m) (args_in old_table old.args ++ tokens_at table (build_id t.q.build) ∷ []) (behind_at old_table macro old) fed) (sym taken_mode)
         ∙ ap₂ (λ (us ps : List (List Token)). arguments (par_mode mid.mode) us ps fed) (sym mid_args) (sym (done.places ∙ taken_places))
 
     pub whole_answers : (new_table : List (Option Entry)) (new : ArgScan) (a : ArgAsk) → Enters between_table new_table macro mid new a → Answers old_table new_table macro old new x a
     whole_answers new_table new a e = record {
       answers = e.answers ∙ sym (whole_on []);
+      args = e.args ∙ sym (ap args_left (whole_on []));
       work = e.work ∙ sym (ap work_in (whole_on []));
       goes_on = λ o. record { sound = e.sound o; same = λ fed. whole_on fed ∙ e.same o fed };
       owns = e.owns;
@@ -126,27 +133,43 @@ module _ (old_table table : List (Option Entry)) (macro : ℕ) (old : ArgScan) (
       };
     }
 
-    whole_cut_mid : IsCutShort old_table between_table macro old mid x
-    whole_cut_mid = record {
+    whole_cut_mid : 0 < length (left_at between_table macro mid) → IsCutShort old_table between_table macro old mid x
+    whole_cut_mid some = record {
       owns = record { covered = done.between.owns; building = λ r e. absurd (no_some r (sym done.between.none ∙ e)) };
       moves = mid_moves;
       kept = mid_kept;
-      stage = inr (done.between.none, whole_on);
+      stage = inr (record {
+        none = done.between.none;
+        mode = taken_mode;
+        settled = done.between.settled;
+        args = mid_args
+            ∙ ap (λ (a : List Token). args_in old_table old.args ++ a ∷ []) (sym (target old_table table macro old x t.p t.was sound t.took.2 account (tokens_at table (build_id t.q.build)) t.took.3.met))
+            ∙ sym (ap (λ (o : Option Present). args_with (option_map (λ s. stage_of old_table s) o) (args_in old_table old.args) (target_of (resume old_table macro old []) (resume old_table macro old (Tok x ∷ [])))) t.was);
+        due = whole_on [] ∙ arguments-more (par_mode mid.mode) (args_in between_table mid.args) (left_at between_table macro mid) some;
+        same = whole_on;
+      });
     }
       where
         no_some : (r : Present) → None ≡ Some r → ⊥
         no_some r e = none-some r e
 
-    pub whole_cut : (new_table : List (Option Entry)) (new : ArgScan) → new_table ≡ between_table → new ≡ mid → IsCutShort old_table new_table macro old new x
-    whole_cut new_table new e f = subst (λ (u : List (Option Entry)). IsCutShort old_table u macro old new x) (sym e) (subst (λ (s : ArgScan). IsCutShort old_table between_table macro old s x) (sym f) whole_cut_mid)
+    pub whole_cut : (new_table : List (Option Entry)) (new : ArgScan) → new_table ≡ between_table → new ≡ mid → 0 < length (left_at between_table macro mid) → IsCutShort old_table new_table macro old new x
+    whole_cut new_table new e f some = subst (λ (u : List (Option Entry)). IsCutShort old_table u macro old new x) (sym e) (subst (λ (s : ArgScan). IsCutShort old_table between_table macro old s x) (sym f) (whole_cut_mid some))
 
     pub whole_ok : (new_table : List (Option Entry)) (new : ArgScan) (r : Result ArgAsk Full) → IfOk r (λ a. Enters between_table new_table macro mid new a) → IfOk r (λ a. Answers old_table new_table macro old new x a)
     whole_ok new_table new (Ok a) h = whole_answers new_table new a h
     whole_ok new_table new (Err f) h = tt
 
-    pub whole_err : (new_table : List (Option Entry)) (new : ArgScan) (r : Result ArgAsk Full) → OnErr r (new_table ≡ between_table) → OnErr r (new ≡ mid) → OnErr r (IsCutShort old_table new_table macro old new x)
-    whole_err new_table new (Ok a) e f = tt
-    whole_err new_table new (Err g) e f = whole_cut new_table new e f
+    pub whole_err : (new_table : List (Option Entry)) (new : ArgScan) (r : Result ArgAsk Full) → OnErr r (new_table ≡ between_table) → OnErr r (new ≡ mid) → OnErr r (0 < length (left_at between_table macro mid)) → OnErr r (IsCutShort old_table new_table macro old new x)
+    whole_err new_table new (Ok a) e f some = tt
+    whole_err new_table new (Err g) e f some = whole_cut new_table new e f some
+
+-- a scanner as plain data, where the argument stands so
+abbrev seen : ArgScan → Stage → List (List Token) → Scan
+seen scan s us = record { at = scan.cursor.index; mode = par_mode scan.mode; braced = scan.braced; present = Some s; args = us }
+
+abbrev seen_at : List (Option Entry) → ArgScan → Option Present → Scan
+seen_at table scan o = record { at = scan.cursor.index; mode = par_mode scan.mode; braced = scan.braced; present = option_map (λ p. stage_of table p) o; args = args_in table scan.args }
 
 -- the memory is full at a step
 pub cut_step : (old_table table : List (Option Entry)) (macro : ℕ) (old : ArgScan) (x : Token) (o n : Option Present) → old.present ≡ o → IsSound old_table macro old → Moves old_table table none none → CutIn old_table table macro old.cursor old.mode x o n →
@@ -155,6 +178,9 @@ cut_step old_table table macro old x None n e sound account h = absurd h
 cut_step old_table table macro old x (Some p) None e sound account h = absurd h
 cut_step old_table table macro old x (Some p) (Some q) e sound account h =
     let building = (here old_table table macro old x p e sound h.2 account).0 in
+    let same_stage : stage_of table q ≡ record { list = tokens_at table (build_id q.build); from = p.from; matched = p.matched; depth = p.depth } =
+    ap₂ (λ (f m : ℕ). record { list = tokens_at table (build_id q.build); from = f; matched = m; depth = q.depth }) h.3.from h.3.matched
+    ∙ ap (λ (d : ℕ). record { list = tokens_at table (build_id q.build); from = p.from; matched = p.matched; depth = d }) h.3.depth in
     let met = case_at (delimiter_at old_table macro old.cursor) (par_mode old.mode) (kept_in (stage_of old_table p)) (read_in (delimiter_at old_table macro old.cursor) (stage_of old_table p)) x in
     record {
       owns = now_owns old_table table macro old x p e sound h.2 account q (Some q) refl h.0 h.1 old.mode old.braced;
@@ -166,7 +192,9 @@ cut_step old_table table macro old x (Some p) (Some q) e sound account h =
         before = ap (work_by old_table) e;
         after = refl;
         part = subst (IsGrownByPart (tokens_at old_table (build_id p.build)) (tokens_at table (build_id q.build))) (sym (growth old_table table macro old x p e sound h.2 account met refl))
-            (subst (λ (i : ℕ). IsGrownByPart (tokens_at old_table (build_id p.build)) (tokens_at table i) (gained (delimiter_at old_table macro old.cursor) (stage_of old_table p) x met)) (sym h.0) h.3);
+            (subst (λ (i : ℕ). IsGrownByPart (tokens_at old_table (build_id p.build)) (tokens_at table i) (gained (delimiter_at old_table macro old.cursor) (stage_of old_table p) x met)) (sym h.0) h.4);
         args = args_stay old_table table macro old p e building sound.owns sound.outside h.2;
+        scan = ap₂ (λ (s : Stage) (us : List (List Token)). seen old s us) same_stage (args_stay old_table table macro old p e building sound.owns sound.outside h.2)
+            ∙ sym (ap (λ (o : Option Present). with_work (seen_at old_table old o) (tokens_at table (build_id q.build))) e);
       });
     }

@@ -1,6 +1,6 @@
 -- The list in work becomes an argument.
 use Rattle.std.specs.Prelude.{unwrap_or}
-use Rattle.std.proofs.Common.{◌≡◌, ◌≢◌, ℕ, ◌+◌, ◌<◌, List, [], ◌∷◌, ◌++◌, length, drop, set, Option, None, Some, refl, sym, ap, ap₂, subst, ◌∙◌, arith}
+use Rattle.std.proofs.Common.{◌≡◌, ◌≢◌, ℕ, ◌+◌, ◌<◌, List, [], ◌∷◌, ◌++◌, length, drop, set, Option, None, Some, refl, sym, ap, subst, ◌∙◌, arith}
 use Rattle.tex_defs.specs.declared.Token.{Token}
 use Rattle.token_lists.specs.declared.ListRef.{ListRef}
 use Rattle.token_lists.specs.Ids.{id_of, build_id, IsBuilding}
@@ -16,8 +16,10 @@ use Rattle.macro_call.specs.Cursors.{IsOn, rest_at, delimiter_at}
 use Rattle.macro_call.specs.Holds.{present_holds}
 use Rattle.macro_call.specs.Listed.{AreListed}
 use Rattle.macro_call.specs.Tables.{IsOnly}
-use Rattle.macro_call.specs.Scans.{scan_holds, IsWhole, IsBuildingIn, work_by, Completes}
+use Rattle.macro_call.specs.PlainScans.{places_left}
+use Rattle.macro_call.specs.Scans.{behind_at, scan_holds, IsWhole, IsBuildingIn, work_by, Completes}
 use Rattle.macro_call.proofs.Entered.{args_kept}
+use Rattle.macro_call.proofs.Places.{left_behind}
 use Rattle.macro_args.proofs.Releases.{holds_own}
 use Rattle.macro_call.proofs.Listed.{listed_kept, kept_listed}
 
@@ -65,7 +67,7 @@ building_in table o p e h = subst (IsBuildingIn table) e h
 module _ (old_table table : List (Option Entry)) (macro : ℕ) (old : ArgScan) (p : Present) (present : old.present ≡ Some p) (whole : IsWhole old_table macro old)
     (others : IsOnly old_table table (build_id p.build)) (cell : Option ListRef) (args : Args) (cursor : Cursor)
     (tokens : cell_tokens table cell ≡ tokens_at old_table (build_id p.build)) (account : Moves old_table table (holds (build_id p.build)) (cell_holds cell))
-    (filled : IsFilled args) (count : args.count ≡ old.args.count + 1) (held : (h : ℕ) → args_hold args h ≡ args_hold old.args h + cell_holds cell h)
+    (filled : IsFilled args) (held : (h : ℕ) → args_hold args h ≡ args_hold old.args h + cell_holds cell h)
     (args_lists : args.lists ≡ set old.args.lists old.args.count cell) (some : (r : ListRef) → cell ≡ Some r → 0 < length (tokens_at table (id_of r)))
     (args_are : args_in table args ≡ args_in table old.args ++ cell_tokens table cell ∷ [])
     (on : IsOn table macro cursor) (ends : delimiter_at table macro cursor ≡ []) (same : delimiters_of (rest_at table macro cursor) ≡ delimiters_of (rest_at table macro old.cursor)) where
@@ -75,8 +77,14 @@ module _ (old_table table : List (Option Entry)) (macro : ℕ) (old : ArgScan) (
   holds_now : (h : ℕ) → scan_holds old h ≡ holds (build_id p.build) h + args_hold old.args h
   holds_now = holds_both old_table table macro old p present building whole.owns whole.outside others
 
-  places : delimiters_of (rest_at table macro cursor) ≡ delimiters_of (rest_at old_table macro old.cursor)
-  places = same ∙ ap (λ (ts : List Token). delimiters_of (drop old.cursor.index ts)) (macro_tokens old_table table macro old p present building whole.owns whole.outside others)
+  args_now : args_in table args ≡ args_in old_table old.args ++ cell_tokens table cell ∷ []
+  args_now = args_are ∙ ap (λ (us : List (List Token)). us ++ cell_tokens table cell ∷ []) (args_stay old_table table macro old p present building whole.owns whole.outside others)
+
+  places : places_left (args_in table args) (rest_at table macro cursor) ≡ behind_at old_table macro old
+  places =
+      ap (λ (us : List (List Token)). places_left us (rest_at table macro cursor)) args_now
+      ∙ left_behind (args_in old_table old.args) (cell_tokens table cell) (rest_at old_table macro old.cursor) (rest_at table macro cursor)
+      (same ∙ ap (λ (ts : List Token). delimiters_of (drop old.cursor.index ts)) (macro_tokens old_table table macro old p present building whole.owns whole.outside others))
 
   pub completed : Completes old_table table macro old (record { cursor = cursor; mode = old.mode; braced = old.braced; present = None; args = args })
   completed = record {
@@ -88,10 +96,9 @@ module _ (old_table table : List (Option Entry)) (macro : ℕ) (old : ArgScan) (
       owns = λ h. omega (arith, whole.owns h, holds_now h, account h, held h);
       outside = omega (arith, whole.outside, holds_now macro, account macro, held macro);
       filled = filled;
-      listed = kept_listed table old.args args cell (omega (arith, whole.room)) args_lists (args_listed old_table table macro old p present building whole.owns whole.outside others whole.listed) some;
-      room = omega (arith, whole.room, count, ap length places);
+      listed = kept_listed table old.args args cell whole.room args_lists (args_listed old_table table macro old p present building whole.owns whole.outside others whole.listed) some;
     };
-    args = args_are ∙ ap₂ (λ (us : List (List Token)) (ts : List Token). us ++ ts ∷ []) (args_stay old_table table macro old p present building whole.owns whole.outside others) (tokens ∙ sym (ap (λ (o : Option Present). unwrap_or (work_by old_table o) []) present));
+    args = args_now ∙ ap (λ (ts : List Token). args_in old_table old.args ++ ts ∷ []) (tokens ∙ sym (ap (λ (o : Option Present). unwrap_or (work_by old_table o) []) present));
     places = places;
     mode = refl;
     moves = λ h. omega (arith, holds_now h, account h, held h);

@@ -5,13 +5,12 @@ use Rattle.std.proofs.lemmas.List.{get_or-set_same}
 use Rattle.std.proofs.lemmas.List.Sums.{sum_by-cons, sum_by-take-le}
 use Rattle.std.proofs.lemmas.Option.{same_Some}
 use Rattle.tex_defs.specs.declared.Token.{Token}
-use Rattle.tex_defs.specs.declared.Token.TheVariants.{Place}
 use Rattle.token_lists.specs.declared.Build.{Build}
 use Rattle.token_lists.specs.declared.ListRef.{ListRef}
 use Rattle.token_lists.specs.Ids.{id_of, build_id, IsBuilding}
 use Rattle.token_lists.specs.Table.{Entry, entry_at, tokens_of, tokens_at, places_of, holders_of, holders_at, empty}
 use Rattle.token_lists.specs.Accounts.{Moves, Covers, none, holds, cell_holds, cells_hold}
-use Rattle.plain_state.specs.Arguments.{start_of, delimiters_of, Fed, More, search, behind, arguments, work_in}
+use Rattle.plain_state.specs.Arguments.{start_of, Fed, More, search, behind, arguments, work_in}
 use Rattle.macro_call.proofs.ArgumentRuns.{arguments_behind}
 use Rattle.macro_args.specs.declared.args.Args.{Args}
 use Rattle.macro_call.specs.declared.cursor.Cursor.{Cursor}
@@ -19,12 +18,13 @@ use Rattle.macro_call.specs.declared.present.Present.{Present}
 use Rattle.macro_call.specs.declared.scan.ArgScan.{ArgScan}
 use Rattle.macro_call.specs.declared.scan.ArgAsk.TheVariants as ask
 use Rattle.macro_args.specs.Args.{cell_tokens, args_in, args_hold}
-use Rattle.macro_call.specs.Cursors.{IsOn, rest_at, delimiter_at}
+use Rattle.macro_call.specs.Cursors.{rest_at, delimiter_at}
 use Rattle.macro_call.specs.Holds.{present_holds}
 use Rattle.macro_call.specs.Modes.{par_mode}
 use Rattle.macro_call.specs.Stages.{Stands, stage_of, kept_in, read_in}
 use Rattle.macro_call.specs.Tables.{IsOnly}
-use Rattle.macro_call.specs.Scans.{resume, scan_holds, IsSound, IsBetween, Enters}
+use Rattle.macro_call.specs.PlainScans.{places_behind}
+use Rattle.macro_call.specs.Scans.{resume, args_left, left_at, scan_holds, IsSound, IsBetween, NextPlace, Enters}
 use Rattle.macro_call.proofs.Delimited.{at_begin}
 use Rattle.macro_args.proofs.Releases.{holds_own}
 use Rattle.macro_call.proofs.Listed.{listed_kept}
@@ -56,8 +56,8 @@ fresh_stands ds list from matched depth l f m d =
 take_nothing : (n : ℕ) (ds : List Token) → n ≡ 0 → take n ds ≡ []
 take_nothing n ds e = ap (λ (k : ℕ). take k ds) e
 
-module _ (old_table table : List (Option Entry)) (macro : ℕ) (old : ArgScan) (next : Cursor) (c : ℕ) (b : Build) (p : Present) (between : IsBetween old_table macro old)
-    (step : rest_at old_table macro old.cursor ≡ Place c ∷ rest_at old_table macro next) (on : IsOn old_table macro next)
+module _ (old_table table : List (Option Entry)) (macro : ℕ) (old : ArgScan) (next : Cursor) (b : Build) (p : Present) (between : IsBetween old_table macro old)
+    (left : NextPlace old_table macro old (Some next))
     (fresh : entry_at old_table (build_id b) ≡ None) (building : IsBuilding table b) (set : table ≡ slice_set old_table (build_id b) (Some empty)) (within : build_id b < length old_table)
     (account : Moves old_table table none (holds (build_id b))) (is : p.build ≡ b) (zeros : (p.from ≡ 0) × (p.matched ≡ 0) × (p.depth ≡ 0)) where
   only : IsOnly old_table table (build_id b)
@@ -91,8 +91,8 @@ module _ (old_table table : List (Option Entry)) (macro : ℕ) (old : ArgScan) (
   same_rest : rest_at table macro next ≡ rest_at old_table macro next
   same_rest = ap (drop next.index) same_tokens
 
-  places : delimiters_of (rest_at old_table macro old.cursor) ≡ delimiter_at table macro next ∷ delimiters_of (rest_at table macro next)
-  places = ap delimiters_of step ∙ ap (λ (xs : List Token). start_of xs ∷ delimiters_of xs) (sym same_rest)
+  places : left_at old_table macro old ≡ delimiter_at table macro next ∷ places_behind (args_in table old.args) (rest_at table macro next)
+  places = left.1 ∙ ap₂ (λ (xs : List Token) (args : List (List Token)). start_of xs ∷ places_behind args xs) (sym same_rest) (sym same_args)
 
   nothing : tokens_at table (build_id p.build) ≡ []
   nothing = ap (tokens_at table) build_is ∙ ap tokens_of (ap (λ (t : List (Option Entry)). entry_at t (build_id b)) set ∙ get_or-set_same old_table (build_id b) (Some empty) None within)
@@ -109,11 +109,11 @@ module _ (old_table table : List (Option Entry)) (macro : ℕ) (old : ArgScan) (
   is_sound : IsSound table macro (record { cursor = next; mode = old.mode; braced = old.braced; present = Some p; args = old.args })
   is_sound = record {
     owns = covers;
-    on = on_kept old_table table (build_id b) macro only macro_apart next on;
+    on = on_kept old_table table (build_id b) macro only macro_apart next left.2;
     outside = omega (arith, account macro, between.outside, old_holds macro, new_holds macro);
     filled = between.filled;
     listed = listed_kept old_table table old.args (λ h l. only.apart h (held_apart h (omega (arith, old_holds h, between.owns h)))) between.listed;
-    in_place = (is_building, stands, omega (arith, between.room, ap length places));
+    in_place = (is_building, stands, left.0);
   }
 
   kept_none : kept_in (stage_of table p) ≡ []
@@ -122,19 +122,20 @@ module _ (old_table table : List (Option Entry)) (macro : ℕ) (old : ArgScan) (
   read_none : read_in (delimiter_at table macro next) (stage_of table p) ≡ []
   read_none = ap₂ (λ (k : ℕ) (ts : List Token). drop k ts ++ take p.matched (delimiter_at table macro next)) zeros.0 nothing ∙ take_nothing p.matched (delimiter_at table macro next) zeros.1
 
-  goes_on : (fed : List Fed) → arguments (par_mode old.mode) (args_in old_table old.args) (delimiters_of (rest_at old_table macro old.cursor)) fed
+  goes_on : (fed : List Fed) → arguments (par_mode old.mode) (args_in old_table old.args) (left_at old_table macro old) fed
       ≡ resume table macro (record { cursor = next; mode = old.mode; braced = old.braced; present = Some p; args = old.args }) fed
   goes_on fed =
       ap (λ (ps : List (List Token)). arguments (par_mode old.mode) (args_in old_table old.args) ps fed) places
-      ∙ arguments_behind (par_mode old.mode) (args_in old_table old.args) (delimiters_of (rest_at table macro next)) (delimiter_at table macro next) fed
-      ∙ ap (λ (args : List (List Token)). behind args (delimiters_of (rest_at table macro next)) (search (delimiter_at table macro next) false (par_mode old.mode) [] [] fed)) (sym same_args)
-      ∙ ap (λ (k : List Token). behind (args_in table old.args) (delimiters_of (rest_at table macro next)) (search (delimiter_at table macro next) false (par_mode old.mode) k [] fed)) (sym kept_none)
-      ∙ ap (λ (t : List Token). behind (args_in table old.args) (delimiters_of (rest_at table macro next)) (search (delimiter_at table macro next) false (par_mode old.mode) (kept_in (stage_of table p)) t fed)) (sym read_none)
-      ∙ ap (λ (s : Bool). behind (args_in table old.args) (delimiters_of (rest_at table macro next)) (search (delimiter_at table macro next) s (par_mode old.mode) (kept_in (stage_of table p)) (read_in (delimiter_at table macro next) (stage_of table p)) fed)) (sym between.settled)
+      ∙ arguments_behind (par_mode old.mode) (args_in old_table old.args) (places_behind (args_in table old.args) (rest_at table macro next)) (delimiter_at table macro next) fed
+      ∙ ap (λ (args : List (List Token)). behind args (places_behind (args_in table old.args) (rest_at table macro next)) (search (delimiter_at table macro next) false (par_mode old.mode) [] [] fed)) (sym same_args)
+      ∙ ap (λ (k : List Token). behind (args_in table old.args) (places_behind (args_in table old.args) (rest_at table macro next)) (search (delimiter_at table macro next) false (par_mode old.mode) k [] fed)) (sym kept_none)
+      ∙ ap (λ (t : List Token). behind (args_in table old.args) (places_behind (args_in table old.args) (rest_at table macro next)) (search (delimiter_at table macro next) false (par_mode old.mode) (kept_in (stage_of table p)) t fed)) (sym read_none)
+      ∙ ap (λ (s : Bool). behind (args_in table old.args) (places_behind (args_in table old.args) (rest_at table macro next)) (search (delimiter_at table macro next) s (par_mode old.mode) (kept_in (stage_of table p)) (read_in (delimiter_at table macro next) (stage_of table p)) fed)) (sym between.settled)
 
   pub entered : Enters old_table table macro old (record { cursor = next; mode = old.mode; braced = old.braced; present = Some p; args = old.args }) ask.More
   entered = record {
     answers = ap₂ (λ (us : List (List Token)) (ts : List Token). More us (Some ts)) same_args nothing ∙ sym (ap (λ (ps : List (List Token)). arguments (par_mode old.mode) (args_in old_table old.args) ps []) places);
+    args = same_args ∙ sym (ap (λ (ps : List (List Token)). args_left (arguments (par_mode old.mode) (args_in old_table old.args) ps [])) places);
     work = ap Some nothing ∙ sym (ap (λ (ps : List (List Token)). work_in (arguments (par_mode old.mode) (args_in old_table old.args) ps [])) places);
     sound = λ o. is_sound;
     same = λ o. goes_on;

@@ -1,10 +1,11 @@
 -- What goes into the list in work, by the case of a token.
-use Rattle.std.proofs.Common.{◌≡◌, List, [], ◌∷◌, ◌++◌, length, drop, Bool, true, false, Some, refl, ap, ◌∙◌, arith}
+use Rattle.std.proofs.Common.{◌≡◌, ◌<◌, List, [], ◌∷◌, ◌++◌, length, drop, Bool, true, false, Some, refl, ap, ◌∙◌, arith}
 use Rattle.std.proofs.lemmas.List.{drop_at, drop_all, append-nil}
 use Rattle.tex_defs.specs.declared.Token.{Token}
-use Rattle.plain_state.specs.Arguments.{ParMode, Case, Argument, ExtraBrace, ParEnded, Skipped, Going, in_work, sought, arguments, behind, arguments_in, work_in}
-use Rattle.macro_call.specs.Growths.{target_by, growth_of}
+use Rattle.plain_state.specs.Arguments.{ParMode, Case, Argument, ExtraBrace, ParEnded, Skipped, Going, in_work, More, sought, arguments, behind, arguments_in, work_in}
+use Rattle.macro_call.specs.Growths.{target_by, target_of, growth_of}
 use Rattle.macro_call.specs.Stages.{target_at}
+use Rattle.macro_call.specs.Scans.{args_left}
 use Rattle.macro_call.proofs.ArgumentRuns.{found_after}
 
 -- what is answered in a place has the list in work and the arguments so far
@@ -15,6 +16,15 @@ work-sought args false ts = refl
 pub arguments-sought : (args : List (List Token)) (braced : Bool) (ts : List Token) → arguments_in (sought args braced ts) ≡ args
 arguments-sought args true ts = refl
 arguments-sought args false ts = refl
+
+-- what is answered where a place is reached
+pub arguments-more : (mode : ParMode) (args places : List (List Token)) → 0 < length places → arguments mode args places [] ≡ More args (Some [])
+arguments-more mode args [] some = absurd (omega (arith, some))
+arguments-more mode args (ds ∷ places) some = refl
+
+pub args-left-sought : (args : List (List Token)) (braced : Bool) (ts : List Token) → args_left (sought args braced ts) ≡ args
+args-left-sought args true ts = refl
+args-left-sought args false ts = refl
 
 arguments-begun : (mode : ParMode) (args places : List (List Token)) → arguments_in (arguments mode args places []) ≡ args
 arguments-begun mode args [] = refl
@@ -32,6 +42,11 @@ module _ (ds : List Token) (mode : ParMode) (kept t : List Token) (x : Token) (a
   target_met ParEnded = ap (λ (us : List (List Token)). target_by us (Some (kept ++ t))) none_more
   target_met Skipped = ap (λ (us : List (List Token)). target_by us (Some (in_work ds kept t))) none_more
   target_met Going = ap (λ (us : List (List Token)). target_by us (Some (in_work ds kept (t ++ x ∷ [])))) none_more
+
+  -- the target is what the list in work becomes
+  pub whole_met : (braced : Bool) (a : List Token) → target_of (sought args braced (in_work ds kept t)) (behind args places (found_after ds mode kept t x [] (Argument a))) ≡ a
+  whole_met true a = target_met (Argument a)
+  whole_met false a = target_met (Argument a)
 
   pub growth_met : (braced : Bool) (met : Case) → growth_of (sought args braced (in_work ds kept t)) (behind args places (found_after ds mode kept t x [] met)) ≡ drop (length (in_work ds kept t)) (target_at ds kept t x met)
   growth_met true met = ap (drop (length (in_work ds kept t))) (target_met met)

@@ -3,7 +3,9 @@ pub mod ArgumentMatches
 pub mod ArgumentRuns
 pub mod ArgumentGroups
 pub mod ArgumentSearch
+pub mod PlainScans
 pub mod Cursors
+pub mod Places
 pub mod Fronts
 pub mod Tables
 pub mod Groups

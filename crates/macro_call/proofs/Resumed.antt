@@ -1,5 +1,6 @@
 -- What a scanner will answer behind a token in a place.
-use Rattle.std.proofs.Common.{◌≡◌, ℕ, ◌+◌, ◌<◌, List, [], ◌∷◌, ◌++◌, length, take, drop, map, Bool, false, Option, None, Some, refl, sym, ap, ap₂, subst, ◌∙◌, arith}
+use Rattle.std.proofs.Common.{◌≡◌, ℕ, ◌+◌, ◌<◌, List, [], ◌∷◌, ◌++◌, length, take, drop, map, Bool, Option, None, Some, refl, sym, ap, ap₂, subst, ◌∙◌, arith}
+use Rattle.std.specs.Prelude.{option_map}
 use Rattle.std.proofs.lemmas.List.{take-append-drop}
 use Rattle.std.proofs.lemmas.Option.{same_Some}
 use Rattle.tex_defs.specs.declared.Token.{Token}
@@ -7,8 +8,7 @@ use Rattle.token_lists.specs.Ids.{build_id, IsBuilding}
 use Rattle.token_lists.specs.Table.{Entry}
 use Rattle.token_lists.specs.Accounts.{Moves, none, holds}
 use Rattle.macro_call.specs.declared.par_mode.ParMode.{ParMode}
-use Rattle.macro_call.specs.declared.par_mode.ParMode.TheVariants as mode
-use Rattle.plain_state.specs.Arguments.{start_of, delimiters_of, unmatched, Checked, Case, Fed, Tok, Cut, Settled, Answer, search, behind, call, case_at, in_work, More, sought, arguments_in, work_in}
+use Rattle.plain_state.specs.Arguments.{start_of, delimiters_of, unmatched, Case, Argument, Fed, Tok, Cut, Settled, Answer, search, behind, call, case_at, in_work, More, sought, arguments_in, work_in}
 use Rattle.plain_state.specs.Arguments as plain
 use Rattle.macro_call.proofs.ArgumentRuns.{search_at, found_after}
 use Rattle.macro_call.specs.declared.present.Present.{Present}
@@ -18,35 +18,19 @@ use Rattle.macro_args.specs.Args.{cell_tokens, args_in, args_hold}
 use Rattle.macro_call.specs.Cursors.{rest_at, delimiter_at}
 use Rattle.macro_call.specs.Holds.{present_holds}
 use Rattle.macro_call.specs.Modes.{par_mode}
-use Rattle.macro_call.specs.Growths.{growth_of}
+use Rattle.macro_call.specs.Growths.{target_of, growth_of}
 use Rattle.macro_call.specs.Stages.{Stage, Stands, stage_of, kept_in, read_in, target_at, gained}
 use Rattle.macro_call.specs.Tables.{IsOnly}
-use Rattle.macro_call.specs.Scans.{resume, resume_by, scan_holds, Owns, IsSound, IsInPlace, Answers, answer_of, work_of, work_by, handed, HandsOut, ScannersHaveLists}
+use Rattle.macro_call.specs.PlainScans.{resume_at, places_behind}
+use Rattle.macro_call.specs.Scans.{scan_of, resume, behind_at, scan_holds, Owns, IsSound, IsInPlace, Answers, answer_of, work_of, work_by, args_left, handed, HandsOut, ScannersHaveLists}
 use Rattle.macro_call.proofs.Completed.{holds_both, args_stay, args_listed, macro_apart, macro_tokens, shared_kept}
-use Rattle.macro_call.proofs.Growths.{work-sought, arguments-sought, growth_met}
+use Rattle.macro_call.proofs.Growths.{work-sought, arguments-sought, args-left-sought, whole_met, growth_met}
 use Rattle.macro_call.proofs.Tables.{on_kept}
 use Rattle.macro_call.proofs.Undelimited.{plain_kept, plain_read, unmatched_nil}
 
--- a check, and a brace that was dealt with
-cut_call : (mode : plain.ParMode) (start : List Token) (places : List (List Token)) (fed : List Fed) → call mode start places (Cut ∷ fed) ≡ call Checked start places fed
-cut_call mode [] [] fed = refl
-cut_call mode [] (ds ∷ places) fed = refl
-cut_call mode (d ∷ ds) places fed = refl
-
-pub cut_by : (table : List (Option Entry)) (macro : ℕ) (scan : ArgScan) (o : Option Present) (fed : List Fed) →
-    resume_by table macro scan o (Cut ∷ fed) ≡ resume_by table macro (record { cursor = scan.cursor; mode = mode.Checked; braced = false; present = scan.present; args = scan.args }) o fed
-cut_by table macro scan None fed = cut_call (par_mode scan.mode) (start_of (rest_at table macro scan.cursor)) (delimiters_of (rest_at table macro scan.cursor)) fed
-cut_by table macro scan (Some p) fed = refl
-
-settle_call : (mode : plain.ParMode) (start : List Token) (places : List (List Token)) (fed : List Fed) → call mode start places (Settled ∷ fed) ≡ call mode start places fed
-settle_call mode [] [] fed = refl
-settle_call mode [] (ds ∷ places) fed = refl
-settle_call mode (d ∷ ds) places fed = refl
-
-pub settle_by : (table : List (Option Entry)) (macro : ℕ) (scan : ArgScan) (o : Option Present) (fed : List Fed) →
-    resume_by table macro scan o (Settled ∷ fed) ≡ resume_by table macro (record { cursor = scan.cursor; mode = scan.mode; braced = false; present = scan.present; args = scan.args }) o fed
-settle_by table macro scan None fed = settle_call (par_mode scan.mode) (start_of (rest_at table macro scan.cursor)) (delimiters_of (rest_at table macro scan.cursor)) fed
-settle_by table macro scan (Some p) fed = refl
+-- what is answered where this is the present argument
+abbrev pub resume_by : List (Option Entry) → (macro : ℕ) → ArgScan → Option Present → List Fed → Answer
+resume_by table macro scan o fed = resume_at (rest_at table macro scan.cursor) (scan_of table scan) (option_map (λ p. stage_of table p) o) fed
 
 -- the list in work is the list of the stage
 works : (ds : List Token) (s : Stage) → Stands ds s → in_work ds (kept_in s) (read_in ds s) ≡ s.list
@@ -64,7 +48,7 @@ front_more mode (d ∷ ds) places some = refl
 lists_by : (table : List (Option Entry)) (macro : ℕ) (scan : ArgScan) (o : Option Present) → IsInPlace table macro scan o →
     (args_in table scan.args ≡ arguments_in (resume_by table macro scan o [])) × (work_by table o ≡ work_in (resume_by table macro scan o []))
 lists_by table macro scan None h =
-    let more = front_more (par_mode scan.mode) (start_of (rest_at table macro scan.cursor)) (delimiters_of (rest_at table macro scan.cursor)) h.2 in
+    let more = front_more (par_mode scan.mode) (start_of (rest_at table macro scan.cursor)) (plain.places_of (rest_at table macro scan.cursor)) h.2 in
     (ap (λ (n : ℕ). map (λ cell. cell_tokens table cell) (take n scan.args.lists)) h.0 ∙ sym (ap arguments_in more), sym (ap work_in more))
 lists_by table macro scan (Some p) h =
     let list = in_work (delimiter_at table macro scan.cursor) (kept_in (stage_of table p)) (read_in (delimiter_at table macro scan.cursor) (stage_of table p)) in (
@@ -90,12 +74,20 @@ module _ (old_table table : List (Option Entry)) (macro : ℕ) (old : ArgScan) (
 
   -- what is answered once the case is known
   pub case_on : (c : Case) → c ≡ case_at (delimiter_at old_table macro old.cursor) (par_mode old.mode) (kept_in (stage_of old_table p)) (read_in (delimiter_at old_table macro old.cursor) (stage_of old_table p)) x → (fed : List Fed) →
-      resume old_table macro old (Tok x ∷ fed) ≡ behind (args_in old_table old.args) (delimiters_of (rest_at old_table macro old.cursor))
+      resume old_table macro old (Tok x ∷ fed) ≡ behind (args_in old_table old.args) (behind_at old_table macro old)
       (found_after (delimiter_at old_table macro old.cursor) (par_mode old.mode) (kept_in (stage_of old_table p)) (read_in (delimiter_at old_table macro old.cursor) (stage_of old_table p)) x fed c)
   case_on c is fed =
       ap (λ (o : Option Present). resume_by old_table macro old o (Tok x ∷ fed)) present
-      ∙ ap (behind (args_in old_table old.args) (delimiters_of (rest_at old_table macro old.cursor)))
+      ∙ ap (behind (args_in old_table old.args) (behind_at old_table macro old))
       (search_at (delimiter_at old_table macro old.cursor) old.braced (par_mode old.mode) (kept_in (stage_of old_table p)) (read_in (delimiter_at old_table macro old.cursor) (stage_of old_table p)) x fed c is)
+
+  -- what it becomes
+  pub target : (a : List Token) → Argument a ≡ case_at (delimiter_at old_table macro old.cursor) (par_mode old.mode) (kept_in (stage_of old_table p)) (read_in (delimiter_at old_table macro old.cursor) (stage_of old_table p)) x →
+      target_of (resume old_table macro old []) (resume old_table macro old (Tok x ∷ [])) ≡ a
+  target a is =
+      ap₂ target_of (ap (λ (o : Option Present). resume_by old_table macro old o []) present) (case_on (Argument a) is [])
+      ∙ whole_met (delimiter_at old_table macro old.cursor) (par_mode old.mode) (kept_in (stage_of old_table p)) (read_in (delimiter_at old_table macro old.cursor) (stage_of old_table p)) x
+      (args_in old_table old.args) (behind_at old_table macro old) old.braced a
 
   -- what goes into the list in work
   pub growth : (met : Case) → met ≡ case_at (delimiter_at old_table macro old.cursor) (par_mode old.mode) (kept_in (stage_of old_table p)) (read_in (delimiter_at old_table macro old.cursor) (stage_of old_table p)) x →
@@ -103,7 +95,7 @@ module _ (old_table table : List (Option Entry)) (macro : ℕ) (old : ArgScan) (
   growth met is =
       ap₂ growth_of (ap (λ (o : Option Present). resume_by old_table macro old o []) present) (case_on met is [])
       ∙ growth_met (delimiter_at old_table macro old.cursor) (par_mode old.mode) (kept_in (stage_of old_table p)) (read_in (delimiter_at old_table macro old.cursor) (stage_of old_table p)) x
-      (args_in old_table old.args) (delimiters_of (rest_at old_table macro old.cursor)) old.braced met
+      (args_in old_table old.args) (behind_at old_table macro old) old.braced met
       ∙ ap (λ (ts : List Token). drop (length ts) (target_at (delimiter_at old_table macro old.cursor) (kept_in (stage_of old_table p)) (read_in (delimiter_at old_table macro old.cursor) (stage_of old_table p)) x met))
       (works (delimiter_at old_table macro old.cursor) (stage_of old_table p) here.1)
 
@@ -123,17 +115,17 @@ module _ (old_table table : List (Option Entry)) (macro : ℕ) (old : ArgScan) (
 
     module _ (mode : ParMode) (braced : Bool) (kept t : List Token) (stands : Stands (delimiter_at old_table macro old.cursor) (stage_of table q)) (k : kept_in (stage_of table q) ≡ kept) (r : read_in (delimiter_at old_table macro old.cursor) (stage_of table q) ≡ t) where
       resumed : (fed : List Fed) → resume_by table macro (record { cursor = old.cursor; mode = mode; braced = braced; present = n; args = old.args }) n fed
-          ≡ behind (args_in old_table old.args) (delimiters_of (rest_at old_table macro old.cursor)) (search (delimiter_at old_table macro old.cursor) braced (par_mode mode) kept t fed)
+          ≡ behind (args_in old_table old.args) (behind_at old_table macro old) (search (delimiter_at old_table macro old.cursor) braced (par_mode mode) kept t fed)
       resumed fed =
           ap (λ (o : Option Present). resume_by table macro (record { cursor = old.cursor; mode = mode; braced = braced; present = n; args = old.args }) o fed) now_present
-          ∙ ap₂ (λ (args : List (List Token)) (rest : List Token). behind args (delimiters_of rest) (search (start_of rest) braced (par_mode mode) (kept_in (stage_of table q)) (read_in (start_of rest) (stage_of table q)) fed)) old_args old_rest
-          ∙ ap₂ (λ (u v : List Token). behind (args_in old_table old.args) (delimiters_of (rest_at old_table macro old.cursor)) (search (delimiter_at old_table macro old.cursor) braced (par_mode mode) u v fed)) k r
+          ∙ ap₂ (λ (args : List (List Token)) (rest : List Token). behind args (places_behind args rest) (search (start_of rest) braced (par_mode mode) (kept_in (stage_of table q)) (read_in (start_of rest) (stage_of table q)) fed)) old_args old_rest
+          ∙ ap₂ (λ (u v : List Token). behind (args_in old_table old.args) (behind_at old_table macro old) (search (delimiter_at old_table macro old.cursor) braced (par_mode mode) u v fed)) k r
 
       now_in_place : IsInPlace table macro (record { cursor = old.cursor; mode = mode; braced = braced; present = n; args = old.args }) (Some q)
       now_in_place = (
         building,
         subst (λ (rest : List Token). Stands (start_of rest) (stage_of table q)) (sym old_rest) stands,
-        subst (λ (rest : List Token). old.args.count + length (delimiters_of rest) < 9) (sym old_rest) here.2,
+        here.2,
       )
 
       now_sound : IsSound table macro (record { cursor = old.cursor; mode = mode; braced = braced; present = n; args = old.args })
@@ -152,10 +144,11 @@ module _ (old_table table : List (Option Entry)) (macro : ℕ) (old : ArgScan) (
 
       pub goes : (a : ArgAsk) → ((args : List (List Token)) (ts : List Token) → answer_of table a args (Some ts) ≡ sought args braced ts) →
           ((h : ℕ) → handed a h ≡ 0) → ((left : ℕ → ℕ) → HandsOut table a left) →
-          ((fed : List Fed) → resume old_table macro old (Tok x ∷ fed) ≡ behind (args_in old_table old.args) (delimiters_of (rest_at old_table macro old.cursor)) (search (delimiter_at old_table macro old.cursor) braced (par_mode mode) kept t fed)) →
+          ((fed : List Fed) → resume old_table macro old (Tok x ∷ fed) ≡ behind (args_in old_table old.args) (behind_at old_table macro old) (search (delimiter_at old_table macro old.cursor) braced (par_mode mode) kept t fed)) →
           Answers old_table table macro old (record { cursor = old.cursor; mode = mode; braced = braced; present = n; args = old.args }) x a
       goes a is gives hands on = record {
         answers = ap₂ (answer_of table a) old_args work ∙ is (args_in old_table old.args) (in_work (delimiter_at old_table macro old.cursor) kept t) ∙ sym (on []);
+        args = old_args ∙ sym (ap args_left (on []) ∙ args-left-sought (args_in old_table old.args) braced (in_work (delimiter_at old_table macro old.cursor) kept t));
         work = work ∙ sym (ap work_in (on []) ∙ work-sought (args_in old_table old.args) braced (in_work (delimiter_at old_table macro old.cursor) kept t));
         goes_on = λ o. record { sound = now_sound; same = λ fed. on fed ∙ sym (resumed fed) };
         owns = now_owns mode braced;

@@ -4,7 +4,7 @@ use Rattle.tex_defs.specs.declared.Token.{Token}
 use Rattle.tex_defs.specs.declared.Token.TheVariants.{Place, EndPlaces}
 use Rattle.token_lists.specs.Table.{Entry, tokens_at}
 use Rattle.token_lists.specs.Accounts.{IsReading}
-use Rattle.plain_state.specs.Arguments.{start_of, delimiters_of}
+use Rattle.plain_state.specs.Arguments.{start_of, delimiters_of, begins_with_place}
 use Rattle.macro_call.specs.declared.cursor.Cursor.{Cursor}
 
 -- the cursor is at a token of the list, or behind the last
@@ -28,6 +28,11 @@ delimiter_at table id cursor = start_of (rest_at table id cursor)
 abbrev pub Steps : List (Option Entry) → ℕ → Cursor → Option (Token × Cursor) → Type 0
 Steps table id cursor None = rest_at table id cursor ≡ []
 Steps table id cursor (Some (token, next)) = (rest_at table id cursor ≡ token ∷ rest_at table id next) × IsOn table id next × (next.index ≡ cursor.index + 1)
+
+-- the place that stands here, and the cursor behind it
+abbrev pub StepsPlace : List (Option Entry) → ℕ → Cursor → Option Cursor → Type 0
+StepsPlace table id cursor None = begins_with_place (rest_at table id cursor) ≡ false
+StepsPlace table id cursor (Some next) = ((c : ℕ) × (rest_at table id cursor ≡ Place c ∷ rest_at table id next)) × IsOn table id next × (next.index ≡ cursor.index + 1)
 
 -- a token that ends a delimiter: a place, or the end mark
 abbrev pub is_mark : Token → Bool

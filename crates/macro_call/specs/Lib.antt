@@ -6,6 +6,7 @@ pub mod Tables
 pub mod Braces
 pub mod Modes
 pub mod Stages
+pub mod PlainScans
 pub mod Holds
 pub mod Listed
 pub mod Scans

@@ -1,11 +1,11 @@
 -- Worked rows: what some calls come to, most of which a `\par` ends, and what goes into the list in work.
-use Rattle.std.specs.Prelude.{◌≡◌, ℕ, true, false, List, [], ◌∷◌, ◌++◌, None, Some}
+use Rattle.std.specs.Prelude.{◌≡◌, ℕ, true, false, List, [], ◌∷◌, ◌++◌, None, Some, replicate}
 use Rattle.tex_defs.specs.declared.Token.{Token}
 use Rattle.tex_defs.specs.declared.Token.TheVariants.{Char, Named, Place, EndPlaces}
 use Rattle.tex_defs.specs.declared.Name.TheVariants.{Word}
 use Rattle.plain_state.specs.Names.{par_primitive}
 use Rattle.macro_call.specs.Growths.{growth_of}
-use Rattle.plain_state.specs.Arguments.{Long, Short, Fed, Tok, Cut, Settled, More, ExtraBraceFound, Ended, gathering}
+use Rattle.plain_state.specs.Arguments.{Long, Short, Fed, Tok, Cut, Settled, More, ExtraBraceFound, Called, Ended, gathering}
 
 abbrev pub letter : ℕ → Token
 letter code = Char 11 code
@@ -29,6 +29,10 @@ one_place = Place 35 ∷ EndPlaces ∷ []
 abbrev pub two_places : List Token
 two_places = letter 98 ∷ Place 35 ∷ Place 35 ∷ EndPlaces ∷ []
 
+-- a list with ten places
+abbrev pub ten_places : List Token
+ten_places = replicate 10 (Place 35) ++ EndPlaces ∷ []
+
 pub record WorkedCalls : Type 0 where
   -- in front of the first place there is no list yet
   pub in_front : gathering two_places Short [] ≡ More [] None
@@ -46,6 +50,8 @@ pub record WorkedCalls : Type 0 where
   -- xa}: the brace isn't in the list, and the `\par` that is put behind it ends a \long macro's call too
   pub braced : gathering up_to_ab Long (Tok (letter 120) ∷ Tok (letter 97) ∷ Tok right ∷ []) ≡ ExtraBraceFound [] (letter 120 ∷ letter 97 ∷ [])
   pub behind_brace : gathering up_to_ab Long (Tok (letter 120) ∷ Tok (letter 97) ∷ Tok right ∷ Settled ∷ Tok par ∷ []) ≡ Ended false [] (letter 120 ∷ letter 97 ∷ [])
+  -- behind the ninth argument no further place is looked for
+  pub tenth : gathering ten_places Short (replicate 9 (Tok (letter 120))) ≡ Called (replicate 9 (letter 120 ∷ []))
   -- behind a check the same without a report
   pub checked : gathering one_place Long (Tok left ∷ Tok (letter 120) ∷ Cut ∷ Tok par ∷ []) ≡ Ended true [] (left ∷ letter 120 ∷ [])
 

@@ -1,11 +1,11 @@
--- What a scanner will answer on what is still to come.
-use Rattle.std.specs.Prelude.{false, ◌≡◌, ◌≢◌, ℕ, ◌+◌, ◌<◌, ◌≤◌, List, [], ◌∷◌, ◌++◌, ◌⊎◌, Option, None, Some, option_map, unwrap_or, length}
+-- A scanner, what it has of the call, and what a token does to it.
+use Rattle.std.specs.Prelude.{false, ◌≡◌, ◌≢◌, ℕ, ◌+◌, ◌<◌, List, [], ◌∷◌, ◌++◌, ◌⊎◌, Option, None, Some, option_map, unwrap_or, length}
 use Rattle.tex_defs.specs.declared.Token.{Token}
 use Rattle.token_lists.specs.Table.{Entry, holders_at, tokens_at}
 use Rattle.token_lists.specs.Accounts.{Covers, Moves, Keeps}
 use Rattle.token_lists.specs.Ids.{build_id, IsBuilding}
 use Rattle.macro_call.specs.declared.par_mode.ParMode.{ParMode}
-use Rattle.plain_state.specs.Arguments.{start_of, delimiters_of, Fed, Tok, Answer, More, ExtraBraceFound, Called, Mismatch, Ended, search, behind, case_at, arguments, gathering, arguments_in, work_in}
+use Rattle.plain_state.specs.Arguments.{Fed, Tok, Answer, More, ExtraBraceFound, Called, Mismatch, Ended, case_at, arguments, arguments_in, work_in}
 use Rattle.macro_args.specs.declared.args.Args.{Args}
 use Rattle.macro_call.specs.declared.cursor.Cursor.{Cursor}
 use Rattle.macro_call.specs.declared.present.Present.{Present}
@@ -19,25 +19,30 @@ use Rattle.macro_call.specs.Holds.{present_holds}
 use Rattle.macro_call.specs.Listed.{AreListed}
 use Rattle.macro_call.specs.Modes.{par_mode}
 use Rattle.macro_call.specs.Tables.{IsGrownByPart, IsOnly}
-use Rattle.macro_call.specs.Growths.{growth_of}
-use Rattle.macro_call.specs.Stages.{stage_of, Stands, Took, gained, kept_in, read_in}
+use Rattle.macro_call.specs.Growths.{target_of, growth_of}
+use Rattle.macro_call.specs.Stages.{Stage, stage_of, IsSamePoint, Stands, Took, gained, kept_in, read_in}
+use Rattle.macro_call.specs.PlainScans.{Scan, with_work, resume_scan, scan_work, places_left, places_behind}
 
--- in front of the first place the rest of the parameter text is matched; in a place its delimiter is sought
-abbrev pub resume_by : List (Option Entry) → (macro : ℕ) → ArgScan → Option Present → List Fed → Answer
-resume_by table macro scan None fed = gathering (rest_at table macro scan.cursor) (par_mode scan.mode) fed
-resume_by table macro scan (Some p) fed =
-    behind (args_in table scan.args) (delimiters_of (rest_at table macro scan.cursor))
-    (search (delimiter_at table macro scan.cursor) scan.braced (par_mode scan.mode) (kept_in (stage_of table p)) (read_in (delimiter_at table macro scan.cursor) (stage_of table p)) fed)
+-- the scanner as plain data
+abbrev pub scan_of : List (Option Entry) → ArgScan → Scan
+scan_of table scan = record { at = scan.cursor.index; mode = par_mode scan.mode; braced = scan.braced; present = option_map (λ p. stage_of table p) scan.present; args = args_in table scan.args }
 
 abbrev pub resume : List (Option Entry) → (macro : ℕ) → ArgScan → List Fed → Answer
-resume table macro scan fed = resume_by table macro scan scan.present fed
+resume table macro scan fed = resume_scan (tokens_at table macro) (scan_of table scan) fed
+
+-- the places from its cursor on, and those behind the present one
+abbrev pub left_at : List (Option Entry) → (macro : ℕ) → ArgScan → List (List Token)
+left_at table macro scan = places_left (args_in table scan.args) (rest_at table macro scan.cursor)
+
+abbrev pub behind_at : List (Option Entry) → (macro : ℕ) → ArgScan → List (List Token)
+behind_at table macro scan = places_behind (args_in table scan.args) (rest_at table macro scan.cursor)
 
 -- the list in work, if an argument is being gathered
 abbrev pub work_by : List (Option Entry) → Option Present → Option (List Token)
-work_by table present = option_map (λ p. tokens_at table (build_id p.build)) present
+work_by table present = option_map (λ s. s.list) (option_map (λ p. stage_of table p) present)
 
 abbrev pub work_of : List (Option Entry) → ArgScan → Option (List Token)
-work_of table scan = work_by table scan.present
+work_of table scan = scan_work (scan_of table scan)
 
 -- its tokens
 abbrev pub work_tokens : List (Option Entry) → ArgScan → List Token
@@ -49,8 +54,8 @@ scan_holds scan h = present_holds scan.present h + args_hold scan.args h
 
 -- in front of the first place a token is left to be matched; in a place the list in work stands for what was read
 abbrev pub IsInPlace : List (Option Entry) → (macro : ℕ) → ArgScan → Option Present → Type 0
-IsInPlace table macro scan None = (scan.args.count ≡ 0) × (scan.braced ≡ false) × (0 < length (start_of (rest_at table macro scan.cursor))) × (length (delimiters_of (rest_at table macro scan.cursor)) ≤ 9)
-IsInPlace table macro scan (Some p) = IsBuilding table p.build × Stands (delimiter_at table macro scan.cursor) (stage_of table p) × (scan.args.count + length (delimiters_of (rest_at table macro scan.cursor)) < 9)
+IsInPlace table macro scan None = (scan.args.count ≡ 0) × (scan.braced ≡ false) × (0 < length (delimiter_at table macro scan.cursor))
+IsInPlace table macro scan (Some p) = IsBuilding table p.build × Stands (delimiter_at table macro scan.cursor) (stage_of table p) × (scan.args.count < 9)
 
 -- what the scanner holds is counted, and its lists may be released
 pub record Owns (table : List (Option Entry)) (scan : ArgScan) : Type 0 where
@@ -109,6 +114,14 @@ IsOpen (ask.Called args) = ⊥
 IsOpen ask.Mismatch = ⊥
 IsOpen (ask.ParEnded silent) = ⊥
 
+-- the arguments that a scanner has left: those of its answer, or none once they are handed out
+abbrev pub args_left : Answer → List (List Token)
+args_left (More args work) = args
+args_left (ExtraBraceFound args work) = args
+args_left (Called args) = []
+args_left Mismatch = []
+args_left (Ended silent args work) = args
+
 -- the scanner stands behind x: what comes after any further tokens is what the one before would have answered
 pub record Next (old_table new_table : List (Option Entry)) (macro : ℕ) (old new : ArgScan) (x : Token) : Type 0 where
   pub sound : IsSound new_table macro new
@@ -116,10 +129,11 @@ pub record Next (old_table new_table : List (Option Entry)) (macro : ℕ) (old n
 
 -- Behind the tokens in front of the first place, or behind a delimiter: the next place is entered, or the call is made.
 pub record Enters (old_table new_table : List (Option Entry)) (macro : ℕ) (old new : ArgScan) (answer : ArgAsk) : Type 0 where
-  pub answers : answer_of new_table answer (args_in new_table new.args) (work_of new_table new) ≡ arguments (par_mode old.mode) (args_in old_table old.args) (delimiters_of (rest_at old_table macro old.cursor)) []
-  pub work : work_of new_table new ≡ work_in (arguments (par_mode old.mode) (args_in old_table old.args) (delimiters_of (rest_at old_table macro old.cursor)) [])
+  pub answers : answer_of new_table answer (args_in new_table new.args) (work_of new_table new) ≡ arguments (par_mode old.mode) (args_in old_table old.args) (left_at old_table macro old) []
+  pub args : args_in new_table new.args ≡ args_left (arguments (par_mode old.mode) (args_in old_table old.args) (left_at old_table macro old) [])
+  pub work : work_of new_table new ≡ work_in (arguments (par_mode old.mode) (args_in old_table old.args) (left_at old_table macro old) [])
   pub sound : IsOpen answer → IsSound new_table macro new
-  pub same : IsOpen answer → (fed : List Fed) → arguments (par_mode old.mode) (args_in old_table old.args) (delimiters_of (rest_at old_table macro old.cursor)) fed ≡ resume new_table macro new fed
+  pub same : IsOpen answer → (fed : List Fed) → arguments (par_mode old.mode) (args_in old_table old.args) (left_at old_table macro old) fed ≡ resume new_table macro new fed
   pub owns : Owns new_table new
   pub hands : HandsOut new_table answer (scan_holds new)
   pub moves : Moves old_table new_table (scan_holds old) (λ h. scan_holds new h + handed answer h)
@@ -135,12 +149,18 @@ pub record IsBetween (table : List (Option Entry)) (macro : ℕ) (scan : ArgScan
   pub outside : scan_holds scan macro < holders_at table macro
   pub filled : IsFilled scan.args
   pub listed : AreListed table scan.args
-  pub room : scan.args.count + length (delimiters_of (rest_at table macro scan.cursor)) ≤ 9
 
--- What a token comes to: the answer is what the definition asks for after it, the list in work is the definition's, and the
--- scanner goes on behind the token.
+-- the next place of a scanner between two places, and the cursor behind it
+abbrev pub NextPlace : List (Option Entry) → (macro : ℕ) → ArgScan → Option Cursor → Type 0
+NextPlace table macro scan None = left_at table macro scan ≡ []
+NextPlace table macro scan (Some next) =
+    (scan.args.count < 9) × (left_at table macro scan ≡ delimiter_at table macro next ∷ places_behind (args_in table scan.args) (rest_at table macro next)) × IsOn table macro next
+
+-- What a token comes to: the answer is what the definition asks for after it, the arguments and the list in work are the
+-- definition's, and the scanner goes on behind the token.
 pub record Answers (old_table new_table : List (Option Entry)) (macro : ℕ) (old new : ArgScan) (x : Token) (answer : ArgAsk) : Type 0 where
   pub answers : answer_of new_table answer (args_in new_table new.args) (work_of new_table new) ≡ resume old_table macro old (Tok x ∷ [])
+  pub args : args_in new_table new.args ≡ args_left (resume old_table macro old (Tok x ∷ []))
   pub work : work_of new_table new ≡ work_in (resume old_table macro old (Tok x ∷ []))
   pub goes_on : IsOpen answer → Next old_table new_table macro old new x
   pub owns : Owns new_table new
@@ -148,7 +168,8 @@ pub record Answers (old_table new_table : List (Option Entry)) (macro : ℕ) (ol
   pub moves : Moves old_table new_table (scan_holds old) (λ h. scan_holds new h + handed answer h)
   pub kept : Keeps old_table new_table (scan_holds old)
 
--- The memory is full within a growth: the list in work has some of the tokens that go into it, from the first on, and not all.
+-- The memory is full within a growth: the list in work has some of the tokens that go into it, from the first on, and not all,
+-- and nothing else of the scanner has changed.
 pub record IsCutInGrowth (old_table new_table : List (Option Entry)) (macro : ℕ) (old new : ArgScan) (x : Token) : Type 0 where
   pub was : List Token
   pub now : List Token
@@ -156,14 +177,29 @@ pub record IsCutInGrowth (old_table new_table : List (Option Entry)) (macro : �
   pub after : work_of new_table new ≡ Some now
   pub part : IsGrownByPart was now (growth_of (resume old_table macro old []) (resume old_table macro old (Tok x ∷ [])))
   pub args : args_in new_table new.args ≡ args_in old_table old.args
+  pub scan : scan_of new_table new ≡ with_work (scan_of old_table old) now
 
--- The memory is full: within a growth; or the argument is whole, and the next one's list isn't begun.
+-- the arguments where this became one, if it was gathered
+abbrev pub args_with : (present : Option Stage) → (args : List (List Token)) → (a : List Token) → List (List Token)
+args_with None args a = args
+args_with (Some s) args a = args ++ a ∷ []
+
+-- The memory is full in front of a place: what stands before it has come, so the argument that was gathered is whole, and the
+-- next one's list, which would be answered, isn't begun.
+pub record IsCutBetween (old_table new_table : List (Option Entry)) (macro : ℕ) (old new : ArgScan) (x : Token) : Type 0 where
+  pub none : new.present ≡ None
+  pub mode : new.mode ≡ old.mode
+  pub settled : new.braced ≡ false
+  pub args : args_in new_table new.args ≡ args_with (scan_of old_table old).present (args_in old_table old.args) (target_of (resume old_table macro old []) (resume old_table macro old (Tok x ∷ [])))
+  pub due : resume old_table macro old (Tok x ∷ []) ≡ More (args_in new_table new.args) (Some [])
+  pub same : (fed : List Fed) → resume old_table macro old (Tok x ∷ fed) ≡ arguments (par_mode new.mode) (args_in new_table new.args) (left_at new_table macro new) fed
+
+-- The memory is full: within a growth, or in front of a place.
 pub record IsCutShort (old_table new_table : List (Option Entry)) (macro : ℕ) (old new : ArgScan) (x : Token) : Type 0 where
   pub owns : Owns new_table new
   pub moves : Moves old_table new_table (scan_holds old) (scan_holds new)
   pub kept : Keeps old_table new_table (scan_holds old)
-  pub stage : IsCutInGrowth old_table new_table macro old new x
-      ⊎ ((new.present ≡ None) × ((fed : List Fed) → resume old_table macro old (Tok x ∷ fed) ≡ arguments (par_mode new.mode) (args_in new_table new.args) (delimiters_of (rest_at new_table macro new.cursor)) fed))
+  pub stage : IsCutInGrowth old_table new_table macro old new x ⊎ IsCutBetween old_table new_table macro old new x
 
 -- an argument is being gathered, and its list isn't the macro's
 abbrev pub IsReady : List (Option Entry) → (macro : ℕ) → Cursor → Option Present → Type 0
@@ -184,7 +220,7 @@ CutIn old_table new_table macro cursor mode x None new = ⊥
 CutIn old_table new_table macro cursor mode x (Some p) None = ⊥
 CutIn old_table new_table macro cursor mode x (Some p) (Some q) =
     (build_id q.build ≡ build_id p.build) × IsBuilding new_table q.build × IsOnly old_table new_table (build_id p.build)
-    × IsGrownByPart (tokens_at old_table (build_id p.build)) (tokens_at new_table (build_id p.build))
+    × IsSamePoint p q × IsGrownByPart (tokens_at old_table (build_id p.build)) (tokens_at new_table (build_id p.build))
     (gained (delimiter_at old_table macro cursor) (stage_of old_table p) x (case_at (delimiter_at old_table macro cursor) (par_mode mode) (kept_in (stage_of old_table p)) (read_in (delimiter_at old_table macro cursor) (stage_of old_table p)) x))
 
 abbrev pub IsBuildingIn : List (Option Entry) → Option Present → Type 0
@@ -200,13 +236,13 @@ pub record IsWhole (table : List (Option Entry)) (macro : ℕ) (scan : ArgScan) 
   pub outside : scan_holds scan macro < holders_at table macro
   pub filled : IsFilled scan.args
   pub listed : AreListed table scan.args
-  pub room : scan.args.count + length (delimiters_of (rest_at table macro scan.cursor)) < 9
+  pub room : scan.args.count < 9
 
 -- the list in work becomes an argument, and the delimiter is passed
 pub record Completes (old_table new_table : List (Option Entry)) (macro : ℕ) (old new : ArgScan) : Type 0 where
   pub between : IsBetween new_table macro new
   pub args : args_in new_table new.args ≡ args_in old_table old.args ++ work_tokens old_table old ∷ []
-  pub places : delimiters_of (rest_at new_table macro new.cursor) ≡ delimiters_of (rest_at old_table macro old.cursor)
+  pub places : left_at new_table macro new ≡ behind_at old_table macro old
   pub mode : new.mode ≡ old.mode
   pub moves : Moves old_table new_table (scan_holds old) (scan_holds new)
   pub kept : Keeps old_table new_table (scan_holds old)

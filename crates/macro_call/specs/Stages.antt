@@ -19,6 +19,12 @@ pub record Stage : Type 0 where
 abbrev pub stage_of : List (Option Entry) → Present → Stage
 stage_of table present = record { list = tokens_at table (build_id present.build); from = present.from; matched = present.matched; depth = present.depth }
 
+-- all but the list is as it was
+pub record IsSamePoint (old new : Present) : Type 0 where
+  pub from : new.from ≡ old.from
+  pub matched : new.matched ≡ old.matched
+  pub depth : new.depth ≡ old.depth
+
 -- what stood in front of the last extra brace
 abbrev pub kept_in : Stage → List Token
 kept_in s = take s.from s.list

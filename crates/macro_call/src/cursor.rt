@@ -3,7 +3,7 @@ ghost use Rattle.std.specs.Prelude.{◌≡◌, ◌<◌, [], ℕ, length, Some};
 ghost use Rattle.token_lists.specs.Table.{IsHeld};
 ghost use Rattle.token_lists.specs.Ids.{id_of, build_id};
 ghost use Rattle.plain_state.specs.Arguments.{delimiters_of};
-ghost use Rattle.macro_call.specs.Cursors.{IsOn, IsSomewhere, Steps, StepsAlong, delimiter_at, rest_at, is_mark};
+ghost use Rattle.macro_call.specs.Cursors.{IsOn, IsSomewhere, Steps, StepsAlong, StepsPlace, delimiter_at, rest_at, is_mark};
 
 use mem_words::Place;
 use tex_defs::Token;
@@ -60,6 +60,17 @@ impl Cursor {
             index: self.index + 1,
         };
         Some((lists.token(place), next))
+    }
+
+    /// The place behind the macro's place that stands here, if one does.
+    pub fn behind_place(self, lists: &Lists) -> Option<Cursor>
+        requires { IsSomewhere lists.now self }
+        ensures { (id : ℕ) → IsOn lists.now id self → StepsPlace lists.now id self result }
+    {
+        match self.next(lists) {
+            Some((Token::Place(_), next)) => Some(next),
+            _ => None,
+        }
     }
 
     /// The same along a delimiter, which ends before the next place and the end mark.

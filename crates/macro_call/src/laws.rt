@@ -1,5 +1,6 @@
 // Laws of macro arguments: the functions have no bodies, their contracts are the laws.
 ghost use Rattle.macro_call.specs.ArgumentLaws.{CallsEndAtOnce, ArgumentsAreShortest, DelimitedListsAreBalanced, OneGroupLosesBraces, MatchesRestart};
+ghost use Rattle.macro_call.specs.PlainScans.{ScansGather};
 ghost use Rattle.macro_call.specs.Rows.{WorkedCalls, WorkedGrowths};
 ghost use Rattle.macro_call.specs.Scans.{ScannersHaveLists};
 
@@ -36,6 +37,11 @@ pub fn worked_calls()
 /// Worked rows: what goes into the list in work by some tokens.
 pub fn worked_growths()
     ensures { WorkedGrowths }
+{}
+
+/// Scanners as plain data answer what the definition asks for, from the first token on and behind checks.
+pub fn scans_gather()
+    ensures { ScansGather }
 {}
 
 /// A scanner that goes on has the arguments and the list in work that the definition answers so far.

@@ -19,7 +19,7 @@ mod tokens;
 pub use cursor::Cursor;
 pub use laws::{
     arguments_are_shortest, calls_end_at_once, delimited_lists_are_balanced, matches_restart,
-    one_group_loses_braces, scanners_have_lists, worked_calls, worked_growths,
+    one_group_loses_braces, scanners_have_lists, scans_gather, worked_calls, worked_growths,
 };
 pub use par_mode::ParMode;
 pub use present::{Present, Step};

@@ -10,7 +10,7 @@ ghost use Rattle.token_lists.specs.Refusals.{IsFull};
 ghost use Rattle.plain_state.specs.Arguments.{is_end, delimited_case, undelimited_case, case_at};
 ghost use Rattle.macro_call.specs.Cursors.{IsOn, delimiter_at, rest_at};
 ghost use Rattle.macro_call.specs.Modes.{par_mode};
-ghost use Rattle.macro_call.specs.Stages.{stage_of, kept_in, read_in, gained, Stands, StandsAt, StandsPlain, Releases, Took};
+ghost use Rattle.macro_call.specs.Stages.{stage_of, kept_in, read_in, gained, IsSamePoint, Stands, StandsAt, StandsPlain, Releases, Took};
 ghost use Rattle.macro_call.specs.Tables.{IsOnly, IsGrownByPart};
 
 use crate::braces::without_braces;
@@ -108,6 +108,7 @@ impl Present {
         ensures kept { IfOk result (λ _. (tokens_at lists.new (build_id self.old.build) ≡ tokens_at lists.old (build_id self.old.build) ++ take self.old.matched (delimiter_at lists.old (id_of list.now) delimiter)) × (self.new.from ≡ length (tokens_at lists.new (build_id self.old.build))) × (self.new.matched ≡ 0) × (self.new.depth ≡ self.old.depth)) }
         ensures full { IfErr result (λ f. IsFull f lists.new) }
         ensures cut_short { OnErr result (IsGrownByPart (tokens_at lists.old (build_id self.old.build)) (tokens_at lists.new (build_id self.old.build)) (take self.old.matched (delimiter_at lists.old (id_of list.now) delimiter))) }
+        ensures stays { OnErr result (IsSamePoint self.old self.new) }
     {
         store_front(lists, list, &mut self.build, delimiter, self.matched)?;
         self.from = built_len(lists, &self.build);
@@ -128,6 +129,7 @@ impl Present {
         ensures full { IfErr result (λ f. IsFull f lists.new) }
         ensures unchanged { OnErr result (tokens_at lists.new (build_id self.old.build) ≡ tokens_at lists.old (build_id self.old.build)) }
         ensures cut_short { OnErr result (IsGrownByPart (tokens_at lists.old (build_id self.old.build)) (tokens_at lists.new (build_id self.old.build)) (gained [] (stage_of lists.old self.old) x (undelimited_case (par_mode mode) (tokens_at lists.old (build_id self.old.build)) x))) }
+        ensures stays { OnErr result (IsSamePoint self.old self.new) }
     {
         if self.depth == 1 && is_end(x) {
             lists.drop_first(&mut self.build);
@@ -157,6 +159,7 @@ impl Present {
         ensures full { IfErr result (λ f. IsFull f lists.new) }
         ensures unchanged { OnErr result (tokens_at lists.new (build_id self.old.build) ≡ tokens_at lists.old (build_id self.old.build)) }
         ensures cut_short { OnErr result (IsGrownByPart (tokens_at lists.old (build_id self.old.build)) (tokens_at lists.new (build_id self.old.build)) (gained [] (stage_of lists.old self.old) x (undelimited_case (par_mode mode) (tokens_at lists.old (build_id self.old.build)) x))) }
+        ensures stays { OnErr result (IsSamePoint self.old self.new) }
     {
         if self.depth > 0 {
             return self.feed_group(lists, mode, x);
@@ -213,6 +216,7 @@ impl Present {
         ensures took { IfOk result (λ step. Took (delimiter_at lists.old (id_of list.now) delimiter) (stage_of lists.old self.old) x step (stage_of lists.new self.new) (delimited_case (delimiter_at lists.old (id_of list.now) delimiter) (par_mode mode) (kept_in (stage_of lists.old self.old)) (read_in (delimiter_at lists.old (id_of list.now) delimiter) (stage_of lists.old self.old)) x)) }
         ensures full { IfErr result (λ f. IsFull f lists.new) }
         ensures cut_short { OnErr result (IsGrownByPart (tokens_at lists.old (build_id self.old.build)) (tokens_at lists.new (build_id self.old.build)) (gained (delimiter_at lists.old (id_of list.now) delimiter) (stage_of lists.old self.old) x (delimited_case (delimiter_at lists.old (id_of list.now) delimiter) (par_mode mode) (kept_in (stage_of lists.old self.old)) (read_in (delimiter_at lists.old (id_of list.now) delimiter) (stage_of lists.old self.old)) x))) }
+        ensures stays { OnErr result (IsSamePoint self.old self.new) }
     {
         let _used = lists.used();
         let depth = behind(self.depth, x);
@@ -258,6 +262,7 @@ impl Present {
         ensures took { IfOk result (λ step. Took (delimiter_at lists.old (id_of list.now) delimiter) (stage_of lists.old self.old) x step (stage_of lists.new self.new) (delimited_case (delimiter_at lists.old (id_of list.now) delimiter) (par_mode mode) (kept_in (stage_of lists.old self.old)) (read_in (delimiter_at lists.old (id_of list.now) delimiter) (stage_of lists.old self.old)) x)) }
         ensures full { IfErr result (λ f. IsFull f lists.new) }
         ensures cut_short { OnErr result (IsGrownByPart (tokens_at lists.old (build_id self.old.build)) (tokens_at lists.new (build_id self.old.build)) (gained (delimiter_at lists.old (id_of list.now) delimiter) (stage_of lists.old self.old) x (delimited_case (delimiter_at lists.old (id_of list.now) delimiter) (par_mode mode) (kept_in (stage_of lists.old self.old)) (read_in (delimiter_at lists.old (id_of list.now) delimiter) (stage_of lists.old self.old)) x))) }
+        ensures stays { OnErr result (IsSamePoint self.old self.new) }
     {
         let _used = lists.used();
         let before = if self.matched > 0 { 0 } else { self.depth };
@@ -298,6 +303,7 @@ impl Present {
         ensures took { IfOk result (λ step. Took (delimiter_at lists.old (id_of list.now) delimiter) (stage_of lists.old self.old) x step (stage_of lists.new self.new) (case_at (delimiter_at lists.old (id_of list.now) delimiter) (par_mode mode) (kept_in (stage_of lists.old self.old)) (read_in (delimiter_at lists.old (id_of list.now) delimiter) (stage_of lists.old self.old)) x)) }
         ensures full { IfErr result (λ f. IsFull f lists.new) }
         ensures cut_short { OnErr result (IsGrownByPart (tokens_at lists.old (build_id self.old.build)) (tokens_at lists.new (build_id self.old.build)) (gained (delimiter_at lists.old (id_of list.now) delimiter) (stage_of lists.old self.old) x (case_at (delimiter_at lists.old (id_of list.now) delimiter) (par_mode mode) (kept_in (stage_of lists.old self.old)) (read_in (delimiter_at lists.old (id_of list.now) delimiter) (stage_of lists.old self.old)) x))) }
+        ensures stays { OnErr result (IsSamePoint self.old self.new) }
     {
         if delimiter.next_along(lists).is_none() {
             return self.feed_undelimited(lists, mode, x);

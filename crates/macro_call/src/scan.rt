@@ -1,14 +1,16 @@
 // A call: the tokens in front of the first place, and the places.
-ghost use Rattle.std.specs.Prelude.{◌≡◌, Option, ◌≤◌, ◌<◌, ◌+◌, ◌∷◌, [], ℕ, List, IfOk, IfErr, OnErr, length, None, ◌≢◌};
+ghost use Rattle.std.specs.Prelude.{◌≡◌, Option, ◌<◌, ◌+◌, ◌∷◌, [], ℕ, List, IfOk, IfErr, OnErr, length, None, ◌≢◌};
 ghost use Rattle.std.specs.Option.{option_map};
 ghost use Rattle.token_lists.specs.Table.{Entry, tokens_at, IsHeld};
 ghost use Rattle.token_lists.specs.Accounts.{Moves, Keeps, none};
 ghost use Rattle.token_lists.specs.Ids.{id_of, build_id};
 ghost use Rattle.token_lists.specs.Refusals.{IsFull};
 ghost use Rattle.plain_state.specs.Arguments.{start_of, delimiters_of, gathering, Fed, Tok, Cut, Settled};
-ghost use Rattle.macro_call.specs.Cursors.{IsOn};
+ghost use Rattle.macro_args.specs.Args.{IsFilled};
+ghost use Rattle.macro_call.specs.Cursors.{IsOn, delimiter_at};
 ghost use Rattle.macro_call.specs.Modes.{mode_of};
-ghost use Rattle.macro_call.specs.Scans.{resume, scan_holds, Owns, IsSound, answer_of, handed, IsOpen, Next, IsBetween, Enters, Answers, IsCutShort, TookIn, CutIn, IsReady, IsWhole, Completes};
+ghost use Rattle.macro_call.specs.PlainScans.{first_scan, cut_scan, settled_scan};
+ghost use Rattle.macro_call.specs.Scans.{scan_of, resume, scan_holds, Owns, IsSound, answer_of, handed, IsOpen, Next, IsBetween, NextPlace, left_at, Enters, Answers, IsCutShort, TookIn, CutIn, IsReady, IsWhole, Completes};
 
 use crate::cursor::{Cursor, at_first};
 use crate::par_mode::ParMode;
@@ -72,6 +74,19 @@ fn take_step(
 }
 
 impl ArgScan {
+    // Behind the next place, if there is one. No place is looked for behind the ninth argument.
+    fn next_place(&self, lists: &Lists, list: &ListRef) -> Option<Cursor>
+        requires on { IsOn lists.now (id_of list.now) self.now.cursor }
+        requires ends { delimiter_at lists.now (id_of list.now) self.now.cursor ≡ [] }
+        requires filled { IsFilled self.now.args }
+        ensures { NextPlace lists.now (id_of list.now) self.now result }
+    {
+        if self.args.count == 9 {
+            return None;
+        }
+        self.cursor.behind_place(lists)
+    }
+
     // Behind the tokens in front of the first place, or behind a delimiter: the next argument's list is begun as its
     // place is reached.
     fn enter(&mut self, lists: &mut Lists, list: &ListRef) -> Result<ArgAsk, Full>
@@ -79,9 +94,10 @@ impl ArgScan {
         ensures enters { IfOk result (λ answer. Enters lists.old lists.new (id_of list.now) self.old self.new answer) }
         ensures err { OnErr result (lists.new ≡ lists.old) }
         ensures unchanged { OnErr result (self.new ≡ self.old) }
+        ensures place { OnErr result (0 < length (left_at lists.old (id_of list.now) self.old)) }
         ensures full { IfErr result (λ f. IsFull f lists.new) }
     {
-        let Some((Token::Place(_), next)) = self.cursor.next(lists) else {
+        let Some(next) = self.next_place(lists, list) else {
             let args = mem::replace(&mut self.args, Args::none());
             return Ok(ArgAsk::Called(args));
         };
@@ -157,15 +173,15 @@ impl ArgScan {
     }
 
     /// A call of a macro begins, whose list is this one: `long` tells whether it is `\long`. Where the parameter text
-    /// begins with a place, the first argument's list is begun.
+    /// begins with a place, the first argument's list is begun. Behind nine arguments no further place is looked for.
     ///
     /// # Errors
     /// All words are used; nothing has changed.
     pub fn new(lists: &mut Lists, list: &ListRef, long: bool) -> Result<ArgScan, Full>
         requires held { IsHeld lists.old (id_of list.now) }
         requires some { 0 < length (start_of (tokens_at lists.old (id_of list.now))) + length (delimiters_of (tokens_at lists.old (id_of list.now))) }
-        requires nine { length (delimiters_of (tokens_at lists.old (id_of list.now))) ≤ 9 }
         ensures sound { IfOk result (λ scan. IsSound lists.new (id_of list.now) scan) }
+        ensures plain { IfOk result (λ scan. scan_of lists.new scan ≡ first_scan (tokens_at lists.old (id_of list.now)) (mode_of long)) }
         ensures stands { IfOk result (λ scan. (fed : List Fed) → resume lists.new (id_of list.now) scan fed ≡ gathering (tokens_at lists.old (id_of list.now)) (mode_of long) fed) }
         ensures account { IfOk result (λ scan. Moves lists.old lists.new none (scan_holds scan)) }
         ensures kept { Keeps lists.old lists.new none }
@@ -174,7 +190,7 @@ impl ArgScan {
     {
         let mut cursor = at_first(lists, list);
         let mut present = None;
-        if let Some((Token::Place(_), next)) = cursor.next(lists) {
+        if let Some(next) = cursor.behind_place(lists) {
             match lists.begin() {
                 Ok(build) => {
                     let none = mem::replace(&mut present, Some(Present::new(build)));
@@ -200,8 +216,8 @@ impl ArgScan {
     /// stands behind it. After an answer that ends the call, or a refusal, it may only lend its list and be abandoned.
     ///
     /// # Errors
-    /// All words are used: some of the tokens that go into the list in work are in it, from the first on, and not all; or
-    /// the argument is whole, and the next one's list isn't begun.
+    /// All words are used: some of the tokens that go into the list in work are in it, from the first on, and not all, and
+    /// nothing else has changed; or the argument is whole, and the next one's list isn't begun.
     pub fn feed(&mut self, lists: &mut Lists, list: &ListRef, seen: Seen) -> Result<ArgAsk, Full>
         requires { IsSound lists.old (id_of list.now) self.old }
         ensures answers { IfOk result (λ answer. Answers lists.old lists.new (id_of list.now) self.old self.new seen.token answer) }
@@ -218,6 +234,7 @@ impl ArgScan {
     /// and a `\par` that ends the call has no report.
     pub fn cut(&mut self)
         ensures sound { (table : List (Option Entry)) (macro : ℕ) → IsSound table macro self.old → IsSound table macro self.new }
+        ensures plain { (table : List (Option Entry)) → scan_of table self.new ≡ cut_scan (scan_of table self.old) }
         ensures stands { (table : List (Option Entry)) (macro : ℕ) (fed : List Fed) → resume table macro self.old (Cut ∷ fed) ≡ resume table macro self.new fed }
         ensures same { scan_holds self.new ≡ scan_holds self.old }
     {
@@ -228,6 +245,7 @@ impl ArgScan {
     /// The extra brace that was answered was put back and reported.
     pub fn settle(&mut self)
         ensures sound { (table : List (Option Entry)) (macro : ℕ) → IsSound table macro self.old → IsSound table macro self.new }
+        ensures plain { (table : List (Option Entry)) → scan_of table self.new ≡ settled_scan (scan_of table self.old) }
         ensures stands { (table : List (Option Entry)) (macro : ℕ) (fed : List Fed) → resume table macro self.old (Settled ∷ fed) ≡ resume table macro self.new fed }
         ensures same { scan_holds self.new ≡ scan_holds self.old }
     {

@@ -1,5 +1,5 @@
 // A call with one argument, begun, fed and spent.
-ghost use Rattle.std.specs.Prelude.{◌≡◌, ◌≤◌, ◌<◌, ◌+◌, ◌++◌, ◌∷◌, [], length, IfSome};
+ghost use Rattle.std.specs.Prelude.{◌≡◌, ◌<◌, ◌+◌, ◌++◌, ◌∷◌, [], length, IfSome};
 ghost use Rattle.tex_defs.specs.declared.Token.TheVariants.{Char, Place, EndPlaces};
 ghost use Rattle.token_lists.specs.Table.{tokens_at, IsHeld};
 ghost use Rattle.token_lists.specs.Ids.{id_of};
@@ -24,7 +24,6 @@ fn seen(token: Token) -> Seen {
 fn told(lists: &mut Lists, list: &ListRef, seen: Seen) -> (usize, bool)
     requires held { IsHeld lists.old (id_of list.now) }
     requires some { 0 < length (start_of (tokens_at lists.old (id_of list.now))) + length (delimiters_of (tokens_at lists.old (id_of list.now))) }
-    requires nine { length (delimiters_of (tokens_at lists.old (id_of list.now))) ≤ 9 }
     ensures { IsHeld lists.new (id_of list.now) }
 {
     let mut scan = match ArgScan::new(lists, list, false) {
@@ -65,7 +64,6 @@ fn told(lists: &mut Lists, list: &ListRef, seen: Seen) -> (usize, bool)
 fn works(lists: &mut Lists, list: &ListRef) -> bool
     requires held { IsHeld lists.old (id_of list.now) }
     requires some { 0 < length (start_of (tokens_at lists.old (id_of list.now))) + length (delimiters_of (tokens_at lists.old (id_of list.now))) }
-    requires nine { length (delimiters_of (tokens_at lists.old (id_of list.now))) ≤ 9 }
     ensures { IsHeld lists.new (id_of list.now) }
 {
     let mut scan = match ArgScan::new(lists, list, true) {
@@ -202,7 +200,6 @@ fn called(scan: ArgScan, lists: &mut Lists, list: &ListRef, token: Token) -> Opt
 fn delimited(lists: &mut Lists, list: &ListRef) -> Option<(usize, u32)>
     requires held { IsHeld lists.old (id_of list.now) }
     requires some { 0 < length (start_of (tokens_at lists.old (id_of list.now))) + length (delimiters_of (tokens_at lists.old (id_of list.now))) }
-    requires nine { length (delimiters_of (tokens_at lists.old (id_of list.now))) ≤ 9 }
     ensures { IsHeld lists.new (id_of list.now) }
 {
     let scan = match ArgScan::new(lists, list, false) {

@@ -9,8 +9,3 @@ pub works-begun-requires-clause-some : goal.works-begun-requires-clause-some
 works-begun-requires-clause-some g c =
     let e : tokens_at c.one_place.new.lists (id_of c.in-Some.list) ≡ Place 35 ∷ EndPlaces ∷ [] = c.in-Some.ensures.tokens ∙ ap (λ (ts : List Token). ts ++ Place 35 ∷ EndPlaces ∷ []) c.in-Some.ensures.fresh in
     rw e (omega arith)
-
-pub works-begun-requires-clause-nine : goal.works-begun-requires-clause-nine
-works-begun-requires-clause-nine g c =
-    let e : tokens_at c.one_place.new.lists (id_of c.in-Some.list) ≡ Place 35 ∷ EndPlaces ∷ [] = c.in-Some.ensures.tokens ∙ ap (λ (ts : List Token). ts ++ Place 35 ∷ EndPlaces ∷ []) c.in-Some.ensures.fresh in
-    rw e (omega arith)

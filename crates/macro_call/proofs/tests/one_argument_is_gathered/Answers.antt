@@ -9,8 +9,3 @@ pub told-taken-requires-clause-some : goal.told-taken-requires-clause-some
 told-taken-requires-clause-some g c =
     let e : tokens_at c.one_place.new.lists (id_of c.in-Some.list) ≡ Place 35 ∷ EndPlaces ∷ [] = c.in-Some.ensures.tokens ∙ ap (λ (ts : List Token). ts ++ Place 35 ∷ EndPlaces ∷ []) c.in-Some.ensures.fresh in
     rw e (omega arith)
-
-pub told-taken-requires-clause-nine : goal.told-taken-requires-clause-nine
-told-taken-requires-clause-nine g c =
-    let e : tokens_at c.one_place.new.lists (id_of c.in-Some.list) ≡ Place 35 ∷ EndPlaces ∷ [] = c.in-Some.ensures.tokens ∙ ap (λ (ts : List Token). ts ++ Place 35 ∷ EndPlaces ∷ []) c.in-Some.ensures.fresh in
-    rw e (omega arith)

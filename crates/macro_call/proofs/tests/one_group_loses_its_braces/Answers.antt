@@ -9,8 +9,3 @@ pub delimited-told-requires-clause-some : goal.delimited-told-requires-clause-so
 delimited-told-requires-clause-some g c =
     let e : tokens_at c.point_ends.new.lists (id_of c.in-Some.list) ≡ Place 35 ∷ Char 12 46 ∷ EndPlaces ∷ [] = c.in-Some.ensures.tokens ∙ ap (λ (ts : List Token). ts ++ Place 35 ∷ Char 12 46 ∷ EndPlaces ∷ []) c.in-Some.ensures.fresh in
     rw e (omega arith)
-
-pub delimited-told-requires-clause-nine : goal.delimited-told-requires-clause-nine
-delimited-told-requires-clause-nine g c =
-    let e : tokens_at c.point_ends.new.lists (id_of c.in-Some.list) ≡ Place 35 ∷ Char 12 46 ∷ EndPlaces ∷ [] = c.in-Some.ensures.tokens ∙ ap (λ (ts : List Token). ts ++ Place 35 ∷ Char 12 46 ∷ EndPlaces ∷ []) c.in-Some.ensures.fresh in
-    rw e (omega arith)

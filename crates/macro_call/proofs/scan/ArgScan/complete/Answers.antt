@@ -26,7 +26,7 @@ returns c =
     c.finish-cell.result c.keep.new.self c.behind_delimiter-self.result
     (ap (λ (t : List (Option Entry)). cell_tokens t c.finish-cell.result) same ∙ c.finish-cell.ensures.tokens)
     (λ h. ap (λ (t : List (Option Entry)). holders_at t h + holds c.in-Some.present.build.id h) same ∙ c.finish-cell.ensures.account h)
-    c.keep.ensures.filled c.keep.ensures.count c.keep.ensures.account c.keep.ensures.lists
+    c.keep.ensures.filled c.keep.ensures.account c.keep.ensures.lists
     (λ r is. subst (λ (t : List (Option Entry)). 0 < length (tokens_at t (id_of r))) (sym same) (listed c.finish-cell.new.lists c.finish-cell.result r is c.finish-cell.ensures.listed))
     (c.keep.ensures.tokens ∙ ap (λ (t : List (Option Entry)). args_in t old.args ++ cell_tokens t c.finish-cell.result ∷ []) (sym same))
     c.behind_delimiter-self.ensures.on c.behind_delimiter-self.ensures.ends c.behind_delimiter-self.ensures.same)
