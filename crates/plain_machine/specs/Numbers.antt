@@ -4,8 +4,9 @@ use Rattle.tex_defs.specs.declared.Token.{Token}
 use Rattle.tex_defs.specs.declared.Meaning.{Meaning}
 use Rattle.tex_defs.specs.declared.Meaning.TheVariants as means
 use Rattle.plain_state.specs.Puts.{Put, Whole, Own, Macro}
-use Rattle.plain_state.specs.Pending.{Pending, with_puts, Pulled, TokenFrom, LexemeFrom, LineTaken, InvalidMet, FileOver, NothingLeft}
-use Rattle.plain_state.specs.Tables.{is_meant, is_put}
+use Rattle.plain_state.specs.Pending.{Pending, with_puts, put_front, pulled, Pulled, TokenFrom, LexemeFrom, LineTaken, InvalidMet, FileOver, NothingLeft}
+use Rattle.plain_state.specs.Tables.{is_meant, is_put, macro_words}
+use Rattle.plain_state.specs.Meanings.{seen}
 
 abbrev pub number_of : (ℕ → ℕ) → Option ℕ → Option ℕ
 number_of number None = None
@@ -53,3 +54,11 @@ pub record Tied (number : ℕ → ℕ) (macros : List (List Token)) (meanings : 
   pub within : (n : ℕ) → IsHeld n meanings puts → number n < length macros
   pub tokens : (n : ℕ) → IsHeld n meanings puts → slice_index_or macros (number n) [] ≡ slice_index_or lists n []
   pub apart : (n m : ℕ) → IsHeld n meanings puts → IsHeld m meanings puts → number n ≡ number m → n ≡ m
+
+-- What macros are called is seen nowhere: not in what is read, nor in what names mean, nor in the words that are used.
+pub record NumbersAreFree : Type 0 where
+  pub reads : (number : ℕ → ℕ) (categories : List ℕ) (p : Pending) → pulled categories (pending_of number p) ≡ pulled_of number (pulled categories p)
+  pub puts : (number : ℕ → ℕ) (x : Put) (p : Pending) → put_front (put_of number x) (pending_of number p) ≡ pending_of number (put_front x p)
+  pub means : (number : ℕ → ℕ) (cells : List (Meaning (Option ℕ))) (t : Token) → seen (meanings_of number cells) t ≡ seen cells t
+  pub words : (number : ℕ → ℕ) (macros : List (List Token)) (meanings : List (Meaning (Option ℕ))) (puts : List Put) (lists : List (List Token)) →
+      Tied number macros meanings puts lists → macro_words 0 (meanings_of number meanings) (puts_of number puts) macros ≡ macro_words 0 meanings puts lists

@@ -10,6 +10,7 @@ ghost use Rattle.plain_state.specs.States.{Finished, AtFatal};
 ghost use Rattle.tex_defs.specs.declared.Table.TheVariants.{PoolSize, NumberOfStrings, HashSize, MainMemorySize, InputStackSize, ParameterStackSize, BufferSize, ExpansionDepth};
 ghost use Rattle.tex_defs.specs.Sizes.{default_sizes};
 ghost use Rattle.plain_machine.specs.Rows.{Writes, Runs as RunsSo, Enters, Begins, RunsWithin, Fills, FillsWithin, Fits, RowsAreRuns, EndedRowsAreWhole, RefusalsAreRuns, first_line_usual};
+ghost use Rattle.plain_machine.specs.Numbers.{NumbersAreFree};
 ghost use Rattle.plain_machine.specs.Runs.{RunsAreOne, EachHasRun, SumsOfSteps};
 ghost use Rattle.plain_machine.specs.Bounded.{BoundedRunsAreOne, EachHasBounded, BoundedIsFront};
 
@@ -42,6 +43,11 @@ pub fn each_has_bounded_run()
 /// A run within sizes makes the first moves of the machine's run, and all of them where no table was full.
 pub fn bounded_runs_are_fronts()
     ensures { BoundedIsFront }
+{}
+
+/// What macros are called is seen nowhere: other numbers, no two of them the same, change nothing that is read, meant or counted.
+pub fn numbers_are_free()
+    ensures { NumbersAreFree }
 {}
 
 /// What is computed of a state are its first moves: what they write, the steps among them, and the names behind them. Where
