@@ -1,13 +1,17 @@
 -- What readings begin: only readings of a lower rank, and nothing else before a token comes.
 use Rattle.std.proofs.Common.{ℕ, ◌+◌, ◌*◌, ◌<◌, Bool, true, false, List, [], ◌∷◌, arith, ℤ, pos}
-use Rattle.std.specs.Prelude.{Option, Some, None, if◌then◌else◌, nat_le, not}
+use Rattle.std.specs.Prelude.{Option, Some, None, if◌then◌else◌, nat_le, not, ◌||◌}
 use Rattle.tex_defs.specs.declared.Token.{Token}
 use Rattle.tex_defs.specs.declared.Name.{Name}
 use Rattle.tex_defs.specs.declared.Meaning.{Meaning}
 use Rattle.tex_defs.specs.declared.Seen.{Seen}
 use Rattle.plain_state.specs.Categories.{begin_group}
 use Rattle.plain_state.specs.Reports.{Report, MissingNumber, ImproperConstant}
-use Rattle.plain_state.specs.Readings.{Kind, Catcode, Message, Prefixed, Integer, Text, Fed, Tok, Val, Told, Int, Toks, is_other, is_digit, is_minus, is_plus, is_at_most, natural, code_of, digit_of_token, greatest_integer, greatest_character, greatest_category, improper_code, signed, means_category, SetCategory, Ask, Inner, Done, Act, Tells, ask, rank, catcode, message, integer, unsigned, constant, behind_code, behind_number, number_ended, digits, digits_dropped, too_big, missing, first_digit, bad_code, equals_behind, category_behind, bad_category, text, text_done, brace_missing, closes_at, is_limiting, is_global, is_assignment, prefixed, behind_prefixes, prefix_refused, limit_refused}
+use Rattle.plain_state.specs.Tokens.{is_other, is_space_token, means_category}
+use Rattle.plain_state.specs.Definitions.{definition}
+use Rattle.plain_state.specs.Definitions as build
+use Rattle.plain_state.specs.Arguments as call
+use Rattle.plain_state.specs.Readings.{Kind, Catcode, Message, Prefixed, Define, Integer, Text, Definition, Arguments, Fed, Tok, Val, Told, Int, Toks, is_digit, is_minus, is_plus, is_at_most, natural, code_of, digit_of_token, greatest_integer, greatest_character, greatest_category, improper_code, signed, SetCategory, Ask, More, Inner, ask, rank, catcode, message, integer, unsigned, constant, behind_code, behind_number, number_ended, digits, digits_dropped, too_big, missing, first_digit, Act, bad_code, equals_behind, category_behind, bad_category, text, text_done, brace_missing, closes_at, define, name_behind, name_to_assign, definition_behind, is_long, is_outer_prefix, is_global, is_raw_definition, is_expanded_definition, is_assignment, prefixed, behind_prefixes, prefix_refused, limit_refused, build_fed, build_ask, manner, gathered_by, call_ask, arguments_ask}
 
 -- A reading begins only readings of a lower rank.
 abbrev pub Lower : ℕ → Ask → Type 0
@@ -148,35 +152,92 @@ lower_limit m [] = tt
 lower_limit m (Told ∷ fed) = lower_catcode fed
 lower_limit m (y ∷ fed) = tt
 
-lower_behind : (limited : Bool) (m : Meaning Unit) (fed : List Fed) → Lower 1 (behind_prefixes limited m fed)
-lower_behind limited m fed =
-    lower_if 1 (is_assignment m) (if limited then limit_refused m fed else catcode fed) (prefix_refused m fed)
-    (lower_if 1 limited (limit_refused m fed) (catcode fed) (lower_limit m fed) (lower_catcode fed)) (lower_refused m fed)
+lower_definition : (expanded long outer : Bool) (name : Name) (fed : List Fed) → Lower 1 (definition_behind expanded long outer name fed)
+lower_definition expanded long outer name [] = omega arith
+lower_definition expanded long outer name (Val (Toks ts) ∷ fed) = tt
+lower_definition expanded long outer name (y ∷ fed) = tt
 
-lower_prefixed : (limited : Bool) (fed : List Fed) → Lower 1 (prefixed limited fed)
-lower_prefixed limited [] = tt
-lower_prefixed limited (Tok x ∷ fed) =
-    lower_if 1 (is_limiting x.meaning) (prefixed true fed) (if is_global x.meaning then prefixed limited fed else behind_prefixes limited x.meaning fed) (lower_prefixed true fed)
-    (lower_if 1 (is_global x.meaning) (prefixed limited fed) (behind_prefixes limited x.meaning fed) (lower_prefixed limited fed) (lower_behind limited x.meaning fed))
-lower_prefixed limited (y ∷ fed) = tt
+mutual
+  lower_define : (expanded long outer : Bool) (fed : List Fed) → Lower 1 (define expanded long outer fed)
+  lower_define expanded long outer [] = tt
+  lower_define expanded long outer (Tok x ∷ fed) =
+      lower_if 1 (is_space_token x.token) (define expanded long outer fed) (name_behind expanded long outer x.token (name_to_assign x.token) fed)
+      (lower_define expanded long outer fed) (lower_name expanded long outer x.token (name_to_assign x.token) fed)
+  lower_define expanded long outer (y ∷ fed) = tt
+
+  lower_name : (expanded long outer : Bool) (t : Token) (name : Option Name) (fed : List Fed) → Lower 1 (name_behind expanded long outer t name fed)
+  lower_name expanded long outer t (Some name) fed = lower_definition expanded long outer name fed
+  lower_name expanded long outer t None [] = tt
+  lower_name expanded long outer t None (Told ∷ fed) = lower_define expanded long outer fed
+  lower_name expanded long outer t None (y ∷ fed) = tt
+
+lower_other : (long outer : Bool) (m : Meaning Unit) (fed : List Fed) → Lower 1 (if is_assignment m then (if long || outer then limit_refused m fed else catcode fed) else prefix_refused m fed)
+lower_other long outer m fed =
+    lower_if 1 (is_assignment m) (if long || outer then limit_refused m fed else catcode fed) (prefix_refused m fed)
+    (lower_if 1 (long || outer) (limit_refused m fed) (catcode fed) (lower_limit m fed) (lower_catcode fed)) (lower_refused m fed)
+
+lower_expanded : (long outer : Bool) (m : Meaning Unit) (fed : List Fed) →
+    Lower 1 (if is_expanded_definition m then define true long outer fed else if is_assignment m then (if long || outer then limit_refused m fed else catcode fed) else prefix_refused m fed)
+lower_expanded long outer m fed =
+    lower_if 1 (is_expanded_definition m) (define true long outer fed) (if is_assignment m then (if long || outer then limit_refused m fed else catcode fed) else prefix_refused m fed)
+    (lower_define true long outer fed) (lower_other long outer m fed)
+
+lower_behind : (long outer : Bool) (m : Meaning Unit) (fed : List Fed) → Lower 1 (behind_prefixes long outer m fed)
+lower_behind long outer m fed =
+    lower_if 1 (is_raw_definition m) (define false long outer fed)
+    (if is_expanded_definition m then define true long outer fed else if is_assignment m then (if long || outer then limit_refused m fed else catcode fed) else prefix_refused m fed)
+    (lower_define false long outer fed) (lower_expanded long outer m fed)
+
+lower_prefixed : (long outer : Bool) (fed : List Fed) → Lower 1 (prefixed long outer fed)
+lower_prefixed long outer [] = tt
+lower_prefixed long outer (Tok x ∷ fed) =
+    lower_if 1 (is_long x.meaning) (prefixed true outer fed)
+    (if is_outer_prefix x.meaning then prefixed long true fed else if is_global x.meaning then prefixed long outer fed else behind_prefixes long outer x.meaning fed)
+    (lower_prefixed true outer fed)
+    (lower_if 1 (is_outer_prefix x.meaning) (prefixed long true fed) (if is_global x.meaning then prefixed long outer fed else behind_prefixes long outer x.meaning fed)
+    (lower_prefixed long true fed)
+    (lower_if 1 (is_global x.meaning) (prefixed long outer fed) (behind_prefixes long outer x.meaning fed) (lower_prefixed long outer fed) (lower_behind long outer x.meaning fed)))
+lower_prefixed long outer (y ∷ fed) = tt
+
+lower_built : (n : ℕ) (a : build.Answer) → Lower n (build_ask a)
+lower_built n (build.More want list) = tt
+lower_built n (build.Tells report give_back list) = tt
+lower_built n (build.Done list) = tt
+
+lower_call : (n : ℕ) (name : Name) (a : call.Answer) → Lower n (call_ask name a)
+lower_call n name (call.More args work) = tt
+lower_call n name (call.ExtraBraceFound args work) = tt
+lower_call n name (call.Called args) = tt
+lower_call n name call.Mismatch = tt
+lower_call n name (call.Ended false args work) = tt
+lower_call n name (call.Ended true args work) = tt
+
+lower_arguments : (n : ℕ) (name : Name) (long : Bool) (ts : List Token) (fed : List Fed) → Lower n (arguments_ask name long ts fed)
+lower_arguments n name long ts [] = tt
+lower_arguments n name long ts (x ∷ fed) = lower_call n name (gathered_by long ts (x ∷ fed))
 
 pub lower : (k : Kind) (fed : List Fed) → Lower (rank k) (ask k fed)
 lower Catcode fed = lower_catcode fed
 lower (Message name) fed = lower_message name fed
-lower (Prefixed limited) fed = lower_prefixed limited fed
+lower (Prefixed long outer) fed = lower_prefixed long outer fed
+lower (Define expanded) fed = lower_define expanded false false fed
 lower Integer fed = lower_integer 0 false fed
 lower (Text name) fed = lower_text 0 fed
+lower (Definition name expanded) fed = lower_built 0 (definition (manner name expanded) (build_fed fed))
+lower (Arguments name long number ts) fed = lower_arguments 0 name long ts fed
 
--- A reading that was fed with nothing doesn't end, and reports nothing.
+-- A reading that was fed with nothing asks for a token or begins another: it doesn't end, and reports nothing.
 abbrev pub Starts : Ask → Type 0
-Starts (Done v back) = ⊥
-Starts (Act e) = ⊥
-Starts (Tells report back) = ⊥
-Starts a = Unit {0}
+Starts (More want) = Unit {0}
+Starts (Inner k begins) = Unit {0}
+Starts a = ⊥
 
 pub starts : (k : Kind) → Starts (ask k [])
 starts Catcode = tt
 starts (Message name) = tt
-starts (Prefixed limited) = tt
+starts (Prefixed long outer) = tt
+starts (Define expanded) = tt
 starts Integer = tt
 starts (Text name) = tt
+starts (Definition name expanded) = tt
+starts (Arguments name long number ts) = tt

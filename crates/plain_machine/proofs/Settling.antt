@@ -1,29 +1,29 @@
 -- The finished lists in front go at once: what comes next doesn't hang on whether they have gone.
 use Rattle.std.proofs.Common.{◌≡◌, ℕ, List, [], ◌∷◌, refl, ap, ◌∙◌}
-use Rattle.tex_defs.specs.declared.Token.{Token}
 use Rattle.plain_state.specs.Lex.{Lexed, Gives, Invalid, UsedUp, lexed}
-use Rattle.plain_state.specs.Pending.{Pending, Put, settled, settled_top, settle, with_puts, pulled, from_front, from_list, from_line}
+use Rattle.plain_state.specs.Puts.{Item, Put, settled, settled_top, passed}
+use Rattle.plain_state.specs.Pending.{Pending, settle, with_puts, pulled, from_front, from_list, from_line}
 
-settled_top_twice : (p : Put) (ts : List Token) (ps : List Put) → p.left ≡ ts → settled (settled ps) ≡ settled ps → settled (settled_top p ts (settled ps) ps) ≡ settled_top p ts (settled ps) ps
-settled_top_twice p [] ps e h = h
-settled_top_twice p (t ∷ ts) ps e h = rw e refl
+passed_top_settled : (p : Put) (xs : List Item) (ps : List Put) → p.items ≡ xs → passed (settled ps) ≡ passed ps → passed (settled_top p xs (settled ps) ps) ≡ passed (p ∷ ps)
+passed_top_settled p [] ps e h = rw e h
+passed_top_settled p (x ∷ xs) ps e h = refl
 
-pub settled_twice : (ps : List Put) → settled (settled ps) ≡ settled ps
-settled_twice [] = refl
-settled_twice (p ∷ ps) = settled_top_twice p p.left ps refl (settled_twice ps)
+pub passed_settled : (ps : List Put) → passed (settled ps) ≡ passed ps
+passed_settled [] = refl
+passed_settled (p ∷ ps) = passed_top_settled p p.items ps refl (passed_settled ps)
 
 line_with : (ps : List Put) (p : Pending) (l : Lexed) → from_line (with_puts ps p) l ≡ from_line p l
 line_with ps p (Gives x state line) = refl
 line_with ps p (Invalid state line) = refl
 line_with ps p UsedUp = refl
 
-list_with : (categories : List ℕ) (ps : List Put) (p : Pending) (x : Put) (qs : List Put) (ts : List Token) → from_list categories (with_puts ps p) x qs ts ≡ from_list categories p x qs ts
+list_with : (categories : List ℕ) (ps : List Put) (p : Pending) (x : Put) (qs : List Put) (is : List Item) → from_list categories (with_puts ps p) x qs is ≡ from_list categories p x qs is
 list_with categories ps p x qs [] = line_with ps p (lexed categories p.lex p.line)
-list_with categories ps p x qs (t ∷ ts) = refl
+list_with categories ps p x qs (i ∷ is) = refl
 
 front_with : (categories : List ℕ) (ps : List Put) (p : Pending) (qs : List Put) → from_front categories (with_puts ps p) qs ≡ from_front categories p qs
 front_with categories ps p [] = line_with ps p (lexed categories p.lex p.line)
-front_with categories ps p (x ∷ qs) = list_with categories ps p x qs x.left
+front_with categories ps p (x ∷ qs) = list_with categories ps p x qs x.items
 
 pub pulled_settled : (categories : List ℕ) (p : Pending) → pulled categories (settle p) ≡ pulled categories p
-pulled_settled categories p = ap (from_front categories (settle p)) (settled_twice p.puts) ∙ front_with categories (settled p.puts) p (settled p.puts)
+pulled_settled categories p = ap (from_front categories (settle p)) (passed_settled p.puts) ∙ front_with categories (settled p.puts) p (passed p.puts)
