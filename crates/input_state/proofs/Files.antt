@@ -2,13 +2,13 @@
 use Rattle.std.proofs.Common.{◌≡◌, ℕ, ◌+◌, List, [], ◌∷◌, Result, Ok, Err, refl, sym, ap, ◌∙◌, subst, arith}
 use Rattle.std.specs.Prelude.{IfOk, IfErr}
 use Rattle.std.proofs.lemmas.List.Sums.{sum_by-cons}
-use Rattle.tex_defs.specs.declared.Token.{Token}
 use Rattle.tex_defs.specs.declared.Full.{Full}
 use Rattle.tex_defs.specs.declared.Sizes.{Sizes}
 use Rattle.tex_defs.specs.declared.Table.TheVariants.{InputStackSize}
-use Rattle.plain_state.specs.Pending.{Pending, Progress, NotBegun, Begun, Closed, Put, settled, settled_top, settle, with_puts, pulled, from_file}
+use Rattle.plain_state.specs.Puts.{Item, Put, settled, settled_top, passed, top_item, put_levels, levels_of}
+use Rattle.plain_state.specs.Pending.{Pending, Progress, NotBegun, Begun, Closed, settle, with_puts, pulled, from_file}
 use Rattle.plain_state.specs.Pending as plain
-use Rattle.plain_state.specs.Tables.{Demand, put_levels, level_of, file_levels, file_level, next_line, buffer, refused}
+use Rattle.plain_state.specs.Tables.{Demand, file_levels, file_level, next_line, opened_level, buffer, refused}
 use Rattle.line_lexer.specs.declared.Ahead.TheVariants as ahead
 use Rattle.input_state.specs.declared.answer.Pulled.{Pulled}
 use Rattle.input_state.specs.declared.answer.Pulled.TheVariants as answer
@@ -17,14 +17,14 @@ use Rattle.input_state.specs.Reads.{Reads, Pulls, Refuses, RefusesLine}
 use Rattle.input_state.specs.HeldLists.{ahead_of}
 use Rattle.input_state.proofs.Readies.{used_up}
 
-top_levels : (p : Put) (ts : List Token) (below rest : List Put) → p.left ≡ ts → put_levels below ≡ put_levels rest → put_levels (settled_top p ts below rest) ≡ level_of ts + put_levels rest
+top_levels : (p : Put) (xs : List Item) (below rest : List Put) → p.items ≡ xs → put_levels below ≡ put_levels rest → put_levels (settled_top p xs below rest) ≡ levels_of xs + put_levels rest
 top_levels p [] below rest is same = omega (arith, same)
-top_levels p (t ∷ ts) below rest is same = omega (arith, sum_by-cons (λ (q : Put). level_of q.left) p rest, ap level_of is)
+top_levels p (x ∷ xs) below rest is same = omega (arith, sum_by-cons (λ (q : Put). levels_of q.items) p rest, ap levels_of is)
 
 -- finished lists have no level
 pub settled_levels : (ps : List Put) → put_levels (settled ps) ≡ put_levels ps
 settled_levels [] = refl
-settled_levels (p ∷ ps) = top_levels p p.left (settled ps) ps refl (settled_levels ps) ∙ sym (sum_by-cons (λ (q : Put). level_of q.left) p ps)
+settled_levels (p ∷ ps) = top_levels p p.items (settled ps) ps refl (settled_levels ps) ∙ sym (sum_by-cons (λ (q : Put). levels_of q.items) p ps)
 
 level_at : ℕ → Demand
 level_at n = record { table = InputStackSize; used = n; need = 1 }
@@ -42,22 +42,22 @@ settled_twice : (p : Pending) → settled p.puts ≡ [] → settle (settle p) �
 settled_twice p none = ap (λ (ps : List Put). with_puts (settled ps) p) none ∙ ap (λ (ps : List Put). with_puts ps p) (sym none)
 
 -- the answer on what is settled is that on all
-settled_reads : (q : plain.Pulled) (x : Pulled) (sizes : Sizes) (p new : Pending) (bytes : List ℕ) → settled p.puts ≡ [] → Reads q x sizes (settle p) new bytes → Reads q x sizes p new bytes
-settled_reads q (answer.Token t) sizes p new bytes none h = h
-settled_reads q (answer.Lexeme l) sizes p new bytes none h = h
-settled_reads q answer.Taken sizes p new bytes none h = (h.0, sym (ap (refused sizes) (settled_line p)) ∙ h.1)
-settled_reads q answer.Invalid sizes p new bytes none h = h
-settled_reads q answer.FileOver sizes p new bytes none h = h
-settled_reads q answer.Nothing sizes p new bytes none h = (h.0, h.1 ∙ settled_twice p none)
+settled_reads : (q : plain.Pulled) (x : Pulled) (sizes : Sizes) (p new : Pending) (bytes : List ℕ) → settled p.puts ≡ [] → passed p.puts ≡ [] → Reads q x sizes (settle p) new bytes → Reads q x sizes p new bytes
+settled_reads q (answer.Token t) sizes p new bytes none past h = (h.0, ap (λ (ps : List Put). refused sizes (opened_level (top_item ps) p)) past)
+settled_reads q (answer.Lexeme l) sizes p new bytes none past h = h
+settled_reads q answer.Taken sizes p new bytes none past h = (h.0, sym (ap (refused sizes) (settled_line p)) ∙ h.1)
+settled_reads q answer.Invalid sizes p new bytes none past h = h
+settled_reads q answer.FileOver sizes p new bytes none past h = h
+settled_reads q answer.Nothing sizes p new bytes none past h = (h.0, h.1 ∙ settled_twice p none)
 
 abbrev settled_store : Stored → Stored
 settled_store s = record s { pending = settle s.pending }
 
-module _ (c : List ℕ) (old new : Stored) (used : ahead_of c old.pending ≡ ahead.End) where
+module _ (c : List ℕ) (old new : Stored) (used : ahead_of c old.pending ≡ ahead.End) (finished : settled old.pending.puts ≡ []) where
   pulls_now : (x : Pulled) → Pulls (from_file old.pending.file old.pending.number old.pending.rest) x (settled_store old) new → Pulls (pulled c old.pending) x old new
   pulls_now x h =
       let k = used_up c old.pending used in
-      subst (λ (q : plain.Pulled). Reads q x old.sizes old.pending new.pending new.buffer) (sym k.1) (settled_reads _ x old.sizes old.pending new.pending new.buffer k.0 h)
+      subst (λ (q : plain.Pulled). Reads q x old.sizes old.pending new.pending new.buffer) (sym k.1) (settled_reads _ x old.sizes old.pending new.pending new.buffer finished k.0 h)
 
   refuses_now : (full : Full) → RefusesLine full (settled_store old) new → Refuses c full old new
   refuses_now full h =
@@ -67,7 +67,7 @@ module _ (c : List ℕ) (old new : Stored) (used : ahead_of c old.pending ≡ ah
         next = h.next;
         takes = k.1 ∙ h.takes;
         refused = sym (ap (refused old.sizes) (settled_line old.pending)) ∙ h.refused;
-        stays = h.stays ∙ settled_twice old.pending k.0;
+        stays = h.stays ∙ settled_twice old.pending finished;
       }
 
   by_ok : (r : Result Pulled Full) → IfOk r (λ x. Pulls (from_file old.pending.file old.pending.number old.pending.rest) x (settled_store old) new) → IfOk r (λ x. Pulls (pulled c old.pending) x old new)

@@ -1,6 +1,7 @@
 pub mod LineEnds
 pub mod LineRests
 pub mod Counting
+pub mod Fronts
 pub mod Levels
 pub mod Sharing
 pub mod Words

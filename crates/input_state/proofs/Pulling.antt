@@ -1,34 +1,35 @@
 -- What the levels give is what is next pending.
 use Rattle.std.proofs.Common.{◌≡◌, ◌≢◌, ℕ, ◌≤◌, List, [], ◌∷◌, map, length, Option, None, Some, Result, Ok, Err, refl, sym, ap, ap₂, ◌∙◌, subst, arith}
-use Rattle.std.proofs.lemmas.Option.{none-some, same_Some}
 use Rattle.tex_defs.specs.declared.Token.{Token}
 use Rattle.tex_defs.specs.declared.Full.{Full}
 use Rattle.tex_defs.specs.declared.Sizes.{Sizes}
 use Rattle.plain_state.specs.Lex as lex
 use Rattle.plain_state.specs.Lex.{lexed}
+use Rattle.plain_state.specs.Puts as lists
 use Rattle.plain_state.specs.Pending as plain
+use Rattle.plain_state.specs.Tables.{refused, opened_level}
 use Rattle.line_lexer.specs.declared.Line.{Line}
 use Rattle.line_lexer.specs.declared.Lexed.{Lexed}
 use Rattle.line_lexer.specs.declared.Lexed.TheVariants as lexed_as
 use Rattle.line_lexer.specs.declared.Ahead.TheVariants as ahead
 use Rattle.line_lexer.specs.Answers.{state_of, rest_of, span, given, looks_of, Takes}
 use Rattle.token_lists.specs.Table.{Entry}
-use Rattle.input_stack.specs.Puts.{Put, Item, Text, next_item, pulled}
+use Rattle.input_stack.specs.Puts.{Put, Item, next_item, pulled}
 use Rattle.input_stack.specs.Pending.{Pending, Below, plain_put, with_puts}
 use Rattle.input_stack.specs.Pulls.{Pulls, PullsItem, PullsFrom, HandsOn, refused_at, LineGives, answer_of, looks, item_looks, line_looks, token_in}
 use Rattle.input_stack.specs.View.{pending_in}
 use Rattle.world_io.specs.declared.traits.InId.{InId}
 use Rattle.input_stack.specs.declared.level.Source.{Source}
 use Rattle.input_stack.specs.declared.level.Level.{Level}
-use Rattle.input_stack.specs.declared.level.Level.TheVariants as level
 use Rattle.input_stack.specs.declared.level.Pulled.{Pulled as Given}
 use Rattle.input_stack.specs.declared.level.Pulled.TheVariants as given_as
-use Rattle.input_stack.specs.Rest.{number, rest}
+use Rattle.input_stack.specs.Rest.{number}
 use Rattle.input_state.specs.HeldLists.{HeldLists, pending_of, ahead_of, front_ahead, line_rest, line_state, line_levels, IsLineIn}
 use Rattle.input_stack.specs.CallViews.{opened, IsCountable}
 use Rattle.input_stack.specs.Lasting.{Lasts, LastsBut}
-use Rattle.input_state.specs.HeldViews.{front, fronts, line_of, IsSingle, ArePlain, IsSimple}
-use Rattle.input_state.proofs.Levels.{is_plain_put, plain_is, plain_settled}
+use Rattle.input_state.specs.HeldViews.{plain_item, fronts, line_of, IsSingle, ArePlain, IsSimple}
+use Rattle.input_state.proofs.Fronts.{token_is, next_is, next_some, next_none, fronts_settled}
+use Rattle.input_state.proofs.Levels.{is_plain_put, plain_is, plain_settled, next_text, none_finished}
 use Rattle.input_state.specs.Reads.{Reads}
 use Rattle.input_state.specs.Given.{GivesMore}
 use Rattle.input_state.specs.Given as answers
@@ -37,61 +38,14 @@ use Rattle.input_state.specs.declared.answer.Pulled.TheVariants as answer
 
 -- THE LISTS IN FRONT
 
--- the next item is a token of the first list that isn't finished
-pub record IsNext (t : List (Option Entry)) (ps : List Put) (x : Item) : Type 0 where
-  pub token : Token
-  pub put : plain.Put
-  pub left : List Token
-  pub below : List plain.Put
-  pub is : x ≡ Text token
-  pub first : plain.settled (fronts t ps) ≡ put ∷ below
-  pub has : put.left ≡ token ∷ left
-  pub after : fronts t (pulled ps) ≡ plain.read_on put left ∷ below
-
-top_some : (t : List (Option Entry)) (n : ℕ) (ts : List Token) (qs : List Put) (x : Item) → (next_item qs ≡ Some x → IsNext t qs x) → next_item (plain_put n ts ∷ qs) ≡ Some x → IsNext t (plain_put n ts ∷ qs) x
-top_some t n [] qs x more is =
-    let k = more is in
-    record { token = k.token; put = k.put; left = k.left; below = k.below; is = k.is; first = k.first; has = k.has; after = k.after }
-top_some t n (u ∷ us) qs x more is = record {
-  token = u;
-  put = front t (plain_put n (u ∷ us));
-  left = map token_in (map Text us);
-  below = fronts t qs;
-  is = sym (same_Some _ _ is);
-  first = refl;
-  has = refl;
-  after = refl;
-}
-
-top_none : (t : List (Option Entry)) (n : ℕ) (ts : List Token) (qs : List Put) → (next_item qs ≡ None → plain.settled (fronts t qs) ≡ []) → next_item (plain_put n ts ∷ qs) ≡ None → plain.settled (fronts t (plain_put n ts ∷ qs)) ≡ []
-top_none t n [] qs more is = more is
-top_none t n (u ∷ us) qs more is = absurd (none-some (Text u) (sym is))
-
-module _ (t : List (Option Entry)) where
-  pub next_some : (ps : List Put) → ArePlain ps → (x : Item) → next_item ps ≡ Some x → IsNext t ps x
-  next_some [] a x is = absurd (none-some x is)
-  next_some (p ∷ ps) a x is =
-      let e = is_plain_put p a.0 in
-      subst (λ (q : Put). IsNext t (q ∷ ps) x) (sym e) (top_some t p.list (map token_in p.items) ps x (next_some ps a.1 x) (ap (λ (q : Put). next_item (q ∷ ps)) (sym e) ∙ is))
-
-  pub next_none : (ps : List Put) → ArePlain ps → next_item ps ≡ None → plain.settled (fronts t ps) ≡ []
-  next_none [] a is = refl
-  next_none (p ∷ ps) a is =
-      let e = is_plain_put p a.0 in
-      subst (λ (q : Put). plain.settled (fronts t (q ∷ ps)) ≡ []) (sym e) (top_none t p.list (map token_in p.items) ps (next_none ps a.1) (ap (λ (q : Put). next_item (q ∷ ps)) (sym e) ∙ is))
-
 -- no argument's first token is next
-pub none_opens : (ps : List Put) → ArePlain ps → (o : Option Item) → next_item ps ≡ o → (h : ℕ) → opened o h ≡ 0
+none_opens : (ps : List Put) → ArePlain ps → (o : Option Item) → next_item ps ≡ o → (h : ℕ) → opened o h ≡ 0
 none_opens ps a None is h = refl
-none_opens ps a (Some x) is h =
-    let k = next_some [] ps a x is in
-    ap (λ (y : Item). opened (Some y) h) k.is
+none_opens ps a (Some x) is h = ap (λ (y : Item). opened (Some y) h) (next_text ps a x is)
 
 pub plain_countable : (table : List (Option Entry)) (ps : List Put) → ArePlain ps → (o : Option Item) → next_item ps ≡ o → IsCountable table o
 plain_countable table ps a None is = tt
-plain_countable table ps a (Some x) is =
-    let k = next_some [] ps a x is in
-    subst (λ (y : Item). IsCountable table (Some y)) (sym k.is) tt
+plain_countable table ps a (Some x) is = subst (λ (y : Item). IsCountable table (Some y)) (sym (next_text ps a x is)) tt
 
 pub plain_lasts : (old new : List (Option Entry)) (ps : List Put) → ArePlain ps → LastsBut old new (opened (next_item ps)) → Lasts old new
 plain_lasts old new ps a l = record { size = l.size; fewer = λ h. omega (arith, l.fewer h, none_opens ps a (next_item ps) refl h); tokens = l.tokens }
@@ -118,21 +72,29 @@ line_ahead : (c b : List ℕ) (bs : List Below) → line_looks c b bs ≡ looks_
 line_ahead c b [] = sym (ap looks_of (nothing_left c lex.NewLine))
 line_ahead c b (x ∷ xs) = refl
 
-module _ (t s : List (Option Entry)) (c b : List ℕ) (ls : List Level) (p : plain.Pending) (texts : ArePlain (pending_in s ls).puts) (puts : p.puts ≡ fronts t (pending_in s ls).puts) (line : p.line ≡ line_rest b (line_of (pending_in s ls).sources)) (state : p.lex ≡ line_state (line_of (pending_in s ls).sources)) where
-  front_is : (ps : List plain.Put) → plain.settled (fronts t (pending_in s ls).puts) ≡ ps → ahead_of c p ≡ front_ahead c p ps
-  front_is ps e = ap (λ (qs : List plain.Put). front_ahead c p (plain.settled qs)) puts ∙ ap (front_ahead c p) e
+module _ (t s : List (Option Entry)) (c b : List ℕ) (ls : List Level) (p : plain.Pending) (puts : p.puts ≡ fronts t (pending_in s ls).puts) (line : p.line ≡ line_rest b (line_of (pending_in s ls).sources)) (state : p.lex ≡ line_state (line_of (pending_in s ls).sources)) where
+  front_is : (ps : List lists.Put) → lists.passed (fronts t (pending_in s ls).puts) ≡ ps → ahead_of c p ≡ front_ahead c p ps
+  front_is ps e = ap (λ (qs : List lists.Put). front_ahead c p (lists.passed qs)) puts ∙ ap (front_ahead c p) e
 
   line_is : line_looks c b (pending_in s ls).sources ≡ front_ahead c p []
   line_is = line_ahead c b (pending_in s ls).sources ∙ ap₂ (λ (x : lex.LineState) (l : List ℕ). looks_of (lexed c x l)) (sym state) (sym line)
 
   pub item_ahead : (o : Option Item) → next_item (pending_in s ls).puts ≡ o → item_looks c b (pending_in s ls).sources o ≡ ahead_of c p
-  item_ahead None is = line_is ∙ sym (front_is [] (next_none t (pending_in s ls).puts texts is))
+  item_ahead None is = line_is ∙ sym (front_is [] (next_none t (pending_in s ls).puts is))
   item_ahead (Some x) is =
-      let k = next_some t (pending_in s ls).puts texts x is in
+      let k = next_some t (pending_in s ls).puts x is in
       sym (front_is (k.put ∷ k.below) k.first)
 
   pub looks_are : looks c b (pending_in s ls) ≡ ahead_of c p
   looks_are = item_ahead (next_item (pending_in s ls).puts) refl
+
+item_finished : (t : List (Option Entry)) (c b : List ℕ) (p : Pending) → ArePlain p.puts → (o : Option Item) → next_item p.puts ≡ o → item_looks c b p.sources o ≡ ahead.End → lists.settled (fronts t p.puts) ≡ []
+item_finished t c b p a None is end = sym (fronts_settled t p.puts) ∙ ap (fronts t) (none_finished p.puts a is)
+item_finished t c b p a (Some x) is end = cc
+
+-- where only the file is left, all lists in front are finished
+pub all_finished : (t : List (Option Entry)) (c b : List ℕ) (p : Pending) → ArePlain p.puts → looks c b p ≡ ahead.End → lists.settled (fronts t p.puts) ≡ []
+all_finished t c b p a end = item_finished t c b p a (next_item p.puts) refl end
 
 -- A LINE GIVES SOMETHING
 
@@ -167,7 +129,7 @@ not_end : (c b d : List ℕ) (l l' : Line) (x : Lexed) → given d (state_of l'.
 not_end c b d l l' x gives ne is = ne (ap looks_of (sym gives ∙ ap (given d (state_of l'.state) (rest_of d l')) is))
 
 -- the source on top gives this, over what is pending otherwise
-module _ (c b d : List ℕ) (sizes : Sizes) (p : plain.Pending) (front_none : plain.settled p.puts ≡ []) where
+module _ (c b d : List ℕ) (sizes : Sizes) (p : plain.Pending) (front_none : lists.passed p.puts ≡ []) where
   source_reads : (s s' : Source) (r : Given) → LineGives c b d s s' r → p.line ≡ rest_of b s.line → p.lex ≡ state_of s.line.state → ahead_of c p ≢ ahead.End → s.line.end ≤ length d → IsRead c d sizes p (plain.on_line (rest_of d s'.line) (state_of s'.line.state) p) (Ok r)
   source_reads s s' r g line state more within =
       let x = g.lexed in
@@ -189,22 +151,27 @@ abbrev pub seen : List (Option Entry) → Pending → List ℕ → List ℕ → 
 seen t p bytes left file number = record { puts = fronts t p.puts; line = line_rest bytes (line_of p.sources); lex = line_state (line_of p.sources); rest = left; file = file; number = number }
 
 module _ (t s : List (Option Entry)) (c b d : List ℕ) (ls : List Level) (q : Pending) (texts : ArePlain (pending_in s ls).puts) (sizes : Sizes) (left : List ℕ) (file : plain.Progress) (num : ℕ) (more : ahead_of c (seen t (pending_in s ls) b left file num) ≢ ahead.End) (same : length d ≡ length b) where
-  text_reads : (x : Item) (r : Result Given Full) → IsNext t (pending_in s ls).puts x → r ≡ Ok (given_as.Token (token_in x)) → q ≡ with_puts (pulled (pending_in s ls).puts) (pending_in s ls) → d ≡ b → IsRead c d sizes (seen t (pending_in s ls) b left file num) (seen t q d left file num) r
-  text_reads x r k is after bytes =
+  -- an item is handed on that has room
+  item_seen : (x : Item) (r : Result Given Full) → next_item (pending_in s ls).puts ≡ Some x → r ≡ Ok (given_as.Token (token_in x)) → q ≡ with_puts (pulled (pending_in s ls).puts) (pending_in s ls) → d ≡ b → refused sizes (opened_level (Some (plain_item x)) (seen t (pending_in s ls) b left file num)) ≡ None → IsRead c d sizes (seen t (pending_in s ls) b left file num) (seen t q d left file num) r
+  item_seen x r next answer_is after bytes fits =
       let pp = seen t (pending_in s ls) b left file num in
-      let answer_is : r ≡ Ok (given_as.Token k.token) = is ∙ ap (λ (y : Item). Ok (given_as.Token (token_in y))) k.is in
-      let pulls : plain.pulled c pp ≡ plain.TokenFrom k.token (plain.with_puts (plain.read_on k.put k.left ∷ k.below) pp) = ap (plain.from_front c pp) k.first ∙ ap (plain.from_list c pp k.put k.below) k.has in
+      let k = next_some t (pending_in s ls).puts x next in
       let then_pending : plain.with_puts (plain.read_on k.put k.left ∷ k.below) pp ≡ seen t q d left file num =
-      ap (λ (ps : List plain.Put). plain.with_puts ps pp) (sym k.after)
+      ap (λ (ps : List lists.Put). plain.with_puts ps pp) (sym k.behind)
       ∙ ap (λ (bytes' : List ℕ). seen t (with_puts (pulled (pending_in s ls).puts) (pending_in s ls)) bytes' left file num) (sym bytes)
       ∙ ap (λ (z : Pending). seen t z d left file num) (sym after) in
-      let reads : Reads (plain.pulled c pp) (answer.Token k.token) sizes pp (seen t q d left file num) d = pulls ∙ ap (plain.TokenFrom k.token) then_pending in
+      let pulls : plain.pulled c pp ≡ plain.TokenFrom (token_in x) (seen t q d left file num) =
+      ap (plain.from_front c pp) k.first
+      ∙ ap (plain.from_list c pp k.put k.below) k.has
+      ∙ ap₂ plain.TokenFrom (token_is x) then_pending in
+      let room : refused sizes (opened_level (lists.next_item pp.puts) pp) ≡ None = ap (λ (o : Option lists.Item). refused sizes (opened_level o pp)) (next_is _ _ _ k) ∙ fits in
+      let reads : Reads (plain.pulled c pp) (answer.Token (token_in x)) sizes pp (seen t q d left file num) d = (pulls, room) in
       record {
         more = subst GivesMore (sym answer_is) tt;
         reads = subst (λ (y : Result Given Full). Reads (plain.pulled c pp) (answers.answer_of y) sizes pp (seen t q d left file num) d) (sym answer_is) reads;
       }
 
-  source_seen : (bs : List Below) → (pending_in s ls).sources ≡ bs → (r : Given) → PullsFrom c b d bs q.sources r → q.puts ≡ [] → plain.settled (fronts t (pending_in s ls).puts) ≡ [] → IsLineIn (line_of bs) (length b) → IsRead c d sizes (seen t (pending_in s ls) b left file num) (seen t q d left file num) (Ok r)
+  source_seen : (bs : List Below) → (pending_in s ls).sources ≡ bs → (r : Given) → PullsFrom c b d bs q.sources r → q.puts ≡ [] → lists.passed (fronts t (pending_in s ls).puts) ≡ [] → IsLineIn (line_of bs) (length b) → IsRead c d sizes (seen t (pending_in s ls) b left file num) (seen t q d left file num) (Ok r)
   source_seen [] is r h none front_none inside =
       let pp = seen t (pending_in s ls) b left file num in
       let used : lexed c pp.lex pp.line ≡ lex.UsedUp = ap (λ (bs : List Below). lexed c (line_state (line_of bs)) (line_rest b (line_of bs))) is ∙ nothing_left c lex.NewLine in
@@ -221,14 +188,15 @@ module _ (t s : List (Option Entry)) (c b d : List ℕ) (ls : List Level) (q : P
       subst (λ (z : plain.Pending). IsRead c d sizes pp z (Ok r)) then_pending k
 
   item_reads : (size : ℕ) (o : Option Item) (r : Result Given Full) → next_item (pending_in s ls).puts ≡ o → PullsItem size c b d (pending_in s ls) q o r → IsLineIn (line_of (pending_in s ls).sources) (length b) → IsRead c d sizes (seen t (pending_in s ls) b left file num) (seen t q d left file num) r
-  item_reads size None (Ok r) is h inside = source_seen (pending_in s ls).sources refl r h.0.0 h.0.1 (next_none t (pending_in s ls).puts texts is) inside
+  item_reads size None (Ok r) is h inside = source_seen (pending_in s ls).sources refl r h.0.0 h.0.1 (next_none t (pending_in s ls).puts is) inside
   item_reads size None (Err f) is h inside =
       let e = h.1 in
       cc
   item_reads size (Some x) r is h inside =
-      let k = next_some t (pending_in s ls).puts texts x is in
-      let hands : HandsOn b d (pending_in s ls) q x None r = subst (λ (y : Item). HandsOn b d (pending_in s ls) q x (refused_at size y (pending_in s ls)) r) k.is h in
-      text_reads x r k hands.0 hands.1 hands.2
+      let text = next_text (pending_in s ls).puts texts x is in
+      let hands : HandsOn b d (pending_in s ls) q x None r = subst (λ (y : Item). HandsOn b d (pending_in s ls) q x (refused_at size y (pending_in s ls)) r) text h in
+      let fits = ap (λ (y : Item). refused sizes (opened_level (Some (plain_item y)) (seen t (pending_in s ls) b left file num))) text in
+      item_seen x r is hands.0 hands.1 hands.2 fits
 
   pub pull_reads : (size : ℕ) (r : Result Given Full) → Pulls size c b d (pending_in s ls) q r → IsLineIn (line_of (pending_in s ls).sources) (length b) → IsRead c d sizes (seen t (pending_in s ls) b left file num) (seen t q d left file num) r
   pull_reads size r h inside = item_reads size (next_item (pending_in s ls).puts) r refl h inside

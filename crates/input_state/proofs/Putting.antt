@@ -4,13 +4,13 @@ use Rattle.std.proofs.lemmas.Option.{none-some}
 use Rattle.tex_defs.specs.declared.Token.{Token}
 use Rattle.tex_defs.specs.declared.Full.{Full}
 use Rattle.tex_defs.specs.declared.Sizes.{Sizes}
-use Rattle.plain_state.specs.Pending as plain
+use Rattle.plain_state.specs.Puts as plain
 use Rattle.plain_state.specs.Tables.{refused}
 use Rattle.token_lists.specs.declared.Build.{Build}
 use Rattle.token_lists.specs.Ids.{build_id}
 use Rattle.token_lists.specs.Table.{Entry, tokens_at}
 use Rattle.token_lists.specs.Accounts.{holds, Moves, Keeps}
-use Rattle.input_stack.specs.Puts.{Put, Text, put_in_front}
+use Rattle.input_stack.specs.Puts.{Text}
 use Rattle.input_stack.specs.Pending.{Pending, put, plain_put, refusal, room, used_levels}
 use Rattle.input_stack.specs.View.{pending, held}
 use Rattle.input_stack.specs.Standing.{Stands}
@@ -18,17 +18,11 @@ use Rattle.input_stack.specs.Lasting.{Lasts}
 use Rattle.input_stack.specs.declared.stack.InputStack.{InputStack}
 use Rattle.input_state.specs.HeldLists.{HeldLists, made, level_held}
 use Rattle.input_state.specs.HeldViews.{fronts, text, line_of, lists_of, builds, IsSimple, IsShared, IsSound}
-use Rattle.input_state.proofs.Levels.{texts_back, fronts_settled, levels_used, simple_put}
+use Rattle.input_state.proofs.Fronts.{token_front, fronts_put}
+use Rattle.input_state.proofs.Levels.{levels_used, simple_put}
 use Rattle.input_state.proofs.Sharing.{Moved, moved, built_cons}
 use Rattle.input_state.proofs.ListViews.{held_lists, moved_view}
 use Rattle.input_state.proofs.Refusing.{levels_refused}
-
-new_front : (ts us vs : List Token) → us ≡ ts → vs ≡ ts → (ps qs : List plain.Put) → ps ≡ qs → ◌≡◌ {A = List plain.Put} (record { whole = us; left = vs } ∷ ps) (plain.new_put ts ∷ qs)
-new_front ts us vs e f ps qs g = rw (e, f, g) refl
-
-put_fronts : (table : List (Option Entry)) (n : ℕ) (ts : List Token) (ps : List Put) → tokens_at table n ≡ ts → plain.settled (fronts table ps) ≡ fronts table ps → fronts table (put_in_front (plain_put n ts) ps) ≡ plain.with_put ts (fronts table ps)
-put_fronts table n [] ps is settled_already = refl
-put_fronts table n (t ∷ ts) ps is settled_already = new_front (t ∷ ts) _ _ is (texts_back (t ∷ ts)) _ _ (fronts_settled table ps ∙ settled_already)
 
 module _ (old new : List (Option Entry)) (s t : InputStack) (a : Build) (gathered : List Build) (sizes : Sizes) (n capacity : ℕ) (making : Option Build) (some : making ≡ Some a) (sound : IsSound old s making gathered sizes capacity) (same : n ≡ build_id a) where
   shared_now : IsShared old s (a ∷ reverse gathered)
@@ -55,7 +49,7 @@ module _ (old new : List (Option Entry)) (s t : InputStack) (a : Build) (gathere
     }
 
     pub put_view : (now : Option Build) (v : HeldLists) → now ≡ None → lists_of old (pending old s) making gathered sizes ≡ v → plain.settled v.puts ≡ v.puts →
-        lists_of new (pending new t) now gathered sizes ≡ record v { puts = plain.with_put (made v.making) v.puts; making = None }
+        lists_of new (pending new t) now gathered sizes ≡ record v { puts = plain.with_put (plain.token_put (made v.making)) v.puts; making = None }
     put_view now v none is settled_already =
         let was : lists_of old (pending old s) (Some a) gathered sizes ≡ v = ap (λ (m : Option Build). lists_of old (pending old s) m gathered sizes) (sym some) ∙ is in
         let ps = (pending old s).puts in
@@ -64,8 +58,8 @@ module _ (old new : List (Option Entry)) (s t : InputStack) (a : Build) (gathere
         ap (λ (m : Option Build). lists_of new (pending new t) m gathered sizes) none
         ∙ moved_view old new t None gathered sizes moved_now
         ∙ ap (λ (p : Pending). lists_of old p None gathered sizes) after
-        ∙ ap (λ (qs : List plain.Put). held_lists qs None (map (text old) (reverse gathered)) (line_of (pending old s).sources) sizes) (put_fronts old n (tokens_at old n) ps refl quiet ∙ ap (λ (ts : List Token). plain.with_put ts (fronts old ps)) tokens)
-        ∙ ap (λ (w : HeldLists). record w { puts = plain.with_put (made w.making) w.puts; making = None }) was
+        ∙ ap (λ (qs : List plain.Put). held_lists qs None (map (text old) (reverse gathered)) (line_of (pending old s).sources) sizes) (fronts_put old (plain_put n (tokens_at old n)) ps quiet ∙ ap (λ (x : plain.Put). plain.with_put x (fronts old ps)) (token_front old n (tokens_at old n) refl ∙ ap plain.token_put tokens))
+        ∙ ap (λ (w : HeldLists). record w { puts = plain.with_put (plain.token_put (made w.making)) w.puts; making = None }) was
 
   refusal_none : (ts : List Token) (p : Pending) (size : ℕ) → room size (used_levels p) ≡ None → refusal size (map Text ts) p ≡ None
   refusal_none [] p size none = refl
@@ -74,5 +68,5 @@ module _ (old new : List (Option Entry)) (s t : InputStack) (a : Build) (gathere
   -- the levels have room
   pub put_fits : (v : HeldLists) (f : Full) → lists_of old (pending old s) making gathered sizes ≡ v → refused v.sizes (level_held v ∷ []) ≡ None → refusal s.size (map Text (tokens_at old n)) (pending old s) ≡ Some f → ⊥
   put_fits v f is fits refuses =
-      let none = levels_refused sizes (used_levels (pending old s)) _ s.size (levels_used old (pending old s) sound.shared.simple) sound.levels ∙ ap (λ (w : HeldLists). refused w.sizes (level_held w ∷ [])) is ∙ fits in
+      let none = levels_refused sizes (used_levels (pending old s)) _ s.size (levels_used old (pending old s) sound.shared.simple.single) sound.levels ∙ ap (λ (w : HeldLists). refused w.sizes (level_held w ∷ [])) is ∙ fits in
       none-some f (sym (refusal_none (tokens_at old n) (pending old s) s.size none) ∙ refuses)

@@ -5,8 +5,8 @@ use Rattle.std.proofs.lemmas.Bool.{cases_lt}
 use Rattle.std.proofs.lemmas.Bool.Decides.{nat_tests}
 use Rattle.plain_state.specs.Lex as lex
 use Rattle.plain_state.specs.Lex.{lexed}
-use Rattle.plain_state.specs.Pending.{Pending, Put, Begun, pulled, settled, settled_top, from_front, from_list, from_line, from_file}
-use Rattle.tex_defs.specs.declared.Token.{Token}
+use Rattle.plain_state.specs.Puts.{Item, Put, passed, passed_top, without_gaps}
+use Rattle.plain_state.specs.Pending.{Pending, Begun, pulled, from_front, from_list, from_line, from_file}
 use Rattle.line_lexer.specs.declared.Ahead.TheVariants as ahead
 use Rattle.line_lexer.specs.Answers.{looks_of}
 use Rattle.input_state.specs.Reads.{gives_step}
@@ -38,32 +38,32 @@ line_used (lex.Gives x state line) is = cc
 line_used (lex.Invalid state line) is = cc
 line_used lex.UsedUp is = refl
 
--- a list that isn't finished has a token
-top_left : (p x : Put) (ts : List Token) (below rest qs : List Put) → p.left ≡ ts → (below ≡ x ∷ qs → 0 < length x.left) → settled_top p ts below rest ≡ x ∷ qs → 0 < length x.left
-top_left p x [] below rest qs is more e = more e
-top_left p x (t ∷ ts) below rest qs is more e =
-    let same : p ≡ x = cc in
-    omega (arith, ap (λ (y : Put). length y.left) same, ap length is)
+-- a list that isn't passed has an item
+top_left : (p x : Put) (xs : List Item) (below rest qs : List Put) → (below ≡ x ∷ qs → 0 < length x.items) → passed_top p xs below rest ≡ x ∷ qs → 0 < length x.items
+top_left p x [] below rest qs more e = more e
+top_left p x (y ∷ ys) below rest qs more e =
+    let same : record { list = p.list; arguments = p.arguments; items = y ∷ ys } ≡ x = cc in
+    omega (arith, ap (λ (z : Put). length z.items) same)
 
-head_left : (ps : List Put) (x : Put) (qs : List Put) → settled ps ≡ x ∷ qs → 0 < length x.left
+head_left : (ps : List Put) (x : Put) (qs : List Put) → passed ps ≡ x ∷ qs → 0 < length x.items
 head_left [] x qs e = cc
-head_left (p ∷ ps) x qs e = top_left p x p.left (settled ps) ps qs refl (head_left ps x qs) e
+head_left (p ∷ ps) x qs e = top_left p x (without_gaps p.items) (passed ps) ps qs (head_left ps x qs) e
 
-list_token : (c : List ℕ) (p : Pending) (x : Put) (ps : List Put) (ts : List Token) → 0 < length ts → gives_step (from_list c p x ps ts) ≡ true
+list_token : (c : List ℕ) (p : Pending) (x : Put) (ps : List Put) (xs : List Item) → 0 < length xs → gives_step (from_list c p x ps xs) ≡ true
 list_token c p x ps [] some = absurd (omega (arith, some))
-list_token c p x ps (t ∷ ts) some = refl
+list_token c p x ps (y ∷ ys) some = refl
 
-front_token : (c : List ℕ) (p : Pending) (ps : List Put) → settled p.puts ≡ ps → front_ahead c p ps ≡ ahead.Token → gives_step (from_front c p ps) ≡ true
+front_token : (c : List ℕ) (p : Pending) (ps : List Put) → passed p.puts ≡ ps → front_ahead c p ps ≡ ahead.Token → gives_step (from_front c p ps) ≡ true
 front_token c p [] e is = line_token p (lexed c p.lex p.line) is
-front_token c p (x ∷ ps) e is = list_token c p x ps x.left (head_left p.puts x ps e)
+front_token c p (x ∷ ps) e is = list_token c p x ps x.items (head_left p.puts x ps e)
 
 pub token_comes : (c : List ℕ) (p : Pending) → ahead_of c p ≡ ahead.Token → gives_step (pulled c p) ≡ true
-token_comes c p is = front_token c p (settled p.puts) refl is
+token_comes c p is = front_token c p (passed p.puts) refl is
 
 front_used : (c : List ℕ) (p : Pending) (ps : List Put) → front_ahead c p ps ≡ ahead.End → (ps ≡ []) × (from_front c p ps ≡ from_file p.file p.number p.rest)
 front_used c p [] is = (refl, ap (from_line p) (line_used (lexed c p.lex p.line) is))
 front_used c p (x ∷ ps) is = cc
 
 -- nothing is left but the file
-pub used_up : (c : List ℕ) (p : Pending) → ahead_of c p ≡ ahead.End → (settled p.puts ≡ []) × (pulled c p ≡ from_file p.file p.number p.rest)
-used_up c p is = front_used c p (settled p.puts) is
+pub used_up : (c : List ℕ) (p : Pending) → ahead_of c p ≡ ahead.End → (passed p.puts ≡ []) × (pulled c p ≡ from_file p.file p.number p.rest)
+used_up c p is = front_used c p (passed p.puts) is

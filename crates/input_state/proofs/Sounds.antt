@@ -5,7 +5,7 @@ use Rattle.std.proofs.lemmas.List.Elements.{All-head, All-cons, All-nil}
 use Rattle.tex_defs.specs.declared.Sizes.{Sizes}
 use Rattle.tex_defs.specs.declared.Full.{Full}
 use Rattle.plain_state.specs.Tables.{memory, refused}
-use Rattle.plain_state.specs.Pending as plain
+use Rattle.plain_state.specs.Puts as plain
 use Rattle.token_lists.specs.declared.Build.{Build}
 use Rattle.token_lists.specs.Ids.{build_id, IsBuilding}
 use Rattle.token_lists.specs.Table.{Entry, entry_at, holders_at, holders_of, words}
@@ -23,7 +23,8 @@ use Rattle.input_stack.proofs.Kept.{holds_itself}
 use Rattle.input_state.specs.Changes.{IsOnly}
 use Rattle.input_state.specs.HeldLists.{HeldLists, words_held}
 use Rattle.input_state.specs.HeldViews.{text, made_text, line_of, lists_of, builds, built, IsSingle, IsSimple, ArePlain, IsShared, IsSound}
-use Rattle.input_state.proofs.Levels.{fronts_settled, simple_settled}
+use Rattle.input_state.proofs.Fronts.{fronts_settled}
+use Rattle.input_state.proofs.Levels.{simple_settled}
 use Rattle.input_state.proofs.Sharing.{Changed, Moved, changed, moved, built_cons, all_right}
 use Rattle.input_state.proofs.ListViews.{held_lists, reverse_push, moved_view}
 use Rattle.input_state.proofs.Words.{words_are, gathered_few}

@@ -1,11 +1,12 @@
 -- The lists that are held, and the line of the file beneath those in front.
-use Rattle.std.specs.Prelude.{ℕ, ◌+◌, ◌≤◌, List, [], ◌∷◌, ◌++◌, Option, None, Some, Bool, true, false}
+use Rattle.std.specs.Prelude.{ℕ, ◌+◌, ◌≤◌, List, [], ◌∷◌, Option, None, Some, Bool, true, false}
 use Rattle.tex_defs.specs.declared.Token.{Token}
 use Rattle.tex_defs.specs.declared.Sizes.{Sizes}
 use Rattle.tex_defs.specs.declared.Table.TheVariants.{InputStackSize}
 use Rattle.plain_state.specs.Lex as plain
-use Rattle.plain_state.specs.Pending.{Pending, Progress, NotBegun, Put, settled}
-use Rattle.plain_state.specs.Tables.{Demand, held_words, put_levels}
+use Rattle.plain_state.specs.Puts.{Put, put_levels, passed}
+use Rattle.plain_state.specs.Pending.{Pending, Progress, NotBegun}
+use Rattle.plain_state.specs.Tables.{Demand, held_words}
 use Rattle.line_lexer.specs.declared.Line.{Line}
 use Rattle.line_lexer.specs.declared.Ahead.{Ahead}
 use Rattle.line_lexer.specs.declared.Ahead.TheVariants as ahead
@@ -28,20 +29,10 @@ abbrev pub is_empty : List Token → Bool
 is_empty [] = true
 is_empty (t ∷ ts) = false
 
--- it gets a token at its end
-abbrev pub grown_first : Token → List (List Token) → List (List Token)
-grown_first token [] = []
-grown_first token (ts ∷ more) = (ts ++ token ∷ []) ∷ more
-
 -- the list that is made
 abbrev pub made : Option (List Token) → List Token
 made None = []
 made (Some ts) = ts
-
--- it gets a token at its end
-abbrev pub grown_made : Token → Option (List Token) → Option (List Token)
-grown_made token None = None
-grown_made token (Some ts) = Some (ts ++ token ∷ [])
 
 -- WHAT IS USED
 
@@ -88,4 +79,4 @@ front_ahead categories p (x ∷ ps) = ahead.Token
 
 -- what comes next from a list in front or from the line
 abbrev pub ahead_of : List ℕ → Pending → Ahead
-ahead_of categories p = front_ahead categories p (settled p.puts)
+ahead_of categories p = front_ahead categories p (passed p.puts)

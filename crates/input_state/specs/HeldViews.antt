@@ -2,13 +2,13 @@
 use Rattle.std.specs.Prelude.{◌≡◌, ℕ, ◌+◌, ◌≤◌, List, [], ◌∷◌, ◌++◌, map, reverse, length, Option, None, Some, All, option_to_list, sum_by}
 use Rattle.tex_defs.specs.declared.Token.{Token}
 use Rattle.tex_defs.specs.declared.Sizes.{Sizes}
-use Rattle.plain_state.specs.Pending as plain
+use Rattle.plain_state.specs.Puts as plain
 use Rattle.line_lexer.specs.declared.Line.{Line}
 use Rattle.token_lists.specs.declared.Build.{Build}
 use Rattle.token_lists.specs.Ids.{build_id, IsBuilding}
 use Rattle.token_lists.specs.Table.{Entry, tokens_at, holders_at}
 use Rattle.token_lists.specs.Accounts.{holds}
-use Rattle.input_stack.specs.Puts.{Put, Text}
+use Rattle.input_stack.specs.Puts.{Put, Item, Text, First, Later, Gap}
 use Rattle.input_stack.specs.Pending.{Pending, Below}
 use Rattle.input_stack.specs.Pulls.{token_in}
 use Rattle.input_stack.specs.View.{pending, held}
@@ -16,9 +16,16 @@ use Rattle.input_stack.specs.Standing.{Stands}
 use Rattle.input_stack.specs.declared.stack.InputStack.{InputStack}
 use Rattle.input_state.specs.HeldLists.{HeldLists}
 
--- a list in front: the tokens of its list, and those that are left
+-- an item without the number of its argument's list
+abbrev pub plain_item : Item → plain.Item
+plain_item (Text t) = plain.Text t
+plain_item (First n t) = plain.First t
+plain_item (Later n t) = plain.Later t
+plain_item Gap = plain.Gap
+
+-- a list in front: the tokens of its list, which is its own, and the items that are left
 abbrev pub front : List (Option Entry) → Put → plain.Put
-front table x = record { whole = tokens_at table x.list; left = map token_in x.items }
+front table x = record { list = plain.Own (tokens_at table x.list); arguments = []; items = map plain_item x.items }
 
 abbrev pub fronts : List (Option Entry) → List Put → List plain.Put
 fronts table ps = map (front table) ps

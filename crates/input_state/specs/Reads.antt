@@ -3,8 +3,9 @@ use Rattle.std.specs.Prelude.{◌≡◌, ℕ, ◌<◌, ◌≤◌, List, length, 
 use Rattle.tex_defs.specs.declared.Full.{Full}
 use Rattle.tex_defs.specs.declared.Sizes.{Sizes}
 use Rattle.plain_state.specs.Lex as plain
+use Rattle.plain_state.specs.Puts.{next_item}
 use Rattle.plain_state.specs.Pending.{Pending, Pulled, TokenFrom, LexemeFrom, LineTaken, InvalidMet, FileOver, NothingLeft, pulled, from_file, taken_line, settle}
-use Rattle.plain_state.specs.Tables.{refused, next_line}
+use Rattle.plain_state.specs.Tables.{refused, opened_level, next_line}
 use Rattle.line_lexer.specs.Answers.{span}
 use Rattle.line_lexer.specs.declared.Lexed.{Lexed}
 use Rattle.line_lexer.specs.declared.Lexed.TheVariants.{Char, Active, Single, Word, Empty, Par, Invalid, End}
@@ -28,9 +29,9 @@ pub record ReadsLexeme (p : Pulled) (lexed : Lexed) (next : Pending) (buffer : L
   pub is : IsLexeme buffer lexed lexeme
   pub pulls : p ≡ LexemeFrom lexeme next
 
--- the answer on a reading from what is pending, before and after it
+-- The answer on a reading from what is pending, before and after it. A token of a list and a line have room.
 abbrev pub Reads : Pulled → answers.Pulled → Sizes → Pending → Pending → List ℕ → Type 0
-Reads p (answer.Token t) sizes old new buffer = p ≡ TokenFrom t new
+Reads p (answer.Token t) sizes old new buffer = (p ≡ TokenFrom t new) × (refused sizes (opened_level (next_item old.puts) old) ≡ None)
 Reads p (answer.Lexeme l) sizes old new buffer = ReadsLexeme p l new buffer
 Reads p answer.Taken sizes old new buffer = (p ≡ LineTaken (taken_line old.rest) new) × (refused sizes (next_line old) ≡ None)
 Reads p answer.Invalid sizes old new buffer = p ≡ InvalidMet new

@@ -1,13 +1,15 @@
 // The lists in front, those that are being made and gathered, and the line of the file beneath them.
 ghost use Rattle.std.specs.Prelude.{◌≡◌, ◌≢◌, ℕ, ◌≤◌, ◌<◌, ◌+◌, ◌++◌, ◌↔◌, List, [], ◌∷◌, Option, None, Some, IsSome, IsTrue, IfOk, OnOk, OnErr, IfErr, MatchResult, length, drop};
-ghost use Rattle.plain_state.specs.Pending.{Progress, pulled, settled, with_put};
+ghost use Rattle.plain_state.specs.Puts.{settled, with_put, token_put};
+ghost use Rattle.plain_state.specs.Pending.{Progress, pulled};
+ghost use Rattle.plain_state.specs.States.{grow_first, grown_by};
 ghost use Rattle.plain_state.specs.Tables.{memory, refused};
 ghost use Rattle.line_lexer.specs.declared.Ahead.TheVariants as ahead;
 ghost use Rattle.token_lists.specs.Table.{words, tokens_at, holders_at, IsHeld};
 ghost use Rattle.token_lists.specs.Ids.{build_id, IsBuilding};
 ghost use Rattle.token_lists.specs.Accounts.{Moves, none, holds};
 ghost use Rattle.token_lists.specs.Refusals.{IsFull};
-ghost use Rattle.input_state.specs.HeldLists.{HeldLists, first_list, is_empty, grown_first, made, grown_made, words_held, level_held, pending_of, ahead_of, line_levels, IsLineIn};
+ghost use Rattle.input_state.specs.HeldLists.{HeldLists, first_list, is_empty, made, words_held, level_held, pending_of, ahead_of, line_levels, IsLineIn};
 ghost use Rattle.input_state.specs.Changes.{IsOnly};
 ghost use Rattle.input_state.specs.Reads.{Reads};
 ghost use Rattle.input_state.specs.Given.{GivesMore, answer_of};
@@ -180,7 +182,7 @@ impl Held {
     pub fn grow_list(&mut self, token: Token) -> Result<(), Full>
         requires { self.old.gathered ≢ [] }
         ensures refused { MatchResult result (λ _. refused self.old.sizes (memory 1 (words_held self.old) ∷ []) ≡ None) (λ full. refused self.old.sizes (memory 1 (words_held self.old) ∷ []) ≡ Some full) }
-        ensures ok { OnOk result (self.new ≡ record self.old { gathered = grown_first token self.old.gathered }) }
+        ensures ok { OnOk result (self.new ≡ record self.old { gathered = grow_first token self.old.gathered }) }
         ensures err { OnErr result (self.new ≡ self.old) }
     {
         let Some(mut build) = self.gathered.pop() else {
@@ -261,7 +263,7 @@ impl Held {
     pub fn grow_made(&mut self, token: Token) -> Result<(), Full>
         requires { IsSome self.old.making }
         ensures refused { MatchResult result (λ _. refused self.old.sizes (memory 1 (words_held self.old) ∷ []) ≡ None) (λ full. refused self.old.sizes (memory 1 (words_held self.old) ∷ []) ≡ Some full) }
-        ensures ok { OnOk result (self.new ≡ record self.old { making = grown_made token self.old.making }) }
+        ensures ok { OnOk result (self.new ≡ record self.old { making = grown_by token self.old.making }) }
         ensures err { OnErr result (self.new ≡ self.old) }
     {
         let Some(mut build) = self.making.take() else {
@@ -296,7 +298,7 @@ impl Held {
         requires some { IsSome self.old.making }
         requires settled { settled self.old.puts ≡ self.old.puts }
         requires room { refused self.old.sizes (level_held self.old ∷ []) ≡ None }
-        ensures { self.new ≡ record self.old { puts = with_put (made self.old.making) self.old.puts; making = None } }
+        ensures { self.new ≡ record self.old { puts = with_put (token_put (made self.old.making)) self.old.puts; making = None } }
     {
         let Some(build) = self.making.take() else {
             unreachable!()
@@ -311,7 +313,8 @@ impl Held {
     /// What the next pull gives. Nothing changes.
     pub fn looks(&self, bytes: &[u8], categories: &[u8; 256]) -> Ahead
         requires { IsLineIn self.now.line (length bytes.now) }
-        ensures { (rest : List ℕ) (file : Progress) (number : ℕ) → result ≡ ahead_of categories.now (pending_of self.now bytes.now rest file number) }
+        ensures ahead { (rest : List ℕ) (file : Progress) (number : ℕ) → result ≡ ahead_of categories.now (pending_of self.now bytes.now rest file number) }
+        ensures finished { result ≡ ahead.End → settled self.now.puts ≡ [] }
     {
         self.stack.looks(&self.lists, bytes, categories)
     }

@@ -1,7 +1,9 @@
 // The input of a run.
 ghost use Rattle.std.specs.Prelude.{◌≡◌, ◌≢◌, ◌≤◌, ◌<◌, ◌+◌, [], ◌∷◌, None, Some, IsSome, IfOk, IfErr, OnOk, OnErr, MatchResult, MatchBool, length, drop};
 ghost use Rattle.std.specs.Option.{option_map};
+ghost use Rattle.plain_state.specs.Puts.{settled, token_put};
 ghost use Rattle.plain_state.specs.Pending.{NotBegun, Begun, Closed, LineTaken, pulled, settle, put_front, line_taken, taken_line, from_file};
+ghost use Rattle.plain_state.specs.States.{grow_first, grown_by};
 ghost use Rattle.plain_state.specs.Tables.{memory, level, file_levels, next_line, refused};
 ghost use Rattle.line_lexer.specs.declared.Ahead.TheVariants as ahead;
 ghost use Rattle.line_lexer.specs.declared.LineState.TheVariants.{NewLine};
@@ -9,7 +11,7 @@ ghost use Rattle.tex_defs.specs.declared.Table.TheVariants.{BufferSize};
 ghost use Rattle.token_lists.specs.Table.{tokens_at, IsHeld};
 ghost use Rattle.token_lists.specs.Table as table;
 ghost use Rattle.token_lists.specs.Ids.{build_id};
-ghost use Rattle.input_state.specs.HeldLists.{first_list, is_empty, grown_first, made, grown_made, ahead_of, line_levels, file_demands};
+ghost use Rattle.input_state.specs.HeldLists.{first_list, is_empty, made, ahead_of, line_levels, file_demands};
 ghost use Rattle.input_state.specs.FileViews.{progress_of};
 ghost use Rattle.input_state.specs.Stored.{words, unread, closed};
 ghost use Rattle.input_state.specs.Reads.{Pulls, Refuses, RefusesLine, gives_step};
@@ -153,7 +155,7 @@ impl Input {
     pub fn grow_list(&mut self, token: Token) -> Result<(), Full>
         requires { self.old.gathered ≢ [] }
         ensures refused { MatchResult result (λ _. refused self.old.sizes (memory 1 (words self.old) ∷ []) ≡ None) (λ full. refused self.old.sizes (memory 1 (words self.old) ∷ []) ≡ Some full) }
-        ensures ok { OnOk result (self.new ≡ record self.old { gathered = grown_first token self.old.gathered }) }
+        ensures ok { OnOk result (self.new ≡ record self.old { gathered = grow_first token self.old.gathered }) }
         ensures err { OnErr result (self.new ≡ self.old) }
     {
         self.held.grow_list(token)
@@ -219,7 +221,7 @@ impl Input {
     pub fn grow_made(&mut self, token: Token) -> Result<(), Full>
         requires { IsSome self.old.making }
         ensures refused { MatchResult result (λ _. refused self.old.sizes (memory 1 (words self.old) ∷ []) ≡ None) (λ full. refused self.old.sizes (memory 1 (words self.old) ∷ []) ≡ Some full) }
-        ensures ok { OnOk result (self.new ≡ record self.old { making = grown_made token self.old.making }) }
+        ensures ok { OnOk result (self.new ≡ record self.old { making = grown_by token self.old.making }) }
         ensures err { OnErr result (self.new ≡ self.old) }
     {
         self.held.grow_made(token)
@@ -233,7 +235,7 @@ impl Input {
         requires some { IsSome self.old.making }
         requires settled { self.old.pending ≡ settle self.old.pending }
         ensures refused { MatchResult result (λ _. refused self.old.sizes (level self.old.pending ∷ []) ≡ None) (λ full. refused self.old.sizes (level self.old.pending ∷ []) ≡ Some full) }
-        ensures ok { OnOk result (self.new ≡ record self.old { pending = put_front (made self.old.making) self.old.pending; making = None }) }
+        ensures ok { OnOk result (self.new ≡ record self.old { pending = put_front (token_put (made self.old.making)) self.old.pending; making = None }) }
         ensures err { OnErr result (self.new ≡ self.old) }
     {
         if let Some(full) = self.held.room() {
@@ -245,7 +247,8 @@ impl Input {
 
     // What the next reading gives, but for what the file gives.
     fn looks(&self, categories: &[u8; 256]) -> Ahead
-        ensures { result ≡ ahead_of categories.now self.now.pending }
+        ensures ahead { result ≡ ahead_of categories.now self.now.pending }
+        ensures finished { result ≡ ahead.End → settled self.now.pending.puts ≡ [] }
     {
         self.held.looks(&self.buffer, categories)
     }

@@ -2,13 +2,14 @@ use Rattle.std.proofs.Common.{◌≡◌, ◌∙◌, ◌∷◌, ◌++◌, ◌<◌
 use Rattle.std.specs.Prelude.{option_to_list}
 use Rattle.tex_defs.specs.declared.Token.{Token}
 use Rattle.tex_defs.specs.declared.Full.{Full}
+use Rattle.plain_state.specs.States.{grow_first}
 use Rattle.plain_state.specs.Tables.{memory, refused}
 use Rattle.token_lists.specs.Table.{words}
 use Rattle.token_lists.specs.Refusals.{IsFull}
 use Rattle.token_lists.specs.Ids.{build_id}
 use Rattle.token_lists.specs.Table.{tokens_at}
 use Rattle.input_stack.specs.View.{pending}
-use Rattle.input_state.specs.HeldLists.{HeldLists, words_held, grown_first}
+use Rattle.input_state.specs.HeldLists.{HeldLists, words_held}
 use Rattle.input_state.specs.HeldViews.{text, lists_of, fronts, made_text, line_of}
 use Rattle.input_state.proofs.ListViews.{first_view, held_lists, reverse_push}
 use Rattle.input_state.proofs.Sounds.{grown, push_builds, push_shared, push_building, changed_sound, fits_now, full_now, match_of, ok_of}
@@ -59,4 +60,4 @@ returns-clause-ok c =
     let first : lists_of i.lists p i.making i.gathered.items i.sizes ≡ old (text i.lists a ∷ map (text i.lists) (reverse rest)) = ap (λ bs. old (map (text i.lists) bs)) (reverse_push i.gathered.items rest a c.in-Some.ensures.items) in
     ok_of c.append-grown.result (tokens_at new (build_id a) ≡ ts) _ e.grown (λ is.
     first_view i.lists new i.stack i.sizes i.making c.push_reserved.new.self.items rest b ts changed c.push_reserved.ensures.items (ap (tokens_at new) e.same ∙ is)
-    ∙ ap (λ (v : HeldLists). record v { gathered = grown_first c.args.token v.gathered }) (sym first ∙ c.self.view_is))
+    ∙ ap (λ (v : HeldLists). record v { gathered = grow_first c.args.token v.gathered }) (sym first ∙ c.self.view_is))

@@ -1,5 +1,6 @@
 use Rattle.std.proofs.Common.{◌≡◌, ◌∙◌, ◌∷◌, ◌++◌, ◌<◌, [], length, Option, None, Some, refl, sym, ap, subst, reverse}
 use Rattle.tex_defs.specs.declared.Full.{Full}
+use Rattle.plain_state.specs.States.{grown_by}
 use Rattle.plain_state.specs.Tables.{memory, refused}
 use Rattle.std.proofs.lemmas.List.Elements.{All-head}
 use Rattle.token_lists.specs.declared.Build.{Build}
@@ -7,7 +8,7 @@ use Rattle.token_lists.specs.Ids.{build_id, IsBuilding}
 use Rattle.token_lists.specs.Table.{words, tokens_at}
 use Rattle.token_lists.specs.Refusals.{IsFull}
 use Rattle.input_stack.specs.View.{pending}
-use Rattle.input_state.specs.HeldLists.{HeldLists, words_held, grown_made}
+use Rattle.input_state.specs.HeldLists.{HeldLists, words_held}
 use Rattle.input_state.specs.HeldViews.{builds, text, lists_of, IsShared}
 use Rattle.input_state.proofs.ListViews.{made_view}
 use Rattle.input_state.proofs.Sounds.{grown, changed_sound, fits_now, full_now, match_of, ok_of}
@@ -50,4 +51,4 @@ returns-clause-ok c =
     ok_of c.append-grown.result (tokens_at new (build_id a) ≡ ts) _ e.grown (λ is.
     ap (λ (m : Option Build). lists_of new (pending new i.stack) m i.gathered.items i.sizes) c.replace.ensures.after
     ∙ made_view i.lists new i.stack i.sizes i.gathered.items b ts changed (ap (tokens_at new) e.same ∙ is)
-    ∙ ap (λ (v : HeldLists). record v { making = grown_made c.args.token v.making }) (was ∙ c.self.view_is))
+    ∙ ap (λ (v : HeldLists). record v { making = grown_by c.args.token v.making }) (was ∙ c.self.view_is))

@@ -1,7 +1,7 @@
 use Rattle.std.proofs.Common.{◌∙◌, ◌∷◌, [], ap}
 use Rattle.plain_state.specs.Tables.{refused}
 use Rattle.input_stack.specs.Pending.{used_levels}
-use Rattle.input_stack.specs.View.{pending, innermost}
+use Rattle.input_stack.specs.View.{pending}
 use Rattle.input_state.specs.HeldLists.{HeldLists, level_held}
 use Rattle.input_state.proofs.Levels.{levels_used}
 use Rattle.input_state.proofs.Refusing.{levels_refused}
@@ -24,5 +24,5 @@ pub returns-clause-refused : goal.returns-clause-refused
 returns-clause-refused c =
     let i = c.self.inside in
     c.room.ensures.refused
-    ∙ levels_refused i.sizes (used_levels (pending i.lists i.stack)) _ i.stack.size (levels_used i.lists (pending i.lists i.stack) c.self.invariant.shared.simple) c.self.invariant.levels
+    ∙ levels_refused i.sizes (used_levels (pending i.lists i.stack)) _ i.stack.size (levels_used i.lists (pending i.lists i.stack) c.self.invariant.shared.simple.single) c.self.invariant.levels
     ∙ ap (λ (v : HeldLists). refused v.sizes (level_held v ∷ [])) c.self.view_is
