@@ -1,4 +1,5 @@
 pub mod Asking
+pub mod Cells
 pub mod Counting
 pub mod Cutting
 pub mod Feeding
