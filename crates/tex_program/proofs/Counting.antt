@@ -9,11 +9,14 @@ use Rattle.tex_defs.specs.declared.Table.TheVariants.{ExpansionDepth, DelayedWri
 use Rattle.tex_defs.specs.Sizes.{first_out_of_range, first_out_among, is_in_range, size_of, tables}
 use Rattle.tex_defs.specs.declared.Table.{Table}
 use Rattle.plain_state.specs.States.{Reading}
+use Rattle.plain_state.specs.Tables.{words, memory, refused}
+use Rattle.input_state.specs.Stored.{words as stored_words}
+use Rattle.tex_defs.specs.declared.Full.{Full}
 use Rattle.frames.specs.declared.scan.Ask.{Ask}
 use Rattle.frames.specs.declared.frame.Frame.{Frame}
 use Rattle.frames.specs.declared.frame.Waiting.{Waiting}
 use Rattle.tex_program.specs.declared.engine.Engine.{Engine}
-use Rattle.tex_program.specs.Stands.{Stands, Waits, WaitsWith, WorkStands, WaitStands, OuterStand, Counts, top_count, depth_full}
+use Rattle.tex_program.specs.Stands.{Stands, Waits, WaitsWith, WorkStands, WaitStands, OuterStand, Counts, state_of, top_count, depth_full}
 
 pub outer_depth : (fs : List Waiting) (rs : List Reading) → OuterStand fs rs → length rs ≡ length fs
 outer_depth [] [] h = refl
@@ -59,6 +62,16 @@ inner_count sizes e waiting (r ∷ rs) o h = record {
   sized = h.sized;
   depth = top_depth r e.outer.items rs h.outer ∙ ap (λ (n : ℕ). length e.outer.items + n) (sym (open_count e.top o));
 }
+
+-- the main memory holds what the input holds: there are no macros
+pub words_are : (e : Engine) (work : List Reading) → words (state_of e work) ≡ stored_words e.input
+words_are e work = omega arith
+
+-- so many words more, by the machine and by the input
+pub words_more : (sizes : Sizes) (e : Engine) (work : List Reading) (need : ℕ) (o : Option Full) → e.input.sizes ≡ sizes →
+    refused e.input.sizes (memory need (stored_words e.input) ∷ []) ≡ o → refused sizes (memory need (words (state_of e work)) ∷ []) ≡ o
+words_more sizes e work need o sized h =
+    ap (λ (n : ℕ). refused sizes (memory need n ∷ [])) (words_are e work) ∙ (ap (λ (s : Sizes). refused s (memory need (stored_words e.input) ∷ [])) (sym sized) ∙ h)
 
 -- no reading more
 pub no_room : (used size u s : ℕ) → size ≤ used → u ≡ used → s ≡ size → Some (record { table = ExpansionDepth; used = u; size = s }) ≡ depth_full used size
