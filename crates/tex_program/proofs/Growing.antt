@@ -36,7 +36,7 @@ use Rattle.frames.specs.Texts.{text_list, text_grows, depth_of, IsTaking}
 use Rattle.frames.specs.declared.frame.Waiting.TheVariants as waiting
 use Rattle.frames.specs.Resumes.{resume, frame_grows, grow_first, lists_after, frame_kind, frame_list, IsOpen, Builds, IsShallow, Owns, MayFeed, HasList, TakesTokens, is_built}
 use Rattle.tex_program.specs.declared.engine.Engine.{Engine}
-use Rattle.tex_program.specs.Stands.{Stands, WorkStands, OuterStand, FrameStands, Innermost, FedFrame, FeedsHere, WaitsWith, IsSized, IsLone, SameState, state_of, top_grows, frames}
+use Rattle.tex_program.specs.Stands.{Stands, WorkStands, OuterStand, FrameStands, Innermost, FedFrame, FeedsHere, Waits as WaitsFor, WaitStands, WaitsWith, IsSized, IsLone, SameState, state_of, top_grows, frames}
 use Rattle.tex_program.specs.Steps.{weight, pending_weight}
 use Rattle.frames.specs.Weights.{frame_rank}
 use Rattle.tex_program.specs.Rules.{TopTakes, feeds_of, Cuts}
@@ -44,6 +44,7 @@ use Rattle.tex_program.specs.declared.broken.Broken.TheVariants as broken
 use Rattle.tex_program.proofs.Counting.{words_more}
 use Rattle.tex_program.proofs.Cutting.{cuts_by, full_cuts}
 use Rattle.tex_program.proofs.Joining.{quiet_here}
+use Rattle.tex_program.proofs.Reporting.{reads_now}
 use Rattle.tex_program.proofs.Feeding.{owned_of}
 
 -- THE LIST THAT A TEXT BUILDS
@@ -155,6 +156,12 @@ pub noting_is : (f : Frame) (lists : List (List Token)) (r : Reading) → FrameS
 noting_is f lists r below =
     ap (λ (k : reading.Kind). grown_to (reading.so_far k r.fed) (reading.so_far k (r.fed ++ Told ∷ [])) ++ Noted ∷ []) below.kind ∙ ap (λ (ms : List Move). ms ++ Noted ∷ []) (kind_noting f lists r below)
 
+pub waits_note : (sizes : Sizes) (e : Engine) (r : Reading) (rs : List Reading) → WaitsFor sizes e (r ∷ rs) → noting r ≡ Noted ∷ []
+waits_note sizes e r rs h = at e.top h.readings where
+  at : (t : Option Frame) → WaitStands t e.outer.items e.input.gathered (r ∷ rs) → noting r ≡ Noted ∷ []
+  at None w = absurd w
+  at (Some f) w = noting_is f e.input.gathered r w.0
+
 -- a list that grows is there
 grows_list : (f : Frame) (x : Seen) (lists : List (List Token)) → Owns f lists → frame_grows f x ≡ true → lists ≡ [] → ⊥
 grows_list (Waits w) x lists h grows none = cc
@@ -239,10 +246,6 @@ fed_one sizes e x r rs f top h w =
     let takes : TakesTokens f = takes_of f e.input.gathered r h.want below (ap (ask_of e.input.gathered) (sym h.asks) ∙ w.0.asked) in
     record { top = top; moves = feeding_is f e.input.gathered r x below takes; owns = below.owns }
 
--- the input's lists, and the readings, are these then
-reads_lists : (e e' : Engine) (work work' : List Reading) → SameState e e' → record (state_of e work) { work = work'; gathered = e'.input.gathered } ≡ state_of e' work'
-reads_lists e e' work work' same = let h = same.others in cc (same.pending, same.making, h.names, h.categories, h.in_line, h.reports, h.quiet)
-
 module _ (sizes : Sizes) (e e2 : Engine) (x : Seen) (same : SameState e e2) (lists : e2.input.gathered ≡ lists_after (top_grows e.top x) x e.input.gathered) where
   -- the input has room, as the machine
   grown_fits : (work : List Reading) (o : Option Full) → e.input.sizes ≡ sizes → refused e.input.sizes (memory 1 (stored_words e.input) ∷ []) ≡ o → refusal sizes (Grows x.token) (state_of e work) ≡ o
@@ -253,10 +256,10 @@ module _ (sizes : Sizes) (e e2 : Engine) (x : Seen) (same : SameState e e2) (lis
   grown_did true r rs w is fits =
       let now : machine.grow_first x.token e.input.gathered ≡ e2.input.gathered = same_growth x.token e.input.gathered ∙ sym (lists ∙ ap (λ (b : Bool). lists_after b x e.input.gathered) is) in
       did_join sizes _ _ _ w w w (Grows x.token ∷ []) (Feeds x ∷ []) (did_one sizes (Grows x.token) _ (made (Grows x.token) (state_of e (r ∷ rs))) w w (fits refl) refl (quiet_here (Grows x.token) w tt))
-      (did_one sizes (Feeds x) _ _ w w refl (ap (λ (l : List (List Token)). record (state_of e (r ∷ rs)) { work = fed_with (Tok x) (r ∷ rs); gathered = l }) now ∙ reads_lists e e2 (r ∷ rs) (fed_with (Tok x) (r ∷ rs)) same) (quiet_here (Feeds x) w tt))
+      (did_one sizes (Feeds x) _ _ w w refl (ap (λ (l : List (List Token)). record (state_of e (r ∷ rs)) { work = fed_with (Tok x) (r ∷ rs); gathered = l }) now ∙ reads_now e e2 (r ∷ rs) (fed_with (Tok x) (r ∷ rs)) same) (quiet_here (Feeds x) w tt))
   grown_did false r rs w is fits =
       let now : e.input.gathered ≡ e2.input.gathered = sym (lists ∙ ap (λ (b : Bool). lists_after b x e.input.gathered) is) in
-      did_one sizes (Feeds x) _ _ w w refl (ap (λ (l : List (List Token)). record (state_of e (r ∷ rs)) { work = fed_with (Tok x) (r ∷ rs); gathered = l }) now ∙ reads_lists e e2 (r ∷ rs) (fed_with (Tok x) (r ∷ rs)) same) (quiet_here (Feeds x) w tt)
+      did_one sizes (Feeds x) _ _ w w refl (ap (λ (l : List (List Token)). record (state_of e (r ∷ rs)) { work = fed_with (Tok x) (r ∷ rs); gathered = l }) now ∙ reads_now e e2 (r ∷ rs) (fed_with (Tok x) (r ∷ rs)) same) (quiet_here (Feeds x) w tt)
 
   pub token_did : (work : List Reading) (w : World) → FeedsHere sizes e x work → (top_grows e.top x ≡ true → (e.input.gathered ≡ [] → ⊥) → refused e.input.sizes (memory 1 (stored_words e.input) ∷ []) ≡ None) →
       Did sizes (state_of e work) (state_of e2 (fed_with (Tok x) work)) w w (feeds_of work x)
@@ -264,7 +267,7 @@ module _ (sizes : Sizes) (e e2 : Engine) (x : Seen) (same : SameState e e2) (lis
     by_top : (t : Option Frame) → e.top ≡ t → (work : List Reading) → FeedsHere sizes e x work → WorkStands e.ask t e.outer.items e.input.gathered work → Did sizes (state_of e work) (state_of e2 (fed_with (Tok x) work)) w w (feeds_of work x)
     by_top None top [] h ws =
         let now : e2.input.gathered ≡ e.input.gathered = lists ∙ ap (λ (t : Option Frame). lists_after (top_grows t x) x e.input.gathered) top in
-        record { state = ap (λ (l : List (List Token)). record (state_of e []) { gathered = l }) (sym now) ∙ reads_lists e e2 [] [] same; fits = tt; written = wrote_none w }
+        record { state = ap (λ (l : List (List Token)). record (state_of e []) { gathered = l }) (sym now) ∙ reads_now e e2 [] [] same; fits = tt; written = wrote_none w }
     by_top None top (r ∷ rs) h ws = absurd ws
     by_top (Some f) top [] h ws = absurd ws
     by_top (Some f) top (r ∷ rs) h ws =
