@@ -1,5 +1,6 @@
 pub mod Asking
 pub mod Cells
+pub mod Commands
 pub mod Counting
 pub mod Cutting
 pub mod Feeding

@@ -45,8 +45,8 @@ use Rattle.tex_program.specs.declared.reactions.Onward.TheVariants as onward
 use Rattle.tex_program.specs.declared.reactions.Last.{Last}
 use Rattle.tex_program.specs.declared.reactions.Last.TheVariants as last
 use Rattle.tex_program.specs.Faults.{broken_by}
-use Rattle.tex_program.specs.Begins.{outcome_of, outcome_of_last, last_moves, last_bytes, IsNoFeed, IsNoBegin}
-use Rattle.tex_program.specs.Stands.{Stands, FramesStand, WorkStands, Waits, WaitStands, EndsHere, OuterStand, AtMostOne, IsSized, SameFrames, SameState, OnlyColumn, state_of, page_of}
+use Rattle.tex_program.specs.Begins.{outcome_of, outcome_of_last, last_moves, last_bytes, IsNoFeed, IsNoBegin, IsCommand}
+use Rattle.tex_program.specs.Stands.{Stands, FramesStand, WorkStands, Waits, WaitStands, EndsHere, OuterStand, AtMostOne, IsSized, IsLone, SameFrames, SameState, OnlyColumn, state_of, page_of}
 use Rattle.tex_program.specs.Rules.{world_of, Takes, FitsOnward, Cuts, CountsReports, Went, Halts, Reports}
 use Rattle.tex_program.proofs.Cutting.{cuts_by, full_cuts, later_cuts, did_out, cut_out}
 use Rattle.tex_program.proofs.Joining.{IsQuiet, quiet_here, quiet_wrote}
@@ -363,3 +363,10 @@ fits_some sizes e want work x (onward.Begin k) built h t = absurd h
 fits_some sizes e want work x (onward.Report r) built h t = t.1
 fits_some sizes e want work x onward.Line built h t = t.1
 fits_some sizes e want work x onward.Finish built h t = t.1
+
+-- where no reading is open, a command begins
+pub lone_first : (sizes : Sizes) (e : Engine) (r : Reading) (work : List Reading) → e.top ≡ None → IsCommand r.kind → Stands sizes e work → IsLone (r ∷ work)
+lone_first sizes e r work top is st = at work (subst (λ (t : Option Frame). WorkStands e.ask t e.outer.items e.input.gathered work) top st.readings) where
+  at : (work : List Reading) → WorkStands e.ask None e.outer.items e.input.gathered work → IsLone (r ∷ work)
+  at [] w = is
+  at (s ∷ rs) w = absurd w
