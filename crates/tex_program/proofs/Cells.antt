@@ -11,6 +11,7 @@ use Rattle.tex_defs.specs.declared.Name.TheVariants as name
 use Rattle.tex_defs.specs.declared.Frozen.{Frozen}
 use Rattle.tex_defs.specs.declared.Frozen.TheVariants as frozen
 use Rattle.tex_defs.specs.declared.Token.{Token}
+use Rattle.tex_defs.specs.declared.Seen.{Seen}
 use Rattle.tex_defs.specs.declared.Token.TheVariants as token
 use Rattle.tex_defs.specs.declared.Meaning.{Meaning}
 use Rattle.tex_defs.specs.declared.Meaning.TheVariants as means
@@ -209,6 +210,13 @@ called_name page names n is = none_called page n (name_meaning page.meanings n) 
 
 pub called_at : (page : Page) (names : List (List ℕ)) (t : Token) → page.meanings ≡ cells_of names → called page t ≡ []
 called_at page names t is = called_name page names (name_of t) is
+
+-- what is seen of a token
+pub seen_built : (names : List (List ℕ)) (t : Token) (x : Seen) → x ≡ seen (cells_of names) t → is_built x.meaning ≡ true
+seen_built names t x is = ap (λ (y : Seen). is_built y.meaning) is ∙ built_at names t
+
+pub seen_calls : (page : Page) (names : List (List ℕ)) (t : Token) (x : Seen) → x ≡ seen (cells_of names) t → page.meanings ≡ cells_of names → called page x.token ≡ []
+seen_calls page names t x is meanings = ap (λ (y : Seen). called page y.token) is ∙ called_at page names t meanings
 
 -- no name of a line is that of an \outer macro
 abbrev IsInner : Name → Type 0

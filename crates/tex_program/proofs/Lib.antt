@@ -5,6 +5,7 @@ pub mod Counting
 pub mod Cutting
 pub mod Feeding
 pub mod Growing
+pub mod Handing
 pub mod Joining
 pub mod Meanings
 pub mod Pulling
