@@ -2,12 +2,13 @@
 use Rattle.std.proofs.Common.{◌≡◌, ℕ, ◌≤◌, List, [], ◌∷◌, ◌++◌, refl, sym, ap, ◌∙◌, subst, Bool, true, false, arith}
 use Rattle.std.specs.Prelude.{Option, Some, None, IsSome}
 use Rattle.tex_defs.specs.declared.Seen.{Seen}
+use Rattle.tex_defs.specs.declared.Name.{Name}
 use Rattle.tex_defs.specs.declared.Token.{Token}
 use Rattle.tex_defs.specs.declared.Sizes.{Sizes}
 use Rattle.tex_defs.specs.Places.{World, Transcript}
 use Rattle.plain_state.specs.Reports as reports
 use Rattle.plain_state.specs.Reports.{runaway_bytes, report_bytes}
-use Rattle.plain_state.specs.Tokens.{space_token}
+use Rattle.plain_state.specs.Tokens.{space_token, is_outer}
 use Rattle.plain_state.specs.Meanings.{seen}
 use Rattle.plain_state.specs.States.{State, Reading, Move, Written, Reported}
 use Rattle.plain_machine.specs.Plan.{Page, stomach, wanted, called, reported, reports_room, put_one}
@@ -25,11 +26,12 @@ use Rattle.tex_program.specs.declared.broken.Broken.{Broken}
 use Rattle.tex_program.specs.Begins.{onward_moves, away_moves}
 use Rattle.tex_program.specs.Cells.{cells_of}
 use Rattle.tex_program.specs.Stands.{Stands, Counts, IsSized, SameFrames, state_of, page_of}
-use Rattle.tex_program.specs.Rules.{world_of, feeds_of, onward_of, space_moves, away_text, Takes, SpaceFits, Cuts, Reports, DoesOnward}
+use Rattle.tex_program.specs.Rules.{world_of, feeds_of, onward_of, scanning_of, token_moves, space_moves, away_text, Takes, SpaceFits, Cuts, Reports, DoesOnward}
 use Rattle.tex_program.proofs.Cells.{seen_built, seen_calls}
 use Rattle.tex_program.proofs.Cutting.{cuts_by, later_cuts}
 use Rattle.tex_program.proofs.Joining.{onward_by, onward_join, onward_counted}
 use Rattle.tex_program.proofs.Reporting.{stands_still}
+use Rattle.tex_program.proofs.Pulling.{text_of, meets_away}
 
 -- where no reading is open, and where one wants it
 module _ (e : Engine) (work : List Reading) (t : Token) (x : Seen) (o : Onward) (is : (names : List (List ℕ)) → x ≡ seen (cells_of names) t) where
@@ -115,3 +117,13 @@ pub record Spaced (sizes : Sizes) (want : Option ScanWant) (e : Engine) (work : 
 pub text_wants : (sizes : Sizes) (want : Option ScanWant) (e : Engine) (work : List Reading) → IsSome e.top → Takes sizes want e work → Spaced sizes want e work
 text_wants sizes None e work some h = let open_top : IsSome {T = Frame} None = subst IsSome h.0 some in absurd cc
 text_wants sizes (Some want) e work some h = record { fits = h; moves = refl }
+
+pub seen_outer : (e : Engine) (t : Token) (x : Seen) (result b : Bool) → ((names : List (List ℕ)) → x ≡ seen (cells_of names) t) → result ≡ is_outer x.meaning → result ≡ b → is_outer (seen (page_of e).meanings t).meaning ≡ b
+seen_outer e t x result b is outer here = ap (λ (y : Seen). is_outer y.meaning) (sym (is e.names.names)) ∙ sym outer ∙ here
+
+pub spaced_moves : (sizes : Sizes) (want : Option ScanWant) (e : Engine) (work : List Reading) (t : Token) (name : Name) → is_outer (seen (page_of e).meanings t).meaning ≡ true →
+    scanning_of e work ≡ Some (text_of name e.input.gathered) → Spaced sizes want e work →
+    token_moves (page_of e) (scanning_of e work) (onward_of (page_of e) want work) t ≡ put_one t ++ away_moves (page_of e) (away_text e) (reports.Forbidden reports.OfText name) (space_moves (page_of e) want work)
+spaced_moves sizes want e work t name outer is spaced =
+    meets_away sizes e work name (onward_of (page_of e) want work) t outer is
+    ∙ ap (λ (rest : List Move). put_one t ++ away_moves (page_of e) (away_text e) (reports.Forbidden reports.OfText name) rest) spaced.moves

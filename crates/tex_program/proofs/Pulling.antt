@@ -160,7 +160,7 @@ first_held : (lists : List (List Token)) → first_of (length lists) lists ≡ f
 first_held [] = refl
 first_held (ts ∷ lists) = refl
 
-abbrev text_of : Name → List (List Token) → Scanning
+abbrev pub text_of : Name → List (List Token) → Scanning
 text_of name lists = record { what = reports.OfText; name = name; list = first_list lists }
 
 text_scanned : (r : Reading) (rs : List Reading) (name : Name) (lists : List (List Token)) → r.kind ≡ reading.Text name → r.holds ≡ length lists → scanning (r ∷ rs) lists ≡ Some (text_of name lists)
