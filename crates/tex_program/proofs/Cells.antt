@@ -260,10 +260,17 @@ cells_more names n h =
     ∙ sym (append_assoc (first_meanings is_primitive) (replicate (length names - primitive_count) means.Undefined) (means.Undefined ∷ []))
 
 -- the primitives' names alone
-pub cells_first : cells_of primitive_names ≡ first_meanings is_primitive
+cells_first : cells_of primitive_names ≡ first_meanings is_primitive
 unfolding cells_of primitive_names command_names assignment_names expandable_names conditional_names integer_names dimension_names glue_names token_names
 cells_first = append-nil (first_meanings is_primitive)
 
-pub all_known : primitive_count ≤ length primitive_names
+all_known : primitive_count ≤ length primitive_names
 unfolding primitive_names command_names assignment_names expandable_names conditional_names integer_names dimension_names glue_names token_names
 all_known = omega arith
+
+-- of names that are those of the primitives
+pub first_cells : (names : List (List ℕ)) → names ≡ primitive_names → cells_of names ≡ first_meanings is_primitive
+first_cells names is = ap cells_of is ∙ cells_first
+
+pub known_names : (names : List (List ℕ)) → names ≡ primitive_names → primitive_count ≤ length names
+known_names names is = subst (λ (ns : List (List ℕ)). primitive_count ≤ length ns) (sym is) all_known

@@ -510,6 +510,20 @@ module _ (sizes : Sizes) (e : Engine) (i : Stored) (others : i ≡ record e.inpu
   pub scanning_still : (work : List Reading) → scanning_of now work ≡ scanning_of e work
   scanning_still work = ap (λ (x : Stored). scanning work x.gathered) others
 
+  -- what becomes of what was pulled
+  pub token_moves_still : (work : List Reading) (want : Option ScanWant) (t : Token) → page_of now ≡ page_of e →
+      token_moves (page_of e) (scanning_of e work) (onward_of (page_of e) want work) t ≡ token_moves (page_of now) (scanning_of now work) (onward_of (page_of now) want work) t
+  token_moves_still work want t page =
+      ap (λ (p : Page). token_moves p (scanning_of e work) (onward_of p want work) t) (sym page) ∙ ap (λ (o : Option Scanning). token_moves (page_of now) o (onward_of (page_of now) want work) t) (sym (scanning_still work))
+
+  pub name_moves_still : (work : List Reading) (want : Option ScanWant) (x : Lexeme) → page_of now ≡ page_of e →
+      name_moves (page_of e) (scanning_of e work) (enters_of want) (onward_of (page_of e) want work) x ≡ name_moves (page_of now) (scanning_of now work) (enters_of want) (onward_of (page_of now) want work) x
+  name_moves_still work want x page =
+      ap (λ (p : Page). name_moves p (scanning_of e work) (enters_of want) (onward_of p want work) x) (sym page) ∙ ap (λ (o : Option Scanning). name_moves (page_of now) o (enters_of want) (onward_of (page_of now) want work) x) (sym (scanning_still work))
+
+  pub checked_still : (work : List Reading) → page_of now ≡ without_file (page_of e) → checked (without_file (page_of e)) (scanning_of e work) ≡ checked (page_of now) (scanning_of now work)
+  checked_still work page = ap (λ (p : Page). checked p (scanning_of e work)) (sym page) ∙ ap (λ (o : Option Scanning). checked (page_of now) o) (sym (scanning_still work))
+
   module _ (work : List Reading) (w : World) where
     abbrev at_settled : State
     at_settled = record (state_of e work) { pending = settle e.input.pending }
