@@ -14,7 +14,7 @@ use Rattle.plain_state.specs.Pending.{Pending, Progress, NotBegun, Begun as Begu
 use Rattle.plain_state.specs.Reports.{Report, InvalidCharacter, Scanned, OfDefinition, OfUse, OfText, FileEnded, report_bytes, hundred_line}
 use Rattle.plain_state.specs.Readings.{Kind, Catcode, Message, Prefixed, Define, Arguments, Fed, Tok, Val, Told, Cut, Value, Flag, Effect, SetCategory, SetMacro, Say, Ask, More, Inner, Done, Act, Tells, Inserts, Calls, Fails, RunsAway, Closes, ask, so_far, rank}
 use Rattle.plain_state.specs.States.{State, Reading, Move, Handed, Settled, Skipped, FileClosed, Entered, Kept as KeptBytes, Grows, Noted, Checked, ListBegun, ListGrown, Put, CalledWith, SetCategoryOf, Defined, Written, Begun, Ended, Closed, Reported, Stopped, Outcome, AtFatal, made, fed_with, holding}
-use Rattle.plain_machine.specs.Plan.{Page, page_of, plan, planned, answered, handed, checked, check_noted, Scanning, scanning, inserted_at, away_text, without_file, ran_away, page_behind, reported, behind_report, reports_room, stomach, wanted, enters_names, feeding, effect, given_back, grown_to, noting, told, put_one, put_all, put_inserted, put_with, arguments_put, called_with, failed, failed_away, last_seen, is_told, begun_with}
+use Rattle.plain_machine.specs.Plan.{Page, page_of, plan, planned, answered, handed, checked, check_noted, Scanning, scanning, inserted_at, away_text, without_file, ran_away, page_behind, reported, behind_report, reports_room, stomach, wanted, enters_names, feeding, effect, given_back, grown_to, noting, put_one, put_all, put_inserted, arguments_put, called_with, failed, failed_away, last_seen, is_told, begun_with}
 use Rattle.plain_machine.specs.Runs.{step_of, all_made}
 use Rattle.plain_machine.proofs.Lower.{Lower, lower, Starts, starts}
 use Rattle.plain_machine.proofs.Settling.{pulled_settled}

@@ -11,7 +11,7 @@ use Rattle.tex_defs.specs.Places.{Transcript}
 use Rattle.plain_state.specs.Categories.{end_group}
 use Rattle.prim_table.specs.Primitives.{primitive_names}
 use Rattle.plain_state.specs.Names.{name_of, means_relax, relax_primitive, end_primitive, message_primitive, catcode_primitive, long_primitive, outer_primitive, global_primitive, def_primitive, gdef_primitive, edef_primitive, xdef_primitive}
-use Rattle.plain_state.specs.Tokens.{Want, Raw, Expanded, Copied, Nonblank, Command, is_space, is_undefined, is_outer, space_token}
+use Rattle.plain_state.specs.Tokens.{Want, Raw, Expanded, Copied, Nonblank, Command, is_space, is_outer, space_token}
 use Rattle.plain_state.specs.Meanings.{name_meaning, seen, first_meanings}
 use Rattle.plain_state.specs.Puts.{Item, Put as PutList, call_put}
 use Rattle.plain_state.specs.Lookup.{token_of, new_name}

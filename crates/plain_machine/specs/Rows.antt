@@ -41,8 +41,12 @@ unfoldable pub run_of : ℕ → State → Result
 run_of zero s = cut_short s
 run_of (suc n) s = went s (λ u. run_of n u) (next_of s s.due)
 
+-- where the job of a file with these bytes begins
+abbrev pub job_state : List ℕ → State
+job_state bytes = first_state is_known initial_categories false [] (Some bytes)
+
 unfoldable pub job_of : List ℕ → Result
-job_of bytes = run_of 600 (first_state is_known initial_categories false [] (Some bytes))
+job_of bytes = run_of 600 (job_state bytes)
 
 -- `{`, `}`, `#` and `^` get their usual categories
 abbrev pub first_line_usual : List ℕ
@@ -57,6 +61,14 @@ Runs file text steps outcome = Writes file text outcome × ((job_of file).steps 
 -- beside the primitives' names these are entered, in a whole run
 abbrev pub Enters : List ℕ → List (List ℕ) → Type 0
 Enters file names = ((job_of file).names ≡ primitive_names ++ names) × ((job_of file).stopped ≡ Some Finished)
+
+-- the first moves of the run of a file, which may then go on: what they write, and the steps among them
+abbrev pub Begins : ℕ → List ℕ → List ℕ → ℕ → Type 0
+Begins moves file text steps = ((run_of moves (job_state file)).text ≡ text) × ((run_of moves (job_state file)).steps ≡ steps)
+
+-- a run that has ended within so many moves
+abbrev pub RunsWithin : ℕ → List ℕ → List ℕ → ℕ → Outcome → Type 0
+RunsWithin moves file text steps outcome = Begins moves file text steps × ((run_of moves (job_state file)).stopped ≡ Some outcome)
 
 -- WITHIN SIZES
 
@@ -78,6 +90,10 @@ job_fills sizes name bytes = full_in sizes 600 (first_state is_known initial_cat
 
 abbrev pub Fills : Sizes → List ℕ → Full → Type 0
 Fills sizes file full = job_fills sizes [] file ≡ Some full
+
+-- the table that is full within so many moves
+abbrev pub FillsWithin : ℕ → Sizes → List ℕ → Full → Type 0
+FillsWithin moves sizes file full = full_in sizes moves (job_state file) ≡ Some full
 
 -- the whole run has room
 abbrev pub Fits : Sizes → List ℕ → Type 0

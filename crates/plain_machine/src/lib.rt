@@ -3,12 +3,13 @@
 //! Everything here is definition. The functions have no bodies: their contracts are laws.
 #![tactic(auto)]
 
-ghost use Rattle.std.specs.Prelude.{codes, ◌++◌, ◌∷◌, []};
-ghost use Rattle.tex_defs.specs.declared.Fatal.TheVariants.{NoEnd};
+ghost use Rattle.std.specs.Prelude.{codes, ◌++◌, ◌∷◌, [], replicate};
+ghost use Rattle.std.specs.List.{concat};
+ghost use Rattle.tex_defs.specs.declared.Fatal.TheVariants.{NoEnd, HundredErrors};
 ghost use Rattle.plain_state.specs.States.{Finished, AtFatal};
-ghost use Rattle.tex_defs.specs.declared.Table.TheVariants.{PoolSize, NumberOfStrings, HashSize, MainMemorySize, InputStackSize, BufferSize, ExpansionDepth};
+ghost use Rattle.tex_defs.specs.declared.Table.TheVariants.{PoolSize, NumberOfStrings, HashSize, MainMemorySize, InputStackSize, ParameterStackSize, BufferSize, ExpansionDepth};
 ghost use Rattle.tex_defs.specs.Sizes.{default_sizes};
-ghost use Rattle.plain_machine.specs.Rows.{Writes, Runs as RunsSo, Enters, Fills, Fits, RowsAreRuns, EndedRowsAreWhole, RefusalsAreRuns, first_line_usual};
+ghost use Rattle.plain_machine.specs.Rows.{Writes, Runs as RunsSo, Enters, Begins, RunsWithin, Fills, FillsWithin, Fits, RowsAreRuns, EndedRowsAreWhole, RefusalsAreRuns, first_line_usual};
 ghost use Rattle.plain_machine.specs.Runs.{RunsAreOne, EachHasRun, SumsOfSteps};
 ghost use Rattle.plain_machine.specs.Bounded.{BoundedRunsAreOne, EachHasBounded, BoundedIsFront};
 
@@ -93,23 +94,133 @@ pub fn worked_rows()
     ensures no_category { Writes (codes "\\catcode`\\x=16 ") (codes "! Invalid code (16), should be in the range 0..15.\nl.1\n! Emergency stop.\n*** (job aborted, no legal \\end found)\n") (AtFatal NoEnd) }
 {}
 
-/// The machine run on small files with macros.
-pub fn worked_macros()
+/// The machine run on small files with macros: the arguments of calls.
+pub fn worked_arguments()
     ensures delimited { Writes (first_line_usual ++ codes "\\def\\a#1ab{[#1]}\\message{\\a xaab}\\end\n") (codes "[xa]\n") Finished }
+    ensures delimiter_overlaps { Writes (first_line_usual ++ codes "\\def\\a#1aab{[#1]}\\message{\\a aaab\\a aaaab}\\end\n") (codes "[a][aa]\n") Finished }
+    ensures delimiter_with_par { Writes (first_line_usual ++ codes "\\def\\a#1\\par x{[#1]}\\message{\\a y\\par x}\\end\n") (codes "[y]\n") Finished }
     ensures groups { Writes (first_line_usual ++ codes "\\def\\a#1.{(#1)}\\message{\\a{x}.\\a{x}{y}.}\\end\n") (codes "(x)({x}{y})\n") Finished }
-    ensures steps { RunsSo (first_line_usual ++ codes "\\def\\a#1.{#1#1}\\a xy.\\end\n") (codes "{the letter x}\n{the letter y}\n{the letter x}\n{the letter y}\n") 50 Finished }
-    ensures extra_brace { Writes (first_line_usual ++ codes "\\def\\a#1{}\\a}\\end\n") (codes "! Argument of \\a has an extra }.\nl.2\nRunaway argument?\n! Paragraph ended before \\a was complete.\nl.2\n{\\par}\n{end-group character }}\n") Finished }
-    ensures open_call { Writes (first_line_usual ++ codes "\\def\\a#1{}\n\\a{x") (codes "{blank space  }\nRunaway argument?\n{x \n! File ended while scanning use of \\a.\nl.0\n! Emergency stop.\n*** (job aborted, no legal \\end found)\n") (AtFatal NoEnd) }
-    ensures mismatch { Writes (first_line_usual ++ codes "\\def\\a b#1{}\\a x\\end\n") (codes "! Use of \\a doesn't match its definition.\nl.2\n") Finished }
-    ensures long { Writes (first_line_usual ++ codes "\\long\\def\\a#1.{(#1)}\\message{\\a x\\par y.}\\end\n") (codes "(x\\par y)\n") Finished }
-    ensures paragraph { Writes (first_line_usual ++ codes "\\def\\a#1.{(#1)}\\a xy\\par z\\end\n") (codes "Runaway argument?\nxy\n! Paragraph ended before \\a was complete.\nl.2\n{\\par}\n{the letter z}\n") Finished }
-    ensures outer_in_text { Writes (first_line_usual ++ codes "\\outer\\def\\a{}\\message{x\\a y}\\end\n") (codes "Runaway text?\nx\n! Forbidden control sequence found while scanning text of \\message.\nl.2\nx \n{the letter y}\n{end-group character }}\n") Finished }
-    ensures numbering { Writes (first_line_usual ++ codes "\\def\\a#2{#1}\\message{\\a x}\\end\n") (codes "! Parameters must be numbered consecutively.\nl.2\n! Use of \\a doesn't match its definition.\nl.2\n\n") Finished }
-    ensures illegal { Writes (first_line_usual ++ codes "\\def\\a#1{#2}\\message{\\a x}\\end\n") (codes "! Illegal parameter number in definition of \\a.\nl.2\n##2\n") Finished }
+    ensures inner_groups { Writes (first_line_usual ++ codes "\\def\\a#1.{[#1]}\\message{\\a{.}.\\a x{.}.\\a.\\a{{x}}.}\\end\n") (codes "[.][x{.}][][{x}]\n") Finished }
+    ensures no_match_within_groups { Writes (first_line_usual ++ codes "\\def\\a#1ab{[#1]}\\message{\\a{xa}b{ab}ab}\\end\n") (codes "[{xa}b{ab}]\n") Finished }
+    ensures undelimited { Writes (first_line_usual ++ codes "\\def\\a#1#2{(#1|#2)}\\message{\\a x {yz}}\\end\n") (codes "(x|yz)\n") Finished }
+    ensures undelimited_space { Writes (first_line_usual ++ codes "\\def\\a#1{[#1]}\\message{\\a{ }\\a  {}}\\end\n") (codes "[ ][]\n") Finished }
+    ensures nine { Writes (first_line_usual ++ codes "\\def\\a#1#2#3#4#5#6#7#8#9{#9#8#7#6#5#4#3#2#1}\\message{\\a abc{d}efghi}\\end\n") (codes "ihgfedcba\n") Finished }
     ensures brace_place { Writes (first_line_usual ++ codes "\\def\\a#1#{(#1)}\\message{\\a xy{z}}\\end\n") (codes "(xy){z}\n") Finished }
+    ensures long { Writes (first_line_usual ++ codes "\\long\\def\\a#1.{(#1)}\\message{\\a x\\par y.}\\end\n") (codes "(x\\par y)\n") Finished }
+    ensures arguments_read_again { Writes (first_line_usual ++ codes "\\def\\a#1{\\b#1}\\def\\b#1{#1}\\message{\\a{{x}{y}}}\\end\n") (codes "x{y}\n") Finished }
+{}
+
+/// The machine run on small files with macros: what bodies give, and when.
+pub fn worked_bodies()
+    ensures long_by_name { Writes (first_line_usual ++ codes "\\def\\a#1{#1\\b}\\long\\a\\def#1.{[#1]}\\message{\\b x\\par.}\\end\n") (codes "[x\\par ]\n") Finished }
+    ensures nested { Writes (first_line_usual ++ codes "\\def\\a#1{\\def\\b##1{#1##1}}\\a x\\message{\\b y}\\end\n") (codes "xy\n") Finished }
+    ensures redefined { Writes (first_line_usual ++ codes "\\def\\a{\\def\\a{n}\\message{old}}\\a\\message{\\a}\\end\n") (codes "old n\n") Finished }
+    ensures redefined_in_its_body { Writes (first_line_usual ++ codes "\\def\\a{\\def\\a{\\message{n}}\\message{o}}\\a\\a\\end\n") (codes "o n\n") Finished }
+    ensures par { Writes (first_line_usual ++ codes "\\def\\par{\\message{p}}\\def\\a#1.{}\\message{x}%\n\n\\a x\\par\\end\n") (codes "x p\nRunaway argument?\nx\n! Paragraph ended before \\a was complete.\nl.4\np\n") Finished }
+    ensures active { Writes (first_line_usual ++ codes "\\catcode`\\~=13 \\def~#1{t#1}\\message{~~x}\\end\n") (codes "ttx\n") Finished }
+    ensures active_mismatch { Writes (first_line_usual ++ codes "\\catcode`\\~=13 \\def~x{}~y\\end\n") (codes "! Use of ~ doesn't match its definition.\nl.2\n") Finished }
+    ensures number { Writes (first_line_usual ++ codes "\\def\\a{12 }\\catcode`\\%=\\a\\message{%}\\catcode`\\%=14 \\end\n") (codes "%\n") Finished }
+    ensures inner_space { Writes (first_line_usual ++ codes "\\def \\a #1{[#1]}\\def \n\\b{y}\\message{\\a x\\a\\b}\\end\n") (codes "[x][y]\n") Finished }
+    ensures outer_again { Writes (first_line_usual ++ codes "\\outer\\def\\o{x}\\o\\def\\o{y}\\message{\\o}\\end\n") (codes "{the letter x}\ny\n") Finished }
+    ensures steps { RunsSo (first_line_usual ++ codes "\\def\\a#1.{#1#1}\\a xy.\\end\n") (codes "{the letter x}\n{the letter y}\n{the letter x}\n{the letter y}\n") 50 Finished }
+    ensures gap_steps { RunsSo (first_line_usual ++ codes "\\def\\a#1.{#1#1}\\a.\\end\n") (codes "") 44 Finished }
+{}
+
+/// The machine run on small files with definitions that are expanded.
+pub fn worked_expanded_definitions()
+    ensures global { Writes (first_line_usual ++ codes "\\gdef\\a{x}\\xdef\\b{\\a\\a}\\global\\edef\\c{\\b\\a}\\message{\\a\\b\\c}\\end\n") (codes "xxxxxx\n") Finished }
     ensures expanded { Writes (first_line_usual ++ codes "\\def\\b{x}\\edef\\a{\\b\\b}\\def\\b{y}\\message{\\a}\\end\n") (codes "xx\n") Finished }
-    ensures missing_name { Writes (first_line_usual ++ codes "\\def x\\end\n") (codes "! Missing control sequence inserted.\nl.2\n! Missing { inserted.\nl.2\n") Finished }
-    ensures no_body { Writes (first_line_usual ++ codes "\\def\\a}\\message{\\a}\\end\n") (codes "! Missing { inserted.\nl.2\n\n") Finished }
+    ensures expanded_arguments { Writes (first_line_usual ++ codes "\\def\\b#1{<#1>}\\edef\\a{\\b{x}\\b y}\\def\\b{}\\message{\\a}\\end\n") (codes "<x><y>\n") Finished }
+    ensures expanded_number { Writes (first_line_usual ++ codes "\\def\\n{1}\\edef\\a#1{#\\n#1}\\message{\\a x}\\end\n") (codes "xx\n") Finished }
+    ensures expanded_spaces { Writes (first_line_usual ++ codes "\\def\\b{ x }\\edef\\a{\\b y}\\message{\\a}\\end\n") (codes " x y\n") Finished }
+    ensures expanded_undefined { Writes (first_line_usual ++ codes "\\edef\\a{x\\foo y}\\message{\\a}\\end\n") (codes "! Undefined control sequence.\nl.2\nxy\n") Finished }
+    ensures illegal_expanded { Writes (first_line_usual ++ codes "\\edef\\a{#\\foo x}\\message{\\a}\\end\n") (codes "! Undefined control sequence.\nl.2\n! Illegal parameter number in definition of \\a.\nl.2\n##x\n") Finished }
+    ensures entered { Enters (first_line_usual ++ codes "\\def\\foo#1\\bar{\\baz}\\edef\\foo#1{\\qux}\\foo\\quux\\message{\\corge}\\end\n") (codes "foo" ∷ codes "bar" ∷ codes "baz" ∷ codes "quux" ∷ []) }
+{}
+
+/// The machine run on small files with definitions that reports come of.
+pub fn worked_definitions()
+    ensures missing_name { Writes (first_line_usual ++ codes "\\def x\\end\n") (codes "! Missing control sequence inserted.\nl.2\nRunaway definition?\nx\\end \n! File ended while scanning definition of \\inaccessible.\nl.0\n! Missing { inserted.\nl.0\n! Emergency stop.\n*** (job aborted, no legal \\end found)\n") (AtFatal NoEnd) }
+    ensures missing_name_defined { Writes (first_line_usual ++ codes "\\def x{y}\\end\n") (codes "! Missing control sequence inserted.\nl.2\n") Finished }
+    ensures numbering { Writes (first_line_usual ++ codes "\\def\\a#2{#1}\\message{\\a x}\\end\n") (codes "! Parameters must be numbered consecutively.\nl.2\n! Argument of \\a has an extra }.\nl.2\nRunaway argument?\nx\n! Paragraph ended before \\a was complete.\nl.2\n\\par \n") Finished }
+    ensures numbering_counts { Writes (first_line_usual ++ codes "\\def\\a#x{(#1)}\\message{\\a yx}\\end\n") (codes "! Parameters must be numbered consecutively.\nl.2\n(y)\n") Finished }
+    ensures numbering_twice { Writes (first_line_usual ++ codes "\\def\\a##1{(#1)}\\message{\\a y1}\\end\n") (codes "! Parameters must be numbered consecutively.\nl.2\n! Parameters must be numbered consecutively.\nl.2\n(y)\n") Finished }
+    ensures numbering_at_the_end { Writes (first_line_usual ++ codes "\\def\\a#}\\message{\\a}\\end\n") (codes "! Parameters must be numbered consecutively.\nl.2\n! Missing { inserted.\nl.2\n! Argument of \\a has an extra }.\nl.2\nRunaway argument?\n! Paragraph ended before \\a was complete.\nl.2\n\\par \n") Finished }
+    ensures tenth { Writes (first_line_usual ++ codes "\\def\\a#1#2#3#4#5#6#7#8#9#xy{#9}\\message{\\a 123456789y.}\\end\n") (codes "! You already have nine parameters.\nl.2\n9.\n") Finished }
+    ensures tenth_brace { Writes (first_line_usual ++ codes "\\def\\a#1#2#3#4#5#6#7#8#9#{[#9]}\\message{\\a 12345678{9}{x}}\\end\n") (codes "[]{9}{x}\n") Finished }
+    ensures illegal { Writes (first_line_usual ++ codes "\\def\\a#1{#2}\\message{\\a x}\\end\n") (codes "! Illegal parameter number in definition of \\a.\nl.2\n##2\n") Finished }
+    ensures illegal_without_places { Writes (first_line_usual ++ codes "\\def\\a{#1}\\message{\\a}\\end\n") (codes "! Illegal parameter number in definition of \\a.\nl.2\n##1\n") Finished }
+    ensures illegal_letter { Writes (first_line_usual ++ codes "\\def\\a#1{##1#x#1}\\message{\\a y}\\end\n") (codes "! Illegal parameter number in definition of \\a.\nl.2\n##1##xy\n") Finished }
+    ensures illegal_brace { Writes (first_line_usual ++ codes "\\def\\a#1{#}\\message{\\a x}\\end\n") (codes "! Illegal parameter number in definition of \\a.\nl.2\n##\n") Finished }
+    ensures no_body { Writes (first_line_usual ++ codes "\\def\\a}\\message{[\\a]}\\end\n") (codes "! Missing { inserted.\nl.2\n[]\n") Finished }
+    ensures no_body_places { Writes (first_line_usual ++ codes "\\def\\a#1.}\\message{[\\a x.]}\\end\n") (codes "! Missing { inserted.\nl.2\n[]\n") Finished }
+{}
+
+/// The machine run on small files with calls that fail, and with calls behind prefixes.
+pub fn worked_calls()
+    ensures mismatch { Writes (first_line_usual ++ codes "\\def\\a b#1{}\\a x\\end\n") (codes "! Use of \\a doesn't match its definition.\nl.2\n") Finished }
+    ensures mismatch_brace { Writes (first_line_usual ++ codes "\\def\\a b#1{}\\message{x\\a}\\end\n") (codes "! Use of \\a doesn't match its definition.\nl.2\nRunaway text?\nx\\end \n! File ended while scanning text of \\message.\nl.0\nx\\end \n! Emergency stop.\n*** (job aborted, no legal \\end found)\n") (AtFatal NoEnd) }
+    ensures category_differs { Writes (first_line_usual ++ codes "\\catcode`\\~=12 \\def\\a#1~{[#1]}\\catcode`\\~=13 \\message{\\a x~y}\\end\n") (codes "! Argument of \\a has an extra }.\nl.2\nRunaway argument?\nx~y\n! Paragraph ended before \\a was complete.\nl.2\n\\par \n") Finished }
+    ensures extra_brace { Writes (first_line_usual ++ codes "\\def\\a#1{}\\a}\\end\n") (codes "! Argument of \\a has an extra }.\nl.2\nRunaway argument?\n! Paragraph ended before \\a was complete.\nl.2\n{\\par}\n{end-group character }}\n") Finished }
+    ensures extra_brace_delimited { Writes (first_line_usual ++ codes "\\def\\a#1.{}\\a x}\\end\n") (codes "! Argument of \\a has an extra }.\nl.2\nRunaway argument?\nx\n! Paragraph ended before \\a was complete.\nl.2\n{\\par}\n{end-group character }}\n") Finished }
+    ensures extra_brace_long { Writes (first_line_usual ++ codes "\\long\\def\\a#1{[#1]}\\message{x\\a}\\end\n") (codes "! Argument of \\a has an extra }.\nl.2\nRunaway argument?\n! Paragraph ended before \\a was complete.\nl.2\nx\\par \n") Finished }
+    ensures extra_brace_in_a_match { Writes (first_line_usual ++ codes "\\def\\a#1ab{}\\message{\\a xa}\\end\n") (codes "! Argument of \\a has an extra }.\nl.2\nRunaway argument?\nxa\n! Paragraph ended before \\a was complete.\nl.2\n\\par \n") Finished }
+    ensures extra_brace_breaks_a_match { Writes (first_line_usual ++ codes "\\def\\a#1a\\par{[#1]}\\message{\\a xa}\\end\n") (codes "! Argument of \\a has an extra }.\nl.2\nRunaway argument?\nxa\n! Paragraph ended before \\a was complete.\nl.2\n\\par \n") Finished }
+    ensures extra_brace_then_par { Writes (first_line_usual ++ codes "\\def\\a#1\\par{[#1]}\\message{\\a x}\\end\n") (codes "! Argument of \\a has an extra }.\nl.2\n[x]\n") Finished }
+    ensures prefix { Writes (first_line_usual ++ codes "\\def\\a{\\message}\\long\\a{x}\\end\n") (codes "! You can't use a prefix with `\\message'.\nl.2\nx\n") Finished }
+    ensures prefix_letter { Writes (first_line_usual ++ codes "\\def\\a{x}\\global\\a\\end\n") (codes "! You can't use a prefix with `the letter x'.\nl.2\n{the letter x}\n") Finished }
+    ensures prefix_nothing { Writes (first_line_usual ++ codes "\\def\\a{}\\long\\a\\def\\b#1.{[#1]}\\message{\\b x\\par.}\\end\n") (codes "[x\\par ]\n") Finished }
+{}
+
+/// The machine run on small files with calls that a `\par` ends, and with long lists that run away.
+pub fn worked_paragraphs()
+    ensures paragraph { Writes (first_line_usual ++ codes "\\def\\a#1.{(#1)}\\a xy\\par z\\end\n") (codes "Runaway argument?\nxy\n! Paragraph ended before \\a was complete.\nl.2\n{\\par}\n{the letter z}\n") Finished }
+    ensures paragraph_undelimited { Writes (first_line_usual ++ codes "\\def\\a#1{(#1)}\\a \\par z\\end\n") (codes "Runaway argument?\n! Paragraph ended before \\a was complete.\nl.2\n{\\par}\n{the letter z}\n") Finished }
+    ensures paragraph_in_a_group { Writes (first_line_usual ++ codes "\\def\\a#1{[#1]}\\message{\\a{x{\\par}y}}\\end\n") (codes "Runaway argument?\n{x{\n! Paragraph ended before \\a was complete.\nl.2\n\\par \n{the letter y}\n{end-group character }}\n{end-group character }}\n") Finished }
+    ensures paragraph_like_a_delimiter { Writes (first_line_usual ++ codes "\\def\\a#1\\par x{[#1]}\\message{\\a{y\\par x}\\par x}\\end\n") (codes "Runaway argument?\n{y\n! Paragraph ended before \\a was complete.\nl.2\n\\par x\n{\\par}\n{the letter x}\n{end-group character }}\n") Finished }
+    ensures paragraph_in_a_match { Writes (first_line_usual ++ codes "\\def\\a#1ab{}\\a xa\\par\\end\n") (codes "Runaway argument?\nxa\n! Paragraph ended before \\a was complete.\nl.2\n{\\par}\n") Finished }
+    ensures cut_at_62 { Writes (first_line_usual ++ codes "\\def\\a#1.{}\\a abcdefghijklmnopqrstuvwxyzabcdefghijklmnopqrstuvwxyzabcdefghij\\par\\end\n") (codes "Runaway argument?\nabcdefghijklmnopqrstuvwxyzabcdefghijklmnopqrstuvwxyzabcdefghij\n! Paragraph ended before \\a was complete.\nl.2\n{\\par}\n") Finished }
+    ensures cut_beyond_62 { Writes (first_line_usual ++ codes "\\def\\a#1.{}\\a abcdefghijklmnopqrstuvwxyzabcdefghijklmnopqrstuvwxyzabcdefghijk\\par\\end\n") (codes "Runaway argument?\nabcdefghijklmnopqrstuvwxyzabcdefghijklmnopqrstuvwxyzabcdefghij\\ETC.\n! Paragraph ended before \\a was complete.\nl.2\n{\\par}\n") Finished }
+    ensures cut_behind_a_name { Writes (first_line_usual ++ codes "\\def\\a#1.{}\\a abcdefghijklmnopqrstuvwxyzabcdefghijklmnopqrstuvwxyzabcdefghi\\b c\\par\\end\n") (codes "Runaway argument?\nabcdefghijklmnopqrstuvwxyzabcdefghijklmnopqrstuvwxyzabcdefghi\\b \\ETC.\n! Paragraph ended before \\a was complete.\nl.2\n{\\par}\n") Finished }
+{}
+
+/// The machine run on small files that end within a definition or a call.
+pub fn worked_ends()
+    ensures ended_parameters { Writes (first_line_usual ++ codes "\\def\\a#1.") (codes "Runaway definition?\n#1. \n! File ended while scanning definition of \\a.\nl.0\n! Missing { inserted.\nl.0\n! Emergency stop.\n*** (job aborted, no legal \\end found)\n") (AtFatal NoEnd) }
+    ensures ended_definition { Writes (first_line_usual ++ codes "\\def\\a#1.{x") (codes "Runaway definition?\n#1.->x \n! File ended while scanning definition of \\a.\nl.0\n! Emergency stop.\n*** (job aborted, no legal \\end found)\n") (AtFatal NoEnd) }
+    ensures ended_expanded { Writes (first_line_usual ++ codes "\\def\\b{xy}\\edef\\a{\\b") (codes "Runaway definition?\n->xy\n! File ended while scanning definition of \\a.\nl.0\n! Emergency stop.\n*** (job aborted, no legal \\end found)\n") (AtFatal NoEnd) }
+    ensures ended_use { Writes (first_line_usual ++ codes "\\def\\a#1{}\n\\a{x") (codes "{blank space  }\nRunaway argument?\n{x \n! File ended while scanning use of \\a.\nl.0\n! Emergency stop.\n*** (job aborted, no legal \\end found)\n") (AtFatal NoEnd) }
+    ensures ended_delimited { Writes (first_line_usual ++ codes "\\def\\a#1.{}\\a xy") (codes "Runaway argument?\nxy \n! File ended while scanning use of \\a.\nl.0\n! Emergency stop.\n*** (job aborted, no legal \\end found)\n") (AtFatal NoEnd) }
+    ensures ended_in_a_match { Writes (first_line_usual ++ codes "\\def\\a#1ab{}\\a xa%") (codes "Runaway argument?\nx\n! File ended while scanning use of \\a.\nl.0\n! Emergency stop.\n*** (job aborted, no legal \\end found)\n") (AtFatal NoEnd) }
+    ensures ended_before_the_first { Writes (first_line_usual ++ codes "\\def\\a b{}\\a") (codes "Runaway argument?\n! File ended while scanning use of \\a.\nl.0\n! Use of \\a doesn't match its definition.\nl.0\n! Emergency stop.\n*** (job aborted, no legal \\end found)\n") (AtFatal NoEnd) }
+    ensures ended_without_a_token { Writes (first_line_usual ++ codes "\\def\\a#1.{}\\a") (codes "Runaway argument?\n! File ended while scanning use of \\a.\nl.0\n! Emergency stop.\n*** (job aborted, no legal \\end found)\n") (AtFatal NoEnd) }
+{}
+
+/// The machine run on small files where an `\outer` name comes within a definition, a call or a text.
+pub fn worked_outer_names()
+    ensures outer_parameters { Writes (first_line_usual ++ codes "\\outer\\def\\o{}\\def\\a#1\\o\\message{x}\\end\n") (codes "Runaway definition?\n#1\n! Forbidden control sequence found while scanning definition of \\a.\nl.2\n! Missing { inserted.\nl.2\nx\n") Finished }
+    ensures outer_parameters_behind { Writes (first_line_usual ++ codes "\\outer\\def\\o{}\\def\\a x\\o\\message{\\a x y}\\end\n") (codes "Runaway definition?\nx\n! Forbidden control sequence found while scanning definition of \\a.\nl.2\n! Missing { inserted.\nl.2\ny\n") Finished }
+    ensures outer_definition { Writes (first_line_usual ++ codes "\\outer\\def\\o{}\\def\\a#1.{#1x\\o\\message{\\a z.}\\end\n") (codes "Runaway definition?\n#1.->#1x\n! Forbidden control sequence found while scanning definition of \\a.\nl.2\nzx \n") Finished }
+    ensures outer_use { Writes (first_line_usual ++ codes "\\outer\\def\\o{}\\def\\a#1.{[#1]}\\a xy\\o z.\\end\n") (codes "Runaway argument?\nxy\n! Forbidden control sequence found while scanning use of \\a.\nl.2\n{the letter z}\n{the character .}\n") Finished }
+    ensures outer_use_long { Writes (first_line_usual ++ codes "\\outer\\def\\o{}\\long\\def\\a#1.{(#1)}\\a x\\o\\message{y}\\end\n") (codes "Runaway argument?\nx\n! Forbidden control sequence found while scanning use of \\a.\nl.2\ny\n") Finished }
+    ensures outer_in_a_match { Writes (first_line_usual ++ codes "\\outer\\def\\o{}\\def\\a#1ab{}\\a xa\\o\\message{x}\\end\n") (codes "Runaway argument?\nx\n! Forbidden control sequence found while scanning use of \\a.\nl.2\nx\n") Finished }
+    ensures outer_behind_the_first { Writes (first_line_usual ++ codes "\\outer\\def\\o{}\\def\\a b #1.{[#1]}\\a b\\o\\message{x}\\end\n") (codes "Runaway argument?\n! Forbidden control sequence found while scanning use of \\a.\nl.2\nx\n") Finished }
+    ensures outer_undelimited { Writes (first_line_usual ++ codes "\\outer\\def\\o{}\\def\\a#1{(#1)}\\a\\o\\message{x}\\end\n") (codes "Runaway argument?\n! Forbidden control sequence found while scanning use of \\a.\nl.2\nx\n") Finished }
+    ensures outer_in_a_group { Writes (first_line_usual ++ codes "\\outer\\def\\o{}\\def\\a#1{(#1)}\\a{x\\o\\message{y}\\end\n") (codes "Runaway argument?\n{x\n! Forbidden control sequence found while scanning use of \\a.\nl.2\ny\n") Finished }
+    ensures outer_before_the_first { Writes (first_line_usual ++ codes "\\outer\\def\\o{}\\def\\a b#1{}\\message{\\a\\o}\\end\n") (codes "Runaway argument?\n! Forbidden control sequence found while scanning use of \\a.\nl.2\n! Use of \\a doesn't match its definition.\nl.2\nRunaway text?\n\\par \n! Forbidden control sequence found while scanning text of \\message.\nl.2\n\\par  \n{end-group character }}\n") Finished }
+    ensures outer_then_par { Writes (first_line_usual ++ codes "\\outer\\def\\o{}\\def\\a#1\\par{[#1]}\\message{\\a x\\o y}\\end\n") (codes "Runaway argument?\nx\n! Forbidden control sequence found while scanning use of \\a.\nl.2\nRunaway text?\n[x ]\n! Forbidden control sequence found while scanning text of \\message.\nl.2\n[x ] \n{the letter y}\n{end-group character }}\n") Finished }
+    ensures outer_in_a_call_in_a_definition { Writes (first_line_usual ++ codes "\\outer\\def\\o{}\\def\\a#1.{(#1)}\\edef\\b{z\\a x\\o\\message{\\b}\\end\n") (codes "Runaway argument?\nx\n! Forbidden control sequence found while scanning use of \\a.\nl.2\nRunaway definition?\n->z\n! Forbidden control sequence found while scanning definition of \\b.\nl.2\nz \n") Finished }
+    ensures outer_text { Writes (first_line_usual ++ codes "\\outer\\def\\o{}\\message{x\\o y}\\end\n") (codes "Runaway text?\nx\n! Forbidden control sequence found while scanning text of \\message.\nl.2\nx \n{the letter y}\n{end-group character }}\n") Finished }
+    ensures outer_in_a_text_in_a_group { Writes (first_line_usual ++ codes "\\outer\\def\\o{}\\message{x{\\o y}\\end\n") (codes "Runaway text?\nx{\n! Forbidden control sequence found while scanning text of \\message.\nl.2\nRunaway text?\nx{ }\n! Forbidden control sequence found while scanning text of \\message.\nl.2\nx{ } \n{the letter y}\n{end-group character }}\n") Finished }
+{}
+
+/// Macros that call themselves for ever: what comes at which step, and the end at the hundredth report.
+pub fn worked_loops()
+    ensures first_handed { Begins 160 (first_line_usual ++ codes "\\def\\a{x\\a}\\a") [] 38 }
+    ensures first { Begins 161 (first_line_usual ++ codes "\\def\\a{x\\a}\\a") (codes "{the letter x}\n") 38 }
+    ensures second_handed { Begins 167 (first_line_usual ++ codes "\\def\\a{x\\a}\\a") (codes "{the letter x}\n") 40 }
+    ensures second { Begins 168 (first_line_usual ++ codes "\\def\\a{x\\a}\\a") (codes "{the letter x}\n{the letter x}\n") 40 }
+    ensures hundred { RunsWithin 1200 (first_line_usual ++ codes "\\def\\a{\\foo\\a}\\a") (concat (replicate 100 (codes "! Undefined control sequence.\nl.2\n")) ++ codes "(That makes 100 errors; please try again.)\n") 236 (AtFatal HundredErrors) }
 {}
 
 /// Small files within small sizes: the first table that is full, what is used of it, and its size.
@@ -131,4 +242,49 @@ pub fn worked_refusals()
     ensures put_list { Fills (record default_sizes { main_memory_size = 1 }) (codes "\\catcode`\\x=1\\end") (record { table = MainMemorySize; used = 1; size = 1 }) }
     ensures put_again { Fits (record default_sizes { main_memory_size = 2 }) (codes "\\catcode`\\x\\end\\end") }
     ensures finished_list { Fits (record default_sizes { main_memory_size = 2 }) (codes "\\catcode`\\x=1\\catcode`\\y=1\\end") }
+{}
+
+/// Small files with macros within small sizes: the levels and the arguments of calls, and their readings.
+pub fn worked_levels()
+    ensures deep_calls { Fills (record default_sizes { input_stack_size = 20 }) (first_line_usual ++ codes "\\def\\a{\\a x}\\a") (record { table = InputStackSize; used = 20; size = 20 }) }
+    ensures last_calls { Fits (record default_sizes { input_stack_size = 2 }) (first_line_usual ++ codes "\\def\\a{\\b}\\def\\b{\\c}\\def\\c{xy}\\a\\end") }
+    ensures argument_level { Fills (record default_sizes { input_stack_size = 2 }) (first_line_usual ++ codes "\\def\\a#1{#1}\\a x\\end") (record { table = InputStackSize; used = 2; size = 2 }) }
+    ensures argument_level_fits { Fits (record default_sizes { input_stack_size = 3 }) (first_line_usual ++ codes "\\def\\a#1{#1}\\a x\\end") }
+    ensures gap_level { Fits (record default_sizes { input_stack_size = 2 }) (first_line_usual ++ codes "\\def\\a#1.{#1}\\a.\\end") }
+    ensures live_arguments { Fills (record default_sizes { parameter_stack_size = 9 }) (first_line_usual ++ codes "\\def\\a#1{\\a{#1}x}\\a y") (record { table = ParameterStackSize; used = 9; size = 9 }) }
+    ensures no_parameters { Fits (record default_sizes { parameter_stack_size = 0 }) (first_line_usual ++ codes "\\def\\a#1{}\\a x\\end") }
+    ensures gap_parameter { Fills (record default_sizes { parameter_stack_size = 0 }) (first_line_usual ++ codes "\\def\\a#1.{#1}\\a.\\end") (record { table = ParameterStackSize; used = 0; size = 0 }) }
+    ensures nine_parameters { Fits (record default_sizes { parameter_stack_size = 9 }) (first_line_usual ++ codes "\\def\\a#1#2#3#4#5#6#7#8#9{#1}\\a 123456789\\end") }
+    ensures ten_parameters { Fills (record default_sizes { parameter_stack_size = 9 }) (first_line_usual ++ codes "\\def\\a#1#2#3#4#5#6#7#8#9{\\b{#1}x}\\def\\b#1{#1}\\a 123456789\\end") (record { table = ParameterStackSize; used = 9; size = 9 }) }
+    ensures call_depth { Fills (record default_sizes { expansion_depth = 2 }) (first_line_usual ++ codes "\\def\\a#1{#1}\\message{\\a x}\\end") (record { table = ExpansionDepth; used = 2; size = 2 }) }
+    ensures call_depth_fits { Fits (record default_sizes { expansion_depth = 3 }) (first_line_usual ++ codes "\\def\\a#1{#1}\\message{\\a x}\\end") }
+    ensures plain_call_depth { Fits (record default_sizes { expansion_depth = 2 }) (first_line_usual ++ codes "\\def\\a{x}\\message{\\a}\\end") }
+    ensures argument_levels { Fills (record default_sizes { input_stack_size = 3 }) (first_line_usual ++ codes "\\def\\b{z}\\def\\a#1{#1}\\a{\\b y}\\end") (record { table = InputStackSize; used = 3; size = 3 }) }
+    ensures argument_levels_fit { Fits (record default_sizes { input_stack_size = 4 }) (first_line_usual ++ codes "\\def\\b{z}\\def\\a#1{#1}\\a{\\b y}\\end") }
+    ensures last_of_an_argument { Fits (record default_sizes { input_stack_size = 3 }) (first_line_usual ++ codes "\\def\\b{z}\\def\\a#1{#1}\\a{y\\b}\\end") }
+    ensures empty_body { Fits (record default_sizes { input_stack_size = 2 }) (first_line_usual ++ codes "\\def\\a{}\\def\\b#1{}\\def\\c{\\a\\b xy}\\c\\end") }
+    ensures parameters_first { Fills (record default_sizes { input_stack_size = 2; parameter_stack_size = 0 }) (first_line_usual ++ codes "\\def\\a#1{#1}\\def\\b{\\a xy}\\b\\end") (record { table = ParameterStackSize; used = 0; size = 0 }) }
+    ensures then_the_level { Fills (record default_sizes { input_stack_size = 2 }) (first_line_usual ++ codes "\\def\\a#1{#1}\\def\\b{\\a xy}\\b\\end") (record { table = InputStackSize; used = 2; size = 2 }) }
+{}
+
+/// Small files with macros within small sizes: the words of lists.
+pub fn worked_words()
+    ensures growing_in_100 { FillsWithin 900 (record default_sizes { main_memory_size = 100 }) (first_line_usual ++ codes "\\def\\b{xxxxxxxxxx}\\def\\a{\\edef\\b{\\b\\b}\\a}\\a") (record { table = MainMemorySize; used = 100; size = 100 }) }
+    ensures growing_in_101 { FillsWithin 900 (record default_sizes { main_memory_size = 101 }) (first_line_usual ++ codes "\\def\\b{xxxxxxxxxx}\\def\\a{\\edef\\b{\\b\\b}\\a}\\a") (record { table = MainMemorySize; used = 101; size = 101 }) }
+    ensures growing_in_102 { FillsWithin 900 (record default_sizes { main_memory_size = 102 }) (first_line_usual ++ codes "\\def\\b{xxxxxxxxxx}\\def\\a{\\edef\\b{\\b\\b}\\a}\\a") (record { table = MainMemorySize; used = 102; size = 102 }) }
+    ensures shared { Fills (record default_sizes { main_memory_size = 4 }) (first_line_usual ++ codes "\\def\\a{xyz}\\a\\a\\end") (record { table = MainMemorySize; used = 4; size = 4 }) }
+    ensures shared_fits { Fits (record default_sizes { main_memory_size = 5 }) (first_line_usual ++ codes "\\def\\a{xyz}\\a\\a\\end") }
+    ensures argument_words { Fills (record default_sizes { main_memory_size = 7 }) (first_line_usual ++ codes "\\def\\a#1{#1}\\a{xy}\\end") (record { table = MainMemorySize; used = 7; size = 7 }) }
+    ensures argument_words_fits { Fits (record default_sizes { main_memory_size = 8 }) (first_line_usual ++ codes "\\def\\a#1{#1}\\a{xy}\\end") }
+    ensures two_arguments { Fills (record default_sizes { main_memory_size = 10 }) (first_line_usual ++ codes "\\def\\a#1#2{#1#2}\\a{xy}z\\end") (record { table = MainMemorySize; used = 10; size = 10 }) }
+    ensures two_arguments_fits { Fits (record default_sizes { main_memory_size = 11 }) (first_line_usual ++ codes "\\def\\a#1#2{#1#2}\\a{xy}z\\end") }
+    ensures redefined { Fills (record default_sizes { main_memory_size = 17 }) (first_line_usual ++ codes "\\def\\a{\\def\\a{}\\def\\b{xx}}\\a\\end") (record { table = MainMemorySize; used = 17; size = 17 }) }
+    ensures redefined_fits { Fits (record default_sizes { main_memory_size = 18 }) (first_line_usual ++ codes "\\def\\a{\\def\\a{}\\def\\b{xx}}\\a\\end") }
+    ensures read_body { Fills (record default_sizes { main_memory_size = 9 }) (first_line_usual ++ codes "\\def\\a{\\def\\a{}}\\a\\def\\b{xxxxxx}\\end") (record { table = MainMemorySize; used = 9; size = 9 }) }
+    ensures read_body_fits { Fits (record default_sizes { main_memory_size = 10 }) (first_line_usual ++ codes "\\def\\a{\\def\\a{}}\\a\\def\\b{xxxxxx}\\end") }
+    ensures arguments_held { Fills (record default_sizes { main_memory_size = 17 }) (first_line_usual ++ codes "\\def\\a#1{\\def\\b{xx}#1#1}\\a{yy}\\end") (record { table = MainMemorySize; used = 17; size = 17 }) }
+    ensures arguments_held_fit { Fits (record default_sizes { main_memory_size = 18 }) (first_line_usual ++ codes "\\def\\a#1{\\def\\b{xx}#1#1}\\a{yy}\\end") }
+    ensures arguments_gone { Fits (record default_sizes { main_memory_size = 11 }) (first_line_usual ++ codes "\\def\\a#1{#1}\\a{xy}\\def\\b{xxxxx}\\end") }
+    ensures inner_call { Fills (record default_sizes { main_memory_size = 20 }) (first_line_usual ++ codes "\\def\\a#1{\\b{#1#1}}\\def\\b#1{#1}\\a{xy}\\end") (record { table = MainMemorySize; used = 20; size = 20 }) }
+    ensures inner_call_fits { Fits (record default_sizes { main_memory_size = 21 }) (first_line_usual ++ codes "\\def\\a#1{\\b{#1#1}}\\def\\b#1{#1}\\a{xy}\\end") }
 {}
