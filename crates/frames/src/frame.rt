@@ -197,9 +197,8 @@ impl Waiting {
 
     /// Takes one token.
     fn feed(&mut self, x: Seen) -> Ask
-        requires built { is_built x.meaning ≡ true }
-        ensures answer { (lists : List (List Token)) → ask_of lists result ≡ resume_waiting self.old (Tok x ∷ []) }
-        ensures goes_on { IsOpen result → (fed : List Fed) → resume_waiting self.old (Tok x ∷ fed) ≡ resume_waiting self.new fed }
+        ensures answer { is_built x.meaning ≡ true → (lists : List (List Token)) → ask_of lists result ≡ resume_waiting self.old (Tok x ∷ []) }
+        ensures goes_on { is_built x.meaning ≡ true → IsOpen result → (fed : List Fed) → resume_waiting self.old (Tok x ∷ fed) ≡ resume_waiting self.new fed }
         ensures kind { waiting_kind self.new ≡ waiting_kind self.old }
         ensures back { GivesBack result x }
         ensures waits { InnerWaits result (Waits self.new) }
@@ -250,9 +249,8 @@ impl Frame {
 
     /// Takes one token.
     pub fn feed(&mut self, x: Seen) -> Ask
-        requires built { is_built x.meaning ≡ true }
-        ensures answer { (lists : List (List Token)) → MayFeed self.old x lists → ask_of (lists_after (frame_grows self.old x) x lists) result ≡ resume self.old lists (Tok x ∷ []) }
-        ensures goes_on { IsOpen result → (lists : List (List Token)) (fed : List Fed) → MayFeed self.old x lists → resume self.old lists (Tok x ∷ fed) ≡ resume self.new (lists_after (frame_grows self.old x) x lists) fed }
+        ensures answer { is_built x.meaning ≡ true → (lists : List (List Token)) → MayFeed self.old x lists → ask_of (lists_after (frame_grows self.old x) x lists) result ≡ resume self.old lists (Tok x ∷ []) }
+        ensures goes_on { is_built x.meaning ≡ true → IsOpen result → (lists : List (List Token)) (fed : List Fed) → MayFeed self.old x lists → resume self.old lists (Tok x ∷ fed) ≡ resume self.new (lists_after (frame_grows self.old x) x lists) fed }
         ensures list { IsOpen result → (lists : List (List Token)) (fed : List Fed) → MayFeed self.old x lists → frame_list self.old lists (Tok x ∷ fed) ≡ frame_list self.new (lists_after (frame_grows self.old x) x lists) fed }
         ensures builds { (lists : List (List Token)) → MayFeed self.old x lists → Builds self.old lists (lists_after (frame_grows self.old x) x lists) (Tok x ∷ []) }
         ensures shallow { (lists : List (List Token)) → MayFeed self.old x lists → IsShallow self.old lists → IsShallow self.new (lists_after (frame_grows self.old x) x lists) }

@@ -126,9 +126,8 @@ impl PrefixScan {
 
     /// Takes one token.
     pub fn feed(&mut self, first: First, x: Seen) -> Ask
-        requires built { is_built x.meaning ≡ true }
-        ensures answer { (lists : List (List Token)) → ask_of lists result ≡ resume_prefixed self.old (Tok x ∷ []) }
-        ensures goes_on { IsOpen result → (fed : List Fed) → resume_prefixed self.old (Tok x ∷ fed) ≡ resume_prefixed self.new fed }
+        ensures answer { is_built x.meaning ≡ true → (lists : List (List Token)) → ask_of lists result ≡ resume_prefixed self.old (Tok x ∷ []) }
+        ensures goes_on { is_built x.meaning ≡ true → IsOpen result → (fed : List Fed) → resume_prefixed self.old (Tok x ∷ fed) ≡ resume_prefixed self.new fed }
         ensures back { GivesBack result x }
         ensures waits { InnerWaits result (Waits (Prefixed first.long first.outer self.new)) }
         ensures light { ask_weight result ≤ 10 }
@@ -147,9 +146,8 @@ impl PrefixScan {
 
     /// Takes a prefix, or the command behind the prefixes.
     fn feed_prefix(&mut self, first: First, long: bool, outer: bool, x: Seen) -> Ask
-        requires built { is_built x.meaning ≡ true }
-        ensures answer { (lists : List (List Token)) → ask_of lists result ≡ prefixed long outer (Tok x ∷ []) }
-        ensures goes_on { (fed : List Fed) → prefixed long outer (Tok x ∷ fed) ≡ resume_prefixed self.new fed }
+        ensures answer { is_built x.meaning ≡ true → (lists : List (List Token)) → ask_of lists result ≡ prefixed long outer (Tok x ∷ []) }
+        ensures goes_on { is_built x.meaning ≡ true → (fed : List Fed) → prefixed long outer (Tok x ∷ fed) ≡ resume_prefixed self.new fed }
         ensures back { GivesBack result x }
         ensures waits { InnerWaits result (Waits (Prefixed first.long first.outer self.new)) }
         ensures light { ask_weight result ≤ 10 }
@@ -171,9 +169,8 @@ impl PrefixScan {
 
     /// Takes the command behind the prefixes.
     fn feed_command(&mut self, first: First, long: bool, outer: bool, x: Seen) -> Ask
-        requires built { is_built x.meaning ≡ true }
-        ensures answer { (lists : List (List Token)) → ask_of lists result ≡ behind_prefixes long outer x.meaning [] }
-        ensures goes_on { (fed : List Fed) → behind_prefixes long outer x.meaning fed ≡ resume_prefixed self.new fed }
+        ensures answer { is_built x.meaning ≡ true → (lists : List (List Token)) → ask_of lists result ≡ behind_prefixes long outer x.meaning [] }
+        ensures goes_on { is_built x.meaning ≡ true → (fed : List Fed) → behind_prefixes long outer x.meaning fed ≡ resume_prefixed self.new fed }
         ensures back { GivesBack result x }
         ensures waits { InnerWaits result (Waits (Prefixed first.long first.outer self.new)) }
         ensures light { ask_weight result ≤ 10 }

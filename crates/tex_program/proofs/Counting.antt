@@ -1,28 +1,22 @@
 -- The engine's tables count as the machine's.
 use Rattle.std.proofs.Common.{◌≡◌, ℕ, ◌+◌, ◌<◌, ◌≤◌, List, [], ◌∷◌, ◌++◌, length, refl, sym, ap, ◌∙◌, reverse, take, arith}
 use Rattle.std.specs.Prelude.{Option, Some, None, IsSome, Bool, true, false, if◌then◌else◌}
-use Rattle.std.proofs.lemmas.List.{append-nil, length-reverse}
+use Rattle.std.proofs.lemmas.List.{length-reverse}
 use Rattle.tex_defs.specs.declared.Token.{Token}
 use Rattle.std.proofs.lemmas.Bool.Decides.{nat_tests}
 use Rattle.tex_defs.specs.declared.Sizes.{Sizes}
 use Rattle.tex_defs.specs.declared.Table.TheVariants.{ExpansionDepth, DelayedWrites}
 use Rattle.tex_defs.specs.Sizes.{first_out_of_range, first_out_among, is_in_range, size_of, tables}
 use Rattle.tex_defs.specs.declared.Table.{Table}
-use Rattle.plain_state.specs.Readings.{gathered_by}
 use Rattle.plain_state.specs.States.{Reading}
-use Rattle.plain_state.specs.Tables.{gathered}
+use Rattle.plain_state.specs.Tables.{words, memory, refused}
+use Rattle.input_state.specs.Stored.{words as stored_words}
+use Rattle.tex_defs.specs.declared.Full.{Full}
 use Rattle.frames.specs.declared.scan.Ask.{Ask}
 use Rattle.frames.specs.declared.frame.Frame.{Frame}
 use Rattle.frames.specs.declared.frame.Waiting.{Waiting}
 use Rattle.tex_program.specs.declared.engine.Engine.{Engine}
-use Rattle.tex_program.specs.Stands.{Stands, Waits, WaitsWith, WorkStands, WaitStands, OuterStand, Counts, top_count, depth_full}
-
--- commands that wait hold no lists
-pub outer_lists : (fs : List Waiting) (rs : List Reading) → OuterStand fs rs → gathered rs ≡ []
-outer_lists [] [] h = refl
-outer_lists [] (r ∷ rs) h = absurd h
-outer_lists (f ∷ fs) [] h = absurd h
-outer_lists (f ∷ fs) (r ∷ rs) h = ap (λ (x : List (List Token)). x ++ gathered rs) h.0.none ∙ outer_lists fs rs h.1
+use Rattle.tex_program.specs.Stands.{Stands, Waits, WaitsWith, WorkStands, WaitStands, OuterStand, Counts, state_of, top_count, depth_full}
 
 pub outer_depth : (fs : List Waiting) (rs : List Reading) → OuterStand fs rs → length rs ≡ length fs
 outer_depth [] [] h = refl
@@ -30,31 +24,14 @@ outer_depth [] (r ∷ rs) h = absurd h
 outer_depth (f ∷ fs) [] h = absurd h
 outer_depth (f ∷ fs) (r ∷ rs) h = omega (arith, outer_depth fs rs h.1)
 
--- the innermost reading alone holds lists
-top_lists : (r : Reading) (fs : List Waiting) (rs : List Reading) (lists : List (List Token)) → gathered_by r.kind r.fed ≡ lists → OuterStand fs rs → gathered (r ∷ rs) ≡ lists
-top_lists r fs rs lists h o =
-    ap (λ (x : List (List Token)). gathered_by r.kind r.fed ++ x) (outer_lists fs rs o) ∙ (append-nil (gathered_by r.kind r.fed) ∙ h)
-
 top_depth : (r : Reading) (outer : List Waiting) (rs : List Reading) → OuterStand (reverse outer) rs → length (r ∷ rs) ≡ length outer + 1
 top_depth r outer rs o = omega (arith, outer_depth (reverse outer) rs o, length-reverse outer)
-
-work_lists : (a : Ask) (t : Option Frame) (outer : List Waiting) (lists : List (List Token)) (work : List Reading) → WorkStands a t outer lists work → gathered work ≡ lists
-work_lists a None outer lists [] h = cc
-work_lists a None outer lists (r ∷ rs) h = absurd h
-work_lists a (Some f) outer lists [] h = absurd h
-work_lists a (Some f) outer lists (r ∷ rs) h = top_lists r (reverse outer) rs lists h.0.holds h.1
 
 work_depth : (a : Ask) (t : Option Frame) (outer : List Waiting) (lists : List (List Token)) (work : List Reading) → WorkStands a t outer lists work → length work ≡ length outer + top_count t
 work_depth a None outer lists [] h = omega (arith, ap (length {A = Waiting}) h.0)
 work_depth a None outer lists (r ∷ rs) h = absurd h
 work_depth a (Some f) outer lists [] h = absurd h
 work_depth a (Some f) outer lists (r ∷ rs) h = top_depth r outer rs h.1
-
-wait_lists : (t : Option Frame) (outer : List Waiting) (lists : List (List Token)) (work : List Reading) → WaitStands t outer lists work → gathered work ≡ lists
-wait_lists None outer lists [] h = cc
-wait_lists None outer lists (r ∷ rs) h = absurd h
-wait_lists (Some f) outer lists [] h = absurd h
-wait_lists (Some f) outer lists (r ∷ rs) h = top_lists r (reverse outer) rs lists h.1.0 h.1.1
 
 wait_depth : (t : Option Frame) (outer : List Waiting) (lists : List (List Token)) (work : List Reading) → WaitStands t outer lists work → length work ≡ length outer + top_count t
 wait_depth None outer lists [] h = omega (arith, ap (length {A = Waiting}) h.0)
@@ -65,14 +42,12 @@ wait_depth (Some f) outer lists (r ∷ rs) h = top_depth r outer rs h.1.1
 pub counts_of : (sizes : Sizes) (e : Engine) (work : List Reading) → Stands sizes e work → Counts sizes e work
 counts_of sizes e work h = record {
   sized = h.sized;
-  lists = work_lists e.ask e.top e.outer.items e.input.gathered work h.readings;
   depth = work_depth e.ask e.top e.outer.items e.input.gathered work h.readings;
 }
 
 pub waits_count : (sizes : Sizes) (e : Engine) (work : List Reading) → Waits sizes e work → Counts sizes e work
 waits_count sizes e work h = record {
   sized = h.sized;
-  lists = wait_lists e.top e.outer.items e.input.gathered work h.readings;
   depth = wait_depth e.top e.outer.items e.input.gathered work h.readings;
 }
 
@@ -85,9 +60,18 @@ pub inner_count : (sizes : Sizes) (e : Engine) (waiting : Waiting) (work : List 
 inner_count sizes e waiting [] o h = absurd h
 inner_count sizes e waiting (r ∷ rs) o h = record {
   sized = h.sized;
-  lists = top_lists r (reverse e.outer.items) rs e.input.gathered (h.innermost.none ∙ sym h.bare) h.outer;
   depth = top_depth r e.outer.items rs h.outer ∙ ap (λ (n : ℕ). length e.outer.items + n) (sym (open_count e.top o));
 }
+
+-- the main memory holds what the input holds: there are no macros
+pub words_are : (e : Engine) (work : List Reading) → words (state_of e work) ≡ stored_words e.input
+words_are e work = omega arith
+
+-- so many words more, by the machine and by the input
+pub words_more : (sizes : Sizes) (e : Engine) (work : List Reading) (need : ℕ) (o : Option Full) → e.input.sizes ≡ sizes →
+    refused e.input.sizes (memory need (stored_words e.input) ∷ []) ≡ o → refused sizes (memory need (words (state_of e work)) ∷ []) ≡ o
+words_more sizes e work need o sized h =
+    ap (λ (n : ℕ). refused sizes (memory need n ∷ [])) (words_are e work) ∙ (ap (λ (s : Sizes). refused s (memory need (stored_words e.input) ∷ [])) (sym sized) ∙ h)
 
 -- no reading more
 pub no_room : (used size u s : ℕ) → size ≤ used → u ≡ used → s ≡ size → Some (record { table = ExpansionDepth; used = u; size = s }) ≡ depth_full used size

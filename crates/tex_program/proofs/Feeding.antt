@@ -1,14 +1,15 @@
 -- A reading that is fed goes on.
-use Rattle.std.proofs.Common.{◌≡◌, Bool, true, false, List, [], ◌∷◌, ◌++◌, refl, sym, ap, ◌∙◌, append_assoc, subst, reverse, arith}
+use Rattle.std.proofs.Common.{◌≡◌, ℕ, ◌+◌, ◌≤◌, Bool, true, false, List, [], ◌∷◌, ◌++◌, length, drop, refl, sym, ap, ◌∙◌, append_assoc, subst, reverse, arith}
 use Rattle.std.specs.Prelude.{Option, Some, None, option_to_list}
 use Rattle.std.proofs.lemmas.List.{append-nil, reverse-append}
 use Rattle.tex_defs.specs.declared.Seen.{Seen}
 use Rattle.tex_defs.specs.declared.Token.{Token}
 use Rattle.tex_defs.specs.declared.Name.{Name}
 use Rattle.tex_defs.specs.declared.Sizes.{Sizes}
-use Rattle.plain_state.specs.Readings.{Fed, Tok, Val, Told, Value, gathered_by, own_lists, fed_lists}
+use Rattle.plain_state.specs.Readings.{Fed, Tok, Val, Told, Cut, Value, own_lists}
 use Rattle.plain_state.specs.Readings as reading
-use Rattle.plain_state.specs.States.{Reading, fed_with, fresh}
+use Rattle.plain_state.specs.Meanings.{primitive_count}
+use Rattle.plain_state.specs.States.{Reading, fed_with, ended_with, beneath, fresh}
 use Rattle.plain_machine.specs.Plan.{last_seen, is_told}
 use Rattle.frames.specs.declared.scan.Ask.{Ask}
 use Rattle.frames.specs.declared.scan.Ask.TheVariants.{More, Inner, Done, Act, Tells}
@@ -21,11 +22,12 @@ use Rattle.frames.specs.declared.scan.Value.{Value as EngineValue}
 use Rattle.frames.specs.declared.text.TextScan.{TextScan}
 use Rattle.frames.specs.Sees.{ask_of, value_of, first_list}
 use Rattle.frames.specs.Texts.{text_list}
-use Rattle.frames.specs.Resumes.{resume, resume_waiting, frame_list, frame_kind, frame_grows, lists_after, IsOpen, IsUntold, IsBack, GivesBack, IsNone, GivesNone, InnerWaits, Builds, IsShallow, Owns, MayFeed, waiting_kind}
+use Rattle.frames.specs.Resumes.{resume, resume_waiting, frame_list, frame_kind, frame_grows, lists_after, IsOpen, IsUntold, IsBack, GivesBack, IsNone, GivesNone, InnerWaits, Builds, IsShallow, Owns, MayFeed, waiting_kind, is_built}
 use Rattle.frames.specs.Stack.{Stack}
 use Rattle.name_table.specs.Strings.{Strings}
 use Rattle.tex_program.specs.declared.engine.Engine.{Engine}
-use Rattle.tex_program.specs.Stands.{Stands, WaitsWith, Waits as WaitsFor, WaitStands, WorkStands, OuterStand, WaitingStands, EndsHere, FrameStands, Innermost, FedFrame, IsSized, SameState, IsLast, GivesLast, TellsOnce, AtMostOne, kept_lists}
+use Rattle.tex_program.specs.Stands.{Stands, WaitsWith, Waits as WaitsFor, WaitStands, WorkStands, OuterStand, WaitingStands, EndsHere, FrameStands, Innermost, FedFrame, IsSized, SameState, IsLone, IsTaken, IsLast, GivesLast, TellsOnce, BeginsBuilt, AtMostOne, kept_lists, other_lists}
+use Rattle.tex_program.specs.Begins.{IsCommand}
 
 -- THE LAST OF WHAT IT WAS FED WITH
 
@@ -34,6 +36,7 @@ last_is [] x = refl
 last_is (Tok y ∷ []) x = refl
 last_is (Val v ∷ []) x = refl
 last_is (Told ∷ []) x = refl
+last_is (Cut ∷ []) x = refl
 last_is (y ∷ z ∷ fed) x = last_is (z ∷ fed) x
 
 back_last : (b : Option Seen) (fed : List Fed) (x : Seen) → IsBack b x → IsLast b (fed ++ Tok x ∷ [])
@@ -63,6 +66,7 @@ untold_tok [] x = refl
 untold_tok (Tok y ∷ []) x = refl
 untold_tok (Val v ∷ []) x = refl
 untold_tok (Told ∷ []) x = refl
+untold_tok (Cut ∷ []) x = refl
 untold_tok (y ∷ z ∷ fed) x = untold_tok (z ∷ fed) x
 
 untold_val : (fed : List Fed) (v : Value) → is_told (fed ++ Val v ∷ []) ≡ false
@@ -70,6 +74,7 @@ untold_val [] v = refl
 untold_val (Tok y ∷ []) v = refl
 untold_val (Val w ∷ []) v = refl
 untold_val (Told ∷ []) v = refl
+untold_val (Cut ∷ []) v = refl
 untold_val (y ∷ z ∷ fed) v = untold_val (z ∷ fed) v
 
 once_at : (a : Ask) (fed : List Fed) → is_told fed ≡ false → TellsOnce a fed
@@ -105,7 +110,7 @@ text_owned lists ts h = h ∙ ap (λ (x : List Token). x ∷ []) (sym (ap first_
 pub owned_of : (f : Frame) (lists : List (List Token)) → Owns f lists → OwnedBy (frame_kind f) lists
 owned_of (Waits (Catcode scan)) lists h = h
 owned_of (Waits (Message name)) lists h = h
-owned_of (Waits (Prefixed limited scan)) lists h = h
+owned_of (Waits (Prefixed long outer scan)) lists h = h
 owned_of (Integer scan) lists h = h
 owned_of (Text name scan) lists h = text_owned lists _ h
 
@@ -116,11 +121,8 @@ few_one : (lists : List (List Token)) (ts : List Token) → lists ≡ ts ∷ [] 
 few_one lists ts h = subst AtMostOne (sym h) tt
 
 pub few_owned : (k : reading.Kind) (lists : List (List Token)) → OwnedBy k lists → AtMostOne lists
-few_owned reading.Catcode lists h = few_none lists h
-few_owned (reading.Message name) lists h = few_none lists h
-few_owned (reading.Prefixed limited) lists h = few_none lists h
-few_owned reading.Integer lists h = few_none lists h
 few_owned (reading.Text name) lists h = few_one lists _ h
+few_owned k lists h = few_none lists h
 
 -- the list gets a token, or doesn't
 one_after : (grows : Bool) (x : Seen) (lists : List (List Token)) → lists ≡ first_list lists ∷ [] → lists_after grows x lists ≡ first_list (lists_after grows x lists) ∷ []
@@ -131,51 +133,46 @@ one_after false x (ts ∷ lists) h = h
 pub owned_after : (f : Frame) (x : Seen) (lists : List (List Token)) → OwnedBy (frame_kind f) lists → OwnedBy (frame_kind f) (lists_after (frame_grows f x) x lists)
 owned_after (Waits (Catcode scan)) x lists h = h
 owned_after (Waits (Message name)) x lists h = h
-owned_after (Waits (Prefixed limited scan)) x lists h = h
+owned_after (Waits (Prefixed long outer scan)) x lists h = h
 owned_after (Integer scan) x lists h = h
 owned_after (Text name scan) x lists h = one_after (frame_grows (Text name scan) x) x lists h
 
--- neither a token nor a note brings a list
-abbrev pub IsBare : Fed → Type 0
-IsBare (Val v) = ⊥
-IsBare x = Unit {0}
+-- it has as many lists then
+pub after_length : (grows : Bool) (x : Seen) (lists : List (List Token)) → length (lists_after grows x lists) ≡ length lists
+after_length true x [] = refl
+after_length true x (ts ∷ lists) = refl
+after_length false x lists = refl
 
-fed_bare : (fed : List Fed) (x : Fed) → IsBare x → fed_lists (fed ++ x ∷ []) ≡ fed_lists fed
-fed_bare [] (Tok y) h = refl
-fed_bare [] (Val v) h = absurd h
-fed_bare [] Told h = refl
-fed_bare (Tok y ∷ fed) x h = fed_bare fed x h
-fed_bare (Told ∷ fed) x h = fed_bare fed x h
-fed_bare (Val v ∷ fed) x h = ap (λ (l : List (List Token)). reading.value_lists v ++ l) (fed_bare fed x h)
+-- A TOKEN WITH WHICH AN INNER READING BEGINS
 
--- none came with an inner value
-none_came : (k : reading.Kind) (fed : List Fed) (lists : List (List Token)) → OwnedBy k lists → gathered_by k fed ≡ lists → fed_lists fed ≡ []
-none_came reading.Catcode fed lists o h = h ∙ o
-none_came (reading.Message name) fed lists o h = h ∙ o
-none_came (reading.Prefixed limited) fed lists o h = h ∙ o
-none_came reading.Integer fed lists o h = h ∙ o
-none_came (reading.Text name) fed lists o h = cc
+begins_built : (a : Ask) (x : Seen) → GivesBack a x → is_built x.meaning ≡ true → BeginsBuilt a
+begins_built (More want) x h is = tt
+begins_built (Inner waits kind None) x h is = tt
+begins_built (Inner waits kind (Some back)) x h is = ap (λ (y : Seen). is_built y.meaning) h ∙ is
+begins_built (Done v back) x h is = tt
+begins_built (Act e) x h is = tt
+begins_built (Tells report back) x h is = tt
 
-holds_at : (f : Frame) (lists now : List (List Token)) (fed fed' : List Fed) → OwnedBy (frame_kind f) now → fed_lists fed' ≡ [] → reading.so_far (frame_kind f) fed' ≡ frame_list f lists fed → Builds f lists now fed →
-    gathered_by (frame_kind f) fed' ≡ now
-holds_at (Waits (Catcode scan)) lists now fed fed' o none h b = none ∙ sym o
-holds_at (Waits (Message name)) lists now fed fed' o none h b = none ∙ sym o
-holds_at (Waits (Prefixed limited s)) lists now fed fed' o none h b = none ∙ sym o
-holds_at (Integer scan) lists now fed fed' o none h b = none ∙ sym o
-holds_at (Text name scan) lists now fed fed' o none h b = cc
+none_built : (a : Ask) → GivesNone a → BeginsBuilt a
+none_built (More want) h = tt
+none_built (Inner waits kind None) h = tt
+none_built (Inner waits kind (Some back)) h = absurd h
+none_built (Done v back) h = tt
+none_built (Act e) h = tt
+none_built (Tells report back) h = tt
 
 -- the list that it builds, as its reading holds it
 owns_text : (f : Frame) (scan : TextScan) (name : Name) (lists now : List (List Token)) (fed : List Fed) → frame_kind f ≡ reading.Text name → Builds f lists now fed → frame_list f lists fed ≡ text_list scan (first_list now) [] → text_list scan (first_list now) [] ≡ first_list now
 owns_text (Waits (Catcode s)) scan name lists now fed k b h = absurd cc
 owns_text (Waits (Message n)) scan name lists now fed k b h = absurd cc
-owns_text (Waits (Prefixed limited s)) scan name lists now fed k b h = absurd cc
+owns_text (Waits (Prefixed long outer s)) scan name lists now fed k b h = absurd cc
 owns_text (Integer s) scan name lists now fed k b h = absurd cc
 owns_text (Text n s) scan name lists now fed k b h = sym h ∙ b
 
 owns_now : (f f' : Frame) (lists now : List (List Token)) (fed : List Fed) → OwnedBy (frame_kind f') now → frame_kind f' ≡ frame_kind f → Builds f lists now fed → frame_list f lists fed ≡ frame_list f' now [] → Owns f' now
 owns_now f (Waits (Catcode s)) lists now fed o k b h = o
 owns_now f (Waits (Message n)) lists now fed o k b h = o
-owns_now f (Waits (Prefixed limited s)) lists now fed o k b h = o
+owns_now f (Waits (Prefixed long outer s)) lists now fed o k b h = o
 owns_now f (Integer s) lists now fed o k b h = o
 owns_now f (Text name scan) lists now fed o k b h = o ∙ ap (λ (ts : List Token). ts ∷ []) (sym (owns_text f scan name lists now fed (sym k) b h))
 
@@ -192,19 +189,10 @@ pub record GoesOn (a : Ask) (frame frame' : Frame) (lists now : List (List Token
   pub shallow : IsShallow frame' now
   pub waits : InnerWaits a frame'
 
-pub holds_now : (frame : Frame) (lists now : List (List Token)) (x : Fed) (r : Reading) → IsBare x → FrameStands frame lists r → gathered_by r.kind r.fed ≡ lists → OwnedBy (frame_kind frame) now → Builds frame lists now (x ∷ []) →
-    gathered_by r.kind (r.fed ++ x ∷ []) ≡ now
-holds_now frame lists now x r bare below holds owned builds =
-    let none : fed_lists (r.fed ++ x ∷ []) ≡ [] =
-    fed_bare r.fed x bare ∙ none_came (frame_kind frame) r.fed lists (owned_of frame lists below.owns) (subst (λ (k : reading.Kind). gathered_by k r.fed ≡ lists) below.kind holds) in
-    let so : reading.so_far (frame_kind frame) (r.fed ++ x ∷ []) ≡ frame_list frame lists (x ∷ []) =
-    subst (λ (k : reading.Kind). reading.so_far k (r.fed ++ x ∷ []) ≡ frame_list frame lists (x ∷ [])) below.kind (below.list (x ∷ [])) in
-    subst (λ (k : reading.Kind). gathered_by k (r.fed ++ x ∷ []) ≡ now) (sym below.kind) (holds_at frame lists now (x ∷ []) (r.fed ++ x ∷ []) owned none so builds)
-
-inner_on : (a' : Ask) (frame frame' : Frame) (lists now : List (List Token)) (x : Fed) (r : Reading) → IsBare x → FrameStands frame lists r → gathered_by r.kind r.fed ≡ lists →
+inner_on : (a' : Ask) (frame frame' : Frame) (lists now : List (List Token)) (x : Fed) (r : Reading) → FrameStands frame lists r → r.holds ≡ length lists → length now ≡ length lists → BeginsBuilt a' →
     GoesOn a' frame frame' lists now x → GivesLast a' (r.fed ++ x ∷ []) → TellsOnce a' (r.fed ++ x ∷ []) →
-    Innermost a' frame' now (record { kind = r.kind; fed = r.fed ++ x ∷ []; lent = false })
-inner_on a' frame frame' lists now x r bare below holds g last once =
+    Innermost a' frame' now (record { kind = r.kind; fed = r.fed ++ x ∷ []; lent = false; holds = r.holds })
+inner_on a' frame frame' lists now x r below holds long built g last once =
     let owned' : OwnedBy (frame_kind frame') now = subst (λ (k : reading.Kind). OwnedBy k now) (sym g.kind) g.owned in
     record {
       asked = g.answer ∙ sym (below.goes_on (x ∷ []));
@@ -216,28 +204,30 @@ inner_on a' frame frame' lists now x r bare below holds g last once =
         shallow = g.shallow;
       };
       waits = g.waits;
-      holds = holds_now frame lists now x r bare below holds g.owned g.builds;
+      holds = holds ∙ sym long;
       few = few_owned (frame_kind frame) now g.owned;
       last = last;
+      built = built;
       once = once;
       not_lent = refl;
     }
 
-pub fed_on : (a' : Ask) (frame frame' : Frame) (lists now : List (List Token)) (x : Seen) (r : Reading) → FrameStands frame lists r → gathered_by r.kind r.fed ≡ lists →
-    GoesOn a' frame frame' lists now (Tok x) → GivesBack a' x → Innermost a' frame' now (record { kind = r.kind; fed = r.fed ++ Tok x ∷ []; lent = false })
-fed_on a' frame frame' lists now x r below holds g back =
-    inner_on a' frame frame' lists now (Tok x) r tt below holds g (gives_last a' r.fed x back) (once_tok a' r.fed x)
+pub fed_on : (a' : Ask) (frame frame' : Frame) (lists now : List (List Token)) (x : Seen) (r : Reading) → FrameStands frame lists r → r.holds ≡ length lists → length now ≡ length lists → is_built x.meaning ≡ true →
+    GoesOn a' frame frame' lists now (Tok x) → GivesBack a' x → Innermost a' frame' now (record { kind = r.kind; fed = r.fed ++ Tok x ∷ []; lent = false; holds = r.holds })
+fed_on a' frame frame' lists now x r below holds long built g back =
+    inner_on a' frame frame' lists now (Tok x) r below holds long (begins_built a' x back built) g (gives_last a' r.fed x back) (once_tok a' r.fed x)
 
-pub told_on : (a' : Ask) (frame frame' : Frame) (lists : List (List Token)) (r : Reading) → FrameStands frame lists r → gathered_by r.kind r.fed ≡ lists →
-    GoesOn a' frame frame' lists lists Told → GivesNone a' → IsUntold a' → Innermost a' frame' lists (record { kind = r.kind; fed = r.fed ++ Told ∷ []; lent = false })
+pub told_on : (a' : Ask) (frame frame' : Frame) (lists : List (List Token)) (r : Reading) → FrameStands frame lists r → r.holds ≡ length lists →
+    GoesOn a' frame frame' lists lists Told → GivesNone a' → IsUntold a' → Innermost a' frame' lists (record { kind = r.kind; fed = r.fed ++ Told ∷ []; lent = false; holds = r.holds })
 told_on a' frame frame' lists r below holds g none untold =
-    inner_on a' frame frame' lists lists Told r tt below holds g (gives_none a' (r.fed ++ Told ∷ []) none) (once_untold a' (r.fed ++ Told ∷ []) untold)
+    inner_on a' frame frame' lists lists Told r below holds refl (none_built a' none) g (gives_none a' (r.fed ++ Told ∷ []) none) (once_untold a' (r.fed ++ Told ∷ []) untold)
 
 -- THE ENGINE
 
 pub sized_on : (sizes : Sizes) (e e' : Engine) → SameState e e' → IsSized sizes e → IsSized sizes e'
 sized_on sizes e e' same h = record {
   few_reports = omega (arith, same.others.reports, h.few_reports);
+  known = subst (λ (n : Strings). primitive_count ≤ length n.names) (sym same.others.names) h.known;
   small = h.small;
   own = same.others.sizes ∙ h.own;
   outer = same.others.depth ∙ h.outer;
@@ -247,24 +237,30 @@ sized_on sizes e e' same h = record {
 
 -- with this innermost reading
 pub stands_now : (sizes : Sizes) (e e' : Engine) (frame : Frame) (r : Reading) (rs : List Reading) → SameState e e' → IsSized sizes e → e.input.making ≡ None →
-    e'.top ≡ Some frame → Innermost e'.ask frame e'.input.gathered r → OuterStand (reverse e'.outer.items) rs → Stands sizes e' (r ∷ rs)
-stands_now sizes e e' frame r rs same sized idle top inner outer = record {
+    e'.top ≡ Some frame → Innermost e'.ask frame e'.input.gathered r → OuterStand (reverse e'.outer.items) rs → IsLone (r ∷ rs) → Stands sizes e' (r ∷ rs)
+stands_now sizes e e' frame r rs same sized idle top inner outer lone = record {
   sized = sized_on sizes e e' same sized;
   idle = same.making ∙ idle;
   readings = subst (λ (t : Option Frame). WorkStands e'.ask t e'.outer.items e'.input.gathered (r ∷ rs)) (sym top) (inner, outer);
+  lone = lone;
 }
+
+-- a reading of the same kind in its place
+lone_fed : (x : Fed) (r : Reading) (rs : List Reading) → IsLone (r ∷ rs) → IsLone (fed_with x (r ∷ rs))
+lone_fed x r [] h = h
+lone_fed x r (s ∷ rs) h = tt
 
 -- behind a token that its frame was fed with
 pub feeds_on : (sizes : Sizes) (e e' : Engine) (f frame frame' : Frame) (x : Seen) (lists : List (List Token)) (r : Reading) (rs : List Reading) → SameState e e' → f ≡ frame →
-    FedFrame sizes e f x lists r rs → e'.top ≡ Some frame' → GivesBack e'.ask x → e'.outer ≡ e.outer →
+    FedFrame sizes e f x lists r rs → e'.top ≡ Some frame' → GivesBack e'.ask x → e'.outer ≡ e.outer → length e'.input.gathered ≡ length lists →
     (MayFeed frame x lists → IsShallow frame lists → OwnedBy (frame_kind frame) (lists_after (frame_grows frame x) x lists) → GoesOn e'.ask frame frame' lists e'.input.gathered (Tok x)) →
     Stands sizes e' (fed_with (Tok x) (r ∷ rs))
-feeds_on sizes e e' f frame frame' x lists r rs same is h top back outer g =
+feeds_on sizes e e' f frame frame' x lists r rs same is h top back outer long g =
     let below : FrameStands frame lists r = subst (λ (y : Frame). FrameStands y lists r) is h.frame in
     let may : MayFeed frame x lists = subst (λ (y : Frame). MayFeed y x lists) is h.may_feed in
     let on = g may below.shallow (owned_after frame x lists (owned_of frame lists below.owns)) in
-    stands_now sizes e e' frame' _ rs same h.sized h.idle top (fed_on e'.ask frame frame' lists e'.input.gathered x r below h.holds on back)
-    (subst (λ (o : Stack). OuterStand (reverse o.items) rs) (sym outer) h.outer)
+    stands_now sizes e e' frame' (record { kind = r.kind; fed = r.fed ++ Tok x ∷ []; lent = false; holds = r.holds }) rs same h.sized h.idle top (fed_on e'.ask frame frame' lists e'.input.gathered x r below h.holds long h.built on back)
+    (subst (λ (o : Stack). OuterStand (reverse o.items) rs) (sym outer) h.outer) (lone_fed (Tok x) r rs h.lone)
 
 -- a note changes no list
 told_builds : (f : Frame) (lists : List (List Token)) → Owns f lists → Builds f lists lists []
@@ -277,16 +273,16 @@ pub notes_on : (sizes : Sizes) (e e' : Engine) (f frame' : Frame) (work : List R
     e'.input.gathered ≡ e.input.gathered →
     ((lists : List (List Token)) → Builds f lists lists [] → IsShallow f lists → OwnedBy (frame_kind f) lists → GoesOn e'.ask f frame' lists lists Told) →
     Stands sizes e' (fed_with Told work)
-notes_on sizes e e' f frame' work same is h top none untold outer lists g = at work (subst (λ (t : Option Frame). WaitStands t e.outer.items e.input.gathered work) is h.readings) where
-  at : (work : List Reading) → WaitStands (Some f) e.outer.items e.input.gathered work → Stands sizes e' (fed_with Told work)
-  at [] w = absurd w
-  at (r ∷ rs) w =
+notes_on sizes e e' f frame' work same is h top none untold outer lists g = at work (subst (λ (t : Option Frame). WaitStands t e.outer.items e.input.gathered work) is h.readings) h.lone where
+  at : (work : List Reading) → WaitStands (Some f) e.outer.items e.input.gathered work → IsLone work → Stands sizes e' (fed_with Told work)
+  at [] w lone = absurd w
+  at (r ∷ rs) w lone =
       let below : FrameStands f e.input.gathered r = w.0 in
       let on = g e.input.gathered (told_builds f e.input.gathered below.owns) below.shallow (owned_of f e.input.gathered below.owns) in
       let inner = told_on e'.ask f frame' e.input.gathered r below w.1.0 on none untold in
-      stands_now sizes e e' frame' _ rs same h.sized h.idle top
-      (subst (λ (l : List (List Token)). Innermost e'.ask frame' l (record { kind = r.kind; fed = r.fed ++ Told ∷ []; lent = false })) (sym lists) inner)
-      (subst (λ (o : Stack). OuterStand (reverse o.items) rs) (sym outer) w.1.1)
+      stands_now sizes e e' frame' (record { kind = r.kind; fed = r.fed ++ Told ∷ []; lent = false; holds = r.holds }) rs same h.sized h.idle top
+      (subst (λ (l : List (List Token)). Innermost e'.ask frame' l (record { kind = r.kind; fed = r.fed ++ Told ∷ []; lent = false; holds = r.holds })) (sym lists) inner)
+      (subst (λ (o : Stack). OuterStand (reverse o.items) rs) (sym outer) w.1.1) (lone_fed Told r rs lone)
 
 -- THE READING BENEATH
 
@@ -318,22 +314,30 @@ few_value (reading.Flag b) = tt
 few_value (reading.Toks []) = tt
 few_value (reading.Toks (t ∷ ts)) = tt
 
-fed_value : (fed : List Fed) (v : Value) → fed_lists (fed ++ Val v ∷ []) ≡ fed_lists fed ++ reading.value_lists v
-fed_value [] v = append-nil (reading.value_lists v)
-fed_value (Tok y ∷ fed) v = fed_value fed v
-fed_value (Told ∷ fed) v = fed_value fed v
-fed_value (Val w ∷ fed) v = ap (λ (l : List (List Token)). reading.value_lists w ++ l) (fed_value fed v) ∙ sym (append_assoc (reading.value_lists w) (fed_lists fed) (reading.value_lists v))
+-- what stays of the lists of a reading that ends
+nothing_past : {A : Type 0} (xs : List A) → drop (length xs) xs ≡ []
+nothing_past [] = refl
+nothing_past (x ∷ xs) = nothing_past xs
 
--- a command builds no list, and holds those of the values that it was fed with
-holds_value : (w : Waiting) (fed : List Fed) (v : Value) → gathered_by (waiting_kind w) fed ≡ [] → gathered_by (waiting_kind w) (fed ++ Val v ∷ []) ≡ reading.value_lists v
-holds_value (Catcode scan) fed v h = fed_value fed v ∙ ap (λ (l : List (List Token)). l ++ reading.value_lists v) h
-holds_value (Message name) fed v h = fed_value fed v ∙ ap (λ (l : List (List Token)). l ++ reading.value_lists v) h
-holds_value (Prefixed limited scan) fed v h = fed_value fed v ∙ ap (λ (l : List (List Token)). l ++ reading.value_lists v) h
+pub ended_lists : (v : EngineValue) (lists : List (List Token)) (r : Reading) (rs : List Reading) → AtMostOne lists → r.holds ≡ length lists → reading.value_lists (value_of lists v) ++ beneath (r ∷ rs) lists ≡ kept_lists v lists
+ended_lists v lists r rs few holds =
+    let none : drop r.holds lists ≡ [] = ap (λ (n : ℕ). drop n lists) holds ∙ nothing_past lists in
+    ap (λ (l : List (List Token)). reading.value_lists (value_of lists v) ++ l) none ∙ (append-nil (reading.value_lists (value_of lists v)) ∙ sym (value_kept v lists few))
+
+-- and where no reading is beneath
+few_others : (lists : List (List Token)) → AtMostOne lists → other_lists lists ≡ []
+few_others [] h = refl
+few_others (ts ∷ lists) h = few_rest ts lists h
+
+pub last_lists : (v : EngineValue) (lists : List (List Token)) (r : Reading) (rs : List Reading) → AtMostOne lists → r.holds ≡ length lists → IsTaken (value_of lists v) rs → rs ≡ [] → reading.value_lists (value_of lists v) ++ beneath (r ∷ rs) lists ≡ other_lists lists
+last_lists v lists r rs few holds taken none =
+    let is : reading.value_lists (value_of lists v) ≡ [] = subst (IsTaken (value_of lists v)) none taken in
+    ended_lists v lists r rs few holds ∙ value_kept v lists few ∙ is ∙ sym (few_others lists few)
 
 no_text : (w : Waiting) (fed : List Fed) → reading.so_far (waiting_kind w) fed ≡ []
 no_text (Catcode scan) fed = refl
 no_text (Message name) fed = refl
-no_text (Prefixed limited scan) fed = refl
+no_text (Prefixed long outer scan) fed = refl
 
 -- a command that is fed with a value goes on as this one
 pub record GoesBy (a : Ask) (waiting waiting' : Waiting) (lists : List (List Token)) (value : EngineValue) : Type 0 where
@@ -345,12 +349,10 @@ pub record GoesBy (a : Ask) (waiting waiting' : Waiting) (lists : List (List Tok
   pub bare : IsOpen a → reading.value_lists (value_of lists value) ≡ []
 
 value_on : (a : Ask) (w w' : Waiting) (lists : List (List Token)) (value : EngineValue) (r : Reading) → AtMostOne lists → WaitingStands w r → GoesBy a w w' lists value →
-    Innermost a (Waits w') (kept_lists value lists) (record { kind = r.kind; fed = r.fed ++ Val (value_of lists value) ∷ []; lent = false })
+    Innermost a (Waits w') (kept_lists value lists) (record { kind = r.kind; fed = r.fed ++ Val (value_of lists value) ∷ []; lent = false; holds = r.holds + length (reading.value_lists (value_of lists value)) })
 value_on a w w' lists value r few below g =
     let v : Value = value_of lists value in
     let kept : kept_lists value lists ≡ reading.value_lists v = value_kept value lists few in
-    let holds : gathered_by r.kind (r.fed ++ Val v ∷ []) ≡ reading.value_lists v =
-    subst (λ (k : reading.Kind). gathered_by k (r.fed ++ Val v ∷ []) ≡ reading.value_lists v) (sym below.kind) (holds_value w r.fed v (subst (λ (k : reading.Kind). gathered_by k r.fed ≡ []) below.kind below.none)) in
     record {
       asked = g.answer (kept_lists value lists) (value_same value lists few) ∙ sym (below.goes_on (Val v ∷ []));
       open_frame = λ o. record {
@@ -361,22 +363,34 @@ value_on a w w' lists value r few below g =
         shallow = tt;
       };
       waits = g.waits;
-      holds = holds ∙ sym kept;
+      holds = omega (arith, below.none, ap (length {A = List Token}) kept);
       few = subst AtMostOne (sym kept) (few_value v);
       last = gives_none a (r.fed ++ Val v ∷ []) g.none;
+      built = none_built a g.none;
       once = once_val a r.fed v;
       not_lent = refl;
     }
 
+-- a command waits
+waits_command : (w : Waiting) → IsCommand (waiting_kind w)
+waits_command (Catcode scan) = tt
+waits_command (Message name) = tt
+waits_command (Prefixed long outer scan) = tt
+
+lone_command : (w : Waiting) (v : Value) (r0 r : Reading) (rs : List Reading) → r.kind ≡ waiting_kind w → IsLone (ended_with v (r0 ∷ r ∷ rs))
+lone_command w v r0 r [] is = subst IsCommand (sym is) (waits_command w)
+lone_command w v r0 r (s ∷ rs) is = tt
+
 -- the reading beneath goes on with the value of the one that ended
-pub ends_on : (sizes : Sizes) (e e' : Engine) (w w' : Waiting) (value : EngineValue) (rs : List Reading) → SameState e e' → EndsHere sizes e rs → e.outer.items ≡ e'.outer.items ++ w ∷ [] →
-    e'.top ≡ Some (Waits w') → e'.input.gathered ≡ kept_lists value e.input.gathered → GoesBy e'.ask w w' e.input.gathered value → Stands sizes e' (fed_with (Val (value_of e.input.gathered value)) rs)
-ends_on sizes e e' w w' value rs same h items top lists g =
+pub ends_on : (sizes : Sizes) (e e' : Engine) (w w' : Waiting) (value : EngineValue) (r0 : Reading) (rs : List Reading) → SameState e e' → EndsHere sizes e (value_of e.input.gathered value) r0 rs → e.outer.items ≡ e'.outer.items ++ w ∷ [] →
+    e'.top ≡ Some (Waits w') → e'.input.gathered ≡ kept_lists value e.input.gathered → GoesBy e'.ask w w' e.input.gathered value → Stands sizes e' (ended_with (value_of e.input.gathered value) (r0 ∷ rs))
+ends_on sizes e e' w w' value r0 rs same h items top lists g =
     at rs (subst (λ (l : List Waiting). OuterStand l rs) (ap (λ (l : List Waiting). reverse l) items ∙ reverse-append e'.outer.items (w ∷ [])) h.outer) where
-      at : (rs : List Reading) → OuterStand (w ∷ reverse e'.outer.items) rs → Stands sizes e' (fed_with (Val (value_of e.input.gathered value)) rs)
+      at : (rs : List Reading) → OuterStand (w ∷ reverse e'.outer.items) rs → Stands sizes e' (ended_with (value_of e.input.gathered value) (r0 ∷ rs))
       at [] o = absurd o
-      at (r ∷ rs) o = stands_now sizes e e' (Waits w') _ rs same h.sized h.idle top
-          (subst (λ (l : List (List Token)). Innermost e'.ask (Waits w') l (record { kind = r.kind; fed = r.fed ++ Val (value_of e.input.gathered value) ∷ []; lent = false })) (sym lists) (value_on e'.ask w w' e.input.gathered value r h.few o.0 g)) o.1
+      at (r ∷ rs) o = stands_now sizes e e' (Waits w') (record { kind = r.kind; fed = r.fed ++ Val (value_of e.input.gathered value) ∷ []; lent = false; holds = r.holds + length (reading.value_lists (value_of e.input.gathered value)) }) rs same h.sized h.idle top
+          (subst (λ (l : List (List Token)). Innermost e'.ask (Waits w') l (record { kind = r.kind; fed = r.fed ++ Val (value_of e.input.gathered value) ∷ []; lent = false; holds = r.holds + length (reading.value_lists (value_of e.input.gathered value)) })) (sym lists) (value_on e'.ask w w' e.input.gathered value r h.few o.0 g)) o.1
+          (lone_command w (value_of e.input.gathered value) r0 r rs o.0.kind)
 
 -- A READING THAT BEGINS
 
@@ -388,32 +402,33 @@ pub record StartsAs (a : Ask) (frame : Frame) (k : reading.Kind) : Type 0 where
   pub stands : (lists : List (List Token)) (fed : List Fed) → reading.ask k fed ≡ resume frame lists fed
   pub list : (lists : List (List Token)) (fed : List Fed) → reading.so_far k fed ≡ frame_list frame lists fed
   pub kind : frame_kind frame ≡ k
-  pub builds : Builds frame (own_lists k []) (own_lists k []) []
-  pub shallow : IsShallow frame (own_lists k [])
+  pub builds : Builds frame (own_lists k) (own_lists k) []
+  pub shallow : IsShallow frame (own_lists k)
 
-first_owned : (k : reading.Kind) → OwnedBy k (own_lists k [])
-first_owned reading.Catcode = refl
-first_owned (reading.Message name) = refl
-first_owned (reading.Prefixed limited) = refl
-first_owned reading.Integer = refl
-first_owned (reading.Text name) = refl
+first_owned : (f : Frame) → OwnedBy (frame_kind f) (own_lists (frame_kind f))
+first_owned (Waits (Catcode scan)) = refl
+first_owned (Waits (Message name)) = refl
+first_owned (Waits (Prefixed long outer scan)) = refl
+first_owned (Integer scan) = refl
+first_owned (Text name scan) = refl
 
-first_inner : (a : Ask) (frame : Frame) (k : reading.Kind) → StartsAs a frame k → Innermost a frame (own_lists k []) (fresh k)
+first_inner : (a : Ask) (frame : Frame) (k : reading.Kind) → StartsAs a frame k → Innermost a frame (own_lists k) (fresh k)
 first_inner a frame k b =
-    let owned : OwnedBy (frame_kind frame) (own_lists k []) = subst (λ (x : reading.Kind). OwnedBy x (own_lists k [])) (sym b.kind) (first_owned k) in
+    let owned : OwnedBy (frame_kind frame) (own_lists k) = subst (λ (x : reading.Kind). OwnedBy (frame_kind frame) (own_lists x)) b.kind (first_owned frame) in
     record {
-      asked = b.answer (own_lists k []);
+      asked = b.answer (own_lists k);
       open_frame = λ o. record {
-        goes_on = b.stands (own_lists k []);
-        list = b.list (own_lists k []);
+        goes_on = b.stands (own_lists k);
+        list = b.list (own_lists k);
         kind = sym b.kind;
-        owns = owns_now frame frame (own_lists k []) (own_lists k []) [] owned refl b.builds refl;
+        owns = owns_now frame frame (own_lists k) (own_lists k) [] owned refl b.builds refl;
         shallow = b.shallow;
       };
       waits = b.waits;
-      holds = append-nil (own_lists k []);
-      few = few_owned k (own_lists k []) (first_owned k);
+      holds = refl;
+      few = few_owned (frame_kind frame) (own_lists k) owned;
       last = gives_none a [] b.none;
+      built = none_built a b.none;
       once = once_untold a [] b.untold;
       not_lent = refl;
     }
@@ -425,24 +440,24 @@ pub record Beneath (sizes : Sizes) (e : Engine) (waits : Option Waiting) (work :
   pub bare : e.input.gathered ≡ []
   pub outer : OuterStand (reverse (e.outer.items ++ option_to_list waits)) work
 
-beneath : (sizes : Sizes) (e : Engine) (waits : Option Waiting) (work : List Reading) → WaitsWith sizes e waits work → Beneath sizes e waits work
-beneath sizes e (Some w) [] h = absurd h
-beneath sizes e (Some w) (r ∷ rs) h = record {
+below_it : (sizes : Sizes) (e : Engine) (waits : Option Waiting) (work : List Reading) → WaitsWith sizes e waits work → Beneath sizes e waits work
+below_it sizes e (Some w) [] h = absurd h
+below_it sizes e (Some w) (r ∷ rs) h = record {
   sized = h.sized;
   idle = h.idle;
   bare = h.bare;
   outer = subst (λ (l : List Waiting). OuterStand l (r ∷ rs)) (sym (reverse-append e.outer.items (w ∷ []))) (h.innermost, h.outer);
 }
-beneath sizes e None work h = at work (subst (λ (t : Option Frame). WorkStands e.ask t e.outer.items e.input.gathered work) h.0 h.1.readings) where
+below_it sizes e None work h = at work (subst (λ (t : Option Frame). WorkStands e.ask t e.outer.items e.input.gathered work) h.0 h.1.readings) where
   at : (work : List Reading) → WorkStands e.ask None e.outer.items e.input.gathered work → Beneath sizes e None work
   at [] w = record { sized = h.1.sized; idle = h.1.idle; bare = w.1; outer = subst (λ (l : List Waiting). OuterStand (reverse (l ++ [])) []) (sym w.0) tt }
   at (r ∷ rs) w = absurd w
 
 pub begins_on : (sizes : Sizes) (e e' : Engine) (waits : Option Waiting) (frame : Frame) (k : reading.Kind) (work : List Reading) → SameState e e' → WaitsWith sizes e waits work → e'.outer.items ≡ e.outer.items ++ option_to_list waits →
-    e'.top ≡ Some frame → e'.input.gathered ≡ own_lists k [] ++ e.input.gathered → StartsAs e'.ask frame k → Stands sizes e' (fresh k ∷ work)
-begins_on sizes e e' waits frame k work same h items top lists b =
-    let under = beneath sizes e waits work h in
-    let own : e'.input.gathered ≡ own_lists k [] = lists ∙ (ap (λ (l : List (List Token)). own_lists k [] ++ l) under.bare ∙ append-nil (own_lists k [])) in
+    e'.top ≡ Some frame → e'.input.gathered ≡ own_lists k ++ e.input.gathered → StartsAs e'.ask frame k → IsLone (fresh k ∷ work) → Stands sizes e' (fresh k ∷ work)
+begins_on sizes e e' waits frame k work same h items top lists b lone =
+    let under = below_it sizes e waits work h in
+    let own : e'.input.gathered ≡ own_lists k = lists ∙ (ap (λ (l : List (List Token)). own_lists k ++ l) under.bare ∙ append-nil (own_lists k)) in
     stands_now sizes e e' frame (fresh k) work same under.sized under.idle top
     (subst (λ (l : List (List Token)). Innermost e'.ask frame l (fresh k)) (sym own) (first_inner e'.ask frame k b))
-    (subst (λ (l : List Waiting). OuterStand (reverse l) work) (sym items) under.outer)
+    (subst (λ (l : List Waiting). OuterStand (reverse l) work) (sym items) under.outer) lone

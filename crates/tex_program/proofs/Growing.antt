@@ -1,19 +1,26 @@
 -- A token that goes onto the list that a reading builds.
-use Rattle.std.proofs.Common.{◌≡◌, ℕ, ◌+◌, ◌-◌, ◌*◌, ◌<◌, ◌≤◌, Bool, true, false, List, [], ◌∷◌, ◌++◌, length, refl, sym, ap, ◌∙◌, subst, reverse, true≢false, arith}
+use Rattle.std.proofs.Common.{◌≡◌, ℕ, ◌+◌, ◌-◌, ◌*◌, ◌<◌, ◌≤◌, Bool, true, false, List, [], ◌∷◌, ◌++◌, length, drop, map, refl, sym, ap, ◌∙◌, subst, reverse, true≢false, arith}
 use Rattle.std.specs.Prelude.{Option, Some, None, IsSome, if◌then◌else◌, not, ◌&&◌, ◌==◌}
 use Rattle.std.proofs.lemmas.List.{append-nil}
 use Rattle.std.proofs.lemmas.List.Sums.{sum_by-cons}
 use Rattle.std.proofs.lemmas.Bool.Decides.{nat_tests}
 use Rattle.tex_defs.specs.declared.Seen.{Seen}
 use Rattle.tex_defs.specs.declared.Sizes.{Sizes}
+use Rattle.tex_defs.specs.declared.Full.{Full}
+use Rattle.tex_defs.specs.Places.{World}
 use Rattle.tex_defs.specs.declared.Token.{Token}
 use Rattle.tex_defs.specs.declared.Token.TheVariants.{Char}
 use Rattle.tex_defs.specs.declared.Name.{Name}
 use Rattle.plain_state.specs.Categories.{begin_group, end_group}
-use Rattle.plain_state.specs.Readings.{Tok, gathered_by, has_category, closed_or}
+use Rattle.plain_state.specs.Readings.{Tok, Told, closed_or}
+use Rattle.plain_state.specs.Tokens.{has_category}
 use Rattle.plain_state.specs.Readings as reading
-use Rattle.plain_state.specs.States.{Reading, Feeds, fed_with, fresh}
-use Rattle.plain_state.specs.Tables.{growth, list_words, lists_words, words, held_words, memory, refused, refusal}
+use Rattle.plain_state.specs.States.{State, Move, Reading, Grows, Feeds, Noted, fed_with, fresh, made}
+use Rattle.plain_state.specs.States as machine
+use Rattle.plain_state.specs.Tables.{list_words, lists_words, memory, refused, refusal}
+use Rattle.plain_machine.specs.Plan.{feeding, feeding_kind, noting, grown_to}
+use Rattle.plain_machine.specs.Does.{Did}
+use Rattle.plain_machine.proofs.Doing.{did_join, did_one, wrote_none}
 use Rattle.input_state.specs.Stored.{words as stored_words}
 use Rattle.frames.specs.declared.scan.Ask.{Ask}
 use Rattle.frames.specs.declared.scan.Ask.TheVariants.{More}
@@ -26,14 +33,19 @@ use Rattle.frames.specs.declared.text.TextScan.{TextScan}
 use Rattle.frames.specs.declared.text.TextScan.TheVariants.{First, BraceMissing, Inside}
 use Rattle.frames.specs.Sees.{ask_of, first_list, want_of, kind_of}
 use Rattle.frames.specs.Texts.{text_list, text_grows, depth_of, IsTaking}
-use Rattle.frames.specs.Resumes.{resume, frame_grows, lists_after, IsOpen, Builds, IsShallow, Owns, MayFeed, HasList, TakesTokens}
+use Rattle.frames.specs.declared.frame.Waiting.TheVariants as waiting
+use Rattle.frames.specs.Resumes.{resume, frame_grows, grow_first, lists_after, frame_kind, frame_list, IsOpen, Builds, IsShallow, Owns, MayFeed, HasList, TakesTokens, is_built}
 use Rattle.tex_program.specs.declared.engine.Engine.{Engine}
-use Rattle.tex_program.specs.Stands.{Stands, WorkStands, OuterStand, FrameStands, Innermost, FedFrame, FeedsHere, Counts, IsSized, state_of, top_grows, frames}
+use Rattle.tex_program.specs.Stands.{Stands, WorkStands, OuterStand, FrameStands, Innermost, FedFrame, FeedsHere, Waits as WaitsFor, WaitStands, WaitsWith, IsSized, IsLone, SameState, state_of, top_grows, frames}
 use Rattle.tex_program.specs.Steps.{weight, pending_weight}
 use Rattle.frames.specs.Weights.{frame_rank}
-use Rattle.tex_program.specs.Rules.{TopTakes}
-use Rattle.tex_program.proofs.Counting.{counts_of}
-use Rattle.tex_program.proofs.Feeding.{owned_of, owned_after, holds_now}
+use Rattle.tex_program.specs.Rules.{TopTakes, feeds_of, Cuts}
+use Rattle.tex_program.specs.declared.broken.Broken.TheVariants as broken
+use Rattle.tex_program.proofs.Counting.{words_more}
+use Rattle.tex_program.proofs.Cutting.{cuts_by, full_cuts}
+use Rattle.tex_program.proofs.Joining.{quiet_here}
+use Rattle.tex_program.proofs.Reporting.{reads_now}
+use Rattle.tex_program.proofs.Feeding.{owned_of}
 
 -- THE LIST THAT A TEXT BUILDS
 
@@ -77,36 +89,88 @@ takes_at (Text name (Inside depth)) lists want h = tt
 takes_of : (f : Frame) (lists : List (List Token)) (r : Reading) (want : Want) → FrameStands f lists r → ask_of lists (More want) ≡ reading.ask r.kind r.fed → TakesTokens f
 takes_of f lists r want below asked = takes_at f lists want (asked ∙ (ap (reading.ask r.kind) (sym (append-nil r.fed)) ∙ below.goes_on []))
 
--- WHAT IT NEEDS OF THE MAIN MEMORY
+-- HOW THE MACHINE FEEDS IT: the list gets the token, if it is of it
 
-same_lists : (lists : List (List Token)) → 0 ≡ lists_words lists - lists_words lists
-same_lists lists = omega arith
+abbrev grown_moves : Bool → Seen → List Move
+grown_moves grows x = (if grows then Grows x.token ∷ [] else []) ++ Feeds x ∷ []
 
-fed_growth : (a : Ask) (want : Want) (t : Option Frame) (x : Seen) (outer : List Waiting) (lists : List (List Token)) (work : List Reading) → a ≡ More want → WorkStands a t outer lists work →
-    growth work (Tok x) ≡ lists_words (lists_after (top_grows t x) x lists) - lists_words lists
-fed_growth a want None x outer lists [] is h = same_lists lists
-fed_growth a want None x outer lists (r ∷ rs) is h = absurd h
-fed_growth a want (Some f) x outer lists [] is h = absurd h
-fed_growth a want (Some f) x outer lists (r ∷ rs) is h = at f r h.0 where
-  at : (f : Frame) (r : Reading) → Innermost a f lists r → growth (r ∷ rs) (Tok x) ≡ lists_words (lists_after (frame_grows f x) x lists) - lists_words lists
-  at f r inner =
-      let below : FrameStands f lists r = inner.open_frame (subst IsOpen (sym is) tt) in
-      let takes : TakesTokens f = takes_of f lists r want below (ap (ask_of lists) (sym is) ∙ inner.asked) in
-      let now : gathered_by r.kind (r.fed ++ Tok x ∷ []) ≡ lists_after (frame_grows f x) x lists =
-      holds_now f lists (lists_after (frame_grows f x) x lists) (Tok x) r tt below inner.holds (owned_after f x lists (owned_of f lists below.owns)) (token_builds f x lists below.owns takes) in
-      ap (λ (l : List (List Token)). lists_words l - lists_words (gathered_by r.kind r.fed)) now ∙ ap (λ (l : List (List Token)). lists_words (lists_after (frame_grows f x) x lists) - lists_words l) inner.holds
+behind_all : (ts : List Token) (t : Token) → drop (length ts) (ts ++ t ∷ []) ≡ t ∷ []
+behind_all [] t = refl
+behind_all (u ∷ ts) t = behind_all ts t
 
--- the machine asks the main memory what the engine asks it
-pub fed_refusal : (sizes : Sizes) (e : Engine) (x : Seen) (work : List Reading) → FeedsHere sizes e work →
-    refusal sizes (Feeds x) (state_of e work) ≡ refused e.input.sizes (memory (lists_words (lists_after (top_grows e.top x) x e.input.gathered) - lists_words e.input.gathered) (stored_words e.input) ∷ [])
-fed_refusal sizes e x work h =
-    let counts : Counts sizes e work = counts_of sizes e work h.stands in
-    let need : growth work (Tok x) ≡ lists_words (lists_after (top_grows e.top x) x e.input.gathered) - lists_words e.input.gathered =
-    fed_growth e.ask h.want e.top x e.outer.items e.input.gathered work h.asks h.stands.readings in
-    let used : words (state_of e work) ≡ stored_words e.input = ap (λ (l : List (List Token)). held_words e.input.pending.puts e.input.making l) counts.lists in
-    ap (λ (s : Sizes). refused s (memory (growth work (Tok x)) (words (state_of e work)) ∷ [])) (sym counts.sized.input) ∙
-    (ap (λ (n : ℕ). refused e.input.sizes (memory n (words (state_of e work)) ∷ [])) need ∙
-    ap (λ (n : ℕ). refused e.input.sizes (memory (lists_words (lists_after (top_grows e.top x) x e.input.gathered) - lists_words e.input.gathered) n ∷ [])) used)
+nothing_behind : (ts : List Token) → drop (length ts) ts ≡ []
+nothing_behind [] = refl
+nothing_behind (t ∷ ts) = nothing_behind ts
+
+grown_one : (grows : Bool) (ts : List Token) (t : Token) → grown_to ts (if grows then ts ++ t ∷ [] else ts) ≡ (if grows then Grows t ∷ [] else [])
+grown_one true ts t = ap (map Grows) (behind_all ts t)
+grown_one false ts t = ap (map Grows) (nothing_behind ts)
+
+-- the list that is built before a token and behind it
+module _ (f : Frame) (lists : List (List Token)) (r : Reading) (below : FrameStands f lists r) where
+  built_at : (fed : List reading.Fed) → reading.so_far (frame_kind f) (r.fed ++ fed) ≡ frame_list f lists fed
+  built_at fed = subst (λ (k : reading.Kind). reading.so_far k (r.fed ++ fed) ≡ frame_list f lists fed) below.kind (below.list fed)
+
+  built_now : reading.so_far (frame_kind f) r.fed ≡ frame_list f lists []
+  built_now = ap (reading.so_far (frame_kind f)) (sym (append-nil r.fed)) ∙ built_at []
+
+text_feeding : (name : Name) (scan : TextScan) (lists : List (List Token)) (r : Reading) (x : Seen) → FrameStands (Text name scan) lists r → IsTaking scan →
+    grown_to (reading.so_far (reading.Text name) r.fed) (reading.so_far (reading.Text name) (r.fed ++ Tok x ∷ [])) ≡ (if text_grows scan x then Grows x.token ∷ [] else [])
+text_feeding name scan lists r x below takes =
+    let before : reading.so_far (reading.Text name) r.fed ≡ first_list lists = built_now (Text name scan) lists r below ∙ sym (ap first_list below.owns) in
+    let behind : reading.so_far (reading.Text name) (r.fed ++ Tok x ∷ []) ≡ (if text_grows scan x then first_list lists ++ x.token ∷ [] else first_list lists) =
+    built_at (Text name scan) lists r below (Tok x ∷ []) ∙ text_builds scan name x lists below.owns takes ∙ first_after (text_grows scan x) x lists (owned_of (Text name scan) lists below.owns) in
+    ap (λ (ts : List Token). grown_to ts (reading.so_far (reading.Text name) (r.fed ++ Tok x ∷ []))) before ∙ ap (grown_to (first_list lists)) behind ∙ grown_one (text_grows scan x) (first_list lists) x.token
+
+kind_feeding : (f : Frame) (lists : List (List Token)) (r : Reading) (x : Seen) → FrameStands f lists r → TakesTokens f → feeding_kind (frame_kind f) r.fed x ≡ grown_moves (frame_grows f x) x
+kind_feeding (Waits (waiting.Catcode scan)) lists r x below takes = refl
+kind_feeding (Waits (waiting.Message name)) lists r x below takes = refl
+kind_feeding (Waits (waiting.Prefixed long outer scan)) lists r x below takes = refl
+kind_feeding (Integer scan) lists r x below takes = refl
+kind_feeding (Text name scan) lists r x below takes = ap (λ (ms : List Move). ms ++ Feeds x ∷ []) (text_feeding name scan lists r x below takes)
+
+feeding_is : (f : Frame) (lists : List (List Token)) (r : Reading) (x : Seen) → FrameStands f lists r → TakesTokens f → feeding r x ≡ grown_moves (frame_grows f x) x
+feeding_is f lists r x below takes = ap (λ (k : reading.Kind). feeding_kind k r.fed x) below.kind ∙ kind_feeding f lists r x below takes
+
+-- the note that its report was written changes no list
+told_list : (scan : TextScan) (ts : List Token) → text_list scan ts [] ≡ ts → text_list scan ts (Told ∷ []) ≡ ts
+told_list First ts h = h
+told_list BraceMissing ts h = h
+told_list (Inside depth) ts h = h
+
+text_noting : (name : Name) (scan : TextScan) (lists : List (List Token)) (r : Reading) → FrameStands (Text name scan) lists r → grown_to (reading.so_far (reading.Text name) r.fed) (reading.so_far (reading.Text name) (r.fed ++ Told ∷ [])) ≡ []
+text_noting name scan lists r below =
+    let own : text_list scan (first_list lists) [] ≡ first_list lists = sym (ap first_list below.owns) in
+    let before : reading.so_far (reading.Text name) r.fed ≡ first_list lists = built_now (Text name scan) lists r below ∙ own in
+    let behind : reading.so_far (reading.Text name) (r.fed ++ Told ∷ []) ≡ first_list lists = built_at (Text name scan) lists r below (Told ∷ []) ∙ told_list scan (first_list lists) own in
+    ap (λ (ts : List Token). grown_to ts (reading.so_far (reading.Text name) (r.fed ++ Told ∷ []))) before ∙ ap (grown_to (first_list lists)) behind ∙ ap (map Grows) (nothing_behind (first_list lists))
+
+kind_noting : (f : Frame) (lists : List (List Token)) (r : Reading) → FrameStands f lists r → grown_to (reading.so_far (frame_kind f) r.fed) (reading.so_far (frame_kind f) (r.fed ++ Told ∷ [])) ≡ []
+kind_noting (Waits (waiting.Catcode scan)) lists r below = refl
+kind_noting (Waits (waiting.Message name)) lists r below = refl
+kind_noting (Waits (waiting.Prefixed long outer scan)) lists r below = refl
+kind_noting (Integer scan) lists r below = refl
+kind_noting (Text name scan) lists r below = text_noting name scan lists r below
+
+pub noting_is : (f : Frame) (lists : List (List Token)) (r : Reading) → FrameStands f lists r → noting r ≡ Noted ∷ []
+noting_is f lists r below =
+    ap (λ (k : reading.Kind). grown_to (reading.so_far k r.fed) (reading.so_far k (r.fed ++ Told ∷ [])) ++ Noted ∷ []) below.kind ∙ ap (λ (ms : List Move). ms ++ Noted ∷ []) (kind_noting f lists r below)
+
+pub waits_note : (sizes : Sizes) (e : Engine) (r : Reading) (rs : List Reading) → WaitsFor sizes e (r ∷ rs) → noting r ≡ Noted ∷ []
+waits_note sizes e r rs h = at e.top h.readings where
+  at : (t : Option Frame) → WaitStands t e.outer.items e.input.gathered (r ∷ rs) → noting r ≡ Noted ∷ []
+  at None w = absurd w
+  at (Some f) w = noting_is f e.input.gathered r w.0
+
+-- a list that grows is there
+grows_list : (f : Frame) (x : Seen) (lists : List (List Token)) → Owns f lists → frame_grows f x ≡ true → lists ≡ [] → ⊥
+grows_list (Waits w) x lists h grows none = cc
+grows_list (Integer scan) x lists h grows none = cc
+grows_list (Text name scan) x lists h grows none = cc
+
+same_growth : (t : Token) (lists : List (List Token)) → machine.grow_first t lists ≡ grow_first t lists
+same_growth t [] = refl
+same_growth t (ts ∷ lists) = refl
 
 -- THE FRAME THAT IS FED
 
@@ -132,38 +196,99 @@ grown_engine e x = record e { input = record e.input { gathered = lists_after (t
 few_words : (e : Engine) → stored_words e.input < 4294967296 → lists_words e.input.gathered < 4294967296
 few_words e h = omega (arith, h)
 
-frame_fed : (sizes : Sizes) (e : Engine) (f : Frame) (x : Seen) (r : Reading) (rs : List Reading) → e.top ≡ Some f → IsSized sizes e → e.input.making ≡ None → (want : Want) → e.ask ≡ More want →
-    stored_words e.input < 4294967296 → Innermost e.ask f e.input.gathered r → OuterStand (reverse e.outer.items) rs → FedFrame sizes (grown_engine e x) f x e.input.gathered r rs
-frame_fed sizes e f x r rs top sized idle want asks small inner outer =
+frame_fed : (sizes : Sizes) (e : Engine) (f : Frame) (x : Seen) (r : Reading) (rs : List Reading) → e.top ≡ Some f → IsSized sizes e → e.input.making ≡ None → (want : Want) → e.ask ≡ More want → is_built x.meaning ≡ true →
+    stored_words e.input < 4294967296 → Innermost e.ask f e.input.gathered r → OuterStand (reverse e.outer.items) rs → IsLone (r ∷ rs) → FedFrame sizes (grown_engine e x) f x e.input.gathered r rs
+frame_fed sizes e f x r rs top sized idle want asks built small inner outer lone =
     let below : FrameStands f e.input.gathered r = inner.open_frame (subst IsOpen (sym asks) tt) in
     let takes : TakesTokens f = takes_of f e.input.gathered r want below (ap (ask_of e.input.gathered) (sym asks) ∙ inner.asked) in
     record {
-      sized = record { few_reports = sized.few_reports; small = sized.small; own = sized.own; outer = sized.outer; input = sized.input; names = sized.names };
+      sized = record { few_reports = sized.few_reports; known = sized.known; small = sized.small; own = sized.own; outer = sized.outer; input = sized.input; names = sized.names };
       idle = idle;
       frame = below;
       holds = inner.holds;
+      built = built;
       may_feed = may_feed f x e.input.gathered below.owns takes below.shallow (λ g. few_words e small);
       grown = ap (λ (t : Option Frame). lists_after (top_grows t x) x e.input.gathered) top;
       outer = outer;
+      lone = lone;
     }
 
 -- behind a token that the innermost reading was fed with
-pub token_stands : (sizes : Sizes) (e e1 e2 : Engine) (x : Seen) (work : List Reading) → FeedsHere sizes e work → stored_words e.input < 4294967296 → e1 ≡ grown_engine e x → (e1.top ≡ None → e2 ≡ e1) →
+pub token_stands : (sizes : Sizes) (e e1 e2 : Engine) (x : Seen) (work : List Reading) → FeedsHere sizes e x work → stored_words e.input < 4294967296 → e1 ≡ grown_engine e x → (e1.top ≡ None → e2 ≡ e1) →
     ((f : Frame) (lists : List (List Token)) (r : Reading) (rs : List Reading) → e1.top ≡ Some f → FedFrame sizes e1 f x lists r rs → Stands sizes e2 (fed_with (Tok x) (r ∷ rs))) → Stands sizes e2 (fed_with (Tok x) work)
-token_stands sizes e e1 e2 x work h small is none some = by_top e.top refl work (h.stands.readings) where
+token_stands sizes e e1 e2 x work h small is none some = by_top e.top refl work h.stands.readings h.stands.lone where
   top_is : e1.top ≡ e.top
   top_is = ap (λ (y : Engine). y.top) is
 
-  by_top : (t : Option Frame) → e.top ≡ t → (work : List Reading) → WorkStands e.ask t e.outer.items e.input.gathered work → Stands sizes e2 (fed_with (Tok x) work)
-  by_top None top [] w = subst (λ (y : Engine). Stands sizes y []) (sym (none (top_is ∙ top) ∙ is)) (record {
-    sized = record { few_reports = h.stands.sized.few_reports; small = h.stands.sized.small; own = h.stands.sized.own; outer = h.stands.sized.outer; input = h.stands.sized.input; names = h.stands.sized.names };
+  by_top : (t : Option Frame) → e.top ≡ t → (work : List Reading) → WorkStands e.ask t e.outer.items e.input.gathered work → IsLone work → Stands sizes e2 (fed_with (Tok x) work)
+  by_top None top [] w lone = subst (λ (y : Engine). Stands sizes y []) (sym (none (top_is ∙ top) ∙ is)) (record {
+    sized = record { few_reports = h.stands.sized.few_reports; known = h.stands.sized.known; small = h.stands.sized.small; own = h.stands.sized.own; outer = h.stands.sized.outer; input = h.stands.sized.input; names = h.stands.sized.names };
     idle = h.stands.idle;
     readings = subst (λ (t : Option Frame). WorkStands e.ask t e.outer.items (lists_after (top_grows t x) x e.input.gathered) []) (sym top) w;
+    lone = tt;
   })
-  by_top None top (r ∷ rs) w = absurd w
-  by_top (Some f) top [] w = absurd w
-  by_top (Some f) top (r ∷ rs) w = some f e.input.gathered r rs (top_is ∙ top) (subst (λ (y : Engine). FedFrame sizes y f x e.input.gathered r rs) (sym is)
-      (frame_fed sizes e f x r rs top h.stands.sized h.stands.idle h.want h.asks small w.0 w.1))
+  by_top None top (r ∷ rs) w lone = absurd w
+  by_top (Some f) top [] w lone = absurd w
+  by_top (Some f) top (r ∷ rs) w lone = some f e.input.gathered r rs (top_is ∙ top) (subst (λ (y : Engine). FedFrame sizes y f x e.input.gathered r rs) (sym is)
+      (frame_fed sizes e f x r rs top h.stands.sized h.stands.idle h.want h.asks h.built small w.0 w.1 lone))
+
+-- WHAT IS DONE THEN
+
+-- where the innermost reading stands
+record Fed1 (e : Engine) (x : Seen) (r : Reading) (f : Frame) : Type 0 where
+  top : e.top ≡ Some f
+  moves : feeding r x ≡ grown_moves (frame_grows f x) x
+  owns : Owns f e.input.gathered
+
+fed_one : (sizes : Sizes) (e : Engine) (x : Seen) (r : Reading) (rs : List Reading) (f : Frame) → e.top ≡ Some f → FeedsHere sizes e x (r ∷ rs) → WorkStands e.ask (Some f) e.outer.items e.input.gathered (r ∷ rs) → Fed1 e x r f
+fed_one sizes e x r rs f top h w =
+    let below : FrameStands f e.input.gathered r = w.0.open_frame (subst IsOpen (sym h.asks) tt) in
+    let takes : TakesTokens f = takes_of f e.input.gathered r h.want below (ap (ask_of e.input.gathered) (sym h.asks) ∙ w.0.asked) in
+    record { top = top; moves = feeding_is f e.input.gathered r x below takes; owns = below.owns }
+
+module _ (sizes : Sizes) (e e2 : Engine) (x : Seen) (same : SameState e e2) (lists : e2.input.gathered ≡ lists_after (top_grows e.top x) x e.input.gathered) where
+  -- the input has room, as the machine
+  grown_fits : (work : List Reading) (o : Option Full) → e.input.sizes ≡ sizes → refused e.input.sizes (memory 1 (stored_words e.input) ∷ []) ≡ o → refusal sizes (Grows x.token) (state_of e work) ≡ o
+  grown_fits work o sized h = words_more sizes e work 1 o sized h
+
+  grown_did : (b : Bool) (r : Reading) (rs : List Reading) (w : World) → top_grows e.top x ≡ b → (b ≡ true → refusal sizes (Grows x.token) (state_of e (r ∷ rs)) ≡ None) →
+      Did sizes (state_of e (r ∷ rs)) (state_of e2 (fed_with (Tok x) (r ∷ rs))) w w (grown_moves b x)
+  grown_did true r rs w is fits =
+      let now : machine.grow_first x.token e.input.gathered ≡ e2.input.gathered = same_growth x.token e.input.gathered ∙ sym (lists ∙ ap (λ (b : Bool). lists_after b x e.input.gathered) is) in
+      did_join sizes _ _ _ w w w (Grows x.token ∷ []) (Feeds x ∷ []) (did_one sizes (Grows x.token) _ (made (Grows x.token) (state_of e (r ∷ rs))) w w (fits refl) refl (quiet_here (Grows x.token) w tt))
+      (did_one sizes (Feeds x) _ _ w w refl (ap (λ (l : List (List Token)). record (state_of e (r ∷ rs)) { work = fed_with (Tok x) (r ∷ rs); gathered = l }) now ∙ reads_now e e2 (r ∷ rs) (fed_with (Tok x) (r ∷ rs)) same) (quiet_here (Feeds x) w tt))
+  grown_did false r rs w is fits =
+      let now : e.input.gathered ≡ e2.input.gathered = sym (lists ∙ ap (λ (b : Bool). lists_after b x e.input.gathered) is) in
+      did_one sizes (Feeds x) _ _ w w refl (ap (λ (l : List (List Token)). record (state_of e (r ∷ rs)) { work = fed_with (Tok x) (r ∷ rs); gathered = l }) now ∙ reads_now e e2 (r ∷ rs) (fed_with (Tok x) (r ∷ rs)) same) (quiet_here (Feeds x) w tt)
+
+  pub token_did : (work : List Reading) (w : World) → FeedsHere sizes e x work → (top_grows e.top x ≡ true → (e.input.gathered ≡ [] → ⊥) → refused e.input.sizes (memory 1 (stored_words e.input) ∷ []) ≡ None) →
+      Did sizes (state_of e work) (state_of e2 (fed_with (Tok x) work)) w w (feeds_of work x)
+  token_did work w h fits = by_top e.top refl work h h.stands.readings where
+    by_top : (t : Option Frame) → e.top ≡ t → (work : List Reading) → FeedsHere sizes e x work → WorkStands e.ask t e.outer.items e.input.gathered work → Did sizes (state_of e work) (state_of e2 (fed_with (Tok x) work)) w w (feeds_of work x)
+    by_top None top [] h ws =
+        let now : e2.input.gathered ≡ e.input.gathered = lists ∙ ap (λ (t : Option Frame). lists_after (top_grows t x) x e.input.gathered) top in
+        record { state = ap (λ (l : List (List Token)). record (state_of e []) { gathered = l }) (sym now) ∙ reads_now e e2 [] [] same; fits = tt; written = wrote_none w }
+    by_top None top (r ∷ rs) h ws = absurd ws
+    by_top (Some f) top [] h ws = absurd ws
+    by_top (Some f) top (r ∷ rs) h ws =
+        let one : Fed1 e x r f = fed_one sizes e x r rs f top h ws in
+        let grows : top_grows e.top x ≡ frame_grows f x = ap (λ (t : Option Frame). top_grows t x) top in
+        subst (λ (ms : List Move). Did sizes (state_of e (r ∷ rs)) (state_of e2 (fed_with (Tok x) (r ∷ rs))) w w ms) (sym one.moves)
+        (grown_did (frame_grows f x) r rs w grows (λ g. grown_fits (r ∷ rs) None h.stands.sized.input (fits (grows ∙ g) (grows_list f x e.input.gathered one.owns g))))
+
+-- the list has no room for it
+pub token_cuts : (sizes : Sizes) (e : Engine) (x : Seen) (work : List Reading) (w : World) (full : Full) → FeedsHere sizes e x work → top_grows e.top x ≡ true → refused e.input.sizes (memory 1 (stored_words e.input) ∷ []) ≡ Some full →
+    Cuts sizes (state_of e work) e work w w (feeds_of work x) (broken.Full full)
+token_cuts sizes e x work w full h grows refuses = by_top e.top refl work h h.stands.readings where
+  by_top : (t : Option Frame) → e.top ≡ t → (work : List Reading) → FeedsHere sizes e x work → WorkStands e.ask t e.outer.items e.input.gathered work → Cuts sizes (state_of e work) e work w w (feeds_of work x) (broken.Full full)
+  by_top None top work h ws = absurd (true≢false (sym grows ∙ ap (λ (t : Option Frame). top_grows t x) top))
+  by_top (Some f) top [] h ws = absurd ws
+  by_top (Some f) top (r ∷ rs) h ws =
+      let one : Fed1 e x r f = fed_one sizes e x r rs f top h ws in
+      let is : frame_grows f x ≡ true = sym (ap (λ (t : Option Frame). top_grows t x) top) ∙ grows in
+      cuts_by sizes (state_of e (r ∷ rs)) e (r ∷ rs) w w (Grows x.token ∷ Feeds x ∷ []) (feeding r x) (broken.Full full) (one.moves ∙ ap (λ (b : Bool). grown_moves b x) is)
+      (full_cuts sizes (state_of e (r ∷ rs)) e (r ∷ rs) w (Grows x.token) (Feeds x ∷ []) full (broken.Full full) refl
+      (words_more sizes e (r ∷ rs) 1 (Some full) h.stands.sized.input refuses) refl)
 
 -- BEGUN WITH A TOKEN
 
@@ -171,10 +296,10 @@ apart : {b : Bool} → b ≡ true → b ≡ false → ⊥
 apart h k = true≢false (sym h ∙ k)
 
 -- behind the token with which a reading begins
-begun_frame : (sizes : Sizes) (e e2 : Engine) (k : reading.Kind) (x : Seen) (work : List Reading) (f : Frame) → e.top ≡ Some f → IsOpen e.ask → TakesTokens f → frame_grows f x ≡ false →
+begun_frame : (sizes : Sizes) (e e2 : Engine) (k : reading.Kind) (x : Seen) (work : List Reading) (f : Frame) → e.top ≡ Some f → IsOpen e.ask → TakesTokens f → frame_grows f x ≡ false → is_built x.meaning ≡ true →
     ((f : Frame) (lists : List (List Token)) (r : Reading) (rs : List Reading) → e.top ≡ Some f → FedFrame sizes e f x lists r rs → Stands sizes e2 (fed_with (Tok x) (r ∷ rs))) →
     Stands sizes e (fresh k ∷ work) → Stands sizes e2 (fed_with (Tok x) (fresh k ∷ work))
-begun_frame sizes e e2 k x work f top opened takes keeps some h = at (subst (λ (t : Option Frame). WorkStands e.ask t e.outer.items e.input.gathered (fresh k ∷ work)) top h.readings) where
+begun_frame sizes e e2 k x work f top opened takes keeps built some h = at (subst (λ (t : Option Frame). WorkStands e.ask t e.outer.items e.input.gathered (fresh k ∷ work)) top h.readings) where
   at : WorkStands e.ask (Some f) e.outer.items e.input.gathered (fresh k ∷ work) → Stands sizes e2 (fed_with (Tok x) (fresh k ∷ work))
   at w =
       let below : FrameStands f e.input.gathered (fresh k) = w.0.open_frame opened in
@@ -183,9 +308,11 @@ begun_frame sizes e e2 k x work f top opened takes keeps some h = at (subst (λ 
         idle = h.idle;
         frame = below;
         holds = w.0.holds;
+        built = built;
         may_feed = may_feed f x e.input.gathered below.owns takes below.shallow (λ g. absurd (apart g keeps));
         grown = ap (λ (g : Bool). lists_after g x e.input.gathered) (sym keeps);
         outer = w.1;
+        lone = h.lone;
       })
 
 takes_top : (t : Option Frame) (f : Frame) → t ≡ Some f → TopTakes t → TakesTokens f
@@ -194,13 +321,13 @@ takes_top t f is h = subst TopTakes is h
 none_open : IsSome {T = Frame} None → ⊥
 none_open h = true≢false (sym h)
 
-pub begun_stands : (sizes : Sizes) (e e2 : Engine) (k : reading.Kind) (x : Seen) (work : List Reading) → IsSome e.top → TopTakes e.top → IsOpen e.ask → ((f : Frame) (y : Seen) → e.top ≡ Some f → frame_grows f y ≡ false) →
+pub begun_stands : (sizes : Sizes) (e e2 : Engine) (k : reading.Kind) (x : Seen) (work : List Reading) → IsSome e.top → TopTakes e.top → IsOpen e.ask → ((f : Frame) (y : Seen) → e.top ≡ Some f → frame_grows f y ≡ false) → is_built x.meaning ≡ true →
     ((f : Frame) (lists : List (List Token)) (r : Reading) (rs : List Reading) → e.top ≡ Some f → FedFrame sizes e f x lists r rs → Stands sizes e2 (fed_with (Tok x) (r ∷ rs))) →
     Stands sizes e (fresh k ∷ work) → Stands sizes e2 (fed_with (Tok x) (fresh k ∷ work))
-begun_stands sizes e e2 k x work is_open takes opened keeps some h = by_top e.top refl where
+begun_stands sizes e e2 k x work is_open takes opened keeps built some h = by_top e.top refl where
   by_top : (t : Option Frame) → e.top ≡ t → Stands sizes e2 (fed_with (Tok x) (fresh k ∷ work))
   by_top None top = absurd (none_open (subst IsSome top is_open))
-  by_top (Some f) top = begun_frame sizes e e2 k x work f top opened (takes_top e.top f top takes) (keeps f x top) some h
+  by_top (Some f) top = begun_frame sizes e e2 k x work f top opened (takes_top e.top f top takes) (keeps f x top) built some h
 
 with_at : (e e1 e2 : Engine) (k : Kind) (t : Option Frame) → e1.top ≡ t → IsSome t → frames e1 ≤ frames e + 1 → e1.input.pending ≡ e.input.pending → ((f : Frame) → e1.top ≡ Some f → frame_rank f ≡ reading.rank (kind_of k)) →
     ((f : Frame) → e1.top ≡ Some f → weight e2 ≤ 2 * frames e1 + (7 + 3 * frame_rank f) + pending_weight e1.input.pending) → weight e2 < 2 * frames e + (10 + 3 * reading.rank (kind_of k)) + pending_weight e.input.pending
@@ -210,3 +337,8 @@ with_at e e1 e2 k (Some f) is some one input rank light = omega (arith, one, ap 
 pub with_light : (e e1 e2 : Engine) (k : Kind) → frames e1 ≤ frames e + 1 → IsSome e1.top → ((f : Frame) → e1.top ≡ Some f → frame_rank f ≡ reading.rank (kind_of k)) → e1.input.pending ≡ e.input.pending →
     ((f : Frame) → e1.top ≡ Some f → weight e2 ≤ 2 * frames e1 + (7 + 3 * frame_rank f) + pending_weight e1.input.pending) → weight e2 < 2 * frames e + (10 + 3 * reading.rank (kind_of k)) + pending_weight e.input.pending
 with_light e e1 e2 k one some rank input light = with_at e e1 e2 k e1.top refl some one input rank light
+
+-- a command waits beneath it
+pub lone_behind : (sizes : Sizes) (e : Engine) (waits : Waiting) (r : Reading) (work : List Reading) → WaitsWith sizes e (Some waits) work → IsLone (r ∷ work)
+lone_behind sizes e waits r [] h = absurd h
+lone_behind sizes e waits r (s ∷ work) h = tt

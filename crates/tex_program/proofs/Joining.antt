@@ -5,6 +5,7 @@ use Rattle.tex_defs.specs.declared.Sizes.{Sizes}
 use Rattle.tex_defs.specs.Places.{World}
 use Rattle.plain_state.specs.States as machine
 use Rattle.plain_state.specs.States.{State, Reading, Move, Handed, Written, Reported, Stopped, AtFatal, made}
+use Rattle.plain_machine.specs.Plan.{reports_room}
 use Rattle.plain_machine.specs.Runs.{Wrote, steps}
 use Rattle.plain_machine.specs.Does.{Did}
 use Rattle.plain_machine.proofs.Doing.{did_join, did_none, same_later}
@@ -75,17 +76,21 @@ onward_by sizes s e' w w' ms ns ruled e h = subst (λ (x : List Move). DoesOnwar
 abbrev pub Leaves : State → State → Type 0
 Leaves s u = (u.work ≡ s.work) × (u.reports ≡ s.reports)
 
-pub halts_on : (sizes : Sizes) (s u : State) (e' : Engine) (work : List Reading) (w v w' : World) (ms ns : List Move) (o : machine.Outcome) (k j : ℕ) → u.reports ≡ s.reports → Did sizes s u w v ms → steps ms ≡ k →
+pub halts_few : (sizes : Sizes) (s u : State) (e' : Engine) (work : List Reading) (w v w' : World) (ms ns : List Move) (o : machine.Outcome) (k j : ℕ) → (s.reports ≤ reports_room → u.reports ≤ reports_room) → Did sizes s u w v ms → steps ms ≡ k →
     Halts sizes u e' work v w' ns o j → Halts sizes s e' work w w' (ms ++ ns) o (k + j)
-halts_on sizes s u e' work w v w' ms ns o k j same d n h = record {
+halts_few sizes s u e' work w v w' ms ns o k j few d n h = record {
   t = h.t;
   did = did_join sizes s u h.t w v w' ms ns d h.did;
   stopped = h.stopped;
   due = h.due;
   reports = h.reports;
-  same = λ few. h.same (omega (arith, few, same));
+  same = λ room. h.same (few room);
   count = omega (arith, steps_join ms ns, n, h.count);
 }
+
+pub halts_on : (sizes : Sizes) (s u : State) (e' : Engine) (work : List Reading) (w v w' : World) (ms ns : List Move) (o : machine.Outcome) (k j : ℕ) → u.reports ≡ s.reports → Did sizes s u w v ms → steps ms ≡ k →
+    Halts sizes u e' work v w' ns o j → Halts sizes s e' work w w' (ms ++ ns) o (k + j)
+halts_on sizes s u e' work w v w' ms ns o k j same d n h = halts_few sizes s u e' work w v w' ms ns o k j (λ room. omega (arith, room, same)) d n h
 
 pub went_on : (sizes : Sizes) (s u : State) (e' : Engine) (w v w' : World) (ms ns : List Move) (k j : ℕ) → Did sizes s u w v ms → steps ms ≡ k → Went sizes u e' v w' ns j → Went sizes s e' w w' (ms ++ ns) (k + j)
 went_on sizes s u e' w v w' ms ns k j d n h = record {
@@ -110,6 +115,12 @@ pub onward_join : (sizes : Sizes) (s u : State) (e' : Engine) (w v w' : World) (
 onward_join sizes s u e' w v w' ms ns Step l d n h = went_on sizes s u e' w v w' ms ns 0 0 d n h
 onward_join sizes s u e' w v w' ms ns Free l d n h = h
 onward_join sizes s u e' w v w' ms ns (Halted o) l d n h = halts_on sizes s u e' s.work w v w' ms ns (outcome_of o) 0 0 l.1 d n (halts_with sizes u e' u.work s.work v w' ns (outcome_of o) 0 l.0 h)
+
+-- behind which there is room for a report
+pub onward_counted : (sizes : Sizes) (s u : State) (e' : Engine) (w v w' : World) (ms ns : List Move) (ruled : Ruled) → u.work ≡ s.work → u.reports ≤ reports_room → Did sizes s u w v ms → steps ms ≡ 0 → DoesOnward sizes u e' v w' ns ruled → DoesOnward sizes s e' w w' (ms ++ ns) ruled
+onward_counted sizes s u e' w v w' ms ns Step same few d n h = went_on sizes s u e' w v w' ms ns 0 0 d n h
+onward_counted sizes s u e' w v w' ms ns Free same few d n h = h
+onward_counted sizes s u e' w v w' ms ns (Halted o) same few d n h = halts_few sizes s u e' s.work w v w' ms ns (outcome_of o) 0 0 (λ room. few) d n (halts_with sizes u e' u.work s.work v w' ns (outcome_of o) 0 same h)
 
 -- a step, and then moves without one
 pub step_join : (sizes : Sizes) (s u : State) (e' : Engine) (w v w' : World) (ms ns : List Move) (ruled : Ruled) → Leaves s u → Did sizes s u w v ms → steps ms ≡ 1 → DoesOnward sizes u e' v w' ns ruled → DoesRule sizes s e' w w' (ms ++ ns) ruled

@@ -1,8 +1,11 @@
 pub mod Asking
+pub mod Cells
+pub mod Commands
 pub mod Counting
 pub mod Cutting
 pub mod Feeding
 pub mod Growing
+pub mod Handing
 pub mod Joining
 pub mod Meanings
 pub mod Pulling

@@ -6,28 +6,29 @@ use Rattle.tex_defs.specs.declared.Seen.{Seen}
 use Rattle.tex_defs.specs.declared.Sizes.{Sizes}
 use Rattle.tex_defs.specs.declared.Full.{Full}
 use Rattle.tex_defs.specs.Places.{World, Transcript}
-use Rattle.plain_state.specs.Pending.{Pending, Put as PutList, settle, put_front}
+use Rattle.plain_state.specs.Puts.{Item, Put as PutList, token_put, settled, settled_top}
+use Rattle.plain_state.specs.Pending.{Pending, settle, put_front}
 use Rattle.plain_state.specs.Reports.{Report, report_bytes}
-use Rattle.plain_state.specs.Readings.{Fed, Val, Told, Value}
-use Rattle.plain_state.specs.States.{State, Reading, Move, Settled, Kept, Noted, ListBegun, ListGrown, Put, Written, Ended, Reported, Outcome, grown_by, made, fed_with}
-use Rattle.plain_state.specs.Tables.{refusal, refused, memory, level, string, gathered, held_words, words}
-use Rattle.plain_machine.specs.Plan.{Page, put_one, put_all, given_back, last_seen, reported, told, is_told}
+use Rattle.plain_state.specs.Readings.{Fed, Told, Value, value_lists}
+use Rattle.plain_state.specs.States.{State, Reading, Move, Settled, Kept, Noted, ListBegun, ListGrown, Put, Written, Ended, Reported, Outcome, grown_by, made, fed_with, ended_with, beneath}
+use Rattle.plain_state.specs.Tables.{refusal, refused, memory, level, string}
+use Rattle.plain_machine.specs.Plan.{Page, put_one, put_all, given_back, last_seen, reported, told, is_told, noting}
 use Rattle.plain_machine.specs.Runs.{Wrote, steps}
 use Rattle.plain_machine.specs.Does.{Did}
 use Rattle.plain_machine.proofs.Doing.{did_join, did_one}
 use Rattle.plain_machine.proofs.Joins.{steps_join}
-use Rattle.plain_machine.proofs.Settling.{settled_twice}
 use Rattle.name_table.specs.Strings.{Strings, other_refusal}
 use Rattle.world_io.specs.Told.{FilesTold, SinkTold, world}
 use Rattle.input_state.specs.Stored.{Stored, words as stored_words}
-use Rattle.input_state.specs.HeldLists.{grown_made, made as made_list}
+use Rattle.input_state.specs.HeldLists.{made as made_list}
 use Rattle.tex_program.specs.declared.broken.Broken.{Broken}
 use Rattle.tex_program.specs.declared.broken.Broken.TheVariants as broken
 use Rattle.tex_program.specs.declared.engine.Engine.{Engine}
 use Rattle.tex_program.specs.Stands.{Counts, IsSized, IsLast, Stands, SameState, state_of, page_of}
 use Rattle.tex_program.specs.Rules.{world_of, Cuts, Went, Reports, Halts}
 use Rattle.tex_program.proofs.Cutting.{cuts_by, later_cuts, full_cuts}
-use Rattle.tex_program.proofs.Reporting.{reads_now}
+use Rattle.tex_program.proofs.Counting.{words_more}
+use Rattle.tex_program.proofs.Reporting.{reads_now, ended_state}
 use Rattle.tex_program.proofs.Joining.{IsQuiet, quiet_here, quiet_wrote, went_by, halts_on, halts_least}
 
 -- a string for which there is no room
@@ -36,9 +37,17 @@ pub kept_cuts : (sizes : Sizes) (e : Engine) (names : Strings) (work : List Read
 kept_cuts sizes e names work w bytes more full sized same r =
     full_cuts sizes (state_of e work) (record e { names = names }) work w (Kept bytes) more full (broken.Full full) refl
     (subst (λ (x : Sizes). refused x (string bytes e.names.names e.names.others) ≡ Some full) sized.names r)
-    (ap (λ (n : Strings). record (state_of e work) { names = n.names; strings = n.others }) (sym same))
+    (ap (λ (n : Strings). state_of (record e { names = n }) work) (sym same))
 
 -- THE LIST THAT IS MADE
+
+twice_top : (p : PutList) (xs : List Item) (ps : List PutList) → p.items ≡ xs → settled (settled ps) ≡ settled ps → settled (settled_top p xs (settled ps) ps) ≡ settled_top p xs (settled ps) ps
+twice_top p [] ps is h = h
+twice_top p (x ∷ xs) ps is h = ap (λ (ys : List Item). settled_top p ys (settled ps) ps) is
+
+settled_twice : (ps : List PutList) → settled (settled ps) ≡ settled ps
+settled_twice [] = refl
+settled_twice (p ∷ ps) = twice_top p p.items ps refl (settled_twice ps)
 
 -- the finished lists in front have gone already
 pub settled_still : (p q : Pending) → q ≡ settle p → q ≡ settle q
@@ -53,17 +62,6 @@ module _ (sizes : Sizes) (e : Engine) (i i' : Stored) (work : List Reading) (w :
   pub did_settle : i' ≡ record i { pending = settle i.pending } → Did sizes (state_of (record e { input = i }) work) (state_of (record e { input = i' }) work) w w (Settled ∷ [])
   did_settle is = moved Settled refl (ap (λ (x : Stored). state_of (record e { input = x }) work) (sym is)) tt
 
--- a word more of main memory, by the machine and by the input
-word_more : (sizes : Sizes) (e : Engine) (i : Stored) (work : List Reading) (o : Option Full) → gathered work ≡ i.gathered → i.sizes ≡ sizes →
-    refused i.sizes (memory 1 (stored_words i) ∷ []) ≡ o → refused sizes (memory 1 (words (state_of (record e { input = i }) work)) ∷ []) ≡ o
-word_more sizes e i work o lists sized h =
-    ap (λ (ls : List (List Token)). refused sizes (memory 1 (held_words i.pending.puts i.making ls) ∷ [])) lists
-    ∙ ap (λ (x : Sizes). refused x (memory 1 (stored_words i) ∷ [])) (sym sized) ∙ h
-
-same_growth : (t : Token) (o : Option (List Token)) → grown_by t o ≡ grown_made t o
-same_growth t None = refl
-same_growth t (Some ts) = refl
-
 -- The list of one token: begun, grown and put, each on the input before it.
 module _ (sizes : Sizes) (e : Engine) (t : Token) (work : List Reading) (w : World) (counts : Counts sizes e work)
     (i1 i2 i3 : Stored) (a1 : i1 ≡ record e.input { pending = settle e.input.pending }) where
@@ -73,9 +71,6 @@ module _ (sizes : Sizes) (e : Engine) (t : Token) (work : List Reading) (w : Wor
   done_settled : Did sizes (at e.input) (at i1) w w (Settled ∷ [])
   done_settled = did_settle sizes e e.input i1 work w a1
 
-  lists1 : gathered work ≡ i1.gathered
-  lists1 = counts.lists ∙ ap (λ (i : Stored). i.gathered) (sym a1)
-
   sized1 : i1.sizes ≡ sizes
   sized1 = ap (λ (i : Stored). i.sizes) a1 ∙ counts.sized.input
 
@@ -84,15 +79,12 @@ module _ (sizes : Sizes) (e : Engine) (t : Token) (work : List Reading) (w : Wor
       Cuts sizes (at e.input) (record e { input = new }) work w w (Settled ∷ ListBegun ∷ rest) (broken.Full full)
   begin_cuts new full rest same r =
       later_cuts sizes _ (at i1) (record e { input = new }) work w w w (Settled ∷ []) (ListBegun ∷ rest) (broken.Full full) done_settled
-      (full_cuts sizes (at i1) (record e { input = new }) work w ListBegun rest full (broken.Full full) refl (word_more sizes e i1 work (Some full) lists1 sized1 r) (ap at (sym same)))
+      (full_cuts sizes (at i1) (record e { input = new }) work w ListBegun rest full (broken.Full full) refl (words_more sizes (record e { input = i1 }) work 1 (Some full) sized1 r) (ap at (sym same)))
 
   module _ (a2 : i2 ≡ record i1 { making = Some [] }) (f1 : refused i1.sizes (memory 1 (stored_words i1) ∷ []) ≡ None) where
     done_begun : Did sizes (at e.input) (at i2) w w (Settled ∷ ListBegun ∷ [])
     done_begun = did_join sizes _ _ _ w w w (Settled ∷ []) (ListBegun ∷ []) done_settled
-        (moved sizes e i1 i2 work w ListBegun (word_more sizes e i1 work None lists1 sized1 f1) (ap at (sym a2)) tt)
-
-    lists2 : gathered work ≡ i2.gathered
-    lists2 = lists1 ∙ ap (λ (i : Stored). i.gathered) (sym a2)
+        (moved sizes e i1 i2 work w ListBegun (words_more sizes (record e { input = i1 }) work 1 None sized1 f1) (ap at (sym a2)) tt)
 
     sized2 : i2.sizes ≡ sizes
     sized2 = ap (λ (i : Stored). i.sizes) a2 ∙ sized1
@@ -102,12 +94,12 @@ module _ (sizes : Sizes) (e : Engine) (t : Token) (work : List Reading) (w : Wor
         Cuts sizes (at e.input) (record e { input = new }) work w w (Settled ∷ ListBegun ∷ ListGrown t ∷ rest) (broken.Full full)
     grow_cuts new full rest same r =
         later_cuts sizes _ (at i2) (record e { input = new }) work w w w (Settled ∷ ListBegun ∷ []) (ListGrown t ∷ rest) (broken.Full full) done_begun
-        (full_cuts sizes (at i2) (record e { input = new }) work w (ListGrown t) rest full (broken.Full full) refl (word_more sizes e i2 work (Some full) lists2 sized2 r) (ap at (sym same)))
+        (full_cuts sizes (at i2) (record e { input = new }) work w (ListGrown t) rest full (broken.Full full) refl (words_more sizes (record e { input = i2 }) work 1 (Some full) sized2 r) (ap at (sym same)))
 
-    module _ (a3 : i3 ≡ record i2 { making = grown_made t i2.making }) (f2 : refused i2.sizes (memory 1 (stored_words i2) ∷ []) ≡ None) where
+    module _ (a3 : i3 ≡ record i2 { making = grown_by t i2.making }) (f2 : refused i2.sizes (memory 1 (stored_words i2) ∷ []) ≡ None) where
       done_grown : Did sizes (at e.input) (at i3) w w (Settled ∷ ListBegun ∷ ListGrown t ∷ [])
       done_grown = did_join sizes _ _ _ w w w (Settled ∷ ListBegun ∷ []) (ListGrown t ∷ []) done_begun
-          (moved sizes e i2 i3 work w (ListGrown t) (word_more sizes e i2 work None lists2 sized2 f2) (ap (λ (o : Option (List Token)). record (at i2) { making = o }) (same_growth t i2.making) ∙ ap at (sym a3)) tt)
+          (moved sizes e i2 i3 work w (ListGrown t) (words_more sizes (record e { input = i2 }) work 1 None sized2 f2) (ap at (sym a3)) tt)
 
       -- there is no level for it
       pub put_cuts : (new : Stored) (full : Full) (rest : List Move) → new ≡ i3 → refused i3.sizes (level i3.pending ∷ []) ≡ Some full →
@@ -117,13 +109,13 @@ module _ (sizes : Sizes) (e : Engine) (t : Token) (work : List Reading) (w : Wor
           (full_cuts sizes (at i3) (record e { input = new }) work w (Put (t ∷ [])) rest full (broken.Full full) refl (subst (λ (x : Sizes). refused x (level i3.pending ∷ []) ≡ Some full) (ap (λ (i : Stored). i.sizes) a3 ∙ sized2) r) (ap at (sym same)))
 
       -- and it is put
-      pub done_put : (i4 : Stored) → i4 ≡ record i3 { pending = put_front (made_list i3.making) i3.pending; making = None } → refused i3.sizes (level i3.pending ∷ []) ≡ None →
+      pub done_put : (i4 : Stored) → i4 ≡ record i3 { pending = put_front (token_put (made_list i3.making)) i3.pending; making = None } → refused i3.sizes (level i3.pending ∷ []) ≡ None →
           Did sizes (at e.input) (at i4) w w (put_one t)
       done_put i4 a4 f3 =
-          let full : made_list i3.making ≡ t ∷ [] = ap made_list (ap (λ (i : Stored). i.making) a3 ∙ ap (grown_made t) (ap (λ (i : Stored). i.making) a2)) in
+          let full : made_list i3.making ≡ t ∷ [] = ap made_list (ap (λ (i : Stored). i.making) a3 ∙ ap (grown_by t) (ap (λ (i : Stored). i.making) a2)) in
           did_join sizes _ _ _ w w w (Settled ∷ ListBegun ∷ ListGrown t ∷ []) (Put (t ∷ []) ∷ []) done_grown
           (moved sizes e i3 i4 work w (Put (t ∷ [])) (subst (λ (x : Sizes). refused x (level i3.pending ∷ []) ≡ None) (ap (λ (i : Stored). i.sizes) a3 ∙ sized2) f3)
-          (ap (λ (ts : List Token). at (record i3 { pending = put_front ts i3.pending; making = None })) (sym full) ∙ ap at (sym a4)) tt)
+          (ap (λ (ts : List Token). at (record i3 { pending = put_front (token_put ts) i3.pending; making = None })) (sym full) ∙ ap at (sym a4)) tt)
 
 -- BACK
 
@@ -151,31 +143,31 @@ back_none true fed = all_none (last_seen fed)
 -- THE INNERMOST READING ENDS
 
 module _ (sizes : Sizes) (e e1 e2 : Engine) (r : Reading) (rs : List Reading) (w w1 w2 : World) (ms : List Move) (v : Value) where
-  pub ended_went : Did sizes (state_of e (r ∷ rs)) (state_of e1 (r ∷ rs)) w w1 ms → steps ms ≡ 0 → SameState e1 e2 → Wrote w1 w2 (Ended v ∷ []) → Stands sizes e2 (fed_with (Val v) rs) →
+  pub ended_went : Did sizes (state_of e (r ∷ rs)) (state_of e1 (r ∷ rs)) w w1 ms → steps ms ≡ 0 → SameState e1 e2 → Wrote w1 w2 (Ended v ∷ []) → value_lists v ++ beneath (r ∷ rs) e1.input.gathered ≡ e2.input.gathered → Stands sizes e2 (ended_with v (r ∷ rs)) →
       Went sizes (state_of e (r ∷ rs)) e2 w w2 (ms ++ Ended v ∷ []) 0
-  ended_went d n same wrote stands = record {
-    work' = fed_with (Val v) rs;
+  ended_went d n same wrote lists stands = record {
+    work' = ended_with v (r ∷ rs);
     stands = stands;
-    did = did_join sizes _ _ _ w w1 w2 ms (Ended v ∷ []) d (did_one sizes (Ended v) _ _ w1 w2 refl (reads_now e1 e2 (r ∷ rs) (fed_with (Val v) rs) same) wrote);
+    did = did_join sizes _ _ _ w w1 w2 ms (Ended v ∷ []) d (did_one sizes (Ended v) _ _ w1 w2 refl (ended_state e1 e2 r rs v same lists) wrote);
     count = steps_join ms (Ended v ∷ []) ∙ omega (arith, n);
   }
 
 -- THE INNERMOST READING REPORTS
 
-told_is : (page : Page) (report : Report) (back : Bool) (fed : List Fed) → is_told fed ≡ false → told page report back fed ≡ given_back back fed ++ reported page report (Noted ∷ [])
-told_is page report back fed e = rw e refl
+told_is : (page : Page) (report : Report) (back : Bool) (r : Reading) → is_told r.fed ≡ false → noting r ≡ Noted ∷ [] → told page report None back r ≡ given_back back r.fed ++ reported page report (Noted ∷ [])
+told_is page report back r once notes = rw once (ap (λ (ms : List Move). given_back back r.fed ++ reported page report ms) notes)
 
-module _ (sizes : Sizes) (e e1 e2 : Engine) (f : FilesTold) (s0 s2 : SinkTold) (r : Reading) (rs : List Reading) (report : Report) (back : Bool) (once : is_told r.fed ≡ false) (page : page_of e1 ≡ page_of e)
+module _ (sizes : Sizes) (e e1 e2 : Engine) (f : FilesTold) (s0 s2 : SinkTold) (r : Reading) (rs : List Reading) (report : Report) (back : Bool) (once : is_told r.fed ≡ false) (notes : noting r ≡ Noted ∷ []) (page : page_of e1 ≡ page_of e)
     (given : Did sizes (state_of e (r ∷ rs)) (state_of e1 (r ∷ rs)) (world_of f s0 e) (world_of f s0 e) (given_back back r.fed)) where
-  pub told_went : (e3 : Engine) → Reports sizes (state_of e1 (r ∷ rs)) (state_of e2 (r ∷ rs)) (world_of f s0 e1) (world_of f s2 e2) (page_of e1) report (Noted ∷ []) → SameState e2 e3 → Stands sizes e3 (fed_with Told (r ∷ rs)) →
-      Went sizes (state_of e (r ∷ rs)) e3 (world_of f s0 e) (world_of f s2 e3) (told (page_of e) report back r.fed) 0
-  told_went e3 rep same stands =
+  pub told_went : (e3 : Engine) → Reports sizes (state_of e1 (r ∷ rs)) (state_of e2 (r ∷ rs)) (world_of f s0 e1) (world_of f s2 e2) (page_of e1) report (Noted ∷ []) → SameState e2 e3 → e3.input.gathered ≡ e2.input.gathered → Stands sizes e3 (fed_with Told (r ∷ rs)) →
+      Went sizes (state_of e (r ∷ rs)) e3 (world_of f s0 e) (world_of f s2 e3) (told (page_of e) report None back r) 0
+  told_went e3 rep same lists stands =
       let h : Reports sizes (state_of e1 (r ∷ rs)) (state_of e2 (r ∷ rs)) (world_of f s0 e) (world_of f s2 e2) (page_of e) report (Noted ∷ []) =
       subst (λ (p : Page). Reports sizes (state_of e1 (r ∷ rs)) (state_of e2 (r ∷ rs)) (world f s0 p.in_line) (world_of f s2 e2) p report (Noted ∷ [])) page rep in
       let written : List Move = Written Transcript (report_bytes e.names.names e.in_line e.input.pending.number report) ∷ Reported ∷ [] in
       let noted : Did sizes (state_of e2 (r ∷ rs)) (state_of e3 (fed_with Told (r ∷ rs))) (world_of f s2 e2) (world_of f s2 e3) (Noted ∷ []) =
-      did_one sizes Noted _ _ _ _ refl (reads_now e2 e3 (r ∷ rs) (fed_with Told (r ∷ rs)) same) (quiet_wrote Noted f s2 e2.in_line e3.in_line tt same.others.in_line) in
-      let whole : told (page_of e) report back r.fed ≡ given_back back r.fed ++ (written ++ Noted ∷ []) = told_is (page_of e) report back r.fed once ∙ ap (λ (x : List Move). given_back back r.fed ++ x) h.moves in
+      did_one sizes Noted _ _ _ _ refl (ap (λ (l : List (List Token)). record (state_of e2 (r ∷ rs)) { work = fed_with Told (r ∷ rs); gathered = l }) (sym lists) ∙ reads_now e2 e3 (r ∷ rs) (fed_with Told (r ∷ rs)) same) (quiet_wrote Noted f s2 e2.in_line e3.in_line tt same.others.in_line) in
+      let whole : told (page_of e) report None back r ≡ given_back back r.fed ++ (written ++ Noted ∷ []) = told_is (page_of e) report back r once notes ∙ ap (λ (x : List Move). given_back back r.fed ++ x) h.moves in
       went_by sizes _ e3 _ _ (given_back back r.fed ++ (written ++ Noted ∷ [])) _ 0 whole (record {
         work' = fed_with Told (r ∷ rs);
         stands = stands;
@@ -184,25 +176,25 @@ module _ (sizes : Sizes) (e e1 e2 : Engine) (f : FilesTold) (s0 s2 : SinkTold) (
       })
 
   pub told_halts : (o : Outcome) → e1.reports ≡ e.reports → Halts sizes (state_of e1 (r ∷ rs)) e2 (r ∷ rs) (world_of f s0 e1) (world_of f s2 e2) (reported (page_of e1) report (Noted ∷ [])) o 0 →
-      Halts sizes (state_of e (r ∷ rs)) e2 (r ∷ rs) (world_of f s0 e) (world_of f s2 e2) (told (page_of e) report back r.fed) o 1
+      Halts sizes (state_of e (r ∷ rs)) e2 (r ∷ rs) (world_of f s0 e) (world_of f s2 e2) (told (page_of e) report None back r) o 1
   told_halts o counted halts =
       let h : Halts sizes (state_of e1 (r ∷ rs)) e2 (r ∷ rs) (world_of f s0 e) (world_of f s2 e2) (reported (page_of e) report (Noted ∷ [])) o 0 =
       subst (λ (p : Page). Halts sizes (state_of e1 (r ∷ rs)) e2 (r ∷ rs) (world f s0 p.in_line) (world_of f s2 e2) (reported p report (Noted ∷ [])) o 0) page halts in
-      subst (λ (ms : List Move). Halts sizes (state_of e (r ∷ rs)) e2 (r ∷ rs) (world_of f s0 e) (world_of f s2 e2) ms o 1) (sym (told_is (page_of e) report back r.fed once))
+      subst (λ (ms : List Move). Halts sizes (state_of e (r ∷ rs)) e2 (r ∷ rs) (world_of f s0 e) (world_of f s2 e2) ms o 1) (sym (told_is (page_of e) report back r once notes))
       (halts_least sizes _ e2 (r ∷ rs) _ _ _ o 0 1 (omega arith)
       (halts_on sizes (state_of e (r ∷ rs)) (state_of e1 (r ∷ rs)) e2 (r ∷ rs) _ _ _ (given_back back r.fed) (reported (page_of e) report (Noted ∷ [])) o 0 0 counted given (back_none back r.fed) h))
 
   pub told_cuts : (b : Broken) → Cuts sizes (state_of e1 (r ∷ rs)) e2 (r ∷ rs) (world_of f s0 e1) (world_of f s2 e2) (reported (page_of e1) report (Noted ∷ [])) b →
-      Cuts sizes (state_of e (r ∷ rs)) e2 (r ∷ rs) (world_of f s0 e) (world_of f s2 e2) (told (page_of e) report back r.fed) b
+      Cuts sizes (state_of e (r ∷ rs)) e2 (r ∷ rs) (world_of f s0 e) (world_of f s2 e2) (told (page_of e) report None back r) b
   told_cuts b cuts =
       let h : Cuts sizes (state_of e1 (r ∷ rs)) e2 (r ∷ rs) (world_of f s0 e) (world_of f s2 e2) (reported (page_of e) report (Noted ∷ [])) b =
       subst (λ (p : Page). Cuts sizes (state_of e1 (r ∷ rs)) e2 (r ∷ rs) (world f s0 p.in_line) (world_of f s2 e2) (reported p report (Noted ∷ [])) b) page cuts in
-      cuts_by sizes _ e2 (r ∷ rs) _ _ _ _ b (told_is (page_of e) report back r.fed once) (later_cuts sizes _ _ e2 (r ∷ rs) _ _ _ (given_back back r.fed) (reported (page_of e) report (Noted ∷ [])) b given h)
+      cuts_by sizes _ e2 (r ∷ rs) _ _ _ _ b (told_is (page_of e) report back r once notes) (later_cuts sizes _ _ e2 (r ∷ rs) _ _ _ (given_back back r.fed) (reported (page_of e) report (Noted ∷ [])) b given h)
 
 -- already the token that is put back has no room
-pub told_first : (sizes : Sizes) (e e1 : Engine) (f : FilesTold) (s0 : SinkTold) (r : Reading) (rs : List Reading) (report : Report) (back : Bool) (b : Broken) → is_told r.fed ≡ false → e1.in_line ≡ e.in_line →
+pub told_first : (sizes : Sizes) (e e1 : Engine) (f : FilesTold) (s0 : SinkTold) (r : Reading) (rs : List Reading) (report : Report) (back : Bool) (b : Broken) → is_told r.fed ≡ false → noting r ≡ Noted ∷ [] → e1.in_line ≡ e.in_line →
     Cuts sizes (state_of e (r ∷ rs)) e1 (r ∷ rs) (world_of f s0 e) (world_of f s0 e) (given_back back r.fed ++ reported (page_of e) report (Noted ∷ [])) b →
-    Cuts sizes (state_of e (r ∷ rs)) e1 (r ∷ rs) (world_of f s0 e) (world_of f s0 e1) (told (page_of e) report back r.fed) b
-told_first sizes e e1 f s0 r rs report back b once column h =
-    cuts_by sizes _ e1 (r ∷ rs) _ _ _ _ b (told_is (page_of e) report back r.fed once)
+    Cuts sizes (state_of e (r ∷ rs)) e1 (r ∷ rs) (world_of f s0 e) (world_of f s0 e1) (told (page_of e) report None back r) b
+told_first sizes e e1 f s0 r rs report back b once notes column h =
+    cuts_by sizes _ e1 (r ∷ rs) _ _ _ _ b (told_is (page_of e) report back r once notes)
     (subst (λ (x : Bool). Cuts sizes (state_of e (r ∷ rs)) e1 (r ∷ rs) (world_of f s0 e) (world f s0 x) (given_back back r.fed ++ reported (page_of e) report (Noted ∷ [])) b) (sym column) h)

@@ -1,8 +1,9 @@
 -- Texts, reports and ends that the engine writes.
-use Rattle.std.proofs.Common.{◌≡◌, ℕ, ◌+◌, ◌≤◌, List, [], ◌∷◌, ◌++◌, refl, sym, ap, ◌∙◌, subst, Bool, true, false, reverse, arith}
+use Rattle.std.proofs.Common.{◌≡◌, ℕ, ◌+◌, ◌≤◌, List, [], ◌∷◌, ◌++◌, length, refl, sym, ap, ◌∙◌, subst, Bool, true, false, reverse, arith}
 use Rattle.std.specs.Prelude.{Option, Some, None, Result, Ok, Err, IfErr, IsErrAnd, nat_lt, if◌then◌else◌}
 use Rattle.tex_defs.specs.declared.Sizes.{Sizes}
 use Rattle.tex_defs.specs.declared.Token.{Token}
+use Rattle.tex_defs.specs.declared.Seen.{Seen}
 use Rattle.tex_defs.specs.declared.Meaning.{Meaning}
 use Rattle.tex_defs.specs.declared.Full.{Full}
 use Rattle.tex_defs.specs.declared.Fatal.{Fatal}
@@ -10,11 +11,11 @@ use Rattle.tex_defs.specs.declared.Fatal.TheVariants as fatal
 use Rattle.prim_table.specs.Primitives.{primitive_names}
 use Rattle.tex_defs.specs.Places.{World, Transcript}
 use Rattle.plain_state.specs.Readings as reading
-use Rattle.plain_state.specs.Readings.{Val}
+use Rattle.plain_state.specs.Meanings.{primitive_count}
 use Rattle.plain_state.specs.Reports as reports
 use Rattle.plain_state.specs.Reports.{report_bytes, hundred_line, token_line_bytes}
 use Rattle.plain_state.specs.States as machine
-use Rattle.plain_state.specs.States.{State, Reading, Move, Written, Ended, Reported, Stopped, AtFatal, made, fed_with}
+use Rattle.plain_state.specs.States.{State, Reading, Move, Written, Ended, Reported, Stopped, AtFatal, made, ended_with, beneath}
 use Rattle.plain_state.specs.Tables.{refusal}
 use Rattle.plain_machine.specs.Plan.{Page, reported, reports_room, token_line, no_file, effect}
 use Rattle.plain_machine.specs.Runs.{Wrote, steps, step_of}
@@ -31,6 +32,7 @@ use Rattle.token_show.specs.declared.view.View.{View}
 use Rattle.token_lists.specs.Table.{Entry, tokens_at}
 use Rattle.input_state.specs.HeldLists.{first_list as first_held}
 use Rattle.frames.specs.Sees.{first_list}
+use Rattle.frames.specs.Resumes.{is_built}
 use Rattle.frames.specs.declared.scan.Ask.{Ask}
 use Rattle.frames.specs.declared.scan.Want.{Want as ScanWant}
 use Rattle.frames.specs.declared.frame.Frame.{Frame}
@@ -43,8 +45,8 @@ use Rattle.tex_program.specs.declared.reactions.Onward.TheVariants as onward
 use Rattle.tex_program.specs.declared.reactions.Last.{Last}
 use Rattle.tex_program.specs.declared.reactions.Last.TheVariants as last
 use Rattle.tex_program.specs.Faults.{broken_by}
-use Rattle.tex_program.specs.Begins.{outcome_of, outcome_of_last, last_moves, last_bytes, IsNoFeed, IsNoBegin}
-use Rattle.tex_program.specs.Stands.{Stands, FramesStand, WorkStands, Waits, WaitStands, EndsHere, OuterStand, AtMostOne, IsSized, SameFrames, SameState, OnlyColumn, state_of, page_of}
+use Rattle.tex_program.specs.Begins.{outcome_of, outcome_of_last, last_moves, last_bytes, IsNoFeed, IsNoBegin, IsCommand}
+use Rattle.tex_program.specs.Stands.{Stands, FramesStand, WorkStands, Waits, WaitStands, EndsHere, OuterStand, AtMostOne, IsSized, IsLone, SameFrames, SameState, OnlyColumn, state_of, page_of}
 use Rattle.tex_program.specs.Rules.{world_of, Takes, FitsOnward, Cuts, CountsReports, Went, Halts, Reports}
 use Rattle.tex_program.proofs.Cutting.{cuts_by, full_cuts, later_cuts, did_out, cut_out}
 use Rattle.tex_program.proofs.Joining.{IsQuiet, quiet_here, quiet_wrote}
@@ -238,7 +240,7 @@ frames_still e e' work same h =
 
 -- the engine whose readings are as they were
 pub stands_still : (sizes : Sizes) (e e' : Engine) (work : List Reading) → SameFrames e e' → IsSized sizes e' → e'.input.making ≡ None → Stands sizes e work → Stands sizes e' work
-stands_still sizes e e' work same sized idle st = record { sized = sized; idle = idle; readings = frames_still e e' work same st.readings }
+stands_still sizes e e' work same sized idle st = record { sized = sized; idle = idle; readings = frames_still e e' work same st.readings; lone = st.lone }
 
 -- or waits, as it did
 pub waits_still : (sizes : Sizes) (e e' : Engine) (work : List Reading) → SameFrames e e' → IsSized sizes e' → e'.input.making ≡ None → Waits sizes e work → Waits sizes e' work
@@ -249,12 +251,14 @@ waits_still sizes e e' work same sized idle st = record {
       subst (λ (x : List (List Token)). WaitStands e'.top e'.outer.items x work) (sym same.lists)
       (subst (λ (x : List Waiting). WaitStands e'.top x e.input.gathered work) (sym (ap (λ (o : _). o.items) same.outer))
       (subst (λ (x : Option Frame). WaitStands x e.outer.items e.input.gathered work) (sym same.top) st.readings));
+  lone = st.lone;
 }
 
 -- the sizes and the reports are the same
 pub sized_still : (sizes : Sizes) (e e' : Engine) → e'.sizes ≡ e.sizes → e'.outer ≡ e.outer → e'.input.sizes ≡ e.input.sizes → e'.names ≡ e.names → e'.reports ≡ e.reports → IsSized sizes e → IsSized sizes e'
 sized_still sizes e e' own outer input names reports h = record {
   few_reports = omega (arith, reports, h.few_reports);
+  known = subst (λ (n : _). primitive_count ≤ length n.names) (sym names) h.known;
   small = h.small;
   own = own ∙ h.own;
   outer = ap (λ (o : _). o.size) outer ∙ h.outer;
@@ -262,16 +266,18 @@ sized_still sizes e e' own outer input names reports h = record {
   names = ap (λ (n : _). n.sizes) names ∙ h.names;
 }
 
-pub ends_still : (sizes : Sizes) (e e' : Engine) (rs : List Reading) → SameFrames e e' → IsSized sizes e' → e'.input.making ≡ None → EndsHere sizes e rs → EndsHere sizes e' rs
-ends_still sizes e e' rs same sized idle h = record {
+pub ends_still : (sizes : Sizes) (e e' : Engine) (v : reading.Value) (r : Reading) (rs : List Reading) → SameFrames e e' → IsSized sizes e' → e'.input.making ≡ None → EndsHere sizes e v r rs → EndsHere sizes e' v r rs
+ends_still sizes e e' v r rs same sized idle h = record {
   sized = sized;
   idle = idle;
   few = subst AtMostOne (sym same.lists) h.few;
+  holds = h.holds ∙ sym (ap (length {A = List Token}) same.lists);
+  taken = h.taken;
   outer = subst (λ (x : List Waiting). OuterStand (reverse x) rs) (sym (ap (λ (o : _). o.items) same.outer)) h.outer;
 }
 
--- with these readings
-pub reads_now : (e e' : Engine) (work work' : List Reading) → SameState e e' → record (state_of e work) { work = work' } ≡ state_of e' work'
+-- with these readings, and the lists that they hold
+pub reads_now : (e e' : Engine) (work work' : List Reading) → SameState e e' → record (state_of e work) { work = work'; gathered = e'.input.gathered } ≡ state_of e' work'
 reads_now e e' work work' same = let h = same.others in cc (same.pending, same.making, h.names, h.categories, h.in_line, h.reports, h.quiet)
 
 -- a report alone
@@ -287,16 +293,22 @@ reports_went sizes e e' work w w' report st h = record {
 pub effect_none : (s : State) (ef : reading.Effect) → steps (effect s ef) ≡ 0
 effect_none s (reading.SetCategory code category) = refl
 effect_none s (reading.Say ts) = refl
+effect_none s (reading.SetMacro name long outer ts) = refl
 
--- the innermost reading ends, behind moves without a step
+-- the innermost reading ends
+pub ended_state : (e e' : Engine) (r : Reading) (rs : List Reading) (v : reading.Value) → SameState e e' → reading.value_lists v ++ beneath (r ∷ rs) e.input.gathered ≡ e'.input.gathered →
+    made (Ended v) (state_of e (r ∷ rs)) ≡ state_of e' (ended_with v (r ∷ rs))
+ended_state e e' r rs v same lists = ap (λ (l : List (List Token)). record (state_of e (r ∷ rs)) { work = ended_with v (r ∷ rs); gathered = l }) lists ∙ reads_now e e' (r ∷ rs) (ended_with v (r ∷ rs)) same
+
+-- and so behind moves without a step
 pub ends_behind_moves : (sizes : Sizes) (e e1 e2 : Engine) (r : Reading) (rs : List Reading) (f : FilesTold) (w : World) (s : SinkTold) (ms : List Move) (v : reading.Value) →
-    Did sizes (state_of e (r ∷ rs)) (state_of e1 (r ∷ rs)) w (world_of f s e1) ms → steps ms ≡ 0 → SameState e1 e2 → Stands sizes e2 (fed_with (Val v) rs) →
+    Did sizes (state_of e (r ∷ rs)) (state_of e1 (r ∷ rs)) w (world_of f s e1) ms → steps ms ≡ 0 → SameState e1 e2 → reading.value_lists v ++ beneath (r ∷ rs) e1.input.gathered ≡ e2.input.gathered → Stands sizes e2 (ended_with v (r ∷ rs)) →
     Went sizes (state_of e (r ∷ rs)) e2 w (world_of f s e2) (ms ++ Ended v ∷ []) 0
-ends_behind_moves sizes e e1 e2 r rs f w s ms v d n same stands = record {
-  work' = fed_with (Val v) rs;
+ends_behind_moves sizes e e1 e2 r rs f w s ms v d n same lists stands = record {
+  work' = ended_with v (r ∷ rs);
   stands = stands;
   did = did_join sizes _ _ _ w _ _ ms (Ended v ∷ []) d
-      (did_one sizes (Ended v) _ _ _ _ refl (reads_now e1 e2 (r ∷ rs) (fed_with (Val v) rs) same) (quiet_wrote (Ended v) f s e1.in_line e2.in_line tt same.others.in_line));
+      (did_one sizes (Ended v) _ _ _ _ refl (ended_state e1 e2 r rs v same lists) (quiet_wrote (Ended v) f s e1.in_line e2.in_line tt same.others.in_line));
   count = steps_join ms (Ended v ∷ []) ∙ omega (arith, n);
 }
 
@@ -311,7 +323,7 @@ full_out sizes e e' f s work m rest full is refused =
 
 -- a move of the readings alone
 pub reading_went : (sizes : Sizes) (e e' : Engine) (work work' : List Reading) (f : FilesTold) (s : SinkTold) (m : Move) → IsQuiet m → step_of m ≡ 0 → refusal sizes m (state_of e work) ≡ None →
-    made m (state_of e work) ≡ record (state_of e work) { work = work' } → SameState e e' → Stands sizes e' work' → Went sizes (state_of e work) e' (world_of f s e) (world_of f s e') (m ∷ []) 0
+    made m (state_of e work) ≡ record (state_of e work) { work = work'; gathered = e'.input.gathered } → SameState e e' → Stands sizes e' work' → Went sizes (state_of e work) e' (world_of f s e) (world_of f s e') (m ∷ []) 0
 reading_went sizes e e' work work' f s m quiet silent fits is same stands = record {
   work' = work';
   stands = stands;
@@ -336,18 +348,25 @@ pub line_went : (sizes : Sizes) (e e' : Engine) (work : List Reading) (w w' : Wo
 line_went sizes e e' work w w' m only st did = record { work' = work; stands = column_still sizes e e' work only st; did = did; count = line_silent (page_of e) m }
 
 -- what is made of a token fits where it is wanted
-pub fits_none : (sizes : Sizes) (e : Engine) (work : List Reading) (o : Onward) → IsNoFeed o → Takes sizes None e work → FitsOnward sizes o e work
-fits_none sizes e work onward.Skip h t = t.1
-fits_none sizes e work onward.Feed h t = absurd h
-fits_none sizes e work (onward.Begin k) h t = t
-fits_none sizes e work (onward.Report r) h t = t.1
-fits_none sizes e work onward.Line h t = t.1
-fits_none sizes e work onward.Finish h t = t.1
+pub fits_none : (sizes : Sizes) (e : Engine) (work : List Reading) (x : Seen) (o : Onward) → IsNoFeed o → Takes sizes None e work → FitsOnward sizes x o e work
+fits_none sizes e work x onward.Skip h t = t.1
+fits_none sizes e work x onward.Feed h t = absurd h
+fits_none sizes e work x (onward.Begin k) h t = (t.0, (h, t.1))
+fits_none sizes e work x (onward.Report r) h t = t.1
+fits_none sizes e work x onward.Line h t = t.1
+fits_none sizes e work x onward.Finish h t = t.1
 
-pub fits_some : (sizes : Sizes) (e : Engine) (want : ScanWant) (work : List Reading) (o : Onward) → IsNoBegin o → Takes sizes (Some want) e work → FitsOnward sizes o e work
-fits_some sizes e want work onward.Skip h t = t.1
-fits_some sizes e want work onward.Feed h t = ((want, t.0), t.1)
-fits_some sizes e want work (onward.Begin k) h t = absurd h
-fits_some sizes e want work (onward.Report r) h t = t.1
-fits_some sizes e want work onward.Line h t = t.1
-fits_some sizes e want work onward.Finish h t = t.1
+pub fits_some : (sizes : Sizes) (e : Engine) (want : ScanWant) (work : List Reading) (x : Seen) (o : Onward) → is_built x.meaning ≡ true → IsNoBegin o → Takes sizes (Some want) e work → FitsOnward sizes x o e work
+fits_some sizes e want work x onward.Skip built h t = t.1
+fits_some sizes e want work x onward.Feed built h t = record { want = want; asks = t.0; built = built; stands = t.1 }
+fits_some sizes e want work x (onward.Begin k) built h t = absurd h
+fits_some sizes e want work x (onward.Report r) built h t = t.1
+fits_some sizes e want work x onward.Line built h t = t.1
+fits_some sizes e want work x onward.Finish built h t = t.1
+
+-- where no reading is open, a command begins
+pub lone_first : (sizes : Sizes) (e : Engine) (r : Reading) (work : List Reading) → e.top ≡ None → IsCommand r.kind → Stands sizes e work → IsLone (r ∷ work)
+lone_first sizes e r work top is st = at work (subst (λ (t : Option Frame). WorkStands e.ask t e.outer.items e.input.gathered work) top st.readings) where
+  at : (work : List Reading) → WorkStands e.ask None e.outer.items e.input.gathered work → IsLone (r ∷ work)
+  at [] w = is
+  at (s ∷ rs) w = absurd w

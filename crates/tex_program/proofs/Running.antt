@@ -151,9 +151,10 @@ module _ (sizes : Sizes) (e : Engine) (i : Stored) (is : i ≡ record e.input { 
 
   settled_stands : (work : List Reading) → Stands sizes e work → Stands sizes settled_engine work
   settled_stands work h = subst (λ (x : Stored). Stands sizes (record e { input = x }) work) (sym is) (record {
-    sized = record { few_reports = h.sized.few_reports; small = h.sized.small; own = h.sized.own; outer = h.sized.outer; input = h.sized.input; names = h.sized.names };
+    sized = record { few_reports = h.sized.few_reports; known = h.sized.known; small = h.sized.small; own = h.sized.own; outer = h.sized.outer; input = h.sized.input; names = h.sized.names };
     idle = h.idle;
     readings = h.readings;
+    lone = h.lone;
   })
 
   settled_at : (work : List Reading) (c : StepComes sizes (state_of e work)) → Stands sizes e work → IsAt sizes settled_engine c.t

@@ -2,12 +2,13 @@
 use Rattle.std.specs.Prelude.{ℕ, Bool, List, [], ◌∷◌, ◌++◌}
 use Rattle.tex_defs.specs.declared.Seen.{Seen}
 use Rattle.tex_defs.specs.Places.{Transcript}
-use Rattle.plain_state.specs.States.{Move, Feeds, Begun, Written}
+use Rattle.plain_state.specs.States.{Move, Begun, Written}
 use Rattle.plain_state.specs.States as machine
 use Rattle.tex_defs.specs.declared.Fatal.TheVariants.{NoEnd as FatalNoEnd}
 use Rattle.plain_state.specs.Reports.{fresh_line, emergency, no_end_line}
 use Rattle.plain_machine.specs.Plan.{Page, reported, token_line, finish, no_end, page_behind, put_one, right_brace}
 use Rattle.plain_state.specs.Reports as reports
+use Rattle.plain_state.specs.Readings as reading
 use Rattle.tex_program.specs.declared.reactions.Outcome.{Outcome}
 use Rattle.tex_program.specs.declared.reactions.Outcome.TheVariants.{Finished, Fatal}
 use Rattle.tex_program.specs.declared.reactions.Last.{Last}
@@ -34,21 +35,31 @@ abbrev pub last_bytes : Bool → Last → List ℕ
 last_bytes in_line End = fresh_line in_line
 last_bytes in_line NoEnd = fresh_line in_line ++ (emergency ++ no_end_line)
 
--- a text runs away, of which this is shown
-abbrev pub away_moves : Page → List ℕ → reports.Report → List Move
-away_moves page text report = Written Transcript text ∷ (put_one right_brace ++ reported (page_behind page text) report [])
+-- a text runs away, of which this is shown: a brace is inserted, and the report comes
+abbrev pub away_moves : Page → List ℕ → reports.Report → (rest : List Move) → List Move
+away_moves page text report rest = Written Transcript text ∷ (put_one right_brace ++ reported (page_behind page text) report rest)
 
--- the moves behind a token that was handed on
-abbrev pub onward_moves : Page → Seen → Onward → List Move
-onward_moves page x onward.Skip = []
-onward_moves page x onward.Feed = Feeds x ∷ []
-onward_moves page x (onward.Begin k) = Begun (kind_of k) ∷ []
-onward_moves page x (onward.Report r) = reported page (report_of r) []
-onward_moves page x onward.Line = token_line page x.meaning
-onward_moves page x onward.Finish = finish page.in_line
+-- the moves behind a token that was handed on, where it is fed by these
+abbrev pub onward_moves : Page → (feeds : List Move) → Seen → Onward → List Move
+onward_moves page feeds x onward.Skip = []
+onward_moves page feeds x onward.Feed = feeds
+onward_moves page feeds x (onward.Begin k) = Begun (kind_of k) ∷ []
+onward_moves page feeds x (onward.Report r) = reported page (report_of r) []
+onward_moves page feeds x onward.Line = token_line page x.meaning
+onward_moves page feeds x onward.Finish = finish page.in_line
 
+-- a command of the stomach
+abbrev pub IsCommand : reading.Kind → Type 0
+IsCommand reading.Catcode = Unit {0}
+IsCommand (reading.Message name) = Unit {0}
+IsCommand (reading.Prefixed long outer) = Unit {0}
+IsCommand (reading.Define expanded) = Unit {0}
+IsCommand k = ⊥
+
+-- no reading is fed, and what begins is a command
 abbrev pub IsNoFeed : Onward → Type 0
 IsNoFeed onward.Feed = ⊥
+IsNoFeed (onward.Begin k) = IsCommand (kind_of k)
 IsNoFeed o = Unit {0}
 
 abbrev pub IsNoBegin : Onward → Type 0

@@ -1,4 +1,5 @@
 pub mod Begins
+pub mod Cells
 pub mod Entering
 pub mod Stands
 pub mod First

@@ -2,15 +2,17 @@
 use Rattle.std.specs.Prelude.{◌≡◌, ℕ, ◌≤◌, Bool, false, List, [], ◌∷◌, ◌++◌, Option, Some, None}
 use Rattle.tex_defs.specs.Places.{World, Transcript}
 use Rattle.tex_defs.specs.declared.Seen.{Seen}
+use Rattle.tex_defs.specs.declared.Token.{Token}
 use Rattle.tex_defs.specs.declared.Sizes.{Sizes}
 use Rattle.plain_state.specs.Reports as reports
 use Rattle.plain_state.specs.Reports.{report_bytes, runaway_bytes}
 use Rattle.plain_state.specs.Lex.{Lexeme}
 use Rattle.plain_state.specs.Lookup.{new_name, token_of}
-use Rattle.plain_state.specs.Names.{seen}
+use Rattle.plain_state.specs.Meanings.{seen}
+use Rattle.plain_state.specs.Tokens.{space_token}
 use Rattle.plain_state.specs.States.{Reading, State, Move, Written, Reported}
 use Rattle.plain_state.specs.States as machine
-use Rattle.plain_machine.specs.Plan.{Page, planned, stomach, wanted, checked, without_file, reported, entered, enters_names, reports_room}
+use Rattle.plain_machine.specs.Plan.{Page, planned, stomach, wanted, feeding, scanning, Scanning, met, checked, without_file, reported, entered, enters_names, reports_room}
 use Rattle.plain_machine.specs.Runs.{steps}
 use Rattle.plain_machine.specs.Does.{Did, Cut, Why, IsFull, IsFault, IsWant}
 use Rattle.world_io.specs.Told.{FilesTold, SinkTold, world}
@@ -20,14 +22,14 @@ use Rattle.tex_program.specs.declared.engine.Ruled.{Ruled}
 use Rattle.tex_program.specs.declared.engine.Ruled.TheVariants.{Step, Free, Halted}
 use Rattle.tex_program.specs.declared.reactions.Onward.{Onward}
 use Rattle.tex_program.specs.declared.reactions.Onward.TheVariants as onward
-use Rattle.tex_program.specs.Begins.{outcome_of}
+use Rattle.tex_program.specs.Begins.{outcome_of, IsCommand}
 use Rattle.tex_program.specs.Faults.{why_of}
 use Rattle.frames.specs.declared.frame.Frame.{Frame}
 use Rattle.frames.specs.declared.scan.Ask.TheVariants.{More}
 use Rattle.frames.specs.declared.scan.Want.{Want as ScanWant}
-use Rattle.frames.specs.Sees.{want_of, first_list}
+use Rattle.frames.specs.Sees.{want_of, kind_of, first_list}
 use Rattle.frames.specs.Resumes.{TakesTokens}
-use Rattle.tex_program.specs.Stands.{Stands, state_of, page_of}
+use Rattle.tex_program.specs.Stands.{Stands, FeedsHere, state_of, page_of}
 
 -- the world of these files and this sink, whose column the engine keeps
 abbrev pub world_of : FilesTold → SinkTold → Engine → World
@@ -65,26 +67,35 @@ pub record Reports (sizes : Sizes) (s s' : State) (w w' : World) (page : Page) (
   pub moves : reported page report rest ≡ Written Transcript (report_bytes page.names page.in_line page.line report) ∷ Reported ∷ rest
   pub did : Did sizes s s' w w' (Written Transcript (report_bytes page.names page.in_line page.line report) ∷ Reported ∷ [])
 
+-- how the innermost reading, if there is one, is fed with a token
+abbrev pub feeds_of : List Reading → Seen → List Move
+feeds_of [] x = []
+feeds_of (r ∷ rs) x = feeding r x
+
 -- where a token goes that a reading wants, and where it goes that none does
-abbrev pub onward_of : Page → Option ScanWant → Seen → List Move
-onward_of page None = stomach page
-onward_of page (Some want) = wanted page (want_of want)
+abbrev pub onward_of : Page → Option ScanWant → List Reading → Seen → List Move
+onward_of page None work = stomach page
+onward_of page (Some want) work = λ x. wanted page (want_of want) (feeds_of work x) x
 
 abbrev pub enters_of : Option ScanWant → Bool
 enters_of None = false
 enters_of (Some want) = enters_names (want_of want)
 
+-- the text that is read, if one is
+abbrev pub scanning_of : Engine → List Reading → Option Scanning
+scanning_of e work = scanning work e.input.gathered
+
+-- what becomes of a token of a list
+abbrev pub token_moves : Page → Option Scanning → (onward : Seen → List Move) → Token → List Move
+token_moves page scanned onward t = met page scanned onward (seen page.meanings t)
+
 -- what becomes of a character or a name of the line
-abbrev pub name_moves : Page → Option ScanWant → Lexeme → List Move
-name_moves page want x = entered (new_name (enters_of want) page.names x) ++ onward_of page want (seen (token_of (enters_of want) page.names x))
+abbrev pub name_moves : Page → Option Scanning → (enters : Bool) → (onward : Seen → List Move) → Lexeme → List Move
+name_moves page scanned enters onward x = entered (new_name enters page.names x) ++ token_moves page scanned onward (token_of enters page.names x)
 
 -- what is shown of a text that runs away
 abbrev pub away_text : Engine → List ℕ
 away_text e = runaway_bytes reports.OfText e.categories e.names.names e.in_line (first_list e.input.gathered)
-
--- what comes where the file has ended
-abbrev pub check_of : Engine → List Reading → List Move
-check_of e work = checked e.categories (without_file (page_of e)) work
 
 -- the engine is where such a token is wanted
 abbrev pub Takes : Sizes → Option ScanWant → Engine → List Reading → Type 0
@@ -100,11 +111,20 @@ abbrev pub TopTakes : Option Frame → Type 0
 TopTakes None = Unit {0}
 TopTakes (Some f) = TakesTokens f
 
+-- a space is handed on to where it is wanted, if it is
+abbrev pub space_moves : Page → Option ScanWant → List Reading → List Move
+space_moves page None work = []
+space_moves page (Some want) work = onward_of page (Some want) work (seen page.meanings space_token)
+
+abbrev pub SpaceFits : Sizes → Option ScanWant → Engine → List Reading → Type 0
+SpaceFits sizes None e work = Stands sizes e work
+SpaceFits sizes (Some want) e work = (e.ask ≡ More want) × Stands sizes e work
+
 -- What is made of a token fits the engine.
-abbrev pub FitsOnward : Sizes → Onward → Engine → List Reading → Type 0
-FitsOnward sizes onward.Feed e work = ((want : ScanWant) × (e.ask ≡ More want)) × Stands sizes e work
-FitsOnward sizes (onward.Begin k) e work = (e.top ≡ None) × Stands sizes e work
-FitsOnward sizes o e work = Stands sizes e work
+abbrev pub FitsOnward : Sizes → Seen → Onward → Engine → List Reading → Type 0
+FitsOnward sizes x onward.Feed e work = FeedsHere sizes e x work
+FitsOnward sizes x (onward.Begin k) e work = (e.top ≡ None) × (IsCommand (kind_of k) × Stands sizes e work)
+FitsOnward sizes x o e work = Stands sizes e work
 
 -- the machine's state at the moment, and that of the engine: the engine's column is that of the bytes really written
 abbrev pub IsMoment : Why → State → State → Type 0

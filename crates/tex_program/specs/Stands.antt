@@ -1,14 +1,14 @@
 -- What an engine stands for: a state of the machine, once its open readings are named.
-use Rattle.std.specs.Prelude.{◌≡◌, ℕ, ◌+◌, ◌<◌, ◌≤◌, Bool, false, List, [], ◌∷◌, ◌++◌, length, reverse, nat_lt, if◌then◌else◌, Option, Some, None}
+use Rattle.std.specs.Prelude.{◌≡◌, ℕ, ◌+◌, ◌<◌, ◌≤◌, Bool, true, false, List, [], ◌∷◌, ◌++◌, length, reverse, nat_lt, if◌then◌else◌, Option, Some, None}
 use Rattle.tex_defs.specs.declared.Seen.{Seen}
 use Rattle.tex_defs.specs.declared.Token.{Token}
 use Rattle.tex_defs.specs.declared.Sizes.{Sizes}
 use Rattle.tex_defs.specs.declared.Full.{Full}
 use Rattle.tex_defs.specs.declared.Table.TheVariants.{ExpansionDepth}
 use Rattle.plain_state.specs.Readings as reading
-use Rattle.plain_state.specs.Readings.{Fed, gathered_by}
+use Rattle.plain_state.specs.Readings.{Fed}
+use Rattle.plain_state.specs.Meanings.{primitive_count}
 use Rattle.plain_state.specs.States.{Reading, State}
-use Rattle.plain_state.specs.Tables.{gathered}
 use Rattle.plain_machine.specs.Plan.{Page, last_seen, is_told, reports_room}
 use Rattle.frames.specs.declared.scan.Want.{Want}
 use Rattle.frames.specs.declared.scan.Value.{Value}
@@ -18,8 +18,10 @@ use Rattle.frames.specs.declared.scan.Ask.TheVariants.{More, Inner, Done, Act, T
 use Rattle.frames.specs.declared.frame.Frame.{Frame}
 use Rattle.frames.specs.declared.frame.Waiting.{Waiting}
 use Rattle.frames.specs.Sees.{ask_of}
-use Rattle.frames.specs.Resumes.{resume, resume_waiting, waiting_kind, frame_list, frame_kind, IsOpen, frame_grows, lists_after, InnerWaits, MayFeed, Owns, IsShallow}
+use Rattle.frames.specs.Resumes.{resume, resume_waiting, waiting_kind, frame_list, frame_kind, IsOpen, frame_grows, lists_after, InnerWaits, MayFeed, Owns, IsShallow, is_built}
 use Rattle.tex_program.specs.declared.engine.Engine.{Engine}
+use Rattle.tex_program.specs.Begins.{IsCommand}
+use Rattle.tex_program.specs.Cells.{cells_of}
 
 -- The frame stands behind all that the reading was fed with, which holds these lists.
 pub record FrameStands (frame : Frame) (lists : List (List Token)) (r : Reading) : Type 0 where
@@ -33,7 +35,7 @@ pub record FrameStands (frame : Frame) (lists : List (List Token)) (r : Reading)
 pub record WaitingStands (waiting : Waiting) (r : Reading) : Type 0 where
   pub goes_on : (fed : List Fed) → reading.ask r.kind (r.fed ++ fed) ≡ resume_waiting waiting fed
   pub kind : r.kind ≡ waiting_kind waiting
-  pub none : gathered_by r.kind r.fed ≡ []
+  pub none : r.holds ≡ 0
 
 -- innermost first
 abbrev pub OuterStand : List Waiting → List Reading → Type 0
@@ -64,13 +66,19 @@ AtMostOne [] = Unit {0}
 AtMostOne (ts ∷ []) = Unit {0}
 AtMostOne (ts ∷ us ∷ lists) = ⊥
 
+-- a token with which an inner reading begins is no definition
+abbrev pub BeginsBuilt : Ask → Type 0
+BeginsBuilt (Inner waits kind (Some x)) = is_built x.meaning ≡ true
+BeginsBuilt a = Unit {0}
+
 pub record Innermost (a : Ask) (frame : Frame) (lists : List (List Token)) (r : Reading) : Type 0 where
   pub asked : ask_of lists a ≡ reading.ask r.kind r.fed
   pub open_frame : IsOpen a → FrameStands frame lists r
   pub waits : InnerWaits a frame
-  pub holds : gathered_by r.kind r.fed ≡ lists
+  pub holds : r.holds ≡ length lists
   pub few : AtMostOne lists
   pub last : GivesLast a r.fed
+  pub built : BeginsBuilt a
   pub once : TellsOnce a r.fed
   pub not_lent : r.lent ≡ false
 
@@ -84,9 +92,16 @@ WorkStands a (Some frame) outer lists (r ∷ rs) = Innermost a frame lists r × 
 abbrev pub FramesStand : Engine → List Reading → Type 0
 FramesStand e work = WorkStands e.ask e.top e.outer.items e.input.gathered work
 
--- the tables' sizes are these, a reading more than may be open can be counted, and the last report that a run may have hasn't come
+-- where one reading is open, it is a command
+abbrev pub IsLone : List Reading → Type 0
+IsLone (r ∷ []) = IsCommand r.kind
+IsLone rs = Unit {0}
+
+-- the tables' sizes are these, a reading more than may be open can be counted, the last report that a run may have hasn't come,
+-- and the names of the primitives are entered
 pub record IsSized (sizes : Sizes) (e : Engine) : Type 0 where
   pub few_reports : e.reports ≤ reports_room
+  pub known : primitive_count ≤ length e.names.names
   pub small : sizes.expansion_depth < 4294967295
   pub own : e.sizes ≡ sizes
   pub outer : e.outer.size ≡ sizes.expansion_depth
@@ -98,18 +113,20 @@ pub record Stands (sizes : Sizes) (e : Engine) (work : List Reading) : Type 0 wh
   pub sized : IsSized sizes e
   pub idle : e.input.making ≡ None
   pub readings : FramesStand e work
+  pub lone : IsLone work
 
 -- The innermost reading waits for what comes.
 abbrev pub WaitStands : Option Frame → List Waiting → List (List Token) → List Reading → Type 0
 WaitStands None outer lists [] = (outer ≡ []) × (lists ≡ [])
 WaitStands None outer lists (r ∷ rs) = ⊥
 WaitStands (Some frame) outer lists [] = ⊥
-WaitStands (Some frame) outer lists (r ∷ rs) = FrameStands frame lists r × ((gathered_by r.kind r.fed ≡ lists) × OuterStand (reverse outer) rs)
+WaitStands (Some frame) outer lists (r ∷ rs) = FrameStands frame lists r × ((r.holds ≡ length lists) × OuterStand (reverse outer) rs)
 
 pub record Waits (sizes : Sizes) (e : Engine) (work : List Reading) : Type 0 where
   pub sized : IsSized sizes e
   pub idle : e.input.making ≡ None
   pub readings : WaitStands e.top e.outer.items e.input.gathered work
+  pub lone : IsLone work
 
 -- A command waits in front of the reading that begins.
 pub record Waits1 (sizes : Sizes) (e : Engine) (waiting : Waiting) (r : Reading) (rs : List Reading) : Type 0 where
@@ -127,17 +144,25 @@ abbrev pub WaitsWith : Sizes → Engine → Option Waiting → List Reading → 
 WaitsWith sizes e None work = (e.top ≡ None) × Stands sizes e work
 WaitsWith sizes e (Some waiting) work = WaitsIn sizes e waiting work
 
--- The innermost reading ends, and these are beneath it.
-pub record EndsHere (sizes : Sizes) (e : Engine) (rs : List Reading) : Type 0 where
+-- a value that goes to no reading has no list
+abbrev pub IsTaken : reading.Value → List Reading → Type 0
+IsTaken v [] = reading.value_lists v ≡ []
+IsTaken v (r ∷ rs) = Unit {0}
+
+-- The innermost reading ends with this value, and these are beneath it.
+pub record EndsHere (sizes : Sizes) (e : Engine) (v : reading.Value) (r : Reading) (rs : List Reading) : Type 0 where
   pub sized : IsSized sizes e
   pub idle : e.input.making ≡ None
   pub few : AtMostOne e.input.gathered
+  pub holds : r.holds ≡ length e.input.gathered
+  pub taken : IsTaken v rs
   pub outer : OuterStand (reverse e.outer.items) rs
 
--- The innermost reading is fed with a token, and no report is due.
-pub record FeedsHere (sizes : Sizes) (e : Engine) (work : List Reading) : Type 0 where
+-- The innermost reading is fed with this token, and no report is due.
+pub record FeedsHere (sizes : Sizes) (e : Engine) (x : Seen) (work : List Reading) : Type 0 where
   pub want : Want
   pub asks : e.ask ≡ More want
+  pub built : is_built x.meaning ≡ true
   pub stands : Stands sizes e work
 
 -- A frame behind a reading that held these lists, whose list has the token already if it is of it.
@@ -145,10 +170,12 @@ pub record FedFrame (sizes : Sizes) (e : Engine) (f : Frame) (x : Seen) (lists :
   pub sized : IsSized sizes e
   pub idle : e.input.making ≡ None
   pub frame : FrameStands f lists r
-  pub holds : gathered_by r.kind r.fed ≡ lists
+  pub holds : r.holds ≡ length lists
+  pub built : is_built x.meaning ≡ true
   pub may_feed : MayFeed f x lists
   pub grown : e.input.gathered ≡ lists_after (frame_grows f x) x lists
   pub outer : OuterStand (reverse e.outer.items) rs
+  pub lone : IsLone (r ∷ rs)
 
 -- whether a token goes onto the list that the innermost reading builds, if one is open
 abbrev pub top_grows : Option Frame → Seen → Bool
@@ -173,7 +200,10 @@ state_of e work = record {
   categories = e.categories;
   names = e.names.names;
   strings = e.names.others;
+  meanings = cells_of e.names.names;
+  macros = [];
   work = work;
+  gathered = e.input.gathered;
   making = e.input.making;
   in_line = e.in_line;
   reports = e.reports;
@@ -184,7 +214,16 @@ state_of e work = record {
 
 -- what the texts of a rule depend on
 abbrev pub page_of : Engine → Page
-page_of e = record { names = e.names.names; in_line = e.in_line; line = e.input.pending.number; reports = e.reports; quiet = e.quiet }
+page_of e = record {
+  categories = e.categories;
+  names = e.names.names;
+  meanings = cells_of e.names.names;
+  macros = [];
+  in_line = e.in_line;
+  line = e.input.pending.number;
+  reports = e.reports;
+  quiet = e.quiet;
+}
 
 -- the innermost reading, if there is one, and those beneath it
 abbrev pub top_count : Option Frame → ℕ
@@ -194,10 +233,9 @@ top_count (Some f) = 1
 abbrev pub frames : Engine → ℕ
 frames e = length e.outer.items + top_count e.top
 
--- The engine's tables count as the machine's: the words of the lists that readings hold, and the readings.
+-- The engine counts the open readings as the machine.
 pub record Counts (sizes : Sizes) (e : Engine) (work : List Reading) : Type 0 where
   pub sized : IsSized sizes e
-  pub lists : gathered work ≡ e.input.gathered
   pub depth : length work ≡ frames e
 
 -- why there is no room for one more reading

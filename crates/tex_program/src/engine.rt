@@ -9,30 +9,32 @@ ghost use Rattle.plain_state.specs.Pending.{pulled};
 ghost use Rattle.plain_state.specs.Names as names;
 ghost use Rattle.prim_table.specs.Primitives.{primitive_names};
 ghost use Rattle.plain_state.specs.Lex.{Lexeme};
-ghost use Rattle.plain_state.specs.Reports.{NoSuchFile, report_bytes, message_bytes, OfText, runaway_bytes};
+ghost use Rattle.plain_state.specs.Reports.{NoSuchFile, Forbidden, report_bytes, message_bytes, OfText, runaway_bytes};
 ghost use Rattle.plain_state.specs.Tables.{refusal, refused, memory, lists_words, words};
-ghost use Rattle.plain_state.specs.Readings.{Fed, Tok, Val, Told, rank, own_lists, Text as TextKind, Flag as FlagValue};
-ghost use Rattle.plain_state.specs.States.{State, Reading, Move, Kept, Feeds, Begun, BegunWith, Written, Ended as EndedMove, AtFatal, fresh, fed_with};
-ghost use Rattle.plain_machine.specs.Plan.{handed, effect as effect_moves, given_back, put_one, reported, token_line, checked, told, is_told, no_file, reports_room};
+ghost use Rattle.plain_state.specs.Meanings as meanings;
+ghost use Rattle.plain_state.specs.Readings.{Fed, Tok, Told, rank, own_lists, value_lists, Text as TextKind, Flag as FlagValue};
+ghost use Rattle.plain_state.specs.States.{State, Reading, Move, Kept, Begun, BegunWith, Written, Ended as EndedMove, AtFatal, fresh, fed_with, ended_with, beneath};
+ghost use Rattle.plain_machine.specs.Plan.{Page, handed, effect as effect_moves, given_back, put_one, reported, token_line, checked, told, is_told, no_file, reports_room};
 ghost use Rattle.plain_machine.specs.Does.{Did};
 ghost use Rattle.world_io.specs.Told.{FilesTold};
 ghost use Rattle.frames.specs.Sees.{value_of, kind_of, want_of, effect_of, first_list};
 ghost use Rattle.transcript.specs.Reported.{report_of};
-ghost use Rattle.frames.specs.Resumes.{IsNoText, IsOpen, frame_kind, frame_grows, lists_after};
+ghost use Rattle.frames.specs.Resumes.{IsNoText, IsOpen, is_built, frame_kind, frame_grows, lists_after};
 ghost use Rattle.frames.specs.Weights.{frame_rank};
 ghost use Rattle.input_state.specs.Reads.{gives_step, IsLexeme};
 ghost use Rattle.input_state.specs.Stored.{words as stored_words};
 ghost use Rattle.tex_program.specs.Begins.{outcome_of, outcome_of_last, last_moves, last_bytes, away_moves, onward_moves};
-ghost use Rattle.tex_program.specs.Stands.{Stands, Waits, WaitsWith, EndsHere, FeedsHere, FedFrame, IsSized, IsLast, Counts, SameState, SameOthers, SameFrames, OnlyColumn, state_of, page_of, frames, depth_full, top_grows, kept_lists, other_lists};
-ghost use Rattle.tex_program.specs.Rules.{world_of, plan_of, onward_of, enters_of, name_moves, check_of, away_text, Takes, Wants, FitsOnward, TopTakes, Cuts, Went, Reports, Halts, DoesRule, DoesOnward};
+ghost use Rattle.tex_program.specs.Stands.{Stands, Waits, WaitsWith, EndsHere, FeedsHere, FedFrame, IsSized, IsLone, IsLast, Counts, SameState, SameOthers, SameFrames, OnlyColumn, state_of, page_of, frames, depth_full, top_grows, kept_lists, other_lists};
+ghost use Rattle.tex_program.specs.Rules.{world_of, plan_of, feeds_of, onward_of, enters_of, token_moves, name_moves, space_moves, scanning_of, away_text, Takes, Wants, SpaceFits, FitsOnward, TopTakes, Cuts, Went, Reports, Halts, DoesRule, DoesOnward};
 ghost use Rattle.tex_program.specs.Steps.{stepping, IsStep, IsFree, IsHalted, StepsIf, freed, pending_weight, weight};
 ghost use Rattle.tex_program.specs.First.{Begins};
 ghost use Rattle.tex_program.specs.Ran.{Ran, Settles, CutBy};
 ghost use Rattle.tex_program.specs.declared.reactions.Outcome.TheVariants as outcomes;
+ghost use Rattle.tex_program.specs.declared.broken.Broken.TheVariants as broken;
 ghost use Rattle.tex_program.specs.declared.engine.Ruled.TheVariants.{Halted};
 
 use crate::broken::Broken;
-use crate::meaning::seen;
+use crate::meaning::{is_outer, seen};
 use crate::names::resolve;
 use crate::reactions::{Last, Onward, Outcome, obey, react};
 use frames::{Ask, Effect, Frame, Kind, Outer, Value, Waiting, Want, first_ask};
@@ -184,7 +186,7 @@ impl Engine {
 
     /// The words of main memory that are used.
     pub fn words(&self) -> u32
-        ensures { (sizes : Sizes) (work : List Reading) → Counts sizes self.now work → result ≡ words (state_of self.now work) }
+        ensures { (work : List Reading) → result ≡ words (state_of self.now work) }
     {
         self.input.words()
     }
@@ -360,7 +362,8 @@ impl Engine {
         ensures takes { OnOk result (TopTakes self.new.top) }
         ensures asks { OnOk result (IsOpen self.new.ask) }
         ensures fresh { OnOk result ((f : Frame) (x : Seen) → self.new.top ≡ Some f → frame_grows f x ≡ false) }
-        ensures stands { OnOk result ((sizes : Sizes) (work : List Reading) → WaitsWith sizes self.old waits work → Stands sizes self.new (fresh (kind_of kind) ∷ work)) }
+        ensures lists { OnOk result (self.new.input.gathered ≡ own_lists (kind_of kind) ++ self.old.input.gathered) }
+        ensures stands { OnOk result ((sizes : Sizes) (work : List Reading) → WaitsWith sizes self.old waits work → IsLone (fresh (kind_of kind) ∷ work) → Stands sizes self.new (fresh (kind_of kind) ∷ work)) }
         ensures fits { OnOk result ((sizes : Sizes) (work : List Reading) → Counts sizes self.old work → refusal sizes (Begun (kind_of kind)) (state_of self.old work) ≡ None) }
         ensures refused { IfErr result (λ full. (sizes : Sizes) (work : List Reading) → Counts sizes self.old work → refusal sizes (Begun (kind_of kind)) (state_of self.old work) ≡ Some full) }
         ensures err { OnErr result (self.new ≡ self.old) }
@@ -387,9 +390,9 @@ impl Engine {
 
     /// Begins the list that a reading of this kind builds, if it builds one.
     fn begin_list(&mut self, kind: Kind) -> Result<(), Full>
-        ensures ok { OnOk result (self.new ≡ record self.old { input = record self.old.input { gathered = own_lists (kind_of kind) [] ++ self.old.input.gathered } }) }
-        ensures fits { OnOk result (refused self.old.input.sizes (memory (lists_words (own_lists (kind_of kind) [])) (stored_words self.old.input) ∷ []) ≡ None) }
-        ensures refused { IfErr result (λ full. refused self.old.input.sizes (memory (lists_words (own_lists (kind_of kind) [])) (stored_words self.old.input) ∷ []) ≡ Some full) }
+        ensures ok { OnOk result (self.new ≡ record self.old { input = record self.old.input { gathered = own_lists (kind_of kind) ++ self.old.input.gathered } }) }
+        ensures fits { OnOk result (refused self.old.input.sizes (memory (lists_words (own_lists (kind_of kind))) (stored_words self.old.input) ∷ []) ≡ None) }
+        ensures refused { IfErr result (λ full. refused self.old.input.sizes (memory (lists_words (own_lists (kind_of kind))) (stored_words self.old.input) ∷ []) ≡ Some full) }
         ensures err { OnErr result (self.new ≡ self.old) }
     {
         match kind {
@@ -407,9 +410,9 @@ impl Engine {
         ensures light { OnOk result ((f : Frame) → self.old.top ≡ Some f → weight self.new ≤ 2 * frames self.old + (7 + 3 * frame_rank f) + pending_weight self.old.input.pending) }
         ensures light_none { OnOk result (self.old.top ≡ None → weight self.new ≡ weight self.old) }
         ensures same { OnOk result (SameState self.old self.new) }
-        ensures stands { OnOk result ((sizes : Sizes) (work : List Reading) → FeedsHere sizes self.old work → Stands sizes self.new (fed_with (Tok seen) work)) }
-        ensures fits { OnOk result ((sizes : Sizes) (work : List Reading) → FeedsHere sizes self.old work → refusal sizes (Feeds seen) (state_of self.old work) ≡ None) }
-        ensures refused { IfErr result (λ full. (sizes : Sizes) (work : List Reading) → FeedsHere sizes self.old work → refusal sizes (Feeds seen) (state_of self.old work) ≡ Some full) }
+        ensures stands { OnOk result ((sizes : Sizes) (work : List Reading) → FeedsHere sizes self.old seen work → Stands sizes self.new (fed_with (Tok seen) work)) }
+        ensures did { OnOk result ((sizes : Sizes) (w : World) (work : List Reading) → FeedsHere sizes self.old seen work → Did sizes (state_of self.old work) (state_of self.new (fed_with (Tok seen) work)) w w (feeds_of work seen)) }
+        ensures refused { IfErr result (λ full. (sizes : Sizes) (w : World) (work : List Reading) → FeedsHere sizes self.old seen work → Cuts sizes (state_of self.old work) self.new work w w (feeds_of work seen) (broken.Full full)) }
         ensures err { OnErr result (self.new ≡ self.old) }
     {
         self.grow(seen)?;
@@ -420,8 +423,9 @@ impl Engine {
     /// A token goes onto the list that the innermost reading builds, unless it isn't of it.
     fn grow(&mut self, seen: Seen) -> Result<(), Full>
         ensures ok { OnOk result (self.new ≡ record self.old { input = record self.old.input { gathered = lists_after (top_grows self.old.top seen) seen self.old.input.gathered } }) }
-        ensures fits { OnOk result (refused self.old.input.sizes (memory (lists_words (lists_after (top_grows self.old.top seen) seen self.old.input.gathered) - lists_words self.old.input.gathered) (stored_words self.old.input) ∷ []) ≡ None) }
-        ensures refused { IfErr result (λ full. refused self.old.input.sizes (memory (lists_words (lists_after (top_grows self.old.top seen) seen self.old.input.gathered) - lists_words self.old.input.gathered) (stored_words self.old.input) ∷ []) ≡ Some full) }
+        ensures fits { OnOk result (top_grows self.old.top seen ≡ true → (self.old.input.gathered ≡ [] → ⊥) → refused self.old.input.sizes (memory 1 (stored_words self.old.input) ∷ []) ≡ None) }
+        ensures grows { OnErr result (top_grows self.old.top seen ≡ true) }
+        ensures refused { IfErr result (λ full. refused self.old.input.sizes (memory 1 (stored_words self.old.input) ∷ []) ≡ Some full) }
         ensures small { stored_words self.old.input < 4294967296 }
         ensures err { OnErr result (self.new ≡ self.old) }
     {
@@ -485,7 +489,8 @@ impl Engine {
     fn end(&mut self, value: Value)
         ensures light { (f : Frame) → self.old.top ≡ Some f → weight self.new < 2 * frames self.old + 6 + pending_weight self.old.input.pending }
         ensures same { SameState self.old self.new }
-        ensures stands { (sizes : Sizes) (rs : List Reading) → EndsHere sizes self.old rs → Stands sizes self.new (fed_with (Val (value_of self.old.input.gathered value)) rs) }
+        ensures lists { (sizes : Sizes) (r : Reading) (rs : List Reading) → EndsHere sizes self.old (value_of self.old.input.gathered value) r rs → value_lists (value_of self.old.input.gathered value) ++ beneath (r ∷ rs) self.old.input.gathered ≡ self.new.input.gathered }
+        ensures stands { (sizes : Sizes) (r : Reading) (rs : List Reading) → EndsHere sizes self.old (value_of self.old.input.gathered value) r rs → Stands sizes self.new (ended_with (value_of self.old.input.gathered value) (r ∷ rs)) }
     {
         match self.outer.pop() {
             None => {
@@ -507,7 +512,8 @@ impl Engine {
         requires { IsSome self.old.top }
         ensures light { OnOk result (weight self.new < 2 * frames self.old + (10 + 3 * rank (kind_of kind)) + pending_weight self.old.input.pending) }
         ensures same { OnOk result (SameState self.old self.new) }
-        ensures stands { OnOk result ((sizes : Sizes) (work : List Reading) → WaitsWith sizes self.old (Some waits) work → Stands sizes self.new (fed_with (Tok seen) (fresh (kind_of kind) ∷ work))) }
+        ensures lists { OnOk result (self.new.input.gathered ≡ own_lists (kind_of kind) ++ self.old.input.gathered) }
+        ensures stands { OnOk result ((sizes : Sizes) (work : List Reading) → is_built seen.meaning ≡ true → WaitsWith sizes self.old (Some waits) work → Stands sizes self.new (fed_with (Tok seen) (fresh (kind_of kind) ∷ work))) }
         ensures fits { OnOk result ((sizes : Sizes) (work : List Reading) → Counts sizes self.old work → refusal sizes (BegunWith (kind_of kind) seen) (state_of self.old work) ≡ None) }
         ensures refused { IfErr result (λ full. (sizes : Sizes) (work : List Reading) → Counts sizes self.old work → refusal sizes (BegunWith (kind_of kind) seen) (state_of self.old work) ≡ Some full) }
         ensures err { OnErr result (self.new ≡ self.old) }
@@ -521,6 +527,7 @@ impl Engine {
     fn note(&mut self)
         ensures light { (f : Frame) → self.old.top ≡ Some f → weight self.new ≤ 2 * frames self.old + 6 + pending_weight self.old.input.pending }
         ensures same { SameState self.old self.new }
+        ensures input { self.new.input ≡ self.old.input }
         ensures stands { (sizes : Sizes) (work : List Reading) → Waits sizes self.old work → Stands sizes self.new (fed_with Told work) }
     {
         let Some(mut frame) = self.top else {
@@ -575,9 +582,9 @@ impl Engine {
     fn done(&mut self, value: Value, back: Option<Seen>) -> Result<(), Broken>
         requires idle { self.old.input.making ≡ None }
         ensures light { OnOk result ((f : Frame) → self.old.top ≡ Some f → weight self.new < 2 * frames self.old + 6 + pending_weight self.old.input.pending) }
-        ensures rule { OnOk result ((sizes : Sizes) (w : World) (r : Reading) (rs : List Reading) → Counts sizes self.old (r ∷ rs) → EndsHere sizes self.old rs → IsLast back r.fed →
+        ensures rule { OnOk result ((sizes : Sizes) (w : World) (r : Reading) (rs : List Reading) → Counts sizes self.old (r ∷ rs) → EndsHere sizes self.old (value_of self.old.input.gathered value) r rs → IsLast back r.fed →
             Went sizes (state_of self.old (r ∷ rs)) self.new w w (given_back (is_some back) r.fed ++ EndedMove (value_of self.old.input.gathered value) ∷ []) 0) }
-        ensures err { IfErr result (λ b. (sizes : Sizes) (w : World) (r : Reading) (rs : List Reading) → Counts sizes self.old (r ∷ rs) → EndsHere sizes self.old rs → IsLast back r.fed →
+        ensures err { IfErr result (λ b. (sizes : Sizes) (w : World) (r : Reading) (rs : List Reading) → Counts sizes self.old (r ∷ rs) → EndsHere sizes self.old (value_of self.old.input.gathered value) r rs → IsLast back r.fed →
             Cuts sizes (state_of self.old (r ∷ rs)) self.new (r ∷ rs) w w (given_back (is_some back) r.fed ++ EndedMove (value_of self.old.input.gathered value) ∷ []) b) }
         ensures frames { OnErr result (SameFrames self.old self.new) }
         ensures column { self.new.in_line ≡ self.old.in_line }
@@ -611,7 +618,7 @@ impl Engine {
     fn act_and_end<S: Sink>(&mut self, out: &mut S, effect: Effect) -> Result<(), Broken>
         requires idle { self.old.input.making ≡ None }
         ensures light { OnOk result ((f : Frame) → self.old.top ≡ Some f → weight self.new < 2 * frames self.old + 6 + pending_weight self.old.input.pending) }
-        ensures rule { OnOk result ((sizes : Sizes) (f : FilesTold) (r : Reading) (rs : List Reading) → EndsHere sizes self.old rs →
+        ensures rule { OnOk result ((sizes : Sizes) (f : FilesTold) (r : Reading) (rs : List Reading) → EndsHere sizes self.old (FlagValue true) r rs →
             Went sizes (state_of self.old (r ∷ rs)) self.new (world_of f (S.told out.old) self.old) (world_of f (S.told out.new) self.new) (effect_moves (state_of self.old (r ∷ rs)) (effect_of self.old.input.gathered effect) ++ EndedMove (FlagValue true) ∷ []) 0) }
         ensures err { IfErr result (λ b. (sizes : Sizes) (f : FilesTold) (work : List Reading) → Cuts sizes (state_of self.old work) self.new work (world_of f (S.told out.old) self.old) (world_of f (S.told out.new) self.new) (effect_moves (state_of self.old work) (effect_of self.old.input.gathered effect) ++ EndedMove (FlagValue true) ∷ []) b) }
         ensures frames { OnErr result (SameFrames self.old self.new) }
@@ -625,10 +632,10 @@ impl Engine {
     /// What becomes of a token that was handed on.
     fn go_on<S: Sink>(&mut self, out: &mut S, seen: Seen, onward: Onward) -> Result<Ruled, Broken>
         requires idle { self.old.input.making ≡ None }
-        ensures rule { IfOk result (λ ruled. (sizes : Sizes) (f : FilesTold) (work : List Reading) → FitsOnward sizes onward self.old work →
-            DoesOnward sizes (state_of self.old work) self.new (world_of f (S.told out.old) self.old) (world_of f (S.told out.new) self.new) (onward_moves (page_of self.old) seen onward) ruled) }
-        ensures err { IfErr result (λ b. (sizes : Sizes) (f : FilesTold) (work : List Reading) → FitsOnward sizes onward self.old work →
-            Cuts sizes (state_of self.old work) self.new work (world_of f (S.told out.old) self.old) (world_of f (S.told out.new) self.new) (onward_moves (page_of self.old) seen onward) b) }
+        ensures rule { IfOk result (λ ruled. (sizes : Sizes) (f : FilesTold) (work : List Reading) → FitsOnward sizes seen onward self.old work →
+            DoesOnward sizes (state_of self.old work) self.new (world_of f (S.told out.old) self.old) (world_of f (S.told out.new) self.new) (onward_moves (page_of self.old) (feeds_of work seen) seen onward) ruled) }
+        ensures err { IfErr result (λ b. (sizes : Sizes) (f : FilesTold) (work : List Reading) → FitsOnward sizes seen onward self.old work →
+            Cuts sizes (state_of self.old work) self.new work (world_of f (S.told out.old) self.old) (world_of f (S.told out.new) self.new) (onward_moves (page_of self.old) (feeds_of work seen) seen onward) b) }
         ensures frames { OnErr result (SameFrames self.old self.new) }
         ensures halts { IfOk result (λ ruled. IsHalted ruled → SameFrames self.old self.new) }
         ensures on { IfOk result (λ ruled. IsFree ruled → ⊥) }
@@ -662,9 +669,9 @@ impl Engine {
     ) -> Result<Ruled, Broken>
         requires idle { self.old.input.making ≡ None }
         ensures rule { IfOk result (λ ruled. (sizes : Sizes) (f : FilesTold) (work : List Reading) → Takes sizes want self.old work →
-            DoesOnward sizes (state_of self.old work) self.new (world_of f (S.told out.old) self.old) (world_of f (S.told out.new) self.new) (onward_of (page_of self.old) want (names.seen token)) ruled) }
+            DoesOnward sizes (state_of self.old work) self.new (world_of f (S.told out.old) self.old) (world_of f (S.told out.new) self.new) (onward_of (page_of self.old) want work (meanings.seen (page_of self.old).meanings token)) ruled) }
         ensures err { IfErr result (λ b. (sizes : Sizes) (f : FilesTold) (work : List Reading) → Takes sizes want self.old work →
-            Cuts sizes (state_of self.old work) self.new work (world_of f (S.told out.old) self.old) (world_of f (S.told out.new) self.new) (onward_of (page_of self.old) want (names.seen token)) b) }
+            Cuts sizes (state_of self.old work) self.new work (world_of f (S.told out.old) self.old) (world_of f (S.told out.new) self.new) (onward_of (page_of self.old) want work (meanings.seen (page_of self.old).meanings token)) b) }
         ensures frames { OnErr result (SameFrames self.old self.new) }
         ensures halts { IfOk result (λ ruled. IsHalted ruled → SameFrames self.old self.new) }
         ensures on { IfOk result (λ ruled. IsFree ruled → ⊥) }
@@ -686,9 +693,9 @@ impl Engine {
     ) -> Result<Ruled, Broken>
         requires idle { self.old.input.making ≡ None }
         ensures rule { IfOk result (λ ruled. (sizes : Sizes) (f : FilesTold) (work : List Reading) (x : Lexeme) → IsLexeme self.old.input.buffer lexed x → Takes sizes want self.old work →
-            DoesOnward sizes (state_of self.old work) self.new (world_of f (S.told out.old) self.old) (world_of f (S.told out.new) self.new) (name_moves (page_of self.old) want x) ruled) }
+            DoesOnward sizes (state_of self.old work) self.new (world_of f (S.told out.old) self.old) (world_of f (S.told out.new) self.new) (name_moves (page_of self.old) (scanning_of self.old work) (enters_of want) (onward_of (page_of self.old) want work) x) ruled) }
         ensures err { IfErr result (λ b. (sizes : Sizes) (f : FilesTold) (work : List Reading) (x : Lexeme) → IsLexeme self.old.input.buffer lexed x → Takes sizes want self.old work →
-            Cuts sizes (state_of self.old work) self.new work (world_of f (S.told out.old) self.old) (world_of f (S.told out.new) self.new) (name_moves (page_of self.old) want x) b) }
+            Cuts sizes (state_of self.old work) self.new work (world_of f (S.told out.old) self.old) (world_of f (S.told out.new) self.new) (name_moves (page_of self.old) (scanning_of self.old work) (enters_of want) (onward_of (page_of self.old) want work) x) b) }
         ensures frames { OnErr result (SameFrames self.old self.new) }
         ensures halts { IfOk result (λ ruled. IsHalted ruled → SameFrames self.old self.new) }
         ensures on { IfOk result (λ ruled. IsFree ruled → ⊥) }
@@ -715,38 +722,122 @@ impl Engine {
         frame.text()
     }
 
-    /// A text runs away.
-    fn run_away<S: Sink>(&mut self, out: &mut S, report: Report) -> Result<Ruled, Broken>
+    /// A report, behind which a space is handed on to where it is wanted, if it is.
+    fn report_space<S: Sink>(
+        &mut self,
+        out: &mut S,
+        report: Report,
+        then: Option<Want>,
+    ) -> Result<Ruled, Broken>
+        requires idle { self.old.input.making ≡ None }
+        ensures rule { IfOk result (λ ruled. (sizes : Sizes) (f : FilesTold) (work : List Reading) (page : Page) → SpaceFits sizes then self.old work →
+            DoesOnward sizes (state_of self.old work) self.new (world_of f (S.told out.old) self.old) (world_of f (S.told out.new) self.new) (reported (page_of self.old) (report_of report) (space_moves page then work)) ruled) }
+        ensures err { IfErr result (λ b. (sizes : Sizes) (f : FilesTold) (work : List Reading) (page : Page) → SpaceFits sizes then self.old work →
+            Cuts sizes (state_of self.old work) self.new work (world_of f (S.told out.old) self.old) (world_of f (S.told out.new) self.new) (reported (page_of self.old) (report_of report) (space_moves page then work)) b) }
+        ensures frames { OnErr result (SameFrames self.old self.new) }
+        ensures halts { IfOk result (λ ruled. IsHalted ruled → SameFrames self.old self.new) }
+        ensures still { then ≡ None → SameFrames self.old self.new }
+        ensures pending { then ≡ None → self.new.input ≡ self.old.input }
+        ensures on { IfOk result (λ ruled. IsFree ruled → ⊥) }
+        ensures idle { OnOk result (self.new.input.making ≡ None) }
+    {
+        if !self.report(out, report)? {
+            return Ok(Ruled::Halted(Outcome::Fatal(Fatal::HundredErrors)));
+        }
+        match then {
+            None => Ok(Ruled::Step),
+            Some(want) => self.hand_on(out, Some(want), SPACE),
+        }
+    }
+
+    /// A text runs away, behind which a space is handed on to where it is wanted, if it is.
+    fn run_away<S: Sink>(
+        &mut self,
+        out: &mut S,
+        report: Report,
+        then: Option<Want>,
+    ) -> Result<Ruled, Broken>
         requires idle { self.old.input.making ≡ None }
         requires asked { self.old.input.gathered ≡ [] → ⊥ }
-        ensures rule { IfOk result (λ ruled. (sizes : Sizes) (f : FilesTold) (work : List Reading) → Counts sizes self.old work → Stands sizes self.old work →
-            DoesOnward sizes (state_of self.old work) self.new (world_of f (S.told out.old) self.old) (world_of f (S.told out.new) self.new) (away_moves (page_of self.old) (away_text self.old) (report_of report)) ruled) }
-        ensures err { IfErr result (λ b. (sizes : Sizes) (f : FilesTold) (work : List Reading) → Counts sizes self.old work → self.old.input.making ≡ None →
-            Cuts sizes (state_of self.old work) self.new work (world_of f (S.told out.old) self.old) (world_of f (S.told out.new) self.new) (away_moves (page_of self.old) (away_text self.old) (report_of report)) b) }
-        ensures frames { SameFrames self.old self.new }
-        ensures light { pending_weight self.new.input.pending ≡ pending_weight self.old.input.pending }
+        ensures rule { IfOk result (λ ruled. (sizes : Sizes) (f : FilesTold) (work : List Reading) (page : Page) → SpaceFits sizes then self.old work →
+            DoesOnward sizes (state_of self.old work) self.new (world_of f (S.told out.old) self.old) (world_of f (S.told out.new) self.new) (away_moves (page_of self.old) (away_text self.old) (report_of report) (space_moves page then work)) ruled) }
+        ensures err { IfErr result (λ b. (sizes : Sizes) (f : FilesTold) (work : List Reading) (page : Page) → SpaceFits sizes then self.old work →
+            Cuts sizes (state_of self.old work) self.new work (world_of f (S.told out.old) self.old) (world_of f (S.told out.new) self.new) (away_moves (page_of self.old) (away_text self.old) (report_of report) (space_moves page then work)) b) }
+        ensures frames { OnErr result (SameFrames self.old self.new) }
+        ensures halts { IfOk result (λ ruled. IsHalted ruled → SameFrames self.old self.new) }
+        ensures still { then ≡ None → SameFrames self.old self.new }
+        ensures light { then ≡ None → pending_weight self.new.input.pending ≡ pending_weight self.old.input.pending }
         ensures on { IfOk result (λ ruled. IsFree ruled → ⊥) }
         ensures idle { OnOk result (self.new.input.making ≡ None) }
     {
         self.write_runaway(out)?;
         self.put_one(RIGHT_BRACE)?;
-        self.report_only(out, report)
+        self.report_space(out, report, then)
+    }
+
+    /// The name of an `\outer` macro comes into a text: it is put back, the text runs away, and a space takes its place.
+    fn forbid<S: Sink>(
+        &mut self,
+        out: &mut S,
+        want: Option<Want>,
+        token: Token,
+        name: Name,
+    ) -> Result<Ruled, Broken>
+        requires idle { self.old.input.making ≡ None }
+        requires asked { self.old.input.gathered ≡ [] → ⊥ }
+        ensures rule { IfOk result (λ ruled. (sizes : Sizes) (f : FilesTold) (work : List Reading) → SpaceFits sizes want self.old work →
+            DoesOnward sizes (state_of self.old work) self.new (world_of f (S.told out.old) self.old) (world_of f (S.told out.new) self.new) (put_one token ++ away_moves (page_of self.old) (away_text self.old) (Forbidden OfText name) (space_moves (page_of self.old) want work)) ruled) }
+        ensures err { IfErr result (λ b. (sizes : Sizes) (f : FilesTold) (work : List Reading) → SpaceFits sizes want self.old work →
+            Cuts sizes (state_of self.old work) self.new work (world_of f (S.told out.old) self.old) (world_of f (S.told out.new) self.new) (put_one token ++ away_moves (page_of self.old) (away_text self.old) (Forbidden OfText name) (space_moves (page_of self.old) want work)) b) }
+        ensures frames { OnErr result (SameFrames self.old self.new) }
+        ensures halts { IfOk result (λ ruled. IsHalted ruled → SameFrames self.old self.new) }
+        ensures on { IfOk result (λ ruled. IsFree ruled → ⊥) }
+        ensures idle { OnOk result (self.new.input.making ≡ None) }
+    {
+        self.put_one(token)?;
+        self.run_away(out, Report::Forbidden(Scanned::Text, name), want)
+    }
+
+    /// What becomes of a token of a list. The name of an `\outer` macro doesn't come into a text.
+    fn meet<S: Sink>(
+        &mut self,
+        out: &mut S,
+        want: Option<Want>,
+        token: Token,
+    ) -> Result<Ruled, Broken>
+        requires idle { self.old.input.making ≡ None }
+        ensures rule { IfOk result (λ ruled. (sizes : Sizes) (f : FilesTold) (work : List Reading) → Takes sizes want self.old work →
+            DoesOnward sizes (state_of self.old work) self.new (world_of f (S.told out.old) self.old) (world_of f (S.told out.new) self.new) (token_moves (page_of self.old) (scanning_of self.old work) (onward_of (page_of self.old) want work) token) ruled) }
+        ensures err { IfErr result (λ b. (sizes : Sizes) (f : FilesTold) (work : List Reading) → Takes sizes want self.old work →
+            Cuts sizes (state_of self.old work) self.new work (world_of f (S.told out.old) self.old) (world_of f (S.told out.new) self.new) (token_moves (page_of self.old) (scanning_of self.old work) (onward_of (page_of self.old) want work) token) b) }
+        ensures frames { OnErr result (SameFrames self.old self.new) }
+        ensures halts { IfOk result (λ ruled. IsHalted ruled → SameFrames self.old self.new) }
+        ensures on { IfOk result (λ ruled. IsFree ruled → ⊥) }
+        ensures idle { OnOk result (self.new.input.making ≡ None) }
+    {
+        if !is_outer(seen(token)) {
+            return self.hand_on(out, want, token);
+        }
+        match self.text_name() {
+            Some(name) => self.forbid(out, want, token, name),
+            None => self.hand_on(out, want, token),
+        }
     }
 
     /// The check where the file has ended.
     fn check<S: Sink>(&mut self, out: &mut S) -> Result<Ruled, Broken>
         requires idle { self.old.input.making ≡ None }
         ensures rule { IfOk result (λ ruled. (sizes : Sizes) (f : FilesTold) (work : List Reading) → Wants sizes self.old work →
-            DoesOnward sizes (state_of self.old work) self.new (world_of f (S.told out.old) self.old) (world_of f (S.told out.new) self.new) (checked self.old.categories (page_of self.old) work) ruled) }
+            DoesOnward sizes (state_of self.old work) self.new (world_of f (S.told out.old) self.old) (world_of f (S.told out.new) self.new) (checked (page_of self.old) (scanning_of self.old work)) ruled) }
         ensures err { IfErr result (λ b. (sizes : Sizes) (f : FilesTold) (work : List Reading) → Wants sizes self.old work →
-            Cuts sizes (state_of self.old work) self.new work (world_of f (S.told out.old) self.old) (world_of f (S.told out.new) self.new) (checked self.old.categories (page_of self.old) work) b) }
+            Cuts sizes (state_of self.old work) self.new work (world_of f (S.told out.old) self.old) (world_of f (S.told out.new) self.new) (checked (page_of self.old) (scanning_of self.old work)) b) }
         ensures frames { SameFrames self.old self.new }
         ensures light { pending_weight self.new.input.pending ≡ pending_weight self.old.input.pending }
         ensures on { IfOk result (λ ruled. IsFree ruled → ⊥) }
         ensures idle { OnOk result (self.new.input.making ≡ None) }
     {
         match self.text_name() {
-            Some(name) => self.run_away(out, Report::FileEnded(Scanned::Text, name)),
+            Some(name) => self.run_away(out, Report::FileEnded(Scanned::Text, name), None),
             None => Ok(Ruled::Step),
         }
     }
@@ -757,15 +848,15 @@ impl Engine {
         ensures light { IfOk result (λ ruled. IsFree ruled → weight self.new < weight self.old) }
         ensures step { IfOk result (λ ruled. StepsIf ruled (gives_step (pulled self.old.categories self.old.input.pending))) }
         ensures rule { IfOk result (λ ruled. (sizes : Sizes) (f : FilesTold) (work : List Reading) → Takes sizes want self.old work →
-            DoesRule sizes (state_of self.old work) self.new (world_of f (S.told out.old) self.old) (world_of f (S.told out.new) self.new) (handed (page_of self.old) (enters_of want) (onward_of (page_of self.old) want) (check_of self.old work) (pulled self.old.categories self.old.input.pending)) ruled) }
+            DoesRule sizes (state_of self.old work) self.new (world_of f (S.told out.old) self.old) (world_of f (S.told out.new) self.new) (handed (page_of self.old) (enters_of want) (scanning_of self.old work) (onward_of (page_of self.old) want work) (pulled self.old.categories self.old.input.pending)) ruled) }
         ensures err { IfErr result (λ b. (sizes : Sizes) (f : FilesTold) (work : List Reading) → Takes sizes want self.old work →
-            Cuts sizes (state_of self.old work) self.new work (world_of f (S.told out.old) self.old) (world_of f (S.told out.new) self.new) (handed (page_of self.old) (enters_of want) (onward_of (page_of self.old) want) (check_of self.old work) (pulled self.old.categories self.old.input.pending)) b) }
+            Cuts sizes (state_of self.old work) self.new work (world_of f (S.told out.old) self.old) (world_of f (S.told out.new) self.new) (handed (page_of self.old) (enters_of want) (scanning_of self.old work) (onward_of (page_of self.old) want work) (pulled self.old.categories self.old.input.pending)) b) }
         ensures frames { OnErr result (SameFrames self.old self.new) }
         ensures halts { IfOk result (λ ruled. IsHalted ruled → SameFrames self.old self.new) }
         ensures idle { OnOk result (self.new.input.making ≡ None) }
     {
         match self.input.pull(&self.categories)? {
-            Pulled::Token(token) => self.hand_on(out, want, token),
+            Pulled::Token(token) => self.meet(out, want, token),
             Pulled::Lexeme(lexed) => self.hand_name(out, want, lexed),
             Pulled::Taken => Ok(Ruled::Step),
             Pulled::Invalid => {
@@ -791,9 +882,9 @@ impl Engine {
         ensures light { IfOk result (λ ruled. IsFree ruled → (f : Frame) → self.old.top ≡ Some f → weight self.new < 2 * frames self.old + 7 + pending_weight self.old.input.pending) }
         ensures step { IfOk result (λ ruled. IsStep ruled → ⊥) }
         ensures rule { IfOk result (λ ruled. (sizes : Sizes) (f : FilesTold) (r : Reading) (rs : List Reading) → Waits sizes self.old (r ∷ rs) → Counts sizes self.old (r ∷ rs) → IsLast back r.fed → is_told r.fed ≡ false →
-            DoesRule sizes (state_of self.old (r ∷ rs)) self.new (world_of f (S.told out.old) self.old) (world_of f (S.told out.new) self.new) (told (page_of self.old) (report_of report) (is_some back) r.fed) ruled) }
+            DoesRule sizes (state_of self.old (r ∷ rs)) self.new (world_of f (S.told out.old) self.old) (world_of f (S.told out.new) self.new) (told (page_of self.old) (report_of report) None (is_some back) r) ruled) }
         ensures err { IfErr result (λ b. (sizes : Sizes) (f : FilesTold) (r : Reading) (rs : List Reading) → Waits sizes self.old (r ∷ rs) → Counts sizes self.old (r ∷ rs) → IsLast back r.fed → is_told r.fed ≡ false →
-            Cuts sizes (state_of self.old (r ∷ rs)) self.new (r ∷ rs) (world_of f (S.told out.old) self.old) (world_of f (S.told out.new) self.new) (told (page_of self.old) (report_of report) (is_some back) r.fed) b) }
+            Cuts sizes (state_of self.old (r ∷ rs)) self.new (r ∷ rs) (world_of f (S.told out.old) self.old) (world_of f (S.told out.new) self.new) (told (page_of self.old) (report_of report) None (is_some back) r) b) }
         ensures frames { OnErr result (SameFrames self.old self.new) }
         ensures halts { IfOk result (λ ruled. IsHalted ruled → SameFrames self.old self.new) }
         ensures idle { OnOk result (self.new.input.making ≡ None) }
@@ -954,6 +1045,9 @@ fn enters_names(want: Option<Want>) -> bool
 
 /// A `}`, as it is inserted.
 const RIGHT_BRACE: Token = Token::Char { cat: 2, code: 125 };
+
+/// A space token.
+const SPACE: Token = Token::Char { cat: 10, code: 32 };
 
 /// What comes behind the hundredth report.
 const HUNDRED_LINE: &[u8] = b"(That makes 100 errors; please try again.)\n";

@@ -1,7 +1,9 @@
 // What the engine makes of a token.
-ghost use Rattle.std.specs.Prelude.{◌≡◌};
-ghost use Rattle.plain_machine.specs.Plan.{Page, wanted, stomach};
+ghost use Rattle.std.specs.Prelude.{◌≡◌, true, List, []};
+ghost use Rattle.plain_state.specs.States.{Move};
+ghost use Rattle.plain_machine.specs.Plan.{Page, wanted, stomach, called};
 ghost use Rattle.frames.specs.Sees.{want_of};
+ghost use Rattle.frames.specs.Resumes.{is_built};
 ghost use Rattle.tex_program.specs.Begins.{onward_moves, outcome_of_last, IsNoFeed, IsNoBegin};
 
 use crate::meaning::{END, MESSAGE, RELAX, name_of};
@@ -40,7 +42,7 @@ impl Last {
 /// What is made of a token.
 #[derive(Clone, Copy)]
 pub enum Onward {
-    /// It is dropped: a space that isn't wanted, or `\relax`.
+    /// It is dropped: a space that isn't wanted, `\relax`, or a macro without a list.
     Skip,
     /// The innermost reading is fed with it.
     Feed,
@@ -55,17 +57,20 @@ pub enum Onward {
 
 /// What becomes of a token that a reading wants.
 pub fn react(want: Want, seen: Seen) -> Onward
-    ensures moves { (page : Page) → wanted page (want_of want) seen ≡ onward_moves page seen result }
+    ensures moves { (page : Page) (feeds : List Move) → called page seen.token ≡ [] → wanted page (want_of want) feeds seen ≡ onward_moves page feeds seen result }
     ensures kind { IsNoBegin result }
 {
     match (want, seen.meaning) {
         (Want::Raw, _) => Onward::Feed,
         (Want::Expanded, Meaning::Undefined) => Onward::Report(Report::UndefinedName),
+        (Want::Expanded, Meaning::Macro { .. }) => Onward::Skip,
         (Want::Expanded, _) => Onward::Feed,
         (Want::Nonblank, Meaning::Undefined) => Onward::Report(Report::UndefinedName),
+        (Want::Nonblank, Meaning::Macro { .. }) => Onward::Skip,
         (Want::Nonblank, Meaning::Char { cat: 10, code: _ }) => Onward::Skip,
         (Want::Nonblank, _) => Onward::Feed,
         (Want::Command, Meaning::Undefined) => Onward::Report(Report::UndefinedName),
+        (Want::Command, Meaning::Macro { .. }) => Onward::Skip,
         (Want::Command, Meaning::Char { cat: 10, code: _ }) => Onward::Skip,
         (Want::Command, Meaning::RelaxMarked) => Onward::Skip,
         (Want::Command, Meaning::Prim(RELAX)) => Onward::Skip,
@@ -75,18 +80,19 @@ pub fn react(want: Want, seen: Seen) -> Onward
 
 /// What becomes of a token where no reading is open.
 pub fn obey(seen: Seen) -> Onward
-    ensures moves { (page : Page) → stomach page seen ≡ onward_moves page seen result }
+    ensures moves { (page : Page) (feeds : List Move) → is_built seen.meaning ≡ true → called page seen.token ≡ [] → stomach page seen ≡ onward_moves page feeds seen result }
     ensures kind { IsNoFeed result }
 {
     match seen.meaning {
         Meaning::Prim(CATCODE) => Onward::Begin(Kind::Catcode),
         Meaning::Prim(MESSAGE) => Onward::Begin(Kind::Message(name_of(seen.token))),
         Meaning::Prim(END) => Onward::Finish,
-        Meaning::Prim(LONG) => Onward::Begin(Kind::Prefixed(true)),
-        Meaning::Prim(OUTER) => Onward::Begin(Kind::Prefixed(true)),
-        Meaning::Prim(GLOBAL) => Onward::Begin(Kind::Prefixed(false)),
+        Meaning::Prim(LONG) => Onward::Begin(Kind::Prefixed(true, false)),
+        Meaning::Prim(OUTER) => Onward::Begin(Kind::Prefixed(false, true)),
+        Meaning::Prim(GLOBAL) => Onward::Begin(Kind::Prefixed(false, false)),
         Meaning::Prim(RELAX) => Onward::Skip,
         Meaning::RelaxMarked => Onward::Skip,
+        Meaning::Macro { .. } => Onward::Skip,
         Meaning::Undefined => Onward::Report(Report::UndefinedName),
         _ => Onward::Line,
     }

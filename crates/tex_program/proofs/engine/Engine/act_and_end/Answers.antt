@@ -16,6 +16,7 @@ pub returns-clause-rule : goal.returns-clause-rule
 returns-clause-rule g c = λ sizes f r rs here.
     let e = c.args.self.now in let e1 = c.act.new.self in let a = c.act.ensures in
     let sized = sized_still sizes e e1 a.sizes a.frames.outer (ap (λ (i : _). i.sizes) a.input) a.names a.reports here.sized in
+    let there = ends_still sizes e e1 (Flag true) r rs a.frames sized (ap (λ (i : _). i.making) a.input ∙ here.idle) here in
     ends_behind_moves sizes e e1 c.end.new.self r rs f _ _ (effect (state_of e (r ∷ rs)) (effect_of e.input.gathered c.args.effect)) (Flag true)
     (c.in_ok-act.ensures.did sizes f (r ∷ rs)) (effect_none (state_of e (r ∷ rs)) (effect_of e.input.gathered c.args.effect)) c.end.ensures.same
-    (c.end.ensures.stands sizes rs (ends_still sizes e e1 rs a.frames sized (ap (λ (i : _). i.making) a.input ∙ here.idle) here))
+    (c.end.ensures.lists sizes r rs there) (c.end.ensures.stands sizes r rs there)

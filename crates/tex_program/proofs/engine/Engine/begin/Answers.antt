@@ -7,11 +7,11 @@ use Rattle.tex_program.proofs.Feeding.{begins_on}
 use Rattle.tex_program.proofs.engine.Engine.begin.Goals as goal
 
 pub returns-clause-stands : goal.returns-clause-stands
-returns-clause-stands c = λ sizes work h.
+returns-clause-stands c = λ sizes work h lone.
     let f = c.new.ensures in
     let a = c.first_ask-self.ensures in
     let list = c.in_ok-begin_list.ensures.ok in
     begins_on sizes c.args.self.now _ c.args.waits c.new.result _ work (search rules) h
     (ap (λ (e : Engine). e.outer.items) c.wait.ensures ∙ ap (λ (e : Engine). e.outer.items ++ option_to_list c.args.waits) list) refl
     (ap (λ (e : Engine). e.input.gathered) c.wait.ensures ∙ ap (λ (e : Engine). e.input.gathered) list)
-    (record { answer = a.answer; none = a.none; untold = a.untold; waits = subst (λ (x : Frame). InnerWaits c.first_ask-self.result x) (sym f.is) a.waits; stands = f.stands; list = f.list; kind = f.kind; builds = f.builds; shallow = f.shallow })
+    (record { answer = a.answer; none = a.none; untold = a.untold; waits = subst (λ (x : Frame). InnerWaits c.first_ask-self.result x) (sym f.is) a.waits; stands = f.stands; list = f.list; kind = f.kind; builds = f.builds; shallow = f.shallow }) lone

@@ -1,4 +1,6 @@
-use Rattle.tex_program.proofs.Growing.{begun_stands, with_light}
+use Rattle.plain_state.specs.States.{fresh}
+use Rattle.frames.specs.Sees.{kind_of}
+use Rattle.tex_program.proofs.Growing.{begun_stands, with_light, lone_behind}
 use Rattle.tex_program.proofs.engine.Engine.begin_with.Goals as goal
 
 pub returns-clause-light : goal.returns-clause-light
@@ -7,6 +9,6 @@ returns-clause-light c =
     with_light c.args.self.now c.begin.new.self c.feed_frame.new.self c.args.kind b.one b.is_open b.top b.same.pending c.feed_frame.ensures.light
 
 pub returns-clause-stands : goal.returns-clause-stands
-returns-clause-stands c = λ sizes work h.
+returns-clause-stands c = λ sizes work built h.
     let b = c.in_ok-begin.ensures in
-    begun_stands sizes c.begin.new.self c.feed_frame.new.self _ c.args.seen work b.is_open b.takes b.asks b.fresh (c.feed_frame.ensures.stands sizes) (b.stands sizes work h)
+    begun_stands sizes c.begin.new.self c.feed_frame.new.self _ c.args.seen work b.is_open b.takes b.asks b.fresh built (c.feed_frame.ensures.stands sizes) (b.stands sizes work h (lone_behind sizes c.args.self.now c.args.waits (fresh (kind_of c.args.kind)) work h))

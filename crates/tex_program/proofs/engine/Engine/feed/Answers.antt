@@ -1,5 +1,11 @@
-use Rattle.std.proofs.Common.{◌∙◌}
-use Rattle.tex_program.proofs.Growing.{fed_refusal, token_stands}
+use Rattle.std.proofs.Common.{◌≡◌, ◌∙◌, ap, sym, subst, rules}
+use Rattle.plain_state.specs.States.{State}
+use Rattle.frames.specs.Resumes.{lists_after}
+use Rattle.tex_program.specs.declared.engine.Engine.{Engine}
+use Rattle.tex_program.specs.declared.broken.Broken.TheVariants as broken
+use Rattle.tex_program.specs.Stands.{SameState, state_of, top_grows}
+use Rattle.tex_program.specs.Rules.{feeds_of, Cuts}
+use Rattle.tex_program.proofs.Growing.{token_stands, token_did, token_cuts}
 use Rattle.tex_program.proofs.Joining.{same_err}
 use Rattle.tex_program.proofs.engine.Engine.feed.Goals as goal
 
@@ -7,8 +13,13 @@ pub returns-clause-stands : goal.returns-clause-stands
 returns-clause-stands c = λ sizes work h.
     token_stands sizes c.args.self.now c.grow.new.self c.feed_frame.new.self c.args.seen work h c.grow.ensures.small c.in_ok-grow.ensures.ok c.feed_frame.ensures.none (c.feed_frame.ensures.stands sizes)
 
-pub returns-clause-fits : goal.returns-clause-fits
-returns-clause-fits c = λ sizes work h. fed_refusal sizes c.args.self.now c.args.seen work h ∙ c.in_ok-grow.ensures.fits
+pub returns-clause-did : goal.returns-clause-did
+returns-clause-did c = λ sizes w work h. let e = c.args.self.now in let e2 = c.feed_frame.new.self in
+    let same : SameState e e2 = search rules in
+    let lists : e2.input.gathered ≡ lists_after (top_grows e.top c.args.seen) c.args.seen e.input.gathered = ap (λ (i : _). i.gathered) c.feed_frame.ensures.lists ∙ ap (λ (y : Engine). y.input.gathered) c.in_ok-grow.ensures.ok in
+    token_did sizes e e2 c.args.seen same lists work w h c.in_ok-grow.ensures.fits
 
 pub returns-in_err-grow-clause-refused : goal.returns-in_err-grow-clause-refused
-returns-in_err-grow-clause-refused c = same_err c.from_residual.result _ _ c.from_residual.ensures.1 (λ sizes work h. fed_refusal sizes c.args.self.now c.args.seen work h ∙ c.in_err-grow.ensures.refused)
+returns-in_err-grow-clause-refused c = let e = c.args.self.now in let i = c.in_err-grow in
+    same_err c.from_residual.result _ _ c.from_residual.ensures.1
+    (λ sizes w work h. subst (λ (y : Engine). Cuts sizes (state_of e work) y work w w (feeds_of work c.args.seen) (broken.Full i.field-0.0)) (sym i.ensures.err) (token_cuts sizes e c.args.seen work w i.field-0.0 h i.ensures.grows i.ensures.refused))

@@ -1,22 +1,28 @@
-use Rattle.std.proofs.Common.{[], ◌∷◌, refl}
+use Rattle.std.proofs.Common.{[], ◌∷◌, refl, sym, ap, List}
+use Rattle.tex_defs.specs.declared.Token.{Token}
 use Rattle.plain_state.specs.Readings.{Tok}
-use Rattle.plain_state.specs.States.{Feeds, Begun, fed_with, fresh}
+use Rattle.plain_state.specs.States.{Begun, fed_with, fresh}
 use Rattle.frames.specs.Sees.{kind_of}
-use Rattle.tex_program.specs.Stands.{FeedsHere}
+use Rattle.tex_program.specs.declared.engine.Engine.{Engine}
+use Rattle.tex_program.specs.declared.broken.Broken.TheVariants as broken
+use Rattle.tex_program.specs.Stands.{state_of}
+use Rattle.tex_program.specs.Rules.{feeds_of}
+use Rattle.tex_program.proofs.Asking.{same_column, same_column_cuts}
+use Rattle.tex_program.proofs.Stepping.{feeds_none}
 use Rattle.tex_program.proofs.Counting.{counts_of}
 use Rattle.tex_program.proofs.Joining.{same_err, ok_to, err_to}
-use Rattle.tex_program.proofs.Reporting.{full_out, reading_went, line_went}
+use Rattle.tex_program.proofs.Reporting.{full_out, reading_went, line_went, lone_first}
 use Rattle.tex_program.proofs.engine.Engine.go_on.Goals as goal
 
 pub returns-in_err-feed-in-Feed-clause-err : goal.returns-in_err-feed-in-Feed-clause-err
 returns-in_err-feed-in-Feed-clause-err g c = let e = c.args.self.now in let i = c.in_err-feed-in-Feed in
     rw c.in-Feed.is (same_err c.from_residual.result _ _ c.from_residual.ensures.1
-    (λ sizes f work fits. full_out sizes e c.feed.new.self f _ work (Feeds c.args.seen) [] i.field-0.0 i.ensures.err (i.ensures.refused sizes work (record { want = fits.0.0; asks = fits.0.1; stands = fits.1 }))))
+    (λ sizes f work fits. same_column_cuts sizes (state_of e work) c.feed.new.self work f _ e.in_line (feeds_of work c.args.seen) (broken.Full i.field-0.0) (ap (λ (y : Engine). y.in_line) i.ensures.err) (i.ensures.refused sizes _ work fits)))
 
 pub returns-in_err-begin-in-Begin-clause-err : goal.returns-in_err-begin-in-Begin-clause-err
 returns-in_err-begin-in-Begin-clause-err g c = let e = c.args.self.now in let i = c.in_err-begin-in-Begin in let r = c.from_residual-in_err-begin-in-Begin in
     rw c.in-Begin.is (same_err r.result _ _ r.ensures.1
-    (λ sizes f work fits. full_out sizes e c.begin.new.self f _ work (Begun (kind_of c.in-Begin.kind)) [] i.field-0.0 i.ensures.err (i.ensures.refused sizes work (counts_of sizes e work fits.1))))
+    (λ sizes f work fits. full_out sizes e c.begin.new.self f _ work (Begun (kind_of c.in-Begin.kind)) [] i.field-0.0 i.ensures.err (i.ensures.refused sizes work (counts_of sizes e work fits.1.1))))
 
 pub returns-in_err-token_line-in-Line-clause-err : goal.returns-in_err-token_line-in-Line-clause-err
 returns-in_err-token_line-in-Line-clause-err g c = let i = c.in_err-token_line-in-Line in let r = c.from_residual-in_err-token_line-in-Line in
@@ -24,13 +30,18 @@ returns-in_err-token_line-in-Line-clause-err g c = let i = c.in_err-token_line-i
 
 pub returns-in_ok-feed-in-Feed-clause-rule : goal.returns-in_ok-feed-in-Feed-clause-rule
 returns-in_ok-feed-in-Feed-clause-rule g c = let e = c.args.self.now in let i = c.in_ok-feed-in-Feed.ensures in
-    rw c.in-Feed.is (λ sizes f work fits. let here : FeedsHere sizes e work = record { want = fits.0.0; asks = fits.0.1; stands = fits.1 } in
-    reading_went sizes e c.feed.new.self work (fed_with (Tok c.args.seen) work) f _ (Feeds c.args.seen) tt refl (i.fits sizes work here) refl i.same (i.stands sizes work here))
+    rw c.in-Feed.is (λ sizes f work fits. same_column sizes (state_of e work) c.feed.new.self f _ e.in_line (feeds_of work c.args.seen) 0 i.same.others.in_line (record {
+      work' = fed_with (Tok c.args.seen) work;
+      stands = i.stands sizes work fits;
+      did = i.did sizes _ work fits;
+      count = feeds_none work c.args.seen;
+    }))
 
 pub returns-in_ok-begin-in-Begin-clause-rule : goal.returns-in_ok-begin-in-Begin-clause-rule
 returns-in_ok-begin-in-Begin-clause-rule g c = let e = c.args.self.now in let i = c.in_ok-begin-in-Begin.ensures in
     rw c.in-Begin.is (λ sizes f work fits.
-    reading_went sizes e c.begin.new.self work (fresh (kind_of c.in-Begin.kind) ∷ work) f _ (Begun (kind_of c.in-Begin.kind)) tt refl (i.fits sizes work (counts_of sizes e work fits.1)) refl i.same (i.stands sizes work fits))
+    reading_went sizes e c.begin.new.self work (fresh (kind_of c.in-Begin.kind) ∷ work) f _ (Begun (kind_of c.in-Begin.kind)) tt refl (i.fits sizes work (counts_of sizes e work fits.1.1)) (ap (λ (l : List (List Token)). record (state_of e work) { work = fresh (kind_of c.in-Begin.kind) ∷ work; gathered = l }) (sym i.lists)) i.same
+    (i.stands sizes work (fits.0, fits.1.1) (lone_first sizes e (fresh (kind_of c.in-Begin.kind)) work fits.0 fits.1.0 fits.1.1)))
 
 pub returns-in-Report-clause-rule : goal.returns-in-Report-clause-rule
 returns-in-Report-clause-rule g c = rw c.in-Report.is c.report_only.ensures.rule

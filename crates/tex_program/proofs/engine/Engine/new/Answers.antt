@@ -6,6 +6,7 @@ use Rattle.name_table.specs.Strings.{Strings}
 use Rattle.frames.specs.Stack.{Stack}
 use Rattle.input_state.specs.Stored.{Stored, unread}
 use Rattle.tex_program.proofs.Counting.{small_depth}
+use Rattle.tex_program.proofs.Cells.{known_names, first_cells}
 use Rattle.tex_program.proofs.engine.Engine.new.Goals as goal
 
 -- the job's file, none of its bytes read
@@ -24,6 +25,7 @@ returns c = let i = c.in_ok-input.ensures in let n = c.in-Ok.ensures in let o = 
         sized = record {
           small = small_depth c.args.sizes.now c.requires;
           few_reports = omega arith;
+          known = known_names _ names;
           own = refl;
           outer = ap (λ (x : Stack). x.size) o;
           input = ap (λ (x : Stored). x.sizes) i;
@@ -31,8 +33,9 @@ returns c = let i = c.in_ok-input.ensures in let n = c.in-Ok.ensures in let o = 
         };
         idle = making;
         readings = (ap (λ (x : Stack). x.items) o, ap (λ (x : Stored). x.gathered) i);
+        lone = tt;
       };
-      state = λ file. cc (pending, making, names, others, c.initial_categories.ensures);
+      state = λ file. cc (pending, making, names, others, first_cells _ names, ap (λ (x : Stored). x.gathered) i, c.initial_categories.ensures);
       column = refl;
       reports = refl;
       names = names;

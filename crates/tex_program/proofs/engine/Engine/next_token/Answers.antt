@@ -1,50 +1,49 @@
 use Rattle.std.proofs.Common.{[], sym, ap, ◌∙◌, arith}
-use Rattle.plain_state.specs.Names.{seen}
 use Rattle.plain_state.specs.Reports.{InvalidCharacter}
-use Rattle.plain_machine.specs.Plan.{Page, checked, reported}
+use Rattle.plain_machine.specs.Plan.{Page, reported}
 use Rattle.input_state.specs.Reads.{gives_step}
 use Rattle.input_state.specs.Stored.{Stored}
 use Rattle.tex_program.specs.declared.broken.Broken.TheVariants as broken
 use Rattle.tex_program.specs.Stands.{page_of}
 use Rattle.tex_program.specs.Steps.{freed, pending_weight}
-use Rattle.tex_program.specs.Rules.{onward_of, check_of, name_moves}
+use Rattle.tex_program.specs.Rules.{onward_of, scanning_of}
 use Rattle.tex_program.proofs.Joining.{same_err, ok_to, err_to, ok_both, onward_by}
 use Rattle.tex_program.proofs.Cutting.{cuts_by}
-use Rattle.tex_program.proofs.Pulling.{token_rule, token_cuts, lexeme_rule, lexeme_cuts, taken_rule, line_cuts, skipped_rule, skipped_cuts, closed_rule, closed_cuts, no_end_rule, no_end_cuts, token_at, lexeme_at, taken_at, invalid_at, over_at, nothing_left, takes_still, takes_stands, token_page, lexeme_page, invalid_page, file_gone, lighter_skip, lighter_close, lighter_after, steps_handed, steps_freed, steps_halted, not_free, rule_as}
+use Rattle.tex_program.proofs.Pulling.{token_rule, token_cuts, token_fits, token_moves_still, name_moves_still, checked_still, lexeme_rule, lexeme_cuts, taken_rule, line_cuts, skipped_rule, skipped_cuts, closed_rule, closed_cuts, no_end_rule, no_end_cuts, token_at, lexeme_at, taken_at, invalid_at, over_at, nothing_left, takes_still, takes_stands, token_page, lexeme_page, invalid_page, file_gone, lighter_skip, lighter_close, lighter_after, steps_handed, steps_freed, steps_halted, not_free, rule_as}
 use Rattle.tex_program.proofs.engine.Engine.next_token.Goals as goal
 
 pub returns-in_err-token-clause-err : goal.returns-in_err-token-clause-err
 returns-in_err-token-clause-err g c = let e = c.args.self.now in let i = c.in_err-token in let r = i.ensures.err in
     same_err c.from_residual.result (broken.Full i.field-0.0) _ c.from_residual.ensures.1
-    (λ sizes f work takes. line_cuts sizes e c.pull.new.self c.pull.ensures.others work _ (page_of e) c.args.want (onward_of (page_of e) c.args.want) (check_of e work) r.line r.next i.field-0.0 r.takes r.refused
+    (λ sizes f work takes. line_cuts sizes e c.pull.new.self c.pull.ensures.others work _ (page_of e) c.args.want (scanning_of e work) (onward_of (page_of e) c.args.want work) r.line r.next i.field-0.0 r.takes r.refused
     (takes_stands sizes c.args.want e work takes).sized.input r.stays)
 
 pub returns-in-Token-clause-rule : goal.returns-in-Token-clause-rule
 returns-in-Token-clause-rule g c = let e = c.args.self.now in let i = c.pull.new.self in let t = c.in-Token.token in let o = c.pull.ensures.others in let p = token_at _ _ c.args.self.now.input c.pull.new.self c.in_ok-token.ensures.ok t c.in-Token.is in
-    ok_to c.hand_on.result (λ ruled h sizes f work takes. token_rule sizes e i o work _ (page_of e) c.args.want (onward_of (page_of e) c.args.want) (check_of e work) t p _ c.hand_on.new.self ruled
-    (onward_by sizes _ c.hand_on.new.self _ _ _ _ ruled (ap (λ (x : Page). onward_of x c.args.want (seen t)) (sym (token_page e i t p))) (h sizes f work (takes_still sizes e i o c.args.want work takes)))) c.hand_on.ensures.rule
+    ok_to c.meet.result (λ ruled h sizes f work takes. token_rule sizes e i o work _ (page_of e) c.args.want (scanning_of e work) (onward_of (page_of e) c.args.want work) t p.0 (token_fits sizes e work t p.1 (takes_stands sizes c.args.want e work takes).sized.input) _ c.meet.new.self ruled
+    (onward_by sizes _ c.meet.new.self _ _ _ _ ruled (token_moves_still sizes e i o work c.args.want t (token_page e i t p.0)) (h sizes f work (takes_still sizes e i o c.args.want work takes)))) c.meet.ensures.rule
 
 pub returns-in-Token-clause-err : goal.returns-in-Token-clause-err
 returns-in-Token-clause-err g c = let e = c.args.self.now in let i = c.pull.new.self in let t = c.in-Token.token in let o = c.pull.ensures.others in let p = token_at _ _ c.args.self.now.input c.pull.new.self c.in_ok-token.ensures.ok t c.in-Token.is in
-    err_to c.hand_on.result (λ b h sizes f work takes. token_cuts sizes e i o work _ (page_of e) c.args.want (onward_of (page_of e) c.args.want) (check_of e work) t p _ c.hand_on.new.self b
-    (cuts_by sizes _ c.hand_on.new.self work _ _ _ _ b (ap (λ (x : Page). onward_of x c.args.want (seen t)) (sym (token_page e i t p))) (h sizes f work (takes_still sizes e i o c.args.want work takes)))) c.hand_on.ensures.err
+    err_to c.meet.result (λ b h sizes f work takes. token_cuts sizes e i o work _ (page_of e) c.args.want (scanning_of e work) (onward_of (page_of e) c.args.want work) t p.0 (token_fits sizes e work t p.1 (takes_stands sizes c.args.want e work takes).sized.input) _ c.meet.new.self b
+    (cuts_by sizes _ c.meet.new.self work _ _ _ _ b (token_moves_still sizes e i o work c.args.want t (token_page e i t p.0)) (h sizes f work (takes_still sizes e i o c.args.want work takes)))) c.meet.ensures.err
 
 pub returns-in-Token-clause-step : goal.returns-in-Token-clause-step
 returns-in-Token-clause-step g c = let p = token_at _ _ c.args.self.now.input c.pull.new.self c.in_ok-token.ensures.ok c.in-Token.token c.in-Token.is in
-    ok_to c.hand_on.result (λ ruled h. steps_handed ruled _ h (ap gives_step p)) c.hand_on.ensures.on
+    ok_to c.meet.result (λ ruled h. steps_handed ruled _ h (ap gives_step p.0)) c.meet.ensures.on
 
 pub returns-in-Token-clause-light : goal.returns-in-Token-clause-light
-returns-in-Token-clause-light g c = ok_to c.hand_on.result (λ ruled h free. absurd (h free)) c.hand_on.ensures.on
+returns-in-Token-clause-light g c = ok_to c.meet.result (λ ruled h free. absurd (h free)) c.meet.ensures.on
 
 pub returns-in-Lexeme-clause-rule : goal.returns-in-Lexeme-clause-rule
 returns-in-Lexeme-clause-rule g c = let e = c.args.self.now in let i = c.pull.new.self in let o = c.pull.ensures.others in let p = lexeme_at _ _ c.args.self.now.input c.pull.new.self c.in_ok-token.ensures.ok c.in-Lexeme.lexed c.in-Lexeme.is in
-    ok_to c.hand_name.result (λ ruled h sizes f work takes. lexeme_rule sizes e i o work _ (page_of e) c.args.want (onward_of (page_of e) c.args.want) (check_of e work) p.lexeme p.pulls _ c.hand_name.new.self ruled
-    (onward_by sizes _ c.hand_name.new.self _ _ _ _ ruled (ap (λ (x : Page). name_moves x c.args.want p.lexeme) (sym (lexeme_page e i p.lexeme p.pulls))) (h sizes f work p.lexeme p.is (takes_still sizes e i o c.args.want work takes)))) c.hand_name.ensures.rule
+    ok_to c.hand_name.result (λ ruled h sizes f work takes. lexeme_rule sizes e i o work _ (page_of e) c.args.want (scanning_of e work) (onward_of (page_of e) c.args.want work) p.lexeme p.pulls _ c.hand_name.new.self ruled
+    (onward_by sizes _ c.hand_name.new.self _ _ _ _ ruled (name_moves_still sizes e i o work c.args.want p.lexeme (lexeme_page e i p.lexeme p.pulls)) (h sizes f work p.lexeme p.is (takes_still sizes e i o c.args.want work takes)))) c.hand_name.ensures.rule
 
 pub returns-in-Lexeme-clause-err : goal.returns-in-Lexeme-clause-err
 returns-in-Lexeme-clause-err g c = let e = c.args.self.now in let i = c.pull.new.self in let o = c.pull.ensures.others in let p = lexeme_at _ _ c.args.self.now.input c.pull.new.self c.in_ok-token.ensures.ok c.in-Lexeme.lexed c.in-Lexeme.is in
-    err_to c.hand_name.result (λ b h sizes f work takes. lexeme_cuts sizes e i o work _ (page_of e) c.args.want (onward_of (page_of e) c.args.want) (check_of e work) p.lexeme p.pulls _ c.hand_name.new.self b
-    (cuts_by sizes _ c.hand_name.new.self work _ _ _ _ b (ap (λ (x : Page). name_moves x c.args.want p.lexeme) (sym (lexeme_page e i p.lexeme p.pulls))) (h sizes f work p.lexeme p.is (takes_still sizes e i o c.args.want work takes)))) c.hand_name.ensures.err
+    err_to c.hand_name.result (λ b h sizes f work takes. lexeme_cuts sizes e i o work _ (page_of e) c.args.want (scanning_of e work) (onward_of (page_of e) c.args.want work) p.lexeme p.pulls _ c.hand_name.new.self b
+    (cuts_by sizes _ c.hand_name.new.self work _ _ _ _ b (name_moves_still sizes e i o work c.args.want p.lexeme (lexeme_page e i p.lexeme p.pulls)) (h sizes f work p.lexeme p.is (takes_still sizes e i o c.args.want work takes)))) c.hand_name.ensures.err
 
 pub returns-in-Lexeme-clause-step : goal.returns-in-Lexeme-clause-step
 returns-in-Lexeme-clause-step g c = let p = lexeme_at _ _ c.args.self.now.input c.pull.new.self c.in_ok-token.ensures.ok c.in-Lexeme.lexed c.in-Lexeme.is in
@@ -55,7 +54,7 @@ returns-in-Lexeme-clause-light g c = ok_to c.hand_name.result (λ ruled h free. 
 
 pub returns-in-Taken-clause-rule : goal.returns-in-Taken-clause-rule
 returns-in-Taken-clause-rule g c = let e = c.args.self.now in let i = c.pull.new.self in let o = c.pull.ensures.others in let p = taken_at _ _ c.args.self.now.input c.pull.new.self c.in_ok-token.ensures.ok c.in-Taken.is in
-    λ sizes f work takes. taken_rule sizes e i o work _ (page_of e) c.args.want (onward_of (page_of e) c.args.want) (check_of e work) _ p.0 p.1 (takes_stands sizes c.args.want e work takes).sized.input
+    λ sizes f work takes. taken_rule sizes e i o work _ (page_of e) c.args.want (scanning_of e work) (onward_of (page_of e) c.args.want work) _ p.0 p.1 (takes_stands sizes c.args.want e work takes).sized.input
     (takes_stands sizes c.args.want _ work (takes_still sizes e i o c.args.want work takes))
 
 pub returns-in-Taken-clause-step : goal.returns-in-Taken-clause-step
@@ -64,12 +63,12 @@ returns-in-Taken-clause-step g c = ap gives_step (taken_at _ _ c.args.self.now.i
 pub returns-in_err-ruled-in-Invalid-clause-err : goal.returns-in_err-ruled-in-Invalid-clause-err
 returns-in_err-ruled-in-Invalid-clause-err g c = let e = c.args.self.now in let n = c.in_err-ruled-in-Invalid in let i = c.pull.new.self in let o = c.pull.ensures.others in let p = invalid_at _ _ c.args.self.now.input c.pull.new.self c.in_ok-token.ensures.ok c.in-Invalid.is in
     same_err c.from_residual-in_err-ruled-in-Invalid.result n.field-0.0 _ c.from_residual-in_err-ruled-in-Invalid.ensures.1
-    (λ sizes f work takes. skipped_cuts sizes e i o work _ (page_of e) c.args.want (onward_of (page_of e) c.args.want) (check_of e work) p _ c.report_only.new.self n.field-0.0
+    (λ sizes f work takes. skipped_cuts sizes e i o work _ (page_of e) c.args.want (scanning_of e work) (onward_of (page_of e) c.args.want work) p _ c.report_only.new.self n.field-0.0
     (cuts_by sizes _ c.report_only.new.self work _ _ _ _ n.field-0.0 (ap (λ (x : Page). reported x InvalidCharacter []) (sym (invalid_page e i p))) (n.ensures.err sizes f work (takes_stands sizes c.args.want e work takes).sized.few_reports)))
 
 pub returns-in_ok-ruled-in-Invalid-clause-rule : goal.returns-in_ok-ruled-in-Invalid-clause-rule
 returns-in_ok-ruled-in-Invalid-clause-rule g c = let e = c.args.self.now in let n = c.in_ok-ruled-in-Invalid in let e2 = c.report_only.new.self in let i = c.pull.new.self in let o = c.pull.ensures.others in let p = invalid_at _ _ c.args.self.now.input c.pull.new.self c.in_ok-token.ensures.ok c.in-Invalid.is in
-    λ sizes f work takes. rule_as sizes _ e2 _ _ _ (freed n.ruled) _ c.freely.ensures (skipped_rule sizes e i o work _ (page_of e) c.args.want (onward_of (page_of e) c.args.want) (check_of e work) p _ e2 n.ruled
+    λ sizes f work takes. rule_as sizes _ e2 _ _ _ (freed n.ruled) _ c.freely.ensures (skipped_rule sizes e i o work _ (page_of e) c.args.want (scanning_of e work) (onward_of (page_of e) c.args.want work) p _ e2 n.ruled
     (onward_by sizes _ e2 _ _ _ _ n.ruled (ap (λ (x : Page). reported x InvalidCharacter []) (sym (invalid_page e i p))) (n.ensures.rule sizes f work (takes_stands sizes c.args.want _ work (takes_still sizes e i o c.args.want work takes)))))
 
 pub returns-in_ok-ruled-in-Invalid-clause-step : goal.returns-in_ok-ruled-in-Invalid-clause-step
@@ -84,13 +83,13 @@ returns-in_ok-ruled-in-Invalid-clause-light g c = λ free. let e = c.args.self.n
 pub returns-in_err-ruled-in-FileOver-clause-err : goal.returns-in_err-ruled-in-FileOver-clause-err
 returns-in_err-ruled-in-FileOver-clause-err g c = let e = c.args.self.now in let n = c.in_err-ruled-in-FileOver in let i = c.pull.new.self in let o = c.pull.ensures.others in let p = over_at _ _ c.args.self.now.input c.pull.new.self c.in_ok-token.ensures.ok c.in-FileOver.is in
     same_err c.from_residual-in_err-ruled-in-FileOver.result n.field-0.0 _ c.from_residual-in_err-ruled-in-FileOver.ensures.1
-    (λ sizes f work takes. closed_cuts sizes e i o work _ (page_of e) c.args.want (onward_of (page_of e) c.args.want) (check_of e work) p _ c.check.new.self n.field-0.0
-    (cuts_by sizes _ c.check.new.self work _ _ _ _ n.field-0.0 (ap (λ (x : Page). checked e.categories x work) (sym (file_gone e i p))) (n.ensures.err sizes f work (c.args.want, takes_still sizes e i o c.args.want work takes))))
+    (λ sizes f work takes. closed_cuts sizes e i o work _ (page_of e) c.args.want (scanning_of e work) (onward_of (page_of e) c.args.want work) p _ c.check.new.self n.field-0.0
+    (cuts_by sizes _ c.check.new.self work _ _ _ _ n.field-0.0 (checked_still sizes e i o work (file_gone e i p)) (n.ensures.err sizes f work (c.args.want, takes_still sizes e i o c.args.want work takes))))
 
 pub returns-in_ok-ruled-in-FileOver-clause-rule : goal.returns-in_ok-ruled-in-FileOver-clause-rule
 returns-in_ok-ruled-in-FileOver-clause-rule g c = let e = c.args.self.now in let n = c.in_ok-ruled-in-FileOver in let e2 = c.check.new.self in let i = c.pull.new.self in let o = c.pull.ensures.others in let p = over_at _ _ c.args.self.now.input c.pull.new.self c.in_ok-token.ensures.ok c.in-FileOver.is in
-    λ sizes f work takes. rule_as sizes _ e2 _ _ _ (freed n.ruled) _ c.freely-in-FileOver.ensures (closed_rule sizes e i o work _ (page_of e) c.args.want (onward_of (page_of e) c.args.want) (check_of e work) p _ e2 n.ruled
-    (onward_by sizes _ e2 _ _ _ _ n.ruled (ap (λ (x : Page). checked e.categories x work) (sym (file_gone e i p))) (n.ensures.rule sizes f work (c.args.want, takes_still sizes e i o c.args.want work takes))))
+    λ sizes f work takes. rule_as sizes _ e2 _ _ _ (freed n.ruled) _ c.freely-in-FileOver.ensures (closed_rule sizes e i o work _ (page_of e) c.args.want (scanning_of e work) (onward_of (page_of e) c.args.want work) p _ e2 n.ruled
+    (onward_by sizes _ e2 _ _ _ _ n.ruled (checked_still sizes e i o work (file_gone e i p)) (n.ensures.rule sizes f work (c.args.want, takes_still sizes e i o c.args.want work takes))))
 
 pub returns-in_ok-ruled-in-FileOver-clause-step : goal.returns-in_ok-ruled-in-FileOver-clause-step
 returns-in_ok-ruled-in-FileOver-clause-step g c = let n = c.in_ok-ruled-in-FileOver in
@@ -103,11 +102,11 @@ returns-in_ok-ruled-in-FileOver-clause-light g c = λ free. let e = c.args.self.
 
 pub returns-in-Nothing-clause-rule : goal.returns-in-Nothing-clause-rule
 returns-in-Nothing-clause-rule g c = let e = c.args.self.now in let i = c.pull.new.self in let o = c.pull.ensures.others in let p = nothing_left _ _ c.args.self.now.input c.pull.new.self c.in_ok-token.ensures.ok c.in-Nothing.is in
-    ok_both c.halt.result (λ ruled h now sizes f work takes. no_end_rule sizes e i o work _ (page_of e) c.args.want (onward_of (page_of e) c.args.want) (check_of e work) p.0 p.1 _ c.halt.new.self ruled _ now (h sizes f work)) c.halt.ensures.rule c.halt.ensures.ends
+    ok_both c.halt.result (λ ruled h now sizes f work takes. no_end_rule sizes e i o work _ (page_of e) c.args.want (scanning_of e work) (onward_of (page_of e) c.args.want work) p.0 p.1 _ c.halt.new.self ruled _ now (h sizes f work)) c.halt.ensures.rule c.halt.ensures.ends
 
 pub returns-in-Nothing-clause-err : goal.returns-in-Nothing-clause-err
 returns-in-Nothing-clause-err g c = let e = c.args.self.now in let i = c.pull.new.self in let o = c.pull.ensures.others in let p = nothing_left _ _ c.args.self.now.input c.pull.new.self c.in_ok-token.ensures.ok c.in-Nothing.is in
-    err_to c.halt.result (λ b h sizes f work takes. no_end_cuts sizes e i o work _ (page_of e) c.args.want (onward_of (page_of e) c.args.want) (check_of e work) p.0 p.1 _ c.halt.new.self b (h sizes f work)) c.halt.ensures.err
+    err_to c.halt.result (λ b h sizes f work takes. no_end_cuts sizes e i o work _ (page_of e) c.args.want (scanning_of e work) (onward_of (page_of e) c.args.want work) p.0 p.1 _ c.halt.new.self b (h sizes f work)) c.halt.ensures.err
 
 pub returns-in-Nothing-clause-step : goal.returns-in-Nothing-clause-step
 returns-in-Nothing-clause-step g c = ok_to c.halt.result (λ ruled h. steps_halted ruled _ _ h) c.halt.ensures.ends

@@ -5,7 +5,7 @@ use Rattle.frames.specs.Sees.{kind_of}
 use Rattle.plain_state.specs.States.{Begun, BegunWith, lending}
 use Rattle.tex_program.specs.Stands.{state_of}
 use Rattle.tex_program.specs.Rules.{world_of, DoesRule, Cuts, Went}
-use Rattle.tex_program.proofs.Asking.{by_none, by_ask, ends_here, waits_here, command_waits, command_lends, with_plan, begun_went, begun_with_went, refused_cuts, same_column, same_column_cuts, err_by, none_if, some_if}
+use Rattle.tex_program.proofs.Asking.{by_none, by_ask, done_here, act_here, waits_here, command_waits, command_lends, with_built, with_plan, begun_went, begun_with_went, refused_cuts, same_column, same_column_cuts, err_by, none_if, some_if}
 use Rattle.tex_program.proofs.Counting.{counts_of}
 use Rattle.tex_program.proofs.Joining.{ok_to, err_to, same_err}
 use Rattle.tex_program.proofs.engine.Engine.rule.Goals as goal
@@ -35,7 +35,7 @@ returns-in_ok-begin-in-None-clause-rule g c =
     let e = c.args.self.now in let i = c.in-Inner in let b = c.in_ok-begin-in-None.ensures in
     λ sizes f. by_ask sizes e (λ work plan. Went sizes (state_of e work) c.begin.new.self (world_of f (g.S.Sink.told c.args.out.now) e) (world_of f (g.S.Sink.told c.args.out.now) c.begin.new.self) plan 0) (Inner i.waits i.kind None)
     (some_if e.top _ c.is_none.ensures c.if-is_none.false) (i.is ∙ ap (Inner i.waits i.kind) c.in-None.is)
-    (λ r rs a. begun_went sizes e c.begin.new.self (r ∷ rs) f (g.S.Sink.told c.args.out.now) b.same (kind_of i.kind) (b.fits sizes (r ∷ rs) (counts_of sizes e (r ∷ rs) a.stands)) (b.stands sizes (r ∷ rs) (command_waits sizes e i.waits i.kind None r rs a)))
+    (λ r rs a. begun_went sizes e c.begin.new.self (r ∷ rs) f (g.S.Sink.told c.args.out.now) b.same (kind_of i.kind) (b.fits sizes (r ∷ rs) (counts_of sizes e (r ∷ rs) a.stands)) b.lists (b.stands sizes (r ∷ rs) (command_waits sizes e i.waits i.kind None r rs a) tt))
 
 pub returns-in_err-begin-in-None-clause-err : goal.returns-in_err-begin-in-None-clause-err
 returns-in_err-begin-in-None-clause-err g c =
@@ -52,7 +52,7 @@ returns-in_ok-begin_with-in-Some-clause-rule g c =
     λ sizes f. by_ask sizes e (λ work plan. Went sizes (state_of e work) c.begin_with.new.self (world_of f (g.S.Sink.told c.args.out.now) e) (world_of f (g.S.Sink.told c.args.out.now) c.begin_with.new.self) plan 0) (Inner i.waits i.kind (Some c.in-Some.seen))
     (some_if e.top _ c.is_none.ensures c.if-is_none.false) (i.is ∙ ap (Inner i.waits i.kind) c.in-Some.is)
     (λ r rs a. begun_with_went sizes e c.begin_with.new.self (r ∷ rs) f (g.S.Sink.told c.args.out.now) b.same (kind_of i.kind) c.in-Some.seen _ (with_plan sizes e i.waits i.kind c.in-Some.seen r rs a)
-    (b.fits sizes (r ∷ rs) (counts_of sizes e (r ∷ rs) a.stands)) (b.stands sizes (lending (r ∷ rs)) (command_lends sizes e i.waits i.kind (Some c.in-Some.seen) r rs a)))
+    (b.fits sizes (r ∷ rs) (counts_of sizes e (r ∷ rs) a.stands)) b.lists (b.stands sizes (lending (r ∷ rs)) (with_built sizes e i.waits i.kind c.in-Some.seen r rs a) (command_lends sizes e i.waits i.kind (Some c.in-Some.seen) r rs a)))
 
 pub returns-in_err-begin_with-in-Some-clause-err : goal.returns-in_err-begin_with-in-Some-clause-err
 returns-in_err-begin_with-in-Some-clause-err g c =
@@ -69,7 +69,7 @@ returns-in_ok-done-in-Done-clause-rule g c =
     λ sizes f. by_ask sizes e (λ work plan. Went sizes (state_of e work) c.done.new.self (world_of f (g.S.Sink.told c.args.out.now) e) (world_of f (g.S.Sink.told c.args.out.now) c.done.new.self) plan 0) (Done d.value d.back)
     (some_if e.top _ c.is_none.ensures c.if-is_none.false) d.is
     (λ r rs a. same_column sizes (state_of e (r ∷ rs)) c.done.new.self f (g.S.Sink.told c.args.out.now) e.in_line _ 0 b.column
-    (b.rule sizes (world_of f (g.S.Sink.told c.args.out.now) e) r rs (counts_of sizes e (r ∷ rs) a.stands) (ends_here sizes e (Done d.value d.back) r rs a) a.innermost.last))
+    (b.rule sizes (world_of f (g.S.Sink.told c.args.out.now) e) r rs (counts_of sizes e (r ∷ rs) a.stands) (done_here sizes e d.value d.back r rs a) a.innermost.last))
 
 pub returns-in_err-done-in-Done-clause-err : goal.returns-in_err-done-in-Done-clause-err
 returns-in_err-done-in-Done-clause-err g c =
@@ -78,14 +78,14 @@ returns-in_err-done-in-Done-clause-err g c =
     (λ sizes f. by_ask sizes e (λ work plan. Cuts sizes (state_of e work) c.done.new.self work (world_of f (g.S.Sink.told c.args.out.now) e) (world_of f (g.S.Sink.told c.args.out.now) c.done.new.self) plan b.field-0.0) (Done d.value d.back)
     (some_if e.top _ c.is_none.ensures c.if-is_none.false) d.is
     (λ r rs a. same_column_cuts sizes (state_of e (r ∷ rs)) c.done.new.self (r ∷ rs) f (g.S.Sink.told c.args.out.now) e.in_line _ b.field-0.0 b.ensures.column
-    (b.ensures.err sizes (world_of f (g.S.Sink.told c.args.out.now) e) r rs (counts_of sizes e (r ∷ rs) a.stands) (ends_here sizes e (Done d.value d.back) r rs a) a.innermost.last)))
+    (b.ensures.err sizes (world_of f (g.S.Sink.told c.args.out.now) e) r rs (counts_of sizes e (r ∷ rs) a.stands) (done_here sizes e d.value d.back r rs a) a.innermost.last)))
 
 pub returns-in_ok-act_and_end-in-Act-clause-rule : goal.returns-in_ok-act_and_end-in-Act-clause-rule
 returns-in_ok-act_and_end-in-Act-clause-rule g c =
     let e = c.args.self.now in
     λ sizes f. by_ask sizes e (λ work plan. Went sizes (state_of e work) c.act_and_end.new.self (world_of f (g.S.Sink.told c.args.out.now) e) (world_of f (g.S.Sink.told c.act_and_end.new.out) c.act_and_end.new.self) plan 0) (Act c.in-Act.effect)
     (some_if e.top _ c.is_none.ensures c.if-is_none.false) c.in-Act.is
-    (λ r rs a. c.in_ok-act_and_end-in-Act.ensures.rule sizes f r rs (ends_here sizes e (Act c.in-Act.effect) r rs a))
+    (λ r rs a. c.in_ok-act_and_end-in-Act.ensures.rule sizes f r rs (act_here sizes e c.in-Act.effect r rs a))
 
 pub returns-in_err-act_and_end-in-Act-clause-err : goal.returns-in_err-act_and_end-in-Act-clause-err
 returns-in_err-act_and_end-in-Act-clause-err g c =
