@@ -26,7 +26,7 @@ use Rattle.frames.specs.Resumes.{resume, resume_waiting, frame_list, frame_kind,
 use Rattle.frames.specs.Stack.{Stack}
 use Rattle.name_table.specs.Strings.{Strings}
 use Rattle.tex_program.specs.declared.engine.Engine.{Engine}
-use Rattle.tex_program.specs.Stands.{Stands, WaitsWith, Waits as WaitsFor, WaitStands, WorkStands, OuterStand, WaitingStands, EndsHere, FrameStands, Innermost, FedFrame, IsSized, SameState, IsLone, IsTaken, IsLast, GivesLast, TellsOnce, BeginsBuilt, AtMostOne, kept_lists, other_lists}
+use Rattle.tex_program.specs.Stands.{Stands, WaitsWith, Waits as WaitsFor, WaitStands, WorkStands, OuterStand, WaitingStands, EndsHere, FrameStands, Innermost, FedFrame, IsSized, SameState, IsLone, IsLast, GivesLast, TellsOnce, BeginsBuilt, AtMostOne, kept_lists}
 use Rattle.tex_program.specs.Begins.{IsCommand}
 
 -- THE LAST OF WHAT IT WAS FED WITH
@@ -323,16 +323,6 @@ pub ended_lists : (v : EngineValue) (lists : List (List Token)) (r : Reading) (r
 ended_lists v lists r rs few holds =
     let none : drop r.holds lists ≡ [] = ap (λ (n : ℕ). drop n lists) holds ∙ nothing_past lists in
     ap (λ (l : List (List Token)). reading.value_lists (value_of lists v) ++ l) none ∙ (append-nil (reading.value_lists (value_of lists v)) ∙ sym (value_kept v lists few))
-
--- and where no reading is beneath
-few_others : (lists : List (List Token)) → AtMostOne lists → other_lists lists ≡ []
-few_others [] h = refl
-few_others (ts ∷ lists) h = few_rest ts lists h
-
-pub last_lists : (v : EngineValue) (lists : List (List Token)) (r : Reading) (rs : List Reading) → AtMostOne lists → r.holds ≡ length lists → IsTaken (value_of lists v) rs → rs ≡ [] → reading.value_lists (value_of lists v) ++ beneath (r ∷ rs) lists ≡ other_lists lists
-last_lists v lists r rs few holds taken none =
-    let is : reading.value_lists (value_of lists v) ≡ [] = subst (IsTaken (value_of lists v)) none taken in
-    ended_lists v lists r rs few holds ∙ value_kept v lists few ∙ is ∙ sym (few_others lists few)
 
 no_text : (w : Waiting) (fed : List Fed) → reading.so_far (waiting_kind w) fed ≡ []
 no_text (Catcode scan) fed = refl

@@ -12,7 +12,7 @@ use Rattle.plain_state.specs.Meanings.{seen}
 use Rattle.plain_state.specs.Tokens.{space_token}
 use Rattle.plain_state.specs.States.{Reading, State, Move, Written, Reported}
 use Rattle.plain_state.specs.States as machine
-use Rattle.plain_machine.specs.Plan.{Page, planned, stomach, wanted, feeding, scanning, Scanning, met, checked, without_file, reported, entered, enters_names, reports_room}
+use Rattle.plain_machine.specs.Plan.{Page, planned, stomach, wanted, feeding, scanning, Scanning, met, reported, entered, enters_names, reports_room}
 use Rattle.plain_machine.specs.Runs.{steps}
 use Rattle.plain_machine.specs.Does.{Did, Cut, Why, IsFull, IsFault, IsWant}
 use Rattle.world_io.specs.Told.{FilesTold, SinkTold, world}
@@ -29,7 +29,7 @@ use Rattle.frames.specs.declared.scan.Ask.TheVariants.{More}
 use Rattle.frames.specs.declared.scan.Want.{Want as ScanWant}
 use Rattle.frames.specs.Sees.{want_of, kind_of, first_list}
 use Rattle.frames.specs.Resumes.{TakesTokens}
-use Rattle.tex_program.specs.Stands.{Stands, FeedsHere, state_of, page_of}
+use Rattle.tex_program.specs.Stands.{Stands, FeedsHere, state_of}
 
 -- the world of these files and this sink, whose column the engine keeps
 abbrev pub world_of : FilesTold → SinkTold → Engine → World
@@ -85,7 +85,7 @@ enters_of (Some want) = enters_names (want_of want)
 abbrev pub scanning_of : Engine → List Reading → Option Scanning
 scanning_of e work = scanning work e.input.gathered
 
--- what becomes of a token of a list
+-- what becomes of a token: the name of an \outer macro doesn't come into a text
 abbrev pub token_moves : Page → Option Scanning → (onward : Seen → List Move) → Token → List Move
 token_moves page scanned onward t = met page scanned onward (seen page.meanings t)
 

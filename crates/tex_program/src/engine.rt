@@ -1,23 +1,22 @@
 // The engine: the machine's rules, one at a time.
-ghost use Rattle.std.specs.Prelude.{◌≡◌, ◌≤◌, ◌<◌, ◌+◌, ◌-◌, ◌*◌, ℕ, List, [], ◌∷◌, ◌++◌, IfOk, IfErr, IfSome, OnOk, OnErr, Option, Some, None, Bool, true, false, is_some, IsSome, option_map, option_to_list, length};
+ghost use Rattle.std.specs.Prelude.{◌≡◌, ◌≤◌, ◌<◌, ◌+◌, ◌-◌, ◌*◌, List, [], ◌∷◌, ◌++◌, IfOk, IfErr, IfSome, OnOk, OnErr, Option, Some, None, true, false, is_some, IsSome, option_map, option_to_list, length};
 ghost use Rattle.tex_defs.specs.Places.{Transcript, World};
 ghost use Rattle.tex_defs.specs.Sizes.{first_out_of_range};
 ghost use Rattle.tex_defs.specs.declared.Sizes.{Sizes};
 ghost use Rattle.tex_defs.specs.declared.Fatal.TheVariants as fatal;
 ghost use Rattle.plain_state.specs.Categories.{initial_categories as first_categories};
 ghost use Rattle.plain_state.specs.Pending.{pulled};
-ghost use Rattle.plain_state.specs.Names as names;
 ghost use Rattle.prim_table.specs.Primitives.{primitive_names};
 ghost use Rattle.plain_state.specs.Lex.{Lexeme};
 ghost use Rattle.plain_state.specs.Reports.{NoSuchFile, Forbidden, report_bytes, message_bytes, OfText, runaway_bytes};
 ghost use Rattle.plain_state.specs.Tables.{refusal, refused, memory, lists_words, words};
 ghost use Rattle.plain_state.specs.Meanings as meanings;
 ghost use Rattle.plain_state.specs.Readings.{Fed, Tok, Told, rank, own_lists, value_lists, Text as TextKind, Flag as FlagValue};
-ghost use Rattle.plain_state.specs.States.{State, Reading, Move, Kept, Begun, BegunWith, Written, Ended as EndedMove, AtFatal, fresh, fed_with, ended_with, beneath};
+ghost use Rattle.plain_state.specs.States.{Reading, Move, Kept, Begun, BegunWith, Written, Ended as EndedMove, AtFatal, fresh, fed_with, ended_with, beneath};
 ghost use Rattle.plain_machine.specs.Plan.{Page, handed, effect as effect_moves, given_back, put_one, reported, token_line, checked, told, is_told, no_file, reports_room};
 ghost use Rattle.plain_machine.specs.Does.{Did};
 ghost use Rattle.world_io.specs.Told.{FilesTold};
-ghost use Rattle.frames.specs.Sees.{value_of, kind_of, want_of, effect_of, first_list};
+ghost use Rattle.frames.specs.Sees.{value_of, kind_of, effect_of, first_list};
 ghost use Rattle.transcript.specs.Reported.{report_of};
 ghost use Rattle.frames.specs.Resumes.{IsNoText, IsOpen, is_built, frame_kind, frame_grows, lists_after};
 ghost use Rattle.frames.specs.Weights.{frame_rank};
