@@ -12,6 +12,14 @@ pub passed_settled : (ps : List Put) → passed (settled ps) ≡ passed ps
 passed_settled [] = refl
 passed_settled (p ∷ ps) = passed_top_settled p p.items ps refl (passed_settled ps)
 
+settled_top_twice : (p : Put) (xs : List Item) (ps : List Put) → p.items ≡ xs → settled (settled ps) ≡ settled ps → settled (settled_top p xs (settled ps) ps) ≡ settled_top p xs (settled ps) ps
+settled_top_twice p [] ps e h = h
+settled_top_twice p (x ∷ xs) ps e h = rw e refl
+
+pub settled_twice : (ps : List Put) → settled (settled ps) ≡ settled ps
+settled_twice [] = refl
+settled_twice (p ∷ ps) = settled_top_twice p p.items ps refl (settled_twice ps)
+
 line_with : (ps : List Put) (p : Pending) (l : Lexed) → from_line (with_puts ps p) l ≡ from_line p l
 line_with ps p (Gives x state line) = refl
 line_with ps p (Invalid state line) = refl

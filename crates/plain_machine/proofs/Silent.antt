@@ -52,17 +52,18 @@ abbrev pub work_weight : List Reading → ℕ
 work_weight [] = 0
 work_weight (r ∷ rs) = top_weight r.kind r.fed (pot r) + pots rs
 
--- an invalid character may still be skipped, and the file may still end, where a call may be fed with the note of a check
+-- an invalid character may still be skipped, and the file may still end
 abbrev pub file_weight : Progress → ℕ
 file_weight ClosedFile = 0
-file_weight p = 9
+file_weight p = 1
 
 abbrev pub pending_weight : Pending → ℕ
 pending_weight p = length p.line + file_weight p.file
 
+-- where the file ends a call may be fed with the note of a check
 abbrev pub weight_of : Option Outcome → List Reading → Pending → ℕ
 weight_of (Some o) work p = 0
-weight_of None work p = 1 + work_weight work + pending_weight p
+weight_of None work p = 1 + work_weight work + 9 * pending_weight p
 
 abbrev pub weight : State → ℕ
 weight s = weight_of s.stopped s.work s.pending
@@ -146,10 +147,10 @@ last_untold (Told ∷ []) y ys h = cc
 last_untold (Cut ∷ []) y ys h = refl
 last_untold (x ∷ z ∷ fed) y ys h = last_untold (z ∷ fed) y ys h
 
--- what a pull that gives nothing leaves weighs less; at a file's end there is room for a note
+-- what a pull that gives nothing leaves weighs less
 abbrev pub Lighter : Pending → Pulled → Type 0
 Lighter p (InvalidMet q) = pending_weight q < pending_weight p
-Lighter p (FileOver q) = pending_weight q + 9 ≤ pending_weight p
+Lighter p (FileOver q) = pending_weight q < pending_weight p
 Lighter p r = Unit {0}
 
 lighter_file : (p : Pending) (f : Progress) → p.file ≡ f → Lighter p (from_file f p.number p.rest)
@@ -296,31 +297,30 @@ weight_beneath (r ∷ rs) = by_fed r.fed where
   by_fed (x ∷ fed) = omega arith
 
 -- A move that makes what is pending lighter, and then moves that keep it, or end the run.
-module _ (s : State) (q : Pending) (e : s.stopped ≡ None) where
-  below : (less : pending_weight q < pending_weight s.pending) (u v : State) → u.stopped ≡ None → u.work ≡ s.work → u.pending ≡ q → Kept u v → weight v < weight s
-  below less u v stopped work pending k = rw (k.stopped, k.work, stopped, work, e) (omega (arith, k.pending, ap pending_weight pending, less))
+module _ (s : State) (q : Pending) (e : s.stopped ≡ None) (less : pending_weight q < pending_weight s.pending) (u : State) (a : u.stopped ≡ None) (b : u.work ≡ s.work) (c : u.pending ≡ q) where
+  below : (v : State) → Kept u v → weight v < weight s
+  below v k = rw (k.stopped, k.work, a, b, e) (omega (arith, k.pending, ap pending_weight c, less))
 
-  report_below : (less : pending_weight q < pending_weight s.pending) (u : State) (page : Page) (report : Report) → u.stopped ≡ None → u.work ≡ s.work → u.pending ≡ q → Drops (weight s) (reported page report []) u
-  report_below less u page report a b c = drops_report (weight s) u page report [] (some_weight s e) (λ v k. below less u v a b c k)
+  report_below : (page : Page) (report : Report) → Drops (weight s) (reported page report []) u
+  report_below page report = drops_report (weight s) u page report [] (some_weight s e) (λ v k. below v k)
 
-  module _ (less : pending_weight q + 9 ≤ pending_weight s.pending) (u : State) (a : u.stopped ≡ None) (b : u.work ≡ s.work) (c : u.pending ≡ q) where
-    checked_below : (v : State) → Kept u v → Drops (weight s) (Checked ∷ []) v
-    checked_below v k = rw (k.stopped, k.work, a, b, e) (omega (arith, k.pending, ap pending_weight c, less, weight_checked s.work))
+  checked_below : (v : State) → Kept u v → Drops (weight s) (Checked ∷ []) v
+  checked_below v k = rw (k.stopped, k.work, a, b, e) (omega (arith, k.pending, ap pending_weight c, less, weight_checked s.work))
 
-    noted_below : (what : Scanned) (v : State) → Kept u v → Drops (weight s) (check_noted what []) v
-    noted_below OfUse v k = checked_below v k
-    noted_below OfDefinition v k = below (omega (arith, less)) u v a b c k
-    noted_below OfText v k = below (omega (arith, less)) u v a b c k
+  noted_below : (what : Scanned) (v : State) → Kept u v → Drops (weight s) (check_noted what []) v
+  noted_below OfUse v k = checked_below v k
+  noted_below OfDefinition v k = below v k
+  noted_below OfText v k = below v k
 
-    away_below : (page : Page) (report : Report) (what : Scanning) → Drops (weight s) (ran_away page report what []) u
-    away_below page report what =
-        drops_plain (weight s) u (Written Transcript (away_text page what) ∷ put_one (inserted_at what.what)) (reported (page_behind page (away_text page what)) report (check_noted what.what []))
-        (refl, (refl, (refl, (refl, (refl, tt)))))
-        (λ v k. drops_report (weight s) v (page_behind page (away_text page what)) report (check_noted what.what []) (some_weight s e) (λ x l. noted_below what.what x (kept_on u v x k l)))
+  away_below : (page : Page) (report : Report) (what : Scanning) → Drops (weight s) (ran_away page report what []) u
+  away_below page report what =
+      drops_plain (weight s) u (Written Transcript (away_text page what) ∷ put_one (inserted_at what.what)) (reported (page_behind page (away_text page what)) report (check_noted what.what []))
+      (refl, (refl, (refl, (refl, (refl, tt)))))
+      (λ v k. drops_report (weight s) v (page_behind page (away_text page what)) report (check_noted what.what []) (some_weight s e) (λ x l. noted_below what.what x (kept_on u v x k l)))
 
-    check_below : (page : Page) (o : Option Scanning) → Drops (weight s) (checked page o) u
-    check_below page None = below (omega (arith, less)) u u a b c (kept_none u)
-    check_below page (Some what) = away_below page (FileEnded what.what what.name) what
+  check_below : (page : Page) (o : Option Scanning) → Drops (weight s) (checked page o) u
+  check_below page None = below u (kept_none u)
+  check_below page (Some what) = away_below page (FileEnded what.what what.name) what
 
 module _ (s : State) (enters : Bool) (o : Option Scanning) (onward : Seen → List Move) (e : s.stopped ≡ None) where
   -- the pull comes once the finished lists in front have gone
@@ -336,7 +336,7 @@ module _ (s : State) (enters : Bool) (o : Option Scanning) (onward : Seen → Li
   rule_pulled (LineTaken line q) is l = Step _ _ refl refl
   rule_pulled (InvalidMet q) is l =
       let rest : List Move = reported (page_of s) InvalidCharacter [] in
-      Falls (report_below s q e l (made Skipped (record (settled_first (Skipped ∷ rest)) { due = rest })) (page_of s) InvalidCharacter e refl (rw (pulled_then (InvalidMet q) is) refl))
+      Falls (report_below s q e l (made Skipped (record (settled_first (Skipped ∷ rest)) { due = rest })) e refl (rw (pulled_then (InvalidMet q) is) refl) (page_of s) InvalidCharacter)
   rule_pulled (FileOver q) is l =
       let rest : List Move = checked (without_file (page_of s)) o in
       Falls (check_below s q e l (made FileClosed (record (settled_first (FileClosed ∷ rest)) { due = rest })) e refl (rw (pulled_then (FileOver q) is) refl) (without_file (page_of s)) o)

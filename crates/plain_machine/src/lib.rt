@@ -119,6 +119,7 @@ pub fn worked_arguments()
 /// The machine run on small files with macros: what bodies give, and when.
 pub fn worked_bodies()
     ensures long_by_name { Writes (first_line_usual ++ codes "\\def\\a#1{#1\\b}\\long\\a\\def#1.{[#1]}\\message{\\b x\\par.}\\end\n") (codes "[x\\par ]\n") Finished }
+    ensures long_behind_global { Writes (first_line_usual ++ codes "\\global\\long\\def\\a#1.{[#1]}\\message{\\a x\\par.}\\end\n") (codes "[x\\par ]\n") Finished }
     ensures nested { Writes (first_line_usual ++ codes "\\def\\a#1{\\def\\b##1{#1##1}}\\a x\\message{\\b y}\\end\n") (codes "xy\n") Finished }
     ensures redefined { Writes (first_line_usual ++ codes "\\def\\a{\\def\\a{n}\\message{old}}\\a\\message{\\a}\\end\n") (codes "old n\n") Finished }
     ensures redefined_in_its_body { Writes (first_line_usual ++ codes "\\def\\a{\\def\\a{\\message{n}}\\message{o}}\\a\\a\\end\n") (codes "o n\n") Finished }
@@ -127,6 +128,7 @@ pub fn worked_bodies()
     ensures active_mismatch { Writes (first_line_usual ++ codes "\\catcode`\\~=13 \\def~x{}~y\\end\n") (codes "! Use of ~ doesn't match its definition.\nl.2\n") Finished }
     ensures number { Writes (first_line_usual ++ codes "\\def\\a{12 }\\catcode`\\%=\\a\\message{%}\\catcode`\\%=14 \\end\n") (codes "%\n") Finished }
     ensures inner_space { Writes (first_line_usual ++ codes "\\def \\a #1{[#1]}\\def \n\\b{y}\\message{\\a x\\a\\b}\\end\n") (codes "[x][y]\n") Finished }
+    ensures space_before_the_name { Writes (first_line_usual ++ codes "\\def\\a#1{\\def#1\\b{y}}\\a{ }\\message{\\b}\\end\n") (codes "y\n") Finished }
     ensures outer_again { Writes (first_line_usual ++ codes "\\outer\\def\\o{x}\\o\\def\\o{y}\\message{\\o}\\end\n") (codes "{the letter x}\ny\n") Finished }
     ensures steps { RunsSo (first_line_usual ++ codes "\\def\\a#1.{#1#1}\\a xy.\\end\n") (codes "{the letter x}\n{the letter y}\n{the letter x}\n{the letter y}\n") 50 Finished }
     ensures gap_steps { RunsSo (first_line_usual ++ codes "\\def\\a#1.{#1#1}\\a.\\end\n") (codes "") 44 Finished }
@@ -152,7 +154,7 @@ pub fn worked_definitions()
     ensures numbering_counts { Writes (first_line_usual ++ codes "\\def\\a#x{(#1)}\\message{\\a yx}\\end\n") (codes "! Parameters must be numbered consecutively.\nl.2\n(y)\n") Finished }
     ensures numbering_twice { Writes (first_line_usual ++ codes "\\def\\a##1{(#1)}\\message{\\a y1}\\end\n") (codes "! Parameters must be numbered consecutively.\nl.2\n! Parameters must be numbered consecutively.\nl.2\n(y)\n") Finished }
     ensures numbering_at_the_end { Writes (first_line_usual ++ codes "\\def\\a#}\\message{\\a}\\end\n") (codes "! Parameters must be numbered consecutively.\nl.2\n! Missing { inserted.\nl.2\n! Argument of \\a has an extra }.\nl.2\nRunaway argument?\n! Paragraph ended before \\a was complete.\nl.2\n\\par \n") Finished }
-    ensures tenth { Writes (first_line_usual ++ codes "\\def\\a#1#2#3#4#5#6#7#8#9#xy{#9}\\message{\\a 123456789y.}\\end\n") (codes "! You already have nine parameters.\nl.2\n9.\n") Finished }
+    ensures tenth { Writes (first_line_usual ++ codes "\\def\\a#1#2#3#4#5#6#7#8#9#xy{#9#:}\\message{\\a 123456789y.}\\end\n") (codes "! You already have nine parameters.\nl.2\n! Illegal parameter number in definition of \\a.\nl.2\n9##:.\n") Finished }
     ensures tenth_brace { Writes (first_line_usual ++ codes "\\def\\a#1#2#3#4#5#6#7#8#9#{[#9]}\\message{\\a 12345678{9}{x}}\\end\n") (codes "[]{9}{x}\n") Finished }
     ensures illegal { Writes (first_line_usual ++ codes "\\def\\a#1{#2}\\message{\\a x}\\end\n") (codes "! Illegal parameter number in definition of \\a.\nl.2\n##2\n") Finished }
     ensures illegal_without_places { Writes (first_line_usual ++ codes "\\def\\a{#1}\\message{\\a}\\end\n") (codes "! Illegal parameter number in definition of \\a.\nl.2\n##1\n") Finished }
@@ -166,7 +168,7 @@ pub fn worked_definitions()
 pub fn worked_calls()
     ensures mismatch { Writes (first_line_usual ++ codes "\\def\\a b#1{}\\a x\\end\n") (codes "! Use of \\a doesn't match its definition.\nl.2\n") Finished }
     ensures mismatch_brace { Writes (first_line_usual ++ codes "\\def\\a b#1{}\\message{x\\a}\\end\n") (codes "! Use of \\a doesn't match its definition.\nl.2\nRunaway text?\nx\\end \n! File ended while scanning text of \\message.\nl.0\nx\\end \n! Emergency stop.\n*** (job aborted, no legal \\end found)\n") (AtFatal NoEnd) }
-    ensures category_differs { Writes (first_line_usual ++ codes "\\catcode`\\~=12 \\def\\a#1~{[#1]}\\catcode`\\~=13 \\message{\\a x~y}\\end\n") (codes "! Argument of \\a has an extra }.\nl.2\nRunaway argument?\nx~y\n! Paragraph ended before \\a was complete.\nl.2\n\\par \n") Finished }
+    ensures category_differs { Writes (first_line_usual ++ codes "\\catcode`\\~=12 \\def\\a#1~{[#1]}\\catcode`\\~=11 \\message{\\a x~y}\\end\n") (codes "! Argument of \\a has an extra }.\nl.2\nRunaway argument?\nx~y\n! Paragraph ended before \\a was complete.\nl.2\n\\par \n") Finished }
     ensures extra_brace { Writes (first_line_usual ++ codes "\\def\\a#1{}\\a}\\end\n") (codes "! Argument of \\a has an extra }.\nl.2\nRunaway argument?\n! Paragraph ended before \\a was complete.\nl.2\n{\\par}\n{end-group character }}\n") Finished }
     ensures extra_brace_delimited { Writes (first_line_usual ++ codes "\\def\\a#1.{}\\a x}\\end\n") (codes "! Argument of \\a has an extra }.\nl.2\nRunaway argument?\nx\n! Paragraph ended before \\a was complete.\nl.2\n{\\par}\n{end-group character }}\n") Finished }
     ensures extra_brace_long { Writes (first_line_usual ++ codes "\\long\\def\\a#1{[#1]}\\message{x\\a}\\end\n") (codes "! Argument of \\a has an extra }.\nl.2\nRunaway argument?\n! Paragraph ended before \\a was complete.\nl.2\nx\\par \n") Finished }
@@ -197,6 +199,7 @@ pub fn worked_ends()
     ensures ended_expanded { Writes (first_line_usual ++ codes "\\def\\b{xy}\\edef\\a{\\b") (codes "Runaway definition?\n->xy\n! File ended while scanning definition of \\a.\nl.0\n! Emergency stop.\n*** (job aborted, no legal \\end found)\n") (AtFatal NoEnd) }
     ensures ended_use { Writes (first_line_usual ++ codes "\\def\\a#1{}\n\\a{x") (codes "{blank space  }\nRunaway argument?\n{x \n! File ended while scanning use of \\a.\nl.0\n! Emergency stop.\n*** (job aborted, no legal \\end found)\n") (AtFatal NoEnd) }
     ensures ended_delimited { Writes (first_line_usual ++ codes "\\def\\a#1.{}\\a xy") (codes "Runaway argument?\nxy \n! File ended while scanning use of \\a.\nl.0\n! Emergency stop.\n*** (job aborted, no legal \\end found)\n") (AtFatal NoEnd) }
+    ensures ended_in_a_group { Writes (first_line_usual ++ codes "\\def\\a#1ab{}\\a{xa%") (codes "Runaway argument?\n{xa\n! File ended while scanning use of \\a.\nl.0\n! Emergency stop.\n*** (job aborted, no legal \\end found)\n") (AtFatal NoEnd) }
     ensures ended_in_a_match { Writes (first_line_usual ++ codes "\\def\\a#1ab{}\\a xa%") (codes "Runaway argument?\nx\n! File ended while scanning use of \\a.\nl.0\n! Emergency stop.\n*** (job aborted, no legal \\end found)\n") (AtFatal NoEnd) }
     ensures ended_before_the_first { Writes (first_line_usual ++ codes "\\def\\a b{}\\a") (codes "Runaway argument?\n! File ended while scanning use of \\a.\nl.0\n! Use of \\a doesn't match its definition.\nl.0\n! Emergency stop.\n*** (job aborted, no legal \\end found)\n") (AtFatal NoEnd) }
     ensures ended_without_a_token { Writes (first_line_usual ++ codes "\\def\\a#1.{}\\a") (codes "Runaway argument?\n! File ended while scanning use of \\a.\nl.0\n! Emergency stop.\n*** (job aborted, no legal \\end found)\n") (AtFatal NoEnd) }
@@ -217,6 +220,7 @@ pub fn worked_outer_names()
     ensures outer_then_par { Writes (first_line_usual ++ codes "\\outer\\def\\o{}\\def\\a#1\\par{[#1]}\\message{\\a x\\o y}\\end\n") (codes "Runaway argument?\nx\n! Forbidden control sequence found while scanning use of \\a.\nl.2\nRunaway text?\n[x ]\n! Forbidden control sequence found while scanning text of \\message.\nl.2\n[x ] \n{the letter y}\n{end-group character }}\n") Finished }
     ensures outer_in_a_call_in_a_definition { Writes (first_line_usual ++ codes "\\outer\\def\\o{}\\def\\a#1.{(#1)}\\edef\\b{z\\a x\\o\\message{\\b}\\end\n") (codes "Runaway argument?\nx\n! Forbidden control sequence found while scanning use of \\a.\nl.2\nRunaway definition?\n->z\n! Forbidden control sequence found while scanning definition of \\b.\nl.2\nz \n") Finished }
     ensures outer_text { Writes (first_line_usual ++ codes "\\outer\\def\\o{}\\message{x\\o y}\\end\n") (codes "Runaway text?\nx\n! Forbidden control sequence found while scanning text of \\message.\nl.2\nx \n{the letter y}\n{end-group character }}\n") Finished }
+    ensures outer_behind_long { Writes (first_line_usual ++ codes "\\long\\outer\\def\\o{}\\message{x\\o y}\\end\n") (codes "Runaway text?\nx\n! Forbidden control sequence found while scanning text of \\message.\nl.2\nx \n{the letter y}\n{end-group character }}\n") Finished }
     ensures outer_in_a_text_in_a_group { Writes (first_line_usual ++ codes "\\outer\\def\\o{}\\message{x{\\o y}\\end\n") (codes "Runaway text?\nx{\n! Forbidden control sequence found while scanning text of \\message.\nl.2\nRunaway text?\nx{ }\n! Forbidden control sequence found while scanning text of \\message.\nl.2\nx{ } \n{the letter y}\n{end-group character }}\n") Finished }
 {}
 
@@ -291,6 +295,11 @@ pub fn worked_words()
     ensures arguments_held { Fills (record default_sizes { main_memory_size = 17 }) (first_line_usual ++ codes "\\def\\a#1{\\def\\b{xx}#1#1}\\a{yy}\\end") (record { table = MainMemorySize; used = 17; size = 17 }) }
     ensures arguments_held_fit { Fits (record default_sizes { main_memory_size = 18 }) (first_line_usual ++ codes "\\def\\a#1{\\def\\b{xx}#1#1}\\a{yy}\\end") }
     ensures arguments_gone { Fits (record default_sizes { main_memory_size = 11 }) (first_line_usual ++ codes "\\def\\a#1{#1}\\a{xy}\\def\\b{xxxxx}\\end") }
+    ensures place_reached { Fills (record default_sizes { main_memory_size = 5 }) (first_line_usual ++ codes "\\def\\a b#1.{}\\a b.\\end") (record { table = MainMemorySize; used = 5; size = 5 }) }
+    ensures place_reached_fits { Fits (record default_sizes { main_memory_size = 6 }) (first_line_usual ++ codes "\\def\\a b#1.{}\\a b.\\end") }
     ensures inner_call { Fills (record default_sizes { main_memory_size = 20 }) (first_line_usual ++ codes "\\def\\a#1{\\b{#1#1}}\\def\\b#1{#1}\\a{xy}\\end") (record { table = MainMemorySize; used = 20; size = 20 }) }
     ensures inner_call_fits { Fits (record default_sizes { main_memory_size = 21 }) (first_line_usual ++ codes "\\def\\a#1{\\b{#1#1}}\\def\\b#1{#1}\\a{xy}\\end") }
+    ensures call_behind_a_finished_body { Fills (record default_sizes { main_memory_size = 25 }) (first_line_usual ++ codes "\\def\\a#1{\\def\\a{}\\b#1}\\def\\b#1{\\def\\c{yyyy}}\\a x\\end") (record { table = MainMemorySize; used = 25; size = 25 }) }
+    ensures call_behind_a_finished_body_fits { Fits (record default_sizes { main_memory_size = 26 }) (first_line_usual ++ codes "\\def\\a#1{\\def\\a{}\\b#1}\\def\\b#1{\\def\\c{yyyy}}\\a x\\end") }
+    ensures body_behind_a_finished_body { Fits (record default_sizes { main_memory_size = 19 }) (first_line_usual ++ codes "\\def\\a{\\def\\a{}\\b}\\def\\b{\\def\\c{yyyy}}\\a\\end") }
 {}

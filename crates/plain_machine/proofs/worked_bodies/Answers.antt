@@ -11,6 +11,7 @@ pub returns : goal.returns
 unfolding job_of run_of initial_categories digits headed letters behind_letters lexed number_from primitive_names primitive_name command_names assignment_names expandable_names conditional_names integer_names dimension_names glue_names token_names
 returns c = record {
   long_by_name = (refl, refl);
+  long_behind_global = (refl, refl);
   nested = (refl, refl);
   redefined = (refl, refl);
   redefined_in_its_body = (refl, refl);
@@ -19,6 +20,7 @@ returns c = record {
   active_mismatch = (refl, refl);
   number = (refl, refl);
   inner_space = (refl, refl);
+  space_before_the_name = (refl, refl);
   outer_again = (refl, refl);
   steps = ((refl, refl), refl);
   gap_steps = ((refl, refl), refl);

@@ -15,6 +15,7 @@ returns c = record {
   ended_expanded = (refl, refl);
   ended_use = (refl, refl);
   ended_delimited = (refl, refl);
+  ended_in_a_group = (refl, refl);
   ended_in_a_match = (refl, refl);
   ended_before_the_first = (refl, refl);
   ended_without_a_token = (refl, refl);

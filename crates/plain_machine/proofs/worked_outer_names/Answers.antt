@@ -23,5 +23,6 @@ returns c = record {
   outer_then_par = (refl, refl);
   outer_in_a_call_in_a_definition = (refl, refl);
   outer_text = (refl, refl);
+  outer_behind_long = (refl, refl);
   outer_in_a_text_in_a_group = (refl, refl);
 }

@@ -26,6 +26,11 @@ returns c = record {
   arguments_held = refl;
   arguments_held_fit = (refl, refl);
   arguments_gone = (refl, refl);
+  place_reached = refl;
+  place_reached_fits = (refl, refl);
   inner_call = refl;
   inner_call_fits = (refl, refl);
+  call_behind_a_finished_body = refl;
+  call_behind_a_finished_body_fits = (refl, refl);
+  body_behind_a_finished_body = (refl, refl);
 }
