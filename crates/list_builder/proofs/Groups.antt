@@ -6,7 +6,7 @@ use Rattle.std.proofs.lemmas.Bool.Decides.{nat_tests}
 use Rattle.tex_defs.specs.declared.Token.{Token}
 use Rattle.tex_defs.specs.declared.Token.TheVariants.{Char, Named, Marked, Place, Number, EndPlaces}
 use Rattle.plain_state.specs.Categories.{begin_group, end_group}
-use Rattle.plain_state.specs.Readings.{has_category}
+use Rattle.plain_state.specs.Tokens.{has_category}
 use Rattle.list_builder.specs.Forms.{closes, is_brace}
 
 -- two choices by one test

@@ -9,7 +9,7 @@ use Rattle.token_lists.specs.Table.{Entry, tokens_at, tokens_of, extended, Exten
 use Rattle.token_lists.specs.declared.Build.{Build}
 use Rattle.token_lists.specs.Ids.{build_id, IsBuilding}
 use Rattle.token_lists.proofs.Builds.{sole_known}
-use Rattle.list_builder.specs.Definitions.{with_cell}
+use Rattle.plain_state.specs.Definitions.{with_cell}
 use Rattle.list_builder.specs.Scans.{work_by, IsFront, IsGrownByPart}
 
 pub part_first : (list now : List Token) (one two : Option Token) → IsSome one → now ≡ list → IsGrownByPart list now (with_cell (with_cell list one) two)

@@ -6,9 +6,8 @@ use Rattle.tex_defs.specs.declared.Meaning.{Meaning}
 use Rattle.tex_defs.specs.declared.Meaning.TheVariants as means
 use Rattle.tex_defs.specs.declared.Seen.{Seen}
 use Rattle.plain_state.specs.Categories.{begin_group, end_group, is_between}
-use Rattle.plain_state.specs.Readings.{has_category, means_category}
-use Rattle.list_builder.specs.declared.stage.Manner.{Manner}
-use Rattle.list_builder.specs.Definitions.{Fed, Tok, Told, Given, Done, is_parameter, with_cell, definition, text}
+use Rattle.plain_state.specs.Tokens.{has_category, means_category}
+use Rattle.plain_state.specs.Definitions.{Manner, Fed, Tok, Told, Given, Done, is_parameter, with_cell, definition, text}
 
 -- GROUPS
 

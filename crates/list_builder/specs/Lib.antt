@@ -1,4 +1,4 @@
-pub mod Definitions
+pub mod Plain
 pub mod Stages
 pub mod Scans
 pub mod Forms

@@ -4,10 +4,9 @@ use Rattle.tex_defs.specs.declared.Token.{Token}
 use Rattle.tex_defs.specs.declared.Token.TheVariants.{Char, Named, Place, Number, EndPlaces}
 use Rattle.tex_defs.specs.declared.Name.TheVariants.{Single}
 use Rattle.tex_defs.specs.declared.Meaning.TheVariants as means
-use Rattle.list_builder.specs.declared.stage.Manner.{Manner}
-use Rattle.list_builder.specs.declared.ask.Want.TheVariants.{Raw, Expanded, Copied, Command}
-use Rattle.list_builder.specs.declared.ask.Report.TheVariants.{NotConsecutive, AlreadyNine, IllegalNumber, MissingBrace}
-use Rattle.list_builder.specs.Definitions.{Fed, Tok, Told, Given, More, Tells, Done, definition, text}
+use Rattle.plain_state.specs.Tokens.{Raw, Expanded, Copied, Command}
+use Rattle.plain_state.specs.Reports.{NotConsecutive, AlreadyNine, IllegalNumber, MissingBrace}
+use Rattle.plain_state.specs.Definitions.{Manner, Fed, Tok, Told, Given, More, Tells, Done, definition, text}
 
 -- a character that is read with this category
 abbrev pub read : (category code : ℕ) → Fed

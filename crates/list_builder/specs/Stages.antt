@@ -1,13 +1,13 @@
 -- What a stage of the scanner stands for.
 use Rattle.std.specs.Prelude.{ℕ, ◌+◌, List, Option, Some, None}
 use Rattle.tex_defs.specs.declared.Token.{Token}
-use Rattle.list_builder.specs.declared.stage.Manner.{Manner}
+use Rattle.list_builder.specs.Plain.{body_of}
 use Rattle.list_builder.specs.declared.stage.Stage.{Stage}
 use Rattle.list_builder.specs.declared.stage.Stage.TheVariants as stage
 use Rattle.list_builder.specs.declared.stage.Next.{Next}
 use Rattle.list_builder.specs.declared.stage.Next.TheVariants.{On, Finished}
 use Rattle.list_builder.specs.declared.stage.Step.{Step}
-use Rattle.list_builder.specs.Definitions.{Fed, Answer, Done, with_cell, body, reference, illegal, no_body, parameters, place, tenth, misnumbered, missing, first}
+use Rattle.plain_state.specs.Definitions.{Manner, Fed, Answer, Done, with_cell, body, reference, illegal, no_body, parameters, place, tenth, misnumbered, missing, first}
 
 -- what is answered on what is still to come, where this list has been built
 abbrev pub resume : Manner → Stage → List Token → List Fed → Answer
@@ -18,9 +18,9 @@ resume m (stage.Place count character) list fed = place m count character list f
 resume m (stage.Misnumbered count character) list fed = misnumbered m count character list fed
 resume m (stage.Tenth count) list fed = tenth m count list fed
 resume m stage.BodyMissing list fed = no_body list fed
-resume m (stage.InBody b depth) list fed = body m b depth list fed
-resume m (stage.Reference b depth character) list fed = reference m b depth character list fed
-resume m (stage.Illegal b depth character) list fed = illegal m b depth character list fed
+resume m (stage.InBody b depth) list fed = body m (body_of b) depth list fed
+resume m (stage.Reference b depth character) list fed = reference m (body_of b) depth character list fed
+resume m (stage.Illegal b depth character) list fed = illegal m (body_of b) depth character list fed
 
 -- the groups that are open
 abbrev pub depth_of : Stage → ℕ

@@ -4,7 +4,7 @@ ghost use Rattle.token_lists.specs.Table.{tokens_at, entry_at, holders_at};
 ghost use Rattle.token_lists.specs.Accounts.{Moves, none, cell_holds};
 ghost use Rattle.token_lists.specs.Ids.{id_of, build_id, IsBuilding};
 ghost use Rattle.token_lists.specs.Refusals.{IsFull};
-ghost use Rattle.list_builder.specs.Definitions.{with_cell};
+ghost use Rattle.plain_state.specs.Definitions.{with_cell};
 ghost use Rattle.list_builder.specs.Stages.{grown};
 ghost use Rattle.list_builder.specs.Scans.{cell_tokens, build_holds, work_by, IsBuildingIn, OwnsBuild, IsOnly, IsFront, IsGrownByPart};
 

@@ -17,4 +17,5 @@ mod text;
 pub use ask::{Ask, Report, Want};
 pub use def::DefScan;
 pub use laws::{lists_are_formed, lists_end_at_once, plain_lists_are_themselves, worked_lists};
+pub use stage::{Body, Manner, Next, Stage, Step};
 pub use text::TextScan;

@@ -2,10 +2,11 @@
 ghost use Rattle.std.specs.Prelude.{◌≡◌, ◌≤◌, ◌<◌, ◌+◌, ◌^◌, List, [], ◌∷◌, ℕ, Option, None, Some, IfSome, true, false};
 ghost use Rattle.list_builder.specs.declared.stage.Next.TheVariants.{On};
 ghost use Rattle.tex_defs.specs.declared.Token.{Token};
-ghost use Rattle.list_builder.specs.declared.stage.Manner.{Manner};
 ghost use Rattle.token_lists.specs.Table.{Entry};
-ghost use Rattle.plain_state.specs.Readings.{has_category, is_other, means_category};
-ghost use Rattle.list_builder.specs.Definitions.{Fed, Tok, Told, body_want, number_want, is_parameter, character_of, is_number, number_of, is_reference, first, parameters, place, body, reference};
+ghost use Rattle.plain_state.specs.Tokens.{has_category, is_other, means_category};
+ghost use Rattle.plain_state.specs.Definitions as plain;
+ghost use Rattle.plain_state.specs.Definitions.{Fed, Tok, Told, body_want, number_want, is_parameter, character_of, is_number, number_of, is_reference, first, parameters, place, body, reference};
+ghost use Rattle.list_builder.specs.Plain.{manner_of, body_of};
 ghost use Rattle.list_builder.specs.Stages.{resume, depth_of, IsTelling, goes, depth_after, growth};
 ghost use Rattle.list_builder.specs.Scans.{answer_of, IsOpen};
 
@@ -15,13 +16,13 @@ use tex_defs::{Meaning, Name, Seen, Token};
 /// How a list is read, from its first token to its last.
 #[derive(Clone, Copy, Debug, PartialEq, Eq)]
 pub struct Manner {
-    /// The name that is defined.
+    /// The name that is defined, which a report tells; the empty one for a text.
     pub name: Name,
     /// Whether the body is expanded.
     pub expanded: bool,
 }
 
-/// What a body is.
+/// What a body is, that of a macro or that of a balanced text.
 #[derive(Clone, Copy, Debug, PartialEq, Eq)]
 pub struct Body {
     /// How many places a macro has; none in a balanced text, which has no parameters.
@@ -30,7 +31,11 @@ pub struct Body {
     pub brace: Option<Token>,
 }
 
-/// Where a scanner stands.
+/// Where a scanner stands: what it remembers of all that it was fed with, apart from the list that it builds.
+///
+/// A definition begins at `Parameters(0)`, behind the name that is defined, and a balanced text at `First`. Whoever has
+/// the list elsewhere goes on from stage to stage by [`Stage::took`] and [`Stage::told`], and asks by [`Stage::ask`].
+/// *The TeXbook*, chapters 20 and 24; *TeX: The Program*, part 27 (`scan_toks`).
 #[derive(Clone, Copy, Debug, PartialEq, Eq)]
 pub enum Stage {
     /// In front of a text's first brace.
@@ -58,16 +63,20 @@ pub enum Stage {
 /// Where a scanner goes.
 #[derive(Clone, Copy, Debug, PartialEq, Eq)]
 pub enum Next {
+    /// To this stage.
     On(Stage),
     /// The list is complete.
     Finished,
 }
 
-/// What a token comes to: at most two tokens go into the list.
+/// What a token, or the note that a report was written, comes to.
 #[derive(Clone, Copy, Debug, PartialEq, Eq)]
 pub struct Step {
+    /// The token that goes into the list.
     pub first: Option<Token>,
+    /// The token that goes into it behind the first: the end mark, behind the brace of `#{`.
     pub second: Option<Token>,
+    /// Where the scanner goes then.
     pub next: Next,
 }
 
@@ -133,7 +142,7 @@ fn number_of(token: Token, count: u8) -> Option<u8>
 impl Body {
     // Whether a token is a parameter character that stands for a parameter.
     fn is_reference(self, x: Seen) -> bool
-        ensures { result ≡ is_reference self x }
+        ensures { result ≡ is_reference (body_of self) x }
     {
         self.places.is_some() && is_parameter(x)
     }
@@ -164,9 +173,9 @@ impl Step {
 }
 
 impl Stage {
-    /// What it asks for.
+    /// What it asks for: a token, or a report.
     pub fn ask(self, manner: Manner) -> Ask
-        ensures answer { (table : List (Option Entry)) (list : List Token) → answer_of table result list ≡ resume manner self list [] }
+        ensures answer { (table : List (Option Entry)) (list : List Token) → answer_of table result list ≡ resume (manner_of manner) self list [] }
         ensures goes_on { IsOpen result }
     {
         match self {
@@ -186,7 +195,7 @@ impl Stage {
 
     // In front of a text's first brace.
     fn took_first(x: Seen) -> Step
-        ensures takes { (m : Manner) (list : List Token) (fed : List Fed) → first m list (Tok x ∷ fed) ≡ goes result m list fed }
+        ensures takes { (m : plain.Manner) (list : List Token) (fed : List Fed) → first m list (Tok x ∷ fed) ≡ goes result m list fed }
         ensures shallow { depth_after result.next ≡ 0 }
     {
         if means_category(x.meaning, 1) {
@@ -201,7 +210,7 @@ impl Stage {
 
     // In a parameter text.
     fn took_parameters(count: u8, x: Seen) -> Step
-        ensures takes { (m : Manner) (list : List Token) (fed : List Fed) → parameters m count list (Tok x ∷ fed) ≡ goes result m list fed }
+        ensures takes { (m : plain.Manner) (list : List Token) (fed : List Fed) → parameters m count list (Tok x ∷ fed) ≡ goes result m list fed }
         ensures shallow { depth_after result.next ≡ 0 }
     {
         if has_category(x.token, 1) {
@@ -222,7 +231,7 @@ impl Stage {
 
     // Behind a parameter character of a parameter text.
     fn took_place(count: u8, character: u8, y: Seen) -> Step
-        ensures takes { (m : Manner) (list : List Token) (fed : List Fed) → place m count character list (Tok y ∷ fed) ≡ goes result m list fed }
+        ensures takes { (m : plain.Manner) (list : List Token) (fed : List Fed) → place m count character list (Tok y ∷ fed) ≡ goes result m list fed }
         ensures shallow { depth_after result.next ≡ 0 }
     {
         if has_category(y.token, 1) {
@@ -248,7 +257,7 @@ impl Stage {
     // In a body.
     fn took_body(inside: Body, depth: usize, x: Seen) -> Step
         requires { depth + 1 < 2 ^ 64 }
-        ensures takes { (m : Manner) (list : List Token) (fed : List Fed) → body m inside depth list (Tok x ∷ fed) ≡ goes result m list fed }
+        ensures takes { (m : plain.Manner) (list : List Token) (fed : List Fed) → body m (body_of inside) depth list (Tok x ∷ fed) ≡ goes result m list fed }
         ensures shallow { depth_after result.next ≤ depth + growth result }
     {
         if has_category(x.token, 1) {
@@ -272,7 +281,7 @@ impl Stage {
 
     // Behind a parameter character of a macro's body.
     fn took_reference(inside: Body, depth: usize, character: Token, y: Seen) -> Step
-        ensures takes { (m : Manner) (list : List Token) (fed : List Fed) → reference m inside depth character list (Tok y ∷ fed) ≡ goes result m list fed }
+        ensures takes { (m : plain.Manner) (list : List Token) (fed : List Fed) → reference m (body_of inside) depth character list (Tok y ∷ fed) ≡ goes result m list fed }
         ensures shallow { depth_after result.next ≡ depth }
     {
         if is_parameter(y) {
@@ -288,10 +297,10 @@ impl Stage {
         }
     }
 
-    // What a token comes to. Where a report is due it comes to nothing.
+    /// What a token comes to. Where a report is due it comes to nothing. Fewer than 2^64 - 1 groups are open in the body.
     pub fn took(self, x: Seen) -> Step
         requires { depth_of self + 1 < 2 ^ 64 }
-        ensures takes { (m : Manner) (list : List Token) (fed : List Fed) → resume m self list (Tok x ∷ fed) ≡ goes result m list fed }
+        ensures takes { (m : plain.Manner) (list : List Token) (fed : List Fed) → resume m self list (Tok x ∷ fed) ≡ goes result m list fed }
         ensures shallow { depth_after result.next ≤ depth_of self + growth result }
     {
         match self {
@@ -310,9 +319,9 @@ impl Stage {
         }
     }
 
-    // What the note comes to that its report was written. Where none was due it comes to nothing.
+    /// What the note comes to that the report was written. Where none was due it comes to nothing.
     pub fn told(self) -> Step
-        ensures takes { (m : Manner) (list : List Token) (fed : List Fed) → resume m self list (Told ∷ fed) ≡ goes result m list fed }
+        ensures takes { (m : plain.Manner) (list : List Token) (fed : List Fed) → resume m self list (Told ∷ fed) ≡ goes result m list fed }
         ensures shallow { depth_after result.next ≤ depth_of self + growth result }
     {
         match self {

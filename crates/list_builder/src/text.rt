@@ -6,7 +6,7 @@ ghost use Rattle.token_lists.specs.Accounts.{Moves, Keeps, none};
 ghost use Rattle.token_lists.specs.Ids.{id_of, build_id};
 ghost use Rattle.token_lists.specs.Refusals.{IsFull};
 ghost use Rattle.tex_defs.specs.declared.Name.TheVariants.{Empty};
-ghost use Rattle.list_builder.specs.Definitions.{Fed, Tok, Told, Given, text};
+ghost use Rattle.plain_state.specs.Definitions.{Fed, Tok, Told, Given, text};
 ghost use Rattle.list_builder.specs.Scans.{resume, work_in, scan_holds, Owns, IsSound, Answers, IsCutShort, IsCutInCopy, list_of, answer_of, IsOpen};
 
 use crate::ask::Ask;

@@ -9,8 +9,8 @@ use Rattle.token_lists.specs.declared.ListRef.{ListRef}
 use Rattle.tex_defs.specs.declared.Name.{Name}
 use Rattle.token_lists.specs.Table.{Entry, holders_at, IsHeld}
 use Rattle.token_lists.specs.Accounts.{Keeps, holds}
-use Rattle.meanings.specs.Locations.{location}
-use Rattle.meanings.specs.Map.{Map, numbered, all_numbered, set_at, defined, IsPlaced, IsAssignable}
+use Rattle.plain_state.specs.Meanings.{location, set_at}
+use Rattle.meanings.specs.Map.{Map, numbered, all_numbered, defined, IsPlaced, IsAssignable}
 use Rattle.meanings.specs.Holding.{meaning_holds, list_holds, cells_hold}
 
 pub cell_holds_part : (items : List (Meaning (Option ListRef))) (k : ℕ) (d : Meaning (Option ListRef)) → k < length items → (h : ℕ) → meaning_holds (numbered (get_or items k d)) h ≤ cells_hold (all_numbered items) h

@@ -3,14 +3,15 @@ use Rattle.std.specs.Prelude.{◌≡◌, ◌≢◌, ℕ, ◌+◌, ◌<◌, ◌�
 use Rattle.tex_defs.specs.declared.Name.{Name}
 use Rattle.tex_defs.specs.declared.Name.TheVariants as name
 use Rattle.tex_defs.specs.declared.Meaning.{Meaning}
+use Rattle.tex_defs.specs.declared.Meaning.TheVariants as means
 use Rattle.token_lists.specs.Accounts.{Covers, Keeps, Moves}
 use Rattle.token_lists.specs.Codes.{IsName}
 use Rattle.token_lists.specs.Table.{Entry, tokens_at}
 use Rattle.prim_table.specs.Primitives.{primitive_name}
-use Rattle.plain_state.specs.Names.{name_meaning}
-use Rattle.meanings.specs.Locations.{location, relax_number, end_group_number, fi_number}
+use Rattle.plain_state.specs.Names.{relax_primitive, is_primitive}
+use Rattle.plain_state.specs.Meanings.{location, end_group_primitive, fi_primitive, first_meaning, first_meanings}
 use Rattle.meanings.specs.Holding.{held, list_of}
-use Rattle.meanings.specs.Map.{Map, meaning_of, defined, entered, first_map, seen_as, primitive_count, IsAssignable}
+use Rattle.meanings.specs.Map.{Map, meaning_of, defined, entered, first_map, IsAssignable}
 
 -- two names never share a location
 abbrev pub LocationsDiffer : Type 0
@@ -25,18 +26,20 @@ pub record OneNameChanges : Type 0 where
 abbrev pub EnteringDefinesNothing : Type 0
 EnteringDefinesNothing = (m : Map) (n : Name) → meaning_of (entered m) n ≡ meaning_of m n
 
--- INITEX's names, but for the frozen ones, mean what the plain machine says
+-- INITEX's map is the plain machine's: a name of two or more characters means the primitive of its number, where that means
+-- something yet, and the other names are undefined
 pub record FirstMeanings : Type 0 where
-  pub active : (size c : ℕ) → c < 256 → seen_as (meaning_of (first_map size) (name.Active c)) ≡ name_meaning (name.Active c)
-  pub single : (size c : ℕ) → c < 256 → seen_as (meaning_of (first_map size) (name.Single c)) ≡ name_meaning (name.Single c)
-  pub empty : (size : ℕ) → seen_as (meaning_of (first_map size) name.Empty) ≡ name_meaning name.Empty
-  pub words : (size n : ℕ) → 0 < n → n ≤ primitive_count → seen_as (meaning_of (first_map size) (name.Word n)) ≡ name_meaning (name.Word n)
+  pub cells : (size : ℕ) → (first_map size).cells ≡ first_meanings is_primitive
+  pub words : (size n : ℕ) → meaning_of (first_map size) (name.Word n) ≡ first_meaning is_primitive n
+  pub active : (size c : ℕ) → c < 256 → meaning_of (first_map size) (name.Active c) ≡ means.Undefined
+  pub single : (size c : ℕ) → c < 256 → meaning_of (first_map size) (name.Single c) ≡ means.Undefined
+  pub empty : (size : ℕ) → meaning_of (first_map size) name.Empty ≡ means.Undefined
 
 -- the frozen names that are primitives have those primitives' names
 pub record FrozenNames : Type 0 where
-  pub relax : primitive_name relax_number ≡ codes "relax"
-  pub end_group : primitive_name end_group_number ≡ codes "endgroup"
-  pub fi : primitive_name fi_number ≡ codes "fi"
+  pub relax : primitive_name relax_primitive ≡ codes "relax"
+  pub end_group : primitive_name end_group_primitive ≡ codes "endgroup"
+  pub fi : primitive_name fi_primitive ≡ codes "fi"
 
 -- Where other parts change which lists they hold, each macro keeps its tokens, and all that is held stays counted.
 pub record OthersLeaveMeanings : Type 0 where

@@ -1,4 +1,3 @@
 pub mod Holding
 pub mod Laws
-pub mod Locations
 pub mod Map

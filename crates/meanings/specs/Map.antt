@@ -1,15 +1,13 @@
 -- The map from names to meanings: a list with a meaning for each location. A macro has the number of its list, but for
 -- the meaning of the frozen `\endwrite`, which has none.
-use Rattle.std.specs.Prelude.{ℕ, ◌+◌, ◌<◌, List, [], ◌∷◌, ◌++◌, length, map, replicate, slice_set, slice_index_or, Option, None, Some}
-use Rattle.std.specs.List.{range_with_len}
+use Rattle.std.specs.Prelude.{ℕ, ◌+◌, ◌<◌, List, [], ◌∷◌, ◌++◌, length, map, Option, None, Some}
 use Rattle.tex_defs.specs.declared.Name.{Name}
-use Rattle.tex_defs.specs.declared.Name.TheVariants.{Word}
 use Rattle.tex_defs.specs.declared.Meaning.{Meaning}
 use Rattle.tex_defs.specs.declared.Meaning.TheVariants as means
 use Rattle.token_lists.specs.declared.ListRef.{ListRef}
 use Rattle.token_lists.specs.Ids.{id_of}
-use Rattle.plain_state.specs.Names.{name_meaning}
-use Rattle.meanings.specs.Locations.{fixed_locations, location, fixed_meaning}
+use Rattle.plain_state.specs.Names.{is_primitive}
+use Rattle.plain_state.specs.Meanings.{fixed_locations, location, name_meaning, assigned, first_meanings}
 
 -- the meanings by their locations, and how many names of two or more characters may be entered
 pub record Map : Type 0 where
@@ -20,14 +18,9 @@ pub record Map : Type 0 where
 abbrev pub HasRoom : Map → Type 0
 HasRoom m = length m.cells < fixed_locations + m.hash_size
 
--- what stands at a location, if the name has one
-abbrev pub looked_up : List (Meaning (Option ℕ)) → Option ℕ → Meaning (Option ℕ) → Meaning (Option ℕ)
-looked_up cells None fixed = fixed
-looked_up cells (Some k) fixed = slice_index_or cells k means.Undefined
-
 -- what a name means: a name that wasn't entered is undefined
 abbrev pub meaning_of : Map → Name → Meaning (Option ℕ)
-meaning_of m n = looked_up m.cells (location n) (fixed_meaning n)
+meaning_of m n = name_meaning m.cells n
 
 abbrev pub IsPlaced : Option ℕ → ℕ → Type 0
 IsPlaced None count = ⊥
@@ -37,28 +30,13 @@ IsPlaced (Some k) count = k < count
 abbrev pub IsAssignable : Map → Name → Type 0
 IsAssignable m n = IsPlaced (location n) (length m.cells)
 
-abbrev pub set_at : List (Meaning (Option ℕ)) → Option ℕ → Meaning (Option ℕ) → List (Meaning (Option ℕ))
-set_at cells None v = cells
-set_at cells (Some k) v = slice_set cells k v
-
 -- the map in which one name means something else
 abbrev pub defined : Map → Name → Meaning (Option ℕ) → Map
-defined m n v = record { cells = set_at m.cells (location n) v; hash_size = m.hash_size }
+defined m n v = record { cells = assigned m.cells n v; hash_size = m.hash_size }
 
 -- the map once the next name of two or more characters is entered, which is undefined
 abbrev pub entered : Map → Map
 entered m = record { cells = m.cells ++ means.Undefined ∷ []; hash_size = m.hash_size }
-
--- a meaning as readings see it, where a macro has no list
-abbrev pub seen_as : {L : Type 0} → Meaning L → Meaning Unit
-seen_as means.Undefined = means.Undefined
-seen_as means.RelaxMarked = means.RelaxMarked
-seen_as (means.Char cat code) = means.Char cat code
-seen_as (means.CharGiven code) = means.CharGiven code
-seen_as (means.MathGiven code) = means.MathGiven code
-seen_as (means.Register kind n) = means.Register kind n
-seen_as (means.Prim number) = means.Prim number
-seen_as (means.Macro long outer list) = means.Macro long outer tt
 
 -- a meaning that is no macro's
 abbrev pub without_list : Meaning Unit → Meaning (Option ℕ)
@@ -89,16 +67,6 @@ numbered (means.Macro long outer list) = means.Macro long outer (numbered_list l
 abbrev pub all_numbered : List (Meaning (Option ListRef)) → List (Meaning (Option ℕ))
 all_numbered cells = map numbered cells
 
--- how many primitives there are
-abbrev pub primitive_count : ℕ
-primitive_count = 186
-
-abbrev pub primitive_meaning : ℕ → Meaning (Option ℕ)
-primitive_meaning number = without_list (name_meaning (Word number))
-
 -- INITEX's first map: each name is undefined but those of the primitives that mean something
-abbrev pub first_cells : List (Meaning (Option ℕ))
-first_cells = replicate fixed_locations means.Undefined ++ map primitive_meaning (range_with_len 1 primitive_count)
-
 abbrev pub first_map : ℕ → Map
-first_map hash_size = record { cells = first_cells; hash_size = hash_size }
+first_map hash_size = record { cells = first_meanings is_primitive; hash_size = hash_size }

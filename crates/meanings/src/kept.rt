@@ -4,7 +4,8 @@ ghost use Rattle.token_lists.specs.Table.{IsHeld, holders_at};
 ghost use Rattle.token_lists.specs.Accounts.{Moves, Keeps, none};
 ghost use Rattle.token_lists.specs.Ids.{id_of};
 ghost use Rattle.plain_state.specs.Names.{is_primitive};
-ghost use Rattle.meanings.specs.Map.{numbered, numbered_list, seen_as, primitive_meaning, without_list};
+ghost use Rattle.plain_state.specs.Meanings.{seen_as, first_meaning};
+ghost use Rattle.meanings.specs.Map.{numbered, numbered_list, without_list};
 ghost use Rattle.meanings.specs.Holding.{list_of, list_holds, meaning_holds, with_holder, without_holder, Lasts};
 
 use tex_defs::Meaning;
@@ -90,7 +91,7 @@ fn is_primitive(number: u16) -> bool
 
 // What the name of a primitive means at first.
 pub fn primitive(number: u16) -> Kept
-    ensures { numbered result ≡ primitive_meaning number }
+    ensures { numbered result ≡ first_meaning is_primitive number }
 {
     if is_primitive(number) {
         Meaning::Prim(number)

@@ -16,7 +16,7 @@ pub fn entering_defines_nothing()
     ensures { EnteringDefinesNothing }
 {}
 
-/// INITEX's names, but for the frozen ones, mean what the plain machine says.
+/// INITEX's names, but for the frozen ones, are undefined where they are no primitive that means something.
 pub fn first_meanings()
     ensures { FirstMeanings }
 {}

@@ -5,8 +5,9 @@ ghost use Rattle.tex_defs.specs.declared.Meaning.TheVariants.{Undefined};
 ghost use Rattle.token_lists.specs.Table.{holders_at};
 ghost use Rattle.token_lists.specs.Accounts.{Moves, Covers, Keeps, none};
 ghost use Rattle.token_lists.specs.Ids.{id_of};
-ghost use Rattle.meanings.specs.Locations.{fixed_locations, fixed_meaning};
-ghost use Rattle.meanings.specs.Map.{first_map, first_cells, meaning_of, defined, entered, HasRoom, IsAssignable, numbered, all_numbered, seen_as, primitive_meaning, primitive_count};
+ghost use Rattle.plain_state.specs.Names.{is_primitive};
+ghost use Rattle.plain_state.specs.Meanings.{fixed_locations, fixed_meaning, seen_as, seen, first_meaning, primitive_count};
+ghost use Rattle.meanings.specs.Map.{first_map, meaning_of, defined, entered, HasRoom, IsAssignable, numbered, all_numbered};
 ghost use Rattle.meanings.specs.Holding.{held, cells_hold, list_of, meaning_holds, with_holder, without_holder, Lasts};
 
 use crate::kept::{Kept, list_of, primitive, release, seen, share, without_list};
@@ -15,7 +16,7 @@ use prim_table::COUNT;
 use std::alloc::{AllocError, Global};
 use std::marker::Model;
 use std::mem;
-use tex_defs::{Meaning, Name, Sizes};
+use tex_defs::{Meaning, Name, Seen, Sizes, Token};
 use token_lists::{ListRef, Lists};
 
 /// What each name means, with a holder of each macro's list.
@@ -33,7 +34,7 @@ pub struct Meanings {
 // Clauses see the meanings by their locations, each with the number of its list, and how many names may be entered.
 impl Model for Meanings {
     ghost use Rattle.std.specs.Prelude.{◌+◌, ◌≤◌, vec_capacity};
-    ghost use Rattle.meanings.specs.Locations.{fixed_locations};
+    ghost use Rattle.plain_state.specs.Meanings.{fixed_locations};
     ghost use Rattle.meanings.specs.Map.{Map, all_numbered};
 
     ghost Value = { Map };
@@ -58,7 +59,7 @@ fn put_undefined(cells: &mut Vec<Kept>)
 // What the names of the primitives mean, by their numbers.
 fn put_primitives(cells: &mut Vec<Kept>)
     requires room { vec_len cells.old + primitive_count ≤ vec_capacity cells.old }
-    ensures after { all_numbered cells.new.items ≡ all_numbered cells.old.items ++ map primitive_meaning (range_with_len 1 primitive_count) }
+    ensures after { all_numbered cells.new.items ≡ all_numbered cells.old.items ++ map (first_meaning is_primitive) (range_with_len 1 primitive_count) }
     ensures capacity { vec_capacity cells.new ≡ vec_capacity cells.old }
 {
     for k in 0..COUNT {
@@ -113,6 +114,18 @@ impl Meanings {
             Some(kept) => seen(kept),
             None => fixed(name),
         }
+    }
+
+    /// A token with what it means: a character means itself, and a name, marked by `\noexpand` or not, what it means now.
+    pub fn seen(&self, token: Token) -> Seen
+        ensures { result ≡ seen self.now.cells token }
+    {
+        let meaning = match token {
+            Token::Char { cat, code } => Meaning::Char { cat, code },
+            Token::Named(name) | Token::Marked(name) => self.get(name),
+            Token::Place(_) | Token::Number(_) | Token::EndPlaces => Meaning::Undefined,
+        };
+        Seen { token, meaning }
     }
 
     /// The list of a name that is a macro. Only what the frozen `\endwrite` means is a macro without a list.

@@ -65,7 +65,7 @@ fn define_macro(meanings: &mut Meanings, lists: &mut Lists, name: Name) -> bool
 type Told = (Meaning<()>, u32);
 
 fn told(meanings: &Meanings, lists: &Lists, name: Name) -> Told {
-    (meanings.get(name), lists.used())
+    (meanings.seen(Token::Named(name)).meaning, lists.used())
 }
 
 // A macro gets a second name, its first one loses it, and its second one is made the same as itself.
