@@ -1,8 +1,9 @@
 -- What a frame will answer on what is still to come, and the list that is built then.
-use Rattle.std.specs.Prelude.{◌≡◌, ◌≤◌, ℕ, length, Bool, false, if◌then◌else◌, List, [], ◌∷◌, ◌++◌, Option, Some, None, min}
+use Rattle.std.specs.Prelude.{◌≡◌, ◌≤◌, ℕ, length, Bool, false, not, ◌||◌, if◌then◌else◌, List, [], ◌∷◌, ◌++◌, Option, Some, None, min}
 use Rattle.tex_defs.specs.declared.Token.{Token}
 use Rattle.tex_defs.specs.declared.Seen.{Seen}
-use Rattle.plain_state.specs.Readings.{Ask, Fed, integer, constant, first_digit, digits, digits_dropped, too_big, missing, greatest_integer, behind_number, catcode, bad_code, bad_category, equals_behind, behind_equals, message, prefixed, prefix_refused, limit_refused}
+use Rattle.plain_state.specs.Readings.{Ask, Fed, integer, constant, first_digit, digits, digits_dropped, too_big, missing, greatest_integer, behind_number, catcode, bad_code, bad_category, equals_behind, behind_equals, message, prefixed, prefix_refused, limit_refused, is_raw_definition, is_expanded_definition}
+use Rattle.tex_defs.specs.declared.Meaning.{Meaning}
 use Rattle.plain_state.specs.Readings as reading
 use Rattle.frames.specs.declared.scan.Radix.{Radix}
 use Rattle.frames.specs.declared.scan.Radix.TheVariants.{Octal, Decimal, Hexadecimal}
@@ -50,7 +51,7 @@ resume_code (BadCategory code category) fed = bad_category code category fed
 
 -- a command with prefixes
 abbrev pub resume_prefixed : PrefixScan → List Fed → Ask
-resume_prefixed (Prefixes limited) fed = prefixed limited fed
+resume_prefixed (Prefixes long outer) fed = prefixed long outer fed
 resume_prefixed (Refused m) fed = prefix_refused m fed
 resume_prefixed (LimitRefused m) fed = limit_refused m fed
 resume_prefixed (Code scan) fed = resume_code scan fed
@@ -59,12 +60,12 @@ resume_prefixed (Code scan) fed = resume_code scan fed
 abbrev pub resume_waiting : Waiting → List Fed → Ask
 resume_waiting (Catcode scan) fed = resume_code scan fed
 resume_waiting (Message name) fed = message name fed
-resume_waiting (Prefixed limited scan) fed = resume_prefixed scan fed
+resume_waiting (Prefixed long outer scan) fed = resume_prefixed scan fed
 
 abbrev pub waiting_kind : Waiting → reading.Kind
 waiting_kind (Catcode scan) = reading.Catcode
 waiting_kind (Message name) = reading.Message name
-waiting_kind (Prefixed limited scan) = reading.Prefixed limited
+waiting_kind (Prefixed long outer scan) = reading.Prefixed long outer
 
 -- what the frame answers once it is fed with this, where its reading holds these lists
 abbrev pub resume : Frame → List (List Token) → List Fed → Ask
@@ -81,7 +82,7 @@ frame_list f lists fed = []
 abbrev pub first_frame : Kind → Frame
 first_frame kinds.Catcode = Waits (Catcode Start)
 first_frame (kinds.Message name) = Waits (Message name)
-first_frame (kinds.Prefixed limited) = Waits (Prefixed limited (Prefixes limited))
+first_frame (kinds.Prefixed long outer) = Waits (Prefixed long outer (Prefixes long outer))
 first_frame kinds.Integer = Integer (Signs false)
 first_frame (kinds.Text name) = Text name texts.First
 
@@ -158,6 +159,10 @@ HasList scan x (ts ∷ us ∷ lists) = ⊥
 abbrev pub MayFeed : Frame → Seen → List (List Token) → Type 0
 MayFeed (Text name scan) x lists = HasList scan x lists
 MayFeed f x lists = Unit {0}
+
+-- a command that the program has: no definition
+abbrev pub is_built : Meaning Unit → Bool
+is_built m = not (is_raw_definition m || is_expanded_definition m)
 
 -- no report is due
 abbrev pub TakesTokens : Frame → Type 0

@@ -2,6 +2,7 @@
 use Rattle.std.specs.Prelude.{List, [], ◌∷◌, is_some}
 use Rattle.tex_defs.specs.declared.Token.{Token}
 use Rattle.plain_state.specs.Readings as reading
+use Rattle.plain_state.specs.Tokens as tokens
 use Rattle.frames.specs.declared.scan.Value.{Value}
 use Rattle.frames.specs.declared.scan.Value.TheVariants.{Int, Toks, Flag}
 use Rattle.frames.specs.declared.scan.Want.{Want}
@@ -28,15 +29,15 @@ value_of lists (Flag b) = reading.Flag b
 abbrev pub kind_of : Kind → reading.Kind
 kind_of Catcode = reading.Catcode
 kind_of (Message name) = reading.Message name
-kind_of (Prefixed limited) = reading.Prefixed limited
+kind_of (Prefixed long outer) = reading.Prefixed long outer
 kind_of Integer = reading.Integer
 kind_of (Text name) = reading.Text name
 
-abbrev pub want_of : Want → reading.Want
-want_of Raw = reading.Raw
-want_of Expanded = reading.Expanded
-want_of Nonblank = reading.Nonblank
-want_of Command = reading.Command
+abbrev pub want_of : Want → tokens.Want
+want_of Raw = tokens.Raw
+want_of Expanded = tokens.Expanded
+want_of Nonblank = tokens.Nonblank
+want_of Command = tokens.Command
 
 abbrev pub effect_of : List (List Token) → Effect → reading.Effect
 effect_of lists (SetCategory code category) = reading.SetCategory code category

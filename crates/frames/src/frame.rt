@@ -5,11 +5,11 @@ ghost use Rattle.tex_defs.specs.declared.Seen.{Seen};
 ghost use Rattle.plain_state.specs.Readings.{Tok, Val, Told, Fed, Text as TextKind, ask, so_far, own_lists, value_lists, rank, is_at_most, natural};
 ghost use Rattle.frames.specs.Sees.{value_of, kind_of, ask_of};
 ghost use Rattle.frames.specs.Weights.{ask_weight, frame_rank};
-ghost use Rattle.frames.specs.Resumes.{resume, resume_waiting, resume_code, first_frame, frame_list, frame_kind, waiting_kind, frame_grows, lists_after, IsNoText, IsOpen, IsUntold, GivesBack, GivesNone, InnerWaits, MayFeed, Builds, IsShallow, TakesTokens};
+ghost use Rattle.frames.specs.Resumes.{resume, resume_waiting, resume_code, first_frame, frame_list, frame_kind, waiting_kind, frame_grows, lists_after, IsNoText, IsOpen, IsUntold, GivesBack, GivesNone, InnerWaits, MayFeed, Builds, IsShallow, TakesTokens, is_built};
 ghost use Rattle.frames.specs.declared.frame.Waiting.TheVariants.{Catcode};
 ghost use Rattle.frames.specs.declared.frame.Frame.TheVariants.{Waits};
 
-use crate::prefix::PrefixScan;
+use crate::prefix::{First, PrefixScan};
 use crate::scan::{Ask, Effect, Kind, NumberScan, Value, Want, is_other, senseless};
 use crate::text::TextScan;
 use tex_defs::{Name, Seen};
@@ -36,8 +36,8 @@ pub enum Waiting {
     Catcode(CodeScan),
     /// `\message`, with its name as it was written.
     Message(Name),
-    /// A command with prefixes, and whether the first was `\long` or `\outer`.
-    Prefixed(bool, PrefixScan),
+    /// A command with prefixes: whether the first was `\long`, whether it was `\outer`, and where its reading stands.
+    Prefixed(bool, bool, PrefixScan),
 }
 
 /// An open reading.
@@ -61,7 +61,7 @@ pub fn first_ask(kind: Kind) -> Ask
     match kind {
         Kind::Catcode => Ask::Inner(Waiting::Catcode(CodeScan::Start), Kind::Integer, None),
         Kind::Message(name) => Ask::Inner(Waiting::Message(name), Kind::Text(name), None),
-        Kind::Prefixed(_) => Ask::More(Want::Command),
+        Kind::Prefixed(_, _) => Ask::More(Want::Command),
         Kind::Integer => Ask::More(Want::Nonblank),
         Kind::Text(_) => Ask::More(Want::Command),
     }
@@ -76,6 +76,13 @@ fn within(n: i32, limit: u8) -> Option<u8>
     } else {
         None
     }
+}
+
+// The first prefix.
+fn first(long: bool, outer: bool) -> First
+    ensures { result ≡ record { long = long; outer = outer } }
+{
+    First { long, outer }
 }
 
 impl CodeScan {
@@ -167,7 +174,7 @@ impl Waiting {
                 Value::Toks => Ask::Act(Effect::Say),
                 _ => senseless(),
             },
-            Waiting::Prefixed(limited, scan) => scan.feed_value(*limited, value),
+            Waiting::Prefixed(long, outer, scan) => scan.feed_value(first(*long, *outer), value),
         }
     }
 
@@ -184,12 +191,13 @@ impl Waiting {
         match self {
             Waiting::Catcode(scan) => scan.feed_told(),
             Waiting::Message(_) => senseless(),
-            Waiting::Prefixed(limited, scan) => scan.feed_told(*limited),
+            Waiting::Prefixed(long, outer, scan) => scan.feed_told(first(*long, *outer)),
         }
     }
 
     /// Takes one token.
     fn feed(&mut self, x: Seen) -> Ask
+        requires built { is_built x.meaning ≡ true }
         ensures answer { (lists : List (List Token)) → ask_of lists result ≡ resume_waiting self.old (Tok x ∷ []) }
         ensures goes_on { IsOpen result → (fed : List Fed) → resume_waiting self.old (Tok x ∷ fed) ≡ resume_waiting self.new fed }
         ensures kind { waiting_kind self.new ≡ waiting_kind self.old }
@@ -200,7 +208,7 @@ impl Waiting {
         match self {
             Waiting::Catcode(scan) => scan.feed(x),
             Waiting::Message(_) => senseless(),
-            Waiting::Prefixed(limited, scan) => scan.feed(*limited, x),
+            Waiting::Prefixed(long, outer, scan) => scan.feed(first(*long, *outer), x),
         }
     }
 }
@@ -213,16 +221,17 @@ impl Frame {
         ensures list { (lists : List (List Token)) (fed : List Fed) → so_far (kind_of kind) fed ≡ frame_list result lists fed }
         ensures kind { frame_kind result ≡ kind_of kind }
         ensures rank { frame_rank result ≡ rank (kind_of kind) }
-        ensures shallow { IsShallow result (own_lists (kind_of kind) []) }
-        ensures builds { Builds result (own_lists (kind_of kind) []) (own_lists (kind_of kind) []) [] }
+        ensures shallow { IsShallow result (own_lists (kind_of kind)) }
+        ensures builds { Builds result (own_lists (kind_of kind)) (own_lists (kind_of kind)) [] }
         ensures takes { TakesTokens result }
         ensures fresh { (x : Seen) → frame_grows result x ≡ false }
     {
         match kind {
             Kind::Catcode => Frame::Waits(Waiting::Catcode(CodeScan::Start)),
             Kind::Message(name) => Frame::Waits(Waiting::Message(name)),
-            Kind::Prefixed(limited) => {
-                Frame::Waits(Waiting::Prefixed(limited, PrefixScan::Prefixes(limited)))
+            Kind::Prefixed(long, outer) => {
+                let scan = PrefixScan::Prefixes(long, outer);
+                Frame::Waits(Waiting::Prefixed(long, outer, scan))
             }
             Kind::Integer => Frame::Integer(NumberScan::Signs(false)),
             Kind::Text(name) => Frame::Text(name, TextScan::First),
@@ -241,6 +250,7 @@ impl Frame {
 
     /// Takes one token.
     pub fn feed(&mut self, x: Seen) -> Ask
+        requires built { is_built x.meaning ≡ true }
         ensures answer { (lists : List (List Token)) → MayFeed self.old x lists → ask_of (lists_after (frame_grows self.old x) x lists) result ≡ resume self.old lists (Tok x ∷ []) }
         ensures goes_on { IsOpen result → (lists : List (List Token)) (fed : List Fed) → MayFeed self.old x lists → resume self.old lists (Tok x ∷ fed) ≡ resume self.new (lists_after (frame_grows self.old x) x lists) fed }
         ensures list { IsOpen result → (lists : List (List Token)) (fed : List Fed) → MayFeed self.old x lists → frame_list self.old lists (Tok x ∷ fed) ≡ frame_list self.new (lists_after (frame_grows self.old x) x lists) fed }

@@ -15,6 +15,6 @@ mod text;
 
 pub use frame::{CodeScan, Frame, Waiting, first_ask};
 pub use outer::Outer;
-pub use prefix::{CATCODE, GLOBAL, LONG, OUTER, PrefixScan};
+pub use prefix::{CATCODE, First, GLOBAL, LONG, OUTER, PrefixScan};
 pub use scan::{Ask, Effect, Kind, NumberScan, Radix, Value, Want};
 pub use text::TextScan;

@@ -1,12 +1,12 @@
 // The prefixes of an assignment. *The TeXbook*, chapter 24; *TeX: The Program*, part 49 (`prefixed_command`).
-ghost use Rattle.std.specs.Prelude.{◌≡◌, ◌≤◌, List, [], ◌∷◌};
+ghost use Rattle.std.specs.Prelude.{◌≡◌, ◌≤◌, true, List, [], ◌∷◌};
 ghost use Rattle.tex_defs.specs.declared.Token.{Token};
 ghost use Rattle.tex_defs.specs.declared.Seen.{Seen};
 ghost use Rattle.plain_state.specs.Names.{means_primitive};
 ghost use Rattle.plain_state.specs.Readings.{Fed, Tok, Val, Told, value_lists, prefixed, behind_prefixes};
 ghost use Rattle.frames.specs.Sees.{value_of, ask_of};
 ghost use Rattle.frames.specs.Weights.{ask_weight};
-ghost use Rattle.frames.specs.Resumes.{resume_prefixed, IsOpen, IsUntold, GivesBack, GivesNone, InnerWaits};
+ghost use Rattle.frames.specs.Resumes.{resume_prefixed, is_built, IsOpen, IsUntold, GivesBack, GivesNone, InnerWaits};
 ghost use Rattle.frames.specs.declared.frame.Waiting.TheVariants.{Prefixed};
 ghost use Rattle.frames.specs.declared.frame.Frame.TheVariants.{Waits};
 ghost use Rattle.frames.specs.declared.frame.CodeScan.TheVariants.{Start};
@@ -29,11 +29,27 @@ pub const GLOBAL: u16 = 25;
 /// The number of `\catcode`.
 pub const CATCODE: u16 = 35;
 
+/// The first prefix: whether it is `\long`, and whether it is `\outer`.
+#[derive(Clone, Copy, Debug, PartialEq, Eq)]
+pub struct First {
+    pub long: bool,
+    pub outer: bool,
+}
+
+impl First {
+    /// The whole command, which waits where this scan stands.
+    fn waiting(self, scan: PrefixScan) -> Waiting
+        ensures { result ≡ Prefixed self.long self.outer scan }
+    {
+        Waiting::Prefixed(self.long, self.outer, scan)
+    }
+}
+
 /// Where the reading of a command with prefixes stands.
 #[derive(Clone, Copy, Debug, PartialEq, Eq)]
 pub enum PrefixScan {
-    /// Behind prefixes: whether `\long` or `\outer` is among them.
-    Prefixes(bool),
+    /// Behind prefixes: whether `\long` and `\outer` are among them.
+    Prefixes(bool, bool),
     /// The report comes that no prefix may stand before this command.
     Refused(Meaning<()>),
     /// The report comes that `\long` and `\outer` may not stand before this assignment.
@@ -69,12 +85,12 @@ fn waiting_as(ask: Ask, waits: Waiting) -> Ask
 }
 
 impl PrefixScan {
-    /// Takes the value of an inner reading; `first` says whether the first prefix was `\long` or `\outer`.
-    pub fn feed_value(&mut self, first: bool, value: Value) -> Ask
+    /// Takes the value of an inner reading; `first` is the first prefix.
+    pub fn feed_value(&mut self, first: First, value: Value) -> Ask
         ensures answer { (lists now : List (List Token)) → ask_of now result ≡ resume_prefixed self.old (Val (value_of lists value) ∷ []) }
         ensures goes_on { IsOpen result → (lists : List (List Token)) (fed : List Fed) → resume_prefixed self.old (Val (value_of lists value) ∷ fed) ≡ resume_prefixed self.new fed }
         ensures none { GivesNone result }
-        ensures waits { InnerWaits result (Waits (Prefixed first self.new)) }
+        ensures waits { InnerWaits result (Waits (Prefixed first.long first.outer self.new)) }
         ensures bare { IsOpen result → (lists : List (List Token)) → value_lists (value_of lists value) ≡ [] }
         ensures light { ask_weight result ≤ 7 }
     {
@@ -83,83 +99,90 @@ impl PrefixScan {
         };
         let ask = scan.feed_value(value);
         *self = PrefixScan::Code(scan);
-        waiting_as(ask, Waiting::Prefixed(first, *self))
+        waiting_as(ask, first.waiting(*self))
     }
 
     /// Goes on behind its report: an assignment begins as if `\long` and `\outer` weren't there.
-    pub fn feed_told(&mut self, first: bool) -> Ask
+    pub fn feed_told(&mut self, first: First) -> Ask
         ensures answer { (lists : List (List Token)) → ask_of lists result ≡ resume_prefixed self.old (Told ∷ []) }
         ensures goes_on { IsOpen result → (fed : List Fed) → resume_prefixed self.old (Told ∷ fed) ≡ resume_prefixed self.new fed }
         ensures none { GivesNone result }
-        ensures waits { InnerWaits result (Waits (Prefixed first self.new)) }
+        ensures waits { InnerWaits result (Waits (Prefixed first.long first.outer self.new)) }
         ensures light { ask_weight result ≤ 6 }
         ensures untold { IsUntold result }
     {
         match *self {
-            PrefixScan::Prefixes(_) => senseless(),
+            PrefixScan::Prefixes(_, _) => senseless(),
             PrefixScan::Refused(_) => Ask::Done(Value::Flag(true), None),
             PrefixScan::LimitRefused(_) => self.begin_code(first),
             PrefixScan::Code(scan) => {
                 let mut scan = scan;
                 let ask = scan.feed_told();
                 *self = PrefixScan::Code(scan);
-                waiting_as(ask, Waiting::Prefixed(first, *self))
+                waiting_as(ask, first.waiting(*self))
             }
         }
     }
 
     /// Takes one token.
-    pub fn feed(&mut self, first: bool, x: Seen) -> Ask
+    pub fn feed(&mut self, first: First, x: Seen) -> Ask
+        requires built { is_built x.meaning ≡ true }
         ensures answer { (lists : List (List Token)) → ask_of lists result ≡ resume_prefixed self.old (Tok x ∷ []) }
         ensures goes_on { IsOpen result → (fed : List Fed) → resume_prefixed self.old (Tok x ∷ fed) ≡ resume_prefixed self.new fed }
         ensures back { GivesBack result x }
-        ensures waits { InnerWaits result (Waits (Prefixed first self.new)) }
+        ensures waits { InnerWaits result (Waits (Prefixed first.long first.outer self.new)) }
         ensures light { ask_weight result ≤ 10 }
     {
         match *self {
-            PrefixScan::Prefixes(limited) => self.feed_prefix(first, limited, x),
+            PrefixScan::Prefixes(long, outer) => self.feed_prefix(first, long, outer, x),
             PrefixScan::Refused(_) | PrefixScan::LimitRefused(_) => senseless(),
             PrefixScan::Code(scan) => {
                 let mut scan = scan;
                 let ask = scan.feed(x);
                 *self = PrefixScan::Code(scan);
-                waiting_as(ask, Waiting::Prefixed(first, *self))
+                waiting_as(ask, first.waiting(*self))
             }
         }
     }
 
     /// Takes a prefix, or the command behind the prefixes.
-    fn feed_prefix(&mut self, first: bool, limited: bool, x: Seen) -> Ask
-        ensures answer { (lists : List (List Token)) → ask_of lists result ≡ prefixed limited (Tok x ∷ []) }
-        ensures goes_on { (fed : List Fed) → prefixed limited (Tok x ∷ fed) ≡ resume_prefixed self.new fed }
+    fn feed_prefix(&mut self, first: First, long: bool, outer: bool, x: Seen) -> Ask
+        requires built { is_built x.meaning ≡ true }
+        ensures answer { (lists : List (List Token)) → ask_of lists result ≡ prefixed long outer (Tok x ∷ []) }
+        ensures goes_on { (fed : List Fed) → prefixed long outer (Tok x ∷ fed) ≡ resume_prefixed self.new fed }
         ensures back { GivesBack result x }
-        ensures waits { InnerWaits result (Waits (Prefixed first self.new)) }
+        ensures waits { InnerWaits result (Waits (Prefixed first.long first.outer self.new)) }
         ensures light { ask_weight result ≤ 10 }
     {
-        if means_primitive(x, LONG) || means_primitive(x, OUTER) {
-            *self = PrefixScan::Prefixes(true);
+        if means_primitive(x, LONG) {
+            *self = PrefixScan::Prefixes(true, outer);
+            return Ask::More(Want::Command);
+        }
+        if means_primitive(x, OUTER) {
+            *self = PrefixScan::Prefixes(long, true);
             return Ask::More(Want::Command);
         }
         if means_primitive(x, GLOBAL) {
-            *self = PrefixScan::Prefixes(limited);
+            *self = PrefixScan::Prefixes(long, outer);
             return Ask::More(Want::Command);
         }
-        self.feed_command(first, limited, x)
+        self.feed_command(first, long, outer, x)
     }
 
     /// Takes the command behind the prefixes.
-    fn feed_command(&mut self, first: bool, limited: bool, x: Seen) -> Ask
-        ensures answer { (lists : List (List Token)) → ask_of lists result ≡ behind_prefixes limited x.meaning [] }
-        ensures goes_on { (fed : List Fed) → behind_prefixes limited x.meaning fed ≡ resume_prefixed self.new fed }
+    fn feed_command(&mut self, first: First, long: bool, outer: bool, x: Seen) -> Ask
+        requires built { is_built x.meaning ≡ true }
+        ensures answer { (lists : List (List Token)) → ask_of lists result ≡ behind_prefixes long outer x.meaning [] }
+        ensures goes_on { (fed : List Fed) → behind_prefixes long outer x.meaning fed ≡ resume_prefixed self.new fed }
         ensures back { GivesBack result x }
-        ensures waits { InnerWaits result (Waits (Prefixed first self.new)) }
+        ensures waits { InnerWaits result (Waits (Prefixed first.long first.outer self.new)) }
         ensures light { ask_weight result ≤ 10 }
     {
         if !means_primitive(x, CATCODE) {
             *self = PrefixScan::Refused(x.meaning);
             return Ask::Tells(Report::PrefixWith(x.meaning), Some(x));
         }
-        if limited {
+        if long || outer {
             *self = PrefixScan::LimitRefused(x.meaning);
             return Ask::Tells(Report::LongOrOuterWith(x.meaning), None);
         }
@@ -167,16 +190,16 @@ impl PrefixScan {
     }
 
     /// The assignment begins.
-    fn begin_code(&mut self, first: bool) -> Ask
+    fn begin_code(&mut self, first: First) -> Ask
         ensures answer { (lists : List (List Token)) → ask_of lists result ≡ resume_prefixed self.new [] }
         ensures now { self.new ≡ Code Start }
         ensures back { (x : Seen) → GivesBack result x }
         ensures none { GivesNone result }
-        ensures waits { InnerWaits result (Waits (Prefixed first self.new)) }
+        ensures waits { InnerWaits result (Waits (Prefixed first.long first.outer self.new)) }
         ensures light { ask_weight result ≤ 6 }
         ensures untold { IsUntold result }
     {
         *self = PrefixScan::Code(CodeScan::Start);
-        Ask::Inner(Waiting::Prefixed(first, *self), Kind::Integer, None)
+        Ask::Inner(first.waiting(*self), Kind::Integer, None)
     }
 }

@@ -3,7 +3,9 @@
 ghost use Rattle.std.specs.Prelude.{◌≡◌, ◌≤◌, ◌+◌, ◌*◌, List, [], ◌∷◌, MatchOption, true, false, nat_le, if◌then◌else◌};
 ghost use Rattle.tex_defs.specs.declared.Seen.{Seen};
 ghost use Rattle.tex_defs.specs.declared.Token.{Token};
-ghost use Rattle.plain_state.specs.Readings.{Fed, Tok, Told, has_category, is_other, means_category, is_digit, digit_of_token, number_ended, greatest_integer};
+ghost use Rattle.plain_state.specs.Tokens.{has_category, is_other, means_category};
+ghost use Rattle.plain_state.specs.Tokens as tokens;
+ghost use Rattle.plain_state.specs.Readings.{Fed, Tok, Told, is_digit, digit_of_token, number_ended, greatest_integer};
 ghost use Rattle.plain_state.specs.Readings as reading;
 ghost use Rattle.plain_state.specs.Reports as reports;
 ghost use Rattle.frames.specs.Sees.{ask_of};
@@ -21,8 +23,8 @@ use transcript::Report;
 pub enum Kind {
     Catcode,
     Message(Name),
-    /// A command behind its first prefix, and whether that is `\long` or `\outer`.
-    Prefixed(bool),
+    /// A command behind its first prefix: whether that is `\long`, and whether it is `\outer`.
+    Prefixed(bool, bool),
     Integer,
     Text(Name),
 }
@@ -334,7 +336,7 @@ impl NumberScan {
 
     /// Takes a digit behind digits of this value.
     fn take_digit(&mut self, negative: bool, base: Radix, value: u32, d: u8) -> Ask
-        ensures answer { (lists : List (List Token)) → ask_of lists result ≡ (if nat_le (value * radix base + d) greatest_integer then reading.More reading.Expanded else reading.Tells reports.NumberTooBig false) }
+        ensures answer { (lists : List (List Token)) → ask_of lists result ≡ (if nat_le (value * radix base + d) greatest_integer then reading.More tokens.Expanded else reading.Tells reports.NumberTooBig false) }
         ensures goes_on { self.new ≡ (if nat_le (value * radix base + d) greatest_integer then Digits negative base (value * radix base + d) else TooBig negative base) }
         ensures none { GivesNone result }
         ensures light { ask_weight result ≤ 7 }

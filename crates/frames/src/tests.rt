@@ -47,12 +47,12 @@ fn primitive(number: u16) -> Seen {
 
 #[test]
 fn prefixes_stand_before_assignments(rt: HostRuntime) -> Result<(), Fail> {
-    assert!(rt; first_ask(Kind::Prefixed(false)) == Ask::More(Want::Command));
-    let mut frame = Frame::new(Kind::Prefixed(false));
+    assert!(rt; first_ask(Kind::Prefixed(false, false)) == Ask::More(Want::Command));
+    let mut frame = Frame::new(Kind::Prefixed(false, false));
     assert!(rt; frame.feed(primitive(GLOBAL)) == Ask::More(Want::Command));
-    let waits = Waiting::Prefixed(false, PrefixScan::Code(CodeScan::Start));
+    let waits = Waiting::Prefixed(false, false, PrefixScan::Code(CodeScan::Start));
     assert!(rt; frame.feed(primitive(CATCODE)) == Ask::Inner(waits, Kind::Integer, None));
-    let mut limited = Frame::new(Kind::Prefixed(false));
+    let mut limited = Frame::new(Kind::Prefixed(false, false));
     assert!(rt; limited.feed(primitive(OUTER)) == Ask::More(Want::Command));
     let report = Report::LongOrOuterWith(Meaning::Prim(CATCODE));
     assert!(rt; limited.feed(primitive(CATCODE)) == Ask::Tells(report, None));
@@ -62,7 +62,7 @@ fn prefixes_stand_before_assignments(rt: HostRuntime) -> Result<(), Fail> {
 
 #[test]
 fn another_command_is_given_back(rt: HostRuntime) -> Result<(), Fail> {
-    let mut frame = Frame::new(Kind::Prefixed(true));
+    let mut frame = Frame::new(Kind::Prefixed(true, false));
     assert!(rt; frame.feed(primitive(LONG)) == Ask::More(Want::Command));
     let letter = char_of(11, 120);
     let report = Report::PrefixWith(letter.meaning);
