@@ -5,5 +5,6 @@ pub mod HeldViews
 pub mod FileLeft
 pub mod FileViews
 pub mod InputViews
+pub mod Macros
 pub mod Changes
 pub mod Given
