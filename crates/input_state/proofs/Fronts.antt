@@ -66,7 +66,7 @@ module _ (table : List (Option Entry)) (p : Put) (ps : List Put) (already : plai
 
 -- WHAT COMES NEXT
 
--- the first of these lists begins with this item, and those are what is left behind it
+-- the first list begins with this item, and those of `after` are left behind it
 pub record IsNext (ps after : List plain.Put) (x : plain.Item) : Type 0 where
   pub put : plain.Put
   pub left : List plain.Item
@@ -79,7 +79,7 @@ pub next_is : (ps after : List plain.Put) (x : plain.Item) → IsNext ps after x
 next_is ps after x k = ap plain.top_item k.first ∙ ap plain.first_item k.has
 
 module _ (table : List (Option Entry)) where
-  -- the list on top, where these of its items are left
+  -- a list on top of which these items are left
   passed_now : Put → List Item → List Put → List plain.Put
   passed_now p xs ps = plain.passed_top (front table p) (plain.without_gaps (map plain_item xs)) (plain.passed (fronts table ps)) (fronts table ps)
 

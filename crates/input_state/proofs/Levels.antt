@@ -69,7 +69,7 @@ plain_front body n (t ∷ ts) ps a = (plain_is body n (t ∷ ts), plain_settled 
 pub simple_put : (body : Bool) (n : ℕ) (ts : List Token) (p : Pending) → IsSimple p → IsSimple (put (flat_put body n ts) p)
 simple_put body n ts p a = record { single = a.single; plain = plain_front body n ts p.puts a.plain }
 
--- their next item is a token of a list that was put
+-- the next item of plain lists is a token of the text
 
 text_next : (ts : List Token) (ps : List Put) (x : Item) → (next_item ps ≡ Some x → x ≡ Text (token_in x)) → first (without_gaps (map Text ts ++ flat ps)) ≡ Some x → x ≡ Text (token_in x)
 text_next [] ps x more is = more is
@@ -79,7 +79,7 @@ pub next_text : (ps : List Put) → ArePlain ps → (x : Item) → next_item ps 
 next_text [] a x is = absurd (none-some x is)
 next_text (p ∷ ps) a x is = text_next (map token_in p.items) ps x (next_text ps a.1 x) (ap (λ (xs : List Item). first (without_gaps (xs ++ flat ps))) (sym a.0.texts) ∙ is)
 
--- and where none is next all of them are finished
+-- where no item is next, all of them are finished
 
 text_finished : (p : Put) (ts : List Token) (ps : List Put) → (next_item ps ≡ None → settled ps ≡ []) → first (without_gaps (map Text ts ++ flat ps)) ≡ None → settled_top p (map Text ts) (settled ps) ps ≡ []
 text_finished p [] ps more is = more is

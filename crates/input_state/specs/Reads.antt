@@ -29,7 +29,7 @@ pub record ReadsLexeme (p : Pulled) (lexed : Lexed) (next : Pending) (buffer : L
   pub is : IsLexeme buffer lexed lexeme
   pub pulls : p ≡ LexemeFrom lexeme next
 
--- The answer on a reading from what is pending, before and after it. A token of a list and a line have room.
+-- The answer on a reading from what is pending, before and after it. The step of a list's token or of a line fits.
 abbrev pub Reads : Pulled → answers.Pulled → Sizes → Pending → Pending → List ℕ → Type 0
 Reads p (answer.Token t) sizes old new buffer = (p ≡ TokenFrom t new) × (refused sizes (opened_level (next_item old.puts) old) ≡ None)
 Reads p (answer.Lexeme l) sizes old new buffer = ReadsLexeme p l new buffer
