@@ -26,8 +26,8 @@ pub fn puts_are_held(stack: &InputStack)
     let _ = stack;
 }
 
-/// Each level that stands and each argument of a call holds one list. So a list is held at most as often as there are
-/// levels and arguments, and these are within the sizes of the input stack and of the parameter stack.
+/// Each level that stands and each argument of a call holds one list at most. So no list is held more often than levels
+/// and arguments stand, which are within the sizes of the input stack and of the parameter stack.
 pub fn few_are_held(stack: &InputStack)
     ensures standing { (table : List (Option Entry)) (h : ℕ) → Stands table stack.now → held stack.now h ≤ levels (pending table stack.now) + arguments (pending table stack.now) }
     ensures sizes { (table : List (Option Entry)) (h : ℕ) → Stands table stack.now → held stack.now h ≤ stack.now.size + stack.now.parameter_size }
