@@ -44,7 +44,7 @@ arguments p = standing_arguments p.puts + sum_by (λ b. standing_arguments b.put
 abbrev pub used_parameters : Pending → ℕ
 used_parameters p = used_arguments p.puts + sum_by (λ b. used_arguments b.puts) p.sources
 
--- a list of these tokens, without arguments
+-- a list of these tokens that is no macro's body, without arguments
 abbrev pub plain_put : ℕ → List Token → Put
 plain_put n ts = record { list = n; body = false; arguments = []; reading = None; items = map Text ts }
 
