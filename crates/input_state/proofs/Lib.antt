@@ -12,6 +12,8 @@ pub mod ListViews
 pub mod Sounds
 pub mod Putting
 pub mod Opening
+pub mod Calling
+pub mod Defining
 pub mod Pulling
 pub mod PullKept
 pub mod Readies

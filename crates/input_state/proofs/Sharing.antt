@@ -114,7 +114,7 @@ macro_held table t stack m single id is =
     omega (arith, one_some _ one, held_parts table stack single id)
 
 -- a list by its number
-text_at : (table : List (Option Entry)) (id : ℕ) → list_at (texts table) id ≡ tokens_at table id
+pub text_at : (table : List (Option Entry)) (id : ℕ) → list_at (texts table) id ≡ tokens_at table id
 text_at [] id = refl
 text_at (o ∷ os) zero = refl
 text_at (o ∷ os) (suc id) = text_at os id

@@ -6,5 +6,6 @@ pub mod FileLeft
 pub mod FileViews
 pub mod InputViews
 pub mod Macros
+pub mod Calls
 pub mod Changes
 pub mod Given

@@ -2,7 +2,8 @@
 ghost use Rattle.std.specs.Prelude.{◌≡◌, ◌≢◌, ℕ, ◌≤◌, ◌<◌, ◌+◌, ◌++◌, ◌↔◌, List, [], ◌∷◌, Option, None, Some, IsSome, IsTrue, IfOk, OnOk, OnErr, IfErr, MatchResult, length, drop, replicate};
 ghost use Rattle.tex_defs.specs.Sizes.{first_out_of_range};
 ghost use Rattle.plain_state.specs.Names.{is_primitive};
-ghost use Rattle.plain_state.specs.Meanings.{first_meanings};
+ghost use Rattle.tex_defs.specs.declared.Meaning.TheVariants.{Undefined};
+ghost use Rattle.plain_state.specs.Meanings.{first_meanings, fixed_locations, location, name_meaning, seen};
 ghost use Rattle.plain_state.specs.Puts.{settled, with_put, token_put};
 ghost use Rattle.plain_state.specs.Pending.{Progress, pulled};
 ghost use Rattle.plain_state.specs.States.{grow_first, grown_by};
@@ -13,17 +14,21 @@ ghost use Rattle.token_lists.specs.Ids.{build_id, IsBuilding};
 ghost use Rattle.token_lists.specs.Accounts.{Moves, none, holds};
 ghost use Rattle.token_lists.specs.Refusals.{IsFull};
 ghost use Rattle.input_state.specs.HeldLists.{HeldLists, KeepsHeld, first_list, is_empty, made, words_held, level_held, pending_of, ahead_of, line_levels, IsLineIn};
+ghost use Rattle.meanings.specs.Map.{IsPlaced};
+ghost use Rattle.input_state.specs.HeldViews.{IsDefined};
+ghost use Rattle.input_state.specs.Calls.{call_kind, Defines};
 ghost use Rattle.input_state.specs.Changes.{IsOnly};
 ghost use Rattle.input_state.specs.Reads.{Reads};
 ghost use Rattle.input_state.specs.Given.{GivesMore, answer_of};
 
-use crate::Pulled;
+use crate::holders::has_parameters;
+use crate::{CallKind, Pulled};
 use input_stack::{InputStack, Pulled as Given};
 use line_lexer::{Ahead, Lexed, Line};
 use meanings::Meanings;
 use std::alloc::{AllocError, Global};
 use std::marker::Model;
-use tex_defs::{Full, Sizes, Token};
+use tex_defs::{Full, Meaning, Name, Seen, Sizes, Token};
 use token_lists::{Build, Lists};
 use world_io::InId;
 
@@ -388,6 +393,52 @@ impl Held {
         ensures { self.new ≡ record self.old { line = None } }
     {
         let _id = self.stack.end_file();
+    }
+
+    /// A token with what it means.
+    pub fn seen(&self, token: Token) -> Seen
+        ensures { result ≡ seen self.now.meanings token }
+    {
+        self.meanings.seen(token)
+    }
+
+    /// Gives the next name of two or more characters a location. It is undefined.
+    pub fn enter_name(&mut self)
+        requires { length self.old.meanings < fixed_locations + self.old.hash_size }
+        ensures { self.new ≡ record self.old { meanings = self.old.meanings ++ Undefined ∷ [] } }
+    {
+        self.meanings.enter();
+    }
+
+    /// A name becomes a macro: the innermost reading's list is its parameter text, the end mark and its body.
+    pub fn define(&mut self, name: Name, long: bool, outer: bool)
+        requires some { self.old.gathered ≢ [] }
+        requires list { IsDefined (first_list self.old.gathered) }
+        requires assignable { IsPlaced (location name) (length self.old.meanings) }
+        ensures after { self.new ≡ record self.old { gathered = drop 1 self.old.gathered; meanings = self.new.meanings; lists = self.new.lists } }
+        ensures defines { Defines self.old.meanings self.new.meanings self.old.puts self.old.lists self.new.lists (first_list self.old.gathered) name long outer }
+        ensures macros { KeepsHeld self.old self.new }
+    {
+        let Some(build) = self.gathered.pop() else {
+            unreachable!()
+        };
+        let list = Some(self.lists.finish(build));
+        let meaning = Meaning::Macro { long, outer, list };
+        self.meanings.define(&mut self.lists, name, meaning);
+    }
+
+    /// How a name is called.
+    pub fn call_kind(&self, name: Name) -> CallKind
+        ensures { result ≡ call_kind self.now.lists (name_meaning self.now.meanings name) }
+    {
+        let Some(list) = self.meanings.list(name) else {
+            return CallKind::None;
+        };
+        if has_parameters(&self.lists, list) {
+            CallKind::Gathers
+        } else {
+            CallKind::AtOnce
+        }
     }
 
     /// Lets all lists go.
