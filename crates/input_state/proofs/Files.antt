@@ -2,6 +2,7 @@
 use Rattle.std.proofs.Common.{◌≡◌, ℕ, ◌+◌, List, [], ◌∷◌, Result, Ok, Err, refl, sym, ap, ◌∙◌, subst, arith}
 use Rattle.std.specs.Prelude.{IfOk, IfErr}
 use Rattle.std.proofs.lemmas.List.Sums.{sum_by-cons}
+use Rattle.tex_defs.specs.declared.Token.{Token}
 use Rattle.tex_defs.specs.declared.Full.{Full}
 use Rattle.tex_defs.specs.declared.Sizes.{Sizes}
 use Rattle.tex_defs.specs.declared.Table.TheVariants.{InputStackSize}
@@ -50,16 +51,16 @@ settled_reads q answer.Invalid sizes p new bytes none past h = h
 settled_reads q answer.FileOver sizes p new bytes none past h = h
 settled_reads q answer.Nothing sizes p new bytes none past h = (h.0, h.1 ∙ settled_twice p none)
 
-abbrev settled_store : Stored → Stored
-settled_store s = record s { pending = settle s.pending }
+abbrev settled_store : List (List Token) → Stored → Stored
+settled_store lists s = record s { pending = settle s.pending; lists = lists }
 
-module _ (c : List ℕ) (old new : Stored) (used : ahead_of c old.pending ≡ ahead.End) (finished : settled old.pending.puts ≡ []) where
-  pulls_now : (x : Pulled) → Pulls (from_file old.pending.file old.pending.number old.pending.rest) x (settled_store old) new → Pulls (pulled c old.pending) x old new
+module _ (c : List ℕ) (ls : List (List Token)) (old new : Stored) (used : ahead_of c old.pending ≡ ahead.End) (finished : settled old.pending.puts ≡ []) where
+  pulls_now : (x : Pulled) → Pulls (from_file old.pending.file old.pending.number old.pending.rest) x (settled_store ls old) new → Pulls (pulled c old.pending) x old new
   pulls_now x h =
       let k = used_up c old.pending used in
       subst (λ (q : plain.Pulled). Reads q x old.sizes old.pending new.pending new.buffer) (sym k.1) (settled_reads _ x old.sizes old.pending new.pending new.buffer finished k.0 h)
 
-  refuses_now : (full : Full) → RefusesLine full (settled_store old) new → Refuses c full old new
+  refuses_now : (full : Full) → RefusesLine full (settled_store ls old) new → Refuses c full old new
   refuses_now full h =
       let k = used_up c old.pending used in
       record {
@@ -70,16 +71,16 @@ module _ (c : List ℕ) (old new : Stored) (used : ahead_of c old.pending ≡ ah
         stays = h.stays ∙ settled_twice old.pending finished;
       }
 
-  by_ok : (r : Result Pulled Full) → IfOk r (λ x. Pulls (from_file old.pending.file old.pending.number old.pending.rest) x (settled_store old) new) → IfOk r (λ x. Pulls (pulled c old.pending) x old new)
+  by_ok : (r : Result Pulled Full) → IfOk r (λ x. Pulls (from_file old.pending.file old.pending.number old.pending.rest) x (settled_store ls old) new) → IfOk r (λ x. Pulls (pulled c old.pending) x old new)
   by_ok (Ok x) h = pulls_now x h
   by_ok (Err f) h = tt
 
-  by_err : (r : Result Pulled Full) → IfErr r (λ full. RefusesLine full (settled_store old) new) → IfErr r (λ full. Refuses c full old new)
+  by_err : (r : Result Pulled Full) → IfErr r (λ full. RefusesLine full (settled_store ls old) new) → IfErr r (λ full. Refuses c full old new)
   by_err (Ok x) h = tt
   by_err (Err f) h = refuses_now f h
 
-  pub pull_ok : (mid : Stored) (r : Result Pulled Full) → mid ≡ settled_store old → IfOk r (λ x. Pulls (from_file mid.pending.file mid.pending.number mid.pending.rest) x mid new) → IfOk r (λ x. Pulls (pulled c old.pending) x old new)
+  pub pull_ok : (mid : Stored) (r : Result Pulled Full) → mid ≡ settled_store ls old → IfOk r (λ x. Pulls (from_file mid.pending.file mid.pending.number mid.pending.rest) x mid new) → IfOk r (λ x. Pulls (pulled c old.pending) x old new)
   pull_ok mid r is h = by_ok r (subst (λ (m : Stored). IfOk r (λ x. Pulls (from_file m.pending.file m.pending.number m.pending.rest) x m new)) is h)
 
-  pub pull_err : (mid : Stored) (r : Result Pulled Full) → mid ≡ settled_store old → IfErr r (λ full. RefusesLine full mid new) → IfErr r (λ full. Refuses c full old new)
+  pub pull_err : (mid : Stored) (r : Result Pulled Full) → mid ≡ settled_store ls old → IfErr r (λ full. RefusesLine full mid new) → IfErr r (λ full. Refuses c full old new)
   pull_err mid r is h = by_err r (subst (λ (m : Stored). IfErr r (λ full. RefusesLine full m new)) is h)

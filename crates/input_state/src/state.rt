@@ -1,6 +1,9 @@
 // The input of a run.
-ghost use Rattle.std.specs.Prelude.{◌≡◌, ◌≢◌, ◌≤◌, ◌<◌, ◌+◌, [], ◌∷◌, None, Some, IsSome, IfOk, IfErr, OnOk, OnErr, MatchResult, MatchBool, length, drop};
+ghost use Rattle.std.specs.Prelude.{◌≡◌, ◌≢◌, ◌≤◌, ◌<◌, ◌+◌, [], ◌∷◌, None, Some, IsSome, IfOk, IfErr, OnOk, OnErr, MatchResult, MatchBool, length, drop, replicate};
 ghost use Rattle.std.specs.Option.{option_map};
+ghost use Rattle.tex_defs.specs.Sizes.{first_out_of_range};
+ghost use Rattle.plain_state.specs.Names.{is_primitive};
+ghost use Rattle.plain_state.specs.Meanings.{first_meanings};
 ghost use Rattle.plain_state.specs.Puts.{settled, token_put};
 ghost use Rattle.plain_state.specs.Pending.{NotBegun, Begun, Closed, LineTaken, pulled, settle, put_front, line_taken, taken_line, from_file};
 ghost use Rattle.plain_state.specs.States.{grow_first, grown_by};
@@ -11,9 +14,9 @@ ghost use Rattle.tex_defs.specs.declared.Table.TheVariants.{BufferSize};
 ghost use Rattle.token_lists.specs.Table.{tokens_at, IsHeld};
 ghost use Rattle.token_lists.specs.Table as table;
 ghost use Rattle.token_lists.specs.Ids.{build_id};
-ghost use Rattle.input_state.specs.HeldLists.{first_list, is_empty, made, ahead_of, line_levels, file_demands};
+ghost use Rattle.input_state.specs.HeldLists.{KeepsHeld, first_list, is_empty, made, ahead_of, line_levels, file_demands};
 ghost use Rattle.input_state.specs.FileViews.{progress_of};
-ghost use Rattle.input_state.specs.Stored.{words, unread, closed};
+ghost use Rattle.input_state.specs.Stored.{KeepsMacros, words, unread, closed};
 ghost use Rattle.input_state.specs.Reads.{Pulls, Refuses, RefusesLine, gives_step};
 
 use crate::Pulled;
@@ -80,8 +83,9 @@ fn open_line(held: &mut Held, progress: Progress, line: Line) -> Result<(), Full
     requires tied { line_levels held.old.line ≡ file_levels (progress_of progress) }
     requires open { progress_of progress ≢ Closed }
     ensures refused { MatchResult result (λ _. refused held.old.sizes (file_demands (progress_of progress) held.old) ≡ None) (λ full. refused held.old.sizes (file_demands (progress_of progress) held.old) ≡ Some full) }
-    ensures ok { OnOk result (held.new ≡ record held.old { line = Some line }) }
-    ensures err { OnErr result (held.new ≡ held.old) }
+    ensures ok { OnOk result (held.new ≡ record held.old { line = Some line; lists = held.new.lists }) }
+    ensures err { OnErr result (held.new ≡ record held.old { lists = held.new.lists }) }
+    ensures macros { KeepsHeld held.old held.new }
 {
     if progress == Progress::NotBegun {
         return held.open_file(line);
@@ -96,7 +100,8 @@ impl Input {
     /// # Errors
     /// There is no room for them. No other call takes memory.
     pub fn new(alloc: Global, sizes: &Sizes, bytes: Option<Vec<u8>>) -> Result<Input, AllocError>
-        ensures { IfOk result (λ i. i ≡ record { pending = unread (option_map (λ v. v.items) bytes); making = None; gathered = []; buffer = i.buffer; sizes = sizes.now }) }
+        requires { first_out_of_range sizes.now ≡ None }
+        ensures { IfOk result (λ i. i ≡ record { pending = unread (option_map (λ v. v.items) bytes); making = None; gathered = []; buffer = i.buffer; sizes = sizes.now; meanings = first_meanings is_primitive; hash_size = sizes.now.hash_size; lists = replicate sizes.now.main_memory_size [] }) }
     {
         let buffer = vec![in alloc; 0; sizes.buffer_size as usize]?;
         let held = Held::new(alloc, sizes)?;
@@ -131,7 +136,8 @@ impl Input {
 
     /// The lists in front that are finished go.
     pub fn settle(&mut self)
-        ensures { self.new ≡ record self.old { pending = settle self.old.pending } }
+        ensures after { self.new ≡ record self.old { pending = settle self.old.pending; lists = self.new.lists } }
+        ensures macros { KeepsMacros self.old self.new }
     {
         self.held.settle();
     }
@@ -142,8 +148,9 @@ impl Input {
     /// The main memory is full; nothing has changed.
     pub fn begin_list(&mut self) -> Result<(), Full>
         ensures refused { MatchResult result (λ _. refused self.old.sizes (memory 1 (words self.old) ∷ []) ≡ None) (λ full. refused self.old.sizes (memory 1 (words self.old) ∷ []) ≡ Some full) }
-        ensures ok { OnOk result (self.new ≡ record self.old { gathered = [] ∷ self.old.gathered }) }
+        ensures ok { OnOk result (self.new ≡ record self.old { gathered = [] ∷ self.old.gathered; lists = self.new.lists }) }
         ensures err { OnErr result (self.new ≡ self.old) }
+        ensures macros { KeepsMacros self.old self.new }
     {
         self.held.begin_list()
     }
@@ -155,8 +162,9 @@ impl Input {
     pub fn grow_list(&mut self, token: Token) -> Result<(), Full>
         requires { self.old.gathered ≢ [] }
         ensures refused { MatchResult result (λ _. refused self.old.sizes (memory 1 (words self.old) ∷ []) ≡ None) (λ full. refused self.old.sizes (memory 1 (words self.old) ∷ []) ≡ Some full) }
-        ensures ok { OnOk result (self.new ≡ record self.old { gathered = grow_first token self.old.gathered }) }
+        ensures ok { OnOk result (self.new ≡ record self.old { gathered = grow_first token self.old.gathered; lists = self.new.lists }) }
         ensures err { OnErr result (self.new ≡ self.old) }
+        ensures macros { KeepsMacros self.old self.new }
     {
         self.held.grow_list(token)
     }
@@ -164,7 +172,8 @@ impl Input {
     /// The innermost reading's list goes.
     pub fn drop_list(&mut self)
         requires { self.old.gathered ≢ [] }
-        ensures { self.new ≡ record self.old { gathered = drop 1 self.old.gathered } }
+        ensures after { self.new ≡ record self.old { gathered = drop 1 self.old.gathered; lists = self.new.lists } }
+        ensures macros { KeepsMacros self.old self.new }
     {
         self.held.drop_list();
     }
@@ -208,8 +217,9 @@ impl Input {
     pub fn make_list(&mut self) -> Result<(), Full>
         requires { self.old.making ≡ None }
         ensures refused { MatchResult result (λ _. refused self.old.sizes (memory 1 (words self.old) ∷ []) ≡ None) (λ full. refused self.old.sizes (memory 1 (words self.old) ∷ []) ≡ Some full) }
-        ensures ok { OnOk result (self.new ≡ record self.old { making = Some [] }) }
+        ensures ok { OnOk result (self.new ≡ record self.old { making = Some []; lists = self.new.lists }) }
         ensures err { OnErr result (self.new ≡ self.old) }
+        ensures macros { KeepsMacros self.old self.new }
     {
         self.held.make_list()
     }
@@ -221,8 +231,9 @@ impl Input {
     pub fn grow_made(&mut self, token: Token) -> Result<(), Full>
         requires { IsSome self.old.making }
         ensures refused { MatchResult result (λ _. refused self.old.sizes (memory 1 (words self.old) ∷ []) ≡ None) (λ full. refused self.old.sizes (memory 1 (words self.old) ∷ []) ≡ Some full) }
-        ensures ok { OnOk result (self.new ≡ record self.old { making = grown_by token self.old.making }) }
+        ensures ok { OnOk result (self.new ≡ record self.old { making = grown_by token self.old.making; lists = self.new.lists }) }
         ensures err { OnErr result (self.new ≡ self.old) }
+        ensures macros { KeepsMacros self.old self.new }
     {
         self.held.grow_made(token)
     }
@@ -235,8 +246,9 @@ impl Input {
         requires some { IsSome self.old.making }
         requires settled { self.old.pending ≡ settle self.old.pending }
         ensures refused { MatchResult result (λ _. refused self.old.sizes (level self.old.pending ∷ []) ≡ None) (λ full. refused self.old.sizes (level self.old.pending ∷ []) ≡ Some full) }
-        ensures ok { OnOk result (self.new ≡ record self.old { pending = put_front (token_put (made self.old.making)) self.old.pending; making = None }) }
-        ensures err { OnErr result (self.new ≡ self.old) }
+        ensures ok { OnOk result (self.new ≡ record self.old { pending = put_front (token_put (made self.old.making)) self.old.pending; making = None; lists = self.new.lists }) }
+        ensures err { OnErr result (self.new ≡ record self.old { lists = self.new.lists }) }
+        ensures macros { KeepsMacros self.old self.new }
     {
         if let Some(full) = self.held.room() {
             return Err(full);
@@ -257,7 +269,8 @@ impl Input {
     fn pull_front(&mut self, categories: &[u8; 256]) -> Pulled
         requires { ahead_of categories.now self.old.pending ≢ ahead.End }
         ensures pulls { Pulls (pulled categories.now self.old.pending) result self.old self.new }
-        ensures others { self.new ≡ record self.old { pending = self.new.pending; buffer = self.new.buffer } }
+        ensures others { self.new ≡ record self.old { pending = self.new.pending; buffer = self.new.buffer; lists = self.new.lists } }
+        ensures macros { KeepsMacros self.old self.new }
     {
         self.held.pull(&mut self.buffer, categories)
     }
@@ -270,7 +283,8 @@ impl Input {
         ensures ok { OnOk result (line_taken self.old.pending.number self.old.pending.rest ≡ LineTaken (taken_line self.old.pending.rest) self.new.pending) }
         ensures refused { MatchResult result (λ _. refused self.old.sizes (next_line self.old.pending) ≡ None) (λ full. refused self.old.sizes (next_line self.old.pending) ≡ Some full) }
         ensures err { OnErr result (self.new.pending ≡ self.old.pending) }
-        ensures others { self.new ≡ record self.old { pending = self.new.pending; buffer = self.new.buffer } }
+        ensures others { self.new ≡ record self.old { pending = self.new.pending; buffer = self.new.buffer; lists = self.new.lists } }
+        ensures macros { KeepsMacros self.old self.new }
     {
         let cut = first_line(self.file.rest());
         if cut.whole >= self.buffer.len() {
@@ -300,7 +314,8 @@ impl Input {
     fn pull_file(&mut self) -> Result<Pulled, Full>
         requires { self.old.pending.puts ≡ [] }
         ensures ok { IfOk result (λ r. Pulls (from_file self.old.pending.file self.old.pending.number self.old.pending.rest) r self.old self.new) }
-        ensures others { self.new ≡ record self.old { pending = self.new.pending; buffer = self.new.buffer } }
+        ensures others { self.new ≡ record self.old { pending = self.new.pending; buffer = self.new.buffer; lists = self.new.lists } }
+        ensures macros { KeepsMacros self.old self.new }
         ensures err { IfErr result (λ full. RefusesLine full self.old self.new) }
     {
         match self.file.progress() {
@@ -324,7 +339,8 @@ impl Input {
     /// changed but that the finished lists in front have gone.
     pub fn pull(&mut self, categories: &[u8; 256]) -> Result<Pulled, Full>
         ensures ok { IfOk result (λ r. Pulls (pulled categories.now self.old.pending) r self.old self.new) }
-        ensures others { self.new ≡ record self.old { pending = self.new.pending; buffer = self.new.buffer } }
+        ensures others { self.new ≡ record self.old { pending = self.new.pending; buffer = self.new.buffer; lists = self.new.lists } }
+        ensures macros { KeepsMacros self.old self.new }
         ensures err { IfErr result (λ full. Refuses categories.now full self.old self.new) }
     {
         match self.looks(categories) {

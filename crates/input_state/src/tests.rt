@@ -1,6 +1,7 @@
 //! A file that is read to its end, lists that are gathered, made and put in front, and tables that are full.
 
 ghost use Rattle.std.specs.Prelude.{◌≡◌, [], None};
+ghost use Rattle.tex_defs.specs.Sizes.{first_out_of_range};
 
 use crate::{Input, Pulled};
 use line_lexer::Lexed;
@@ -124,46 +125,49 @@ fn lists_are_read(rt: HostRuntime) -> Result<(), Fail> {
     Ok(())
 }
 
-// What is answered where the job is these four bytes.
-fn first_reading(rt: &HostRuntime, sizes: &Sizes) -> Result<Result<Pulled, Full>, Fail> {
-    let bytes = b"abc\n".to_vec(rt.alloc())?;
+// What is answered where the job's one line has so many bytes.
+fn first_reading(
+    rt: &HostRuntime,
+    sizes: &Sizes,
+    length: usize,
+) -> Result<Result<Pulled, Full>, Fail>
+    requires { first_out_of_range sizes.now ≡ None }
+{
+    let bytes = vec![in rt.alloc(); b'a'; length]?;
     let mut input = Input::new(rt.alloc(), sizes, Some(bytes))?;
     let told = input.pull(&categories());
     input.close();
     Ok(told)
 }
 
+// How many empty lists are gathered until the main memory is full.
+fn gather_all(input: &mut Input) -> (u32, Option<Full>) {
+    for count in 0..200 {
+        if let Err(full) = input.begin_list() {
+            return (count, Some(full));
+        }
+    }
+    (200, None)
+}
+
 #[test]
 fn tables_are_full(rt: HostRuntime) -> Result<(), Fail> {
-    let exact = Sizes {
-        buffer_size: 4,
-        input_stack_size: 1,
-        main_memory_size: 4,
+    let least = Sizes {
+        buffer_size: 80,
+        main_memory_size: 100,
         ..Sizes::DEFAULT
     };
-    let line = Sizes {
-        buffer_size: 3,
-        ..exact
-    };
-    let level = Sizes {
-        input_stack_size: 0,
-        ..exact
-    };
-    let mut input = Input::new(rt.alloc(), &exact, None)?;
+    let mut input = Input::new(rt.alloc(), &least, None)?;
     let put = put_two(&mut input);
-    let gathered = gather_one(&mut input);
+    let gathered = gather_all(&mut input);
     input.close();
     let full = |table, used, size| Full { table, used, size };
-    assert_eq!(&rt; first_reading(&rt, &exact)?, Ok(Pulled::Taken));
+    assert_eq!(&rt; first_reading(&rt, &least, 79)?, Ok(Pulled::Taken));
     assert_eq!(&rt;
-        first_reading(&rt, &line)?,
-        Err(full(Table::BufferSize, 0, 3))
-    );
-    assert_eq!(&rt;
-        first_reading(&rt, &level)?,
-        Err(full(Table::InputStackSize, 0, 0))
+        first_reading(&rt, &least, 80)?,
+        Err(full(Table::BufferSize, 0, 80))
     );
     assert_eq!(&rt; put, Ok(()));
-    assert_eq!(&rt; gathered, Err(full(Table::MainMemorySize, 4, 4)));
+    assert_eq!(&rt; gathered, (97, Some(full(Table::MainMemorySize, 100, 100))));
     Ok(())
 }

@@ -3,7 +3,7 @@ use Rattle.input_state.proofs.Files.{pull_ok, pull_err}
 use Rattle.input_state.proofs.state.Input.pull.Goals as goal
 
 pub returns-in-End-clause-ok : goal.returns-in-End-clause-ok
-returns-in-End-clause-ok c = pull_ok c.args.categories.now c.args.self.now c.pull_file.new.self (sym c.looks.ensures.ahead ∙ c.in-End.is) (c.looks.ensures.finished c.in-End.is) c.settle.new.self c.pull_file.result c.settle.ensures c.pull_file.ensures.ok
+returns-in-End-clause-ok c = pull_ok c.args.categories.now c.settle.new.self.lists c.args.self.now c.pull_file.new.self (sym c.looks.ensures.ahead ∙ c.in-End.is) (c.looks.ensures.finished c.in-End.is) c.settle.new.self c.pull_file.result c.settle.ensures.after c.pull_file.ensures.ok
 
 pub returns-in-End-clause-err : goal.returns-in-End-clause-err
-returns-in-End-clause-err c = pull_err c.args.categories.now c.args.self.now c.pull_file.new.self (sym c.looks.ensures.ahead ∙ c.in-End.is) (c.looks.ensures.finished c.in-End.is) c.settle.new.self c.pull_file.result c.settle.ensures c.pull_file.ensures.err
+returns-in-End-clause-err c = pull_err c.args.categories.now c.settle.new.self.lists c.args.self.now c.pull_file.new.self (sym c.looks.ensures.ahead ∙ c.in-End.is) (c.looks.ensures.finished c.in-End.is) c.settle.new.self c.pull_file.result c.settle.ensures.after c.pull_file.ensures.err
