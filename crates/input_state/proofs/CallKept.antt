@@ -1,5 +1,5 @@
 -- A macro is called: its list has a holder more, or the call is refused.
-use Rattle.std.proofs.Common.{◌≡◌, ℕ, ◌+◌, ◌<◌, ◌≤◌, ◌^◌, List, [], ◌∷◌, map, take, reverse, length, Option, None, Some, true, false, cond, inl, inr, refl, sym, ap, ap₂, ◌∙◌, subst, arith}
+use Rattle.std.proofs.Common.{◌≡◌, ℕ, ◌+◌, ◌<◌, ◌^◌, List, [], ◌∷◌, map, take, reverse, length, Option, None, Some, true, cond, inl, inr, refl, sym, ap, ap₂, ◌∙◌, subst, arith}
 use Rattle.std.specs.Prelude.{sum_by, nat_le}
 use Rattle.std.proofs.lemmas.Bool.{cases_eq}
 use Rattle.std.proofs.lemmas.List.Sums.{sum_by-cons}
@@ -36,7 +36,7 @@ use Rattle.input_stack.proofs.Bounds.{held_few}
 use Rattle.input_state.specs.HeldLists.{HeldLists, call_refusal, level_held, line_levels}
 use Rattle.input_state.specs.Macros.{KeepsLists}
 use Rattle.input_state.specs.Calls.{called_put, called, when_called}
-use Rattle.input_state.specs.HeldViews.{text, made_text, texts, front, fronts, plain_item, line_of, lists_of, builds, built, bodies, IsSingle, ArePlain, IsSimple, IsApart, IsDefined, IsShared, IsSound}
+use Rattle.input_state.specs.HeldViews.{text, made_text, texts, front, fronts, plain_item, line_of, lists_of, builds, bodies, IsSingle, ArePlain, IsSimple, IsApart, IsDefined, IsShared, IsSound}
 use Rattle.input_state.proofs.Counting.{times_cons, holds_other}
 use Rattle.input_state.proofs.Ranges.{hash_greatest, input_greatest, parameters_greatest}
 use Rattle.input_state.proofs.Shares.{apart_fewer, fewer_put}
