@@ -1,11 +1,10 @@
 -- A list that was gathered becomes a macro's.
-use Rattle.std.proofs.Common.{◌≡◌, ℕ, ◌+◌, ◌<◌, ◌≤◌, List, [], ◌∷◌, ◌++◌, length, map, reverse, drop, Bool, false, Option, None, Some, cond, inl, inr, refl, sym, ap, ◌∙◌, subst, arith}
-use Rattle.std.specs.Prelude.{option_to_list, slice_set, slice_index_or}
+use Rattle.std.proofs.Common.{◌≡◌, ℕ, ◌+◌, ◌<◌, ◌≤◌, List, [], ◌∷◌, ◌++◌, length, map, reverse, drop, Bool, false, Option, None, Some, inl, inr, refl, sym, ap, ◌∙◌, subst, arith}
+use Rattle.std.specs.Prelude.{option_to_list}
 use Rattle.std.proofs.lemmas.Bool.{cases_eq}
 use Rattle.std.proofs.lemmas.List.{length-set}
 use Rattle.std.proofs.lemmas.List.Elements.{All-head, All-tail, All-cons, All-append}
 use Rattle.std.proofs.lemmas.List.Sums.{get_or-le-sum_by, sum_by-set}
-use Rattle.tex_defs.specs.declared.Token.{Token}
 use Rattle.tex_defs.specs.declared.Name.{Name}
 use Rattle.tex_defs.specs.declared.Meaning.{Meaning}
 use Rattle.tex_defs.specs.declared.Meaning.TheVariants as means
@@ -27,8 +26,8 @@ use Rattle.input_stack.proofs.Kept.{holds_itself}
 use Rattle.input_state.specs.HeldLists.{HeldLists, first_list}
 use Rattle.input_state.specs.Macros.{is_macro, KeepsLists}
 use Rattle.input_state.specs.Calls.{Defines}
-use Rattle.input_state.specs.HeldViews.{text, made_text, texts, fronts, line_of, lists_of, builds, built, owns, bodies, IsSimple, IsApart, IsDefined, IsShared, IsSized, IsSound}
-use Rattle.input_state.proofs.Counting.{some, some_none, is_none, holds_other}
+use Rattle.input_state.specs.HeldViews.{text, made_text, texts, fronts, line_of, lists_of, builds, built, bodies, IsSimple, IsApart, IsDefined, IsShared, IsSound}
+use Rattle.input_state.proofs.Counting.{some_none, is_none, holds_other}
 use Rattle.input_state.proofs.Shares.{held_parts, macro_once}
 use Rattle.input_state.proofs.Sharing.{Moved, moved, own_alone, text_at, built_cons, built_append, all_left, all_right}
 use Rattle.input_state.proofs.ListViews.{held_lists, moved_view, macros_moved, reverse_push}

@@ -13,6 +13,7 @@ pub mod Sounds
 pub mod Putting
 pub mod Opening
 pub mod Calling
+pub mod CallKept
 pub mod Defining
 pub mod Pulling
 pub mod PullKept

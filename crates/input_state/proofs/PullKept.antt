@@ -1,16 +1,12 @@
 -- All stands after a pull.
-use Rattle.std.proofs.Common.{◌≡◌, ℕ, ◌+◌, ◌<◌, List, Option, Result, subst, ap, ◌∙◌}
-use Rattle.tex_defs.specs.declared.Token.{Token}
+use Rattle.std.proofs.Common.{◌≡◌, ℕ, List, Option, Result, ap, ◌∙◌}
 use Rattle.tex_defs.specs.declared.Full.{Full}
 use Rattle.tex_defs.specs.declared.Sizes.{Sizes}
-use Rattle.plain_state.specs.Puts as plain
 use Rattle.token_lists.specs.declared.Build.{Build}
 use Rattle.token_lists.specs.Table.{Entry}
 use Rattle.token_lists.specs.Accounts.{Moves, Keeps}
-use Rattle.line_lexer.specs.declared.Line.{Line}
 use Rattle.meanings.specs.Map.{Map}
 use Rattle.input_stack.specs.Puts.{next_item}
-use Rattle.input_stack.specs.Pending.{Pending}
 use Rattle.input_stack.specs.Pulls.{Pulls}
 use Rattle.input_stack.specs.CallViews.{opened}
 use Rattle.input_stack.specs.View.{pending, held}

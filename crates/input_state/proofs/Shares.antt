@@ -1,11 +1,10 @@
 -- Who holds the lists in front: those that have them for themselves, the macros whose bodies they are, and open arguments.
-use Rattle.std.proofs.Common.{◌≡◌, ℕ, ◌+◌, ◌<◌, ◌≤◌, List, [], ◌∷◌, ◌++◌, map, Option, None, Some, cond, refl, sym, ap, ◌∙◌, arith}
-use Rattle.std.specs.Prelude.{Bool, true, false, ◌==◌}
+use Rattle.std.proofs.Common.{◌≡◌, ℕ, ◌+◌, ◌≤◌, List, [], ◌∷◌, ◌++◌, Option, None, Some, cond, refl, sym, ap, ◌∙◌, arith}
+use Rattle.std.specs.Prelude.{Bool, true, false}
 use Rattle.std.proofs.lemmas.List.Sums.{sum_by-cons}
 use Rattle.tex_defs.specs.declared.Token.{Token}
 use Rattle.tex_defs.specs.declared.Meaning.{Meaning}
 use Rattle.tex_defs.specs.declared.Meaning.TheVariants as means
-use Rattle.plain_state.specs.Puts as plain
 use Rattle.plain_state.specs.Tables.{is_meant, means_macro, is_put, is_whole}
 use Rattle.token_lists.specs.Table.{Entry, tokens_at}
 use Rattle.token_lists.specs.Accounts.{holds}
@@ -13,13 +12,13 @@ use Rattle.meanings.specs.Map.{Map}
 use Rattle.meanings.specs.Holding as meant
 use Rattle.meanings.specs.Holding.{cells_hold, meaning_holds}
 use Rattle.input_stack.specs.Puts.{Put, Item, numbers, lists_of, settled, settled_top, pulled, pulled_top, without_gaps, put_in_front, put_top}
-use Rattle.input_stack.specs.Pending.{Pending, Below, times, lists_in, lists_below, held_lists}
+use Rattle.input_stack.specs.Pending.{Below, times, lists_in, lists_below}
 use Rattle.input_stack.specs.View.{pending, held, innermost}
 use Rattle.input_stack.specs.declared.stack.InputStack.{InputStack}
 use Rattle.input_stack.proofs.Helds.{held_puts}
 use Rattle.token_lists.specs.declared.Build.{Build}
 use Rattle.input_state.specs.Macros.{is_macro}
-use Rattle.input_state.specs.HeldViews.{front, fronts, whole_of, built, own_of, owns, body_of, bodies, opens, IsSingle, IsApart}
+use Rattle.input_state.specs.HeldViews.{front, fronts, whole_of, own_of, owns, body_of, bodies, opens, IsSingle, IsApart}
 use Rattle.input_state.proofs.Counting.{some, bit, or_some, times_cons, times_append}
 
 -- PARTS

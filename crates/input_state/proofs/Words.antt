@@ -12,7 +12,6 @@ use Rattle.token_lists.specs.Ids.{build_id}
 use Rattle.token_lists.specs.Table.{Entry, words, holders_at}
 use Rattle.meanings.specs.Map.{Map}
 use Rattle.meanings.specs.Holding as meant
-use Rattle.input_stack.specs.Puts.{Put}
 use Rattle.input_stack.specs.Pending.{times}
 use Rattle.input_stack.specs.View.{pending}
 use Rattle.input_stack.specs.declared.stack.InputStack.{InputStack}

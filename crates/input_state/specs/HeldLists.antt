@@ -2,13 +2,15 @@
 use Rattle.std.specs.Prelude.{ℕ, ◌+◌, ◌≤◌, List, [], ◌∷◌, Option, None, Some, Bool, true, false}
 use Rattle.tex_defs.specs.declared.Token.{Token}
 use Rattle.tex_defs.specs.declared.Meaning.{Meaning}
+use Rattle.tex_defs.specs.declared.Full.{Full}
 use Rattle.tex_defs.specs.declared.Sizes.{Sizes}
 use Rattle.tex_defs.specs.declared.Table.TheVariants.{InputStackSize}
 use Rattle.plain_state.specs.Lex as plain
-use Rattle.plain_state.specs.Puts.{Put, put_levels, passed}
+use Rattle.plain_state.specs.Puts.{Put, put_levels, settled, passed}
 use Rattle.plain_state.specs.Pending.{Pending, Progress, NotBegun}
-use Rattle.plain_state.specs.Tables.{Demand, held_words, macro_words}
+use Rattle.plain_state.specs.Tables.{Demand, refused, held_words, macro_words}
 use Rattle.input_state.specs.Macros.{KeepsLists}
+use Rattle.input_state.specs.Calls.{when_called}
 use Rattle.line_lexer.specs.declared.Line.{Line}
 use Rattle.line_lexer.specs.declared.Ahead.{Ahead}
 use Rattle.line_lexer.specs.declared.Ahead.TheVariants as ahead
@@ -59,6 +61,10 @@ line_levels (Some line) = 1
 -- a level more
 abbrev pub level_held : HeldLists → Demand
 level_held s = record { table = InputStackSize; used = put_levels s.puts + line_levels s.line; need = 1 }
+
+-- why the body of a macro isn't put, once the finished lists in front have gone
+abbrev pub call_refusal : Put → HeldLists → Option Full
+call_refusal p s = refused s.sizes (when_called p.items (level_held (record s { puts = settled s.puts })))
 
 -- what the file's first line needs of the levels
 abbrev pub file_demands : Progress → HeldLists → List Demand

@@ -2,11 +2,14 @@
 use Rattle.std.specs.Prelude.{ℕ, ◌+◌, List, [], Option, None, Some}
 use Rattle.tex_defs.specs.declared.Token.{Token}
 use Rattle.tex_defs.specs.declared.Meaning.{Meaning}
+use Rattle.tex_defs.specs.declared.Full.{Full}
 use Rattle.tex_defs.specs.declared.Sizes.{Sizes}
+use Rattle.plain_state.specs.Puts.{Put}
 use Rattle.plain_state.specs.Lex.{NewLine}
-use Rattle.plain_state.specs.Pending.{Pending, NotBegun, Closed}
-use Rattle.plain_state.specs.Tables.{held_words, macro_words}
+use Rattle.plain_state.specs.Pending.{Pending, NotBegun, Closed, settle}
+use Rattle.plain_state.specs.Tables.{held_words, macro_words, level, refused}
 use Rattle.input_state.specs.Macros.{KeepsLists}
+use Rattle.input_state.specs.Calls.{when_called}
 
 pub record Stored : Type 0 where
   pub pending : Pending
@@ -31,6 +34,10 @@ words s = macro_words 0 s.meanings s.pending.puts s.lists + held_words s.pending
 -- each macro whose list is held then keeps its tokens
 abbrev pub KeepsMacros : Stored → Stored → Type 0
 KeepsMacros old new = KeepsLists new.meanings new.pending.puts old.lists new.lists
+
+-- why the body of a macro isn't put, once the finished lists in front have gone
+abbrev pub call_refusal : Put → Stored → Option Full
+call_refusal p s = refused s.sizes (when_called p.items (level (settle s.pending)))
 
 -- no file, and nothing in front
 abbrev pub closed : Pending

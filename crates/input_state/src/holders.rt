@@ -36,7 +36,7 @@ pub fn share(lists: &mut Lists, list: &ListRef) -> ListRef
     requires held { IsHeld lists.old (id_of list.now) }
     requires countable { holders_at lists.old (id_of list.now) + 1 < 2 ^ 32 }
     ensures same { id_of result ≡ id_of list.now }
-    ensures shares { Shares lists.old lists.new (holds (id_of list.now)) }
+    ensures shares { Shares lists.old lists.new (holds (id_of result)) }
 {
     lists.share(list)
 }
@@ -45,6 +45,7 @@ pub fn share(lists: &mut Lists, list: &ListRef) -> ListRef
 fn let_go(lists: &mut Lists, list: ListRef)
     requires { IsHeld lists.old (id_of list) }
     ensures account { Moves lists.old lists.new (holds (id_of list)) none }
+    ensures kept { Keeps lists.old lists.new (holds (id_of list)) }
     ensures lasting { Lasts lists.old lists.new }
 {
     lists.release(list);
@@ -55,6 +56,7 @@ pub fn give_back(lists: &mut Lists, list: ListRef, args: Args)
     requires held { IsHeld lists.old (id_of list) }
     requires no_arguments { (h : ℕ) → args_hold args h ≡ 0 }
     ensures account { Moves lists.old lists.new (holds (id_of list)) none }
+    ensures kept { Keeps lists.old lists.new (holds (id_of list)) }
     ensures lasting { Lasts lists.old lists.new }
 {
     let_go(lists, list);

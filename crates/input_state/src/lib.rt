@@ -13,7 +13,6 @@ mod file;
 mod holders;
 mod lines;
 mod lists_held;
-
 mod state;
 #[cfg(test)]
 mod tests;

@@ -13,18 +13,20 @@ ghost use Rattle.token_lists.specs.Table.{words, tokens_at, holders_at, IsHeld};
 ghost use Rattle.token_lists.specs.Ids.{build_id, IsBuilding};
 ghost use Rattle.token_lists.specs.Accounts.{Moves, none, holds};
 ghost use Rattle.token_lists.specs.Refusals.{IsFull};
-ghost use Rattle.input_state.specs.HeldLists.{HeldLists, KeepsHeld, first_list, is_empty, made, words_held, level_held, pending_of, ahead_of, line_levels, IsLineIn};
+ghost use Rattle.input_state.specs.HeldLists.{HeldLists, KeepsHeld, call_refusal, first_list, is_empty, made, words_held, level_held, pending_of, ahead_of, line_levels, IsLineIn};
 ghost use Rattle.meanings.specs.Map.{IsPlaced};
 ghost use Rattle.input_state.specs.HeldViews.{IsDefined};
-ghost use Rattle.input_state.specs.Calls.{call_kind, Defines};
+ghost use Rattle.input_state.specs.Calls.{call_kind, called_put, called, Defines};
+ghost use Rattle.input_state.specs.declared.answer.CallKind.TheVariants.{AtOnce};
 ghost use Rattle.input_state.specs.Changes.{IsOnly};
 ghost use Rattle.input_state.specs.Reads.{Reads};
 ghost use Rattle.input_state.specs.Given.{GivesMore, answer_of};
 
-use crate::holders::has_parameters;
+use crate::holders::{give_back, has_parameters, share};
 use crate::{CallKind, Pulled};
 use input_stack::{InputStack, Pulled as Given};
 use line_lexer::{Ahead, Lexed, Line};
+use macro_args::Args;
 use meanings::Meanings;
 use std::alloc::{AllocError, Global};
 use std::marker::Model;
@@ -438,6 +440,31 @@ impl Held {
             CallKind::Gathers
         } else {
             CallKind::AtOnce
+        }
+    }
+
+    /// Puts the body of a macro that has no parameter text in front; one without a body changes nothing. The list is
+    /// shared, not copied.
+    ///
+    /// # Errors
+    /// The input stack is full, once the finished lists in front have gone; nothing else has changed.
+    pub fn call_macro(&mut self, name: Name) -> Result<(), Full>
+        requires { call_kind self.old.lists (name_meaning self.old.meanings name) ≡ AtOnce }
+        ensures refused { MatchResult result (λ _. call_refusal (called_put self.old.lists (name_meaning self.old.meanings name)) self.old ≡ None) (λ full. call_refusal (called_put self.old.lists (name_meaning self.old.meanings name)) self.old ≡ Some full) }
+        ensures ok { OnOk result (self.new ≡ record self.old { puts = called (called_put self.old.lists (name_meaning self.old.meanings name)) self.old.puts; lists = self.new.lists }) }
+        ensures err { OnErr result (self.new ≡ record self.old { puts = settled self.old.puts; lists = self.new.lists }) }
+        ensures macros { KeepsHeld self.old self.new }
+    {
+        let Some(list) = self.meanings.list(name) else {
+            unreachable!()
+        };
+        let body = share(&mut self.lists, list);
+        match self.stack.push_macro(&mut self.lists, body, Args::none()) {
+            Ok(()) => Ok(()),
+            Err((full, body, args)) => {
+                give_back(&mut self.lists, body, args);
+                Err(full)
+            }
         }
     }
 

@@ -1,9 +1,10 @@
 // The input of a run.
-ghost use Rattle.std.specs.Prelude.{◌≡◌, ◌≢◌, ◌≤◌, ◌<◌, ◌+◌, [], ◌∷◌, None, Some, IsSome, IfOk, IfErr, OnOk, OnErr, MatchResult, MatchBool, length, drop, replicate};
+ghost use Rattle.std.specs.Prelude.{◌≡◌, ◌≢◌, ◌≤◌, ◌<◌, ◌+◌, ◌++◌, [], ◌∷◌, None, Some, IsSome, IfOk, IfErr, OnOk, OnErr, MatchResult, MatchBool, length, drop, replicate};
 ghost use Rattle.std.specs.Option.{option_map};
 ghost use Rattle.tex_defs.specs.Sizes.{first_out_of_range};
 ghost use Rattle.plain_state.specs.Names.{is_primitive};
-ghost use Rattle.plain_state.specs.Meanings.{first_meanings};
+ghost use Rattle.tex_defs.specs.declared.Meaning.TheVariants.{Undefined};
+ghost use Rattle.plain_state.specs.Meanings.{first_meanings, fixed_locations, location, name_meaning, seen};
 ghost use Rattle.plain_state.specs.Puts.{settled, token_put};
 ghost use Rattle.plain_state.specs.Pending.{NotBegun, Begun, Closed, LineTaken, pulled, settle, put_front, line_taken, taken_line, from_file};
 ghost use Rattle.plain_state.specs.States.{grow_first, grown_by};
@@ -15,18 +16,22 @@ ghost use Rattle.token_lists.specs.Table.{tokens_at, IsHeld};
 ghost use Rattle.token_lists.specs.Table as table;
 ghost use Rattle.token_lists.specs.Ids.{build_id};
 ghost use Rattle.input_state.specs.HeldLists.{KeepsHeld, first_list, is_empty, made, ahead_of, line_levels, file_demands};
+ghost use Rattle.meanings.specs.Map.{IsPlaced};
+ghost use Rattle.input_state.specs.declared.answer.CallKind.TheVariants.{AtOnce};
+ghost use Rattle.input_state.specs.HeldViews.{IsDefined};
+ghost use Rattle.input_state.specs.Calls.{call_kind, called_put, after_call, Defines};
 ghost use Rattle.input_state.specs.FileViews.{progress_of};
-ghost use Rattle.input_state.specs.Stored.{KeepsMacros, words, unread, closed};
+ghost use Rattle.input_state.specs.Stored.{KeepsMacros, call_refusal, words, unread, closed};
 ghost use Rattle.input_state.specs.Reads.{Pulls, Refuses, RefusesLine, gives_step};
 
-use crate::Pulled;
 use crate::file::{JobFile, Progress};
 use crate::lines::{first_line, put_line};
 use crate::lists_held::Held;
+use crate::{CallKind, Pulled};
 use line_lexer::{Ahead, Line, LineState};
 use std::alloc::{AllocError, Global};
 use std::marker::Model;
-use tex_defs::{Full, Sizes, Table, Token};
+use tex_defs::{Full, Name, Seen, Sizes, Table, Token};
 use token_lists::{Build, Lists};
 
 /// All lists of a run, and all that is still to be read: lists in front, the rest of a line, the rest of the job's
@@ -361,6 +366,56 @@ impl Input {
             Ahead::Invalid => false,
             Ahead::End => self.file.has_line(),
         }
+    }
+
+    /// A token with what it means now: a character means itself.
+    pub fn seen(&self, token: Token) -> Seen
+        ensures { result ≡ seen self.now.meanings token }
+    {
+        self.held.seen(token)
+    }
+
+    /// Gives the next name of two or more characters a location. It is undefined.
+    pub fn enter_name(&mut self)
+        requires { length self.old.meanings < fixed_locations + self.old.hash_size }
+        ensures { self.new ≡ record self.old { meanings = self.old.meanings ++ Undefined ∷ [] } }
+    {
+        self.held.enter_name();
+    }
+
+    /// A name becomes a macro: the innermost reading's list is its parameter text, the end mark and its body. The list of
+    /// what the name meant is let go. *The TeXbook*, chapter 20; *TeX: The Program*, part 49 (`define`).
+    pub fn define(&mut self, name: Name, long: bool, outer: bool)
+        requires some { self.old.gathered ≢ [] }
+        requires list { IsDefined (first_list self.old.gathered) }
+        requires assignable { IsPlaced (location name) (length self.old.meanings) }
+        ensures after { self.new ≡ record self.old { gathered = drop 1 self.old.gathered; meanings = self.new.meanings; lists = self.new.lists } }
+        ensures defines { Defines self.old.meanings self.new.meanings self.old.pending.puts self.old.lists self.new.lists (first_list self.old.gathered) name long outer }
+        ensures macros { KeepsMacros self.old self.new }
+    {
+        self.held.define(name, long, outer);
+    }
+
+    /// How a name is called.
+    pub fn call_kind(&self, name: Name) -> CallKind
+        ensures { result ≡ call_kind self.now.lists (name_meaning self.now.meanings name) }
+    {
+        self.held.call_kind(name)
+    }
+
+    /// Puts the body of a macro that has no parameter text in front of all that is pending; one without a body changes
+    /// nothing. The list is shared, not copied. *TeX: The Program*, part 25 (`macro_call`).
+    ///
+    /// # Errors
+    /// The input stack is full, once the finished lists in front have gone; nothing else has changed.
+    pub fn call_macro(&mut self, name: Name) -> Result<(), Full>
+        requires { call_kind self.old.lists (name_meaning self.old.meanings name) ≡ AtOnce }
+        ensures refused { MatchResult result (λ _. call_refusal (called_put self.old.lists (name_meaning self.old.meanings name)) self.old ≡ None) (λ full. call_refusal (called_put self.old.lists (name_meaning self.old.meanings name)) self.old ≡ Some full) }
+        ensures ok { OnOk result (self.new ≡ record self.old { pending = after_call (called_put self.old.lists (name_meaning self.old.meanings name)) self.old.pending; lists = self.new.lists }) }
+        ensures err { OnErr result (self.new ≡ record self.old { pending = settle self.old.pending; lists = self.new.lists }) }
+        ensures macros { KeepsMacros self.old self.new }
+    {
+        self.held.call_macro(name)
     }
 
     /// Lets all lists go, and with them the input.
