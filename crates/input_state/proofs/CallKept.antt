@@ -13,7 +13,7 @@ use Rattle.plain_state.specs.Tables.{refused}
 use Rattle.token_lists.specs.declared.Build.{Build}
 use Rattle.token_lists.specs.declared.ListRef.{ListRef}
 use Rattle.token_lists.specs.Ids.{id_of}
-use Rattle.token_lists.specs.Table.{Entry, tokens_at, holders_at}
+use Rattle.token_lists.specs.Table.{Entry, tokens_at, holders_at, IsHeld}
 use Rattle.token_lists.specs.Accounts.{holds, none, Moves, Keeps}
 use Rattle.macro_args.specs.declared.args.Args.{Args}
 use Rattle.macro_args.specs.Args.{args_hold}
@@ -33,6 +33,7 @@ use Rattle.input_stack.specs.Lasting.{Lasts}
 use Rattle.input_stack.specs.declared.stack.InputStack.{InputStack}
 use Rattle.input_stack.proofs.Helds.{others}
 use Rattle.input_stack.proofs.Bounds.{held_few}
+use Rattle.input_stack.proofs.Kept.{holds_itself}
 use Rattle.input_state.specs.HeldLists.{HeldLists, call_refusal, level_held, line_levels}
 use Rattle.input_state.specs.Macros.{KeepsLists}
 use Rattle.input_state.specs.Calls.{called_put, called, when_called}
@@ -213,6 +214,13 @@ module _ (old mid new : List (Option Entry)) (s t : InputStack) (making : Option
         ∙ ap (λ (w : HeldLists). record w { puts = called (called_put v.lists (name_meaning v.meanings name)) w.puts; lists = texts new }) is
 
 -- THE LIST IS GIVEN BACK
+
+-- the holder that is handed back is counted
+pub back_held : (old mid new : List (Option Entry)) (s t : InputStack) (bs : List Build) (m : Map) (body back : ListRef) → IsShared old s bs m → Shares old mid (holds (id_of body)) → back ≡ body → Moves mid new (held s) (held t) → IsHeld new (id_of back)
+back_held old mid new s t bs m body back shared shares same moves =
+    let k = id_of body in
+    let here : 0 < holders_at new k = omega (arith, moves k, shares.holders k, shared.counted k, holds_itself k) in
+    subst (λ (r : ListRef). IsHeld new (id_of r)) (sym same) here
 
 module _ (old mid new last : List (Option Entry)) (s t : InputStack) (making : Option Build) (gathered : List Build) (m : Map) (sizes : Sizes) (capacity : ℕ) (sound : IsSound old s making gathered m sizes capacity) (body back : ListRef) (shares : Shares old mid (holds (id_of body))) (same : back ≡ body) (stands : Stands new t) (after : pending new t ≡ settle (pending mid s)) (moves : Moves mid new (held s) (held t)) (keeps : Keeps mid new (held s)) (lasts : Lasts mid new) (gives : Moves new last (holds (id_of back)) none) (leaves : Keeps new last (holds (id_of back))) (lets : Lasts new last) (size : t.size ≡ s.size) (parameters : t.parameter_size ≡ s.parameter_size) where
   own : (h : ℕ) → holds (id_of back) h ≡ holds (id_of body) h

@@ -1,6 +1,6 @@
 -- What a call puts.
-use Rattle.std.proofs.Common.{◌≡◌, ℕ, List, [], ◌∷◌, map, Option, None, Some, true, not, refl, sym, ap, ◌∙◌}
-use Rattle.std.specs.Prelude.{slice_get}
+use Rattle.std.proofs.Common.{◌≡◌, ℕ, List, [], ◌∷◌, map, Option, None, Some, Bool, true, not, refl, sym, ap, ◌∙◌}
+use Rattle.std.specs.Prelude.{slice_get, if◌then◌else◌}
 use Rattle.std.proofs.lemmas.Option.{none-some, same_Some}
 use Rattle.tex_defs.specs.declared.Token.{Token}
 use Rattle.tex_defs.specs.declared.Token.TheVariants as token
@@ -13,7 +13,8 @@ use Rattle.meanings.specs.Holding.{list_of}
 use Rattle.input_stack.specs.Puts.{Put, Item, Text, put_in_front}
 use Rattle.input_stack.specs.Calls.{call_put, substituted, body_of}
 use Rattle.input_state.specs.Macros.{list_at}
-use Rattle.input_state.specs.Calls.{is_end_mark, called_put, called}
+use Rattle.input_state.specs.declared.answer.CallKind.TheVariants as kind
+use Rattle.input_state.specs.Calls.{is_end_mark, call_kind, called_put, called}
 use Rattle.input_state.specs.HeldViews.{front, fronts}
 use Rattle.input_state.proofs.Fronts.{texts_are, fronts_settled}
 use Rattle.input_state.proofs.Levels.{flat_put}
@@ -31,6 +32,37 @@ begins token.EndPlaces ts = refl
 pub first_decides : (ts : List Token) (t : Token) → slice_get ts 0 ≡ Some t → not (is_end_mark t) ≡ has_parameters ts
 first_decides [] t is = absurd (none-some t is)
 first_decides (u ∷ us) t is = sym (ap (λ (x : Token). not (is_end_mark x)) (same_Some u t is)) ∙ begins u us
+
+-- HOW A NAME IS CALLED
+
+kind_none : (lists : List (List Token)) (m : Meaning (Option ℕ)) → list_of m ≡ None → call_kind lists m ≡ kind.None
+kind_none lists means.Undefined is = refl
+kind_none lists means.RelaxMarked is = refl
+kind_none lists (means.Char category code) is = refl
+kind_none lists (means.CharGiven code) is = refl
+kind_none lists (means.MathGiven code) is = refl
+kind_none lists (means.Register r n) is = refl
+kind_none lists (means.Prim number) is = refl
+kind_none lists (means.Macro long outer None) is = refl
+kind_none lists (means.Macro long outer (Some id)) is = absurd (none-some id (sym is))
+
+-- a name without a list is not called
+pub not_called : (lists : List (List Token)) (m : Meaning (Option ℕ)) → list_of m ≡ None → call_kind lists m ≡ kind.AtOnce → ⊥
+not_called lists m none at_once =
+    let e : kind.None ≡ kind.AtOnce = sym (kind_none lists m none) ∙ at_once in
+    cc
+
+pub kind_some : (lists : List (List Token)) (m : Meaning (Option ℕ)) (id : ℕ) (b : Bool) → list_of m ≡ Some id → b ≡ has_parameters (list_at lists id) → (if b then kind.Gathers else kind.AtOnce) ≡ call_kind lists m
+kind_some lists means.Undefined id b is same = absurd (none-some id is)
+kind_some lists means.RelaxMarked id b is same = absurd (none-some id is)
+kind_some lists (means.Char category code) id b is same = absurd (none-some id is)
+kind_some lists (means.CharGiven code) id b is same = absurd (none-some id is)
+kind_some lists (means.MathGiven code) id b is same = absurd (none-some id is)
+kind_some lists (means.Register r n) id b is same = absurd (none-some id is)
+kind_some lists (means.Prim number) id b is same = absurd (none-some id is)
+kind_some lists (means.Macro long outer None) id b is same = absurd (none-some id is)
+kind_some lists (means.Macro long outer (Some i)) id b is same =
+    ap (λ (x : Bool). if x then kind.Gathers else kind.AtOnce) (same ∙ ap (λ (k : ℕ). has_parameters (list_at lists k)) (sym (same_Some i id is)))
 
 -- WHAT IS PUT, WITHOUT ARGUMENTS
 

@@ -6,6 +6,7 @@ use Rattle.std.proofs.lemmas.List.{get_or-set_other}
 use Rattle.std.proofs.lemmas.List.Elements.{All-append, All-head, All-tail, All-cons, All-nil}
 use Rattle.std.proofs.lemmas.List.Sums.{sum_by-cons, sum_by-append}
 use Rattle.tex_defs.specs.declared.Token.{Token}
+use Rattle.plain_state.specs.Tables.{is_meant}
 use Rattle.token_lists.specs.declared.Build.{Build}
 use Rattle.token_lists.specs.Ids.{build_id, IsBuilding}
 use Rattle.token_lists.specs.Table.{Entry, entry_at, tokens_at, tokens_of, places_at, places_of, holders_at, holders_of, last_or}
@@ -22,7 +23,7 @@ use Rattle.input_state.specs.Changes.{IsOnly}
 use Rattle.input_state.specs.Macros.{list_at, is_macro, KeepsLists}
 use Rattle.input_state.specs.HeldViews.{fronts, text, texts, built, owns, bodies, IsSingle, IsSimple, IsApart, IsDefined, IsShared}
 use Rattle.input_state.proofs.Counting.{some, one_some}
-use Rattle.input_state.proofs.Shares.{held_parts, macro_once}
+use Rattle.input_state.proofs.Shares.{held_parts, meant_once, macro_once}
 use Rattle.input_state.proofs.Levels.{plain_opens, fronts_stay}
 
 -- the lists that are held so often are as they were
@@ -121,6 +122,12 @@ text_at (o ∷ os) (suc id) = text_at os id
 
 pub keeps_lists : (old new table t : List (Option Entry)) (stack : InputStack) (m : Map) → IsSingle (pending table stack).sources → ((h : ℕ) → 0 < held stack h + meant.held m h → tokens_at new h ≡ tokens_at old h) → KeepsLists m.cells (fronts t (pending table stack).puts) (texts old) (texts new)
 keeps_lists old new table t stack m single same = record { tokens = λ id is. text_at new id ∙ same id (macro_held table t stack m single id is) ∙ sym (text_at old id) }
+
+-- each macro's list is one
+pub macros_defined : (table : List (Option Entry)) (stack : InputStack) (bs : List Build) (m : Map) → IsShared table stack bs m → (id : ℕ) → is_meant id m.cells ≡ true → IsDefined (list_at (texts table) id)
+macros_defined table stack bs m shared id is =
+    let one : some (meant.held m id) ≡ 1 = sym (meant_once id m.cells) ∙ ap (λ (b : Bool). cond b 1 0) is in
+    subst IsDefined (sym (text_at table id)) (shared.macros id (one_some (meant.held m id) one))
 
 -- A LIST THAT IS BEING BUILT CHANGES
 

@@ -70,3 +70,6 @@ map_length table (b ∷ bs) = omega (arith, map_length table bs)
 
 pub gathered_few : (table : List (Option Entry)) (gathered : List Build) → length gathered ≤ lists_words (map (text table) (reverse gathered))
 gathered_few table gathered = omega (arith, few (map (text table) (reverse gathered)), map_length table (reverse gathered), length-reverse gathered)
+
+pub gathered_length : (table : List (Option Entry)) (gathered : List Build) → length (map (text table) (reverse gathered)) ≡ length gathered
+gathered_length table gathered = omega (arith, map_length table (reverse gathered), length-reverse gathered)

@@ -1,5 +1,5 @@
-// The lists in front, those that are being made and gathered, and the line of the file beneath them.
-ghost use Rattle.std.specs.Prelude.{◌≡◌, ◌≢◌, ℕ, ◌≤◌, ◌<◌, ◌+◌, ◌++◌, ◌↔◌, List, [], ◌∷◌, Option, None, Some, IsSome, IsTrue, IfOk, OnOk, OnErr, IfErr, MatchResult, length, drop, replicate};
+// The lists in front, those that are being made and gathered, the line of the file beneath them, and what the names mean.
+ghost use Rattle.std.specs.Prelude.{◌≡◌, ◌≢◌, ℕ, ◌≤◌, ◌<◌, ◌+◌, ◌++◌, ◌↔◌, true, List, [], ◌∷◌, Option, None, Some, IsSome, IsTrue, IfOk, OnOk, OnErr, IfErr, MatchResult, length, drop, replicate};
 ghost use Rattle.tex_defs.specs.Sizes.{first_out_of_range};
 ghost use Rattle.plain_state.specs.Names.{is_primitive};
 ghost use Rattle.tex_defs.specs.declared.Meaning.TheVariants.{Undefined};
@@ -7,7 +7,7 @@ ghost use Rattle.plain_state.specs.Meanings.{first_meanings, fixed_locations, lo
 ghost use Rattle.plain_state.specs.Puts.{settled, with_put, token_put};
 ghost use Rattle.plain_state.specs.Pending.{Progress, pulled};
 ghost use Rattle.plain_state.specs.States.{grow_first, grown_by};
-ghost use Rattle.plain_state.specs.Tables.{memory, refused};
+ghost use Rattle.plain_state.specs.Tables.{is_meant, memory, refused};
 ghost use Rattle.line_lexer.specs.declared.Ahead.TheVariants as ahead;
 ghost use Rattle.token_lists.specs.Table.{words, tokens_at, holders_at, IsHeld};
 ghost use Rattle.token_lists.specs.Ids.{build_id, IsBuilding};
@@ -16,6 +16,7 @@ ghost use Rattle.token_lists.specs.Refusals.{IsFull};
 ghost use Rattle.input_state.specs.HeldLists.{HeldLists, KeepsHeld, call_refusal, first_list, is_empty, made, words_held, level_held, pending_of, ahead_of, line_levels, IsLineIn};
 ghost use Rattle.meanings.specs.Map.{IsPlaced};
 ghost use Rattle.input_state.specs.HeldViews.{IsDefined};
+ghost use Rattle.input_state.specs.Macros.{list_at};
 ghost use Rattle.input_state.specs.Calls.{call_kind, called_put, called, Defines};
 ghost use Rattle.input_state.specs.declared.answer.CallKind.TheVariants.{AtOnce};
 ghost use Rattle.input_state.specs.Changes.{IsOnly};
@@ -407,7 +408,8 @@ impl Held {
     /// Gives the next name of two or more characters a location. It is undefined.
     pub fn enter_name(&mut self)
         requires { length self.old.meanings < fixed_locations + self.old.hash_size }
-        ensures { self.new ≡ record self.old { meanings = self.old.meanings ++ Undefined ∷ [] } }
+        ensures after { self.new ≡ record self.old { meanings = self.old.meanings ++ Undefined ∷ [] } }
+        ensures macros { KeepsHeld self.old self.new }
     {
         self.meanings.enter();
     }
@@ -427,6 +429,13 @@ impl Held {
         let list = Some(self.lists.finish(build));
         let meaning = Meaning::Macro { long, outer, list };
         self.meanings.define(&mut self.lists, name, meaning);
+    }
+
+    /// Each macro's list has a token, its end mark, and at most nine places. The call does nothing.
+    pub fn macros_are_lists(&self)
+        ensures { (id : ℕ) → is_meant id self.now.meanings ≡ true → IsDefined (list_at self.now.lists id) }
+    {
+        let _lists = &self.lists;
     }
 
     /// How a name is called.

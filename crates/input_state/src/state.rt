@@ -1,5 +1,5 @@
 // The input of a run.
-ghost use Rattle.std.specs.Prelude.{◌≡◌, ◌≢◌, ◌≤◌, ◌<◌, ◌+◌, ◌++◌, [], ◌∷◌, None, Some, IsSome, IfOk, IfErr, OnOk, OnErr, MatchResult, MatchBool, length, drop, replicate};
+ghost use Rattle.std.specs.Prelude.{◌≡◌, ◌≢◌, ℕ, true, ◌≤◌, ◌<◌, ◌+◌, ◌++◌, [], ◌∷◌, None, Some, IsSome, IfOk, IfErr, OnOk, OnErr, MatchResult, MatchBool, length, drop, replicate};
 ghost use Rattle.std.specs.Option.{option_map};
 ghost use Rattle.tex_defs.specs.Sizes.{first_out_of_range};
 ghost use Rattle.plain_state.specs.Names.{is_primitive};
@@ -8,7 +8,7 @@ ghost use Rattle.plain_state.specs.Meanings.{first_meanings, fixed_locations, lo
 ghost use Rattle.plain_state.specs.Puts.{settled, token_put};
 ghost use Rattle.plain_state.specs.Pending.{NotBegun, Begun, Closed, LineTaken, pulled, settle, put_front, line_taken, taken_line, from_file};
 ghost use Rattle.plain_state.specs.States.{grow_first, grown_by};
-ghost use Rattle.plain_state.specs.Tables.{memory, level, file_levels, next_line, refused};
+ghost use Rattle.plain_state.specs.Tables.{is_meant, memory, level, file_levels, next_line, refused};
 ghost use Rattle.line_lexer.specs.declared.Ahead.TheVariants as ahead;
 ghost use Rattle.line_lexer.specs.declared.LineState.TheVariants.{NewLine};
 ghost use Rattle.tex_defs.specs.declared.Table.TheVariants.{BufferSize};
@@ -19,10 +19,11 @@ ghost use Rattle.input_state.specs.HeldLists.{KeepsHeld, first_list, is_empty, m
 ghost use Rattle.meanings.specs.Map.{IsPlaced};
 ghost use Rattle.input_state.specs.declared.answer.CallKind.TheVariants.{AtOnce};
 ghost use Rattle.input_state.specs.HeldViews.{IsDefined};
+ghost use Rattle.input_state.specs.Macros.{list_at};
 ghost use Rattle.input_state.specs.Calls.{call_kind, called_put, after_call, Defines};
 ghost use Rattle.input_state.specs.FileViews.{progress_of};
 ghost use Rattle.input_state.specs.Stored.{KeepsMacros, call_refusal, words, unread, closed};
-ghost use Rattle.input_state.specs.Reads.{Pulls, Refuses, RefusesLine, gives_step};
+ghost use Rattle.input_state.specs.Reads.{Pulls, pull_refusal, RefusesLine, gives_step};
 
 use crate::file::{JobFile, Progress};
 use crate::lines::{first_line, put_line};
@@ -340,13 +341,14 @@ impl Input {
     /// *The TeXbook*, chapters 7 and 8; *TeX: The Program*, part 24 (`get_next`).
     ///
     /// # Errors
-    /// The next line is too long for the buffer, or the file's level passes the size of the input stack. Nothing has
-    /// changed but that the finished lists in front have gone.
+    /// The next line is too long for the buffer, or the file's level or that of an argument passes the size of the input
+    /// stack. Nothing has changed but that the finished lists in front have gone.
     pub fn pull(&mut self, categories: &[u8; 256]) -> Result<Pulled, Full>
         ensures ok { IfOk result (λ r. Pulls (pulled categories.now self.old.pending) r self.old self.new) }
         ensures others { self.new ≡ record self.old { pending = self.new.pending; buffer = self.new.buffer; lists = self.new.lists } }
         ensures macros { KeepsMacros self.old self.new }
-        ensures err { IfErr result (λ full. Refuses categories.now full self.old self.new) }
+        ensures refused { MatchResult result (λ _. pull_refusal categories.now self.old ≡ None) (λ full. pull_refusal categories.now self.old ≡ Some full) }
+        ensures err { OnErr result (self.new.pending ≡ settle self.old.pending) }
     {
         match self.looks(categories) {
             Ahead::Token | Ahead::Invalid => Ok(self.pull_front(categories)),
@@ -378,7 +380,8 @@ impl Input {
     /// Gives the next name of two or more characters a location. It is undefined.
     pub fn enter_name(&mut self)
         requires { length self.old.meanings < fixed_locations + self.old.hash_size }
-        ensures { self.new ≡ record self.old { meanings = self.old.meanings ++ Undefined ∷ [] } }
+        ensures after { self.new ≡ record self.old { meanings = self.old.meanings ++ Undefined ∷ [] } }
+        ensures macros { KeepsMacros self.old self.new }
     {
         self.held.enter_name();
     }
@@ -394,6 +397,13 @@ impl Input {
         ensures macros { KeepsMacros self.old self.new }
     {
         self.held.define(name, long, outer);
+    }
+
+    /// Each macro's list has a token, its end mark, and at most nine places. The call does nothing.
+    pub fn macros_are_lists(&self)
+        ensures { (id : ℕ) → is_meant id self.now.meanings ≡ true → IsDefined (list_at self.now.lists id) }
+    {
+        self.held.macros_are_lists();
     }
 
     /// How a name is called.

@@ -3,8 +3,11 @@ use Rattle.plain_state.specs.Meanings.{name_meaning}
 use Rattle.token_lists.specs.Ids.{id_of}
 use Rattle.meanings.specs.Holding as meant
 use Rattle.meanings.specs.Holding.{list_of}
-use Rattle.input_state.specs.HeldViews.{builds}
-use Rattle.input_state.proofs.CallKept.{countable_now, shared_stands, refusal_is, call_sound, call_view, call_macros, refused_sound, refused_view, refused_macros}
+use Rattle.input_state.specs.HeldViews.{builds, texts}
+use Rattle.input_state.specs.HeldLists.{HeldLists}
+use Rattle.input_state.specs.Calls.{call_kind}
+use Rattle.input_state.proofs.Calling.{not_called}
+use Rattle.input_state.proofs.CallKept.{countable_now, back_held, shared_stands, refusal_is, call_sound, call_view, call_macros, refused_sound, refused_view, refused_macros}
 use Rattle.input_state.proofs.lists_held.Held.call_macro.Goals as goal
 
 pub share-body-requires-clause-countable : goal.share-body-requires-clause-countable
@@ -76,3 +79,14 @@ returns-in-Err-clause-macros c =
     let e = c.in-Err.ensures in
     let g = c.give_back.ensures in
     refused_macros i.lists c.share-body.new.lists c.push_macro.new.lists c.give_back.new.lists i.stack c.push_macro.new.self i.making i.gathered.items i.meanings i.sizes _ c.self.invariant c.share-body.result c.in-Err.body c.share-body.ensures.shares e.refused.1 e.stands e.err e.account e.kept e.lasting g.account g.kept g.lasting e.size e.parameter_size c.args.self.now c.self.view_is
+
+pub unreachable-requires : goal.unreachable-requires
+unreachable-requires c =
+    let i = c.self.inside in
+    not_called (texts i.lists) (name_meaning i.meanings.cells c.args.name) c.in_default.ensures.list (ap (λ (w : HeldLists). call_kind w.lists (name_meaning w.meanings c.args.name)) c.self.view_is ∙ c.requires)
+
+pub give_back-requires-clause-held : goal.give_back-requires-clause-held
+give_back-requires-clause-held c =
+    let i = c.self.inside in
+    let e = c.in-Err.ensures in
+    back_held i.lists c.share-body.new.lists c.push_macro.new.lists i.stack c.push_macro.new.self (builds i.making i.gathered.items) i.meanings c.share-body.result c.in-Err.body c.self.invariant.shared c.share-body.ensures.shares e.refused.1 e.account
