@@ -1,9 +1,14 @@
 -- The lists of macros by their numbers.
-use Rattle.std.specs.Prelude.{◌≡◌, ℕ, ◌||◌, Bool, true, List, [], Option, slice_index_or}
+use Rattle.std.specs.Prelude.{◌≡◌, ℕ, ◌+◌, ◌<◌, ◌||◌, Bool, true, List, [], length, Option, slice_index_or}
 use Rattle.tex_defs.specs.declared.Token.{Token}
 use Rattle.tex_defs.specs.declared.Meaning.{Meaning}
 use Rattle.plain_state.specs.Puts.{Put}
+use Rattle.plain_state.specs.Meanings.{fixed_locations}
 use Rattle.plain_state.specs.Tables.{is_meant, is_put}
+
+-- one more name of two or more characters may be entered
+abbrev pub HasNameRoom : List (Meaning (Option ℕ)) → ℕ → Type 0
+HasNameRoom meanings hash_size = length meanings < fixed_locations + hash_size
 
 abbrev pub list_at : List (List Token) → ℕ → List Token
 list_at lists id = slice_index_or lists id []

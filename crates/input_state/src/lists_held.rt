@@ -1,5 +1,5 @@
 // The lists in front, those that are being made and gathered, the line of the file beneath them, and what the names mean.
-ghost use Rattle.std.specs.Prelude.{◌≡◌, ◌≢◌, ℕ, ◌≤◌, ◌<◌, ◌+◌, ◌++◌, ◌↔◌, true, List, [], ◌∷◌, Option, None, Some, IsSome, IsTrue, IfOk, OnOk, OnErr, IfErr, MatchResult, length, drop, replicate};
+ghost use Rattle.std.specs.Prelude.{◌≡◌, ◌≢◌, ℕ, ◌≤◌, ◌<◌, ◌+◌, ◌++◌, ◌↔◌, true, List, [], ◌∷◌, Option, None, Some, IsSome, IsTrue, IfOk, OnOk, OnErr, IfErr, MatchResult, MatchBool, length, drop, replicate};
 ghost use Rattle.tex_defs.specs.Sizes.{first_out_of_range};
 ghost use Rattle.plain_state.specs.Names.{is_primitive};
 ghost use Rattle.tex_defs.specs.declared.Meaning.TheVariants.{Undefined};
@@ -16,7 +16,7 @@ ghost use Rattle.token_lists.specs.Refusals.{IsFull};
 ghost use Rattle.input_state.specs.HeldLists.{HeldLists, KeepsHeld, call_refusal, first_list, is_empty, made, words_held, level_held, pending_of, ahead_of, line_levels, IsLineIn};
 ghost use Rattle.meanings.specs.Map.{IsPlaced};
 ghost use Rattle.input_state.specs.HeldViews.{IsDefined};
-ghost use Rattle.input_state.specs.Macros.{list_at};
+ghost use Rattle.input_state.specs.Macros.{HasNameRoom, list_at};
 ghost use Rattle.input_state.specs.Calls.{call_kind, called_put, called, Defines};
 ghost use Rattle.input_state.specs.declared.answer.CallKind.TheVariants.{AtOnce};
 ghost use Rattle.input_state.specs.Changes.{IsOnly};
@@ -403,6 +403,13 @@ impl Held {
         ensures { result ≡ seen self.now.meanings token }
     {
         self.meanings.seen(token)
+    }
+
+    /// Whether one more name of two or more characters may be entered.
+    pub fn has_name_room(&self) -> bool
+        ensures { MatchBool result (HasNameRoom self.now.meanings self.now.hash_size) (HasNameRoom self.now.meanings self.now.hash_size → ⊥) }
+    {
+        self.meanings.has_room()
     }
 
     /// Gives the next name of two or more characters a location. It is undefined.

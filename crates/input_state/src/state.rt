@@ -19,7 +19,7 @@ ghost use Rattle.input_state.specs.HeldLists.{KeepsHeld, first_list, is_empty, m
 ghost use Rattle.meanings.specs.Map.{IsPlaced};
 ghost use Rattle.input_state.specs.declared.answer.CallKind.TheVariants.{AtOnce};
 ghost use Rattle.input_state.specs.HeldViews.{IsDefined};
-ghost use Rattle.input_state.specs.Macros.{list_at};
+ghost use Rattle.input_state.specs.Macros.{HasNameRoom, list_at};
 ghost use Rattle.input_state.specs.Calls.{call_kind, called_put, after_call, Defines};
 ghost use Rattle.input_state.specs.FileViews.{progress_of};
 ghost use Rattle.input_state.specs.Stored.{KeepsMacros, call_refusal, words, unread, closed};
@@ -375,6 +375,13 @@ impl Input {
         ensures { result ≡ seen self.now.meanings token }
     {
         self.held.seen(token)
+    }
+
+    /// Whether one more name of two or more characters may be entered.
+    pub fn has_name_room(&self) -> bool
+        ensures { MatchBool result (HasNameRoom self.now.meanings self.now.hash_size) (HasNameRoom self.now.meanings self.now.hash_size → ⊥) }
+    {
+        self.held.has_name_room()
     }
 
     /// Gives the next name of two or more characters a location. It is undefined.
