@@ -1,4 +1,4 @@
-ghost use Rattle.std.specs.Prelude.{◌≡◌, ℕ, ◌+◌, ◌≤◌, ◌<◌, ◌^◌, IfOk, IfSome, MatchOption, None, Some, length, vec_capacity, vec_len, replicate, map, ◌++◌};
+ghost use Rattle.std.specs.Prelude.{◌≡◌, ℕ, ◌+◌, ◌≤◌, ◌<◌, ◌^◌, IfOk, IfSome, MatchOption, MatchBool, None, Some, length, vec_capacity, vec_len, replicate, map, ◌++◌};
 ghost use Rattle.std.specs.List.{range_with_len};
 ghost use Rattle.tex_defs.specs.Sizes.{first_out_of_range};
 ghost use Rattle.tex_defs.specs.declared.Meaning.TheVariants.{Undefined};
@@ -84,6 +84,13 @@ impl Meanings {
         put_undefined(&mut cells);
         put_primitives(&mut cells);
         Ok(Meanings { cells, hash_size })
+    }
+
+    /// Whether one more name of two or more characters may be entered.
+    pub fn has_room(&self) -> bool
+        ensures { MatchBool result (HasRoom self.now) (HasRoom self.now → ⊥) }
+    {
+        self.cells.len() < FIXED + self.hash_size as usize
     }
 
     /// Gives the next name of two or more characters its location, in room that is there. It is undefined.

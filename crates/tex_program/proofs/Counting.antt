@@ -1,6 +1,6 @@
 -- The engine's tables count as the machine's.
 use Rattle.std.proofs.Common.{◌≡◌, ℕ, ◌+◌, ◌<◌, ◌≤◌, List, [], ◌∷◌, ◌++◌, length, refl, sym, ap, ◌∙◌, reverse, take, arith}
-use Rattle.std.specs.Prelude.{Option, Some, None, IsSome, Bool, true, false, if◌then◌else◌}
+use Rattle.std.specs.Prelude.{Option, Some, None, IsSome, Bool, true, false, nat_le, if◌then◌else◌}
 use Rattle.std.proofs.lemmas.List.{length-reverse}
 use Rattle.tex_defs.specs.declared.Token.{Token}
 use Rattle.std.proofs.lemmas.Bool.Decides.{nat_tests}
@@ -8,15 +8,18 @@ use Rattle.tex_defs.specs.declared.Sizes.{Sizes}
 use Rattle.tex_defs.specs.declared.Table.TheVariants.{ExpansionDepth, DelayedWrites}
 use Rattle.tex_defs.specs.Sizes.{first_out_of_range, first_out_among, is_in_range, size_of, tables}
 use Rattle.tex_defs.specs.declared.Table.{Table}
-use Rattle.plain_state.specs.States.{Reading}
-use Rattle.plain_state.specs.Tables.{words, memory, refused}
+use Rattle.plain_state.specs.States.{Reading, Begun}
+use Rattle.plain_state.specs.Readings.{Kind, own_lists}
+use Rattle.plain_state.specs.Tables.{memory, lists_words, refused, refusal, words}
 use Rattle.input_state.specs.Stored.{words as stored_words}
 use Rattle.tex_defs.specs.declared.Full.{Full}
 use Rattle.frames.specs.declared.scan.Ask.{Ask}
 use Rattle.frames.specs.declared.frame.Frame.{Frame}
 use Rattle.frames.specs.declared.frame.Waiting.{Waiting}
 use Rattle.tex_program.specs.declared.engine.Engine.{Engine}
-use Rattle.tex_program.specs.Stands.{Stands, Waits, WaitsWith, WorkStands, WaitStands, OuterStand, Counts, state_of, top_count, depth_full}
+use Rattle.tex_program.specs.Book.{Book}
+use Rattle.tex_program.specs.Stands.{Stands, Waits, WaitsFirst, WaitsWith, WorkStands, WaitStands, OuterStand, IsSound, Counts, state_of, frames, top_count, depth_full}
+use Rattle.tex_program.proofs.Storing.{words_are}
 
 pub outer_depth : (fs : List Waiting) (rs : List Reading) → OuterStand fs rs → length rs ≡ length fs
 outer_depth [] [] h = refl
@@ -39,16 +42,16 @@ wait_depth None outer lists (r ∷ rs) h = absurd h
 wait_depth (Some f) outer lists [] h = absurd h
 wait_depth (Some f) outer lists (r ∷ rs) h = top_depth r outer rs h.1.1
 
-pub counts_of : (sizes : Sizes) (e : Engine) (work : List Reading) → Stands sizes e work → Counts sizes e work
-counts_of sizes e work h = record {
-  sized = h.sized;
-  depth = work_depth e.ask e.top e.outer.items e.input.gathered work h.readings;
+pub counts_of : (sizes : Sizes) (e : Engine) (book : Book) → Stands sizes e book → Counts sizes e book
+counts_of sizes e book h = record {
+  sound = h.sound;
+  depth = work_depth e.ask e.top e.outer.items e.input.gathered book.work h.readings;
 }
 
-pub waits_count : (sizes : Sizes) (e : Engine) (work : List Reading) → Waits sizes e work → Counts sizes e work
-waits_count sizes e work h = record {
-  sized = h.sized;
-  depth = wait_depth e.top e.outer.items e.input.gathered work h.readings;
+pub waits_count : (sizes : Sizes) (e : Engine) (book : Book) → Waits sizes e book → Counts sizes e book
+waits_count sizes e book h = record {
+  sound = h.sound;
+  depth = wait_depth e.top e.outer.items e.input.gathered book.work h.readings;
 }
 
 open_count : (t : Option Frame) → IsSome t → top_count t ≡ 1
@@ -56,22 +59,17 @@ open_count None h = cc
 open_count (Some f) h = refl
 
 -- a command waits in place of the innermost reading
-pub inner_count : (sizes : Sizes) (e : Engine) (waiting : Waiting) (work : List Reading) → IsSome e.top → WaitsWith sizes e (Some waiting) work → Counts sizes e work
-inner_count sizes e waiting [] o h = absurd h
-inner_count sizes e waiting (r ∷ rs) o h = record {
-  sized = h.sized;
-  depth = top_depth r e.outer.items rs h.outer ∙ ap (λ (n : ℕ). length e.outer.items + n) (sym (open_count e.top o));
-}
-
--- the main memory holds what the input holds: there are no macros
-pub words_are : (e : Engine) (work : List Reading) → words (state_of e work) ≡ stored_words e.input
-words_are e work = omega arith
+pub inner_count : (sizes : Sizes) (e : Engine) (waiting : Waiting) (book : Book) → IsSome e.top → WaitsWith sizes e (Some waiting) book → Counts sizes e book
+inner_count sizes e waiting book o h = record { sound = h.sound; depth = at book.work h.readings } where
+  at : (work : List Reading) → WaitsFirst e waiting work → length work ≡ frames e
+  at [] w = absurd w
+  at (r ∷ rs) w = top_depth r e.outer.items rs w.1 ∙ ap (λ (n : ℕ). length e.outer.items + n) (sym (open_count e.top o))
 
 -- so many words more, by the machine and by the input
-pub words_more : (sizes : Sizes) (e : Engine) (work : List Reading) (need : ℕ) (o : Option Full) → e.input.sizes ≡ sizes →
-    refused e.input.sizes (memory need (stored_words e.input) ∷ []) ≡ o → refused sizes (memory need (words (state_of e work)) ∷ []) ≡ o
-words_more sizes e work need o sized h =
-    ap (λ (n : ℕ). refused sizes (memory need n ∷ [])) (words_are e work) ∙ (ap (λ (s : Sizes). refused s (memory need (stored_words e.input) ∷ [])) (sym sized) ∙ h)
+pub words_more : (sizes : Sizes) (e : Engine) (book : Book) (need : ℕ) (o : Option Full) → IsSound sizes e book.number book.macros →
+    refused e.input.sizes (memory need (stored_words e.input) ∷ []) ≡ o → refused sizes (memory need (words (state_of e book)) ∷ []) ≡ o
+words_more sizes e book need o sound h =
+    ap (λ (n : ℕ). refused sizes (memory need n ∷ [])) (words_are sizes e book sound) ∙ (ap (λ (s : Sizes). refused s (memory need (stored_words e.input) ∷ [])) (sym sound.sized.input) ∙ h)
 
 -- no reading more
 pub no_room : (used size u s : ℕ) → size ≤ used → u ≡ used → s ≡ size → Some (record { table = ExpansionDepth; used = u; size = s }) ≡ depth_full used size
@@ -91,3 +89,10 @@ pub small_depth : (sizes : Sizes) → first_out_of_range sizes ≡ None → size
 small_depth sizes h =
     let k = in_range sizes (take 11 tables) (DelayedWrites ∷ []) ExpansionDepth h in
     grind (arith, nat_tests, k)
+
+-- one reading more, by the machine and by the engine
+pub begun_refusal : (sizes : Sizes) (e : Engine) (book : Book) (k : Kind) (o : Option Full) → Counts sizes e book → frames e < e.outer.size →
+    refused e.input.sizes (memory (lists_words (own_lists k)) (stored_words e.input) ∷ []) ≡ o → refusal sizes (Begun k) (state_of e book) ≡ o
+begun_refusal sizes e book k o counts room h =
+    let within : nat_le (length book.work + 1) sizes.expansion_depth ≡ true = grind (arith, nat_tests, counts.depth, counts.sound.sized.outer, room) in
+    rw within (words_more sizes e book (lists_words (own_lists k)) o counts.sound h)

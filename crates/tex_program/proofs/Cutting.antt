@@ -17,26 +17,27 @@ use Rattle.tex_program.specs.declared.broken.Broken.{Broken}
 use Rattle.tex_program.specs.declared.broken.Broken.TheVariants as broken
 use Rattle.tex_program.specs.declared.engine.Engine.{Engine}
 use Rattle.tex_program.specs.Faults.{broken_by, why_of}
+use Rattle.tex_program.specs.Book.{Book}
 use Rattle.tex_program.specs.Stands.{OnlyColumn, state_of}
 use Rattle.tex_program.specs.Rules.{world_of, Cuts}
 
 -- the same moves
-pub cuts_by : (sizes : Sizes) (s : State) (e' : Engine) (work : List Reading) (w w' : World) (ms ns : List Move) (b : Broken) → ns ≡ ms → Cuts sizes s e' work w w' ms b → Cuts sizes s e' work w w' ns b
-cuts_by sizes s e' work w w' ms ns b e h = subst (λ (x : List Move). Cuts sizes s e' work w w' x b) (sym e) h
+pub cuts_by : (sizes : Sizes) (s : State) (e' : Engine) (book : Book) (w w' : World) (ms ns : List Move) (b : Broken) → ns ≡ ms → Cuts sizes s e' book w w' ms b → Cuts sizes s e' book w w' ns b
+cuts_by sizes s e' book w w' ms ns b e h = subst (λ (x : List Move). Cuts sizes s e' book w w' x b) (sym e) h
 
 -- cut off already in the first of two
-pub first_cuts : (sizes : Sizes) (s : State) (e' : Engine) (work : List Reading) (w w' : World) (ms ns : List Move) (b : Broken) → Cuts sizes s e' work w w' ms b → Cuts sizes s e' work w w' (ms ++ ns) b
-first_cuts sizes s e' work w w' ms ns b h = record { at = h.at; cut = cut_first sizes s h.at w w' ms ns (why_of b) h.cut; same = h.same }
+pub first_cuts : (sizes : Sizes) (s : State) (e' : Engine) (book : Book) (w w' : World) (ms ns : List Move) (b : Broken) → Cuts sizes s e' book w w' ms b → Cuts sizes s e' book w w' (ms ++ ns) b
+first_cuts sizes s e' book w w' ms ns b h = record { at = h.at; cut = cut_first sizes s h.at w w' ms ns (why_of b) h.cut; same = h.same }
 
 -- cut off behind moves that were done
-pub later_cuts : (sizes : Sizes) (s s1 : State) (e' : Engine) (work : List Reading) (w w1 w' : World) (ms ns : List Move) (b : Broken) → Did sizes s s1 w w1 ms → Cuts sizes s1 e' work w1 w' ns b → Cuts sizes s e' work w w' (ms ++ ns) b
-later_cuts sizes s s1 e' work w w1 w' ms ns b d h = record { at = h.at; cut = cut_later sizes s s1 h.at w w1 w' ms ns (why_of b) d h.cut; same = h.same }
+pub later_cuts : (sizes : Sizes) (s s1 : State) (e' : Engine) (book : Book) (w w1 w' : World) (ms ns : List Move) (b : Broken) → Did sizes s s1 w w1 ms → Cuts sizes s1 e' book w1 w' ns b → Cuts sizes s e' book w w' (ms ++ ns) b
+later_cuts sizes s s1 e' book w w1 w' ms ns b d h = record { at = h.at; cut = cut_later sizes s s1 h.at w w1 w' ms ns (why_of b) d h.cut; same = h.same }
 
 -- cut off before the first move, for which a table has no room
-pub full_cuts : (sizes : Sizes) (s : State) (e' : Engine) (work : List Reading) (w : World) (m : Move) (rest : List Move) (full : Full) (b : Broken) →
-    b ≡ broken.Full full → refusal sizes m s ≡ Some full → s ≡ state_of e' work → Cuts sizes s e' work w w (m ∷ rest) b
-full_cuts sizes s e' work w m rest full b is r same =
-    subst (λ (x : Broken). Cuts sizes s e' work w w (m ∷ rest) x) (sym is) (record { at = s; cut = cut_full sizes m rest s w full r; same = same })
+pub full_cuts : (sizes : Sizes) (s : State) (e' : Engine) (book : Book) (w : World) (m : Move) (rest : List Move) (full : Full) (b : Broken) →
+    b ≡ broken.Full full → refusal sizes m s ≡ Some full → s ≡ state_of e' book → Cuts sizes s e' book w w (m ∷ rest) b
+full_cuts sizes s e' book w m rest full b is r same =
+    subst (λ (x : Broken). Cuts sizes s e' book w w (m ∷ rest) x) (sym is) (record { at = s; cut = cut_full sizes m rest s w full r; same = same })
 
 -- WRITING
 
@@ -52,26 +53,26 @@ wrote_out f s s' b b' bs h = record {
 }
 
 -- the engine's state behind a text, and behind a front of it
-column_state : (e e' : Engine) (work : List Reading) → OnlyColumn e e' → record (state_of e work) { in_line = e'.in_line } ≡ state_of e' work
-column_state e e' work only = cc (only.input, only.names, only.categories, only.reports, only.quiet)
+column_state : (e e' : Engine) (book : Book) → OnlyColumn e e' → record (state_of e book) { in_line = e'.in_line } ≡ state_of e' book
+column_state e e' book only = cc (only.input, only.names, only.categories, only.reports, only.quiet)
 
-module _ (sizes : Sizes) (f : FilesTold) (s s' : SinkTold) (e e' : Engine) (work : List Reading) (only : OnlyColumn e e') where
-  pub did_out : (text : List ℕ) → Took s s' e.in_line e'.in_line text → Did sizes (state_of e work) (state_of e' work) (world_of f s e) (world_of f s' e') (Written Transcript text ∷ [])
-  did_out text h = did_one sizes (Written Transcript text) (state_of e work) (state_of e' work) _ _ refl (ap (λ (b : Bool). record (state_of e work) { in_line = b }) (sym h.column) ∙ column_state e e' work only) (wrote_out f s s' e.in_line e'.in_line text h)
+module _ (sizes : Sizes) (f : FilesTold) (s s' : SinkTold) (e e' : Engine) (book : Book) (only : OnlyColumn e e') where
+  pub did_out : (text : List ℕ) → Took s s' e.in_line e'.in_line text → Did sizes (state_of e book) (state_of e' book) (world_of f s e) (world_of f s' e') (Written Transcript text ∷ [])
+  did_out text h = did_one sizes (Written Transcript text) (state_of e book) (state_of e' book) _ _ refl (ap (λ (b : Bool). record (state_of e book) { in_line = b }) (sym h.column) ∙ column_state e e' book only) (wrote_out f s s' e.in_line e'.in_line text h)
 
-  cut_by : (fault : Fault) (text : List ℕ) (more : List Move) → TookFront s s' e.in_line e'.in_line text fault → Cuts sizes (state_of e work) e' work (world_of f s e) (world_of f s' e') (Written Transcript text ∷ more) (broken_by fault)
+  cut_by : (fault : Fault) (text : List ℕ) (more : List Move) → TookFront s s' e.in_line e'.in_line text fault → Cuts sizes (state_of e book) e' book (world_of f s e) (world_of f s' e') (Written Transcript text ∷ more) (broken_by fault)
   cut_by Failed text more h = record {
-    at = state_of e work;
-    cut = cut_in sizes (Written Transcript text) more h.count (state_of e work) _ _ IsFault tt (inr (h.failed refl)) (wrote_out f s s' e.in_line e'.in_line (take h.count text) h.took);
-    same = column_state e e' work only;
+    at = state_of e book;
+    cut = cut_in sizes (Written Transcript text) more h.count (state_of e book) _ _ IsFault tt (inr (h.failed refl)) (wrote_out f s s' e.in_line e'.in_line (take h.count text) h.took);
+    same = column_state e e' book only;
   }
   cut_by NoMemory text more h = record {
-    at = state_of e work;
-    cut = cut_in sizes (Written Transcript text) more h.count (state_of e work) _ _ IsWant tt (inr (h.wanted refl)) (wrote_out f s s' e.in_line e'.in_line (take h.count text) h.took);
-    same = column_state e e' work only;
+    at = state_of e book;
+    cut = cut_in sizes (Written Transcript text) more h.count (state_of e book) _ _ IsWant tt (inr (h.wanted refl)) (wrote_out f s s' e.in_line e'.in_line (take h.count text) h.took);
+    same = column_state e e' book only;
   }
 
   -- a write that was cut off
   pub cut_out : (b : Broken) (fault : Fault) (text : List ℕ) (more : List Move) → b ≡ broken_by fault → TookFront s s' e.in_line e'.in_line text fault →
-      Cuts sizes (state_of e work) e' work (world_of f s e) (world_of f s' e') (Written Transcript text ∷ more) b
-  cut_out b fault text more is h = subst (λ (x : Broken). Cuts sizes (state_of e work) e' work (world_of f s e) (world_of f s' e') (Written Transcript text ∷ more) x) (sym is) (cut_by fault text more h)
+      Cuts sizes (state_of e book) e' book (world_of f s e) (world_of f s' e') (Written Transcript text ∷ more) b
+  cut_out b fault text more is h = subst (λ (x : Broken). Cuts sizes (state_of e book) e' book (world_of f s e) (world_of f s' e') (Written Transcript text ∷ more) x) (sym is) (cut_by fault text more h)

@@ -8,7 +8,6 @@ use Rattle.tex_defs.specs.declared.Name.{Name}
 use Rattle.tex_defs.specs.declared.Sizes.{Sizes}
 use Rattle.plain_state.specs.Readings.{Fed, Tok, Val, Told, Cut, Value, own_lists}
 use Rattle.plain_state.specs.Readings as reading
-use Rattle.plain_state.specs.Meanings.{primitive_count}
 use Rattle.plain_state.specs.States.{Reading, fed_with, ended_with, beneath, fresh}
 use Rattle.plain_machine.specs.Plan.{last_seen, is_told}
 use Rattle.frames.specs.declared.scan.Ask.{Ask}
@@ -26,8 +25,10 @@ use Rattle.frames.specs.Resumes.{resume, resume_waiting, frame_list, frame_kind,
 use Rattle.frames.specs.Stack.{Stack}
 use Rattle.name_table.specs.Strings.{Strings}
 use Rattle.tex_program.specs.declared.engine.Engine.{Engine}
-use Rattle.tex_program.specs.Stands.{Stands, WaitsWith, Waits as WaitsFor, WaitStands, WorkStands, OuterStand, WaitingStands, EndsHere, FrameStands, Innermost, FedFrame, IsSized, SameState, IsLone, IsLast, GivesLast, TellsOnce, BeginsBuilt, AtMostOne, kept_lists}
+use Rattle.tex_program.specs.Book.{Book, with_work}
+use Rattle.tex_program.specs.Stands.{Stands, WaitsFirst, WaitsWith, Waits as WaitsFor, WaitStands, WorkStands, OuterStand, WaitingStands, EndsHere, FrameStands, Innermost, FedFrame, IsSound, SameState, IsLone, IsTaken, IsLast, GivesLast, TellsOnce, BeginsBuilt, AtMostOne, kept_lists, other_lists}
 use Rattle.tex_program.specs.Begins.{IsCommand}
+use Rattle.tex_program.proofs.Storing.{sound_still}
 
 -- THE LAST OF WHAT IT WAS FED WITH
 
@@ -224,22 +225,14 @@ told_on a' frame frame' lists r below holds g none untold =
 
 -- THE ENGINE
 
-pub sized_on : (sizes : Sizes) (e e' : Engine) → SameState e e' → IsSized sizes e → IsSized sizes e'
-sized_on sizes e e' same h = record {
-  few_reports = omega (arith, same.others.reports, h.few_reports);
-  known = subst (λ (n : Strings). primitive_count ≤ length n.names) (sym same.others.names) h.known;
-  small = h.small;
-  own = same.others.sizes ∙ h.own;
-  outer = same.others.depth ∙ h.outer;
-  input = same.size ∙ h.input;
-  names = ap (λ (n : Strings). n.sizes) same.others.names ∙ h.names;
-}
+pub sound_on : (sizes : Sizes) (e e' : Engine) (number : ℕ → ℕ) (macros : List (List Token)) → SameState e e' → IsSound sizes e number macros → IsSound sizes e' number macros
+sound_on sizes e e' number macros same h = sound_still sizes e e' number macros same.others.sizes same.others.depth same.others.names same.others.reports same.store h
 
 -- with this innermost reading
-pub stands_now : (sizes : Sizes) (e e' : Engine) (frame : Frame) (r : Reading) (rs : List Reading) → SameState e e' → IsSized sizes e → e.input.making ≡ None →
-    e'.top ≡ Some frame → Innermost e'.ask frame e'.input.gathered r → OuterStand (reverse e'.outer.items) rs → IsLone (r ∷ rs) → Stands sizes e' (r ∷ rs)
-stands_now sizes e e' frame r rs same sized idle top inner outer lone = record {
-  sized = sized_on sizes e e' same sized;
+pub stands_now : (sizes : Sizes) (e e' : Engine) (frame : Frame) (r : Reading) (rs : List Reading) (book : Book) → SameState e e' → IsSound sizes e book.number book.macros → e.input.making ≡ None →
+    e'.top ≡ Some frame → Innermost e'.ask frame e'.input.gathered r → OuterStand (reverse e'.outer.items) rs → IsLone (r ∷ rs) → Stands sizes e' (with_work (r ∷ rs) book)
+stands_now sizes e e' frame r rs book same sound idle top inner outer lone = record {
+  sound = sound_on sizes e e' book.number book.macros same sound;
   idle = same.making ∙ idle;
   readings = subst (λ (t : Option Frame). WorkStands e'.ask t e'.outer.items e'.input.gathered (r ∷ rs)) (sym top) (inner, outer);
   lone = lone;
@@ -251,15 +244,15 @@ lone_fed x r [] h = h
 lone_fed x r (s ∷ rs) h = tt
 
 -- behind a token that its frame was fed with
-pub feeds_on : (sizes : Sizes) (e e' : Engine) (f frame frame' : Frame) (x : Seen) (lists : List (List Token)) (r : Reading) (rs : List Reading) → SameState e e' → f ≡ frame →
-    FedFrame sizes e f x lists r rs → e'.top ≡ Some frame' → GivesBack e'.ask x → e'.outer ≡ e.outer → length e'.input.gathered ≡ length lists →
+pub feeds_on : (sizes : Sizes) (e e' : Engine) (f frame frame' : Frame) (x : Seen) (lists : List (List Token)) (r : Reading) (rs : List Reading) (book : Book) → SameState e e' → f ≡ frame →
+    FedFrame sizes e f x lists r rs book → e'.top ≡ Some frame' → GivesBack e'.ask x → e'.outer ≡ e.outer → length e'.input.gathered ≡ length lists →
     (MayFeed frame x lists → IsShallow frame lists → OwnedBy (frame_kind frame) (lists_after (frame_grows frame x) x lists) → GoesOn e'.ask frame frame' lists e'.input.gathered (Tok x)) →
-    Stands sizes e' (fed_with (Tok x) (r ∷ rs))
-feeds_on sizes e e' f frame frame' x lists r rs same is h top back outer long g =
+    Stands sizes e' (with_work (fed_with (Tok x) (r ∷ rs)) book)
+feeds_on sizes e e' f frame frame' x lists r rs book same is h top back outer long g =
     let below : FrameStands frame lists r = subst (λ (y : Frame). FrameStands y lists r) is h.frame in
     let may : MayFeed frame x lists = subst (λ (y : Frame). MayFeed y x lists) is h.may_feed in
     let on = g may below.shallow (owned_after frame x lists (owned_of frame lists below.owns)) in
-    stands_now sizes e e' frame' (record { kind = r.kind; fed = r.fed ++ Tok x ∷ []; lent = false; holds = r.holds }) rs same h.sized h.idle top (fed_on e'.ask frame frame' lists e'.input.gathered x r below h.holds long h.built on back)
+    stands_now sizes e e' frame' (record { kind = r.kind; fed = r.fed ++ Tok x ∷ []; lent = false; holds = r.holds }) rs book same h.sound h.idle top (fed_on e'.ask frame frame' lists e'.input.gathered x r below h.holds long h.built on back)
     (subst (λ (o : Stack). OuterStand (reverse o.items) rs) (sym outer) h.outer) (lone_fed (Tok x) r rs h.lone)
 
 -- a note changes no list
@@ -269,18 +262,18 @@ told_builds (Integer scan) lists h = tt
 told_builds (Text name scan) lists h = sym (ap first_list h)
 
 -- behind the note that its report was written
-pub notes_on : (sizes : Sizes) (e e' : Engine) (f frame' : Frame) (work : List Reading) → SameState e e' → e.top ≡ Some f → WaitsFor sizes e work → e'.top ≡ Some frame' → GivesNone e'.ask → IsUntold e'.ask → e'.outer ≡ e.outer →
+pub notes_on : (sizes : Sizes) (e e' : Engine) (f frame' : Frame) (book : Book) → SameState e e' → e.top ≡ Some f → WaitsFor sizes e book → e'.top ≡ Some frame' → GivesNone e'.ask → IsUntold e'.ask → e'.outer ≡ e.outer →
     e'.input.gathered ≡ e.input.gathered →
     ((lists : List (List Token)) → Builds f lists lists [] → IsShallow f lists → OwnedBy (frame_kind f) lists → GoesOn e'.ask f frame' lists lists Told) →
-    Stands sizes e' (fed_with Told work)
-notes_on sizes e e' f frame' work same is h top none untold outer lists g = at work (subst (λ (t : Option Frame). WaitStands t e.outer.items e.input.gathered work) is h.readings) h.lone where
-  at : (work : List Reading) → WaitStands (Some f) e.outer.items e.input.gathered work → IsLone work → Stands sizes e' (fed_with Told work)
+    Stands sizes e' (with_work (fed_with Told book.work) book)
+notes_on sizes e e' f frame' book same is h top none untold outer lists g = at book.work (subst (λ (t : Option Frame). WaitStands t e.outer.items e.input.gathered book.work) is h.readings) h.lone where
+  at : (work : List Reading) → WaitStands (Some f) e.outer.items e.input.gathered work → IsLone work → Stands sizes e' (with_work (fed_with Told work) book)
   at [] w lone = absurd w
   at (r ∷ rs) w lone =
       let below : FrameStands f e.input.gathered r = w.0 in
       let on = g e.input.gathered (told_builds f e.input.gathered below.owns) below.shallow (owned_of f e.input.gathered below.owns) in
       let inner = told_on e'.ask f frame' e.input.gathered r below w.1.0 on none untold in
-      stands_now sizes e e' frame' (record { kind = r.kind; fed = r.fed ++ Told ∷ []; lent = false; holds = r.holds }) rs same h.sized h.idle top
+      stands_now sizes e e' frame' (record { kind = r.kind; fed = r.fed ++ Told ∷ []; lent = false; holds = r.holds }) rs book same h.sound h.idle top
       (subst (λ (l : List (List Token)). Innermost e'.ask frame' l (record { kind = r.kind; fed = r.fed ++ Told ∷ []; lent = false; holds = r.holds })) (sym lists) inner)
       (subst (λ (o : Stack). OuterStand (reverse o.items) rs) (sym outer) w.1.1) (lone_fed Told r rs lone)
 
@@ -323,6 +316,16 @@ pub ended_lists : (v : EngineValue) (lists : List (List Token)) (r : Reading) (r
 ended_lists v lists r rs few holds =
     let none : drop r.holds lists ≡ [] = ap (λ (n : ℕ). drop n lists) holds ∙ nothing_past lists in
     ap (λ (l : List (List Token)). reading.value_lists (value_of lists v) ++ l) none ∙ (append-nil (reading.value_lists (value_of lists v)) ∙ sym (value_kept v lists few))
+
+-- and where no reading is beneath
+few_others : (lists : List (List Token)) → AtMostOne lists → other_lists lists ≡ []
+few_others [] h = refl
+few_others (ts ∷ lists) h = few_rest ts lists h
+
+pub last_lists : (v : EngineValue) (lists : List (List Token)) (r : Reading) (rs : List Reading) → AtMostOne lists → r.holds ≡ length lists → IsTaken (value_of lists v) rs → rs ≡ [] → reading.value_lists (value_of lists v) ++ beneath (r ∷ rs) lists ≡ other_lists lists
+last_lists v lists r rs few holds taken none =
+    let is : reading.value_lists (value_of lists v) ≡ [] = subst (IsTaken (value_of lists v)) none taken in
+    ended_lists v lists r rs few holds ∙ value_kept v lists few ∙ is ∙ sym (few_others lists few)
 
 no_text : (w : Waiting) (fed : List Fed) → reading.so_far (waiting_kind w) fed ≡ []
 no_text (Catcode scan) fed = refl
@@ -372,15 +375,28 @@ lone_command w v r0 r [] is = subst IsCommand (sym is) (waits_command w)
 lone_command w v r0 r (s ∷ rs) is = tt
 
 -- the reading beneath goes on with the value of the one that ended
-pub ends_on : (sizes : Sizes) (e e' : Engine) (w w' : Waiting) (value : EngineValue) (r0 : Reading) (rs : List Reading) → SameState e e' → EndsHere sizes e (value_of e.input.gathered value) r0 rs → e.outer.items ≡ e'.outer.items ++ w ∷ [] →
-    e'.top ≡ Some (Waits w') → e'.input.gathered ≡ kept_lists value e.input.gathered → GoesBy e'.ask w w' e.input.gathered value → Stands sizes e' (ended_with (value_of e.input.gathered value) (r0 ∷ rs))
-ends_on sizes e e' w w' value r0 rs same h items top lists g =
+pub ends_on : (sizes : Sizes) (e e' : Engine) (w w' : Waiting) (value : EngineValue) (r0 : Reading) (rs : List Reading) (book : Book) → SameState e e' → EndsHere sizes e (value_of e.input.gathered value) r0 rs book → e.outer.items ≡ e'.outer.items ++ w ∷ [] →
+    e'.top ≡ Some (Waits w') → e'.input.gathered ≡ kept_lists value e.input.gathered → GoesBy e'.ask w w' e.input.gathered value → Stands sizes e' (with_work (ended_with (value_of e.input.gathered value) (r0 ∷ rs)) book)
+ends_on sizes e e' w w' value r0 rs book same h items top lists g =
     at rs (subst (λ (l : List Waiting). OuterStand l rs) (ap (λ (l : List Waiting). reverse l) items ∙ reverse-append e'.outer.items (w ∷ [])) h.outer) where
-      at : (rs : List Reading) → OuterStand (w ∷ reverse e'.outer.items) rs → Stands sizes e' (ended_with (value_of e.input.gathered value) (r0 ∷ rs))
+      at : (rs : List Reading) → OuterStand (w ∷ reverse e'.outer.items) rs → Stands sizes e' (with_work (ended_with (value_of e.input.gathered value) (r0 ∷ rs)) book)
       at [] o = absurd o
-      at (r ∷ rs) o = stands_now sizes e e' (Waits w') (record { kind = r.kind; fed = r.fed ++ Val (value_of e.input.gathered value) ∷ []; lent = false; holds = r.holds + length (reading.value_lists (value_of e.input.gathered value)) }) rs same h.sized h.idle top
+      at (r ∷ rs) o = stands_now sizes e e' (Waits w') (record { kind = r.kind; fed = r.fed ++ Val (value_of e.input.gathered value) ∷ []; lent = false; holds = r.holds + length (reading.value_lists (value_of e.input.gathered value)) }) rs book same h.sound h.idle top
           (subst (λ (l : List (List Token)). Innermost e'.ask (Waits w') l (record { kind = r.kind; fed = r.fed ++ Val (value_of e.input.gathered value) ∷ []; lent = false; holds = r.holds + length (reading.value_lists (value_of e.input.gathered value)) })) (sym lists) (value_on e'.ask w w' e.input.gathered value r h.few o.0 g)) o.1
           (lone_command w (value_of e.input.gathered value) r0 r rs o.0.kind)
+
+-- no reading is beneath
+pub ends_last : (sizes : Sizes) (e e' : Engine) (value : EngineValue) (r : Reading) (rs : List Reading) (book : Book) → SameState e e' → EndsHere sizes e (value_of e.input.gathered value) r rs book → e.outer.items ≡ [] → e'.outer.items ≡ [] →
+    e'.top ≡ None → e'.input.gathered ≡ other_lists e.input.gathered → Stands sizes e' (with_work (ended_with (value_of e.input.gathered value) (r ∷ rs)) book)
+ends_last sizes e e' value r rs book same h none outer top lists = at rs (subst (λ (l : List Waiting). OuterStand (reverse l) rs) none h.outer) where
+  at : (rs : List Reading) → OuterStand [] rs → Stands sizes e' (with_work (ended_with (value_of e.input.gathered value) (r ∷ rs)) book)
+  at [] o = record {
+    sound = sound_on sizes e e' book.number book.macros same h.sound;
+    idle = same.making ∙ h.idle;
+    readings = subst (λ (t : Option Frame). WorkStands e'.ask t e'.outer.items e'.input.gathered []) (sym top) (outer, lists ∙ few_others e.input.gathered h.few);
+    lone = tt;
+  }
+  at (s ∷ rs) o = absurd o
 
 -- A READING THAT BEGINS
 
@@ -424,30 +440,31 @@ first_inner a frame k b =
     }
 
 -- what it finds beneath it: no list is held there
-pub record Beneath (sizes : Sizes) (e : Engine) (waits : Option Waiting) (work : List Reading) : Type 0 where
-  pub sized : IsSized sizes e
+pub record Beneath (sizes : Sizes) (e : Engine) (waits : Option Waiting) (book : Book) : Type 0 where
+  pub sound : IsSound sizes e book.number book.macros
   pub idle : e.input.making ≡ None
   pub bare : e.input.gathered ≡ []
-  pub outer : OuterStand (reverse (e.outer.items ++ option_to_list waits)) work
+  pub outer : OuterStand (reverse (e.outer.items ++ option_to_list waits)) book.work
 
-below_it : (sizes : Sizes) (e : Engine) (waits : Option Waiting) (work : List Reading) → WaitsWith sizes e waits work → Beneath sizes e waits work
-below_it sizes e (Some w) [] h = absurd h
-below_it sizes e (Some w) (r ∷ rs) h = record {
-  sized = h.sized;
-  idle = h.idle;
-  bare = h.bare;
-  outer = subst (λ (l : List Waiting). OuterStand l (r ∷ rs)) (sym (reverse-append e.outer.items (w ∷ []))) (h.innermost, h.outer);
-}
-below_it sizes e None work h = at work (subst (λ (t : Option Frame). WorkStands e.ask t e.outer.items e.input.gathered work) h.0 h.1.readings) where
-  at : (work : List Reading) → WorkStands e.ask None e.outer.items e.input.gathered work → Beneath sizes e None work
-  at [] w = record { sized = h.1.sized; idle = h.1.idle; bare = w.1; outer = subst (λ (l : List Waiting). OuterStand (reverse (l ++ [])) []) (sym w.0) tt }
+outer_with : (e : Engine) (w : Waiting) (work : List Reading) → WaitsFirst e w work → OuterStand (reverse (e.outer.items ++ w ∷ [])) work
+outer_with e w [] h = absurd h
+outer_with e w (r ∷ rs) h = subst (λ (l : List Waiting). OuterStand l (r ∷ rs)) (sym (reverse-append e.outer.items (w ∷ []))) h
+
+below_it : (sizes : Sizes) (e : Engine) (waits : Option Waiting) (book : Book) → WaitsWith sizes e waits book → Beneath sizes e waits book
+below_it sizes e (Some w) book h = record { sound = h.sound; idle = h.idle; bare = h.bare; outer = outer_with e w book.work h.readings }
+below_it sizes e None book h = record { sound = h.1.sound; idle = h.1.idle; bare = (at book.work none).1; outer = (at book.work none).0 } where
+  none : WorkStands e.ask None e.outer.items e.input.gathered book.work
+  none = subst (λ (t : Option Frame). WorkStands e.ask t e.outer.items e.input.gathered book.work) h.0 h.1.readings
+
+  at : (work : List Reading) → WorkStands e.ask None e.outer.items e.input.gathered work → OuterStand (reverse (e.outer.items ++ [])) work × (e.input.gathered ≡ [])
+  at [] w = (subst (λ (l : List Waiting). OuterStand (reverse (l ++ [])) []) (sym w.0) tt, w.1)
   at (r ∷ rs) w = absurd w
 
-pub begins_on : (sizes : Sizes) (e e' : Engine) (waits : Option Waiting) (frame : Frame) (k : reading.Kind) (work : List Reading) → SameState e e' → WaitsWith sizes e waits work → e'.outer.items ≡ e.outer.items ++ option_to_list waits →
-    e'.top ≡ Some frame → e'.input.gathered ≡ own_lists k ++ e.input.gathered → StartsAs e'.ask frame k → IsLone (fresh k ∷ work) → Stands sizes e' (fresh k ∷ work)
-begins_on sizes e e' waits frame k work same h items top lists b lone =
-    let under = below_it sizes e waits work h in
+pub begins_on : (sizes : Sizes) (e e' : Engine) (waits : Option Waiting) (frame : Frame) (k : reading.Kind) (book : Book) → SameState e e' → WaitsWith sizes e waits book → e'.outer.items ≡ e.outer.items ++ option_to_list waits →
+    e'.top ≡ Some frame → e'.input.gathered ≡ own_lists k ++ e.input.gathered → StartsAs e'.ask frame k → IsLone (fresh k ∷ book.work) → Stands sizes e' (with_work (fresh k ∷ book.work) book)
+begins_on sizes e e' waits frame k book same h items top lists b lone =
+    let under = below_it sizes e waits book h in
     let own : e'.input.gathered ≡ own_lists k = lists ∙ (ap (λ (l : List (List Token)). own_lists k ++ l) under.bare ∙ append-nil (own_lists k)) in
-    stands_now sizes e e' frame (fresh k) work same under.sized under.idle top
+    stands_now sizes e e' frame (fresh k) book.work book same under.sound under.idle top
     (subst (λ (l : List (List Token)). Innermost e'.ask frame l (fresh k)) (sym own) (first_inner e'.ask frame k b))
-    (subst (λ (l : List Waiting). OuterStand (reverse l) work) (sym items) under.outer) lone
+    (subst (λ (l : List Waiting). OuterStand (reverse l) book.work) (sym items) under.outer) lone

@@ -1,5 +1,5 @@
 -- A token that goes onto the list that a reading builds.
-use Rattle.std.proofs.Common.{◌≡◌, ◌+◌, ◌*◌, ◌<◌, ◌≤◌, Bool, true, false, List, [], ◌∷◌, ◌++◌, length, drop, map, refl, sym, ap, ◌∙◌, subst, reverse, true≢false, arith}
+use Rattle.std.proofs.Common.{◌≡◌, ℕ, ◌+◌, ◌-◌, ◌*◌, ◌<◌, ◌≤◌, Bool, true, false, List, [], ◌∷◌, ◌++◌, length, drop, map, refl, sym, ap, ◌∙◌, subst, reverse, true≢false, arith}
 use Rattle.std.specs.Prelude.{Option, Some, None, IsSome, if◌then◌else◌, not, ◌&&◌, ◌==◌}
 use Rattle.std.proofs.lemmas.List.{append-nil}
 use Rattle.std.proofs.lemmas.List.Sums.{sum_by-cons}
@@ -21,7 +21,8 @@ use Rattle.plain_state.specs.Tables.{list_words, lists_words, memory, refused, r
 use Rattle.plain_machine.specs.Plan.{feeding, feeding_kind, noting, grown_to}
 use Rattle.plain_machine.specs.Does.{Did}
 use Rattle.plain_machine.proofs.Doing.{did_join, did_one, wrote_none}
-use Rattle.input_state.specs.Stored.{words as stored_words}
+use Rattle.input_state.specs.Stored.{KeepsMacros, words as stored_words}
+use Rattle.frames.specs.declared.scan.Ask.{Ask}
 use Rattle.frames.specs.declared.scan.Ask.TheVariants.{More}
 use Rattle.frames.specs.declared.scan.Want.{Want}
 use Rattle.frames.specs.declared.frame.Frame.{Frame}
@@ -35,7 +36,8 @@ use Rattle.frames.specs.Texts.{text_list, text_grows, depth_of, IsTaking}
 use Rattle.frames.specs.declared.frame.Waiting.TheVariants as waiting
 use Rattle.frames.specs.Resumes.{resume, frame_grows, grow_first, lists_after, frame_kind, frame_list, IsOpen, Builds, IsShallow, Owns, MayFeed, HasList, TakesTokens, is_built}
 use Rattle.tex_program.specs.declared.engine.Engine.{Engine}
-use Rattle.tex_program.specs.Stands.{Stands, WorkStands, OuterStand, FrameStands, Innermost, FedFrame, FeedsHere, Waits as WaitsFor, WaitStands, WaitsWith, IsSized, IsLone, SameState, state_of, top_grows, frames}
+use Rattle.tex_program.specs.Book.{Book, with_work}
+use Rattle.tex_program.specs.Stands.{WaitsFirst, IsSound, Stands, WorkStands, OuterStand, FrameStands, Innermost, FedFrame, FeedsHere, Waits as WaitsFor, WaitStands, WaitsWith, IsLone, SameState, state_of, top_grows, frames}
 use Rattle.tex_program.specs.Steps.{weight, pending_weight}
 use Rattle.frames.specs.Weights.{frame_rank}
 use Rattle.tex_program.specs.Rules.{TopTakes, feeds_of, Cuts}
@@ -45,6 +47,7 @@ use Rattle.tex_program.proofs.Cutting.{cuts_by, full_cuts}
 use Rattle.tex_program.proofs.Joining.{quiet_here}
 use Rattle.tex_program.proofs.Reporting.{reads_now}
 use Rattle.tex_program.proofs.Feeding.{owned_of}
+use Rattle.tex_program.proofs.Storing.{store_gathered, sound_still}
 
 -- THE LIST THAT A TEXT BUILDS
 
@@ -155,8 +158,8 @@ pub noting_is : (f : Frame) (lists : List (List Token)) (r : Reading) → FrameS
 noting_is f lists r below =
     ap (λ (k : reading.Kind). grown_to (reading.so_far k r.fed) (reading.so_far k (r.fed ++ Told ∷ [])) ++ Noted ∷ []) below.kind ∙ ap (λ (ms : List Move). ms ++ Noted ∷ []) (kind_noting f lists r below)
 
-pub waits_note : (sizes : Sizes) (e : Engine) (r : Reading) (rs : List Reading) → WaitsFor sizes e (r ∷ rs) → noting r ≡ Noted ∷ []
-waits_note sizes e r rs h = at e.top h.readings where
+pub waits_note : (sizes : Sizes) (e : Engine) (book : Book) (r : Reading) (rs : List Reading) → WaitsFor sizes e (with_work (r ∷ rs) book) → noting r ≡ Noted ∷ []
+waits_note sizes e book r rs h = at e.top h.readings where
   at : (t : Option Frame) → WaitStands t e.outer.items e.input.gathered (r ∷ rs) → noting r ≡ Noted ∷ []
   at None w = absurd w
   at (Some f) w = noting_is f e.input.gathered r w.0
@@ -188,20 +191,25 @@ may_feed (Integer scan) x lists h takes shallow small = tt
 may_feed (Text name scan) x lists h takes shallow small = has_list scan name x lists h takes (λ g. omega (arith, shallow, first_small lists (small g)))
 
 -- the engine behind a token that went onto the list, or didn't
-abbrev pub grown_engine : Engine → Seen → Engine
-grown_engine e x = record e { input = record e.input { gathered = lists_after (top_grows e.top x) x e.input.gathered } }
+abbrev pub grown_engine : Engine → Seen → (lists : List (List Token)) → Engine
+grown_engine e x lists = record e { input = record e.input { gathered = lists_after (top_grows e.top x) x e.input.gathered; lists = lists } }
 
 -- its words can be counted, and its lists then
 few_words : (e : Engine) → stored_words e.input < 4294967296 → lists_words e.input.gathered < 4294967296
 few_words e h = omega (arith, h)
 
-frame_fed : (sizes : Sizes) (e : Engine) (f : Frame) (x : Seen) (r : Reading) (rs : List Reading) → e.top ≡ Some f → IsSized sizes e → e.input.making ≡ None → (want : Want) → e.ask ≡ More want → is_built x.meaning ≡ true →
-    stored_words e.input < 4294967296 → Innermost e.ask f e.input.gathered r → OuterStand (reverse e.outer.items) rs → IsLone (r ∷ rs) → FedFrame sizes (grown_engine e x) f x e.input.gathered r rs
-frame_fed sizes e f x r rs top sized idle want asks built small inner outer lone =
+-- its macros are as they were
+grown_sound : (sizes : Sizes) (e : Engine) (x : Seen) (lists : List (List Token)) (number : ℕ → ℕ) (macros : List (List Token)) → KeepsMacros e.input (grown_engine e x lists).input → IsSound sizes e number macros → IsSound sizes (grown_engine e x lists) number macros
+grown_sound sizes e x lists number macros kept h =
+    sound_still sizes e (grown_engine e x lists) number macros refl refl refl refl (store_gathered e.input (grown_engine e x lists).input (lists_after (top_grows e.top x) x e.input.gathered) refl kept) h
+
+frame_fed : (sizes : Sizes) (e : Engine) (f : Frame) (x : Seen) (lists : List (List Token)) (r : Reading) (rs : List Reading) (book : Book) → KeepsMacros e.input (grown_engine e x lists).input → e.top ≡ Some f → IsSound sizes e book.number book.macros → e.input.making ≡ None →
+    (want : Want) → e.ask ≡ More want → is_built x.meaning ≡ true → stored_words e.input < 4294967296 → Innermost e.ask f e.input.gathered r → OuterStand (reverse e.outer.items) rs → IsLone (r ∷ rs) → FedFrame sizes (grown_engine e x lists) f x e.input.gathered r rs book
+frame_fed sizes e f x lists r rs book kept top sound idle want asks built small inner outer lone =
     let below : FrameStands f e.input.gathered r = inner.open_frame (subst IsOpen (sym asks) tt) in
     let takes : TakesTokens f = takes_of f e.input.gathered r want below (ap (ask_of e.input.gathered) (sym asks) ∙ inner.asked) in
     record {
-      sized = record { few_reports = sized.few_reports; known = sized.known; small = sized.small; own = sized.own; outer = sized.outer; input = sized.input; names = sized.names };
+      sound = grown_sound sizes e x lists book.number book.macros kept sound;
       idle = idle;
       frame = below;
       holds = inner.holds;
@@ -213,23 +221,26 @@ frame_fed sizes e f x r rs top sized idle want asks built small inner outer lone
     }
 
 -- behind a token that the innermost reading was fed with
-pub token_stands : (sizes : Sizes) (e e1 e2 : Engine) (x : Seen) (work : List Reading) → FeedsHere sizes e x work → stored_words e.input < 4294967296 → e1 ≡ grown_engine e x → (e1.top ≡ None → e2 ≡ e1) →
-    ((f : Frame) (lists : List (List Token)) (r : Reading) (rs : List Reading) → e1.top ≡ Some f → FedFrame sizes e1 f x lists r rs → Stands sizes e2 (fed_with (Tok x) (r ∷ rs))) → Stands sizes e2 (fed_with (Tok x) work)
-token_stands sizes e e1 e2 x work h small is none some = by_top e.top refl work h.stands.readings h.stands.lone where
+pub token_stands : (sizes : Sizes) (e e1 e2 : Engine) (x : Seen) (book : Book) → FeedsHere sizes e x book → stored_words e.input < 4294967296 → e1 ≡ grown_engine e x e1.input.lists → KeepsMacros e.input e1.input → (e1.top ≡ None → e2 ≡ e1) →
+    ((f : Frame) (lists : List (List Token)) (r : Reading) (rs : List Reading) → e1.top ≡ Some f → FedFrame sizes e1 f x lists r rs book → Stands sizes e2 (with_work (fed_with (Tok x) (r ∷ rs)) book)) → Stands sizes e2 (with_work (fed_with (Tok x) book.work) book)
+token_stands sizes e e1 e2 x book h small is kept none some = by_top e.top refl book.work h.stands.readings h.stands.lone where
   top_is : e1.top ≡ e.top
   top_is = ap (λ (y : Engine). y.top) is
 
-  by_top : (t : Option Frame) → e.top ≡ t → (work : List Reading) → WorkStands e.ask t e.outer.items e.input.gathered work → IsLone work → Stands sizes e2 (fed_with (Tok x) work)
-  by_top None top [] w lone = subst (λ (y : Engine). Stands sizes y []) (sym (none (top_is ∙ top) ∙ is)) (record {
-    sized = record { few_reports = h.stands.sized.few_reports; known = h.stands.sized.known; small = h.stands.sized.small; own = h.stands.sized.own; outer = h.stands.sized.outer; input = h.stands.sized.input; names = h.stands.sized.names };
+  keeps : KeepsMacros e.input (grown_engine e x e1.input.lists).input
+  keeps = subst (λ (y : Engine). KeepsMacros e.input y.input) is kept
+
+  by_top : (t : Option Frame) → e.top ≡ t → (work : List Reading) → WorkStands e.ask t e.outer.items e.input.gathered work → IsLone work → Stands sizes e2 (with_work (fed_with (Tok x) work) book)
+  by_top None top [] w lone = subst (λ (y : Engine). Stands sizes y (with_work [] book)) (sym (none (top_is ∙ top) ∙ is)) (record {
+    sound = grown_sound sizes e x e1.input.lists book.number book.macros keeps h.stands.sound;
     idle = h.stands.idle;
     readings = subst (λ (t : Option Frame). WorkStands e.ask t e.outer.items (lists_after (top_grows t x) x e.input.gathered) []) (sym top) w;
     lone = tt;
   })
   by_top None top (r ∷ rs) w lone = absurd w
   by_top (Some f) top [] w lone = absurd w
-  by_top (Some f) top (r ∷ rs) w lone = some f e.input.gathered r rs (top_is ∙ top) (subst (λ (y : Engine). FedFrame sizes y f x e.input.gathered r rs) (sym is)
-      (frame_fed sizes e f x r rs top h.stands.sized h.stands.idle h.want h.asks h.built small w.0 w.1 lone))
+  by_top (Some f) top (r ∷ rs) w lone = some f e.input.gathered r rs (top_is ∙ top) (subst (λ (y : Engine). FedFrame sizes y f x e.input.gathered r rs book) (sym is)
+      (frame_fed sizes e f x e1.input.lists r rs book keeps top h.stands.sound h.stands.idle h.want h.asks h.built small w.0 w.1 lone))
 
 -- WHAT IS DONE THEN
 
@@ -239,55 +250,52 @@ record Fed1 (e : Engine) (x : Seen) (r : Reading) (f : Frame) : Type 0 where
   moves : feeding r x ≡ grown_moves (frame_grows f x) x
   owns : Owns f e.input.gathered
 
-fed_one : (sizes : Sizes) (e : Engine) (x : Seen) (r : Reading) (rs : List Reading) (f : Frame) → e.top ≡ Some f → FeedsHere sizes e x (r ∷ rs) → WorkStands e.ask (Some f) e.outer.items e.input.gathered (r ∷ rs) → Fed1 e x r f
-fed_one sizes e x r rs f top h w =
+fed_one : (sizes : Sizes) (e : Engine) (x : Seen) (book : Book) (r : Reading) (rs : List Reading) (f : Frame) → e.top ≡ Some f → FeedsHere sizes e x (with_work (r ∷ rs) book) → WorkStands e.ask (Some f) e.outer.items e.input.gathered (r ∷ rs) → Fed1 e x r f
+fed_one sizes e x book r rs f top h w =
     let below : FrameStands f e.input.gathered r = w.0.open_frame (subst IsOpen (sym h.asks) tt) in
     let takes : TakesTokens f = takes_of f e.input.gathered r h.want below (ap (ask_of e.input.gathered) (sym h.asks) ∙ w.0.asked) in
     record { top = top; moves = feeding_is f e.input.gathered r x below takes; owns = below.owns }
 
-module _ (sizes : Sizes) (e e2 : Engine) (x : Seen) (same : SameState e e2) (lists : e2.input.gathered ≡ lists_after (top_grows e.top x) x e.input.gathered) where
-  -- the input has room, as the machine
-  grown_fits : (work : List Reading) (o : Option Full) → e.input.sizes ≡ sizes → refused e.input.sizes (memory 1 (stored_words e.input) ∷ []) ≡ o → refusal sizes (Grows x.token) (state_of e work) ≡ o
-  grown_fits work o sized h = words_more sizes e work 1 o sized h
-
-  grown_did : (b : Bool) (r : Reading) (rs : List Reading) (w : World) → top_grows e.top x ≡ b → (b ≡ true → refusal sizes (Grows x.token) (state_of e (r ∷ rs)) ≡ None) →
-      Did sizes (state_of e (r ∷ rs)) (state_of e2 (fed_with (Tok x) (r ∷ rs))) w w (grown_moves b x)
+module _ (sizes : Sizes) (e e2 : Engine) (x : Seen) (book : Book) (same : SameState e e2) (lists : e2.input.gathered ≡ lists_after (top_grows e.top x) x e.input.gathered) where
+  grown_did : (b : Bool) (r : Reading) (rs : List Reading) (w : World) → top_grows e.top x ≡ b → (b ≡ true → refusal sizes (Grows x.token) (state_of e (with_work (r ∷ rs) book)) ≡ None) →
+      Did sizes (state_of e (with_work (r ∷ rs) book)) (state_of e2 (with_work (fed_with (Tok x) (r ∷ rs)) book)) w w (grown_moves b x)
   grown_did true r rs w is fits =
       let now : machine.grow_first x.token e.input.gathered ≡ e2.input.gathered = same_growth x.token e.input.gathered ∙ sym (lists ∙ ap (λ (b : Bool). lists_after b x e.input.gathered) is) in
-      did_join sizes _ _ _ w w w (Grows x.token ∷ []) (Feeds x ∷ []) (did_one sizes (Grows x.token) _ (made (Grows x.token) (state_of e (r ∷ rs))) w w (fits refl) refl (quiet_here (Grows x.token) w tt))
-      (did_one sizes (Feeds x) _ _ w w refl (ap (λ (l : List (List Token)). record (state_of e (r ∷ rs)) { work = fed_with (Tok x) (r ∷ rs); gathered = l }) now ∙ reads_now e e2 (r ∷ rs) (fed_with (Tok x) (r ∷ rs)) same) (quiet_here (Feeds x) w tt))
+      did_join sizes _ _ _ w w w (Grows x.token ∷ []) (Feeds x ∷ []) (did_one sizes (Grows x.token) _ (made (Grows x.token) (state_of e (with_work (r ∷ rs) book))) w w (fits refl) refl (quiet_here (Grows x.token) w tt))
+      (did_one sizes (Feeds x) _ _ w w refl (ap (λ (l : List (List Token)). record (state_of e (with_work (r ∷ rs) book)) { work = fed_with (Tok x) (r ∷ rs); gathered = l }) now ∙ reads_now e e2 (with_work (r ∷ rs) book) (fed_with (Tok x) (r ∷ rs)) same) (quiet_here (Feeds x) w tt))
   grown_did false r rs w is fits =
       let now : e.input.gathered ≡ e2.input.gathered = sym (lists ∙ ap (λ (b : Bool). lists_after b x e.input.gathered) is) in
-      did_one sizes (Feeds x) _ _ w w refl (ap (λ (l : List (List Token)). record (state_of e (r ∷ rs)) { work = fed_with (Tok x) (r ∷ rs); gathered = l }) now ∙ reads_now e e2 (r ∷ rs) (fed_with (Tok x) (r ∷ rs)) same) (quiet_here (Feeds x) w tt)
+      did_one sizes (Feeds x) _ _ w w refl (ap (λ (l : List (List Token)). record (state_of e (with_work (r ∷ rs) book)) { work = fed_with (Tok x) (r ∷ rs); gathered = l }) now ∙ reads_now e e2 (with_work (r ∷ rs) book) (fed_with (Tok x) (r ∷ rs)) same) (quiet_here (Feeds x) w tt)
 
-  pub token_did : (work : List Reading) (w : World) → FeedsHere sizes e x work → (top_grows e.top x ≡ true → (e.input.gathered ≡ [] → ⊥) → refused e.input.sizes (memory 1 (stored_words e.input) ∷ []) ≡ None) →
-      Did sizes (state_of e work) (state_of e2 (fed_with (Tok x) work)) w w (feeds_of work x)
-  token_did work w h fits = by_top e.top refl work h h.stands.readings where
-    by_top : (t : Option Frame) → e.top ≡ t → (work : List Reading) → FeedsHere sizes e x work → WorkStands e.ask t e.outer.items e.input.gathered work → Did sizes (state_of e work) (state_of e2 (fed_with (Tok x) work)) w w (feeds_of work x)
+  pub token_did : (w : World) → FeedsHere sizes e x book → (top_grows e.top x ≡ true → (e.input.gathered ≡ [] → ⊥) → refused e.input.sizes (memory 1 (stored_words e.input) ∷ []) ≡ None) →
+      Did sizes (state_of e book) (state_of e2 (with_work (fed_with (Tok x) book.work) book)) w w (feeds_of book.work x)
+  token_did w h fits = by_top e.top refl book.work h h.stands.readings where
+    by_top : (t : Option Frame) → e.top ≡ t → (work : List Reading) → FeedsHere sizes e x (with_work work book) → WorkStands e.ask t e.outer.items e.input.gathered work →
+        Did sizes (state_of e (with_work work book)) (state_of e2 (with_work (fed_with (Tok x) work) book)) w w (feeds_of work x)
     by_top None top [] h ws =
         let now : e2.input.gathered ≡ e.input.gathered = lists ∙ ap (λ (t : Option Frame). lists_after (top_grows t x) x e.input.gathered) top in
-        record { state = ap (λ (l : List (List Token)). record (state_of e []) { gathered = l }) (sym now) ∙ reads_now e e2 [] [] same; fits = tt; written = wrote_none w }
+        record { state = ap (λ (l : List (List Token)). record (state_of e (with_work [] book)) { gathered = l }) (sym now) ∙ reads_now e e2 (with_work [] book) [] same; fits = tt; written = wrote_none w }
     by_top None top (r ∷ rs) h ws = absurd ws
     by_top (Some f) top [] h ws = absurd ws
     by_top (Some f) top (r ∷ rs) h ws =
-        let one : Fed1 e x r f = fed_one sizes e x r rs f top h ws in
+        let one : Fed1 e x r f = fed_one sizes e x book r rs f top h ws in
         let grows : top_grows e.top x ≡ frame_grows f x = ap (λ (t : Option Frame). top_grows t x) top in
-        subst (λ (ms : List Move). Did sizes (state_of e (r ∷ rs)) (state_of e2 (fed_with (Tok x) (r ∷ rs))) w w ms) (sym one.moves)
-        (grown_did (frame_grows f x) r rs w grows (λ g. grown_fits (r ∷ rs) None h.stands.sized.input (fits (grows ∙ g) (grows_list f x e.input.gathered one.owns g))))
+        subst (λ (ms : List Move). Did sizes (state_of e (with_work (r ∷ rs) book)) (state_of e2 (with_work (fed_with (Tok x) (r ∷ rs)) book)) w w ms) (sym one.moves)
+        (grown_did (frame_grows f x) r rs w grows (λ g. words_more sizes e (with_work (r ∷ rs) book) 1 None h.stands.sound (fits (grows ∙ g) (grows_list f x e.input.gathered one.owns g))))
 
 -- the list has no room for it
-pub token_cuts : (sizes : Sizes) (e : Engine) (x : Seen) (work : List Reading) (w : World) (full : Full) → FeedsHere sizes e x work → top_grows e.top x ≡ true → refused e.input.sizes (memory 1 (stored_words e.input) ∷ []) ≡ Some full →
-    Cuts sizes (state_of e work) e work w w (feeds_of work x) (broken.Full full)
-token_cuts sizes e x work w full h grows refuses = by_top e.top refl work h h.stands.readings where
-  by_top : (t : Option Frame) → e.top ≡ t → (work : List Reading) → FeedsHere sizes e x work → WorkStands e.ask t e.outer.items e.input.gathered work → Cuts sizes (state_of e work) e work w w (feeds_of work x) (broken.Full full)
+pub token_cuts : (sizes : Sizes) (e : Engine) (x : Seen) (book : Book) (w : World) (full : Full) → FeedsHere sizes e x book → top_grows e.top x ≡ true → refused e.input.sizes (memory 1 (stored_words e.input) ∷ []) ≡ Some full →
+    Cuts sizes (state_of e book) e book w w (feeds_of book.work x) (broken.Full full)
+token_cuts sizes e x book w full h grows refuses = by_top e.top refl book.work h h.stands.readings where
+  by_top : (t : Option Frame) → e.top ≡ t → (work : List Reading) → FeedsHere sizes e x (with_work work book) → WorkStands e.ask t e.outer.items e.input.gathered work → Cuts sizes (state_of e (with_work work book)) e (with_work work book) w w (feeds_of work x) (broken.Full full)
   by_top None top work h ws = absurd (true≢false (sym grows ∙ ap (λ (t : Option Frame). top_grows t x) top))
   by_top (Some f) top [] h ws = absurd ws
   by_top (Some f) top (r ∷ rs) h ws =
-      let one : Fed1 e x r f = fed_one sizes e x r rs f top h ws in
+      let one : Fed1 e x r f = fed_one sizes e x book r rs f top h ws in
       let is : frame_grows f x ≡ true = sym (ap (λ (t : Option Frame). top_grows t x) top) ∙ grows in
-      cuts_by sizes (state_of e (r ∷ rs)) e (r ∷ rs) w w (Grows x.token ∷ Feeds x ∷ []) (feeding r x) (broken.Full full) (one.moves ∙ ap (λ (b : Bool). grown_moves b x) is)
-      (full_cuts sizes (state_of e (r ∷ rs)) e (r ∷ rs) w (Grows x.token) (Feeds x ∷ []) full (broken.Full full) refl
-      (words_more sizes e (r ∷ rs) 1 (Some full) h.stands.sized.input refuses) refl)
+      cuts_by sizes (state_of e (with_work (r ∷ rs) book)) e (with_work (r ∷ rs) book) w w (Grows x.token ∷ Feeds x ∷ []) (feeding r x) (broken.Full full) (one.moves ∙ ap (λ (b : Bool). grown_moves b x) is)
+      (full_cuts sizes (state_of e (with_work (r ∷ rs) book)) e (with_work (r ∷ rs) book) w (Grows x.token) (Feeds x ∷ []) full (broken.Full full) refl
+      (words_more sizes e (with_work (r ∷ rs) book) 1 (Some full) h.stands.sound refuses) refl)
 
 -- BEGUN WITH A TOKEN
 
@@ -295,15 +303,15 @@ apart : {b : Bool} → b ≡ true → b ≡ false → ⊥
 apart h k = true≢false (sym h ∙ k)
 
 -- behind the token with which a reading begins
-begun_frame : (sizes : Sizes) (e e2 : Engine) (k : reading.Kind) (x : Seen) (work : List Reading) (f : Frame) → e.top ≡ Some f → IsOpen e.ask → TakesTokens f → frame_grows f x ≡ false → is_built x.meaning ≡ true →
-    ((f : Frame) (lists : List (List Token)) (r : Reading) (rs : List Reading) → e.top ≡ Some f → FedFrame sizes e f x lists r rs → Stands sizes e2 (fed_with (Tok x) (r ∷ rs))) →
-    Stands sizes e (fresh k ∷ work) → Stands sizes e2 (fed_with (Tok x) (fresh k ∷ work))
-begun_frame sizes e e2 k x work f top opened takes keeps built some h = at (subst (λ (t : Option Frame). WorkStands e.ask t e.outer.items e.input.gathered (fresh k ∷ work)) top h.readings) where
-  at : WorkStands e.ask (Some f) e.outer.items e.input.gathered (fresh k ∷ work) → Stands sizes e2 (fed_with (Tok x) (fresh k ∷ work))
+begun_frame : (sizes : Sizes) (e e2 : Engine) (k : reading.Kind) (x : Seen) (book : Book) (f : Frame) → e.top ≡ Some f → IsOpen e.ask → TakesTokens f → frame_grows f x ≡ false → is_built x.meaning ≡ true →
+    ((f : Frame) (lists : List (List Token)) (r : Reading) (rs : List Reading) → e.top ≡ Some f → FedFrame sizes e f x lists r rs book → Stands sizes e2 (with_work (fed_with (Tok x) (r ∷ rs)) book)) →
+    Stands sizes e (with_work (fresh k ∷ book.work) book) → Stands sizes e2 (with_work (fed_with (Tok x) (fresh k ∷ book.work)) book)
+begun_frame sizes e e2 k x book f top opened takes keeps built some h = at (subst (λ (t : Option Frame). WorkStands e.ask t e.outer.items e.input.gathered (fresh k ∷ book.work)) top h.readings) where
+  at : WorkStands e.ask (Some f) e.outer.items e.input.gathered (fresh k ∷ book.work) → Stands sizes e2 (with_work (fed_with (Tok x) (fresh k ∷ book.work)) book)
   at w =
       let below : FrameStands f e.input.gathered (fresh k) = w.0.open_frame opened in
-      some f e.input.gathered (fresh k) work top (record {
-        sized = h.sized;
+      some f e.input.gathered (fresh k) book.work top (record {
+        sound = h.sound;
         idle = h.idle;
         frame = below;
         holds = w.0.holds;
@@ -320,13 +328,13 @@ takes_top t f is h = subst TopTakes is h
 none_open : IsSome {T = Frame} None → ⊥
 none_open h = true≢false (sym h)
 
-pub begun_stands : (sizes : Sizes) (e e2 : Engine) (k : reading.Kind) (x : Seen) (work : List Reading) → IsSome e.top → TopTakes e.top → IsOpen e.ask → ((f : Frame) (y : Seen) → e.top ≡ Some f → frame_grows f y ≡ false) → is_built x.meaning ≡ true →
-    ((f : Frame) (lists : List (List Token)) (r : Reading) (rs : List Reading) → e.top ≡ Some f → FedFrame sizes e f x lists r rs → Stands sizes e2 (fed_with (Tok x) (r ∷ rs))) →
-    Stands sizes e (fresh k ∷ work) → Stands sizes e2 (fed_with (Tok x) (fresh k ∷ work))
-begun_stands sizes e e2 k x work is_open takes opened keeps built some h = by_top e.top refl where
-  by_top : (t : Option Frame) → e.top ≡ t → Stands sizes e2 (fed_with (Tok x) (fresh k ∷ work))
+pub begun_stands : (sizes : Sizes) (e e2 : Engine) (k : reading.Kind) (x : Seen) (book : Book) → IsSome e.top → TopTakes e.top → IsOpen e.ask → ((f : Frame) (y : Seen) → e.top ≡ Some f → frame_grows f y ≡ false) → is_built x.meaning ≡ true →
+    ((f : Frame) (lists : List (List Token)) (r : Reading) (rs : List Reading) → e.top ≡ Some f → FedFrame sizes e f x lists r rs book → Stands sizes e2 (with_work (fed_with (Tok x) (r ∷ rs)) book)) →
+    Stands sizes e (with_work (fresh k ∷ book.work) book) → Stands sizes e2 (with_work (fed_with (Tok x) (fresh k ∷ book.work)) book)
+begun_stands sizes e e2 k x book is_open takes opened keeps built some h = by_top e.top refl where
+  by_top : (t : Option Frame) → e.top ≡ t → Stands sizes e2 (with_work (fed_with (Tok x) (fresh k ∷ book.work)) book)
   by_top None top = absurd (none_open (subst IsSome top is_open))
-  by_top (Some f) top = begun_frame sizes e e2 k x work f top opened (takes_top e.top f top takes) (keeps f x top) built some h
+  by_top (Some f) top = begun_frame sizes e e2 k x book f top opened (takes_top e.top f top takes) (keeps f x top) built some h
 
 with_at : (e e1 e2 : Engine) (k : Kind) (t : Option Frame) → e1.top ≡ t → IsSome t → frames e1 ≤ frames e + 1 → e1.input.pending ≡ e.input.pending → ((f : Frame) → e1.top ≡ Some f → frame_rank f ≡ reading.rank (kind_of k)) →
     ((f : Frame) → e1.top ≡ Some f → weight e2 ≤ 2 * frames e1 + (7 + 3 * frame_rank f) + pending_weight e1.input.pending) → weight e2 < 2 * frames e + (10 + 3 * reading.rank (kind_of k)) + pending_weight e.input.pending
@@ -338,6 +346,8 @@ pub with_light : (e e1 e2 : Engine) (k : Kind) → frames e1 ≤ frames e + 1 �
 with_light e e1 e2 k one some rank input light = with_at e e1 e2 k e1.top refl some one input rank light
 
 -- a command waits beneath it
-pub lone_behind : (sizes : Sizes) (e : Engine) (waits : Waiting) (r : Reading) (work : List Reading) → WaitsWith sizes e (Some waits) work → IsLone (r ∷ work)
-lone_behind sizes e waits r [] h = absurd h
-lone_behind sizes e waits r (s ∷ work) h = tt
+pub lone_behind : (sizes : Sizes) (e : Engine) (waits : Waiting) (r : Reading) (book : Book) → WaitsWith sizes e (Some waits) book → IsLone (r ∷ book.work)
+lone_behind sizes e waits r book h = at book.work h.readings where
+  at : (work : List Reading) → WaitsFirst e waits work → IsLone (r ∷ work)
+  at [] w = absurd w
+  at (s ∷ rs) w = tt

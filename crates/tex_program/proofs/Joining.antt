@@ -15,6 +15,7 @@ use Rattle.tex_program.specs.declared.engine.Engine.{Engine}
 use Rattle.tex_program.specs.declared.engine.Ruled.{Ruled}
 use Rattle.tex_program.specs.declared.engine.Ruled.TheVariants.{Step, Free, Halted}
 use Rattle.tex_program.specs.Begins.{outcome_of}
+use Rattle.tex_program.specs.Book.{Book}
 use Rattle.tex_program.specs.Stands.{Stands, state_of}
 use Rattle.tex_program.specs.Steps.{IsFree, freed}
 use Rattle.tex_program.specs.Rules.{Went, Halts, DoesRule, DoesOnward}
@@ -43,8 +44,8 @@ pub went_by : (sizes : Sizes) (s : State) (e' : Engine) (w w' : World) (ms ns : 
 went_by sizes s e' w w' ms ns k e h = subst (λ (x : List Move). Went sizes s e' w w' x k) (sym e) h
 
 -- nothing is done
-pub skip_onward : (sizes : Sizes) (e : Engine) (work : List Reading) (w : World) (ms : List Move) → ms ≡ [] → Stands sizes e work → Went sizes (state_of e work) e w w ms 0
-skip_onward sizes e work w ms is stands = went_by sizes _ e w w [] ms 0 is (record { work' = work; stands = stands; did = did_none sizes (state_of e work) w; count = refl })
+pub skip_onward : (sizes : Sizes) (e : Engine) (book : Book) (w : World) (ms : List Move) → ms ≡ [] → Stands sizes e book → Went sizes (state_of e book) e w w ms 0
+skip_onward sizes e book w ms is stands = went_by sizes _ e w w [] ms 0 is (record { book' = book; stands = stands; did = did_none sizes (state_of e book) w; count = refl })
 
 -- an error that `?` hands on
 pub same_err : {T E : Type 0} → (r : Result T E) (x : E) (P : E → Type 0) → IsErrAnd r (λ e. e ≡ x) → P x → IfErr r P
@@ -69,16 +70,12 @@ on_ok (Err x) f h = tt
 
 -- MOVES ONE AFTER ANOTHER
 
-pub onward_by : (sizes : Sizes) (s : State) (e' : Engine) (w w' : World) (ms ns : List Move) (ruled : Ruled) → ns ≡ ms → DoesOnward sizes s e' w w' ms ruled → DoesOnward sizes s e' w w' ns ruled
-onward_by sizes s e' w w' ms ns ruled e h = subst (λ (x : List Move). DoesOnward sizes s e' w w' x ruled) (sym e) h
+pub onward_by : (sizes : Sizes) (s : State) (e' : Engine) (book : Book) (w w' : World) (ms ns : List Move) (ruled : Ruled) → ns ≡ ms → DoesOnward sizes s e' book w w' ms ruled → DoesOnward sizes s e' book w w' ns ruled
+onward_by sizes s e' book w w' ms ns ruled e h = subst (λ (x : List Move). DoesOnward sizes s e' book w w' x ruled) (sym e) h
 
--- moves that leave the readings and the reports as they were
-abbrev pub Leaves : State → State → Type 0
-Leaves s u = (u.work ≡ s.work) × (u.reports ≡ s.reports)
-
-pub halts_few : (sizes : Sizes) (s u : State) (e' : Engine) (work : List Reading) (w v w' : World) (ms ns : List Move) (o : machine.Outcome) (k j : ℕ) → (s.reports ≤ reports_room → u.reports ≤ reports_room) → Did sizes s u w v ms → steps ms ≡ k →
-    Halts sizes u e' work v w' ns o j → Halts sizes s e' work w w' (ms ++ ns) o (k + j)
-halts_few sizes s u e' work w v w' ms ns o k j few d n h = record {
+pub halts_few : (sizes : Sizes) (s u : State) (e' : Engine) (book : Book) (w v w' : World) (ms ns : List Move) (o : machine.Outcome) (k j : ℕ) → (s.reports ≤ reports_room → u.reports ≤ reports_room) → Did sizes s u w v ms → steps ms ≡ k →
+    Halts sizes u e' book v w' ns o j → Halts sizes s e' book w w' (ms ++ ns) o (k + j)
+halts_few sizes s u e' book w v w' ms ns o k j few d n h = record {
   t = h.t;
   did = did_join sizes s u h.t w v w' ms ns d h.did;
   stopped = h.stopped;
@@ -88,54 +85,50 @@ halts_few sizes s u e' work w v w' ms ns o k j few d n h = record {
   count = omega (arith, steps_join ms ns, n, h.count);
 }
 
-pub halts_on : (sizes : Sizes) (s u : State) (e' : Engine) (work : List Reading) (w v w' : World) (ms ns : List Move) (o : machine.Outcome) (k j : ℕ) → u.reports ≡ s.reports → Did sizes s u w v ms → steps ms ≡ k →
-    Halts sizes u e' work v w' ns o j → Halts sizes s e' work w w' (ms ++ ns) o (k + j)
-halts_on sizes s u e' work w v w' ms ns o k j same d n h = halts_few sizes s u e' work w v w' ms ns o k j (λ room. omega (arith, room, same)) d n h
+pub halts_on : (sizes : Sizes) (s u : State) (e' : Engine) (book : Book) (w v w' : World) (ms ns : List Move) (o : machine.Outcome) (k j : ℕ) → u.reports ≡ s.reports → Did sizes s u w v ms → steps ms ≡ k →
+    Halts sizes u e' book v w' ns o j → Halts sizes s e' book w w' (ms ++ ns) o (k + j)
+halts_on sizes s u e' book w v w' ms ns o k j same d n h = halts_few sizes s u e' book w v w' ms ns o k j (λ room. omega (arith, room, same)) d n h
 
 pub went_on : (sizes : Sizes) (s u : State) (e' : Engine) (w v w' : World) (ms ns : List Move) (k j : ℕ) → Did sizes s u w v ms → steps ms ≡ k → Went sizes u e' v w' ns j → Went sizes s e' w w' (ms ++ ns) (k + j)
 went_on sizes s u e' w v w' ms ns k j d n h = record {
-  work' = h.work';
+  book' = h.book';
   stands = h.stands;
-  did = did_join sizes s u (state_of e' h.work') w v w' ms ns d h.did;
+  did = did_join sizes s u (state_of e' h.book') w v w' ms ns d h.did;
   count = steps_join ms ns ∙ omega (arith, n, h.count);
 }
 
-pub halts_least : (sizes : Sizes) (s : State) (e' : Engine) (work : List Reading) (w w' : World) (ms : List Move) (o : machine.Outcome) (k j : ℕ) → k ≤ j → Halts sizes s e' work w w' ms o k → Halts sizes s e' work w w' ms o j
-halts_least sizes s e' work w w' ms o k j le h = record { t = h.t; did = h.did; stopped = h.stopped; due = h.due; reports = h.reports; same = h.same; count = omega (arith, le, h.count) }
+pub halts_least : (sizes : Sizes) (s : State) (e' : Engine) (book : Book) (w w' : World) (ms : List Move) (o : machine.Outcome) (k j : ℕ) → k ≤ j → Halts sizes s e' book w w' ms o k → Halts sizes s e' book w w' ms o j
+halts_least sizes s e' book w w' ms o k j le h = record { t = h.t; did = h.did; stopped = h.stopped; due = h.due; reports = h.reports; same = h.same; count = omega (arith, le, h.count) }
 
 pub same_went : (sizes : Sizes) (s : State) (e' : Engine) (w w' : World) (ms : List Move) (k j : ℕ) → k ≡ j → Went sizes s e' w w' ms k → Went sizes s e' w w' ms j
 same_went sizes s e' w w' ms k j is h = subst (λ (x : ℕ). Went sizes s e' w w' ms x) is h
 
--- the same readings
-halts_with : (sizes : Sizes) (s : State) (e' : Engine) (work works : List Reading) (w w' : World) (ms : List Move) (o : machine.Outcome) (k : ℕ) → work ≡ works → Halts sizes s e' work w w' ms o k → Halts sizes s e' works w w' ms o k
-halts_with sizes s e' work works w w' ms o k is h = subst (λ (x : List Reading). Halts sizes s e' x w w' ms o k) is h
-
 -- moves without a step, and then others
-pub onward_join : (sizes : Sizes) (s u : State) (e' : Engine) (w v w' : World) (ms ns : List Move) (ruled : Ruled) → Leaves s u → Did sizes s u w v ms → steps ms ≡ 0 → DoesOnward sizes u e' v w' ns ruled → DoesOnward sizes s e' w w' (ms ++ ns) ruled
-onward_join sizes s u e' w v w' ms ns Step l d n h = went_on sizes s u e' w v w' ms ns 0 0 d n h
-onward_join sizes s u e' w v w' ms ns Free l d n h = h
-onward_join sizes s u e' w v w' ms ns (Halted o) l d n h = halts_on sizes s u e' s.work w v w' ms ns (outcome_of o) 0 0 l.1 d n (halts_with sizes u e' u.work s.work v w' ns (outcome_of o) 0 l.0 h)
+pub onward_join : (sizes : Sizes) (s u : State) (e' : Engine) (book : Book) (w v w' : World) (ms ns : List Move) (ruled : Ruled) → u.reports ≡ s.reports → Did sizes s u w v ms → steps ms ≡ 0 → DoesOnward sizes u e' book v w' ns ruled → DoesOnward sizes s e' book w w' (ms ++ ns) ruled
+onward_join sizes s u e' book w v w' ms ns Step l d n h = went_on sizes s u e' w v w' ms ns 0 0 d n h
+onward_join sizes s u e' book w v w' ms ns Free l d n h = h
+onward_join sizes s u e' book w v w' ms ns (Halted o) l d n h = halts_on sizes s u e' book w v w' ms ns (outcome_of o) 0 0 l d n h
 
 -- behind which there is room for a report
-pub onward_counted : (sizes : Sizes) (s u : State) (e' : Engine) (w v w' : World) (ms ns : List Move) (ruled : Ruled) → u.work ≡ s.work → u.reports ≤ reports_room → Did sizes s u w v ms → steps ms ≡ 0 → DoesOnward sizes u e' v w' ns ruled → DoesOnward sizes s e' w w' (ms ++ ns) ruled
-onward_counted sizes s u e' w v w' ms ns Step same few d n h = went_on sizes s u e' w v w' ms ns 0 0 d n h
-onward_counted sizes s u e' w v w' ms ns Free same few d n h = h
-onward_counted sizes s u e' w v w' ms ns (Halted o) same few d n h = halts_few sizes s u e' s.work w v w' ms ns (outcome_of o) 0 0 (λ room. few) d n (halts_with sizes u e' u.work s.work v w' ns (outcome_of o) 0 same h)
+pub onward_counted : (sizes : Sizes) (s u : State) (e' : Engine) (book : Book) (w v w' : World) (ms ns : List Move) (ruled : Ruled) → u.reports ≤ reports_room → Did sizes s u w v ms → steps ms ≡ 0 → DoesOnward sizes u e' book v w' ns ruled → DoesOnward sizes s e' book w w' (ms ++ ns) ruled
+onward_counted sizes s u e' book w v w' ms ns Step few d n h = went_on sizes s u e' w v w' ms ns 0 0 d n h
+onward_counted sizes s u e' book w v w' ms ns Free few d n h = h
+onward_counted sizes s u e' book w v w' ms ns (Halted o) few d n h = halts_few sizes s u e' book w v w' ms ns (outcome_of o) 0 0 (λ room. few) d n h
 
 -- a step, and then moves without one
-pub step_join : (sizes : Sizes) (s u : State) (e' : Engine) (w v w' : World) (ms ns : List Move) (ruled : Ruled) → Leaves s u → Did sizes s u w v ms → steps ms ≡ 1 → DoesOnward sizes u e' v w' ns ruled → DoesRule sizes s e' w w' (ms ++ ns) ruled
-step_join sizes s u e' w v w' ms ns Step l d n h = went_on sizes s u e' w v w' ms ns 1 0 d n h
-step_join sizes s u e' w v w' ms ns Free l d n h = absurd h
-step_join sizes s u e' w v w' ms ns (Halted o) l d n h = halts_on sizes s u e' s.work w v w' ms ns (outcome_of o) 1 0 l.1 d n (halts_with sizes u e' u.work s.work v w' ns (outcome_of o) 0 l.0 h)
+pub step_join : (sizes : Sizes) (s u : State) (e' : Engine) (book : Book) (w v w' : World) (ms ns : List Move) (ruled : Ruled) → u.reports ≡ s.reports → Did sizes s u w v ms → steps ms ≡ 1 → DoesOnward sizes u e' book v w' ns ruled → DoesRule sizes s e' book w w' (ms ++ ns) ruled
+step_join sizes s u e' book w v w' ms ns Step l d n h = went_on sizes s u e' w v w' ms ns 1 0 d n h
+step_join sizes s u e' book w v w' ms ns Free l d n h = absurd h
+step_join sizes s u e' book w v w' ms ns (Halted o) l d n h = halts_on sizes s u e' book w v w' ms ns (outcome_of o) 1 0 l d n h
 
 -- moves without a step alone
-pub free_rule : (sizes : Sizes) (s : State) (e' : Engine) (w w' : World) (ms : List Move) (ruled : Ruled) → DoesOnward sizes s e' w w' ms ruled → DoesRule sizes s e' w w' ms (freed ruled)
-free_rule sizes s e' w w' ms Step h = h
-free_rule sizes s e' w w' ms Free h = absurd h
-free_rule sizes s e' w w' ms (Halted o) h = halts_least sizes s e' s.work w w' ms (outcome_of o) 0 1 (omega arith) h
+pub free_rule : (sizes : Sizes) (s : State) (e' : Engine) (book : Book) (w w' : World) (ms : List Move) (ruled : Ruled) → DoesOnward sizes s e' book w w' ms ruled → DoesRule sizes s e' book w w' ms (freed ruled)
+free_rule sizes s e' book w w' ms Step h = h
+free_rule sizes s e' book w w' ms Free h = absurd h
+free_rule sizes s e' book w w' ms (Halted o) h = halts_least sizes s e' book w w' ms (outcome_of o) 0 1 (omega arith) h
 
 -- moves without a step that end the run
-pub none_rule : (sizes : Sizes) (s : State) (e' : Engine) (w w' : World) (ms : List Move) (ruled : Ruled) → (IsFree ruled → ⊥) → (ruled ≡ Step → ⊥) → DoesOnward sizes s e' w w' ms ruled → DoesRule sizes s e' w w' ms ruled
-none_rule sizes s e' w w' ms Step f g h = absurd (g refl)
-none_rule sizes s e' w w' ms Free f g h = absurd h
-none_rule sizes s e' w w' ms (Halted o) f g h = halts_least sizes s e' s.work w w' ms (outcome_of o) 0 1 (omega arith) h
+pub none_rule : (sizes : Sizes) (s : State) (e' : Engine) (book : Book) (w w' : World) (ms : List Move) (ruled : Ruled) → (IsFree ruled → ⊥) → (ruled ≡ Step → ⊥) → DoesOnward sizes s e' book w w' ms ruled → DoesRule sizes s e' book w w' ms ruled
+none_rule sizes s e' book w w' ms Step f g h = absurd (g refl)
+none_rule sizes s e' book w w' ms Free f g h = absurd h
+none_rule sizes s e' book w w' ms (Halted o) f g h = halts_least sizes s e' book w w' ms (outcome_of o) 0 1 (omega arith) h

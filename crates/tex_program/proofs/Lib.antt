@@ -13,5 +13,6 @@ pub mod Putting
 pub mod Reporting
 pub mod Running
 pub mod Stepping
+pub mod Storing
 pub mod Telling
 pub mod Texts

@@ -28,6 +28,7 @@ use Rattle.tex_program.specs.declared.broken.Broken.TheVariants as broken
 use Rattle.tex_program.specs.Begins.{outcome_of}
 use Rattle.tex_program.specs.Faults.{why_of}
 use Rattle.tex_program.specs.First.{Begins}
+use Rattle.tex_program.specs.Book.{Book, first_book}
 use Rattle.tex_program.specs.Stands.{Stands, FramesStand, SameFrames, state_of}
 use Rattle.tex_program.specs.Rules.{world_of, Halts, Cuts}
 use Rattle.tex_program.specs.Ran.{Came, Ran, CutBy}
@@ -115,11 +116,11 @@ cut_due sizes s s' w w' ms x why c = record {
   written = c.written;
 }
 
-due_cuts : (sizes : Sizes) (s : State) (e' : Engine) (work : List Reading) (w w' : World) (ms : List Move) (n : ℕ) (b : Broken) → steps ms ≤ n → FramesStand e' work → Cuts sizes s e' work w w' ms b → CutBy sizes (record s { due = ms }) n e' w w' b
-due_cuts sizes s e' work w w' ms n b le frames h =
+due_cuts : (sizes : Sizes) (s : State) (e' : Engine) (book : Book) (w w' : World) (ms : List Move) (n : ℕ) (b : Broken) → steps ms ≤ n → FramesStand e' book.work → Cuts sizes s e' book w w' ms b → CutBy sizes (record s { due = ms }) n e' w w' b
+due_cuts sizes s e' book w w' ms n b le frames h =
     let off : CutOff sizes (record s { due = ms }) (record h.at { due = ms }) n w w' (why_of b) =
     due_cut sizes (record s { due = ms }) (record h.at { due = ms }) n w w' ms (why_of b) (cut_due sizes s h.at w w' ms ms (why_of b) h.cut) le refl in
-    record { t = off.t; cut = off.cut; work' = work; frames = frames; same = same_moment (why_of b) off.t h.at (state_of e' work) off.same h.same }
+    record { t = off.t; cut = off.cut; book' = book; frames = frames; same = same_moment (why_of b) off.t h.at (state_of e' book) off.same h.same }
 
 -- THE JOB BEGINS
 
@@ -128,49 +129,49 @@ module _ (sizes : Sizes) (e e' : Engine) (quiet : Bool) (file name : List ℕ) (
   abbrev before : World
   before = world f a false
 
-  kept_did : Did sizes (state_of e []) (state_of e' []) before before (Kept name ∷ []) → Did sizes (state_of e []) (state_of e' []) before before (Kept (job_name file) ∷ [])
-  kept_did d = subst (λ (x : List ℕ). Did sizes (state_of e []) (state_of e' []) before before (Kept x ∷ [])) is d
+  kept_did : Did sizes (state_of e first_book) (state_of e' first_book) before before (Kept name ∷ []) → Did sizes (state_of e first_book) (state_of e' first_book) before before (Kept (job_name file) ∷ [])
+  kept_did d = subst (λ (x : List ℕ). Did sizes (state_of e first_book) (state_of e' first_book) before before (Kept x ∷ [])) is d
 
   -- a name for which a table has no room
   pub kept_cut : (job : Option (List ℕ)) (n : ℕ) (b : Broken) (column : Bool) → column ≡ false → Begins sizes e quiet job → SameFrames e e' →
-      ((more : List Move) → Cuts sizes (state_of e []) e' [] before before (Kept name ∷ more) b) → CutBy sizes (First quiet file job) n e' before (world f a column) b
+      ((more : List Move) → Cuts sizes (state_of e first_book) e' first_book before before (Kept name ∷ more) b) → CutBy sizes (First quiet file job) n e' before (world f a column) b
   kept_cut None n b column none begins same h =
       subst (λ (x : Bool). CutBy sizes (First quiet file None) n e' before (world f a x) b) (sym none)
       (subst (λ (s : State). CutBy sizes s n e' before before b) (begins.state file)
-      (due_cuts sizes (state_of e []) e' [] before before (job_due file None) n b (omega arith) (frames_still e e' [] same begins.stands.readings) (subst (λ (x : List ℕ). Cuts sizes (state_of e []) e' [] before before (Kept x ∷ no_file file) b) is (h (no_file file)))))
+      (due_cuts sizes (state_of e first_book) e' first_book before before (job_due file None) n b (omega arith) (frames_still e e' [] same begins.stands.readings) (subst (λ (x : List ℕ). Cuts sizes (state_of e first_book) e' first_book before before (Kept x ∷ no_file file) b) is (h (no_file file)))))
   kept_cut (Some bytes) n b column none begins same h =
       subst (λ (x : Bool). CutBy sizes (First quiet file (Some bytes)) n e' before (world f a x) b) (sym none)
       (subst (λ (s : State). CutBy sizes s n e' before before b) (begins.state file)
-      (due_cuts sizes (state_of e []) e' [] before before (job_due file (Some bytes)) n b (omega arith) (frames_still e e' [] same begins.stands.readings) (subst (λ (x : List ℕ). Cuts sizes (state_of e []) e' [] before before (Kept x ∷ []) b) is (h []))))
+      (due_cuts sizes (state_of e first_book) e' first_book before before (job_due file (Some bytes)) n b (omega arith) (frames_still e e' [] same begins.stands.readings) (subst (λ (x : List ℕ). Cuts sizes (state_of e first_book) e' first_book before before (Kept x ∷ []) b) is (h []))))
 
   -- the file is held, and the run goes on
-  pub kept_came : (bytes : List ℕ) → Begins sizes e quiet (Some bytes) → e'.in_line ≡ false → Stands sizes e' [] → Did sizes (state_of e []) (state_of e' []) before before (Kept name ∷ []) →
+  pub kept_came : (bytes : List ℕ) → Begins sizes e quiet (Some bytes) → e'.in_line ≡ false → Stands sizes e' first_book → Did sizes (state_of e first_book) (state_of e' first_book) before before (Kept name ∷ []) →
       Came sizes (First quiet file (Some bytes)) e' before (world_of f a e') 0
   kept_came bytes begins column stands d =
       subst (λ (x : Bool). Came sizes (First quiet file (Some bytes)) e' before (world f a x) 0) (sym column) (record {
         ms = Kept (job_name file) ∷ [];
-        work' = [];
+        book' = first_book;
         stands = stands;
-        moves = subst (λ (s : State). FitMoves sizes s (Kept (job_name file) ∷ []) (state_of e' [])) (begins.state file) (due_moves sizes (state_of e []) (state_of e' []) before before (Kept (job_name file) ∷ []) refl (kept_did d));
+        moves = subst (λ (s : State). FitMoves sizes s (Kept (job_name file) ∷ []) (state_of e' first_book)) (begins.state file) (due_moves sizes (state_of e first_book) (state_of e' first_book) before before (Kept (job_name file) ∷ []) refl (kept_did d));
         count = refl;
         written = (kept_did d).written;
       })
 
   -- the names that are entered are as they were
-  pub kept_names : Did sizes (state_of e []) (state_of e' []) before before (Kept name ∷ []) → e.names.names ≡ primitive_names → e'.names.names ≡ primitive_names
+  pub kept_names : Did sizes (state_of e first_book) (state_of e' first_book) before before (Kept name ∷ []) → e.names.names ≡ primitive_names → e'.names.names ≡ primitive_names
   kept_names d names = sym (ap (λ (s : State). s.names) d.state) ∙ names
 
   -- and so are the reports
-  pub kept_reports : Did sizes (state_of e []) (state_of e' []) before before (Kept name ∷ []) → e.reports ≡ 0 → e'.reports ≡ 0
+  pub kept_reports : Did sizes (state_of e first_book) (state_of e' first_book) before before (Kept name ∷ []) → e.reports ≡ 0 → e'.reports ≡ 0
   kept_reports d none = sym (ap (λ (s : State). s.reports) d.state) ∙ none
 
   -- the file isn't held, and the run ends
-  module _ (begins : Begins sizes e quiet None) (column : e'.in_line ≡ false) (d : Did sizes (state_of e []) (state_of e' []) before before (Kept name ∷ [])) (b : SinkTold) (e2 : Engine) (n : ℕ) where
-    pub refused_fails : Halts sizes (state_of e' []) e2 [] (world_of f a e') (world_of f b e2) (no_file file) (AtFatal NoFile) 0 → SaysSo sizes (First quiet file None) n before (world_of f b e2) 2
+  module _ (begins : Begins sizes e quiet None) (column : e'.in_line ≡ false) (d : Did sizes (state_of e first_book) (state_of e' first_book) before before (Kept name ∷ [])) (b : SinkTold) (e2 : Engine) (n : ℕ) where
+    pub refused_fails : Halts sizes (state_of e' first_book) e2 first_book (world_of f a e') (world_of f b e2) (no_file file) (AtFatal NoFile) 0 → SaysSo sizes (First quiet file None) n before (world_of f b e2) 2
     refused_fails halts =
-        let h : Halts sizes (state_of e' []) e2 [] before (world_of f b e2) (no_file file) (AtFatal NoFile) 0 = subst (λ (x : Bool). Halts sizes (state_of e' []) e2 [] (world f a x) (world_of f b e2) (no_file file) (AtFatal NoFile) 0) column halts in
-        let all : Did sizes (state_of e []) h.t before (world_of f b e2) (job_due file None) =
-        did_join sizes (state_of e []) (state_of e' []) h.t before before (world_of f b e2) (Kept (job_name file) ∷ []) (no_file file) (kept_did d) h.did in
+        let h : Halts sizes (state_of e' first_book) e2 first_book before (world_of f b e2) (no_file file) (AtFatal NoFile) 0 = subst (λ (x : Bool). Halts sizes (state_of e' first_book) e2 first_book (world f a x) (world_of f b e2) (no_file file) (AtFatal NoFile) 0) column halts in
+        let all : Did sizes (state_of e first_book) h.t before (world_of f b e2) (job_due file None) =
+        did_join sizes (state_of e first_book) (state_of e' first_book) h.t before before (world_of f b e2) (Kept (job_name file) ∷ []) (no_file file) (kept_did d) h.did in
         record {
           is = IsFatal;
           says = record {
@@ -179,7 +180,7 @@ module _ (sizes : Sizes) (e e' : Engine) (quiet : Bool) (file name : List ℕ) (
               ms = job_due file None;
               t = h.t;
               run = record {
-                moves = subst (λ (s : State). FitMoves sizes s (job_due file None) h.t) (begins.state file) (due_moves sizes (state_of e []) h.t before (world_of f b e2) (job_due file None) h.due all);
+                moves = subst (λ (s : State). FitMoves sizes s (job_due file None) h.t) (begins.state file) (due_moves sizes (state_of e first_book) h.t before (world_of f b e2) (job_due file None) h.due all);
                 within = omega arith;
                 whole = stopped_ends h.t (AtFatal NoFile) h.due h.stopped;
               };
@@ -189,12 +190,12 @@ module _ (sizes : Sizes) (e e' : Engine) (quiet : Bool) (file name : List ℕ) (
           };
         }
 
-    pub refused_cut : (k : Broken) → SameFrames e e' → SameFrames e' e2 → Cuts sizes (state_of e' []) e2 [] (world_of f a e') (world_of f b e2) (no_file file) k → CutBy sizes (First quiet file None) n e2 before (world_of f b e2) k
+    pub refused_cut : (k : Broken) → SameFrames e e' → SameFrames e' e2 → Cuts sizes (state_of e' first_book) e2 first_book (world_of f a e') (world_of f b e2) (no_file file) k → CutBy sizes (First quiet file None) n e2 before (world_of f b e2) k
     refused_cut k first second cuts =
-        let h : Cuts sizes (state_of e' []) e2 [] before (world_of f b e2) (no_file file) k = subst (λ (x : Bool). Cuts sizes (state_of e' []) e2 [] (world f a x) (world_of f b e2) (no_file file) k) column cuts in
+        let h : Cuts sizes (state_of e' first_book) e2 first_book before (world_of f b e2) (no_file file) k = subst (λ (x : Bool). Cuts sizes (state_of e' first_book) e2 first_book (world f a x) (world_of f b e2) (no_file file) k) column cuts in
         subst (λ (s : State). CutBy sizes s n e2 before (world_of f b e2) k) (begins.state file)
-        (due_cuts sizes (state_of e []) e2 [] before (world_of f b e2) (job_due file None) n k (omega arith) (frames_still e' e2 [] second (frames_still e e' [] first begins.stands.readings))
-        (later_cuts sizes (state_of e []) (state_of e' []) e2 [] before before (world_of f b e2) (Kept (job_name file) ∷ []) (no_file file) k (kept_did d) h))
+        (due_cuts sizes (state_of e first_book) e2 first_book before (world_of f b e2) (job_due file None) n k (omega arith) (frames_still e' e2 [] second (frames_still e e' [] first begins.stands.readings))
+        (later_cuts sizes (state_of e first_book) (state_of e' first_book) e2 first_book before before (world_of f b e2) (Kept (job_name file) ∷ []) (no_file file) k (kept_did d) h))
 
 -- the job's file is held, or it isn't
 module _ {A : Type 0} (items : A → List ℕ) (B P : Option (List ℕ) → Type 0) where

@@ -1,7 +1,8 @@
 -- What becomes of what was pulled, and the check where the file has ended.
-use Rattle.std.proofs.Common.{◌≡◌, ℕ, ◌+◌, ◌<◌, ◌≤◌, List, [], ◌∷◌, ◌++◌, length, drop, reverse, refl, sym, ap, ◌∙◌, subst, Bool, true, false, arith}
-use Rattle.std.specs.Prelude.{Option, Some, None, IsSome, codes, if◌then◌else◌}
-use Rattle.std.proofs.lemmas.List.{append-nil, length-append}
+use Rattle.std.proofs.Common.{◌≡◌, ℕ, ◌+◌, ◌<◌, ◌≤◌, List, [], ◌∷◌, ◌++◌, length, drop, map, reverse, refl, sym, ap, ◌∙◌, subst, Bool, true, false, arith}
+use Rattle.std.specs.Prelude.{Option, Some, None, IsSome, codes, nat_le, ◌||◌, if◌then◌else◌}
+use Rattle.std.proofs.lemmas.List.{append-nil, length-append, length-map}
+use Rattle.std.proofs.lemmas.Bool.Decides.{nat_tests}
 use Rattle.std.proofs.lemmas.List.Sums.{sum_by-cons}
 use Rattle.tex_defs.specs.declared.Token.{Token}
 use Rattle.tex_defs.specs.declared.Name.{Name}
@@ -9,29 +10,35 @@ use Rattle.tex_defs.specs.declared.Seen.{Seen}
 use Rattle.tex_defs.specs.declared.Sizes.{Sizes}
 use Rattle.tex_defs.specs.declared.Full.{Full}
 use Rattle.tex_defs.specs.declared.Table.TheVariants.{InputStackSize}
+use Rattle.tex_defs.specs.Sizes.{size_of}
 use Rattle.tex_defs.specs.Places.{World, Transcript}
 use Rattle.plain_state.specs.Puts.{Item, Text, First, Later, Gap, Put as PutList, settled, settled_top, passed, next_item, top_item, first_item, put_levels, levels_of}
 use Rattle.plain_state.specs.Pending.{Pending, Progress, NotBegun, Begun as BegunFile, Closed, Pulled, TokenFrom, LexemeFrom, LineTaken, InvalidMet, FileOver, NothingLeft, settle, pulled, after_pull, taken_line, from_front, from_list, from_line, from_file}
 use Rattle.plain_state.specs.Lex.{Lexeme, WordName, ParName, Lexed, Gives, Invalid, UsedUp, lexed}
 use Rattle.plain_state.specs.Lookup.{number_of, token_of, joins, new_among, new_name}
 use Rattle.tex_defs.specs.declared.Meaning.{Meaning}
+use Rattle.tex_defs.specs.declared.Meaning.TheVariants as means
 use Rattle.plain_state.specs.Tokens.{is_outer, space_token}
-use Rattle.plain_state.specs.Meanings.{seen, primitive_count}
+use Rattle.plain_state.specs.Meanings.{seen}
 use Rattle.plain_state.specs.Readings as reading
 use Rattle.plain_state.specs.Reports as reports
 use Rattle.plain_state.specs.States as machine
 use Rattle.plain_state.specs.States.{State, Reading, Move, Handed, Taken, Settled, Skipped, FileClosed, Entered, Written, made}
-use Rattle.plain_state.specs.Tables.{Demand, level, opened_level, file_levels, file_level, buffer, next_line, refused, refusal, new_name as name_demands}
+use Rattle.plain_state.specs.Tables.{means_macro, is_meant, is_put, Demand, level, opened_level, file_levels, file_level, buffer, next_line, refused, refusal, full, string, hash, new_name as name_demands}
 use Rattle.plain_machine.specs.Plan.{Page, handed, met, met_outer, entered, without_file, Scanning, scanning, scanning_kind, first_of, checked, page_behind, put_one, reported, right_brace}
+use Rattle.plain_machine.specs.Numbers.{pending_of, pulled_of}
 use Rattle.plain_machine.specs.Runs.{steps}
 use Rattle.plain_machine.specs.Does.{Did}
 use Rattle.plain_machine.proofs.Doing.{did_join, did_one, wrote_none}
+use Rattle.plain_machine.proofs.Renumbering.{settle_of, next_item_of, opened_level_of, next_line_of, pulled_same, seen_of, entered_of}
+use Rattle.plain_machine.proofs.Ties.{put_settled, put_pulled, held_more, tied_fewer}
 use Rattle.plain_machine.proofs.Settling.{pulled_settled, passed_settled}
 use Rattle.plain_machine.proofs.Silent.{Lighter, lighter}
 use Rattle.world_io.specs.Told.{FilesTold, SinkTold, world}
 use Rattle.name_table.specs.Strings.{Strings}
-use Rattle.input_state.specs.Stored.{Stored}
-use Rattle.input_state.specs.Reads.{Pulls, ReadsLexeme}
+use Rattle.input_state.specs.Macros.{HasNameRoom}
+use Rattle.input_state.specs.Stored.{Stored, KeepsMacros}
+use Rattle.input_state.specs.Reads.{Pulls, ReadsLexeme, step_demands, pull_refusal}
 use Rattle.input_state.specs.declared.answer.Pulled as answers
 use Rattle.input_state.specs.declared.answer.Pulled.TheVariants as answer
 use Rattle.line_lexer.specs.declared.Lexed as answered
@@ -55,12 +62,14 @@ use Rattle.tex_program.specs.declared.reactions.Outcome.{Outcome}
 use Rattle.tex_program.specs.declared.reactions.Last.TheVariants as last
 use Rattle.tex_program.specs.Begins.{away_moves, last_moves}
 use Rattle.tex_program.specs.Steps.{IsFree, StepsIf, freed, pending_weight, weight}
-use Rattle.tex_program.specs.Entering.{joined, EntryFits, EntryRefused}
-use Rattle.tex_program.specs.Stands.{Counts, IsSized, Stands, WorkStands, OuterStand, FrameStands, SameFrames, OnlyColumn, state_of, page_of, frames}
+use Rattle.tex_program.specs.Book.{Book}
+use Rattle.tex_program.specs.Entering.{joined, located, with_names, EntryFits, EntryRefused}
+use Rattle.tex_program.specs.Stands.{Counts, IsSized, IsSound, SameStore, Stands, WorkStands, OuterStand, FrameStands, SameFrames, OnlyColumn, state_of, page_of, frames}
 use Rattle.tex_program.specs.Rules.{world_of, onward_of, enters_of, scanning_of, token_moves, name_moves, Takes, Wants, Cuts, Went, DoesRule, DoesOnward, away_text}
 use Rattle.tex_program.proofs.Cutting.{cuts_by, later_cuts, full_cuts}
-use Rattle.tex_program.proofs.Reporting.{sized_still}
-use Rattle.tex_program.proofs.Cells.{cells_more, inner_at, seen_same}
+use Rattle.tex_program.proofs.Reporting.{stands_still}
+use Rattle.tex_program.proofs.Storing.{store_with, sound_still}
+use Rattle.tex_program.proofs.Cells.{entered_plain, inner_at, seen_more}
 use Rattle.tex_program.proofs.Joining.{IsQuiet, quiet_here, went_by, onward_by, onward_join, step_join, free_rule, none_rule}
 
 -- AN ENGINE THAT HAS WRITTEN
@@ -68,20 +77,17 @@ use Rattle.tex_program.proofs.Joining.{IsQuiet, quiet_here, went_by, onward_by, 
 pub column_frames : (e e' : Engine) → OnlyColumn e e' → SameFrames e e'
 column_frames e e' only = record { outer = only.outer; top = only.top; ask = only.ask; lists = ap (λ (x : Stored). x.gathered) only.input }
 
-pub column_sized : (sizes : Sizes) (e e' : Engine) → OnlyColumn e e' → IsSized sizes e → IsSized sizes e'
-column_sized sizes e e' only h = sized_still sizes e e' only.sizes only.outer (ap (λ (x : Stored). x.sizes) only.input) only.names only.reports h
-
 pub same_frames : (e e' : Engine) → SameFrames e e' → frames e' ≡ frames e
 same_frames e e' h = rw (h.outer, h.top) refl
 
-pub counts_still : (sizes : Sizes) (e e' : Engine) (work : List Reading) → SameFrames e e' → IsSized sizes e' → Counts sizes e work → Counts sizes e' work
-counts_still sizes e e' work same sized h = record { sized = sized; depth = h.depth ∙ sym (same_frames e e' same) }
+pub counts_still : (sizes : Sizes) (e e' : Engine) (book : Book) → SameFrames e e' → IsSound sizes e' book.number book.macros → Counts sizes e book → Counts sizes e' book
+counts_still sizes e e' book same sound h = record { sound = sound; depth = h.depth ∙ sym (same_frames e e' same) }
 
 -- A TEXT THAT RUNS AWAY: it is shown, a brace inserted, and the report comes
 
-module _ (sizes : Sizes) (e e1 e2 : Engine) (f : FilesTold) (s0 s1 : SinkTold) (text : List ℕ) (report : reports.Report) (rest : List Move) (work : List Reading) (only : OnlyColumn e e1) (page : page_of e2 ≡ page_of e1)
-    (shown : Did sizes (state_of e work) (state_of e1 work) (world_of f s0 e) (world_of f s1 e1) (Written Transcript text ∷ [])) where
-  away_page : page_of e2 ≡ page_behind (page_of e) text
+module _ (sizes : Sizes) (e e1 e2 : Engine) (f : FilesTold) (s0 s1 : SinkTold) (text : List ℕ) (report : reports.Report) (rest : List Move) (book : Book) (only : OnlyColumn e e1) (page : page_of e2 book ≡ page_of e1 book)
+    (shown : Did sizes (state_of e book) (state_of e1 book) (world_of f s0 e) (world_of f s1 e1) (Written Transcript text ∷ [])) where
+  away_page : page_of e2 book ≡ page_behind (page_of e book) text
   away_page =
       let column : e1.in_line ≡ machine.in_line_after e.in_line text = shown.written.column in
       let number : e1.input.pending.number ≡ e.input.pending.number = ap (λ (i : Stored). i.pending.number) only.input in
@@ -92,41 +98,41 @@ module _ (sizes : Sizes) (e e1 e2 : Engine) (f : FilesTold) (s0 s1 : SinkTold) (
   column = ap (λ (p : Page). p.in_line) page
 
   -- the brace has no room
-  pub away_full : (b : Broken) → ((more : List Move) → Cuts sizes (state_of e1 work) e2 work (world_of f s1 e1) (world_of f s1 e1) (put_one right_brace ++ more) b) →
-      Cuts sizes (state_of e work) e2 work (world_of f s0 e) (world_of f s1 e2) (away_moves (page_of e) text report rest) b
+  pub away_full : (b : Broken) → ((more : List Move) → Cuts sizes (state_of e1 book) e2 book (world_of f s1 e1) (world_of f s1 e1) (put_one right_brace ++ more) b) →
+      Cuts sizes (state_of e book) e2 book (world_of f s0 e) (world_of f s1 e2) (away_moves (page_of e book) text report rest) b
   away_full b h =
-      subst (λ (x : Bool). Cuts sizes (state_of e work) e2 work (world_of f s0 e) (world f s1 x) (away_moves (page_of e) text report rest) b) (sym column)
-      (later_cuts sizes _ (state_of e1 work) e2 work (world_of f s0 e) (world_of f s1 e1) (world_of f s1 e1) (Written Transcript text ∷ []) (put_one right_brace ++ reported (page_behind (page_of e) text) report rest) b shown
-      (h (reported (page_behind (page_of e) text) report rest)))
+      subst (λ (x : Bool). Cuts sizes (state_of e book) e2 book (world_of f s0 e) (world f s1 x) (away_moves (page_of e book) text report rest) b) (sym column)
+      (later_cuts sizes _ (state_of e1 book) e2 book (world_of f s0 e) (world_of f s1 e1) (world_of f s1 e1) (Written Transcript text ∷ []) (put_one right_brace ++ reported (page_behind (page_of e book) text) report rest) b shown
+      (h (reported (page_behind (page_of e book) text) report rest)))
 
-  module _ (s3 : SinkTold) (e3 : Engine) (put : (w : World) → Did sizes (state_of e1 work) (state_of e2 work) w w (put_one right_brace)) where
-    both : Did sizes (state_of e work) (state_of e2 work) (world_of f s0 e) (world_of f s1 e2) (Written Transcript text ∷ put_one right_brace)
-    both = subst (λ (x : Bool). Did sizes (state_of e work) (state_of e2 work) (world_of f s0 e) (world f s1 x) (Written Transcript text ∷ put_one right_brace)) (sym column)
+  module _ (s3 : SinkTold) (e3 : Engine) (put : (w : World) → Did sizes (state_of e1 book) (state_of e2 book) w w (put_one right_brace)) where
+    both : Did sizes (state_of e book) (state_of e2 book) (world_of f s0 e) (world_of f s1 e2) (Written Transcript text ∷ put_one right_brace)
+    both = subst (λ (x : Bool). Did sizes (state_of e book) (state_of e2 book) (world_of f s0 e) (world f s1 x) (Written Transcript text ∷ put_one right_brace)) (sym column)
         (did_join sizes _ _ _ _ _ _ (Written Transcript text ∷ []) (put_one right_brace) shown (put (world_of f s1 e1)))
 
-    pub away_rule : (ruled : Ruled) → DoesOnward sizes (state_of e2 work) e3 (world_of f s1 e2) (world_of f s3 e3) (reported (page_of e2) report rest) ruled →
-        DoesOnward sizes (state_of e work) e3 (world_of f s0 e) (world_of f s3 e3) (away_moves (page_of e) text report rest) ruled
+    pub away_rule : (ruled : Ruled) → DoesOnward sizes (state_of e2 book) e3 book (world_of f s1 e2) (world_of f s3 e3) (reported (page_of e2 book) report rest) ruled →
+        DoesOnward sizes (state_of e book) e3 book (world_of f s0 e) (world_of f s3 e3) (away_moves (page_of e book) text report rest) ruled
     away_rule ruled on =
-        onward_join sizes (state_of e work) (state_of e2 work) e3 (world_of f s0 e) (world_of f s1 e2) (world_of f s3 e3) (Written Transcript text ∷ put_one right_brace) (reported (page_behind (page_of e) text) report rest) ruled (refl, ap (λ (p : Page). p.reports) page ∙ only.reports) both refl
-        (subst (λ (p : Page). DoesOnward sizes (state_of e2 work) e3 (world_of f s1 e2) (world_of f s3 e3) (reported p report rest) ruled) away_page on)
+        onward_join sizes (state_of e book) (state_of e2 book) e3 book (world_of f s0 e) (world_of f s1 e2) (world_of f s3 e3) (Written Transcript text ∷ put_one right_brace) (reported (page_behind (page_of e book) text) report rest) ruled (ap (λ (p : Page). p.reports) page ∙ only.reports) both refl
+        (subst (λ (p : Page). DoesOnward sizes (state_of e2 book) e3 book (world_of f s1 e2) (world_of f s3 e3) (reported p report rest) ruled) away_page on)
 
-    pub away_cuts : (b : Broken) → Cuts sizes (state_of e2 work) e3 work (world_of f s1 e2) (world_of f s3 e3) (reported (page_of e2) report rest) b →
-        Cuts sizes (state_of e work) e3 work (world_of f s0 e) (world_of f s3 e3) (away_moves (page_of e) text report rest) b
+    pub away_cuts : (b : Broken) → Cuts sizes (state_of e2 book) e3 book (world_of f s1 e2) (world_of f s3 e3) (reported (page_of e2 book) report rest) b →
+        Cuts sizes (state_of e book) e3 book (world_of f s0 e) (world_of f s3 e3) (away_moves (page_of e book) text report rest) b
     away_cuts b h =
-        later_cuts sizes (state_of e work) (state_of e2 work) e3 work (world_of f s0 e) (world_of f s1 e2) (world_of f s3 e3) (Written Transcript text ∷ put_one right_brace) (reported (page_behind (page_of e) text) report rest) b both
-        (subst (λ (p : Page). Cuts sizes (state_of e2 work) e3 work (world_of f s1 e2) (world_of f s3 e3) (reported p report rest) b) away_page h)
+        later_cuts sizes (state_of e book) (state_of e2 book) e3 book (world_of f s0 e) (world_of f s1 e2) (world_of f s3 e3) (Written Transcript text ∷ put_one right_brace) (reported (page_behind (page_of e book) text) report rest) b both
+        (subst (λ (p : Page). Cuts sizes (state_of e2 book) e3 book (world_of f s1 e2) (world_of f s3 e3) (reported p report rest) b) away_page h)
 
 -- THE CHECK
 
-pub wants_stands : (sizes : Sizes) (e : Engine) (work : List Reading) → Wants sizes e work → Stands sizes e work
-wants_stands sizes e work t = by_want t.0 t.1 where
-  by_want : (want : Option ScanWant) → Takes sizes want e work → Stands sizes e work
+pub wants_stands : (sizes : Sizes) (e : Engine) (book : Book) → Wants sizes e book → Stands sizes e book
+wants_stands sizes e book t = by_want t.0 t.1 where
+  by_want : (want : Option ScanWant) → Takes sizes want e book → Stands sizes e book
   by_want None h = h.1
   by_want (Some want) h = h.1
 
-pub takes_stands : (sizes : Sizes) (want : Option ScanWant) (e : Engine) (work : List Reading) → Takes sizes want e work → Stands sizes e work
-takes_stands sizes None e work h = h.1
-takes_stands sizes (Some want) e work h = h.1
+pub takes_stands : (sizes : Sizes) (want : Option ScanWant) (e : Engine) (book : Book) → Takes sizes want e book → Stands sizes e book
+takes_stands sizes None e book h = h.1
+takes_stands sizes (Some want) e book h = h.1
 
 -- the name of an \outer macro is met, and another token
 outer_meets : (page : Page) (o : Option Scanning) (onward : Seen → List Move) (x : Seen) → is_outer x.meaning ≡ true → met page o onward x ≡ met_outer page o x.token onward
@@ -177,7 +183,7 @@ none_scanned : (g : Frame) (fs : List Waiting) (r : Reading) (rs : List Reading)
 none_scanned g fs r rs lists k h o =
     ap (λ (x : reading.Kind). scanning_kind x (first_of r.holds lists) (scanning rs (drop r.holds lists))) k ∙ other_scanned g (first_of r.holds lists) (scanning rs (drop r.holds lists)) h ∙ none_waits fs rs (drop r.holds lists) o
 
-module _ (sizes : Sizes) (e : Engine) (work : List Reading) where
+module _ (sizes : Sizes) (e : Engine) (book : Book) where
   text_at : (t : Option Frame) (rs : List Reading) (name : Name) (want : ScanWant) → IsSome t → ((g : Frame) → t ≡ Some g → frame_kind g ≡ reading.Text name) → WorkStands (More want) t e.outer.items e.input.gathered rs →
       scanning_of e rs ≡ Some (text_of name e.input.gathered)
   text_at None rs name want some kind st = cc
@@ -186,11 +192,11 @@ module _ (sizes : Sizes) (e : Engine) (work : List Reading) where
       let below : FrameStands g e.input.gathered r = st.0.open_frame tt in text_scanned r rs name e.input.gathered (below.kind ∙ kind g refl) st.0.holds
 
   -- a text is read
-  pub reads_text : (name : Name) → IsSome e.top → ((g : Frame) → e.top ≡ Some g → frame_kind g ≡ reading.Text name) → Wants sizes e work → scanning_of e work ≡ Some (text_of name e.input.gathered)
+  pub reads_text : (name : Name) → IsSome e.top → ((g : Frame) → e.top ≡ Some g → frame_kind g ≡ reading.Text name) → Wants sizes e book → scanning_of e book.work ≡ Some (text_of name e.input.gathered)
   reads_text name some kind t = by_want t.0 t.1 where
-    by_want : (want : Option ScanWant) → Takes sizes want e work → scanning_of e work ≡ Some (text_of name e.input.gathered)
+    by_want : (want : Option ScanWant) → Takes sizes want e book → scanning_of e book.work ≡ Some (text_of name e.input.gathered)
     by_want None h = let open_top : IsSome {T = Frame} None = subst IsSome h.0 some in cc
-    by_want (Some want) h = text_at e.top work name want some kind (subst (λ (a : Ask). WorkStands a e.top e.outer.items e.input.gathered work) h.0 h.1.readings)
+    by_want (Some want) h = text_at e.top book.work name want some kind (subst (λ (a : Ask). WorkStands a e.top e.outer.items e.input.gathered book.work) h.0 h.1.readings)
 
   text_holds : (g : Frame) (lists : List (List Token)) → Owns g lists → lists ≡ [] → IsNoText (frame_kind g)
   text_holds (frame.Waits (waiting.Catcode scan)) lists h is = tt
@@ -218,28 +224,28 @@ module _ (sizes : Sizes) (e : Engine) (work : List Reading) where
   nothing_at a (Some g) rs is st = cc
 
   -- or none is
-  pub reads_no_text : ((g : Frame) → e.top ≡ Some g → (e.input.gathered ≡ [] → ⊥) → IsNoText (frame_kind g)) → Wants sizes e work → scanning_of e work ≡ None
+  pub reads_no_text : ((g : Frame) → e.top ≡ Some g → (e.input.gathered ≡ [] → ⊥) → IsNoText (frame_kind g)) → Wants sizes e book → scanning_of e book.work ≡ None
   reads_no_text none t = by_want t.0 t.1 where
-    by_want : (want : Option ScanWant) → Takes sizes want e work → scanning_of e work ≡ None
-    by_want None h = nothing_at e.ask e.top work h.0 h.1.readings
-    by_want (Some want) h = on_at e.top work want none (subst (λ (a : Ask). WorkStands a e.top e.outer.items e.input.gathered work) h.0 h.1.readings)
+    by_want : (want : Option ScanWant) → Takes sizes want e book → scanning_of e book.work ≡ None
+    by_want None h = nothing_at e.ask e.top book.work h.0 h.1.readings
+    by_want (Some want) h = on_at e.top book.work want none (subst (λ (a : Ask). WorkStands a e.top e.outer.items e.input.gathered book.work) h.0 h.1.readings)
 
   -- a text runs away where the file has ended
-  pub runs_away : (name : Name) → scanning_of e work ≡ Some (text_of name e.input.gathered) → checked (page_of e) (scanning_of e work) ≡ away_moves (page_of e) (away_text e) (reports.FileEnded reports.OfText name) []
-  runs_away name is = ap (checked (page_of e)) is
+  pub runs_away : (name : Name) → scanning_of e book.work ≡ Some (text_of name e.input.gathered) → checked (page_of e book) (scanning_of e book.work) ≡ away_moves (page_of e book) (away_text e) (reports.FileEnded reports.OfText name) []
+  runs_away name is = ap (checked (page_of e book)) is
 
   -- and where the name of an \outer macro comes
-  pub meets_away : (name : Name) (onward : Seen → List Move) (t : Token) → is_outer (seen (page_of e).meanings t).meaning ≡ true → scanning_of e work ≡ Some (text_of name e.input.gathered) →
-      token_moves (page_of e) (scanning_of e work) onward t ≡ put_one t ++ away_moves (page_of e) (away_text e) (reports.Forbidden reports.OfText name) (onward (seen (page_of e).meanings space_token))
-  meets_away name onward t outer is = ap (λ (o : Option Scanning). token_moves (page_of e) o onward t) is ∙ outer_meets (page_of e) (Some (text_of name e.input.gathered)) onward (seen (page_of e).meanings t) outer
+  pub meets_away : (name : Name) (onward : Seen → List Move) (t : Token) → is_outer (seen (page_of e book).meanings t).meaning ≡ true → scanning_of e book.work ≡ Some (text_of name e.input.gathered) →
+      token_moves (page_of e book) (scanning_of e book.work) onward t ≡ put_one t ++ away_moves (page_of e book) (away_text e) (reports.Forbidden reports.OfText name) (onward (seen (page_of e book).meanings space_token))
+  meets_away name onward t outer is = ap (λ (o : Option Scanning). token_moves (page_of e book) o onward t) is ∙ outer_meets (page_of e book) (Some (text_of name e.input.gathered)) onward (seen (page_of e book).meanings t) outer
 
 -- other moves, the same
-rule_by : (sizes : Sizes) (s : State) (e' : Engine) (w w' : World) (ms ns : List Move) (ruled : Ruled) → ns ≡ ms → DoesRule sizes s e' w w' ms ruled → DoesRule sizes s e' w w' ns ruled
-rule_by sizes s e' w w' ms ns ruled e h = subst (λ (x : List Move). DoesRule sizes s e' w w' x ruled) (sym e) h
+rule_by : (sizes : Sizes) (s : State) (e' : Engine) (book : Book) (w w' : World) (ms ns : List Move) (ruled : Ruled) → ns ≡ ms → DoesRule sizes s e' book w w' ms ruled → DoesRule sizes s e' book w w' ns ruled
+rule_by sizes s e' book w w' ms ns ruled e h = subst (λ (x : List Move). DoesRule sizes s e' book w w' x ruled) (sym e) h
 
 -- NAMES: at most one joins them, and none where the reading enters none
 
-abbrev FewNames : List (List ℕ) → Type 0
+abbrev pub FewNames : List (List ℕ) → Type 0
 FewNames [] = Unit {0}
 FewNames (n ∷ []) = Unit {0}
 FewNames (n ∷ m ∷ ns) = ⊥
@@ -252,7 +258,7 @@ few_among : (enters : Bool) (names : List (List ℕ)) (bytes : List ℕ) → Few
 few_among true names bytes = few_joins bytes (number_of names bytes)
 few_among false names bytes = tt
 
-few_names : (enters : Bool) (names : List (List ℕ)) (x : Lexeme) → FewNames (new_name enters names x)
+pub few_names : (enters : Bool) (names : List (List ℕ)) (x : Lexeme) → FewNames (new_name enters names x)
 few_names enters names (WordName bytes) = few_among enters names bytes
 few_names enters names ParName = few_among enters names (codes "par")
 few_names enters names x = tt
@@ -262,103 +268,170 @@ none_new names (WordName bytes) = refl
 none_new names ParName = refl
 none_new names x = refl
 
-none_joined : (table after : Strings) (new : List (List ℕ)) → new ≡ [] → after ≡ joined table new → after ≡ table
-none_joined table after new none is = is ∙ ap (joined table) none ∙ ap (λ (names : List (List ℕ)). record table { names = names }) (append-nil table.names)
+-- none of them
+none_names : (new : List (List ℕ)) (e : Engine) → new ≡ [] → with_names new e ≡ e
+none_names new e none =
+    ap (λ (ns : List (List ℕ)). with_names ns e) none
+    ∙ ap (λ (names : List (List ℕ)). record e { names = record e.names { names = names }; input = located [] e.input }) (append-nil e.names.names)
+    ∙ ap (λ (cells : List (Meaning (Option ℕ))). record e { input = record e.input { meanings = cells } }) (append-nil e.input.meanings)
 
-module _ (sizes : Sizes) (e : Engine) (work : List Reading) where
-  abbrev pub named : Strings → Engine
-  named names = record e { names = names }
+abbrev undefined : List ℕ → Meaning (Option ℕ)
+undefined name = means.Undefined
 
-  at_names : (names names' : Strings) → names' ≡ names → state_of (named names) work ≡ state_of (named names') work
-  at_names names names' is = ap (λ (n : Strings). state_of (named n) work) (sym is)
+-- a name that joins the others is no macro
+meant_more : (n : ℕ) (cells : List (Meaning (Option ℕ))) (new : List (List ℕ)) → is_meant n (cells ++ map (λ name. means.Undefined) new) ≡ is_meant n cells
+meant_more n [] new = none_meant new where
+  none_meant : (new : List (List ℕ)) → is_meant n (map (λ name. means.Undefined) new) ≡ false
+  none_meant [] = refl
+  none_meant (name ∷ names) = none_meant names
+meant_more n (m ∷ cells) new = ap (λ (b : Bool). means_macro n m || b) (meant_more n cells new)
 
-  did_entered : (names : Strings) (new : List (List ℕ)) (w : World) → FewNames new → IsSized sizes e → names ≡ joined e.names new → EntryFits e.names new →
-      Did sizes (state_of e work) (state_of (named names) work) w w (entered new)
-  did_entered names [] w few sized is fits = record { state = at_names e.names names (none_joined e.names names [] refl is); fits = tt; written = wrote_none w }
-  did_entered names (n ∷ []) w few sized is fits =
+entered_none : (new : List (List ℕ)) → steps (entered new) ≡ 0
+entered_none [] = refl
+entered_none (n ∷ ns) = refl
+
+-- The input has a location for each name: so there is room for one where it is entered.
+fits_if : (b : Bool) (x : Option Full) (y : Full) → (if b then x else Some y) ≡ None → (b ≡ true) × (x ≡ None)
+fits_if true x y h = (refl, h)
+fits_if false x y h = absurd cc
+
+last_fits : (sizes : Sizes) (ds : List Demand) (d : Demand) → refused sizes (ds ++ d ∷ []) ≡ None → nat_le (d.used + d.need) (size_of sizes d.table) ≡ true
+last_fits sizes [] d h = (fits_if (nat_le (d.used + d.need) (size_of sizes d.table)) None (full sizes d) h).0
+last_fits sizes (x ∷ ds) d h = last_fits sizes ds d (fits_if (nat_le (x.used + x.need) (size_of sizes x.table)) (refused sizes (ds ++ d ∷ [])) (full sizes x) h).1
+
+module _ (sizes : Sizes) (e : Engine) (sized : IsSized sizes e) where
+  room_of : (n : List ℕ) (new : List (List ℕ)) → EntryFits e.names (n ∷ new) → HasNameRoom e.input.meanings e.input.hash_size
+  room_of n new fits =
+      let le : nat_le (length e.names.names + 1) e.names.sizes.hash_size ≡ true = last_fits e.names.sizes (string n e.names.names e.names.others) (hash e.names.names) fits in
+      let below : length e.names.names + 1 ≤ e.names.sizes.hash_size = grind (arith, nat_tests, le) in
+      let same : e.names.sizes.hash_size ≡ e.input.hash_size = ap (λ (s : Sizes). s.hash_size) sized.names ∙ sym sized.hash in
+      omega (arith, below, same, sized.located)
+
+  module _ (names : Strings) (new : List (List ℕ)) (few : FewNames new) (after : names ≡ joined e.names new) where
+    longer : length names.names ≡ length e.names.names + length new
+    longer = ap (λ (n : Strings). length n.names) after ∙ length-append e.names.names new
+
+    -- one has joined the others
+    pub one_entered : (e' : Engine) → length e.names.names < length names.names → e' ≡ record e { names = names; input = record e.input { meanings = e.input.meanings ++ means.Undefined ∷ [] } } → e' ≡ with_names new e
+    one_entered e' more is = is ∙ by_new new few after (omega (arith, more, longer)) where
+      by_new : (new : List (List ℕ)) → FewNames new → names ≡ joined e.names new → 0 < length new → record e { names = names; input = record e.input { meanings = e.input.meanings ++ means.Undefined ∷ [] } } ≡ with_names new e
+      by_new [] few after some = absurd (omega (arith, some))
+      by_new (n ∷ []) few after some = ap (λ (ns : Strings). record e { names = ns; input = located (n ∷ []) e.input }) after
+      by_new (n ∷ m ∷ ns) few after some = absurd few
+
+    -- none has
+    pub none_entered : (e' : Engine) → EntryFits e.names new → (length e.names.names < length names.names → HasNameRoom e.input.meanings e.input.hash_size → ⊥) → e' ≡ record e { names = names } → e' ≡ with_names new e
+    none_entered e' fits nowhere is = is ∙ by_new new after fits longer where
+      by_new : (new : List (List ℕ)) → names ≡ joined e.names new → EntryFits e.names new → length names.names ≡ length e.names.names + length new → record e { names = names } ≡ with_names new e
+      by_new [] after fits count = ap (λ (ns : Strings). record e { names = ns }) after ∙ ap (λ (cells : List (Meaning (Option ℕ))). record e { names = joined e.names []; input = record e.input { meanings = cells } }) (sym (append-nil e.input.meanings))
+      by_new (n ∷ ns) after fits count = absurd (nowhere (omega (arith, count)) (room_of n ns fits))
+
+module _ (sizes : Sizes) (e : Engine) (book : Book) where
+  did_entered : (new : List (List ℕ)) (w : World) → FewNames new → IsSized sizes e → EntryFits e.names new → Did sizes (state_of e book) (state_of (with_names new e) book) w w (entered new)
+  did_entered [] w few sized fits = record { state = ap (λ (x : Engine). state_of x book) (sym (none_names [] e refl)); fits = tt; written = wrote_none w }
+  did_entered (n ∷ []) w few sized fits =
       did_one sizes (Entered n) _ _ w w (subst (λ (x : Sizes). refused x (name_demands n e.names.names e.names.others) ≡ None) sized.names fits)
-      (ap (λ (cells : List (Meaning (Option ℕ))). record (state_of (named (joined e.names (n ∷ []))) work) { meanings = cells }) (sym (cells_more e.names.names n sized.known)) ∙ at_names (joined e.names (n ∷ [])) names is) (quiet_here (Entered n) w tt)
-  did_entered names (n ∷ m ∷ ns) w few sized is fits = absurd few
+      (ap (λ (cells : List (Meaning (Option ℕ))). record (state_of (with_names (n ∷ []) e) book) { meanings = cells }) (entered_of book.number e.input.meanings)) (quiet_here (Entered n) w tt)
+  did_entered (n ∷ m ∷ ns) w few sized fits = absurd few
 
-  cut_entered : (names : Strings) (new : List (List ℕ)) (w : World) (rest : List Move) (full : Full) → IsSized sizes e → names ≡ e.names → EntryRefused e.names new full →
-      Cuts sizes (state_of e work) (named names) work w w (entered new ++ rest) (broken.Full full)
-  cut_entered names [] w rest full sized same r = absurd r
-  cut_entered names (n ∷ ns) w rest full sized same r =
-      full_cuts sizes (state_of e work) (named names) work w (Entered n) rest full (broken.Full full) refl
-      (subst (λ (x : Sizes). refused x (name_demands n e.names.names e.names.others) ≡ Some full) sized.names r) (at_names e.names names same)
+  cut_entered : (e' : Engine) (new : List (List ℕ)) (w : World) (rest : List Move) (full : Full) → IsSized sizes e → e' ≡ e → EntryRefused e.names new full →
+      Cuts sizes (state_of e book) e' book w w (entered new ++ rest) (broken.Full full)
+  cut_entered e' [] w rest full sized same r = absurd r
+  cut_entered e' (n ∷ ns) w rest full sized same r =
+      full_cuts sizes (state_of e book) e' book w (Entered n) rest full (broken.Full full) refl
+      (subst (λ (x : Sizes). refused x (name_demands n e.names.names e.names.others) ≡ Some full) sized.names r) (ap (λ (x : Engine). state_of x book) (sym same))
 
-  entered_none : (new : List (List ℕ)) → steps (entered new) ≡ 0
-  entered_none [] = refl
-  entered_none (n ∷ ns) = refl
+  -- each name has its location
+  sized_names : (new : List (List ℕ)) → IsSized sizes e → IsSized sizes (with_names new e)
+  sized_names new h = record {
+    few_reports = h.few_reports;
+    small = h.small;
+    own = h.own;
+    outer = h.outer;
+    input = h.input;
+    names = h.names;
+    hash = h.hash;
+    located = omega (arith, h.located, length-append e.input.meanings (map undefined new), length-map new undefined, length-append e.names.names new);
+  }
 
-  module _ (want : Option ScanWant) (scanned : Option Scanning) (x : Lexeme) (names : Strings) (t : Token) (is : t ≡ token_of (enters_of want) e.names.names x) where
+  sound_names : (new : List (List ℕ)) → IsSound sizes e book.number book.macros → IsSound sizes (with_names new e) book.number book.macros
+  sound_names new h = record {
+    sized = sized_names new h.sized;
+    tied = tied_fewer book.number book.macros e.input.meanings e.input.pending.puts e.input.lists h.tied (with_names new e).input.meanings e.input.pending.puts
+        (λ n held. held_more n (with_names new e).input.meanings e.input.meanings e.input.pending.puts e.input.pending.puts (λ a. sym (meant_more n e.input.meanings new) ∙ a) (λ a. a) held);
+    bodies = h.bodies;
+    plain = entered_plain e.input.meanings new h.plain;
+  }
+
+  stands_names : (new : List (List ℕ)) → Stands sizes e book → Stands sizes (with_names new e) book
+  stands_names new st = record { sound = sound_names new st.sound; idle = st.idle; readings = st.readings; lone = st.lone }
+
+  pub takes_names : (want : Option ScanWant) (new : List (List ℕ)) → Takes sizes want e book → Takes sizes want (with_names new e) book
+  takes_names None new h = (h.0, stands_names new h.1)
+  takes_names (Some want) new h = (h.0, stands_names new h.1)
+
+  module _ (want : Option ScanWant) (scanned : Option Scanning) (x : Lexeme) (t : Token) (is : t ≡ token_of (enters_of want) e.names.names x) (sound : IsSound sizes e book.number book.macros) where
     abbrev new : List (List ℕ)
     new = new_name (enters_of want) e.names.names x
 
+    abbrev named : Engine
+    named = with_names new e
+
     -- what becomes of it doesn't hang on the name that joins the others
-    page_still : enters_of want ≡ false → names ≡ joined e.names new → page_of (named names) ≡ page_of e
-    page_still none after =
+    page_still : enters_of want ≡ false → page_of named book ≡ page_of e book
+    page_still none =
         let empty : new ≡ [] = subst (λ (b : Bool). new_name b e.names.names x ≡ []) (sym none) (none_new e.names.names x) in
-        ap (λ (n : Strings). page_of (named n)) (none_joined e.names names new empty after)
+        ap (λ (y : Engine). page_of y book) (none_names new e empty)
 
-    onward_now : names ≡ joined e.names new → token_moves (page_of e) scanned (onward_of (page_of e) want work) (token_of (enters_of want) e.names.names x) ≡ onward_of (page_of (named names)) want work (seen (page_of (named names)).meanings t)
-    onward_now after =
-        inner_meets (page_of e) scanned (onward_of (page_of e) want work) (seen (page_of e).meanings (token_of (enters_of want) e.names.names x)) (inner_at e.names.names e.names.names (enters_of want) x)
-        ∙ ap (λ (y : Token). onward_of (page_of e) want work (seen (page_of e).meanings y)) (sym is)
-        ∙ ap (onward_of (page_of e) want work) (seen_same e.names.names names.names t)
-        ∙ by_want want (seen (page_of (named names)).meanings t) (λ none. page_still none after) where
-          by_page : (w : Option ScanWant) (y : Seen) → page_of (named names) ≡ page_of e → onward_of (page_of e) w work y ≡ onward_of (page_of (named names)) w work y
-          by_page w y same = ap (λ (p : Page). onward_of p w work y) (sym same)
+    inner_here : is_outer (seen (page_of e book).meanings (token_of (enters_of want) e.names.names x)).meaning ≡ false
+    inner_here = ap (λ (y : Seen). is_outer y.meaning) (seen_of book.number e.input.meanings (token_of (enters_of want) e.names.names x)) ∙ inner_at e.input.meanings sound.plain e.names.names (enters_of want) x
 
-          by_want : (w : Option ScanWant) (y : Seen) → (enters_of w ≡ false → page_of (named names) ≡ page_of e) → onward_of (page_of e) w work y ≡ onward_of (page_of (named names)) w work y
+    seen_now : seen (page_of e book).meanings t ≡ seen (page_of named book).meanings t
+    seen_now = seen_of book.number e.input.meanings t ∙ sym (seen_more e.input.meanings new t) ∙ sym (seen_of book.number named.input.meanings t)
+
+    onward_now : token_moves (page_of e book) scanned (onward_of (page_of e book) want book.work) (token_of (enters_of want) e.names.names x) ≡ onward_of (page_of named book) want book.work (seen (page_of named book).meanings t)
+    onward_now =
+        inner_meets (page_of e book) scanned (onward_of (page_of e book) want book.work) (seen (page_of e book).meanings (token_of (enters_of want) e.names.names x)) inner_here
+        ∙ ap (λ (y : Token). onward_of (page_of e book) want book.work (seen (page_of e book).meanings y)) (sym is)
+        ∙ ap (onward_of (page_of e book) want book.work) seen_now
+        ∙ by_want want (seen (page_of named book).meanings t) page_still where
+          by_page : (w : Option ScanWant) (y : Seen) → page_of named book ≡ page_of e book → onward_of (page_of e book) w book.work y ≡ onward_of (page_of named book) w book.work y
+          by_page w y same = ap (λ (p : Page). onward_of p w book.work y) (sym same)
+
+          by_want : (w : Option ScanWant) (y : Seen) → (enters_of w ≡ false → page_of named book ≡ page_of e book) → onward_of (page_of e book) w book.work y ≡ onward_of (page_of named book) w book.work y
           by_want None y h = by_page None y (h refl)
           by_want (Some asks.Raw) y h = refl
           by_want (Some asks.Expanded) y h = by_page (Some asks.Expanded) y (h refl)
           by_want (Some asks.Nonblank) y h = by_page (Some asks.Nonblank) y (h refl)
           by_want (Some asks.Command) y h = by_page (Some asks.Command) y (h refl)
 
-    known_named : names ≡ joined e.names new → primitive_count ≤ length e.names.names → primitive_count ≤ length names.names
-    known_named after h = omega (arith, h, ap (λ (n : Strings). length n.names) after, length-append e.names.names new)
+    pub takes_named : (e1 : Engine) → e1 ≡ named → Takes sizes want e book → Takes sizes want e1 book
+    takes_named e1 after h = subst (λ (y : Engine). Takes sizes want y book) (sym after) (takes_names want new h)
 
-    stands_named : names ≡ joined e.names new → Stands sizes e work → Stands sizes (named names) work
-    stands_named after st = record {
-      sized = record {
-        few_reports = st.sized.few_reports;
-        known = known_named after st.sized.known;
-        small = st.sized.small;
-        own = st.sized.own;
-        outer = st.sized.outer;
-        input = st.sized.input;
-        names = ap (λ (n : Strings). n.sizes) after ∙ st.sized.names;
-      };
-      idle = st.idle;
-      readings = st.readings;
-      lone = st.lone;
-    }
+    pub name_rule : (e1 e2 : Engine) (f : FilesTold) (s : SinkTold) (w' : World) (ruled : Ruled) → e1 ≡ named → EntryFits e.names new →
+        DoesOnward sizes (state_of e1 book) e2 book (world_of f s e1) w' (onward_of (page_of e1 book) want book.work (seen (page_of e1 book).meanings t)) ruled →
+        DoesOnward sizes (state_of e book) e2 book (world_of f s e) w' (name_moves (page_of e book) scanned (enters_of want) (onward_of (page_of e book) want book.work) x) ruled
+    name_rule e1 e2 f s w' ruled after fits h =
+        let here : DoesOnward sizes (state_of named book) e2 book (world_of f s e) w' (onward_of (page_of named book) want book.work (seen (page_of named book).meanings t)) ruled =
+        subst (λ (y : Engine). DoesOnward sizes (state_of y book) e2 book (world_of f s y) w' (onward_of (page_of y book) want book.work (seen (page_of y book).meanings t)) ruled) after h in
+        onward_join sizes (state_of e book) (state_of named book) e2 book (world_of f s e) (world_of f s e) w' (entered new) _ ruled refl (did_entered new (world_of f s e) (few_names (enters_of want) e.names.names x) sound.sized fits) (entered_none new)
+        (onward_by sizes _ e2 book (world_of f s e) w' _ _ ruled onward_now here)
 
-    takes_at : (w : Option ScanWant) → Takes sizes w e work → Stands sizes (named names) work → Takes sizes w (named names) work
-    takes_at None h st = (h.0, st)
-    takes_at (Some w) h st = (h.0, st)
-
-    pub takes_named : names ≡ joined e.names new → Takes sizes want e work → Takes sizes want (named names) work
-    takes_named after h = takes_at want h (stands_named after (takes_stands sizes want e work h))
-
-    pub name_rule : (e2 : Engine) (w w' : World) (ruled : Ruled) → names ≡ joined e.names new → EntryFits e.names new → IsSized sizes e →
-        DoesOnward sizes (state_of (named names) work) e2 w w' (onward_of (page_of (named names)) want work (seen (page_of (named names)).meanings t)) ruled → DoesOnward sizes (state_of e work) e2 w w' (name_moves (page_of e) scanned (enters_of want) (onward_of (page_of e) want work) x) ruled
-    name_rule e2 w w' ruled after fits sized h =
-        onward_join sizes (state_of e work) (state_of (named names) work) e2 w w w' (entered new) _ ruled (refl, refl) (did_entered names new w (few_names (enters_of want) e.names.names x) sized after fits) (entered_none new)
-        (onward_by sizes _ e2 w w' _ _ ruled (onward_now after) h)
-
-    pub name_cuts : (e2 : Engine) (w w' : World) (b : Broken) → names ≡ joined e.names new → EntryFits e.names new → IsSized sizes e →
-        Cuts sizes (state_of (named names) work) e2 work w w' (onward_of (page_of (named names)) want work (seen (page_of (named names)).meanings t)) b → Cuts sizes (state_of e work) e2 work w w' (name_moves (page_of e) scanned (enters_of want) (onward_of (page_of e) want work) x) b
-    name_cuts e2 w w' b after fits sized h =
-        later_cuts sizes _ (state_of (named names) work) e2 work w w w' (entered new) _ b (did_entered names new w (few_names (enters_of want) e.names.names x) sized after fits)
-        (cuts_by sizes _ e2 work w w' _ _ b (onward_now after) h)
+    pub name_cuts : (e1 e2 : Engine) (f : FilesTold) (s : SinkTold) (w' : World) (b : Broken) → e1 ≡ named → EntryFits e.names new →
+        Cuts sizes (state_of e1 book) e2 book (world_of f s e1) w' (onward_of (page_of e1 book) want book.work (seen (page_of e1 book).meanings t)) b →
+        Cuts sizes (state_of e book) e2 book (world_of f s e) w' (name_moves (page_of e book) scanned (enters_of want) (onward_of (page_of e book) want book.work) x) b
+    name_cuts e1 e2 f s w' b after fits h =
+        let here : Cuts sizes (state_of named book) e2 book (world_of f s e) w' (onward_of (page_of named book) want book.work (seen (page_of named book).meanings t)) b =
+        subst (λ (y : Engine). Cuts sizes (state_of y book) e2 book (world_of f s y) w' (onward_of (page_of y book) want book.work (seen (page_of y book).meanings t)) b) after h in
+        later_cuts sizes _ (state_of named book) e2 book (world_of f s e) (world_of f s e) w' (entered new) _ b (did_entered new (world_of f s e) (few_names (enters_of want) e.names.names x) sound.sized fits)
+        (cuts_by sizes _ e2 book (world_of f s e) w' _ _ b onward_now here)
 
   -- the name has no room
-  pub name_full : (want : Option ScanWant) (scanned : Option Scanning) (x : Lexeme) (names : Strings) (w : World) (full : Full) → IsSized sizes e → names ≡ e.names → EntryRefused e.names (new_name (enters_of want) e.names.names x) full →
-      Cuts sizes (state_of e work) (named names) work w w (name_moves (page_of e) scanned (enters_of want) (onward_of (page_of e) want work) x) (broken.Full full)
-  name_full want scanned x names w full sized same r = cut_entered names (new_name (enters_of want) e.names.names x) w _ full sized same r
+  pub name_full : (want : Option ScanWant) (scanned : Option Scanning) (x : Lexeme) (e1 : Engine) (f : FilesTold) (s : SinkTold) (full : Full) → IsSized sizes e → e1 ≡ e → EntryRefused e.names (new_name (enters_of want) e.names.names x) full →
+      Cuts sizes (state_of e book) e1 book (world_of f s e) (world_of f s e1) (name_moves (page_of e book) scanned (enters_of want) (onward_of (page_of e book) want book.work) x) (broken.Full full)
+  name_full want scanned x e1 f s full sized same r =
+      subst (λ (y : Engine). Cuts sizes (state_of e book) y book (world_of f s e) (world_of f s y) (name_moves (page_of e book) scanned (enters_of want) (onward_of (page_of e book) want book.work) x) (broken.Full full)) (sym same)
+      (cut_entered e (new_name (enters_of want) e.names.names x) (world_of f s e) _ full sized refl r)
 
 -- THE NEXT READING
 
@@ -455,41 +528,34 @@ over_front : (categories : List ℕ) (p : Pending) (ps : List PutList) → HasNo
 over_front categories p [] = over_line p (lexed categories p.lex p.line)
 over_front categories p (x ∷ ps) = over_list categories p x ps x.items
 
--- where a token is wanted doesn't hang on what is pending
-stands_pending : (sizes : Sizes) (e : Engine) (q : Pending) (bytes : List ℕ) (work : List Reading) → Stands sizes e work → Stands sizes (record e { input = record e.input { pending = q; buffer = bytes } }) work
-stands_pending sizes e q bytes work st = record {
-  sized = record { few_reports = st.sized.few_reports; known = st.sized.known; small = st.sized.small; own = st.sized.own; outer = st.sized.outer; input = st.sized.input; names = st.sized.names };
-  idle = st.idle;
-  readings = st.readings;
-  lone = st.lone;
-}
+-- under other numbers of the macros
+module _ (number : ℕ → ℕ) (p : Pending) where
+  opened_same_of : opened_level (next_item (settled (pending_of number p).puts)) (settle (pending_of number p)) ≡ opened_level (next_item p.puts) p
+  opened_same_of =
+      opened_settled (pending_of number p) ∙ ap (λ (x : Option Item). opened_level x (pending_of number p)) (next_item_of number p.puts) ∙ opened_level_of number (next_item p.puts) p
 
-takes_pending : (sizes : Sizes) (want : Option ScanWant) (e : Engine) (q : Pending) (bytes : List ℕ) (work : List Reading) → Takes sizes want e work → Takes sizes want (record e { input = record e.input { pending = q; buffer = bytes } }) work
-takes_pending sizes None e q bytes work h = (h.0, stands_pending sizes e q bytes work h.1)
-takes_pending sizes (Some want) e q bytes work h = (h.0, stands_pending sizes e q bytes work h.1)
+  line_same_of : next_line (settle (pending_of number p)) ≡ next_line p
+  line_same_of = line_settled (pending_of number p) ∙ next_line_of number p
+
+  pulled_as : (categories : List ℕ) (r : Pulled) → pulled categories p ≡ r → pulled categories (pending_of number p) ≡ pulled_of number r
+  pulled_as categories r is = pulled_same number categories p ∙ ap (pulled_of number) is
+
+-- whether the next token has room
+token_demands : (sizes : Sizes) (e : Engine) (book : Book) (t : Token) (o : Option Full) → refused e.input.sizes (opened_level (next_item e.input.pending.puts) e.input.pending) ≡ o → e.input.sizes ≡ sizes →
+    refusal sizes (Handed t) (record (state_of e book) { pending = settle (pending_of book.number e.input.pending) }) ≡ o
+token_demands sizes e book t o fits sized =
+    ap (refused sizes) (opened_same_of book.number e.input.pending) ∙ ap (λ (x : Sizes). refused x (opened_level (next_item e.input.pending.puts) e.input.pending)) (sym sized) ∙ fits
+
+pub token_fits : (sizes : Sizes) (e : Engine) (book : Book) (t : Token) → refused e.input.sizes (opened_level (next_item e.input.pending.puts) e.input.pending) ≡ None → e.input.sizes ≡ sizes →
+    refusal sizes (Handed t) (record (state_of e book) { pending = settle (pending_of book.number e.input.pending) }) ≡ None
+token_fits sizes e book t fits sized = token_demands sizes e book t None fits sized
+
+-- no body is put
+fewer_by : (categories : List ℕ) (p q : Pending) (r : Pulled) → pulled categories p ≡ r → after_pull p r ≡ q → (n : ℕ) → is_put n q.puts ≡ true → is_put n p.puts ≡ true
+fewer_by categories p q r is after n h = put_pulled n p categories (subst (λ (x : Pending). is_put n x.puts ≡ true) (sym (ap (after_pull p) is ∙ after)) h)
 
 -- The engine behind a reading from what is pending.
 module _ (e : Engine) (i : Stored) where
-  abbrev pub behind : Engine
-  behind = record e { input = i }
-
-  page_at : i.pending.number ≡ e.input.pending.number → page_of behind ≡ page_of e
-  page_at is = ap (λ (n : ℕ). record (page_of e) { line = n }) is
-
-  pub token_page : (t : Token) → pulled e.categories e.input.pending ≡ TokenFrom t i.pending → page_of behind ≡ page_of e
-  token_page t is = page_at (subst (KeepsNumber e.input.pending) is (number_kept e.categories e.input.pending (passed e.input.pending.puts)))
-
-  pub lexeme_page : (x : Lexeme) → pulled e.categories e.input.pending ≡ LexemeFrom x i.pending → page_of behind ≡ page_of e
-  lexeme_page x is = page_at (subst (KeepsNumber e.input.pending) is (number_kept e.categories e.input.pending (passed e.input.pending.puts)))
-
-  pub invalid_page : pulled e.categories e.input.pending ≡ InvalidMet i.pending → page_of behind ≡ page_of e
-  invalid_page is = page_at (subst (KeepsNumber e.input.pending) is (number_kept e.categories e.input.pending (passed e.input.pending.puts)))
-
-  pub file_gone : pulled e.categories e.input.pending ≡ FileOver i.pending → page_of behind ≡ without_file (page_of e)
-  file_gone is =
-      let number : i.pending.number ≡ 0 = subst HasNoLine is (over_front e.categories e.input.pending (passed e.input.pending.puts)) in
-      ap (λ (n : ℕ). record (page_of e) { line = n }) number
-
   -- less is pending
   pub lighter_skip : pulled e.categories e.input.pending ≡ InvalidMet i.pending → pending_weight i.pending < pending_weight e.input.pending
   lighter_skip is = subst (Lighter e.input.pending) is (lighter e.categories e.input.pending)
@@ -499,65 +565,111 @@ module _ (e : Engine) (i : Stored) where
       let less : pending_weight i.pending + 9 ≤ pending_weight e.input.pending = subst (Lighter e.input.pending) is (lighter e.categories e.input.pending) in
       omega (arith, less)
 
-module _ (sizes : Sizes) (e : Engine) (i : Stored) (others : i ≡ record e.input { pending = i.pending; buffer = i.buffer }) where
+module _ (sizes : Sizes) (e : Engine) (i : Stored) (others : i ≡ record e.input { pending = i.pending; buffer = i.buffer; lists = i.lists }) where
   abbrev now : Engine
   now = record e { input = i }
 
-  pub takes_still : (want : Option ScanWant) (work : List Reading) → Takes sizes want e work → Takes sizes want now work
-  takes_still want work h = subst (λ (x : Stored). Takes sizes want (record e { input = x }) work) (sym others) (takes_pending sizes want e i.pending i.buffer work h)
+  -- the input keeps its macros
+  pub pull_store : (a : answers.Pulled) → Pulls (pulled e.categories e.input.pending) a e.input i → KeepsMacros e.input i → SameStore e.input i
+  pull_store a h macros = store_with e.input i i.pending e.input.making e.input.gathered i.buffer others (fewer a h) macros where
+    fewer : (a : answers.Pulled) → Pulls (pulled e.categories e.input.pending) a e.input i → (n : ℕ) → is_put n i.pending.puts ≡ true → is_put n e.input.pending.puts ≡ true
+    fewer (answer.Token t) h = fewer_by e.categories e.input.pending i.pending (TokenFrom t i.pending) h.0 refl
+    fewer (answer.Lexeme l) h = fewer_by e.categories e.input.pending i.pending (LexemeFrom h.lexeme i.pending) h.pulls refl
+    fewer answer.Taken h = fewer_by e.categories e.input.pending i.pending (LineTaken (taken_line e.input.pending.rest) i.pending) h.0 refl
+    fewer answer.Invalid h = fewer_by e.categories e.input.pending i.pending (InvalidMet i.pending) h refl
+    fewer answer.FileOver h = fewer_by e.categories e.input.pending i.pending (FileOver i.pending) h refl
+    fewer answer.Nothing h = λ n put. put_settled n e.input.pending.puts (subst (λ (x : Pending). is_put n x.puts ≡ true) h.1 put)
+
+  frames_now : SameFrames e now
+  frames_now = record { outer = refl; top = refl; ask = refl; lists = ap (λ (x : Stored). x.gathered) others }
+
+  stands_now : (book : Book) → SameStore e.input i → Stands sizes e book → Stands sizes now book
+  stands_now book store st = stands_still sizes e now book frames_now (sound_still sizes e now book.number book.macros refl refl refl refl store st.sound) (ap (λ (x : Stored). x.making) others ∙ st.idle) st
+
+  pub takes_still : (want : Option ScanWant) (book : Book) → SameStore e.input i → Takes sizes want e book → Takes sizes want now book
+  takes_still None book store h = (h.0, stands_now book store h.1)
+  takes_still (Some want) book store h = (h.0, stands_now book store h.1)
 
   -- the text that is read is the same
   pub scanning_still : (work : List Reading) → scanning_of now work ≡ scanning_of e work
   scanning_still work = ap (λ (x : Stored). scanning work x.gathered) others
 
+  page_at : (book : Book) → i.pending.number ≡ e.input.pending.number → page_of now book ≡ page_of e book
+  page_at book is = ap (λ (x : Stored). page_of (record e { input = x }) book) others ∙ ap (λ (n : ℕ). record (page_of e book) { line = n }) is
+
+  pub token_page : (book : Book) (t : Token) → pulled e.categories e.input.pending ≡ TokenFrom t i.pending → page_of now book ≡ page_of e book
+  token_page book t is = page_at book (subst (KeepsNumber e.input.pending) is (number_kept e.categories e.input.pending (passed e.input.pending.puts)))
+
+  pub lexeme_page : (book : Book) (x : Lexeme) → pulled e.categories e.input.pending ≡ LexemeFrom x i.pending → page_of now book ≡ page_of e book
+  lexeme_page book x is = page_at book (subst (KeepsNumber e.input.pending) is (number_kept e.categories e.input.pending (passed e.input.pending.puts)))
+
+  pub invalid_page : (book : Book) → pulled e.categories e.input.pending ≡ InvalidMet i.pending → page_of now book ≡ page_of e book
+  invalid_page book is = page_at book (subst (KeepsNumber e.input.pending) is (number_kept e.categories e.input.pending (passed e.input.pending.puts)))
+
+  pub file_gone : (book : Book) → pulled e.categories e.input.pending ≡ FileOver i.pending → page_of now book ≡ without_file (page_of e book)
+  file_gone book is =
+      let number : i.pending.number ≡ 0 = subst HasNoLine is (over_front e.categories e.input.pending (passed e.input.pending.puts)) in
+      ap (λ (x : Stored). page_of (record e { input = x }) book) others ∙ ap (λ (n : ℕ). record (page_of e book) { line = n }) number
+
   -- what becomes of what was pulled
-  pub token_moves_still : (work : List Reading) (want : Option ScanWant) (t : Token) → page_of now ≡ page_of e →
-      token_moves (page_of e) (scanning_of e work) (onward_of (page_of e) want work) t ≡ token_moves (page_of now) (scanning_of now work) (onward_of (page_of now) want work) t
-  token_moves_still work want t page =
-      ap (λ (p : Page). token_moves p (scanning_of e work) (onward_of p want work) t) (sym page) ∙ ap (λ (o : Option Scanning). token_moves (page_of now) o (onward_of (page_of now) want work) t) (sym (scanning_still work))
+  pub token_moves_still : (book : Book) (want : Option ScanWant) (t : Token) → page_of now book ≡ page_of e book →
+      token_moves (page_of e book) (scanning_of e book.work) (onward_of (page_of e book) want book.work) t ≡ token_moves (page_of now book) (scanning_of now book.work) (onward_of (page_of now book) want book.work) t
+  token_moves_still book want t page =
+      ap (λ (p : Page). token_moves p (scanning_of e book.work) (onward_of p want book.work) t) (sym page) ∙ ap (λ (o : Option Scanning). token_moves (page_of now book) o (onward_of (page_of now book) want book.work) t) (sym (scanning_still book.work))
 
-  pub name_moves_still : (work : List Reading) (want : Option ScanWant) (x : Lexeme) → page_of now ≡ page_of e →
-      name_moves (page_of e) (scanning_of e work) (enters_of want) (onward_of (page_of e) want work) x ≡ name_moves (page_of now) (scanning_of now work) (enters_of want) (onward_of (page_of now) want work) x
-  name_moves_still work want x page =
-      ap (λ (p : Page). name_moves p (scanning_of e work) (enters_of want) (onward_of p want work) x) (sym page) ∙ ap (λ (o : Option Scanning). name_moves (page_of now) o (enters_of want) (onward_of (page_of now) want work) x) (sym (scanning_still work))
+  pub name_moves_still : (book : Book) (want : Option ScanWant) (x : Lexeme) → page_of now book ≡ page_of e book →
+      name_moves (page_of e book) (scanning_of e book.work) (enters_of want) (onward_of (page_of e book) want book.work) x ≡ name_moves (page_of now book) (scanning_of now book.work) (enters_of want) (onward_of (page_of now book) want book.work) x
+  name_moves_still book want x page =
+      ap (λ (p : Page). name_moves p (scanning_of e book.work) (enters_of want) (onward_of p want book.work) x) (sym page)
+      ∙ ap (λ (o : Option Scanning). name_moves (page_of now book) o (enters_of want) (onward_of (page_of now book) want book.work) x) (sym (scanning_still book.work))
 
-  pub checked_still : (work : List Reading) → page_of now ≡ without_file (page_of e) → checked (without_file (page_of e)) (scanning_of e work) ≡ checked (page_of now) (scanning_of now work)
-  checked_still work page = ap (λ (p : Page). checked p (scanning_of e work)) (sym page) ∙ ap (λ (o : Option Scanning). checked (page_of now) o) (sym (scanning_still work))
+  pub checked_still : (book : Book) → page_of now book ≡ without_file (page_of e book) → checked (without_file (page_of e book)) (scanning_of e book.work) ≡ checked (page_of now book) (scanning_of now book.work)
+  checked_still book page = ap (λ (p : Page). checked p (scanning_of e book.work)) (sym page) ∙ ap (λ (o : Option Scanning). checked (page_of now book) o) (sym (scanning_still book.work))
 
-  module _ (work : List Reading) (w : World) where
+  module _ (book : Book) (w : World) where
+    -- what is pending to the machine
+    abbrev here : Pending
+    here = pending_of book.number e.input.pending
+
+    abbrev next : Pending
+    next = pending_of book.number i.pending
+
     abbrev at_settled : State
-    at_settled = record (state_of e work) { pending = settle e.input.pending }
+    at_settled = record (state_of e book) { pending = settle here }
 
-    at_behind : (q : Pending) → i.pending ≡ q → record (state_of e work) { pending = q } ≡ state_of now work
-    at_behind q is = ap (λ (x : Pending). record (state_of e work) { pending = x }) (sym is) ∙ ap (λ (x : Stored). state_of (record e { input = x }) work) (sym others)
+    at_behind : (q : Pending) → next ≡ q → record (state_of e book) { pending = q } ≡ state_of now book
+    at_behind q is = ap (λ (x : Pending). record (state_of e book) { pending = x }) (sym is) ∙ ap (λ (x : Stored). state_of (record e { input = x }) book) (sym others)
 
-    did_settled : Did sizes (state_of e work) at_settled w w (Settled ∷ [])
+    did_settled : Did sizes (state_of e book) at_settled w w (Settled ∷ [])
     did_settled = did_one sizes Settled _ _ w w refl refl (quiet_here Settled w tt)
 
     -- and then the move that takes what was pulled
-    did_pull : (m : Move) (p : Pulled) → pulled e.categories e.input.pending ≡ p → after_pull (settle e.input.pending) p ≡ i.pending → IsQuiet m → refusal sizes m at_settled ≡ None →
-        made m at_settled ≡ record (state_of e work) { pending = after_pull (settle e.input.pending) (pulled e.categories (settle e.input.pending)) } → Did sizes (state_of e work) (state_of now work) w w (Settled ∷ m ∷ [])
+    did_pull : (m : Move) (p : Pulled) → pulled e.categories here ≡ p → after_pull (settle here) p ≡ next → IsQuiet m → refusal sizes m at_settled ≡ None →
+        made m at_settled ≡ record (state_of e book) { pending = after_pull (settle here) (pulled e.categories (settle here)) } → Did sizes (state_of e book) (state_of now book) w w (Settled ∷ m ∷ [])
     did_pull m p is after q fits makes =
-        let next : i.pending ≡ after_pull (settle e.input.pending) (pulled e.categories (settle e.input.pending)) = sym (ap (after_pull (settle e.input.pending)) (pulled_settled e.categories e.input.pending ∙ is) ∙ after) in
-        did_join sizes _ _ _ w w w (Settled ∷ []) (m ∷ []) did_settled (did_one sizes m _ _ w w fits (makes ∙ at_behind _ next) (quiet_here m w q))
+        let onto : next ≡ after_pull (settle here) (pulled e.categories (settle here)) = sym (ap (after_pull (settle here)) (pulled_settled e.categories here ∙ is) ∙ after) in
+        did_join sizes _ _ _ w w w (Settled ∷ []) (m ∷ []) did_settled (did_one sizes m _ _ w w fits (makes ∙ at_behind _ onto) (quiet_here m w q))
 
     module _ (page : Page) (want : Option ScanWant) (scanned : Option Scanning) (onward : Seen → List Move) where
       abbrev plan : List Move
-      plan = handed page (enters_of want) scanned onward (pulled e.categories e.input.pending)
+      plan = handed page (enters_of want) scanned onward (pulled e.categories here)
 
       -- a token of a list
       module _ (t : Token) (is : pulled e.categories e.input.pending ≡ TokenFrom t i.pending) (fits : refusal sizes (Handed t) at_settled ≡ None) where
+        token_is : pulled e.categories here ≡ TokenFrom t next
+        token_is = pulled_as book.number e.input.pending e.categories (TokenFrom t i.pending) is
+
         token_plan : plan ≡ Settled ∷ Handed t ∷ token_moves page scanned onward t
-        token_plan = rw is refl
+        token_plan = rw token_is refl
 
-        token_did : Did sizes (state_of e work) (state_of now work) w w (Settled ∷ Handed t ∷ [])
-        token_did = did_pull (Handed t) (TokenFrom t i.pending) is refl tt fits refl
+        token_did : Did sizes (state_of e book) (state_of now book) w w (Settled ∷ Handed t ∷ [])
+        token_did = did_pull (Handed t) (TokenFrom t next) token_is refl tt fits refl
 
-        pub token_rule : (w' : World) (e2 : Engine) (ruled : Ruled) → DoesOnward sizes (state_of now work) e2 w w' (token_moves page scanned onward t) ruled → DoesRule sizes (state_of e work) e2 w w' plan ruled
-        token_rule w' e2 ruled h = rule_by sizes _ e2 w w' _ _ ruled token_plan (step_join sizes (state_of e work) (state_of now work) e2 w w w' (Settled ∷ Handed t ∷ []) (token_moves page scanned onward t) ruled (refl, refl) token_did refl h)
+        pub token_rule : (w' : World) (e2 : Engine) (ruled : Ruled) → DoesOnward sizes (state_of now book) e2 book w w' (token_moves page scanned onward t) ruled → DoesRule sizes (state_of e book) e2 book w w' plan ruled
+        token_rule w' e2 ruled h = rule_by sizes _ e2 book w w' _ _ ruled token_plan (step_join sizes (state_of e book) (state_of now book) e2 book w w w' (Settled ∷ Handed t ∷ []) (token_moves page scanned onward t) ruled refl token_did refl h)
 
-        pub token_cuts : (w' : World) (e2 : Engine) (b : Broken) → Cuts sizes (state_of now work) e2 work w w' (token_moves page scanned onward t) b → Cuts sizes (state_of e work) e2 work w w' plan b
-        token_cuts w' e2 b h = cuts_by sizes _ e2 work w w' _ _ b token_plan (later_cuts sizes _ (state_of now work) e2 work w w w' (Settled ∷ Handed t ∷ []) (token_moves page scanned onward t) b token_did h)
+        pub token_cuts : (w' : World) (e2 : Engine) (b : Broken) → Cuts sizes (state_of now book) e2 book w w' (token_moves page scanned onward t) b → Cuts sizes (state_of e book) e2 book w w' plan b
+        token_cuts w' e2 b h = cuts_by sizes _ e2 book w w' _ _ b token_plan (later_cuts sizes _ (state_of now book) e2 book w w w' (Settled ∷ Handed t ∷ []) (token_moves page scanned onward t) b token_did h)
 
       -- a character or a name of the line
       module _ (x : Lexeme) (is : pulled e.categories e.input.pending ≡ LexemeFrom x i.pending) where
@@ -567,86 +679,116 @@ module _ (sizes : Sizes) (e : Engine) (i : Stored) (others : i ≡ record e.inpu
         abbrev then_moves : List Move
         then_moves = name_moves page scanned (enters_of want) onward x
 
+        lexeme_is : pulled e.categories here ≡ LexemeFrom x next
+        lexeme_is = pulled_as book.number e.input.pending e.categories (LexemeFrom x i.pending) is
+
         lexeme_plan : plan ≡ Settled ∷ Handed handed_token ∷ then_moves
-        lexeme_plan = rw is refl
+        lexeme_plan = rw lexeme_is refl
 
-        lexeme_did : Did sizes (state_of e work) (state_of now work) w w (Settled ∷ Handed handed_token ∷ [])
-        lexeme_did = did_pull (Handed handed_token) (LexemeFrom x i.pending) is refl tt (ap (refused sizes) (lexeme_opens e.categories e.input.pending x i.pending is)) refl
+        lexeme_did : Did sizes (state_of e book) (state_of now book) w w (Settled ∷ Handed handed_token ∷ [])
+        lexeme_did = did_pull (Handed handed_token) (LexemeFrom x next) lexeme_is refl tt (ap (refused sizes) (lexeme_opens e.categories here x next lexeme_is)) refl
 
-        pub lexeme_rule : (w' : World) (e2 : Engine) (ruled : Ruled) → DoesOnward sizes (state_of now work) e2 w w' then_moves ruled → DoesRule sizes (state_of e work) e2 w w' plan ruled
-        lexeme_rule w' e2 ruled h = rule_by sizes _ e2 w w' _ _ ruled lexeme_plan (step_join sizes (state_of e work) (state_of now work) e2 w w w' (Settled ∷ Handed handed_token ∷ []) then_moves ruled (refl, refl) lexeme_did refl h)
+        pub lexeme_rule : (w' : World) (e2 : Engine) (ruled : Ruled) → DoesOnward sizes (state_of now book) e2 book w w' then_moves ruled → DoesRule sizes (state_of e book) e2 book w w' plan ruled
+        lexeme_rule w' e2 ruled h = rule_by sizes _ e2 book w w' _ _ ruled lexeme_plan (step_join sizes (state_of e book) (state_of now book) e2 book w w w' (Settled ∷ Handed handed_token ∷ []) then_moves ruled refl lexeme_did refl h)
 
-        pub lexeme_cuts : (w' : World) (e2 : Engine) (b : Broken) → Cuts sizes (state_of now work) e2 work w w' then_moves b → Cuts sizes (state_of e work) e2 work w w' plan b
-        lexeme_cuts w' e2 b h = cuts_by sizes _ e2 work w w' _ _ b lexeme_plan (later_cuts sizes _ (state_of now work) e2 work w w w' (Settled ∷ Handed handed_token ∷ []) then_moves b lexeme_did h)
+        pub lexeme_cuts : (w' : World) (e2 : Engine) (b : Broken) → Cuts sizes (state_of now book) e2 book w w' then_moves b → Cuts sizes (state_of e book) e2 book w w' plan b
+        lexeme_cuts w' e2 b h = cuts_by sizes _ e2 book w w' _ _ b lexeme_plan (later_cuts sizes _ (state_of now book) e2 book w w w' (Settled ∷ Handed handed_token ∷ []) then_moves b lexeme_did h)
 
       -- a line is taken
-      pub taken_rule : (line : List ℕ) → pulled e.categories e.input.pending ≡ LineTaken line i.pending → refused e.input.sizes (next_line e.input.pending) ≡ None → e.input.sizes ≡ sizes → Stands sizes now work →
-          Went sizes (state_of e work) now w w plan 1
+      line_demands : (o : Option Full) → refused e.input.sizes (next_line e.input.pending) ≡ o → e.input.sizes ≡ sizes → refused sizes (next_line (settle here)) ≡ o
+      line_demands o fits sized = ap (refused sizes) (line_same_of book.number e.input.pending) ∙ ap (λ (x : Sizes). refused x (next_line e.input.pending)) (sym sized) ∙ fits
+
+      taken_plan : (line : List ℕ) (q : Pending) → pulled e.categories e.input.pending ≡ LineTaken line q → plan ≡ Settled ∷ Taken line ∷ []
+      taken_plan line q is = rw (pulled_as book.number e.input.pending e.categories (LineTaken line q) is) refl
+
+      pub taken_rule : (line : List ℕ) → pulled e.categories e.input.pending ≡ LineTaken line i.pending → refused e.input.sizes (next_line e.input.pending) ≡ None → e.input.sizes ≡ sizes → Stands sizes now book →
+          Went sizes (state_of e book) now w w plan 1
       taken_rule line is fits sized stands =
-          let plan_is : plan ≡ Settled ∷ Taken line ∷ [] = rw is refl in
-          went_by sizes _ now w w (Settled ∷ Taken line ∷ []) plan 1 plan_is (record {
-            work' = work;
+          went_by sizes _ now w w (Settled ∷ Taken line ∷ []) plan 1 (taken_plan line i.pending is) (record {
+            book' = book;
             stands = stands;
-            did = did_pull (Taken line) (LineTaken line i.pending) is refl tt (line_fits None fits sized) refl;
+            did = did_pull (Taken line) (LineTaken line next) (pulled_as book.number e.input.pending e.categories (LineTaken line i.pending) is) refl tt (line_demands None fits sized) refl;
             count = refl;
-          }) where
-            line_fits : (o : Option Full) → refused e.input.sizes (next_line e.input.pending) ≡ o → e.input.sizes ≡ sizes → refused sizes (next_line (settle e.input.pending)) ≡ o
-            line_fits o fits sized = ap (refused sizes) (line_settled e.input.pending) ∙ ap (λ (x : Sizes). refused x (next_line e.input.pending)) (sym sized) ∙ fits
+          })
 
       -- it has no room
-      pub line_cuts : (line : List ℕ) (next : Pending) (full : Full) → pulled e.categories e.input.pending ≡ LineTaken line next → refused e.input.sizes (next_line e.input.pending) ≡ Some full → e.input.sizes ≡ sizes →
-          i.pending ≡ settle e.input.pending → Cuts sizes (state_of e work) now work w w plan (broken.Full full)
-      line_cuts line next full is r sized stays =
-          let plan_is : plan ≡ Settled ∷ Taken line ∷ [] = rw is refl in
-          let refuses : refused sizes (next_line (settle e.input.pending)) ≡ Some full = ap (refused sizes) (line_settled e.input.pending) ∙ ap (λ (x : Sizes). refused x (next_line e.input.pending)) (sym sized) ∙ r in
-          cuts_by sizes _ now work w w _ _ (broken.Full full) plan_is (later_cuts sizes _ at_settled now work w w w (Settled ∷ []) (Taken line ∷ []) (broken.Full full) did_settled
-          (full_cuts sizes at_settled now work w (Taken line) [] full (broken.Full full) refl refuses (at_behind _ stays)))
+      stays_there : i.pending ≡ settle e.input.pending → next ≡ settle here
+      stays_there stays = ap (pending_of book.number) stays ∙ sym (settle_of book.number e.input.pending)
+
+      module _ (full : Full) (sized : e.input.sizes ≡ sizes) (stays : i.pending ≡ settle e.input.pending) where
+        line_cuts : (line : List ℕ) (q : Pending) → pulled e.categories e.input.pending ≡ LineTaken line q → refused e.input.sizes (next_line e.input.pending) ≡ Some full → Cuts sizes (state_of e book) now book w w plan (broken.Full full)
+        line_cuts line q is r =
+            cuts_by sizes _ now book w w _ _ (broken.Full full) (taken_plan line q is) (later_cuts sizes _ at_settled now book w w w (Settled ∷ []) (Taken line ∷ []) (broken.Full full) did_settled
+            (full_cuts sizes at_settled now book w (Taken line) [] full (broken.Full full) refl (line_demands (Some full) r sized) (at_behind _ (stays_there stays))))
+
+        opens_cuts : (t : Token) (q : Pending) → pulled e.categories e.input.pending ≡ TokenFrom t q → refused e.input.sizes (opened_level (next_item e.input.pending.puts) e.input.pending) ≡ Some full → Cuts sizes (state_of e book) now book w w plan (broken.Full full)
+        opens_cuts t q is r =
+            let plan_is : plan ≡ Settled ∷ Handed t ∷ token_moves page scanned onward t = rw (pulled_as book.number e.input.pending e.categories (TokenFrom t q) is) refl in
+            let refuses : refusal sizes (Handed t) at_settled ≡ Some full = token_demands sizes e book t (Some full) r sized in
+            cuts_by sizes _ now book w w _ _ (broken.Full full) plan_is (later_cuts sizes _ at_settled now book w w w (Settled ∷ []) (Handed t ∷ token_moves page scanned onward t) (broken.Full full) did_settled
+            (full_cuts sizes at_settled now book w (Handed t) (token_moves page scanned onward t) full (broken.Full full) refl refuses (at_behind _ (stays_there stays))))
+
+        pub pull_cuts : pull_refusal e.categories e.input ≡ Some full → Cuts sizes (state_of e book) now book w w plan (broken.Full full)
+        pull_cuts r = by_pulled (pulled e.categories e.input.pending) refl r where
+          by_pulled : (p : Pulled) → pulled e.categories e.input.pending ≡ p → refused e.input.sizes (step_demands p e.input.pending) ≡ Some full → Cuts sizes (state_of e book) now book w w plan (broken.Full full)
+          by_pulled (TokenFrom t q) is r = opens_cuts t q is r
+          by_pulled (LexemeFrom x q) is r = absurd cc
+          by_pulled (LineTaken line q) is r = line_cuts line q is r
+          by_pulled (InvalidMet q) is r = absurd cc
+          by_pulled (FileOver q) is r = absurd cc
+          by_pulled NothingLeft is r = absurd cc
 
       -- an invalid character is skipped
       module _ (is : pulled e.categories e.input.pending ≡ InvalidMet i.pending) where
+        skipped_is : pulled e.categories here ≡ InvalidMet next
+        skipped_is = pulled_as book.number e.input.pending e.categories (InvalidMet i.pending) is
+
         skipped_plan : plan ≡ Settled ∷ Skipped ∷ reported page reports.InvalidCharacter []
-        skipped_plan = rw is refl
+        skipped_plan = rw skipped_is refl
 
-        skipped_did : Did sizes (state_of e work) (state_of now work) w w (Settled ∷ Skipped ∷ [])
-        skipped_did = did_pull Skipped (InvalidMet i.pending) is refl tt refl refl
+        skipped_did : Did sizes (state_of e book) (state_of now book) w w (Settled ∷ Skipped ∷ [])
+        skipped_did = did_pull Skipped (InvalidMet next) skipped_is refl tt refl refl
 
-        pub skipped_rule : (w' : World) (e2 : Engine) (ruled : Ruled) → DoesOnward sizes (state_of now work) e2 w w' (reported page reports.InvalidCharacter []) ruled → DoesRule sizes (state_of e work) e2 w w' plan (freed ruled)
+        pub skipped_rule : (w' : World) (e2 : Engine) (ruled : Ruled) → DoesOnward sizes (state_of now book) e2 book w w' (reported page reports.InvalidCharacter []) ruled → DoesRule sizes (state_of e book) e2 book w w' plan (freed ruled)
         skipped_rule w' e2 ruled h =
-            rule_by sizes _ e2 w w' _ _ (freed ruled) skipped_plan (free_rule sizes _ e2 w w' _ ruled (onward_join sizes (state_of e work) (state_of now work) e2 w w w' (Settled ∷ Skipped ∷ []) _ ruled (refl, refl) skipped_did refl h))
+            rule_by sizes _ e2 book w w' _ _ (freed ruled) skipped_plan (free_rule sizes _ e2 book w w' _ ruled (onward_join sizes (state_of e book) (state_of now book) e2 book w w w' (Settled ∷ Skipped ∷ []) _ ruled refl skipped_did refl h))
 
-        pub skipped_cuts : (w' : World) (e2 : Engine) (b : Broken) → Cuts sizes (state_of now work) e2 work w w' (reported page reports.InvalidCharacter []) b → Cuts sizes (state_of e work) e2 work w w' plan b
-        skipped_cuts w' e2 b h = cuts_by sizes _ e2 work w w' _ _ b skipped_plan (later_cuts sizes _ (state_of now work) e2 work w w w' (Settled ∷ Skipped ∷ []) _ b skipped_did h)
+        pub skipped_cuts : (w' : World) (e2 : Engine) (b : Broken) → Cuts sizes (state_of now book) e2 book w w' (reported page reports.InvalidCharacter []) b → Cuts sizes (state_of e book) e2 book w w' plan b
+        skipped_cuts w' e2 b h = cuts_by sizes _ e2 book w w' _ _ b skipped_plan (later_cuts sizes _ (state_of now book) e2 book w w w' (Settled ∷ Skipped ∷ []) _ b skipped_did h)
 
       -- the file has ended
       module _ (is : pulled e.categories e.input.pending ≡ FileOver i.pending) where
+        closed_is : pulled e.categories here ≡ FileOver next
+        closed_is = pulled_as book.number e.input.pending e.categories (FileOver i.pending) is
+
         closed_plan : plan ≡ Settled ∷ FileClosed ∷ checked (without_file page) scanned
-        closed_plan = rw is refl
+        closed_plan = rw closed_is refl
 
-        closed_did : Did sizes (state_of e work) (state_of now work) w w (Settled ∷ FileClosed ∷ [])
-        closed_did = did_pull FileClosed (FileOver i.pending) is refl tt refl refl
+        closed_did : Did sizes (state_of e book) (state_of now book) w w (Settled ∷ FileClosed ∷ [])
+        closed_did = did_pull FileClosed (FileOver next) closed_is refl tt refl refl
 
-        pub closed_rule : (w' : World) (e2 : Engine) (ruled : Ruled) → DoesOnward sizes (state_of now work) e2 w w' (checked (without_file page) scanned) ruled → DoesRule sizes (state_of e work) e2 w w' plan (freed ruled)
+        pub closed_rule : (w' : World) (e2 : Engine) (ruled : Ruled) → DoesOnward sizes (state_of now book) e2 book w w' (checked (without_file page) scanned) ruled → DoesRule sizes (state_of e book) e2 book w w' plan (freed ruled)
         closed_rule w' e2 ruled h =
-            rule_by sizes _ e2 w w' _ _ (freed ruled) closed_plan (free_rule sizes _ e2 w w' _ ruled (onward_join sizes (state_of e work) (state_of now work) e2 w w w' (Settled ∷ FileClosed ∷ []) (checked (without_file page) scanned) ruled (refl, refl) closed_did refl h))
+            rule_by sizes _ e2 book w w' _ _ (freed ruled) closed_plan (free_rule sizes _ e2 book w w' _ ruled (onward_join sizes (state_of e book) (state_of now book) e2 book w w w' (Settled ∷ FileClosed ∷ []) (checked (without_file page) scanned) ruled refl closed_did refl h))
 
-        pub closed_cuts : (w' : World) (e2 : Engine) (b : Broken) → Cuts sizes (state_of now work) e2 work w w' (checked (without_file page) scanned) b → Cuts sizes (state_of e work) e2 work w w' plan b
-        closed_cuts w' e2 b h = cuts_by sizes _ e2 work w w' _ _ b closed_plan (later_cuts sizes _ (state_of now work) e2 work w w w' (Settled ∷ FileClosed ∷ []) (checked (without_file page) scanned) b closed_did h)
+        pub closed_cuts : (w' : World) (e2 : Engine) (b : Broken) → Cuts sizes (state_of now book) e2 book w w' (checked (without_file page) scanned) b → Cuts sizes (state_of e book) e2 book w w' plan b
+        closed_cuts w' e2 b h = cuts_by sizes _ e2 book w w' _ _ b closed_plan (later_cuts sizes _ (state_of now book) e2 book w w w' (Settled ∷ FileClosed ∷ []) (checked (without_file page) scanned) b closed_did h)
 
       -- nothing is left
       module _ (is : pulled e.categories e.input.pending ≡ NothingLeft) (stays : i.pending ≡ settle e.input.pending) where
         nothing_plan : plan ≡ Settled ∷ last_moves page.in_line last.NoEnd
-        nothing_plan = rw is refl
+        nothing_plan = rw (pulled_as book.number e.input.pending e.categories NothingLeft is) refl
 
-        nothing_did : Did sizes (state_of e work) (state_of now work) w w (Settled ∷ [])
-        nothing_did = did_one sizes Settled _ _ w w refl (at_behind _ stays) (quiet_here Settled w tt)
+        nothing_did : Did sizes (state_of e book) (state_of now book) w w (Settled ∷ [])
+        nothing_did = did_one sizes Settled _ _ w w refl (at_behind _ (stays_there stays)) (quiet_here Settled w tt)
 
-        pub no_end_rule : (w' : World) (e2 : Engine) (ruled : Ruled) (o : Outcome) → ruled ≡ Halted o → DoesOnward sizes (state_of now work) e2 w w' (last_moves page.in_line last.NoEnd) ruled → DoesRule sizes (state_of e work) e2 w w' plan ruled
+        pub no_end_rule : (w' : World) (e2 : Engine) (ruled : Ruled) (o : Outcome) → ruled ≡ Halted o → DoesOnward sizes (state_of now book) e2 book w w' (last_moves page.in_line last.NoEnd) ruled → DoesRule sizes (state_of e book) e2 book w w' plan ruled
         no_end_rule w' e2 ruled o ends h =
-            let all : DoesOnward sizes (state_of e work) e2 w w' (Settled ∷ last_moves page.in_line last.NoEnd) ruled = onward_join sizes (state_of e work) (state_of now work) e2 w w w' (Settled ∷ []) (last_moves page.in_line last.NoEnd) ruled (refl, refl) nothing_did refl h in
-            rule_by sizes _ e2 w w' _ _ ruled nothing_plan (none_rule sizes _ e2 w w' _ ruled (λ (free : IsFree ruled). subst IsFree ends free) (λ (step : ruled ≡ Step). absurd (cc (sym step ∙ ends))) all)
+            let all : DoesOnward sizes (state_of e book) e2 book w w' (Settled ∷ last_moves page.in_line last.NoEnd) ruled = onward_join sizes (state_of e book) (state_of now book) e2 book w w w' (Settled ∷ []) (last_moves page.in_line last.NoEnd) ruled refl nothing_did refl h in
+            rule_by sizes _ e2 book w w' _ _ ruled nothing_plan (none_rule sizes _ e2 book w w' _ ruled (λ (free : IsFree ruled). subst IsFree ends free) (λ (step : ruled ≡ Step). absurd (cc (sym step ∙ ends))) all)
 
-        pub no_end_cuts : (w' : World) (e2 : Engine) (b : Broken) → Cuts sizes (state_of now work) e2 work w w' (last_moves page.in_line last.NoEnd) b → Cuts sizes (state_of e work) e2 work w w' plan b
-        no_end_cuts w' e2 b h = cuts_by sizes _ e2 work w w' _ _ b nothing_plan (later_cuts sizes _ (state_of now work) e2 work w w w' (Settled ∷ []) (last_moves page.in_line last.NoEnd) b nothing_did h)
+        pub no_end_cuts : (w' : World) (e2 : Engine) (b : Broken) → Cuts sizes (state_of now book) e2 book w w' (last_moves page.in_line last.NoEnd) b → Cuts sizes (state_of e book) e2 book w w' plan b
+        no_end_cuts w' e2 b h = cuts_by sizes _ e2 book w w' _ _ b nothing_plan (later_cuts sizes _ (state_of now book) e2 book w w w' (Settled ∷ []) (last_moves page.in_line last.NoEnd) b nothing_did h)
 
 -- WHAT WAS PULLED, by the answer
 
@@ -669,15 +811,10 @@ module _ (p : Pulled) (a : answers.Pulled) (old new : Stored) (h : Pulls p a old
   pub nothing_left : a ≡ answer.Nothing → (p ≡ NothingLeft) × (new.pending ≡ settle old.pending)
   nothing_left is = subst (λ (x : answers.Pulled). Pulls p x old new) is h
 
--- the next token has room
-pub token_fits : (sizes : Sizes) (e : Engine) (work : List Reading) (t : Token) → refused e.input.sizes (opened_level (next_item e.input.pending.puts) e.input.pending) ≡ None → e.input.sizes ≡ sizes →
-    refusal sizes (Handed t) (record (state_of e work) { pending = settle e.input.pending }) ≡ None
-token_fits sizes e work t fits sized = ap (refused sizes) (opened_settled e.input.pending) ∙ ap (λ (x : Sizes). refused x (opened_level (next_item e.input.pending.puts) e.input.pending)) (sym sized) ∙ fits
-
 -- WHAT A RULE ANSWERS
 
-pub rule_as : (sizes : Sizes) (s : State) (e' : Engine) (w w' : World) (ms : List Move) (r q : Ruled) → q ≡ r → DoesRule sizes s e' w w' ms r → DoesRule sizes s e' w w' ms q
-rule_as sizes s e' w w' ms r q is h = subst (λ (x : Ruled). DoesRule sizes s e' w w' ms x) (sym is) h
+pub rule_as : (sizes : Sizes) (s : State) (e' : Engine) (book : Book) (w w' : World) (ms : List Move) (r q : Ruled) → q ≡ r → DoesRule sizes s e' book w w' ms r → DoesRule sizes s e' book w w' ms q
+rule_as sizes s e' book w w' ms r q is h = subst (λ (x : Ruled). DoesRule sizes s e' book w w' ms x) (sym is) h
 
 pub lighter_after : (e e' : Engine) → SameFrames e e' → pending_weight e'.input.pending < pending_weight e.input.pending → weight e' < weight e
 lighter_after e e' h less = let asked : ask_weight e'.ask ≡ ask_weight e.ask = ap ask_weight h.ask in omega (arith, same_frames e e' h, asked, less)

@@ -11,33 +11,37 @@ use Rattle.plain_state.specs.Pending.{Pending, settle, put_front}
 use Rattle.plain_state.specs.Reports.{Report, report_bytes}
 use Rattle.plain_state.specs.Readings.{Fed, Told, Value, value_lists}
 use Rattle.plain_state.specs.States.{State, Reading, Move, Settled, Kept, Noted, ListBegun, ListGrown, Put, Written, Ended, Reported, Outcome, grown_by, made, fed_with, ended_with, beneath}
-use Rattle.plain_state.specs.Tables.{refusal, refused, memory, level, string}
+use Rattle.plain_state.specs.Tables.{Demand, refusal, refused, memory, level, string}
 use Rattle.plain_machine.specs.Plan.{Page, put_one, put_all, given_back, last_seen, reported, told, is_told, noting}
+use Rattle.plain_machine.specs.Numbers.{pending_of}
 use Rattle.plain_machine.specs.Runs.{Wrote, steps}
 use Rattle.plain_machine.specs.Does.{Did}
 use Rattle.plain_machine.proofs.Doing.{did_join, did_one}
 use Rattle.plain_machine.proofs.Joins.{steps_join}
+use Rattle.plain_machine.proofs.Renumbering.{settle_of, put_front_of, level_of}
 use Rattle.name_table.specs.Strings.{Strings, other_refusal}
 use Rattle.world_io.specs.Told.{FilesTold, SinkTold, world}
-use Rattle.input_state.specs.Stored.{Stored, words as stored_words}
+use Rattle.input_state.specs.Stored.{Stored, KeepsMacros, words as stored_words}
 use Rattle.input_state.specs.HeldLists.{made as made_list}
 use Rattle.tex_program.specs.declared.broken.Broken.{Broken}
 use Rattle.tex_program.specs.declared.broken.Broken.TheVariants as broken
 use Rattle.tex_program.specs.declared.engine.Engine.{Engine}
-use Rattle.tex_program.specs.Stands.{Counts, IsSized, IsLast, Stands, SameState, state_of, page_of}
+use Rattle.tex_program.specs.Book.{Book, with_work}
+use Rattle.tex_program.specs.Stands.{Counts, IsSized, IsSound, IsLast, Stands, SameStore, SameState, state_of, page_of}
 use Rattle.tex_program.specs.Rules.{world_of, Cuts, Went, Reports, Halts}
 use Rattle.tex_program.proofs.Cutting.{cuts_by, later_cuts, full_cuts}
 use Rattle.tex_program.proofs.Counting.{words_more}
 use Rattle.tex_program.proofs.Reporting.{reads_now, ended_state}
+use Rattle.tex_program.proofs.Storing.{store_join, store_making, store_settled, store_put, sound_still}
 use Rattle.tex_program.proofs.Joining.{IsQuiet, quiet_here, quiet_wrote, went_by, halts_on, halts_least}
 
 -- a string for which there is no room
-pub kept_cuts : (sizes : Sizes) (e : Engine) (names : Strings) (work : List Reading) (w : World) (bytes : List ℕ) (more : List Move) (full : Full) →
-    IsSized sizes e → names ≡ e.names → other_refusal e.names bytes ≡ Some full → Cuts sizes (state_of e work) (record e { names = names }) work w w (Kept bytes ∷ more) (broken.Full full)
-kept_cuts sizes e names work w bytes more full sized same r =
-    full_cuts sizes (state_of e work) (record e { names = names }) work w (Kept bytes) more full (broken.Full full) refl
+pub kept_cuts : (sizes : Sizes) (e : Engine) (names : Strings) (book : Book) (w : World) (bytes : List ℕ) (more : List Move) (full : Full) →
+    IsSized sizes e → names ≡ e.names → other_refusal e.names bytes ≡ Some full → Cuts sizes (state_of e book) (record e { names = names }) book w w (Kept bytes ∷ more) (broken.Full full)
+kept_cuts sizes e names book w bytes more full sized same r =
+    full_cuts sizes (state_of e book) (record e { names = names }) book w (Kept bytes) more full (broken.Full full) refl
     (subst (λ (x : Sizes). refused x (string bytes e.names.names e.names.others) ≡ Some full) sized.names r)
-    (ap (λ (n : Strings). state_of (record e { names = n }) work) (sym same))
+    (ap (λ (n : Strings). state_of (record e { names = n }) book) (sym same))
 
 -- THE LIST THAT IS MADE
 
@@ -54,68 +58,97 @@ pub settled_still : (p q : Pending) → q ≡ settle p → q ≡ settle q
 settled_still p q e = subst (λ (x : Pending). x ≡ settle x) (sym e) (ap (λ (ps : List PutList). record p { puts = ps }) (sym (settled_twice p.puts)))
 
 -- one of its moves, on the input alone
-module _ (sizes : Sizes) (e : Engine) (i i' : Stored) (work : List Reading) (w : World) where
-  moved : (m : Move) → refusal sizes m (state_of (record e { input = i }) work) ≡ None → made m (state_of (record e { input = i }) work) ≡ state_of (record e { input = i' }) work → IsQuiet m →
-      Did sizes (state_of (record e { input = i }) work) (state_of (record e { input = i' }) work) w w (m ∷ [])
+module _ (sizes : Sizes) (e : Engine) (i i' : Stored) (book : Book) (w : World) where
+  moved : (m : Move) → refusal sizes m (state_of (record e { input = i }) book) ≡ None → made m (state_of (record e { input = i }) book) ≡ state_of (record e { input = i' }) book → IsQuiet m →
+      Did sizes (state_of (record e { input = i }) book) (state_of (record e { input = i' }) book) w w (m ∷ [])
   moved m fits is q = did_one sizes m _ _ w w fits is (quiet_here m w q)
 
-  pub did_settle : i' ≡ record i { pending = settle i.pending } → Did sizes (state_of (record e { input = i }) work) (state_of (record e { input = i' }) work) w w (Settled ∷ [])
-  did_settle is = moved Settled refl (ap (λ (x : Stored). state_of (record e { input = x }) work) (sym is)) tt
-
 -- The list of one token: begun, grown and put, each on the input before it.
-module _ (sizes : Sizes) (e : Engine) (t : Token) (work : List Reading) (w : World) (counts : Counts sizes e work)
-    (i1 i2 i3 : Stored) (a1 : i1 ≡ record e.input { pending = settle e.input.pending }) where
+module _ (sizes : Sizes) (e : Engine) (t : Token) (book : Book) (w : World) (counts : Counts sizes e book)
+    (i1 i2 i3 : Stored) (a1 : i1 ≡ record e.input { pending = settle e.input.pending; lists = i1.lists }) (k1 : KeepsMacros e.input i1) where
+  abbrev pub with_input : Stored → Engine
+  with_input i = record e { input = i }
+
   abbrev pub at : Stored → State
-  at i = state_of (record e { input = i }) work
+  at i = state_of (with_input i) book
 
   done_settled : Did sizes (at e.input) (at i1) w w (Settled ∷ [])
-  done_settled = did_settle sizes e e.input i1 work w a1
+  done_settled = moved sizes e e.input i1 book w Settled refl (ap (λ (p : Pending). record (at e.input) { pending = p }) (settle_of book.number e.input.pending) ∙ ap at (sym a1)) tt
 
-  sized1 : i1.sizes ≡ sizes
-  sized1 = ap (λ (i : Stored). i.sizes) a1 ∙ counts.sized.input
+  store1 : SameStore e.input i1
+  store1 = store_settled e.input i1 a1 k1
+
+  sound_in : (i : Stored) → SameStore e.input i → IsSound sizes (with_input i) book.number book.macros
+  sound_in i store = sound_still sizes e (with_input i) book.number book.macros refl refl refl refl store counts.sound
 
   -- the list isn't begun
   pub begin_cuts : (new : Stored) (full : Full) (rest : List Move) → new ≡ i1 → refused i1.sizes (memory 1 (stored_words i1) ∷ []) ≡ Some full →
-      Cuts sizes (at e.input) (record e { input = new }) work w w (Settled ∷ ListBegun ∷ rest) (broken.Full full)
+      Cuts sizes (at e.input) (with_input new) book w w (Settled ∷ ListBegun ∷ rest) (broken.Full full)
   begin_cuts new full rest same r =
-      later_cuts sizes _ (at i1) (record e { input = new }) work w w w (Settled ∷ []) (ListBegun ∷ rest) (broken.Full full) done_settled
-      (full_cuts sizes (at i1) (record e { input = new }) work w ListBegun rest full (broken.Full full) refl (words_more sizes (record e { input = i1 }) work 1 (Some full) sized1 r) (ap at (sym same)))
+      later_cuts sizes _ (at i1) (with_input new) book w w w (Settled ∷ []) (ListBegun ∷ rest) (broken.Full full) done_settled
+      (full_cuts sizes (at i1) (with_input new) book w ListBegun rest full (broken.Full full) refl (words_more sizes (with_input i1) book 1 (Some full) (sound_in i1 store1) r) (ap at (sym same)))
 
-  module _ (a2 : i2 ≡ record i1 { making = Some [] }) (f1 : refused i1.sizes (memory 1 (stored_words i1) ∷ []) ≡ None) where
+  module _ (a2 : i2 ≡ record i1 { making = Some []; lists = i2.lists }) (k2 : KeepsMacros i1 i2) (f1 : refused i1.sizes (memory 1 (stored_words i1) ∷ []) ≡ None) where
     done_begun : Did sizes (at e.input) (at i2) w w (Settled ∷ ListBegun ∷ [])
     done_begun = did_join sizes _ _ _ w w w (Settled ∷ []) (ListBegun ∷ []) done_settled
-        (moved sizes e i1 i2 work w ListBegun (words_more sizes (record e { input = i1 }) work 1 None sized1 f1) (ap at (sym a2)) tt)
+        (moved sizes e i1 i2 book w ListBegun (words_more sizes (with_input i1) book 1 None (sound_in i1 store1) f1) (ap at (sym a2)) tt)
 
-    sized2 : i2.sizes ≡ sizes
-    sized2 = ap (λ (i : Stored). i.sizes) a2 ∙ sized1
+    store2 : SameStore e.input i2
+    store2 = store_join e.input i1 i2 store1 (store_making i1 i2 (Some []) a2 k2)
 
     -- the list doesn't grow
     pub grow_cuts : (new : Stored) (full : Full) (rest : List Move) → new ≡ i2 → refused i2.sizes (memory 1 (stored_words i2) ∷ []) ≡ Some full →
-        Cuts sizes (at e.input) (record e { input = new }) work w w (Settled ∷ ListBegun ∷ ListGrown t ∷ rest) (broken.Full full)
+        Cuts sizes (at e.input) (with_input new) book w w (Settled ∷ ListBegun ∷ ListGrown t ∷ rest) (broken.Full full)
     grow_cuts new full rest same r =
-        later_cuts sizes _ (at i2) (record e { input = new }) work w w w (Settled ∷ ListBegun ∷ []) (ListGrown t ∷ rest) (broken.Full full) done_begun
-        (full_cuts sizes (at i2) (record e { input = new }) work w (ListGrown t) rest full (broken.Full full) refl (words_more sizes (record e { input = i2 }) work 1 (Some full) sized2 r) (ap at (sym same)))
+        later_cuts sizes _ (at i2) (with_input new) book w w w (Settled ∷ ListBegun ∷ []) (ListGrown t ∷ rest) (broken.Full full) done_begun
+        (full_cuts sizes (at i2) (with_input new) book w (ListGrown t) rest full (broken.Full full) refl (words_more sizes (with_input i2) book 1 (Some full) (sound_in i2 store2) r) (ap at (sym same)))
 
-    module _ (a3 : i3 ≡ record i2 { making = grown_by t i2.making }) (f2 : refused i2.sizes (memory 1 (stored_words i2) ∷ []) ≡ None) where
+    module _ (a3 : i3 ≡ record i2 { making = grown_by t i2.making; lists = i3.lists }) (k3 : KeepsMacros i2 i3) (f2 : refused i2.sizes (memory 1 (stored_words i2) ∷ []) ≡ None) where
       done_grown : Did sizes (at e.input) (at i3) w w (Settled ∷ ListBegun ∷ ListGrown t ∷ [])
       done_grown = did_join sizes _ _ _ w w w (Settled ∷ ListBegun ∷ []) (ListGrown t ∷ []) done_begun
-          (moved sizes e i2 i3 work w (ListGrown t) (words_more sizes (record e { input = i2 }) work 1 None sized2 f2) (ap at (sym a3)) tt)
+          (moved sizes e i2 i3 book w (ListGrown t) (words_more sizes (with_input i2) book 1 None (sound_in i2 store2) f2) (ap at (sym a3)) tt)
+
+      store3 : SameStore e.input i3
+      store3 = store_join e.input i2 i3 store2 (store_making i2 i3 (grown_by t i2.making) a3 k3)
+
+      level_at : (o : Option Full) → refused i3.sizes (level i3.pending ∷ []) ≡ o → refused sizes (level (pending_of book.number i3.pending) ∷ []) ≡ o
+      level_at o r = ap (λ (d : Demand). refused sizes (d ∷ [])) (level_of book.number i3.pending) ∙ ap (λ (x : Sizes). refused x (level i3.pending ∷ [])) (sym (sound_in i3 store3).sized.input) ∙ r
 
       -- there is no level for it
-      pub put_cuts : (new : Stored) (full : Full) (rest : List Move) → new ≡ i3 → refused i3.sizes (level i3.pending ∷ []) ≡ Some full →
-          Cuts sizes (at e.input) (record e { input = new }) work w w (put_one t ++ rest) (broken.Full full)
+      pub put_cuts : (new : Stored) (full : Full) (rest : List Move) → new ≡ record i3 { lists = new.lists } → refused i3.sizes (level i3.pending ∷ []) ≡ Some full →
+          Cuts sizes (at e.input) (with_input new) book w w (put_one t ++ rest) (broken.Full full)
       put_cuts new full rest same r =
-          later_cuts sizes _ (at i3) (record e { input = new }) work w w w (Settled ∷ ListBegun ∷ ListGrown t ∷ []) (Put (t ∷ []) ∷ rest) (broken.Full full) done_grown
-          (full_cuts sizes (at i3) (record e { input = new }) work w (Put (t ∷ [])) rest full (broken.Full full) refl (subst (λ (x : Sizes). refused x (level i3.pending ∷ []) ≡ Some full) (ap (λ (i : Stored). i.sizes) a3 ∙ sized2) r) (ap at (sym same)))
+          later_cuts sizes _ (at i3) (with_input new) book w w w (Settled ∷ ListBegun ∷ ListGrown t ∷ []) (Put (t ∷ []) ∷ rest) (broken.Full full) done_grown
+          (full_cuts sizes (at i3) (with_input new) book w (Put (t ∷ [])) rest full (broken.Full full) refl (level_at (Some full) r) (ap at (sym same)))
 
       -- and it is put
-      pub done_put : (i4 : Stored) → i4 ≡ record i3 { pending = put_front (token_put (made_list i3.making)) i3.pending; making = None } → refused i3.sizes (level i3.pending ∷ []) ≡ None →
+      pub done_put : (i4 : Stored) → i4 ≡ record i3 { pending = put_front (token_put (made_list i3.making)) i3.pending; making = None; lists = i4.lists } → refused i3.sizes (level i3.pending ∷ []) ≡ None →
           Did sizes (at e.input) (at i4) w w (put_one t)
       done_put i4 a4 f3 =
           let full : made_list i3.making ≡ t ∷ [] = ap made_list (ap (λ (i : Stored). i.making) a3 ∙ ap (grown_by t) (ap (λ (i : Stored). i.making) a2)) in
           did_join sizes _ _ _ w w w (Settled ∷ ListBegun ∷ ListGrown t ∷ []) (Put (t ∷ []) ∷ []) done_grown
-          (moved sizes e i3 i4 work w (Put (t ∷ [])) (subst (λ (x : Sizes). refused x (level i3.pending ∷ []) ≡ None) (ap (λ (i : Stored). i.sizes) a3 ∙ sized2) f3)
-          (ap (λ (ts : List Token). at (record i3 { pending = put_front (token_put ts) i3.pending; making = None })) (sym full) ∙ ap at (sym a4)) tt)
+          (moved sizes e i3 i4 book w (Put (t ∷ [])) (level_at None f3)
+          (ap (λ (p : Pending). record (at i3) { pending = p; making = None }) (put_front_of book.number (token_put (t ∷ [])) i3.pending)
+          ∙ ap (λ (ts : List Token). at (record i3 { pending = put_front (token_put ts) i3.pending; making = None })) (sym full) ∙ ap at (sym a4)) tt)
+
+-- what the input keeps behind each of these
+module _ (i i1 i2 i3 : Stored) (a1 : i1 ≡ record i { pending = settle i.pending; lists = i1.lists }) (k1 : KeepsMacros i i1) where
+  pub begun_store : (new : Stored) → new ≡ i1 → SameStore i new
+  begun_store new same = subst (SameStore i) (sym same) (store_settled i i1 a1 k1)
+
+  module _ (a2 : i2 ≡ record i1 { making = Some []; lists = i2.lists }) (k2 : KeepsMacros i1 i2) where
+    pub grown_store : (new : Stored) → new ≡ i2 → SameStore i new
+    grown_store new same = subst (SameStore i) (sym same) (store_join i i1 i2 (store_settled i i1 a1 k1) (store_making i1 i2 (Some []) a2 k2))
+
+    module _ (t : Token) (a3 : i3 ≡ record i2 { making = grown_by t i2.making; lists = i3.lists }) (k3 : KeepsMacros i2 i3) where
+      made_store : SameStore i i3
+      made_store = store_join i i2 i3 (grown_store i2 refl) (store_making i2 i3 (grown_by t i2.making) a3 k3)
+
+      pub unput_store : (new : Stored) → new ≡ record i3 { lists = new.lists } → KeepsMacros i3 new → SameStore i new
+      unput_store new same k4 = store_join i i3 new made_store (store_making i3 new i3.making same k4)
+
+      pub put_store : (new : Stored) → new ≡ record i3 { pending = put_front (token_put (made_list i3.making)) i3.pending; making = None; lists = new.lists } → KeepsMacros i3 new → SameStore i new
+      put_store new same k4 = store_join i i3 new made_store (store_put i3 new (made_list i3.making) same k4)
 
 -- BACK
 
@@ -142,13 +175,13 @@ back_none true fed = all_none (last_seen fed)
 
 -- THE INNERMOST READING ENDS
 
-module _ (sizes : Sizes) (e e1 e2 : Engine) (r : Reading) (rs : List Reading) (w w1 w2 : World) (ms : List Move) (v : Value) where
-  pub ended_went : Did sizes (state_of e (r ∷ rs)) (state_of e1 (r ∷ rs)) w w1 ms → steps ms ≡ 0 → SameState e1 e2 → Wrote w1 w2 (Ended v ∷ []) → value_lists v ++ beneath (r ∷ rs) e1.input.gathered ≡ e2.input.gathered → Stands sizes e2 (ended_with v (r ∷ rs)) →
-      Went sizes (state_of e (r ∷ rs)) e2 w w2 (ms ++ Ended v ∷ []) 0
+module _ (sizes : Sizes) (e e1 e2 : Engine) (book : Book) (r : Reading) (rs : List Reading) (w w1 w2 : World) (ms : List Move) (v : Value) where
+  pub ended_went : Did sizes (state_of e (with_work (r ∷ rs) book)) (state_of e1 (with_work (r ∷ rs) book)) w w1 ms → steps ms ≡ 0 → SameState e1 e2 → Wrote w1 w2 (Ended v ∷ []) → value_lists v ++ beneath (r ∷ rs) e1.input.gathered ≡ e2.input.gathered → Stands sizes e2 (with_work (ended_with v (r ∷ rs)) book) →
+      Went sizes (state_of e (with_work (r ∷ rs) book)) e2 w w2 (ms ++ Ended v ∷ []) 0
   ended_went d n same wrote lists stands = record {
-    work' = ended_with v (r ∷ rs);
+    book' = with_work (ended_with v (r ∷ rs)) book;
     stands = stands;
-    did = did_join sizes _ _ _ w w1 w2 ms (Ended v ∷ []) d (did_one sizes (Ended v) _ _ w1 w2 refl (ended_state e1 e2 r rs v same lists) wrote);
+    did = did_join sizes _ _ _ w w1 w2 ms (Ended v ∷ []) d (did_one sizes (Ended v) _ _ w1 w2 refl (ended_state e1 e2 book r rs v same lists) wrote);
     count = steps_join ms (Ended v ∷ []) ∙ omega (arith, n);
   }
 
@@ -157,44 +190,44 @@ module _ (sizes : Sizes) (e e1 e2 : Engine) (r : Reading) (rs : List Reading) (w
 told_is : (page : Page) (report : Report) (back : Bool) (r : Reading) → is_told r.fed ≡ false → noting r ≡ Noted ∷ [] → told page report None back r ≡ given_back back r.fed ++ reported page report (Noted ∷ [])
 told_is page report back r once notes = rw once (ap (λ (ms : List Move). given_back back r.fed ++ reported page report ms) notes)
 
-module _ (sizes : Sizes) (e e1 e2 : Engine) (f : FilesTold) (s0 s2 : SinkTold) (r : Reading) (rs : List Reading) (report : Report) (back : Bool) (once : is_told r.fed ≡ false) (notes : noting r ≡ Noted ∷ []) (page : page_of e1 ≡ page_of e)
-    (given : Did sizes (state_of e (r ∷ rs)) (state_of e1 (r ∷ rs)) (world_of f s0 e) (world_of f s0 e) (given_back back r.fed)) where
-  pub told_went : (e3 : Engine) → Reports sizes (state_of e1 (r ∷ rs)) (state_of e2 (r ∷ rs)) (world_of f s0 e1) (world_of f s2 e2) (page_of e1) report (Noted ∷ []) → SameState e2 e3 → e3.input.gathered ≡ e2.input.gathered → Stands sizes e3 (fed_with Told (r ∷ rs)) →
-      Went sizes (state_of e (r ∷ rs)) e3 (world_of f s0 e) (world_of f s2 e3) (told (page_of e) report None back r) 0
+module _ (sizes : Sizes) (e e1 e2 : Engine) (f : FilesTold) (s0 s2 : SinkTold) (book : Book) (r : Reading) (rs : List Reading) (report : Report) (back : Bool) (once : is_told r.fed ≡ false) (notes : noting r ≡ Noted ∷ []) (page : page_of e1 book ≡ page_of e book)
+    (given : Did sizes (state_of e (with_work (r ∷ rs) book)) (state_of e1 (with_work (r ∷ rs) book)) (world_of f s0 e) (world_of f s0 e) (given_back back r.fed)) where
+  pub told_went : (e3 : Engine) → Reports sizes (state_of e1 (with_work (r ∷ rs) book)) (state_of e2 (with_work (r ∷ rs) book)) (world_of f s0 e1) (world_of f s2 e2) (page_of e1 book) report (Noted ∷ []) → SameState e2 e3 → e3.input.gathered ≡ e2.input.gathered → Stands sizes e3 (with_work (fed_with Told (r ∷ rs)) book) →
+      Went sizes (state_of e (with_work (r ∷ rs) book)) e3 (world_of f s0 e) (world_of f s2 e3) (told (page_of e book) report None back r) 0
   told_went e3 rep same lists stands =
-      let h : Reports sizes (state_of e1 (r ∷ rs)) (state_of e2 (r ∷ rs)) (world_of f s0 e) (world_of f s2 e2) (page_of e) report (Noted ∷ []) =
-      subst (λ (p : Page). Reports sizes (state_of e1 (r ∷ rs)) (state_of e2 (r ∷ rs)) (world f s0 p.in_line) (world_of f s2 e2) p report (Noted ∷ [])) page rep in
+      let h : Reports sizes (state_of e1 (with_work (r ∷ rs) book)) (state_of e2 (with_work (r ∷ rs) book)) (world_of f s0 e) (world_of f s2 e2) (page_of e book) report (Noted ∷ []) =
+      subst (λ (p : Page). Reports sizes (state_of e1 (with_work (r ∷ rs) book)) (state_of e2 (with_work (r ∷ rs) book)) (world f s0 p.in_line) (world_of f s2 e2) p report (Noted ∷ [])) page rep in
       let written : List Move = Written Transcript (report_bytes e.names.names e.in_line e.input.pending.number report) ∷ Reported ∷ [] in
-      let noted : Did sizes (state_of e2 (r ∷ rs)) (state_of e3 (fed_with Told (r ∷ rs))) (world_of f s2 e2) (world_of f s2 e3) (Noted ∷ []) =
-      did_one sizes Noted _ _ _ _ refl (ap (λ (l : List (List Token)). record (state_of e2 (r ∷ rs)) { work = fed_with Told (r ∷ rs); gathered = l }) (sym lists) ∙ reads_now e2 e3 (r ∷ rs) (fed_with Told (r ∷ rs)) same) (quiet_wrote Noted f s2 e2.in_line e3.in_line tt same.others.in_line) in
-      let whole : told (page_of e) report None back r ≡ given_back back r.fed ++ (written ++ Noted ∷ []) = told_is (page_of e) report back r once notes ∙ ap (λ (x : List Move). given_back back r.fed ++ x) h.moves in
+      let noted : Did sizes (state_of e2 (with_work (r ∷ rs) book)) (state_of e3 (with_work (fed_with Told (r ∷ rs)) book)) (world_of f s2 e2) (world_of f s2 e3) (Noted ∷ []) =
+      did_one sizes Noted _ _ _ _ refl (ap (λ (l : List (List Token)). record (state_of e2 (with_work (r ∷ rs) book)) { work = fed_with Told (r ∷ rs); gathered = l }) (sym lists) ∙ reads_now e2 e3 (with_work (r ∷ rs) book) (fed_with Told (r ∷ rs)) same) (quiet_wrote Noted f s2 e2.in_line e3.in_line tt same.others.in_line) in
+      let whole : told (page_of e book) report None back r ≡ given_back back r.fed ++ (written ++ Noted ∷ []) = told_is (page_of e book) report back r once notes ∙ ap (λ (x : List Move). given_back back r.fed ++ x) h.moves in
       went_by sizes _ e3 _ _ (given_back back r.fed ++ (written ++ Noted ∷ [])) _ 0 whole (record {
-        work' = fed_with Told (r ∷ rs);
+        book' = with_work (fed_with Told (r ∷ rs)) book;
         stands = stands;
         did = did_join sizes _ _ _ _ _ _ (given_back back r.fed) (written ++ Noted ∷ []) given (did_join sizes _ _ _ _ _ _ written (Noted ∷ []) h.did noted);
         count = steps_join (given_back back r.fed) (written ++ Noted ∷ []) ∙ omega (arith, back_none back r.fed);
       })
 
-  pub told_halts : (o : Outcome) → e1.reports ≡ e.reports → Halts sizes (state_of e1 (r ∷ rs)) e2 (r ∷ rs) (world_of f s0 e1) (world_of f s2 e2) (reported (page_of e1) report (Noted ∷ [])) o 0 →
-      Halts sizes (state_of e (r ∷ rs)) e2 (r ∷ rs) (world_of f s0 e) (world_of f s2 e2) (told (page_of e) report None back r) o 1
+  pub told_halts : (o : Outcome) → e1.reports ≡ e.reports → Halts sizes (state_of e1 (with_work (r ∷ rs) book)) e2 (with_work (r ∷ rs) book) (world_of f s0 e1) (world_of f s2 e2) (reported (page_of e1 book) report (Noted ∷ [])) o 0 →
+      Halts sizes (state_of e (with_work (r ∷ rs) book)) e2 (with_work (r ∷ rs) book) (world_of f s0 e) (world_of f s2 e2) (told (page_of e book) report None back r) o 1
   told_halts o counted halts =
-      let h : Halts sizes (state_of e1 (r ∷ rs)) e2 (r ∷ rs) (world_of f s0 e) (world_of f s2 e2) (reported (page_of e) report (Noted ∷ [])) o 0 =
-      subst (λ (p : Page). Halts sizes (state_of e1 (r ∷ rs)) e2 (r ∷ rs) (world f s0 p.in_line) (world_of f s2 e2) (reported p report (Noted ∷ [])) o 0) page halts in
-      subst (λ (ms : List Move). Halts sizes (state_of e (r ∷ rs)) e2 (r ∷ rs) (world_of f s0 e) (world_of f s2 e2) ms o 1) (sym (told_is (page_of e) report back r once notes))
-      (halts_least sizes _ e2 (r ∷ rs) _ _ _ o 0 1 (omega arith)
-      (halts_on sizes (state_of e (r ∷ rs)) (state_of e1 (r ∷ rs)) e2 (r ∷ rs) _ _ _ (given_back back r.fed) (reported (page_of e) report (Noted ∷ [])) o 0 0 counted given (back_none back r.fed) h))
+      let h : Halts sizes (state_of e1 (with_work (r ∷ rs) book)) e2 (with_work (r ∷ rs) book) (world_of f s0 e) (world_of f s2 e2) (reported (page_of e book) report (Noted ∷ [])) o 0 =
+      subst (λ (p : Page). Halts sizes (state_of e1 (with_work (r ∷ rs) book)) e2 (with_work (r ∷ rs) book) (world f s0 p.in_line) (world_of f s2 e2) (reported p report (Noted ∷ [])) o 0) page halts in
+      subst (λ (ms : List Move). Halts sizes (state_of e (with_work (r ∷ rs) book)) e2 (with_work (r ∷ rs) book) (world_of f s0 e) (world_of f s2 e2) ms o 1) (sym (told_is (page_of e book) report back r once notes))
+      (halts_least sizes _ e2 (with_work (r ∷ rs) book) _ _ _ o 0 1 (omega arith)
+      (halts_on sizes (state_of e (with_work (r ∷ rs) book)) (state_of e1 (with_work (r ∷ rs) book)) e2 (with_work (r ∷ rs) book) _ _ _ (given_back back r.fed) (reported (page_of e book) report (Noted ∷ [])) o 0 0 counted given (back_none back r.fed) h))
 
-  pub told_cuts : (b : Broken) → Cuts sizes (state_of e1 (r ∷ rs)) e2 (r ∷ rs) (world_of f s0 e1) (world_of f s2 e2) (reported (page_of e1) report (Noted ∷ [])) b →
-      Cuts sizes (state_of e (r ∷ rs)) e2 (r ∷ rs) (world_of f s0 e) (world_of f s2 e2) (told (page_of e) report None back r) b
+  pub told_cuts : (b : Broken) → Cuts sizes (state_of e1 (with_work (r ∷ rs) book)) e2 (with_work (r ∷ rs) book) (world_of f s0 e1) (world_of f s2 e2) (reported (page_of e1 book) report (Noted ∷ [])) b →
+      Cuts sizes (state_of e (with_work (r ∷ rs) book)) e2 (with_work (r ∷ rs) book) (world_of f s0 e) (world_of f s2 e2) (told (page_of e book) report None back r) b
   told_cuts b cuts =
-      let h : Cuts sizes (state_of e1 (r ∷ rs)) e2 (r ∷ rs) (world_of f s0 e) (world_of f s2 e2) (reported (page_of e) report (Noted ∷ [])) b =
-      subst (λ (p : Page). Cuts sizes (state_of e1 (r ∷ rs)) e2 (r ∷ rs) (world f s0 p.in_line) (world_of f s2 e2) (reported p report (Noted ∷ [])) b) page cuts in
-      cuts_by sizes _ e2 (r ∷ rs) _ _ _ _ b (told_is (page_of e) report back r once notes) (later_cuts sizes _ _ e2 (r ∷ rs) _ _ _ (given_back back r.fed) (reported (page_of e) report (Noted ∷ [])) b given h)
+      let h : Cuts sizes (state_of e1 (with_work (r ∷ rs) book)) e2 (with_work (r ∷ rs) book) (world_of f s0 e) (world_of f s2 e2) (reported (page_of e book) report (Noted ∷ [])) b =
+      subst (λ (p : Page). Cuts sizes (state_of e1 (with_work (r ∷ rs) book)) e2 (with_work (r ∷ rs) book) (world f s0 p.in_line) (world_of f s2 e2) (reported p report (Noted ∷ [])) b) page cuts in
+      cuts_by sizes _ e2 (with_work (r ∷ rs) book) _ _ _ _ b (told_is (page_of e book) report back r once notes) (later_cuts sizes _ _ e2 (with_work (r ∷ rs) book) _ _ _ (given_back back r.fed) (reported (page_of e book) report (Noted ∷ [])) b given h)
 
 -- already the token that is put back has no room
-pub told_first : (sizes : Sizes) (e e1 : Engine) (f : FilesTold) (s0 : SinkTold) (r : Reading) (rs : List Reading) (report : Report) (back : Bool) (b : Broken) → is_told r.fed ≡ false → noting r ≡ Noted ∷ [] → e1.in_line ≡ e.in_line →
-    Cuts sizes (state_of e (r ∷ rs)) e1 (r ∷ rs) (world_of f s0 e) (world_of f s0 e) (given_back back r.fed ++ reported (page_of e) report (Noted ∷ [])) b →
-    Cuts sizes (state_of e (r ∷ rs)) e1 (r ∷ rs) (world_of f s0 e) (world_of f s0 e1) (told (page_of e) report None back r) b
-told_first sizes e e1 f s0 r rs report back b once notes column h =
-    cuts_by sizes _ e1 (r ∷ rs) _ _ _ _ b (told_is (page_of e) report back r once notes)
-    (subst (λ (x : Bool). Cuts sizes (state_of e (r ∷ rs)) e1 (r ∷ rs) (world_of f s0 e) (world f s0 x) (given_back back r.fed ++ reported (page_of e) report (Noted ∷ [])) b) (sym column) h)
+pub told_first : (sizes : Sizes) (e e1 : Engine) (f : FilesTold) (s0 : SinkTold) (book : Book) (r : Reading) (rs : List Reading) (report : Report) (back : Bool) (b : Broken) → is_told r.fed ≡ false → noting r ≡ Noted ∷ [] → e1.in_line ≡ e.in_line →
+    Cuts sizes (state_of e (with_work (r ∷ rs) book)) e1 (with_work (r ∷ rs) book) (world_of f s0 e) (world_of f s0 e) (given_back back r.fed ++ reported (page_of e book) report (Noted ∷ [])) b →
+    Cuts sizes (state_of e (with_work (r ∷ rs) book)) e1 (with_work (r ∷ rs) book) (world_of f s0 e) (world_of f s0 e1) (told (page_of e book) report None back r) b
+told_first sizes e e1 f s0 book r rs report back b once notes column h =
+    cuts_by sizes _ e1 (with_work (r ∷ rs) book) _ _ _ _ b (told_is (page_of e book) report back r once notes)
+    (subst (λ (x : Bool). Cuts sizes (state_of e (with_work (r ∷ rs) book)) e1 (with_work (r ∷ rs) book) (world_of f s0 e) (world f s0 x) (given_back back r.fed ++ reported (page_of e book) report (Noted ∷ [])) b) (sym column) h)

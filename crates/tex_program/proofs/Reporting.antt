@@ -11,13 +11,13 @@ use Rattle.tex_defs.specs.declared.Fatal.TheVariants as fatal
 use Rattle.prim_table.specs.Primitives.{primitive_names}
 use Rattle.tex_defs.specs.Places.{World, Transcript}
 use Rattle.plain_state.specs.Readings as reading
-use Rattle.plain_state.specs.Meanings.{primitive_count}
 use Rattle.plain_state.specs.Reports as reports
 use Rattle.plain_state.specs.Reports.{report_bytes, hundred_line, token_line_bytes}
 use Rattle.plain_state.specs.States as machine
 use Rattle.plain_state.specs.States.{State, Reading, Move, Written, Ended, Reported, Stopped, AtFatal, made, ended_with, beneath}
 use Rattle.plain_state.specs.Tables.{refusal}
 use Rattle.plain_machine.specs.Plan.{Page, reported, reports_room, token_line, no_file, effect}
+use Rattle.plain_machine.specs.Numbers.{pending_of, meanings_of}
 use Rattle.plain_machine.specs.Runs.{Wrote, steps, step_of}
 use Rattle.plain_machine.specs.Does.{Did}
 use Rattle.plain_machine.proofs.Doing.{did_join, did_one, wrote_join}
@@ -31,6 +31,7 @@ use Rattle.string_pool.specs.Pool.{Pool}
 use Rattle.token_show.specs.declared.view.View.{View}
 use Rattle.token_lists.specs.Table.{Entry, tokens_at}
 use Rattle.input_state.specs.HeldLists.{first_list as first_held}
+use Rattle.frames.specs.Stack.{Stack}
 use Rattle.frames.specs.Sees.{first_list}
 use Rattle.frames.specs.Resumes.{is_built}
 use Rattle.frames.specs.declared.scan.Ask.{Ask}
@@ -46,10 +47,12 @@ use Rattle.tex_program.specs.declared.reactions.Last.{Last}
 use Rattle.tex_program.specs.declared.reactions.Last.TheVariants as last
 use Rattle.tex_program.specs.Faults.{broken_by}
 use Rattle.tex_program.specs.Begins.{outcome_of, outcome_of_last, last_moves, last_bytes, IsNoFeed, IsNoBegin, IsCommand}
-use Rattle.tex_program.specs.Stands.{Stands, FramesStand, WorkStands, Waits, WaitStands, EndsHere, OuterStand, AtMostOne, IsSized, IsLone, SameFrames, SameState, OnlyColumn, state_of, page_of}
+use Rattle.tex_program.specs.Book.{Book, with_work}
+use Rattle.tex_program.specs.Stands.{Stands, FramesStand, WorkStands, Waits, WaitStands, EndsHere, OuterStand, AtMostOne, IsSized, IsSound, IsLone, SameFrames, SameStore, SameState, SameOthers, OnlyColumn, state_of, page_of}
 use Rattle.tex_program.specs.Rules.{world_of, Takes, FitsOnward, Cuts, CountsReports, Went, Halts, Reports}
 use Rattle.tex_program.proofs.Cutting.{cuts_by, full_cuts, later_cuts, did_out, cut_out}
 use Rattle.tex_program.proofs.Joining.{IsQuiet, quiet_here, quiet_wrote}
+use Rattle.tex_program.proofs.Storing.{store_is, sound_sized, sound_still}
 
 -- WRITES
 
@@ -75,17 +78,17 @@ module _ (s s' : SinkTold) (e : Engine) (b' : Bool) (text shown : List ℕ) (is 
   only_column = record { outer = refl; top = refl; ask = refl; input = refl; names = refl; categories = refl; reports = refl; quiet = refl; sizes = refl }
 
   -- what was taken, in other words
-  pub took_out : Took s s' e.in_line b' shown → (sizes : Sizes) (f : FilesTold) (work : List Reading) →
-      Did sizes (state_of e work) (state_of (record e { in_line = b' }) work) (world_of f s e) (world f s' b') (Written Transcript text ∷ [])
-  took_out h sizes f work = did_out sizes f s s' e (record e { in_line = b' }) work only_column text (subst (λ (bs : List ℕ). Took s s' e.in_line b' bs) is h)
+  pub took_out : Took s s' e.in_line b' shown → (sizes : Sizes) (f : FilesTold) (book : Book) →
+      Did sizes (state_of e book) (state_of (record e { in_line = b' }) book) (world_of f s e) (world f s' b') (Written Transcript text ∷ [])
+  took_out h sizes f book = did_out sizes f s s' e (record e { in_line = b' }) book only_column text (subst (λ (bs : List ℕ). Took s s' e.in_line b' bs) is h)
 
   -- and before a fault
   pub err_out : {T : Type 0} → (r : Result T Broken) (fault : Fault) → IsErrAnd r (λ b. b ≡ broken_by fault) → TookFront s s' e.in_line b' shown fault →
-      IfErr r (λ b. (sizes : Sizes) (f : FilesTold) (work : List Reading) (more : List Move) →
-      Cuts sizes (state_of e work) (record e { in_line = b' }) work (world_of f s e) (world f s' b') (Written Transcript text ∷ more) b)
+      IfErr r (λ b. (sizes : Sizes) (f : FilesTold) (book : Book) (more : List Move) →
+      Cuts sizes (state_of e book) (record e { in_line = b' }) book (world_of f s e) (world f s' b') (Written Transcript text ∷ more) b)
   err_out (Ok x) fault h front = tt
-  err_out (Err b) fault h front = λ sizes f work more.
-      cut_out sizes f s s' e (record e { in_line = b' }) work only_column b fault text more h (subst (λ (bs : List ℕ). TookFront s s' e.in_line b' bs fault) is front)
+  err_out (Err b) fault h front = λ sizes f book more.
+      cut_out sizes f s s' e (record e { in_line = b' }) book only_column b fault text more h (subst (λ (bs : List ℕ). TookFront s s' e.in_line b' bs fault) is front)
 
 -- a token line that is written
 pub loud : (page : Page) (m : Meaning Unit) → page.quiet ≡ false → token_line page m ≡ Written Transcript (token_line_bytes page.names page.in_line m) ∷ []
@@ -93,11 +96,11 @@ loud page m e = rw e refl
 
 -- and that is cut off
 pub loud_cuts : {T : Type 0} → (r : Result T Broken) (s s' : SinkTold) (e e' : Engine) (m : Meaning Unit) → e.quiet ≡ false →
-    IfErr r (λ b. (sizes : Sizes) (f : FilesTold) (work : List Reading) (more : List Move) →
-    Cuts sizes (state_of e work) e' work (world_of f s e) (world_of f s' e') (Written Transcript (token_line_bytes e.names.names e.in_line m) ∷ more) b) →
-    IfErr r (λ b. (sizes : Sizes) (f : FilesTold) (work : List Reading) → Cuts sizes (state_of e work) e' work (world_of f s e) (world_of f s' e') (token_line (page_of e) m) b)
+    IfErr r (λ b. (sizes : Sizes) (f : FilesTold) (book : Book) (more : List Move) →
+    Cuts sizes (state_of e book) e' book (world_of f s e) (world_of f s' e') (Written Transcript (token_line_bytes e.names.names e.in_line m) ∷ more) b) →
+    IfErr r (λ b. (sizes : Sizes) (f : FilesTold) (book : Book) → Cuts sizes (state_of e book) e' book (world_of f s e) (world_of f s' e') (token_line (page_of e book) m) b)
 loud_cuts (Ok x) s s' e e' m q h = tt
-loud_cuts (Err b) s s' e e' m q h = λ sizes f work. cuts_by sizes _ e' work _ _ _ _ b (loud (page_of e) m q) (h sizes f work [])
+loud_cuts (Err b) s s' e e' m q h = λ sizes f book. cuts_by sizes _ e' book _ _ _ _ b (loud (page_of e book) m q) (h sizes f book [])
 
 -- REPORTS
 
@@ -125,19 +128,19 @@ stops_did sizes s w w' bs o wrote = record {
 }
 
 -- and the engine stands for its state, but for how it stopped
-stops_at : (sizes : Sizes) (s : State) (e' : Engine) (work : List Reading) (w w' : World) (bs : List ℕ) (o : machine.Outcome) → Did sizes s (state_of e' work) w w' (Written Transcript bs ∷ []) →
-    record (made (Stopped o) (made (Written Transcript bs) s)) { stopped = None } ≡ state_of e' work
-stops_at sizes s e' work w w' bs o d = ap (λ (x : State). record x { stopped = None }) d.state
+stops_at : (sizes : Sizes) (s : State) (e' : Engine) (book : Book) (w w' : World) (bs : List ℕ) (o : machine.Outcome) → Did sizes s (state_of e' book) w w' (Written Transcript bs ∷ []) →
+    record (made (Stopped o) (made (Written Transcript bs) s)) { stopped = None } ≡ state_of e' book
+stops_at sizes s e' book w w' bs o d = ap (λ (x : State). record x { stopped = None }) d.state
 
-stops : (sizes : Sizes) (s : State) (e' : Engine) (work : List Reading) (w w' : World) (bs : List ℕ) (o : machine.Outcome) → s.due ≡ [] → CountsReports o s e' → Did sizes s (state_of e' work) w w' (Written Transcript bs ∷ []) →
-    Halts sizes s e' work w w' (Written Transcript bs ∷ Stopped o ∷ []) o 0
-stops sizes s e' work w w' bs o due counts d = record {
+stops : (sizes : Sizes) (s : State) (e' : Engine) (book : Book) (w w' : World) (bs : List ℕ) (o : machine.Outcome) → s.due ≡ [] → CountsReports o s e' → Did sizes s (state_of e' book) w w' (Written Transcript bs ∷ []) →
+    Halts sizes s e' book w w' (Written Transcript bs ∷ Stopped o ∷ []) o 0
+stops sizes s e' book w w' bs o due counts d = record {
   t = made (Stopped o) (made (Written Transcript bs) s);
   did = stops_did sizes s w w' bs o d.written;
   stopped = refl;
   due = due;
   reports = by_outcome o counts;
-  same = λ few. stops_at sizes s e' work w w' bs o d;
+  same = λ few. stops_at sizes s e' book w w' bs o d;
   count = omega arith;
 } where
   by_outcome : (o : machine.Outcome) → CountsReports o s e' → CountsReports o (made (Stopped o) (made (Written Transcript bs) s)) e'
@@ -145,15 +148,15 @@ stops sizes s e' work w w' bs o due counts d = record {
   by_outcome (AtFatal f) h = tt
 
 -- where the machine stops of itself
-pub last_is : (sizes : Sizes) (st : State) (e' : Engine) (work : List Reading) (w w' : World) (b : Bool) (l : Last) → st.due ≡ [] → e'.reports ≡ st.reports → Did sizes st (state_of e' work) w w' (Written Transcript (last_bytes b l) ∷ []) →
-    Halts sizes st e' work w w' (last_moves b l) (outcome_of (outcome_of_last l)) 0
-last_is sizes st e' work w w' b last.End due is d = stops sizes st e' work w w' _ _ due (sym is) d
-last_is sizes st e' work w w' b last.NoEnd due is d = stops sizes st e' work w w' _ _ due tt d
+pub last_is : (sizes : Sizes) (st : State) (e' : Engine) (book : Book) (w w' : World) (b : Bool) (l : Last) → st.due ≡ [] → e'.reports ≡ st.reports → Did sizes st (state_of e' book) w w' (Written Transcript (last_bytes b l) ∷ []) →
+    Halts sizes st e' book w w' (last_moves b l) (outcome_of (outcome_of_last l)) 0
+last_is sizes st e' book w w' b last.End due is d = stops sizes st e' book w w' _ _ due (sym is) d
+last_is sizes st e' book w w' b last.NoEnd due is d = stops sizes st e' book w w' _ _ due tt d
 
-pub last_cut : (sizes : Sizes) (s : State) (e' : Engine) (work : List Reading) (w w' : World) (b : Bool) (l : Last) (k : Broken) →
-    ((more : List Move) → Cuts sizes s e' work w w' (Written Transcript (last_bytes b l) ∷ more) k) → Cuts sizes s e' work w w' (last_moves b l) k
-last_cut sizes s e' work w w' b last.End k h = h _
-last_cut sizes s e' work w w' b last.NoEnd k h = h _
+pub last_cut : (sizes : Sizes) (s : State) (e' : Engine) (book : Book) (w w' : World) (b : Bool) (l : Last) (k : Broken) →
+    ((more : List Move) → Cuts sizes s e' book w w' (Written Transcript (last_bytes b l) ∷ more) k) → Cuts sizes s e' book w w' (last_moves b l) k
+last_cut sizes s e' book w w' b last.End k h = h _
+last_cut sizes s e' book w w' b last.NoEnd k h = h _
 
 -- a report that is counted
 module _ (sizes : Sizes) (s u : State) (w w1 : World) (text : List ℕ) (first : Did sizes s u w w1 (Written Transcript text ∷ [])) where
@@ -162,23 +165,23 @@ module _ (sizes : Sizes) (s u : State) (w w1 : World) (text : List ℕ) (first :
 
   -- and behind which the run ends
   module _ (w2 : World) (line : List ℕ) (f : Fatal) where
-    ends_behind : (v : State) (e' : Engine) (work : List Reading) → u.due ≡ [] → Did sizes v (state_of e' work) w1 w2 (Written Transcript line ∷ []) → (s.reports ≤ reports_room → made Reported u ≡ v) →
-        Halts sizes s e' work w w2 (Written Transcript text ∷ Reported ∷ Written Transcript line ∷ Stopped (AtFatal f) ∷ []) (AtFatal f) 0
-    ends_behind v e' work due second is = record {
+    ends_behind : (v : State) (e' : Engine) (book : Book) → u.due ≡ [] → Did sizes v (state_of e' book) w1 w2 (Written Transcript line ∷ []) → (s.reports ≤ reports_room → made Reported u ≡ v) →
+        Halts sizes s e' book w w2 (Written Transcript text ∷ Reported ∷ Written Transcript line ∷ Stopped (AtFatal f) ∷ []) (AtFatal f) 0
+    ends_behind v e' book due second is = record {
       t = made (Stopped (AtFatal f)) (made (Written Transcript line) (made Reported u));
       did = did_join sizes s (made Reported u) _ w w1 w2 (Written Transcript text ∷ Reported ∷ []) (Written Transcript line ∷ Stopped (AtFatal f) ∷ []) counted_first (stops_did sizes (made Reported u) w1 w2 line (AtFatal f) second.written);
       stopped = refl;
       due = due;
       reports = tt;
-      same = λ few. ap (λ (x : State). record (made (Stopped (AtFatal f)) (made (Written Transcript line) x)) { stopped = None }) (is few) ∙ stops_at sizes v e' work w1 w2 line (AtFatal f) second;
+      same = λ few. ap (λ (x : State). record (made (Stopped (AtFatal f)) (made (Written Transcript line) x)) { stopped = None }) (is few) ∙ stops_at sizes v e' book w1 w2 line (AtFatal f) second;
       count = omega arith;
     }
 
     -- and its last line is cut off
-    cuts_behind : (v : State) (e' : Engine) (work : List Reading) (b : Broken) → made Reported u ≡ v → ((more : List Move) → Cuts sizes v e' work w1 w2 (Written Transcript line ∷ more) b) →
-        Cuts sizes s e' work w w2 (Written Transcript text ∷ Reported ∷ Written Transcript line ∷ Stopped (AtFatal f) ∷ []) b
-    cuts_behind v e' work b is h =
-        later_cuts sizes s v e' work w w1 w2 (Written Transcript text ∷ Reported ∷ []) (Written Transcript line ∷ Stopped (AtFatal f) ∷ []) b
+    cuts_behind : (v : State) (e' : Engine) (book : Book) (b : Broken) → made Reported u ≡ v → ((more : List Move) → Cuts sizes v e' book w1 w2 (Written Transcript line ∷ more) b) →
+        Cuts sizes s e' book w w2 (Written Transcript text ∷ Reported ∷ Written Transcript line ∷ Stopped (AtFatal f) ∷ []) b
+    cuts_behind v e' book b is h =
+        later_cuts sizes s v e' book w w1 w2 (Written Transcript text ∷ Reported ∷ []) (Written Transcript line ∷ Stopped (AtFatal f) ∷ []) b
         (subst (λ (x : State). Did sizes s x w w1 (Written Transcript text ∷ Reported ∷ [])) is counted_first) (h (Stopped (AtFatal f) ∷ []))
 
 module _ (sizes : Sizes) (page : Page) (report : reports.Report) (rest : List Move) (s u : State) (w w1 : World) (first : Did sizes s u w w1 (Written Transcript (first_text page report) ∷ [])) where
@@ -190,15 +193,15 @@ module _ (sizes : Sizes) (page : Page) (report : reports.Report) (rest : List Mo
 
   -- the hundredth
   module _ (w2 : World) (full : nat_lt page.reports reports_room ≡ false) where
-    pub hundredth : (v : State) (e' : Engine) (work : List Reading) → u.due ≡ [] → Did sizes v (state_of e' work) w1 w2 (Written Transcript hundred_line ∷ []) → (s.reports ≤ reports_room → made Reported u ≡ v) →
-        Halts sizes s e' work w w2 (reported page report rest) (AtFatal fatal.HundredErrors) 0
-    hundredth v e' work due second is =
-        subst (λ (ms : List Move). Halts sizes s e' work w w2 ms (AtFatal fatal.HundredErrors) 0) (sym (report_last page report rest full))
-        (ends_behind sizes s u w w1 (first_text page report) first w2 hundred_line fatal.HundredErrors v e' work due second is)
+    pub hundredth : (v : State) (e' : Engine) (book : Book) → u.due ≡ [] → Did sizes v (state_of e' book) w1 w2 (Written Transcript hundred_line ∷ []) → (s.reports ≤ reports_room → made Reported u ≡ v) →
+        Halts sizes s e' book w w2 (reported page report rest) (AtFatal fatal.HundredErrors) 0
+    hundredth v e' book due second is =
+        subst (λ (ms : List Move). Halts sizes s e' book w w2 ms (AtFatal fatal.HundredErrors) 0) (sym (report_last page report rest full))
+        (ends_behind sizes s u w w1 (first_text page report) first w2 hundred_line fatal.HundredErrors v e' book due second is)
 
-    pub hundred_cuts : (v : State) (e' : Engine) (work : List Reading) (b : Broken) → made Reported u ≡ v → ((more : List Move) → Cuts sizes v e' work w1 w2 (Written Transcript hundred_line ∷ more) b) →
-        Cuts sizes s e' work w w2 (reported page report rest) b
-    hundred_cuts v e' work b is h = cuts_by sizes s e' work w w2 _ _ b (report_last page report rest full) (cuts_behind sizes s u w w1 (first_text page report) first w2 hundred_line fatal.HundredErrors v e' work b is h)
+    pub hundred_cuts : (v : State) (e' : Engine) (book : Book) (b : Broken) → made Reported u ≡ v → ((more : List Move) → Cuts sizes v e' book w1 w2 (Written Transcript hundred_line ∷ more) b) →
+        Cuts sizes s e' book w w2 (reported page report rest) b
+    hundred_cuts v e' book b is h = cuts_by sizes s e' book w w2 _ _ b (report_last page report rest full) (cuts_behind sizes s u w w1 (first_text page report) first w2 hundred_line fatal.HundredErrors v e' book b is h)
 
 -- a job whose file isn't held
 no_file_is : (file : List ℕ) (names : List (List ℕ)) (b : Bool) → names ≡ primitive_names → b ≡ false →
@@ -209,24 +212,24 @@ no_file_is file names b n c =
 
 module _ (sizes : Sizes) (file : List ℕ) (names : List (List ℕ)) (b : Bool) (names_are : names ≡ primitive_names) (column : b ≡ false) (s : State) where
   -- the first text is cut off
-  pub missing_cuts : (e' : Engine) (work : List Reading) (w w' : World) (k : Broken) → ((more : List Move) → Cuts sizes s e' work w w' (Written Transcript (report_bytes names b 0 (reports.NoSuchFile file)) ∷ more) k) →
-      Cuts sizes s e' work w w' (no_file file) k
-  missing_cuts e' work w w' k h = cuts_by sizes s e' work w w' _ _ k (no_file_is file names b names_are column) (h (Reported ∷ Written Transcript no_file_lines ∷ Stopped (AtFatal fatal.NoFile) ∷ []))
+  pub missing_cuts : (e' : Engine) (book : Book) (w w' : World) (k : Broken) → ((more : List Move) → Cuts sizes s e' book w w' (Written Transcript (report_bytes names b 0 (reports.NoSuchFile file)) ∷ more) k) →
+      Cuts sizes s e' book w w' (no_file file) k
+  missing_cuts e' book w w' k h = cuts_by sizes s e' book w w' _ _ k (no_file_is file names b names_are column) (h (Reported ∷ Written Transcript no_file_lines ∷ Stopped (AtFatal fatal.NoFile) ∷ []))
 
   module _ (u : State) (w w1 w2 : World) (first : Did sizes s u w w1 (Written Transcript (report_bytes names b 0 (reports.NoSuchFile file)) ∷ [])) where
-    pub job_halts : (v : State) (e' : Engine) (work : List Reading) → u.due ≡ [] → Did sizes v (state_of e' work) w1 w2 (Written Transcript no_file_lines ∷ []) → (s.reports ≤ reports_room → made Reported u ≡ v) →
-        Halts sizes s e' work w w2 (no_file file) (AtFatal fatal.NoFile) 0
-    job_halts v e' work due second is =
-        subst (λ (ms : List Move). Halts sizes s e' work w w2 ms (AtFatal fatal.NoFile) 0) (sym (no_file_is file names b names_are column))
-        (ends_behind sizes s u w w1 (report_bytes names b 0 (reports.NoSuchFile file)) first w2 no_file_lines fatal.NoFile v e' work due second is)
+    pub job_halts : (v : State) (e' : Engine) (book : Book) → u.due ≡ [] → Did sizes v (state_of e' book) w1 w2 (Written Transcript no_file_lines ∷ []) → (s.reports ≤ reports_room → made Reported u ≡ v) →
+        Halts sizes s e' book w w2 (no_file file) (AtFatal fatal.NoFile) 0
+    job_halts v e' book due second is =
+        subst (λ (ms : List Move). Halts sizes s e' book w w2 ms (AtFatal fatal.NoFile) 0) (sym (no_file_is file names b names_are column))
+        (ends_behind sizes s u w w1 (report_bytes names b 0 (reports.NoSuchFile file)) first w2 no_file_lines fatal.NoFile v e' book due second is)
 
-    pub job_cuts : (v : State) (e' : Engine) (work : List Reading) (k : Broken) → made Reported u ≡ v → ((more : List Move) → Cuts sizes v e' work w1 w2 (Written Transcript no_file_lines ∷ more) k) → Cuts sizes s e' work w w2 (no_file file) k
-    job_cuts v e' work k is h = cuts_by sizes s e' work w w2 _ _ k (no_file_is file names b names_are column)
-        (cuts_behind sizes s u w w1 (report_bytes names b 0 (reports.NoSuchFile file)) first w2 no_file_lines fatal.NoFile v e' work k is h)
+    pub job_cuts : (v : State) (e' : Engine) (book : Book) (k : Broken) → made Reported u ≡ v → ((more : List Move) → Cuts sizes v e' book w1 w2 (Written Transcript no_file_lines ∷ more) k) → Cuts sizes s e' book w w2 (no_file file) k
+    job_cuts v e' book k is h = cuts_by sizes s e' book w w2 _ _ k (no_file_is file names b names_are column)
+        (cuts_behind sizes s u w w1 (report_bytes names b 0 (reports.NoSuchFile file)) first w2 no_file_lines fatal.NoFile v e' book k is h)
 
 -- the engine counts a report
-pub counted_last : (e : Engine) (work : List Reading) (n : ℕ) → e.reports + 1 ≡ n → made Reported (state_of e work) ≡ state_of (record e { reports = n }) work
-counted_last e work n is = ap (λ (k : ℕ). record (state_of e work) { reports = k }) is
+pub counted_last : (e : Engine) (book : Book) (n : ℕ) → e.reports + 1 ≡ n → made Reported (state_of e book) ≡ state_of (record e { reports = n }) book
+counted_last e book n is = ap (λ (k : ℕ). record (state_of e book) { reports = k }) is
 
 -- WHAT STAYS
 
@@ -239,36 +242,24 @@ frames_still e e' work same h =
     (subst (λ (x : Ask). WorkStands x e.top e.outer.items e.input.gathered work) (sym same.ask) h)))
 
 -- the engine whose readings are as they were
-pub stands_still : (sizes : Sizes) (e e' : Engine) (work : List Reading) → SameFrames e e' → IsSized sizes e' → e'.input.making ≡ None → Stands sizes e work → Stands sizes e' work
-stands_still sizes e e' work same sized idle st = record { sized = sized; idle = idle; readings = frames_still e e' work same st.readings; lone = st.lone }
+pub stands_still : (sizes : Sizes) (e e' : Engine) (book : Book) → SameFrames e e' → IsSound sizes e' book.number book.macros → e'.input.making ≡ None → Stands sizes e book → Stands sizes e' book
+stands_still sizes e e' book same sound idle st = record { sound = sound; idle = idle; readings = frames_still e e' book.work same st.readings; lone = st.lone }
 
 -- or waits, as it did
-pub waits_still : (sizes : Sizes) (e e' : Engine) (work : List Reading) → SameFrames e e' → IsSized sizes e' → e'.input.making ≡ None → Waits sizes e work → Waits sizes e' work
-waits_still sizes e e' work same sized idle st = record {
-  sized = sized;
+pub waits_still : (sizes : Sizes) (e e' : Engine) (book : Book) → SameFrames e e' → IsSound sizes e' book.number book.macros → e'.input.making ≡ None → Waits sizes e book → Waits sizes e' book
+waits_still sizes e e' book same sound idle st = record {
+  sound = sound;
   idle = idle;
   readings =
-      subst (λ (x : List (List Token)). WaitStands e'.top e'.outer.items x work) (sym same.lists)
-      (subst (λ (x : List Waiting). WaitStands e'.top x e.input.gathered work) (sym (ap (λ (o : _). o.items) same.outer))
-      (subst (λ (x : Option Frame). WaitStands x e.outer.items e.input.gathered work) (sym same.top) st.readings));
+      subst (λ (x : List (List Token)). WaitStands e'.top e'.outer.items x book.work) (sym same.lists)
+      (subst (λ (x : List Waiting). WaitStands e'.top x e.input.gathered book.work) (sym (ap (λ (o : _). o.items) same.outer))
+      (subst (λ (x : Option Frame). WaitStands x e.outer.items e.input.gathered book.work) (sym same.top) st.readings));
   lone = st.lone;
 }
 
--- the sizes and the reports are the same
-pub sized_still : (sizes : Sizes) (e e' : Engine) → e'.sizes ≡ e.sizes → e'.outer ≡ e.outer → e'.input.sizes ≡ e.input.sizes → e'.names ≡ e.names → e'.reports ≡ e.reports → IsSized sizes e → IsSized sizes e'
-sized_still sizes e e' own outer input names reports h = record {
-  few_reports = omega (arith, reports, h.few_reports);
-  known = subst (λ (n : _). primitive_count ≤ length n.names) (sym names) h.known;
-  small = h.small;
-  own = own ∙ h.own;
-  outer = ap (λ (o : _). o.size) outer ∙ h.outer;
-  input = input ∙ h.input;
-  names = ap (λ (n : _). n.sizes) names ∙ h.names;
-}
-
-pub ends_still : (sizes : Sizes) (e e' : Engine) (v : reading.Value) (r : Reading) (rs : List Reading) → SameFrames e e' → IsSized sizes e' → e'.input.making ≡ None → EndsHere sizes e v r rs → EndsHere sizes e' v r rs
-ends_still sizes e e' v r rs same sized idle h = record {
-  sized = sized;
+pub ends_still : (sizes : Sizes) (e e' : Engine) (v : reading.Value) (r : Reading) (rs : List Reading) (book : Book) → SameFrames e e' → IsSound sizes e' book.number book.macros → e'.input.making ≡ None → EndsHere sizes e v r rs book → EndsHere sizes e' v r rs book
+ends_still sizes e e' v r rs book same sound idle h = record {
+  sound = sound;
   idle = idle;
   few = subst AtMostOne (sym same.lists) h.few;
   holds = h.holds ∙ sym (ap (length {A = List Token}) same.lists);
@@ -277,16 +268,19 @@ ends_still sizes e e' v r rs same sized idle h = record {
 }
 
 -- with these readings, and the lists that they hold
-pub reads_now : (e e' : Engine) (work work' : List Reading) → SameState e e' → record (state_of e work) { work = work'; gathered = e'.input.gathered } ≡ state_of e' work'
-reads_now e e' work work' same = let h = same.others in cc (same.pending, same.making, h.names, h.categories, h.in_line, h.reports, h.quiet)
+pub reads_now : (e e' : Engine) (book : Book) (work : List Reading) → SameState e e' → record (state_of e book) { work = work; gathered = e'.input.gathered } ≡ state_of e' (with_work work book)
+reads_now e e' book work same = let h = same.others in
+    let pending : pending_of book.number e'.input.pending ≡ pending_of book.number e.input.pending = ap (pending_of book.number) same.pending in
+    let meanings : meanings_of book.number e'.input.meanings ≡ meanings_of book.number e.input.meanings = ap (meanings_of book.number) same.store.meanings in
+    cc (pending, meanings, same.making, h.names, h.categories, h.in_line, h.reports, h.quiet)
 
 -- a report alone
-pub reports_went : (sizes : Sizes) (e e' : Engine) (work : List Reading) (w w' : World) (report : reports.Report) → Stands sizes e' work → Reports sizes (state_of e work) (state_of e' work) w w' (page_of e) report [] →
-    Went sizes (state_of e work) e' w w' (reported (page_of e) report []) 0
-reports_went sizes e e' work w w' report st h = record {
-  work' = work;
+pub reports_went : (sizes : Sizes) (e e' : Engine) (book : Book) (w w' : World) (report : reports.Report) → Stands sizes e' book → Reports sizes (state_of e book) (state_of e' book) w w' (page_of e book) report [] →
+    Went sizes (state_of e book) e' w w' (reported (page_of e book) report []) 0
+reports_went sizes e e' book w w' report st h = record {
+  book' = book;
   stands = st;
-  did = subst (λ (ms : List Move). Did sizes (state_of e work) (state_of e' work) w w' ms) (sym h.moves) h.did;
+  did = subst (λ (ms : List Move). Did sizes (state_of e book) (state_of e' book) w w' ms) (sym h.moves) h.did;
   count = ap steps h.moves;
 }
 
@@ -296,46 +290,58 @@ effect_none s (reading.Say ts) = refl
 effect_none s (reading.SetMacro name long outer ts) = refl
 
 -- the innermost reading ends
-pub ended_state : (e e' : Engine) (r : Reading) (rs : List Reading) (v : reading.Value) → SameState e e' → reading.value_lists v ++ beneath (r ∷ rs) e.input.gathered ≡ e'.input.gathered →
-    made (Ended v) (state_of e (r ∷ rs)) ≡ state_of e' (ended_with v (r ∷ rs))
-ended_state e e' r rs v same lists = ap (λ (l : List (List Token)). record (state_of e (r ∷ rs)) { work = ended_with v (r ∷ rs); gathered = l }) lists ∙ reads_now e e' (r ∷ rs) (ended_with v (r ∷ rs)) same
+pub ended_state : (e e' : Engine) (book : Book) (r : Reading) (rs : List Reading) (v : reading.Value) → SameState e e' → reading.value_lists v ++ beneath (r ∷ rs) e.input.gathered ≡ e'.input.gathered →
+    made (Ended v) (state_of e (with_work (r ∷ rs) book)) ≡ state_of e' (with_work (ended_with v (r ∷ rs)) book)
+ended_state e e' book r rs v same lists = ap (λ (l : List (List Token)). record (state_of e (with_work (r ∷ rs) book)) { work = ended_with v (r ∷ rs); gathered = l }) lists ∙ reads_now e e' (with_work (r ∷ rs) book) (ended_with v (r ∷ rs)) same
 
 -- and so behind moves without a step
-pub ends_behind_moves : (sizes : Sizes) (e e1 e2 : Engine) (r : Reading) (rs : List Reading) (f : FilesTold) (w : World) (s : SinkTold) (ms : List Move) (v : reading.Value) →
-    Did sizes (state_of e (r ∷ rs)) (state_of e1 (r ∷ rs)) w (world_of f s e1) ms → steps ms ≡ 0 → SameState e1 e2 → reading.value_lists v ++ beneath (r ∷ rs) e1.input.gathered ≡ e2.input.gathered → Stands sizes e2 (ended_with v (r ∷ rs)) →
-    Went sizes (state_of e (r ∷ rs)) e2 w (world_of f s e2) (ms ++ Ended v ∷ []) 0
-ends_behind_moves sizes e e1 e2 r rs f w s ms v d n same lists stands = record {
-  work' = ended_with v (r ∷ rs);
+pub ends_behind_moves : (sizes : Sizes) (e e1 e2 : Engine) (book : Book) (r : Reading) (rs : List Reading) (f : FilesTold) (w : World) (s : SinkTold) (ms : List Move) (v : reading.Value) →
+    Did sizes (state_of e (with_work (r ∷ rs) book)) (state_of e1 (with_work (r ∷ rs) book)) w (world_of f s e1) ms → steps ms ≡ 0 → SameState e1 e2 → reading.value_lists v ++ beneath (r ∷ rs) e1.input.gathered ≡ e2.input.gathered → Stands sizes e2 (with_work (ended_with v (r ∷ rs)) book) →
+    Went sizes (state_of e (with_work (r ∷ rs) book)) e2 w (world_of f s e2) (ms ++ Ended v ∷ []) 0
+ends_behind_moves sizes e e1 e2 book r rs f w s ms v d n same lists stands = record {
+  book' = with_work (ended_with v (r ∷ rs)) book;
   stands = stands;
   did = did_join sizes _ _ _ w _ _ ms (Ended v ∷ []) d
-      (did_one sizes (Ended v) _ _ _ _ refl (ended_state e1 e2 r rs v same lists) (quiet_wrote (Ended v) f s e1.in_line e2.in_line tt same.others.in_line));
+      (did_one sizes (Ended v) _ _ _ _ refl (ended_state e1 e2 book r rs v same lists) (quiet_wrote (Ended v) f s e1.in_line e2.in_line tt same.others.in_line));
   count = steps_join ms (Ended v ∷ []) ∙ omega (arith, n);
 }
 
 -- WHAT BECOMES OF A TOKEN
 
 -- a move for which a table has no room: nothing has changed
-pub full_out : (sizes : Sizes) (e e' : Engine) (f : FilesTold) (s : SinkTold) (work : List Reading) (m : Move) (rest : List Move) (full : Full) → e' ≡ e → refusal sizes m (state_of e work) ≡ Some full →
-    Cuts sizes (state_of e work) e' work (world_of f s e) (world_of f s e') (m ∷ rest) (broken.Full full)
-full_out sizes e e' f s work m rest full is refused =
-    subst (λ (x : Engine). Cuts sizes (state_of e work) x work (world_of f s e) (world_of f s x) (m ∷ rest) (broken.Full full)) (sym is)
-    (full_cuts sizes (state_of e work) e work (world_of f s e) m rest full (broken.Full full) refl refused refl)
+pub full_out : (sizes : Sizes) (e e' : Engine) (f : FilesTold) (s : SinkTold) (book : Book) (m : Move) (rest : List Move) (full : Full) → e' ≡ e → refusal sizes m (state_of e book) ≡ Some full →
+    Cuts sizes (state_of e book) e' book (world_of f s e) (world_of f s e') (m ∷ rest) (broken.Full full)
+full_out sizes e e' f s book m rest full is refused =
+    subst (λ (x : Engine). Cuts sizes (state_of e book) x book (world_of f s e) (world_of f s x) (m ∷ rest) (broken.Full full)) (sym is)
+    (full_cuts sizes (state_of e book) e book (world_of f s e) m rest full (broken.Full full) refl refused refl)
 
 -- a move of the readings alone
-pub reading_went : (sizes : Sizes) (e e' : Engine) (work work' : List Reading) (f : FilesTold) (s : SinkTold) (m : Move) → IsQuiet m → step_of m ≡ 0 → refusal sizes m (state_of e work) ≡ None →
-    made m (state_of e work) ≡ record (state_of e work) { work = work'; gathered = e'.input.gathered } → SameState e e' → Stands sizes e' work' → Went sizes (state_of e work) e' (world_of f s e) (world_of f s e') (m ∷ []) 0
-reading_went sizes e e' work work' f s m quiet silent fits is same stands = record {
-  work' = work';
+pub reading_went : (sizes : Sizes) (e e' : Engine) (book : Book) (work : List Reading) (f : FilesTold) (s : SinkTold) (m : Move) → IsQuiet m → step_of m ≡ 0 → refusal sizes m (state_of e book) ≡ None →
+    made m (state_of e book) ≡ record (state_of e book) { work = work; gathered = e'.input.gathered } → SameState e e' → Stands sizes e' (with_work work book) → Went sizes (state_of e book) e' (world_of f s e) (world_of f s e') (m ∷ []) 0
+reading_went sizes e e' book work f s m quiet silent fits is same stands = record {
+  book' = with_work work book;
   stands = stands;
-  did = did_one sizes m _ _ _ _ fits (is ∙ reads_now e e' work work' same) (quiet_wrote m f s e.in_line e'.in_line quiet same.others.in_line);
+  did = did_one sizes m _ _ _ _ fits (is ∙ reads_now e e' book work same) (quiet_wrote m f s e.in_line e'.in_line quiet same.others.in_line);
   count = omega (arith, silent);
 }
 
+-- an engine that has the same input
+pub input_sound : (sizes : Sizes) (e e' : Engine) (book : Book) → e'.input ≡ e.input → (IsSized sizes e → IsSized sizes e') → IsSound sizes e book.number book.macros → IsSound sizes e' book.number book.macros
+input_sound sizes e e' book is sized h = sound_sized sizes e e' book.number book.macros (sized h.sized) (store_is e.input e'.input is) h
+
+-- or that has put a token in front
+pub others_sound : (sizes : Sizes) (e e' : Engine) (book : Book) → SameOthers e e' → SameStore e.input e'.input → IsSound sizes e book.number book.macros → IsSound sizes e' book.number book.macros
+others_sound sizes e e' book others store h = sound_still sizes e e' book.number book.macros others.sizes others.depth others.names others.reports store h
+
+-- an engine that has written
+pub column_sound : (sizes : Sizes) (e e' : Engine) (number : ℕ → ℕ) (macros : List (List Token)) → OnlyColumn e e' → IsSound sizes e number macros → IsSound sizes e' number macros
+column_sound sizes e e' number macros only h = sound_still sizes e e' number macros only.sizes (ap (λ (o : Stack). o.size) only.outer) only.names only.reports (store_is e.input e'.input only.input) h
+
 -- a token's line alone
-column_still : (sizes : Sizes) (e e' : Engine) (work : List Reading) → OnlyColumn e e' → Stands sizes e work → Stands sizes e' work
-column_still sizes e e' work only st =
-    stands_still sizes e e' work (record { outer = only.outer; top = only.top; ask = only.ask; lists = ap (λ (i : _). i.gathered) only.input })
-    (sized_still sizes e e' only.sizes only.outer (ap (λ (i : _). i.sizes) only.input) only.names only.reports st.sized) (ap (λ (i : _). i.making) only.input ∙ st.idle) st
+column_still : (sizes : Sizes) (e e' : Engine) (book : Book) → OnlyColumn e e' → Stands sizes e book → Stands sizes e' book
+column_still sizes e e' book only st =
+    stands_still sizes e e' book (record { outer = only.outer; top = only.top; ask = only.ask; lists = ap (λ (i : _). i.gathered) only.input })
+    (column_sound sizes e e' book.number book.macros only st.sound) (ap (λ (i : _). i.making) only.input ∙ st.idle) st
 
 line_silent : (page : Page) (m : Meaning Unit) → steps (token_line page m) ≡ 0
 line_silent page m = silent page.quiet where
@@ -343,30 +349,30 @@ line_silent page m = silent page.quiet where
   silent true = refl
   silent false = refl
 
-pub line_went : (sizes : Sizes) (e e' : Engine) (work : List Reading) (w w' : World) (m : Meaning Unit) → OnlyColumn e e' → Stands sizes e work → Did sizes (state_of e work) (state_of e' work) w w' (token_line (page_of e) m) →
-    Went sizes (state_of e work) e' w w' (token_line (page_of e) m) 0
-line_went sizes e e' work w w' m only st did = record { work' = work; stands = column_still sizes e e' work only st; did = did; count = line_silent (page_of e) m }
+pub line_went : (sizes : Sizes) (e e' : Engine) (book : Book) (w w' : World) (m : Meaning Unit) → OnlyColumn e e' → Stands sizes e book → Did sizes (state_of e book) (state_of e' book) w w' (token_line (page_of e book) m) →
+    Went sizes (state_of e book) e' w w' (token_line (page_of e book) m) 0
+line_went sizes e e' book w w' m only st did = record { book' = book; stands = column_still sizes e e' book only st; did = did; count = line_silent (page_of e book) m }
 
 -- what is made of a token fits where it is wanted
-pub fits_none : (sizes : Sizes) (e : Engine) (work : List Reading) (x : Seen) (o : Onward) → IsNoFeed o → Takes sizes None e work → FitsOnward sizes x o e work
-fits_none sizes e work x onward.Skip h t = t.1
-fits_none sizes e work x onward.Feed h t = absurd h
-fits_none sizes e work x (onward.Begin k) h t = (t.0, (h, t.1))
-fits_none sizes e work x (onward.Report r) h t = t.1
-fits_none sizes e work x onward.Line h t = t.1
-fits_none sizes e work x onward.Finish h t = t.1
+pub fits_none : (sizes : Sizes) (e : Engine) (book : Book) (x : Seen) (o : Onward) → IsNoFeed o → Takes sizes None e book → FitsOnward sizes x o e book
+fits_none sizes e book x onward.Skip h t = t.1
+fits_none sizes e book x onward.Feed h t = absurd h
+fits_none sizes e book x (onward.Begin k) h t = (t.0, (h, t.1))
+fits_none sizes e book x (onward.Report r) h t = t.1
+fits_none sizes e book x onward.Line h t = t.1
+fits_none sizes e book x onward.Finish h t = t.1
 
-pub fits_some : (sizes : Sizes) (e : Engine) (want : ScanWant) (work : List Reading) (x : Seen) (o : Onward) → is_built x.meaning ≡ true → IsNoBegin o → Takes sizes (Some want) e work → FitsOnward sizes x o e work
-fits_some sizes e want work x onward.Skip built h t = t.1
-fits_some sizes e want work x onward.Feed built h t = record { want = want; asks = t.0; built = built; stands = t.1 }
-fits_some sizes e want work x (onward.Begin k) built h t = absurd h
-fits_some sizes e want work x (onward.Report r) built h t = t.1
-fits_some sizes e want work x onward.Line built h t = t.1
-fits_some sizes e want work x onward.Finish built h t = t.1
+pub fits_some : (sizes : Sizes) (e : Engine) (want : ScanWant) (book : Book) (x : Seen) (o : Onward) → is_built x.meaning ≡ true → IsNoBegin o → Takes sizes (Some want) e book → FitsOnward sizes x o e book
+fits_some sizes e want book x onward.Skip built h t = t.1
+fits_some sizes e want book x onward.Feed built h t = record { want = want; asks = t.0; built = built; stands = t.1 }
+fits_some sizes e want book x (onward.Begin k) built h t = absurd h
+fits_some sizes e want book x (onward.Report r) built h t = t.1
+fits_some sizes e want book x onward.Line built h t = t.1
+fits_some sizes e want book x onward.Finish built h t = t.1
 
 -- where no reading is open, a command begins
-pub lone_first : (sizes : Sizes) (e : Engine) (r : Reading) (work : List Reading) → e.top ≡ None → IsCommand r.kind → Stands sizes e work → IsLone (r ∷ work)
-lone_first sizes e r work top is st = at work (subst (λ (t : Option Frame). WorkStands e.ask t e.outer.items e.input.gathered work) top st.readings) where
+pub lone_first : (sizes : Sizes) (e : Engine) (r : Reading) (book : Book) → e.top ≡ None → IsCommand r.kind → Stands sizes e book → IsLone (r ∷ book.work)
+lone_first sizes e r book top is st = at book.work (subst (λ (t : Option Frame). WorkStands e.ask t e.outer.items e.input.gathered book.work) top st.readings) where
   at : (work : List Reading) → WorkStands e.ask None e.outer.items e.input.gathered work → IsLone (r ∷ work)
   at [] w = is
   at (s ∷ rs) w = absurd w

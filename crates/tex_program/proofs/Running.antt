@@ -3,14 +3,15 @@ use Rattle.std.proofs.Common.{◌≡◌, ℕ, ◌+◌, ◌≤◌, List, [], ◌�
 use Rattle.std.specs.Prelude.{Option, Some, None}
 use Rattle.tex_defs.specs.Places.{World}
 use Rattle.tex_defs.specs.declared.Sizes.{Sizes}
-use Rattle.plain_state.specs.Pending.{settle}
+use Rattle.plain_state.specs.Pending.{Pending, settle}
 use Rattle.plain_state.specs.States.{State, Move, Reading, Settled}
 use Rattle.plain_machine.specs.Runs.{steps}
 use Rattle.plain_machine.specs.Bounded.{Comes, End}
 use Rattle.plain_machine.specs.Does.{CutAt, Why, IsFull, IsFault, IsWant, but_due}
 use Rattle.plain_machine.proofs.Doing.{wrote_join, wrote_none, plan_did, steps_end, steps_wrote, CutOff, plan_cut, cut_behind, cut_within}
 use Rattle.plain_machine.proofs.Joins.{fits_join, steps_join, stopped_ends, StepComes}
-use Rattle.input_state.specs.Stored.{Stored}
+use Rattle.plain_machine.proofs.Renumbering.{settle_of}
+use Rattle.input_state.specs.Stored.{Stored, KeepsMacros}
 use Rattle.tex_program.specs.declared.engine.Engine.{Engine}
 use Rattle.tex_program.specs.declared.engine.Ruled.{Ruled}
 use Rattle.tex_program.specs.declared.engine.Ruled.TheVariants as ruled
@@ -20,67 +21,69 @@ use Rattle.tex_program.specs.declared.reactions.Outcome.{Outcome}
 use Rattle.tex_program.specs.declared.broken.Broken.{Broken}
 use Rattle.tex_program.specs.Begins.{outcome_of}
 use Rattle.tex_program.specs.Faults.{why_of}
+use Rattle.tex_program.specs.Book.{Book}
 use Rattle.tex_program.specs.Stands.{Stands, SameFrames, state_of}
 use Rattle.tex_program.specs.Steps.{IsHalted, StepsIf}
 use Rattle.tex_program.specs.Rules.{DoesRule, Went, Halts, Cuts, IsMoment, plan_of}
 use Rattle.tex_program.specs.Ran.{Came, Stops, Settles, Ran, IsAt, CutBy, end_of}
-use Rattle.tex_program.proofs.Reporting.{frames_still}
+use Rattle.tex_program.proofs.Reporting.{frames_still, stands_still}
+use Rattle.tex_program.proofs.Storing.{store_settled, sound_still}
 
-pub came_none : (sizes : Sizes) (e : Engine) (work : List Reading) (w : World) → Stands sizes e work → Came sizes (state_of e work) e w w 0
-came_none sizes e work w stands = record { ms = []; work' = work; stands = stands; moves = refl; count = refl; written = wrote_none w }
+pub came_none : (sizes : Sizes) (e : Engine) (book : Book) (w : World) → Stands sizes e book → Came sizes (state_of e book) e w w 0
+came_none sizes e book w stands = record { ms = []; book' = book; stands = stands; moves = refl; count = refl; written = wrote_none w }
 
 -- behind this much of a run
 module _ (sizes : Sizes) (s : State) (e e' : Engine) (w w' w'' : World) (k : ℕ) (came : Came sizes s e w w' k) where
-  pub came_on : (n : ℕ) → ((work : List Reading) → Stands sizes e work → Went sizes (state_of e work) e' w' w'' (plan_of e work) n) → Came sizes s e' w w'' (k + n)
+  pub came_on : (n : ℕ) → ((book : Book) → Stands sizes e book → Went sizes (state_of e book) e' w' w'' (plan_of e book) n) → Came sizes s e' w w'' (k + n)
   came_on n does =
-      let went = does came.work' came.stands in
-      let plan : List Move = plan_of e came.work' in
+      let went = does came.book' came.stands in
+      let plan : List Move = plan_of e came.book' in
       record {
         ms = came.ms ++ plan;
-        work' = went.work';
+        book' = went.book';
         stands = went.stands;
-        moves = fits_join sizes s (state_of e came.work') (state_of e' went.work') came.ms plan came.moves (plan_did sizes (state_of e came.work') (state_of e' went.work') w' w'' plan refl refl went.did);
+        moves = fits_join sizes s (state_of e came.book') (state_of e' went.book') came.ms plan came.moves (plan_did sizes (state_of e came.book') (state_of e' went.book') w' w'' plan refl refl went.did);
         count = steps_join came.ms plan ∙ omega (arith, came.count, went.count);
         written = wrote_join w w' w'' came.ms plan came.written went.did.written;
       }
 
-  pub came_halts : (j : ℕ) (o : Outcome) → ((work : List Reading) → Stands sizes e work → Halts sizes (state_of e work) e' work w' w'' (plan_of e work) (outcome_of o) 1) → SameFrames e e' →
-      ((work : List Reading) → Stands sizes e work → steps (plan_of e work) ≡ j) → Stops sizes s e' w w'' (k + j) o
+  pub came_halts : (j : ℕ) (o : Outcome) → ((book : Book) → Stands sizes e book → Halts sizes (state_of e book) e' book w' w'' (plan_of e book) (outcome_of o) 1) → SameFrames e e' →
+      ((book : Book) → Stands sizes e book → steps (plan_of e book) ≡ j) → Stops sizes s e' w w'' (k + j) o
   came_halts j o does same count =
-      let halts = does came.work' came.stands in
-      let plan : List Move = plan_of e came.work' in
+      let halts = does came.book' came.stands in
+      let plan : List Move = plan_of e came.book' in
       record {
         ms = came.ms ++ plan;
         t = halts.t;
-        moves = fits_join sizes s (state_of e came.work') halts.t came.ms plan came.moves (plan_did sizes (state_of e came.work') halts.t w' w'' plan refl refl halts.did);
-        within = omega (arith, steps_join came.ms plan, came.count, count came.work' came.stands);
+        moves = fits_join sizes s (state_of e came.book') halts.t came.ms plan came.moves (plan_did sizes (state_of e came.book') halts.t w' w'' plan refl refl halts.did);
+        within = omega (arith, steps_join came.ms plan, came.count, count came.book' came.stands);
         ends = stopped_ends halts.t (outcome_of o) halts.due halts.stopped;
         stopped = halts.stopped;
         reports = halts.reports;
-        stands = record { work' = came.work'; frames = frames_still e e' came.work' same came.stands.readings; same = halts.same came.stands.sized.few_reports };
+        stands = record { book' = came.book'; frames = frames_still e e' came.book'.work same came.stands.readings; same = halts.same came.stands.sound.sized.few_reports };
         written = wrote_join w w' w'' came.ms plan came.written halts.did.written;
       }
 
   -- one part of a run behind another
-  pub came_join : (j : ℕ) → ((work : List Reading) → Stands sizes e work → Came sizes (state_of e work) e' w' w'' j) → Came sizes s e' w w'' (k + j)
+  pub came_join : (j : ℕ) → ((book : Book) → Stands sizes e book → Came sizes (state_of e book) e' w' w'' j) → Came sizes s e' w w'' (k + j)
   came_join j on =
-      let h = on came.work' came.stands in
+      let h = on came.book' came.stands in
       record {
         ms = came.ms ++ h.ms;
-        work' = h.work';
+        book' = h.book';
         stands = h.stands;
-        moves = fits_join sizes s (state_of e came.work') (state_of e' h.work') came.ms h.ms came.moves h.moves;
+        moves = fits_join sizes s (state_of e came.book') (state_of e' h.book') came.ms h.ms came.moves h.moves;
         count = steps_join came.ms h.ms ∙ omega (arith, came.count, h.count);
         written = wrote_join w w' w'' came.ms h.ms came.written h.written;
       }
 
-  pub stops_join : (j : ℕ) (o : Outcome) → ((work : List Reading) → Stands sizes e work → Stops sizes (state_of e work) e' w' w'' j o) → Stops sizes s e' w w'' (k + j) o
+  pub stops_join : (j : ℕ) (o : Outcome) → ((book : Book) → Stands sizes e book → Stops sizes (state_of e book) e' w' w'' j o) → Stops sizes s e' w w'' (k + j) o
   stops_join j o on =
-      let h = on came.work' came.stands in
+      let h = on came.book' came.stands in
       record {
         ms = came.ms ++ h.ms;
         t = h.t;
-        moves = fits_join sizes s (state_of e came.work') h.t came.ms h.ms came.moves h.moves;
+        moves = fits_join sizes s (state_of e came.book') h.t came.ms h.ms came.moves h.moves;
         within = omega (arith, steps_join came.ms h.ms, came.count, h.within);
         ends = h.ends;
         stopped = h.stopped;
@@ -90,28 +93,28 @@ module _ (sizes : Sizes) (s : State) (e e' : Engine) (w w' w'' : World) (k : ℕ
       }
 
   -- and a run that is cut off
-  cut_on : (j n : ℕ) (t : State) (why : Why) → k + j ≤ n → CutAt sizes (state_of e came.work') j t w' w'' why → CutAt sizes s n t w w'' why
+  cut_on : (j n : ℕ) (t : State) (why : Why) → k + j ≤ n → CutAt sizes (state_of e came.book') j t w' w'' why → CutAt sizes s n t w w'' why
   cut_on j n t why le cut =
-      cut_within sizes s t (k + j) n w w'' why le (cut_behind sizes s (state_of e came.work') t k j w w' w'' came.ms why came.moves (omega (arith, came.count)) came.written cut)
+      cut_within sizes s t (k + j) n w w'' why le (cut_behind sizes s (state_of e came.book') t k j w w' w'' came.ms why came.moves (omega (arith, came.count)) came.written cut)
 
-  pub cut_by_join : (j n : ℕ) (b : Broken) → k + j ≤ n → ((work : List Reading) → Stands sizes e work → CutBy sizes (state_of e work) j e' w' w'' b) → CutBy sizes s n e' w w'' b
+  pub cut_by_join : (j n : ℕ) (b : Broken) → k + j ≤ n → ((book : Book) → Stands sizes e book → CutBy sizes (state_of e book) j e' w' w'' b) → CutBy sizes s n e' w w'' b
   cut_by_join j n b le on =
-      let h = on came.work' came.stands in
-      record { t = h.t; cut = cut_on j n h.t (why_of b) le h.cut; work' = h.work'; frames = h.frames; same = h.same }
+      let h = on came.book' came.stands in
+      record { t = h.t; cut = cut_on j n h.t (why_of b) le h.cut; book' = h.book'; frames = h.frames; same = h.same }
 
   -- and a whole run
   comes_on : (i j n : ℕ) (t : State) (end : End) → j ≡ i → Comes sizes i n t end → Comes sizes j n t end
   comes_on i j n t end is h = subst (λ (x : ℕ). Comes sizes x n t end) (sym is) h
 
-  pub ran_join : (n : ℕ) (ended : Ended) → k ≡ 0 → ((work : List Reading) → Stands sizes e work → Ran sizes (state_of e work) n e' w' w'' ended) → Ran sizes s n e' w w'' ended
+  pub ran_join : (n : ℕ) (ended : Ended) → k ≡ 0 → ((book : Book) → Stands sizes e book → Ran sizes (state_of e book) n e' w' w'' ended) → Ran sizes s n e' w w'' ended
   ran_join n ended none on =
-      let h = on came.work' came.stands in
+      let h = on came.book' came.stands in
       let same : steps (came.ms ++ h.ms) ≡ steps h.ms = steps_join came.ms h.ms ∙ omega (arith, came.count, none) in
       record {
         ms = came.ms ++ h.ms;
         t = h.t;
         run = record {
-          moves = fits_join sizes s (state_of e came.work') h.t came.ms h.ms came.moves h.run.moves;
+          moves = fits_join sizes s (state_of e came.book') h.t came.ms h.ms came.moves h.run.moves;
           within = omega (arith, same, h.run.within);
           whole = comes_on (steps h.ms) (steps (came.ms ++ h.ms)) n h.t (end_of ended) same h.run.whole;
         };
@@ -126,11 +129,11 @@ same_moment IsFault t at s e h = ap (λ (x : State). record x { in_line = s.in_l
 same_moment IsWant t at s e h = ap (λ (x : State). record x { in_line = s.in_line }) e ∙ ap but_due h
 
 -- a rule that is cut off
-pub rule_cut : (sizes : Sizes) (e e' : Engine) (work : List Reading) (w w' : World) (n : ℕ) (b : Broken) → steps (plan_of e work) ≤ n → SameFrames e e' → Stands sizes e work →
-    Cuts sizes (state_of e work) e' work w w' (plan_of e work) b → CutBy sizes (state_of e work) n e' w w' b
-rule_cut sizes e e' work w w' n b le same stands h =
-    let off : CutOff sizes (state_of e work) h.at n w w' (why_of b) = plan_cut sizes (state_of e work) h.at n w w' (plan_of e work) (why_of b) h.cut le refl refl in
-    record { t = off.t; cut = off.cut; work' = work; frames = frames_still e e' work same stands.readings; same = same_moment (why_of b) off.t h.at (state_of e' work) off.same h.same }
+pub rule_cut : (sizes : Sizes) (e e' : Engine) (book : Book) (w w' : World) (n : ℕ) (b : Broken) → steps (plan_of e book) ≤ n → SameFrames e e' → Stands sizes e book →
+    Cuts sizes (state_of e book) e' book w w' (plan_of e book) b → CutBy sizes (state_of e book) n e' w w' b
+rule_cut sizes e e' book w w' n b le same stands h =
+    let off : CutOff sizes (state_of e book) h.at n w w' (why_of b) = plan_cut sizes (state_of e book) h.at n w w' (plan_of e book) (why_of b) h.cut le refl refl in
+    record { t = off.t; cut = off.cut; book' = book; frames = frames_still e e' book.work same stands.readings; same = same_moment (why_of b) off.t h.at (state_of e' book) off.same h.same }
 
 -- THE END OF A RUN
 
@@ -145,48 +148,47 @@ stops_whole sizes s e' w w' k n o le h = record {
 }
 
 -- where the finished lists in front have gone
-module _ (sizes : Sizes) (e : Engine) (i : Stored) (is : i ≡ record e.input { pending = settle e.input.pending }) where
+module _ (sizes : Sizes) (e : Engine) (i : Stored) (is : i ≡ record e.input { pending = settle e.input.pending; lists = i.lists }) (kept : KeepsMacros e.input i) where
   abbrev settled_engine : Engine
   settled_engine = record e { input = i }
 
-  settled_stands : (work : List Reading) → Stands sizes e work → Stands sizes settled_engine work
-  settled_stands work h = subst (λ (x : Stored). Stands sizes (record e { input = x }) work) (sym is) (record {
-    sized = record { few_reports = h.sized.few_reports; known = h.sized.known; small = h.sized.small; own = h.sized.own; outer = h.sized.outer; input = h.sized.input; names = h.sized.names };
-    idle = h.idle;
-    readings = h.readings;
-    lone = h.lone;
-  })
+  settled_frames : SameFrames e settled_engine
+  settled_frames = record { outer = refl; top = refl; ask = refl; lists = ap (λ (x : Stored). x.gathered) is }
 
-  settled_at : (work : List Reading) (c : StepComes sizes (state_of e work)) → Stands sizes e work → IsAt sizes settled_engine c.t
-  settled_at work c stands = record {
-    work' = work;
-    stands = settled_stands work stands;
-    same = c.same ∙ ap (λ (x : Stored). state_of (record e { input = x }) work) (sym is);
+  settled_stands : (book : Book) → Stands sizes e book → Stands sizes settled_engine book
+  settled_stands book h = stands_still sizes e settled_engine book settled_frames
+      (sound_still sizes e settled_engine book.number book.macros refl refl refl refl (store_settled e.input i is kept) h.sound) (ap (λ (x : Stored). x.making) is ∙ h.idle) h
+
+  settled_at : (book : Book) (c : StepComes sizes (state_of e book)) → Stands sizes e book → IsAt sizes settled_engine c.t
+  settled_at book c stands = record {
+    book' = book;
+    stands = settled_stands book stands;
+    same = c.same ∙ ap (λ (p : Pending). record (state_of e book) { pending = p }) (settle_of book.number e.input.pending) ∙ ap (λ (x : Stored). state_of (record e { input = x }) book) (sym is);
   }
 
   -- the steps were taken, and one more is needed
-  pub came_whole : (s : State) (w w' : World) (n : ℕ) → Came sizes s e w w' n → ((work : List Reading) → Stands sizes e work → StepComes sizes (state_of e work)) → Ran sizes s n settled_engine w w' ended.Steps
+  pub came_whole : (s : State) (w w' : World) (n : ℕ) → Came sizes s e w w' n → ((book : Book) → Stands sizes e book → StepComes sizes (state_of e book)) → Ran sizes s n settled_engine w w' ended.Steps
   came_whole s w w' n came needs =
-      let c : StepComes sizes (state_of e came.work') = needs came.work' came.stands in
+      let c : StepComes sizes (state_of e came.book') = needs came.book' came.stands in
       record {
         ms = came.ms ++ Settled ∷ [];
         t = c.t;
-        run = steps_end sizes s (state_of e came.work') n came.ms came.moves came.count c;
-        ends = settled_at came.work' c came.stands;
+        run = steps_end sizes s (state_of e came.book') n came.ms came.moves came.count c;
+        ends = settled_at came.book' c came.stands;
         written = steps_wrote w w' came.ms came.written;
       }
 
 -- WHAT A RULE ANSWERED
 
-module _ (sizes : Sizes) (s : State) (e' : Engine) (w w' : World) (plan : List Move) (r : Ruled) where
-  pub as_step : r ≡ ruled.Step → DoesRule sizes s e' w w' plan r → Went sizes s e' w w' plan 1
-  as_step is h = subst (λ (x : Ruled). DoesRule sizes s e' w w' plan x) is h
+module _ (sizes : Sizes) (s : State) (e' : Engine) (book : Book) (w w' : World) (plan : List Move) (r : Ruled) where
+  pub as_step : r ≡ ruled.Step → DoesRule sizes s e' book w w' plan r → Went sizes s e' w w' plan 1
+  as_step is h = subst (λ (x : Ruled). DoesRule sizes s e' book w w' plan x) is h
 
-  pub as_free : r ≡ ruled.Free → DoesRule sizes s e' w w' plan r → Went sizes s e' w w' plan 0
-  as_free is h = subst (λ (x : Ruled). DoesRule sizes s e' w w' plan x) is h
+  pub as_free : r ≡ ruled.Free → DoesRule sizes s e' book w w' plan r → Went sizes s e' w w' plan 0
+  as_free is h = subst (λ (x : Ruled). DoesRule sizes s e' book w w' plan x) is h
 
-  pub as_halted : (o : Outcome) → r ≡ ruled.Halted o → DoesRule sizes s e' w w' plan r → Halts sizes s e' s.work w w' plan (outcome_of o) 1
-  as_halted o is h = subst (λ (x : Ruled). DoesRule sizes s e' w w' plan x) is h
+  pub as_halted : (o : Outcome) → r ≡ ruled.Halted o → DoesRule sizes s e' book w w' plan r → Halts sizes s e' book w w' plan (outcome_of o) 1
+  as_halted o is h = subst (λ (x : Ruled). DoesRule sizes s e' book w w' plan x) is h
 
 pub when_halted : (r : Ruled) (o : Outcome) → r ≡ ruled.Halted o → IsHalted r
 when_halted r o is = subst IsHalted (sym is) tt

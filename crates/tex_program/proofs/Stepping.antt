@@ -16,13 +16,15 @@ use Rattle.plain_state.specs.Puts.{Item, Put as PutList, call_put}
 use Rattle.plain_state.specs.Arguments.{has_parameters, arguments_in, work_in}
 use Rattle.plain_state.specs.Lookup.{token_of, new_name}
 use Rattle.plain_state.specs.Readings as reading
-use Rattle.plain_state.specs.Pending.{Pulled, TokenFrom, LexemeFrom, LineTaken, InvalidMet, FileOver, NothingLeft, pulled}
+use Rattle.plain_state.specs.Pending.{Pending, Pulled, TokenFrom, LexemeFrom, LineTaken, InvalidMet, FileOver, NothingLeft, pulled}
 use Rattle.plain_state.specs.States.{State, Move, Reading, Handed, Taken, Grows, Feeds, Noted, Completed, Begun, Ended, Written, Stopped, AtFatal}
 use Rattle.plain_state.specs.Reports as reports
 use Rattle.plain_state.specs.Reports.{Scanned, hundred_line}
 use Rattle.plain_machine.specs.Plan.{Page, page_of, plan, handed, met, met_outer, entered, enters_names, Scanning, scanning, checked, check_noted, ran_away, away_text, without_file, page_behind, reported, reports_room, told, is_told, noting, token_line, finish, stomach, command, primitive, called, called_meaning, called_list, put_body, body_put, wanted, expanded, expanded_as, feeding, feeding_kind, grown_to, opened, in_place, argument_fed, answered, begun, begun_with, last_seen, given_back, put_all, effect}
+use Rattle.plain_machine.specs.Numbers.{pending_of, pulled_of}
 use Rattle.plain_machine.specs.Runs.{steps}
 use Rattle.plain_machine.proofs.Joins.{StepComes, plan_needs, steps_join}
+use Rattle.plain_machine.proofs.Renumbering.{pulled_same}
 use Rattle.frames.specs.declared.scan.Ask.{Ask}
 use Rattle.frames.specs.declared.scan.Ask.TheVariants.{More, Inner, Done, Act, Tells}
 use Rattle.frames.specs.declared.frame.Frame.{Frame}
@@ -30,6 +32,7 @@ use Rattle.frames.specs.Sees.{ask_of, want_of, effect_of, value_of, kind_of}
 use Rattle.transcript.specs.Reported.{report_of}
 use Rattle.input_state.specs.Reads.{gives_step}
 use Rattle.tex_program.specs.declared.engine.Engine.{Engine}
+use Rattle.tex_program.specs.Book.{Book, with_work}
 use Rattle.tex_program.specs.Stands.{Stands, WorkStands, state_of}
 use Rattle.tex_program.specs.Steps.{stepping, wants_token}
 use Rattle.tex_program.specs.Rules.{plan_of, feeds_of}
@@ -208,32 +211,48 @@ handed_steps page enters o onward (InvalidMet q) h = omega (arith, reported_none
 handed_steps page enters o onward (FileOver q) h = omega (arith, checked_none (without_file page) o)
 handed_steps page enters o onward NothingLeft h = refl
 
-answer_steps : (e : Engine) (work : List Reading) (r : Reading) (f : Frame) (a : Ask) →
-    steps (answered (state_of e work) work r (ask_of e.input.gathered a)) ≡ one_if (wants_token (Some f) a && gives_step (pulled e.categories e.input.pending))
-answer_steps e work r f (More w) = let page = page_of (state_of e work) in
-    handed_steps page (enters_names (want_of w)) (scanning work e.input.gathered) (λ x. wanted page (want_of w) (feeding r x) x) (pulled e.categories e.input.pending) (λ x. wanted_none page (want_of w) (feeding r x) x (kind_none r.kind r.fed x))
-answer_steps e work r f (Inner waits k begins) = begun_none (kind_of k) (is_some begins) r
-answer_steps e work r f (Done v back) = steps_join (given_back (is_some back) r.fed) (Ended (value_of e.input.gathered v) ∷ []) ∙ omega (arith, back_none (is_some back) r.fed)
-answer_steps e work r f (Act ef) =
-    steps_join (effect (state_of e work) (effect_of e.input.gathered ef)) (Ended (reading.Flag true) ∷ []) ∙ omega (arith, effect_none (state_of e work) (effect_of e.input.gathered ef))
-answer_steps e work r f (Tells report back) = told_none (page_of (state_of e work)) (report_of report) (is_some back) r
+-- it gives a step under other numbers too
+step_same : (number : ℕ → ℕ) (r : Pulled) → gives_step (pulled_of number r) ≡ gives_step r
+step_same number (TokenFrom t q) = refl
+step_same number (LexemeFrom x q) = refl
+step_same number (LineTaken l q) = refl
+step_same number (InvalidMet q) = refl
+step_same number (FileOver q) = refl
+step_same number NothingLeft = refl
 
-steps_at : (e : Engine) (x : Option Frame) (work : List Reading) → WorkStands e.ask x e.outer.items e.input.gathered work → steps (plan_of e work) ≡ one_if (wants_token x e.ask && gives_step (pulled e.categories e.input.pending))
-steps_at e None [] h = let page = page_of (state_of e []) in handed_steps page false None (stomach page) (pulled e.categories e.input.pending) (λ x. command_none page x.token x.meaning)
-steps_at e None (r ∷ rs) h = absurd h
-steps_at e (Some f) [] h = absurd h
-steps_at e (Some f) (r ∷ rs) h = rw (← h.0.asked) (answer_steps e (r ∷ rs) r f e.ask)
+pub gives_same : (number : ℕ → ℕ) (categories : List ℕ) (p : Pending) → gives_step (pulled categories (pending_of number p)) ≡ gives_step (pulled categories p)
+gives_same number categories p = ap gives_step (pulled_same number categories p) ∙ step_same number (pulled categories p)
 
-plan_steps : (sizes : Sizes) (e : Engine) (work : List Reading) → Stands sizes e work → steps (plan_of e work) ≡ one_if (stepping e)
-plan_steps sizes e work h = steps_at e e.top work h.readings
+handed_now : (e : Engine) (book : Book) (page : Page) (enters : Bool) (o : Option Scanning) (onward : Seen → List Move) → ((x : Seen) → steps (onward x) ≡ 0) →
+    steps (handed page enters o onward (pulled e.categories (pending_of book.number e.input.pending))) ≡ one_if (gives_step (pulled e.categories e.input.pending))
+handed_now e book page enters o onward h = handed_steps page enters o onward (pulled e.categories (pending_of book.number e.input.pending)) h ∙ ap one_if (gives_same book.number e.categories e.input.pending)
+
+answer_steps : (e : Engine) (book : Book) (r : Reading) (f : Frame) (a : Ask) →
+    steps (answered (state_of e book) book.work r (ask_of e.input.gathered a)) ≡ one_if (wants_token (Some f) a && gives_step (pulled e.categories e.input.pending))
+answer_steps e book r f (More w) = let page = page_of (state_of e book) in
+    handed_now e book page (enters_names (want_of w)) (scanning book.work e.input.gathered) (λ x. wanted page (want_of w) (feeding r x) x) (λ x. wanted_none page (want_of w) (feeding r x) x (kind_none r.kind r.fed x))
+answer_steps e book r f (Inner waits k begins) = begun_none (kind_of k) (is_some begins) r
+answer_steps e book r f (Done v back) = steps_join (given_back (is_some back) r.fed) (Ended (value_of e.input.gathered v) ∷ []) ∙ omega (arith, back_none (is_some back) r.fed)
+answer_steps e book r f (Act ef) =
+    steps_join (effect (state_of e book) (effect_of e.input.gathered ef)) (Ended (reading.Flag true) ∷ []) ∙ omega (arith, effect_none (state_of e book) (effect_of e.input.gathered ef))
+answer_steps e book r f (Tells report back) = told_none (page_of (state_of e book)) (report_of report) (is_some back) r
+
+steps_at : (e : Engine) (x : Option Frame) (book : Book) (work : List Reading) → WorkStands e.ask x e.outer.items e.input.gathered work → steps (plan_of e (with_work work book)) ≡ one_if (wants_token x e.ask && gives_step (pulled e.categories e.input.pending))
+steps_at e None book [] h = let page = page_of (state_of e (with_work [] book)) in handed_now e book page false None (stomach page) (λ x. command_none page x.token x.meaning)
+steps_at e None book (r ∷ rs) h = absurd h
+steps_at e (Some f) book [] h = absurd h
+steps_at e (Some f) book (r ∷ rs) h = rw (← h.0.asked) (answer_steps e (with_work (r ∷ rs) book) r f e.ask)
+
+plan_steps : (sizes : Sizes) (e : Engine) (book : Book) → Stands sizes e book → steps (plan_of e book) ≡ one_if (stepping e)
+plan_steps sizes e book h = steps_at e e.top book book.work h.readings
 
 -- a rule that begins with no step has none
-pub plan_silent : (sizes : Sizes) (e : Engine) → stepping e ≡ false → (work : List Reading) → Stands sizes e work → steps (plan_of e work) ≡ 0
-plan_silent sizes e g work h = plan_steps sizes e work h ∙ ap one_if g
+pub plan_silent : (sizes : Sizes) (e : Engine) → stepping e ≡ false → (book : Book) → Stands sizes e book → steps (plan_of e book) ≡ 0
+plan_silent sizes e g book h = plan_steps sizes e book h ∙ ap one_if g
 
 -- and one that does has one
-pub plan_one : (sizes : Sizes) (e : Engine) → stepping e ≡ true → (work : List Reading) → Stands sizes e work → steps (plan_of e work) ≡ 1
-plan_one sizes e g work h = plan_steps sizes e work h ∙ ap one_if g
+pub plan_one : (sizes : Sizes) (e : Engine) → stepping e ≡ true → (book : Book) → Stands sizes e book → steps (plan_of e book) ≡ 1
+plan_one sizes e g book h = plan_steps sizes e book h ∙ ap one_if g
 
 -- A STEP COMES
 
@@ -246,20 +265,25 @@ module _ (sizes : Sizes) where
   needs_of s page enters o onward (FileOver q) e f g = cc
   needs_of s page enters o onward NothingLeft e f g = cc
 
-  answer_needs : (e : Engine) (work : List Reading) (r : Reading) (f : Frame) (a : Ask) → plan_of e work ≡ answered (state_of e work) work r (ask_of e.input.gathered a) →
-      (wants_token (Some f) a && gives_step (pulled e.categories e.input.pending)) ≡ true → StepComes sizes (state_of e work)
-  answer_needs e work r f (More w) h g = let page = page_of (state_of e work) in
-      needs_of (state_of e work) page (enters_names (want_of w)) (scanning work e.input.gathered) (λ x. wanted page (want_of w) (feeding r x) x) (pulled e.categories e.input.pending) refl h g
-  answer_needs e work r f (Inner waits k begins) h g = cc
-  answer_needs e work r f (Done v back) h g = cc
-  answer_needs e work r f (Act ef) h g = cc
-  answer_needs e work r f (Tells report back) h g = cc
+  pulled_needs : (e : Engine) (book : Book) (page : Page) (enters : Bool) (o : Option Scanning) (onward : Seen → List Move) → plan_of e book ≡ handed page enters o onward (pulled e.categories (pending_of book.number e.input.pending)) →
+      gives_step (pulled e.categories e.input.pending) ≡ true → StepComes sizes (state_of e book)
+  pulled_needs e book page enters o onward h g =
+      needs_of (state_of e book) page enters o onward (pulled e.categories (pending_of book.number e.input.pending)) refl h (gives_same book.number e.categories e.input.pending ∙ g)
 
-  needs_at : (e : Engine) (x : Option Frame) (work : List Reading) → WorkStands e.ask x e.outer.items e.input.gathered work → (wants_token x e.ask && gives_step (pulled e.categories e.input.pending)) ≡ true → StepComes sizes (state_of e work)
-  needs_at e None [] h g = let page = page_of (state_of e []) in needs_of (state_of e []) page false None (stomach page) (pulled e.categories e.input.pending) refl refl g
-  needs_at e None (r ∷ rs) h g = absurd h
-  needs_at e (Some f) [] h g = absurd h
-  needs_at e (Some f) (r ∷ rs) h g = answer_needs e (r ∷ rs) r f e.ask (ap (answered (state_of e (r ∷ rs)) (r ∷ rs) r) (sym h.0.asked)) g
+  answer_needs : (e : Engine) (book : Book) (r : Reading) (f : Frame) (a : Ask) → plan_of e book ≡ answered (state_of e book) book.work r (ask_of e.input.gathered a) →
+      (wants_token (Some f) a && gives_step (pulled e.categories e.input.pending)) ≡ true → StepComes sizes (state_of e book)
+  answer_needs e book r f (More w) h g = let page = page_of (state_of e book) in
+      pulled_needs e book page (enters_names (want_of w)) (scanning book.work e.input.gathered) (λ x. wanted page (want_of w) (feeding r x) x) h g
+  answer_needs e book r f (Inner waits k begins) h g = cc
+  answer_needs e book r f (Done v back) h g = cc
+  answer_needs e book r f (Act ef) h g = cc
+  answer_needs e book r f (Tells report back) h g = cc
 
-  pub stepping_needs : (e : Engine) → stepping e ≡ true → (work : List Reading) → Stands sizes e work → StepComes sizes (state_of e work)
-  stepping_needs e g work h = needs_at e e.top work h.readings g
+  needs_at : (e : Engine) (x : Option Frame) (book : Book) (work : List Reading) → WorkStands e.ask x e.outer.items e.input.gathered work → (wants_token x e.ask && gives_step (pulled e.categories e.input.pending)) ≡ true → StepComes sizes (state_of e (with_work work book))
+  needs_at e None book [] h g = let page = page_of (state_of e (with_work [] book)) in pulled_needs e (with_work [] book) page false None (stomach page) refl g
+  needs_at e None book (r ∷ rs) h g = absurd h
+  needs_at e (Some f) book [] h g = absurd h
+  needs_at e (Some f) book (r ∷ rs) h g = answer_needs e (with_work (r ∷ rs) book) r f e.ask (ap (answered (state_of e (with_work (r ∷ rs) book)) (r ∷ rs) r) (sym h.0.asked)) g
+
+  pub stepping_needs : (e : Engine) → stepping e ≡ true → (book : Book) → Stands sizes e book → StepComes sizes (state_of e book)
+  stepping_needs e g book h = needs_at e e.top book book.work h.readings g

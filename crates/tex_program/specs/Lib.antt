@@ -1,5 +1,5 @@
 pub mod Begins
-pub mod Cells
+pub mod Book
 pub mod Entering
 pub mod Stands
 pub mod First

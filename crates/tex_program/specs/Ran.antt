@@ -2,7 +2,7 @@
 use Rattle.std.specs.Prelude.{◌≡◌, ℕ, ◌≤◌, List, Option, Some, None}
 use Rattle.tex_defs.specs.Places.{World}
 use Rattle.tex_defs.specs.declared.Sizes.{Sizes}
-use Rattle.plain_state.specs.States.{Reading, State, Move}
+use Rattle.plain_state.specs.States.{State, Move}
 use Rattle.plain_machine.specs.Plan.{Ends, next}
 use Rattle.plain_machine.specs.Runs.{Wrote, steps}
 use Rattle.plain_machine.specs.Bounded.{FitMoves, Bounded, End, AtEnd, AtSteps}
@@ -14,23 +14,24 @@ use Rattle.tex_program.specs.declared.engine.Ended.TheVariants.{Halted, Steps}
 use Rattle.tex_program.specs.declared.reactions.Outcome.{Outcome}
 use Rattle.tex_program.specs.Begins.{outcome_of}
 use Rattle.tex_program.specs.Faults.{why_of}
+use Rattle.tex_program.specs.Book.{Book}
 use Rattle.tex_program.specs.Stands.{Stands, FramesStand, state_of}
 use Rattle.tex_program.specs.Rules.{CountsReports, IsMoment}
 
 -- The machine has come from s to where the engine is.
 pub record Came (sizes : Sizes) (s : State) (e' : Engine) (w w' : World) (k : ℕ) : Type 0 where
   pub ms : List Move
-  pub work' : List Reading
-  pub stands : Stands sizes e' work'
-  pub moves : FitMoves sizes s ms (state_of e' work')
+  pub book' : Book
+  pub stands : Stands sizes e' book'
+  pub moves : FitMoves sizes s ms (state_of e' book')
   pub count : steps ms ≡ k
   pub written : Wrote w w' ms
 
 -- A run has ended in this state: the engine stands for it, with its open readings, but for how it stopped.
 pub record IsEnd (e' : Engine) (t : State) : Type 0 where
-  pub work' : List Reading
-  pub frames : FramesStand e' work'
-  pub same : record t { stopped = None } ≡ state_of e' work'
+  pub book' : Book
+  pub frames : FramesStand e' book'.work
+  pub same : record t { stopped = None } ≡ state_of e' book'
 
 -- The machine has come from s to its end, behind at most k steps.
 pub record Stops (sizes : Sizes) (s : State) (e' : Engine) (w w' : World) (k : ℕ) (o : Outcome) : Type 0 where
@@ -51,9 +52,9 @@ Settles sizes s e' w w' (Some o) = Stops sizes s e' w w' 0 o
 
 -- The engine stands for this state, but for what is due.
 pub record IsAt (sizes : Sizes) (e' : Engine) (t : State) : Type 0 where
-  pub work' : List Reading
-  pub stands : Stands sizes e' work'
-  pub same : but_due t ≡ state_of e' work'
+  pub book' : Book
+  pub stands : Stands sizes e' book'
+  pub same : but_due t ≡ state_of e' book'
 
 abbrev pub end_of : Ended → End
 end_of (Halted o) = AtEnd
@@ -76,6 +77,6 @@ pub record Ran (sizes : Sizes) (s : State) (n : ℕ) (e' : Engine) (w w' : World
 pub record CutBy (sizes : Sizes) (s : State) (n : ℕ) (e' : Engine) (w w' : World) (b : Broken) : Type 0 where
   pub t : State
   pub cut : CutAt sizes s n t w w' (why_of b)
-  pub work' : List Reading
-  pub frames : FramesStand e' work'
-  pub same : IsMoment (why_of b) (but_due t) (state_of e' work')
+  pub book' : Book
+  pub frames : FramesStand e' book'.work
+  pub same : IsMoment (why_of b) (but_due t) (state_of e' book')

@@ -12,7 +12,7 @@ use Rattle.plain_state.specs.Meanings.{seen}
 use Rattle.plain_state.specs.Tokens.{space_token}
 use Rattle.plain_state.specs.States.{Reading, State, Move, Written, Reported}
 use Rattle.plain_state.specs.States as machine
-use Rattle.plain_machine.specs.Plan.{Page, planned, stomach, wanted, feeding, scanning, Scanning, met, reported, entered, enters_names, reports_room}
+use Rattle.plain_machine.specs.Plan.{Page, planned, stomach, wanted, feeding, scanning, Scanning, met, checked, without_file, reported, entered, enters_names, reports_room}
 use Rattle.plain_machine.specs.Runs.{steps}
 use Rattle.plain_machine.specs.Does.{Did, Cut, Why, IsFull, IsFault, IsWant}
 use Rattle.world_io.specs.Told.{FilesTold, SinkTold, world}
@@ -29,21 +29,22 @@ use Rattle.frames.specs.declared.scan.Ask.TheVariants.{More}
 use Rattle.frames.specs.declared.scan.Want.{Want as ScanWant}
 use Rattle.frames.specs.Sees.{want_of, kind_of, first_list}
 use Rattle.frames.specs.Resumes.{TakesTokens}
-use Rattle.tex_program.specs.Stands.{Stands, FeedsHere, state_of}
+use Rattle.tex_program.specs.Book.{Book}
+use Rattle.tex_program.specs.Stands.{Stands, FeedsHere, state_of, page_of}
 
 -- the world of these files and this sink, whose column the engine keeps
 abbrev pub world_of : FilesTold → SinkTold → Engine → World
 world_of f s e = world f s e.in_line
 
 -- the moves of the rule that comes next
-abbrev pub plan_of : Engine → List Reading → List Move
-plan_of e work = planned (state_of e work) work
+abbrev pub plan_of : Engine → Book → List Move
+plan_of e book = planned (state_of e book) book.work
 
 -- The engine goes on, at the machine's state after the moves.
 pub record Went (sizes : Sizes) (s : State) (e' : Engine) (w w' : World) (moves : List Move) (k : ℕ) : Type 0 where
-  pub work' : List Reading
-  pub stands : Stands sizes e' work'
-  pub did : Did sizes s (state_of e' work') w w' moves
+  pub book' : Book
+  pub stands : Stands sizes e' book'
+  pub did : Did sizes s (state_of e' book') w w' moves
   pub count : steps moves ≡ k
 
 -- where a run has ended at `\end`, the engine has counted its reports
@@ -53,13 +54,13 @@ CountsReports (machine.AtFatal f) t e = Unit {0}
 
 -- The machine has stopped, behind at most k steps. The engine stands for its last state, but for how it stopped, with the same
 -- readings, where its reports were no more than a run may have before its last.
-pub record Halts (sizes : Sizes) (s : State) (e' : Engine) (work : List Reading) (w w' : World) (moves : List Move) (o : machine.Outcome) (k : ℕ) : Type 0 where
+pub record Halts (sizes : Sizes) (s : State) (e' : Engine) (book : Book) (w w' : World) (moves : List Move) (o : machine.Outcome) (k : ℕ) : Type 0 where
   pub t : State
   pub did : Did sizes s t w w' moves
   pub stopped : t.stopped ≡ Some o
   pub due : t.due ≡ []
   pub reports : CountsReports o t e'
-  pub same : s.reports ≤ reports_room → record t { stopped = None } ≡ state_of e' work
+  pub same : s.reports ≤ reports_room → record t { stopped = None } ≡ state_of e' book
   pub count : steps moves ≤ k
 
 -- A report is written and counted, behind which the rule goes on.
@@ -85,7 +86,7 @@ enters_of (Some want) = enters_names (want_of want)
 abbrev pub scanning_of : Engine → List Reading → Option Scanning
 scanning_of e work = scanning work e.input.gathered
 
--- what becomes of a token: the name of an \outer macro doesn't come into a text
+-- what becomes of a token of a list
 abbrev pub token_moves : Page → Option Scanning → (onward : Seen → List Move) → Token → List Move
 token_moves page scanned onward t = met page scanned onward (seen page.meanings t)
 
@@ -98,13 +99,13 @@ abbrev pub away_text : Engine → List ℕ
 away_text e = runaway_bytes reports.OfText e.categories e.names.names e.in_line (first_list e.input.gathered)
 
 -- the engine is where such a token is wanted
-abbrev pub Takes : Sizes → Option ScanWant → Engine → List Reading → Type 0
-Takes sizes None e work = (e.top ≡ None) × Stands sizes e work
-Takes sizes (Some want) e work = (e.ask ≡ More want) × Stands sizes e work
+abbrev pub Takes : Sizes → Option ScanWant → Engine → Book → Type 0
+Takes sizes None e book = (e.top ≡ None) × Stands sizes e book
+Takes sizes (Some want) e book = (e.ask ≡ More want) × Stands sizes e book
 
 -- the engine is where some token is wanted
-abbrev pub Wants : Sizes → Engine → List Reading → Type 0
-Wants sizes e work = (want : Option ScanWant) × Takes sizes want e work
+abbrev pub Wants : Sizes → Engine → Book → Type 0
+Wants sizes e book = (want : Option ScanWant) × Takes sizes want e book
 
 -- no report is due where a token is fed
 abbrev pub TopTakes : Option Frame → Type 0
@@ -116,15 +117,15 @@ abbrev pub space_moves : Page → Option ScanWant → List Reading → List Move
 space_moves page None work = []
 space_moves page (Some want) work = onward_of page (Some want) work (seen page.meanings space_token)
 
-abbrev pub SpaceFits : Sizes → Option ScanWant → Engine → List Reading → Type 0
-SpaceFits sizes None e work = Stands sizes e work
-SpaceFits sizes (Some want) e work = (e.ask ≡ More want) × Stands sizes e work
+abbrev pub SpaceFits : Sizes → Option ScanWant → Engine → Book → Type 0
+SpaceFits sizes None e book = Stands sizes e book
+SpaceFits sizes (Some want) e book = (e.ask ≡ More want) × Stands sizes e book
 
 -- What is made of a token fits the engine.
-abbrev pub FitsOnward : Sizes → Seen → Onward → Engine → List Reading → Type 0
-FitsOnward sizes x onward.Feed e work = FeedsHere sizes e x work
-FitsOnward sizes x (onward.Begin k) e work = (e.top ≡ None) × (IsCommand (kind_of k) × Stands sizes e work)
-FitsOnward sizes x o e work = Stands sizes e work
+abbrev pub FitsOnward : Sizes → Seen → Onward → Engine → Book → Type 0
+FitsOnward sizes x onward.Feed e book = FeedsHere sizes e x book
+FitsOnward sizes x (onward.Begin k) e book = (e.top ≡ None) × (IsCommand (kind_of k) × Stands sizes e book)
+FitsOnward sizes x o e book = Stands sizes e book
 
 -- the machine's state at the moment, and that of the engine: the engine's column is that of the bytes really written
 abbrev pub IsMoment : Why → State → State → Type 0
@@ -133,19 +134,19 @@ IsMoment IsFault s t = record s { in_line = t.in_line } ≡ t
 IsMoment IsWant s t = record s { in_line = t.in_line } ≡ t
 
 -- The moves are cut off. The engine stands for the moment before the move that wasn't made, with the same readings.
-pub record Cuts (sizes : Sizes) (s : State) (e' : Engine) (work : List Reading) (w w' : World) (moves : List Move) (b : Broken) : Type 0 where
+pub record Cuts (sizes : Sizes) (s : State) (e' : Engine) (book : Book) (w w' : World) (moves : List Move) (b : Broken) : Type 0 where
   pub at : State
   pub cut : Cut sizes s at w w' moves (why_of b)
-  pub same : IsMoment (why_of b) at (state_of e' work)
+  pub same : IsMoment (why_of b) at (state_of e' book)
 
 -- of a rule
-abbrev pub DoesRule : Sizes → State → Engine → World → World → List Move → Ruled → Type 0
-DoesRule sizes s e' w w' moves Step = Went sizes s e' w w' moves 1
-DoesRule sizes s e' w w' moves Free = Went sizes s e' w w' moves 0
-DoesRule sizes s e' w w' moves (Halted o) = Halts sizes s e' s.work w w' moves (outcome_of o) 1
+abbrev pub DoesRule : Sizes → State → Engine → Book → World → World → List Move → Ruled → Type 0
+DoesRule sizes s e' book w w' moves Step = Went sizes s e' w w' moves 1
+DoesRule sizes s e' book w w' moves Free = Went sizes s e' w w' moves 0
+DoesRule sizes s e' book w w' moves (Halted o) = Halts sizes s e' book w w' moves (outcome_of o) 1
 
 -- of moves without a step
-abbrev pub DoesOnward : Sizes → State → Engine → World → World → List Move → Ruled → Type 0
-DoesOnward sizes s e' w w' moves Step = Went sizes s e' w w' moves 0
-DoesOnward sizes s e' w w' moves Free = ⊥
-DoesOnward sizes s e' w w' moves (Halted o) = Halts sizes s e' s.work w w' moves (outcome_of o) 0
+abbrev pub DoesOnward : Sizes → State → Engine → Book → World → World → List Move → Ruled → Type 0
+DoesOnward sizes s e' book w w' moves Step = Went sizes s e' w w' moves 0
+DoesOnward sizes s e' book w w' moves Free = ⊥
+DoesOnward sizes s e' book w w' moves (Halted o) = Halts sizes s e' book w w' moves (outcome_of o) 0

@@ -7,9 +7,14 @@ use Rattle.tex_defs.specs.declared.Full.{Full}
 use Rattle.tex_defs.specs.declared.Table.TheVariants.{ExpansionDepth}
 use Rattle.plain_state.specs.Readings as reading
 use Rattle.plain_state.specs.Readings.{Fed}
-use Rattle.plain_state.specs.Meanings.{primitive_count}
+use Rattle.plain_state.specs.Meanings.{fixed_locations}
 use Rattle.plain_state.specs.States.{Reading, State}
 use Rattle.plain_machine.specs.Plan.{Page, last_seen, is_told, reports_room}
+use Rattle.plain_machine.specs.Numbers.{Tied, pending_of, meanings_of}
+use Rattle.input_state.specs.Stored.{Stored, KeepsMacros}
+use Rattle.plain_state.specs.Tables.{is_put}
+use Rattle.tex_defs.specs.declared.Meaning.{Meaning}
+use Rattle.tex_defs.specs.declared.Meaning.TheVariants as means
 use Rattle.frames.specs.declared.scan.Want.{Want}
 use Rattle.frames.specs.declared.scan.Value.{Value}
 use Rattle.frames.specs.declared.scan.Value.TheVariants.{Toks}
@@ -21,7 +26,7 @@ use Rattle.frames.specs.Sees.{ask_of}
 use Rattle.frames.specs.Resumes.{resume, resume_waiting, waiting_kind, frame_list, frame_kind, IsOpen, frame_grows, lists_after, InnerWaits, MayFeed, Owns, IsShallow, is_built}
 use Rattle.tex_program.specs.declared.engine.Engine.{Engine}
 use Rattle.tex_program.specs.Begins.{IsCommand}
-use Rattle.tex_program.specs.Cells.{cells_of}
+use Rattle.tex_program.specs.Book.{Book, AreBodies}
 
 -- The frame stands behind all that the reading was fed with, which holds these lists.
 pub record FrameStands (frame : Frame) (lists : List (List Token)) (r : Reading) : Type 0 where
@@ -98,22 +103,40 @@ IsLone (r ∷ []) = IsCommand r.kind
 IsLone rs = Unit {0}
 
 -- the tables' sizes are these, a reading more than may be open can be counted, the last report that a run may have hasn't come,
--- and the names of the primitives are entered
+-- and each name that is entered has a location
 pub record IsSized (sizes : Sizes) (e : Engine) : Type 0 where
   pub few_reports : e.reports ≤ reports_room
-  pub known : primitive_count ≤ length e.names.names
   pub small : sizes.expansion_depth < 4294967295
   pub own : e.sizes ≡ sizes
   pub outer : e.outer.size ≡ sizes.expansion_depth
   pub input : e.input.sizes ≡ sizes
   pub names : e.names.sizes ≡ sizes
+  pub hash : e.input.hash_size ≡ sizes.hash_size
+  pub located : length e.input.meanings ≡ fixed_locations + length e.names.names
 
--- The engine's open readings are these, and no list is being made.
-pub record Stands (sizes : Sizes) (e : Engine) (work : List Reading) : Type 0 where
+-- no name means a macro or a definition
+abbrev pub IsPlain : Meaning (Option ℕ) → Type 0
+IsPlain (means.Macro long outer list) = ⊥
+IsPlain (means.Prim n) = is_built (means.Prim n) ≡ true
+IsPlain m = Unit {0}
+
+abbrev pub ArePlain : List (Meaning (Option ℕ)) → Type 0
+ArePlain [] = Unit {0}
+ArePlain (m ∷ ms) = IsPlain m × ArePlain ms
+
+-- The macros that the input holds are these, under these numbers.
+pub record IsSound (sizes : Sizes) (e : Engine) (number : ℕ → ℕ) (macros : List (List Token)) : Type 0 where
   pub sized : IsSized sizes e
+  pub tied : Tied number macros e.input.meanings e.input.pending.puts e.input.lists
+  pub bodies : AreBodies macros
+  pub plain : ArePlain e.input.meanings
+
+-- The engine's open readings and its macros are those of the book, and no list is being made.
+pub record Stands (sizes : Sizes) (e : Engine) (book : Book) : Type 0 where
+  pub sound : IsSound sizes e book.number book.macros
   pub idle : e.input.making ≡ None
-  pub readings : FramesStand e work
-  pub lone : IsLone work
+  pub readings : FramesStand e book.work
+  pub lone : IsLone book.work
 
 -- The innermost reading waits for what comes.
 abbrev pub WaitStands : Option Frame → List Waiting → List (List Token) → List Reading → Type 0
@@ -122,27 +145,26 @@ WaitStands None outer lists (r ∷ rs) = ⊥
 WaitStands (Some frame) outer lists [] = ⊥
 WaitStands (Some frame) outer lists (r ∷ rs) = FrameStands frame lists r × ((r.holds ≡ length lists) × OuterStand (reverse outer) rs)
 
-pub record Waits (sizes : Sizes) (e : Engine) (work : List Reading) : Type 0 where
-  pub sized : IsSized sizes e
+pub record Waits (sizes : Sizes) (e : Engine) (book : Book) : Type 0 where
+  pub sound : IsSound sizes e book.number book.macros
   pub idle : e.input.making ≡ None
-  pub readings : WaitStands e.top e.outer.items e.input.gathered work
-  pub lone : IsLone work
+  pub readings : WaitStands e.top e.outer.items e.input.gathered book.work
+  pub lone : IsLone book.work
 
 -- A command waits in front of the reading that begins.
-pub record Waits1 (sizes : Sizes) (e : Engine) (waiting : Waiting) (r : Reading) (rs : List Reading) : Type 0 where
-  pub sized : IsSized sizes e
+abbrev pub WaitsFirst : Engine → Waiting → List Reading → Type 0
+WaitsFirst e waiting [] = ⊥
+WaitsFirst e waiting (r ∷ rs) = WaitingStands waiting r × OuterStand (reverse e.outer.items) rs
+
+pub record WaitsIn (sizes : Sizes) (e : Engine) (waiting : Waiting) (book : Book) : Type 0 where
+  pub sound : IsSound sizes e book.number book.macros
   pub idle : e.input.making ≡ None
   pub bare : e.input.gathered ≡ []
-  pub innermost : WaitingStands waiting r
-  pub outer : OuterStand (reverse e.outer.items) rs
+  pub readings : WaitsFirst e waiting book.work
 
-abbrev pub WaitsIn : Sizes → Engine → Waiting → List Reading → Type 0
-WaitsIn sizes e waiting [] = ⊥
-WaitsIn sizes e waiting (r ∷ rs) = Waits1 sizes e waiting r rs
-
-abbrev pub WaitsWith : Sizes → Engine → Option Waiting → List Reading → Type 0
-WaitsWith sizes e None work = (e.top ≡ None) × Stands sizes e work
-WaitsWith sizes e (Some waiting) work = WaitsIn sizes e waiting work
+abbrev pub WaitsWith : Sizes → Engine → Option Waiting → Book → Type 0
+WaitsWith sizes e None book = (e.top ≡ None) × Stands sizes e book
+WaitsWith sizes e (Some waiting) book = WaitsIn sizes e waiting book
 
 -- a value that goes to no reading has no list
 abbrev pub IsTaken : reading.Value → List Reading → Type 0
@@ -150,8 +172,8 @@ IsTaken v [] = reading.value_lists v ≡ []
 IsTaken v (r ∷ rs) = Unit {0}
 
 -- The innermost reading ends with this value, and these are beneath it.
-pub record EndsHere (sizes : Sizes) (e : Engine) (v : reading.Value) (r : Reading) (rs : List Reading) : Type 0 where
-  pub sized : IsSized sizes e
+pub record EndsHere (sizes : Sizes) (e : Engine) (v : reading.Value) (r : Reading) (rs : List Reading) (book : Book) : Type 0 where
+  pub sound : IsSound sizes e book.number book.macros
   pub idle : e.input.making ≡ None
   pub few : AtMostOne e.input.gathered
   pub holds : r.holds ≡ length e.input.gathered
@@ -159,15 +181,15 @@ pub record EndsHere (sizes : Sizes) (e : Engine) (v : reading.Value) (r : Readin
   pub outer : OuterStand (reverse e.outer.items) rs
 
 -- The innermost reading is fed with this token, and no report is due.
-pub record FeedsHere (sizes : Sizes) (e : Engine) (x : Seen) (work : List Reading) : Type 0 where
+pub record FeedsHere (sizes : Sizes) (e : Engine) (x : Seen) (book : Book) : Type 0 where
   pub want : Want
   pub asks : e.ask ≡ More want
   pub built : is_built x.meaning ≡ true
-  pub stands : Stands sizes e work
+  pub stands : Stands sizes e book
 
 -- A frame behind a reading that held these lists, whose list has the token already if it is of it.
-pub record FedFrame (sizes : Sizes) (e : Engine) (f : Frame) (x : Seen) (lists : List (List Token)) (r : Reading) (rs : List Reading) : Type 0 where
-  pub sized : IsSized sizes e
+pub record FedFrame (sizes : Sizes) (e : Engine) (f : Frame) (x : Seen) (lists : List (List Token)) (r : Reading) (rs : List Reading) (book : Book) : Type 0 where
+  pub sound : IsSound sizes e book.number book.macros
   pub idle : e.input.making ≡ None
   pub frame : FrameStands f lists r
   pub holds : r.holds ≡ length lists
@@ -193,16 +215,16 @@ abbrev pub other_lists : List (List Token) → List (List Token)
 other_lists [] = []
 other_lists (ts ∷ lists) = lists
 
--- The state that it then stands for.
-abbrev pub state_of : Engine → List Reading → State
-state_of e work = record {
-  pending = e.input.pending;
+-- The state that it then stands for: the machine has its own numbers for the macros.
+abbrev pub state_of : Engine → Book → State
+state_of e book = record {
+  pending = pending_of book.number e.input.pending;
   categories = e.categories;
   names = e.names.names;
   strings = e.names.others;
-  meanings = cells_of e.names.names;
-  macros = [];
-  work = work;
+  meanings = meanings_of book.number e.input.meanings;
+  macros = book.macros;
+  work = book.work;
   gathered = e.input.gathered;
   making = e.input.making;
   in_line = e.in_line;
@@ -213,12 +235,12 @@ state_of e work = record {
 }
 
 -- what the texts of a rule depend on
-abbrev pub page_of : Engine → Page
-page_of e = record {
+abbrev pub page_of : Engine → Book → Page
+page_of e book = record {
   categories = e.categories;
   names = e.names.names;
-  meanings = cells_of e.names.names;
-  macros = [];
+  meanings = meanings_of book.number e.input.meanings;
+  macros = book.macros;
   in_line = e.in_line;
   line = e.input.pending.number;
   reports = e.reports;
@@ -233,10 +255,10 @@ top_count (Some f) = 1
 abbrev pub frames : Engine → ℕ
 frames e = length e.outer.items + top_count e.top
 
--- The engine counts the open readings as the machine.
-pub record Counts (sizes : Sizes) (e : Engine) (work : List Reading) : Type 0 where
-  pub sized : IsSized sizes e
-  pub depth : length work ≡ frames e
+-- The engine counts the open readings and the macros as the machine.
+pub record Counts (sizes : Sizes) (e : Engine) (book : Book) : Type 0 where
+  pub sound : IsSound sizes e book.number book.macros
+  pub depth : length book.work ≡ frames e
 
 -- why there is no room for one more reading
 abbrev pub depth_full : ℕ → ℕ → Option Full
@@ -259,12 +281,20 @@ pub record SameOthers (e e' : Engine) : Type 0 where
   pub quiet : e'.quiet ≡ e.quiet
   pub sizes : e'.sizes ≡ e.sizes
 
+-- the names mean what they meant, no macro's body is put, and each macro that is held keeps its tokens
+pub record SameStore (old new : Stored) : Type 0 where
+  pub sizes : new.sizes ≡ old.sizes
+  pub hash : new.hash_size ≡ old.hash_size
+  pub meanings : new.meanings ≡ old.meanings
+  pub puts : (n : ℕ) → is_put n new.pending.puts ≡ true → is_put n old.pending.puts ≡ true
+  pub lists : KeepsMacros old new
+
 -- all but the readings, with the lists that they hold, is as it was
 pub record SameState (e e' : Engine) : Type 0 where
   pub others : SameOthers e e'
   pub pending : e'.input.pending ≡ e.input.pending
   pub making : e'.input.making ≡ e.input.making
-  pub size : e'.input.sizes ≡ e.input.sizes
+  pub store : SameStore e.input e'.input
 
 -- nothing but the column has changed
 pub record OnlyColumn (e e' : Engine) : Type 0 where

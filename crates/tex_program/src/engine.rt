@@ -1,29 +1,34 @@
 // The engine: the machine's rules, one at a time.
-ghost use Rattle.std.specs.Prelude.{◌≡◌, ◌≤◌, ◌<◌, ◌+◌, ◌-◌, ◌*◌, List, [], ◌∷◌, ◌++◌, IfOk, IfErr, IfSome, OnOk, OnErr, Option, Some, None, true, false, is_some, IsSome, option_map, option_to_list, length};
+ghost use Rattle.std.specs.Prelude.{◌≡◌, ◌≤◌, ◌<◌, ◌+◌, ◌-◌, ◌*◌, ℕ, List, [], ◌∷◌, ◌++◌, IfOk, IfErr, IfSome, OnOk, OnErr, Option, Some, None, Bool, true, false, is_some, IsSome, option_map, option_to_list, length};
 ghost use Rattle.tex_defs.specs.Places.{Transcript, World};
 ghost use Rattle.tex_defs.specs.Sizes.{first_out_of_range};
 ghost use Rattle.tex_defs.specs.declared.Sizes.{Sizes};
 ghost use Rattle.tex_defs.specs.declared.Fatal.TheVariants as fatal;
 ghost use Rattle.plain_state.specs.Categories.{initial_categories as first_categories};
 ghost use Rattle.plain_state.specs.Pending.{pulled};
+ghost use Rattle.plain_state.specs.Names as names;
 ghost use Rattle.prim_table.specs.Primitives.{primitive_names};
 ghost use Rattle.plain_state.specs.Lex.{Lexeme};
 ghost use Rattle.plain_state.specs.Reports.{NoSuchFile, Forbidden, report_bytes, message_bytes, OfText, runaway_bytes};
 ghost use Rattle.plain_state.specs.Tables.{refusal, refused, memory, lists_words, words};
 ghost use Rattle.plain_state.specs.Meanings as meanings;
 ghost use Rattle.plain_state.specs.Readings.{Fed, Tok, Told, rank, own_lists, value_lists, Text as TextKind, Flag as FlagValue};
-ghost use Rattle.plain_state.specs.States.{Reading, Move, Kept, Begun, BegunWith, Written, Ended as EndedMove, AtFatal, fresh, fed_with, ended_with, beneath};
+ghost use Rattle.plain_state.specs.States.{State, Reading, Move, Kept, Begun, BegunWith, Written, Ended as EndedMove, AtFatal, fresh, fed_with, ended_with, beneath};
 ghost use Rattle.plain_machine.specs.Plan.{Page, handed, effect as effect_moves, given_back, put_one, reported, token_line, checked, told, is_told, no_file, reports_room};
 ghost use Rattle.plain_machine.specs.Does.{Did};
 ghost use Rattle.world_io.specs.Told.{FilesTold};
-ghost use Rattle.frames.specs.Sees.{value_of, kind_of, effect_of, first_list};
+ghost use Rattle.frames.specs.Sees.{value_of, kind_of, want_of, effect_of, first_list};
 ghost use Rattle.transcript.specs.Reported.{report_of};
 ghost use Rattle.frames.specs.Resumes.{IsNoText, IsOpen, is_built, frame_kind, frame_grows, lists_after};
 ghost use Rattle.frames.specs.Weights.{frame_rank};
 ghost use Rattle.input_state.specs.Reads.{gives_step, IsLexeme};
-ghost use Rattle.input_state.specs.Stored.{words as stored_words};
+ghost use Rattle.input_state.specs.Stored.{KeepsMacros, words as stored_words};
+ghost use Rattle.plain_state.specs.Lookup.{token_of, new_name};
+ghost use Rattle.plain_machine.specs.Numbers.{pending_of};
+ghost use Rattle.tex_program.specs.Book.{Book, with_work};
+ghost use Rattle.tex_program.specs.Entering.{with_names, EntryFits, EntryRefused};
 ghost use Rattle.tex_program.specs.Begins.{outcome_of, outcome_of_last, last_moves, last_bytes, away_moves, onward_moves};
-ghost use Rattle.tex_program.specs.Stands.{Stands, Waits, WaitsWith, EndsHere, FeedsHere, FedFrame, IsSized, IsLone, IsLast, Counts, SameState, SameOthers, SameFrames, OnlyColumn, state_of, page_of, frames, depth_full, top_grows, kept_lists, other_lists};
+ghost use Rattle.tex_program.specs.Stands.{Stands, Waits, WaitsWith, EndsHere, FeedsHere, FedFrame, IsSized, IsSound, IsLone, IsLast, Counts, SameStore, SameState, SameOthers, SameFrames, OnlyColumn, state_of, page_of, frames, depth_full, top_grows, kept_lists, other_lists};
 ghost use Rattle.tex_program.specs.Rules.{world_of, plan_of, feeds_of, onward_of, enters_of, token_moves, name_moves, space_moves, scanning_of, away_text, Takes, Wants, SpaceFits, FitsOnward, TopTakes, Cuts, Went, Reports, Halts, DoesRule, DoesOnward};
 ghost use Rattle.tex_program.specs.Steps.{stepping, IsStep, IsFree, IsHalted, StepsIf, freed, pending_weight, weight};
 ghost use Rattle.tex_program.specs.First.{Begins};
@@ -33,7 +38,7 @@ ghost use Rattle.tex_program.specs.declared.broken.Broken.TheVariants as broken;
 ghost use Rattle.tex_program.specs.declared.engine.Ruled.TheVariants.{Halted};
 
 use crate::broken::Broken;
-use crate::meaning::{is_outer, seen};
+use crate::meaning::is_outer;
 use crate::names::resolve;
 use crate::reactions::{Last, Onward, Outcome, obey, react};
 use frames::{Ask, Effect, Frame, Kind, Outer, Value, Waiting, Want, first_ask};
@@ -185,7 +190,7 @@ impl Engine {
 
     /// The words of main memory that are used.
     pub fn words(&self) -> u32
-        ensures { (work : List Reading) → result ≡ words (state_of self.now work) }
+        ensures { (sizes : Sizes) (book : Book) → IsSound sizes self.now book.number book.macros → result ≡ words (state_of self.now book) }
     {
         self.input.words()
     }
@@ -194,8 +199,8 @@ impl Engine {
 
     /// Writes text to the transcript.
     fn write_text<S: Sink>(&mut self, out: &mut S, text: &[u8]) -> Result<(), Broken>
-        ensures did { OnOk result ((sizes : Sizes) (f : FilesTold) (work : List Reading) → Did sizes (state_of self.old work) (state_of self.new work) (world_of f (S.told out.old) self.old) (world_of f (S.told out.new) self.new) (Written Transcript text.now ∷ [])) }
-        ensures err { IfErr result (λ b. (sizes : Sizes) (f : FilesTold) (work : List Reading) (more : List Move) → Cuts sizes (state_of self.old work) self.new work (world_of f (S.told out.old) self.old) (world_of f (S.told out.new) self.new) (Written Transcript text.now ∷ more) b) }
+        ensures did { OnOk result ((sizes : Sizes) (f : FilesTold) (book : Book) → Did sizes (state_of self.old book) (state_of self.new book) (world_of f (S.told out.old) self.old) (world_of f (S.told out.new) self.new) (Written Transcript text.now ∷ [])) }
+        ensures err { IfErr result (λ b. (sizes : Sizes) (f : FilesTold) (book : Book) (more : List Move) → Cuts sizes (state_of self.old book) self.new book (world_of f (S.told out.old) self.old) (world_of f (S.told out.new) self.new) (Written Transcript text.now ∷ more) b) }
         ensures only { OnlyColumn self.old self.new }
     {
         put(out, &mut self.in_line, text)?;
@@ -204,8 +209,8 @@ impl Engine {
 
     /// Writes a message: the list that the innermost reading holds.
     fn write_message<S: Sink>(&mut self, out: &mut S) -> Result<(), Broken>
-        ensures did { OnOk result ((sizes : Sizes) (f : FilesTold) (work : List Reading) → Did sizes (state_of self.old work) (state_of self.new work) (world_of f (S.told out.old) self.old) (world_of f (S.told out.new) self.new) (Written Transcript (message_bytes self.old.categories self.old.names.names self.old.in_line (first_list self.old.input.gathered)) ∷ [])) }
-        ensures err { IfErr result (λ b. (sizes : Sizes) (f : FilesTold) (work : List Reading) (more : List Move) → Cuts sizes (state_of self.old work) self.new work (world_of f (S.told out.old) self.old) (world_of f (S.told out.new) self.new) (Written Transcript (message_bytes self.old.categories self.old.names.names self.old.in_line (first_list self.old.input.gathered)) ∷ more) b) }
+        ensures did { OnOk result ((sizes : Sizes) (f : FilesTold) (book : Book) → Did sizes (state_of self.old book) (state_of self.new book) (world_of f (S.told out.old) self.old) (world_of f (S.told out.new) self.new) (Written Transcript (message_bytes self.old.categories self.old.names.names self.old.in_line (first_list self.old.input.gathered)) ∷ [])) }
+        ensures err { IfErr result (λ b. (sizes : Sizes) (f : FilesTold) (book : Book) (more : List Move) → Cuts sizes (state_of self.old book) self.new book (world_of f (S.told out.old) self.old) (world_of f (S.told out.new) self.new) (Written Transcript (message_bytes self.old.categories self.old.names.names self.old.in_line (first_list self.old.input.gathered)) ∷ more) b) }
         ensures only { OnlyColumn self.old self.new }
     {
         let (hash, pool) = self.names.parts();
@@ -223,8 +228,8 @@ impl Engine {
     /// Writes what is shown of a text that runs away: the list that the innermost reading holds.
     fn write_runaway<S: Sink>(&mut self, out: &mut S) -> Result<(), Broken>
         requires { self.old.input.gathered ≡ [] → ⊥ }
-        ensures did { OnOk result ((sizes : Sizes) (f : FilesTold) (work : List Reading) → Did sizes (state_of self.old work) (state_of self.new work) (world_of f (S.told out.old) self.old) (world_of f (S.told out.new) self.new) (Written Transcript (runaway_bytes OfText self.old.categories self.old.names.names self.old.in_line (first_list self.old.input.gathered)) ∷ [])) }
-        ensures err { IfErr result (λ b. (sizes : Sizes) (f : FilesTold) (work : List Reading) (more : List Move) → Cuts sizes (state_of self.old work) self.new work (world_of f (S.told out.old) self.old) (world_of f (S.told out.new) self.new) (Written Transcript (runaway_bytes OfText self.old.categories self.old.names.names self.old.in_line (first_list self.old.input.gathered)) ∷ more) b) }
+        ensures did { OnOk result ((sizes : Sizes) (f : FilesTold) (book : Book) → Did sizes (state_of self.old book) (state_of self.new book) (world_of f (S.told out.old) self.old) (world_of f (S.told out.new) self.new) (Written Transcript (runaway_bytes OfText self.old.categories self.old.names.names self.old.in_line (first_list self.old.input.gathered)) ∷ [])) }
+        ensures err { IfErr result (λ b. (sizes : Sizes) (f : FilesTold) (book : Book) (more : List Move) → Cuts sizes (state_of self.old book) self.new book (world_of f (S.told out.old) self.old) (world_of f (S.told out.new) self.new) (Written Transcript (runaway_bytes OfText self.old.categories self.old.names.names self.old.in_line (first_list self.old.input.gathered)) ∷ more) b) }
         ensures only { OnlyColumn self.old self.new }
     {
         let (hash, pool) = self.names.parts();
@@ -236,9 +241,9 @@ impl Engine {
 
     /// The line of a token that only typesetting would use.
     fn token_line<S: Sink>(&mut self, out: &mut S, meaning: Meaning<()>) -> Result<(), Broken>
-        ensures did { OnOk result ((sizes : Sizes) (f : FilesTold) (work : List Reading) →
-            Did sizes (state_of self.old work) (state_of self.new work) (world_of f (S.told out.old) self.old) (world_of f (S.told out.new) self.new) (token_line (page_of self.old) meaning)) }
-        ensures err { IfErr result (λ b. (sizes : Sizes) (f : FilesTold) (work : List Reading) → Cuts sizes (state_of self.old work) self.new work (world_of f (S.told out.old) self.old) (world_of f (S.told out.new) self.new) (token_line (page_of self.old) meaning) b) }
+        ensures did { OnOk result ((sizes : Sizes) (f : FilesTold) (book : Book) →
+            Did sizes (state_of self.old book) (state_of self.new book) (world_of f (S.told out.old) self.old) (world_of f (S.told out.new) self.new) (token_line (page_of self.old book) meaning)) }
+        ensures err { IfErr result (λ b. (sizes : Sizes) (f : FilesTold) (book : Book) → Cuts sizes (state_of self.old book) self.new book (world_of f (S.told out.old) self.old) (world_of f (S.told out.new) self.new) (token_line (page_of self.old book) meaning) b) }
         ensures only { OnlyColumn self.old self.new }
     {
         if self.quiet {
@@ -252,12 +257,12 @@ impl Engine {
 
     /// Writes a report on a fresh line, and counts it. Answers whether the run goes on behind it.
     fn report<S: Sink>(&mut self, out: &mut S, report: Report) -> Result<bool, Broken>
-        ensures on { IfOk result (λ on. on ≡ true → (sizes : Sizes) (f : FilesTold) (work : List Reading) (rest : List Move) →
-            Reports sizes (state_of self.old work) (state_of self.new work) (world_of f (S.told out.old) self.old) (world_of f (S.told out.new) self.new) (page_of self.old) (report_of report) rest) }
-        ensures last { IfOk result (λ on. on ≡ false → (sizes : Sizes) (f : FilesTold) (work : List Reading) (rest : List Move) →
-            Halts sizes (state_of self.old work) self.new work (world_of f (S.told out.old) self.old) (world_of f (S.told out.new) self.new) (reported (page_of self.old) (report_of report) rest) (AtFatal fatal.HundredErrors) 0) }
-        ensures err { IfErr result (λ b. (sizes : Sizes) (f : FilesTold) (work : List Reading) (rest : List Move) → self.old.reports ≤ reports_room →
-            Cuts sizes (state_of self.old work) self.new work (world_of f (S.told out.old) self.old) (world_of f (S.told out.new) self.new) (reported (page_of self.old) (report_of report) rest) b) }
+        ensures on { IfOk result (λ on. on ≡ true → (sizes : Sizes) (f : FilesTold) (book : Book) (rest : List Move) →
+            Reports sizes (state_of self.old book) (state_of self.new book) (world_of f (S.told out.old) self.old) (world_of f (S.told out.new) self.new) (page_of self.old book) (report_of report) rest) }
+        ensures last { IfOk result (λ on. on ≡ false → (sizes : Sizes) (f : FilesTold) (book : Book) (rest : List Move) →
+            Halts sizes (state_of self.old book) self.new book (world_of f (S.told out.old) self.old) (world_of f (S.told out.new) self.new) (reported (page_of self.old book) (report_of report) rest) (AtFatal fatal.HundredErrors) 0) }
+        ensures err { IfErr result (λ b. (sizes : Sizes) (f : FilesTold) (book : Book) (rest : List Move) → self.old.reports ≤ reports_room →
+            Cuts sizes (state_of self.old book) self.new book (world_of f (S.told out.old) self.old) (world_of f (S.told out.new) self.new) (reported (page_of self.old book) (report_of report) rest) b) }
         ensures frames { SameFrames self.old self.new }
         ensures input { self.new.input ≡ self.old.input }
         ensures sized { IfOk result (λ on. on ≡ true → (sizes : Sizes) → IsSized sizes self.old → IsSized sizes self.new) }
@@ -274,8 +279,8 @@ impl Engine {
 
     /// Writes a report.
     fn write_report<S: Sink>(&mut self, out: &mut S, report: Report) -> Result<(), Broken>
-        ensures did { OnOk result ((sizes : Sizes) (f : FilesTold) (work : List Reading) → Did sizes (state_of self.old work) (state_of self.new work) (world_of f (S.told out.old) self.old) (world_of f (S.told out.new) self.new) (Written Transcript (report_bytes self.old.names.names self.old.in_line self.old.input.pending.number (report_of report)) ∷ [])) }
-        ensures err { IfErr result (λ b. (sizes : Sizes) (f : FilesTold) (work : List Reading) (more : List Move) → Cuts sizes (state_of self.old work) self.new work (world_of f (S.told out.old) self.old) (world_of f (S.told out.new) self.new) (Written Transcript (report_bytes self.old.names.names self.old.in_line self.old.input.pending.number (report_of report)) ∷ more) b) }
+        ensures did { OnOk result ((sizes : Sizes) (f : FilesTold) (book : Book) → Did sizes (state_of self.old book) (state_of self.new book) (world_of f (S.told out.old) self.old) (world_of f (S.told out.new) self.new) (Written Transcript (report_bytes self.old.names.names self.old.in_line self.old.input.pending.number (report_of report)) ∷ [])) }
+        ensures err { IfErr result (λ b. (sizes : Sizes) (f : FilesTold) (book : Book) (more : List Move) → Cuts sizes (state_of self.old book) self.new book (world_of f (S.told out.old) self.old) (world_of f (S.told out.new) self.new) (Written Transcript (report_bytes self.old.names.names self.old.in_line self.old.input.pending.number (report_of report)) ∷ more) b) }
         ensures only { OnlyColumn self.old self.new }
     {
         let line = self.input.line_number();
@@ -288,10 +293,10 @@ impl Engine {
     /// A report, behind which the rule ends.
     fn report_only<S: Sink>(&mut self, out: &mut S, report: Report) -> Result<Ruled, Broken>
         requires idle { self.old.input.making ≡ None }
-        ensures rule { IfOk result (λ ruled. (sizes : Sizes) (f : FilesTold) (work : List Reading) → Stands sizes self.old work →
-            DoesOnward sizes (state_of self.old work) self.new (world_of f (S.told out.old) self.old) (world_of f (S.told out.new) self.new) (reported (page_of self.old) (report_of report) []) ruled) }
-        ensures err { IfErr result (λ b. (sizes : Sizes) (f : FilesTold) (work : List Reading) → self.old.reports ≤ reports_room →
-            Cuts sizes (state_of self.old work) self.new work (world_of f (S.told out.old) self.old) (world_of f (S.told out.new) self.new) (reported (page_of self.old) (report_of report) []) b) }
+        ensures rule { IfOk result (λ ruled. (sizes : Sizes) (f : FilesTold) (book : Book) → Stands sizes self.old book →
+            DoesOnward sizes (state_of self.old book) self.new book (world_of f (S.told out.old) self.old) (world_of f (S.told out.new) self.new) (reported (page_of self.old book) (report_of report) []) ruled) }
+        ensures err { IfErr result (λ b. (sizes : Sizes) (f : FilesTold) (book : Book) → self.old.reports ≤ reports_room →
+            Cuts sizes (state_of self.old book) self.new book (world_of f (S.told out.old) self.old) (world_of f (S.told out.new) self.new) (reported (page_of self.old book) (report_of report) []) b) }
         ensures frames { SameFrames self.old self.new }
         ensures input { self.new.input ≡ self.old.input }
         ensures on { IfOk result (λ ruled. IsFree ruled → ⊥) }
@@ -307,9 +312,9 @@ impl Engine {
     /// Writes what the machine writes where it stops, and ends the run.
     fn halt<S: Sink>(&mut self, out: &mut S, last: Last) -> Result<Ruled, Broken>
         requires idle { self.old.input.making ≡ None }
-        ensures rule { IfOk result (λ ruled. (sizes : Sizes) (f : FilesTold) (work : List Reading) →
-            DoesOnward sizes (state_of self.old work) self.new (world_of f (S.told out.old) self.old) (world_of f (S.told out.new) self.new) (last_moves self.old.in_line last) ruled) }
-        ensures err { IfErr result (λ b. (sizes : Sizes) (f : FilesTold) (work : List Reading) → Cuts sizes (state_of self.old work) self.new work (world_of f (S.told out.old) self.old) (world_of f (S.told out.new) self.new) (last_moves self.old.in_line last) b) }
+        ensures rule { IfOk result (λ ruled. (sizes : Sizes) (f : FilesTold) (book : Book) →
+            DoesOnward sizes (state_of self.old book) self.new book (world_of f (S.told out.old) self.old) (world_of f (S.told out.new) self.new) (last_moves self.old.in_line last) ruled) }
+        ensures err { IfErr result (λ b. (sizes : Sizes) (f : FilesTold) (book : Book) → Cuts sizes (state_of self.old book) self.new book (world_of f (S.told out.old) self.old) (world_of f (S.told out.new) self.new) (last_moves self.old.in_line last) b) }
         ensures ends { IfOk result (λ ruled. ruled ≡ Halted (outcome_of_last last)) }
         ensures frames { SameFrames self.old self.new }
         ensures idle { OnOk result (self.new.input.making ≡ None) }
@@ -362,9 +367,9 @@ impl Engine {
         ensures asks { OnOk result (IsOpen self.new.ask) }
         ensures fresh { OnOk result ((f : Frame) (x : Seen) → self.new.top ≡ Some f → frame_grows f x ≡ false) }
         ensures lists { OnOk result (self.new.input.gathered ≡ own_lists (kind_of kind) ++ self.old.input.gathered) }
-        ensures stands { OnOk result ((sizes : Sizes) (work : List Reading) → WaitsWith sizes self.old waits work → IsLone (fresh (kind_of kind) ∷ work) → Stands sizes self.new (fresh (kind_of kind) ∷ work)) }
-        ensures fits { OnOk result ((sizes : Sizes) (work : List Reading) → Counts sizes self.old work → refusal sizes (Begun (kind_of kind)) (state_of self.old work) ≡ None) }
-        ensures refused { IfErr result (λ full. (sizes : Sizes) (work : List Reading) → Counts sizes self.old work → refusal sizes (Begun (kind_of kind)) (state_of self.old work) ≡ Some full) }
+        ensures stands { OnOk result ((sizes : Sizes) (book : Book) → WaitsWith sizes self.old waits book → IsLone (fresh (kind_of kind) ∷ book.work) → Stands sizes self.new (with_work (fresh (kind_of kind) ∷ book.work) book)) }
+        ensures fits { OnOk result ((sizes : Sizes) (book : Book) → Counts sizes self.old book → refusal sizes (Begun (kind_of kind)) (state_of self.old book) ≡ None) }
+        ensures refused { IfErr result (λ full. (sizes : Sizes) (book : Book) → Counts sizes self.old book → refusal sizes (Begun (kind_of kind)) (state_of self.old book) ≡ Some full) }
         ensures err { OnErr result (self.new ≡ self.old) }
     {
         if let Some(full) = self.depth_refusal() {
@@ -389,9 +394,10 @@ impl Engine {
 
     /// Begins the list that a reading of this kind builds, if it builds one.
     fn begin_list(&mut self, kind: Kind) -> Result<(), Full>
-        ensures ok { OnOk result (self.new ≡ record self.old { input = record self.old.input { gathered = own_lists (kind_of kind) ++ self.old.input.gathered } }) }
+        ensures ok { OnOk result (self.new ≡ record self.old { input = record self.old.input { gathered = own_lists (kind_of kind) ++ self.old.input.gathered; lists = self.new.input.lists } }) }
         ensures fits { OnOk result (refused self.old.input.sizes (memory (lists_words (own_lists (kind_of kind))) (stored_words self.old.input) ∷ []) ≡ None) }
         ensures refused { IfErr result (λ full. refused self.old.input.sizes (memory (lists_words (own_lists (kind_of kind))) (stored_words self.old.input) ∷ []) ≡ Some full) }
+        ensures macros { KeepsMacros self.old.input self.new.input }
         ensures err { OnErr result (self.new ≡ self.old) }
     {
         match kind {
@@ -409,9 +415,9 @@ impl Engine {
         ensures light { OnOk result ((f : Frame) → self.old.top ≡ Some f → weight self.new ≤ 2 * frames self.old + (7 + 3 * frame_rank f) + pending_weight self.old.input.pending) }
         ensures light_none { OnOk result (self.old.top ≡ None → weight self.new ≡ weight self.old) }
         ensures same { OnOk result (SameState self.old self.new) }
-        ensures stands { OnOk result ((sizes : Sizes) (work : List Reading) → FeedsHere sizes self.old seen work → Stands sizes self.new (fed_with (Tok seen) work)) }
-        ensures did { OnOk result ((sizes : Sizes) (w : World) (work : List Reading) → FeedsHere sizes self.old seen work → Did sizes (state_of self.old work) (state_of self.new (fed_with (Tok seen) work)) w w (feeds_of work seen)) }
-        ensures refused { IfErr result (λ full. (sizes : Sizes) (w : World) (work : List Reading) → FeedsHere sizes self.old seen work → Cuts sizes (state_of self.old work) self.new work w w (feeds_of work seen) (broken.Full full)) }
+        ensures stands { OnOk result ((sizes : Sizes) (book : Book) → FeedsHere sizes self.old seen book → Stands sizes self.new (with_work (fed_with (Tok seen) book.work) book)) }
+        ensures did { OnOk result ((sizes : Sizes) (w : World) (book : Book) → FeedsHere sizes self.old seen book → Did sizes (state_of self.old book) (state_of self.new (with_work (fed_with (Tok seen) book.work) book)) w w (feeds_of book.work seen)) }
+        ensures refused { IfErr result (λ full. (sizes : Sizes) (w : World) (book : Book) → FeedsHere sizes self.old seen book → Cuts sizes (state_of self.old book) self.new book w w (feeds_of book.work seen) (broken.Full full)) }
         ensures err { OnErr result (self.new ≡ self.old) }
     {
         self.grow(seen)?;
@@ -421,7 +427,8 @@ impl Engine {
 
     /// A token goes onto the list that the innermost reading builds, unless it isn't of it.
     fn grow(&mut self, seen: Seen) -> Result<(), Full>
-        ensures ok { OnOk result (self.new ≡ record self.old { input = record self.old.input { gathered = lists_after (top_grows self.old.top seen) seen self.old.input.gathered } }) }
+        ensures ok { OnOk result (self.new ≡ record self.old { input = record self.old.input { gathered = lists_after (top_grows self.old.top seen) seen self.old.input.gathered; lists = self.new.input.lists } }) }
+        ensures macros { KeepsMacros self.old.input self.new.input }
         ensures fits { OnOk result (top_grows self.old.top seen ≡ true → (self.old.input.gathered ≡ [] → ⊥) → refused self.old.input.sizes (memory 1 (stored_words self.old.input) ∷ []) ≡ None) }
         ensures grows { OnErr result (top_grows self.old.top seen ≡ true) }
         ensures refused { IfErr result (λ full. refused self.old.input.sizes (memory 1 (stored_words self.old.input) ∷ []) ≡ Some full) }
@@ -456,7 +463,7 @@ impl Engine {
         ensures same { SameState self.old self.new }
         ensures lists { self.new.input ≡ self.old.input }
         ensures none { self.old.top ≡ None → self.new ≡ self.old }
-        ensures stands { (sizes : Sizes) (f : Frame) (lists : List (List Token)) (r : Reading) (rs : List Reading) → self.old.top ≡ Some f → FedFrame sizes self.old f seen lists r rs → Stands sizes self.new (fed_with (Tok seen) (r ∷ rs)) }
+        ensures stands { (sizes : Sizes) (f : Frame) (lists : List (List Token)) (book : Book) (r : Reading) (rs : List Reading) → self.old.top ≡ Some f → FedFrame sizes self.old f seen lists r rs book → Stands sizes self.new (with_work (fed_with (Tok seen) (r ∷ rs)) book) }
     {
         let Some(mut frame) = self.top else {
             return;
@@ -467,7 +474,8 @@ impl Engine {
 
     /// The list that the innermost reading holds goes, if there is one.
     fn drop_list(&mut self)
-        ensures { self.new ≡ record self.old { input = record self.old.input { gathered = other_lists self.old.input.gathered } } }
+        ensures after { self.new ≡ record self.old { input = record self.old.input { gathered = other_lists self.old.input.gathered; lists = self.new.input.lists } } }
+        ensures macros { KeepsMacros self.old.input self.new.input }
     {
         if self.input.has_list() {
             self.input.drop_list();
@@ -476,7 +484,8 @@ impl Engine {
 
     /// The list that the innermost reading holds goes, unless it has the value's tokens.
     fn keep_value(&mut self, value: Value)
-        ensures { self.new ≡ record self.old { input = record self.old.input { gathered = kept_lists value self.old.input.gathered } } }
+        ensures after { self.new ≡ record self.old { input = record self.old.input { gathered = kept_lists value self.old.input.gathered; lists = self.new.input.lists } } }
+        ensures macros { KeepsMacros self.old.input self.new.input }
     {
         match value {
             Value::Toks if self.input.has_list() && !self.input.is_list_empty() => {}
@@ -488,8 +497,8 @@ impl Engine {
     fn end(&mut self, value: Value)
         ensures light { (f : Frame) → self.old.top ≡ Some f → weight self.new < 2 * frames self.old + 6 + pending_weight self.old.input.pending }
         ensures same { SameState self.old self.new }
-        ensures lists { (sizes : Sizes) (r : Reading) (rs : List Reading) → EndsHere sizes self.old (value_of self.old.input.gathered value) r rs → value_lists (value_of self.old.input.gathered value) ++ beneath (r ∷ rs) self.old.input.gathered ≡ self.new.input.gathered }
-        ensures stands { (sizes : Sizes) (r : Reading) (rs : List Reading) → EndsHere sizes self.old (value_of self.old.input.gathered value) r rs → Stands sizes self.new (ended_with (value_of self.old.input.gathered value) (r ∷ rs)) }
+        ensures lists { (sizes : Sizes) (book : Book) (r : Reading) (rs : List Reading) → EndsHere sizes self.old (value_of self.old.input.gathered value) r rs book → value_lists (value_of self.old.input.gathered value) ++ beneath (r ∷ rs) self.old.input.gathered ≡ self.new.input.gathered }
+        ensures stands { (sizes : Sizes) (book : Book) (r : Reading) (rs : List Reading) → EndsHere sizes self.old (value_of self.old.input.gathered value) r rs book → Stands sizes self.new (with_work (ended_with (value_of self.old.input.gathered value) (r ∷ rs)) book) }
     {
         match self.outer.pop() {
             None => {
@@ -512,9 +521,9 @@ impl Engine {
         ensures light { OnOk result (weight self.new < 2 * frames self.old + (10 + 3 * rank (kind_of kind)) + pending_weight self.old.input.pending) }
         ensures same { OnOk result (SameState self.old self.new) }
         ensures lists { OnOk result (self.new.input.gathered ≡ own_lists (kind_of kind) ++ self.old.input.gathered) }
-        ensures stands { OnOk result ((sizes : Sizes) (work : List Reading) → is_built seen.meaning ≡ true → WaitsWith sizes self.old (Some waits) work → Stands sizes self.new (fed_with (Tok seen) (fresh (kind_of kind) ∷ work))) }
-        ensures fits { OnOk result ((sizes : Sizes) (work : List Reading) → Counts sizes self.old work → refusal sizes (BegunWith (kind_of kind) seen) (state_of self.old work) ≡ None) }
-        ensures refused { IfErr result (λ full. (sizes : Sizes) (work : List Reading) → Counts sizes self.old work → refusal sizes (BegunWith (kind_of kind) seen) (state_of self.old work) ≡ Some full) }
+        ensures stands { OnOk result ((sizes : Sizes) (book : Book) → is_built seen.meaning ≡ true → WaitsWith sizes self.old (Some waits) book → Stands sizes self.new (with_work (fed_with (Tok seen) (fresh (kind_of kind) ∷ book.work)) book)) }
+        ensures fits { OnOk result ((sizes : Sizes) (book : Book) → Counts sizes self.old book → refusal sizes (BegunWith (kind_of kind) seen) (state_of self.old book) ≡ None) }
+        ensures refused { IfErr result (λ full. (sizes : Sizes) (book : Book) → Counts sizes self.old book → refusal sizes (BegunWith (kind_of kind) seen) (state_of self.old book) ≡ Some full) }
         ensures err { OnErr result (self.new ≡ self.old) }
     {
         self.begin(kind, Some(waits))?;
@@ -527,7 +536,7 @@ impl Engine {
         ensures light { (f : Frame) → self.old.top ≡ Some f → weight self.new ≤ 2 * frames self.old + 6 + pending_weight self.old.input.pending }
         ensures same { SameState self.old self.new }
         ensures input { self.new.input ≡ self.old.input }
-        ensures stands { (sizes : Sizes) (work : List Reading) → Waits sizes self.old work → Stands sizes self.new (fed_with Told work) }
+        ensures stands { (sizes : Sizes) (book : Book) → Waits sizes self.old book → Stands sizes self.new (with_work (fed_with Told book.work) book) }
     {
         let Some(mut frame) = self.top else {
             return;
@@ -541,13 +550,13 @@ impl Engine {
     /// Puts a token in front: a list of it is begun, grown and put, once the finished lists in front have gone.
     fn put_one(&mut self, token: Token) -> Result<(), Broken>
         requires idle { self.old.input.making ≡ None }
-        ensures did { OnOk result ((sizes : Sizes) (w : World) (work : List Reading) → Counts sizes self.old work → self.old.input.making ≡ None → Did sizes (state_of self.old work) (state_of self.new work) w w (put_one token)) }
-        ensures err { IfErr result (λ b. (sizes : Sizes) (w : World) (work : List Reading) (more : List Move) → Counts sizes self.old work → self.old.input.making ≡ None → Cuts sizes (state_of self.old work) self.new work w w (put_one token ++ more) b) }
+        ensures did { OnOk result ((sizes : Sizes) (w : World) (book : Book) → Counts sizes self.old book → self.old.input.making ≡ None → Did sizes (state_of self.old book) (state_of self.new book) w w (put_one token)) }
+        ensures err { IfErr result (λ b. (sizes : Sizes) (w : World) (book : Book) (more : List Move) → Counts sizes self.old book → self.old.input.making ≡ None → Cuts sizes (state_of self.old book) self.new book w w (put_one token ++ more) b) }
         ensures frames { SameFrames self.old self.new }
         ensures others { SameOthers self.old self.new }
-        ensures sizes { self.new.input.sizes ≡ self.old.input.sizes }
+        ensures store { SameStore self.old.input self.new.input }
         ensures light { pending_weight self.new.input.pending ≡ pending_weight self.old.input.pending }
-        ensures page { page_of self.new ≡ page_of self.old }
+        ensures page { (book : Book) → page_of self.new book ≡ page_of self.old book }
         ensures idle { OnOk result (self.new.input.making ≡ None) }
     {
         self.input.settle();
@@ -560,13 +569,13 @@ impl Engine {
     /// Puts a token back, if there is one.
     fn put_back(&mut self, back: Option<Seen>) -> Result<(), Broken>
         requires idle { self.old.input.making ≡ None }
-        ensures did { OnOk result ((sizes : Sizes) (w : World) (work : List Reading) (fed : List Fed) → Counts sizes self.old work → self.old.input.making ≡ None → IsLast back fed → Did sizes (state_of self.old work) (state_of self.new work) w w (given_back (is_some back) fed)) }
-        ensures err { IfErr result (λ b. (sizes : Sizes) (w : World) (work : List Reading) (fed : List Fed) (more : List Move) → Counts sizes self.old work → self.old.input.making ≡ None → IsLast back fed → Cuts sizes (state_of self.old work) self.new work w w (given_back (is_some back) fed ++ more) b) }
+        ensures did { OnOk result ((sizes : Sizes) (w : World) (book : Book) (fed : List Fed) → Counts sizes self.old book → self.old.input.making ≡ None → IsLast back fed → Did sizes (state_of self.old book) (state_of self.new book) w w (given_back (is_some back) fed)) }
+        ensures err { IfErr result (λ b. (sizes : Sizes) (w : World) (book : Book) (fed : List Fed) (more : List Move) → Counts sizes self.old book → self.old.input.making ≡ None → IsLast back fed → Cuts sizes (state_of self.old book) self.new book w w (given_back (is_some back) fed ++ more) b) }
         ensures frames { SameFrames self.old self.new }
         ensures others { SameOthers self.old self.new }
-        ensures sizes { self.new.input.sizes ≡ self.old.input.sizes }
+        ensures store { SameStore self.old.input self.new.input }
         ensures light { pending_weight self.new.input.pending ≡ pending_weight self.old.input.pending }
-        ensures page { page_of self.new ≡ page_of self.old }
+        ensures page { (book : Book) → page_of self.new book ≡ page_of self.old book }
         ensures idle { OnOk result (self.new.input.making ≡ None) }
     {
         if let Some(seen) = back {
@@ -581,10 +590,10 @@ impl Engine {
     fn done(&mut self, value: Value, back: Option<Seen>) -> Result<(), Broken>
         requires idle { self.old.input.making ≡ None }
         ensures light { OnOk result ((f : Frame) → self.old.top ≡ Some f → weight self.new < 2 * frames self.old + 6 + pending_weight self.old.input.pending) }
-        ensures rule { OnOk result ((sizes : Sizes) (w : World) (r : Reading) (rs : List Reading) → Counts sizes self.old (r ∷ rs) → EndsHere sizes self.old (value_of self.old.input.gathered value) r rs → IsLast back r.fed →
-            Went sizes (state_of self.old (r ∷ rs)) self.new w w (given_back (is_some back) r.fed ++ EndedMove (value_of self.old.input.gathered value) ∷ []) 0) }
-        ensures err { IfErr result (λ b. (sizes : Sizes) (w : World) (r : Reading) (rs : List Reading) → Counts sizes self.old (r ∷ rs) → EndsHere sizes self.old (value_of self.old.input.gathered value) r rs → IsLast back r.fed →
-            Cuts sizes (state_of self.old (r ∷ rs)) self.new (r ∷ rs) w w (given_back (is_some back) r.fed ++ EndedMove (value_of self.old.input.gathered value) ∷ []) b) }
+        ensures rule { OnOk result ((sizes : Sizes) (w : World) (book : Book) (r : Reading) (rs : List Reading) → Counts sizes self.old (with_work (r ∷ rs) book) → EndsHere sizes self.old (value_of self.old.input.gathered value) r rs book → IsLast back r.fed →
+            Went sizes (state_of self.old (with_work (r ∷ rs) book)) self.new w w (given_back (is_some back) r.fed ++ EndedMove (value_of self.old.input.gathered value) ∷ []) 0) }
+        ensures err { IfErr result (λ b. (sizes : Sizes) (w : World) (book : Book) (r : Reading) (rs : List Reading) → Counts sizes self.old (with_work (r ∷ rs) book) → EndsHere sizes self.old (value_of self.old.input.gathered value) r rs book → IsLast back r.fed →
+            Cuts sizes (state_of self.old (with_work (r ∷ rs) book)) self.new (with_work (r ∷ rs) book) w w (given_back (is_some back) r.fed ++ EndedMove (value_of self.old.input.gathered value) ∷ []) b) }
         ensures frames { OnErr result (SameFrames self.old self.new) }
         ensures column { self.new.in_line ≡ self.old.in_line }
         ensures idle { OnOk result (self.new.input.making ≡ None) }
@@ -596,8 +605,8 @@ impl Engine {
 
     /// Does what a command says.
     fn act<S: Sink>(&mut self, out: &mut S, effect: Effect) -> Result<(), Broken>
-        ensures did { OnOk result ((sizes : Sizes) (f : FilesTold) (work : List Reading) → Did sizes (state_of self.old work) (state_of self.new work) (world_of f (S.told out.old) self.old) (world_of f (S.told out.new) self.new) (effect_moves (state_of self.old work) (effect_of self.old.input.gathered effect))) }
-        ensures err { IfErr result (λ b. (sizes : Sizes) (f : FilesTold) (work : List Reading) (more : List Move) → Cuts sizes (state_of self.old work) self.new work (world_of f (S.told out.old) self.old) (world_of f (S.told out.new) self.new) (effect_moves (state_of self.old work) (effect_of self.old.input.gathered effect) ++ more) b) }
+        ensures did { OnOk result ((sizes : Sizes) (f : FilesTold) (book : Book) → Did sizes (state_of self.old book) (state_of self.new book) (world_of f (S.told out.old) self.old) (world_of f (S.told out.new) self.new) (effect_moves (state_of self.old book) (effect_of self.old.input.gathered effect))) }
+        ensures err { IfErr result (λ b. (sizes : Sizes) (f : FilesTold) (book : Book) (more : List Move) → Cuts sizes (state_of self.old book) self.new book (world_of f (S.told out.old) self.old) (world_of f (S.told out.new) self.new) (effect_moves (state_of self.old book) (effect_of self.old.input.gathered effect) ++ more) b) }
         ensures frames { SameFrames self.old self.new }
         ensures input { self.new.input ≡ self.old.input }
         ensures names { self.new.names ≡ self.old.names }
@@ -617,9 +626,9 @@ impl Engine {
     fn act_and_end<S: Sink>(&mut self, out: &mut S, effect: Effect) -> Result<(), Broken>
         requires idle { self.old.input.making ≡ None }
         ensures light { OnOk result ((f : Frame) → self.old.top ≡ Some f → weight self.new < 2 * frames self.old + 6 + pending_weight self.old.input.pending) }
-        ensures rule { OnOk result ((sizes : Sizes) (f : FilesTold) (r : Reading) (rs : List Reading) → EndsHere sizes self.old (FlagValue true) r rs →
-            Went sizes (state_of self.old (r ∷ rs)) self.new (world_of f (S.told out.old) self.old) (world_of f (S.told out.new) self.new) (effect_moves (state_of self.old (r ∷ rs)) (effect_of self.old.input.gathered effect) ++ EndedMove (FlagValue true) ∷ []) 0) }
-        ensures err { IfErr result (λ b. (sizes : Sizes) (f : FilesTold) (work : List Reading) → Cuts sizes (state_of self.old work) self.new work (world_of f (S.told out.old) self.old) (world_of f (S.told out.new) self.new) (effect_moves (state_of self.old work) (effect_of self.old.input.gathered effect) ++ EndedMove (FlagValue true) ∷ []) b) }
+        ensures rule { OnOk result ((sizes : Sizes) (f : FilesTold) (book : Book) (r : Reading) (rs : List Reading) → EndsHere sizes self.old (FlagValue true) r rs book →
+            Went sizes (state_of self.old (with_work (r ∷ rs) book)) self.new (world_of f (S.told out.old) self.old) (world_of f (S.told out.new) self.new) (effect_moves (state_of self.old (with_work (r ∷ rs) book)) (effect_of self.old.input.gathered effect) ++ EndedMove (FlagValue true) ∷ []) 0) }
+        ensures err { IfErr result (λ b. (sizes : Sizes) (f : FilesTold) (book : Book) → Cuts sizes (state_of self.old book) self.new book (world_of f (S.told out.old) self.old) (world_of f (S.told out.new) self.new) (effect_moves (state_of self.old book) (effect_of self.old.input.gathered effect) ++ EndedMove (FlagValue true) ∷ []) b) }
         ensures frames { OnErr result (SameFrames self.old self.new) }
         ensures idle { OnOk result (self.new.input.making ≡ None) }
     {
@@ -631,10 +640,10 @@ impl Engine {
     /// What becomes of a token that was handed on.
     fn go_on<S: Sink>(&mut self, out: &mut S, seen: Seen, onward: Onward) -> Result<Ruled, Broken>
         requires idle { self.old.input.making ≡ None }
-        ensures rule { IfOk result (λ ruled. (sizes : Sizes) (f : FilesTold) (work : List Reading) → FitsOnward sizes seen onward self.old work →
-            DoesOnward sizes (state_of self.old work) self.new (world_of f (S.told out.old) self.old) (world_of f (S.told out.new) self.new) (onward_moves (page_of self.old) (feeds_of work seen) seen onward) ruled) }
-        ensures err { IfErr result (λ b. (sizes : Sizes) (f : FilesTold) (work : List Reading) → FitsOnward sizes seen onward self.old work →
-            Cuts sizes (state_of self.old work) self.new work (world_of f (S.told out.old) self.old) (world_of f (S.told out.new) self.new) (onward_moves (page_of self.old) (feeds_of work seen) seen onward) b) }
+        ensures rule { IfOk result (λ ruled. (sizes : Sizes) (f : FilesTold) (book : Book) → FitsOnward sizes seen onward self.old book →
+            DoesOnward sizes (state_of self.old book) self.new book (world_of f (S.told out.old) self.old) (world_of f (S.told out.new) self.new) (onward_moves (page_of self.old book) (feeds_of book.work seen) seen onward) ruled) }
+        ensures err { IfErr result (λ b. (sizes : Sizes) (f : FilesTold) (book : Book) → FitsOnward sizes seen onward self.old book →
+            Cuts sizes (state_of self.old book) self.new book (world_of f (S.told out.old) self.old) (world_of f (S.told out.new) self.new) (onward_moves (page_of self.old book) (feeds_of book.work seen) seen onward) b) }
         ensures frames { OnErr result (SameFrames self.old self.new) }
         ensures halts { IfOk result (λ ruled. IsHalted ruled → SameFrames self.old self.new) }
         ensures on { IfOk result (λ ruled. IsFree ruled → ⊥) }
@@ -667,20 +676,39 @@ impl Engine {
         token: Token,
     ) -> Result<Ruled, Broken>
         requires idle { self.old.input.making ≡ None }
-        ensures rule { IfOk result (λ ruled. (sizes : Sizes) (f : FilesTold) (work : List Reading) → Takes sizes want self.old work →
-            DoesOnward sizes (state_of self.old work) self.new (world_of f (S.told out.old) self.old) (world_of f (S.told out.new) self.new) (onward_of (page_of self.old) want work (meanings.seen (page_of self.old).meanings token)) ruled) }
-        ensures err { IfErr result (λ b. (sizes : Sizes) (f : FilesTold) (work : List Reading) → Takes sizes want self.old work →
-            Cuts sizes (state_of self.old work) self.new work (world_of f (S.told out.old) self.old) (world_of f (S.told out.new) self.new) (onward_of (page_of self.old) want work (meanings.seen (page_of self.old).meanings token)) b) }
+        ensures rule { IfOk result (λ ruled. (sizes : Sizes) (f : FilesTold) (book : Book) → Takes sizes want self.old book →
+            DoesOnward sizes (state_of self.old book) self.new book (world_of f (S.told out.old) self.old) (world_of f (S.told out.new) self.new) (onward_of (page_of self.old book) want book.work (meanings.seen (page_of self.old book).meanings token)) ruled) }
+        ensures err { IfErr result (λ b. (sizes : Sizes) (f : FilesTold) (book : Book) → Takes sizes want self.old book →
+            Cuts sizes (state_of self.old book) self.new book (world_of f (S.told out.old) self.old) (world_of f (S.told out.new) self.new) (onward_of (page_of self.old book) want book.work (meanings.seen (page_of self.old book).meanings token)) b) }
         ensures frames { OnErr result (SameFrames self.old self.new) }
         ensures halts { IfOk result (λ ruled. IsHalted ruled → SameFrames self.old self.new) }
         ensures on { IfOk result (λ ruled. IsFree ruled → ⊥) }
         ensures idle { OnOk result (self.new.input.making ≡ None) }
     {
-        let seen = seen(token);
+        let seen = self.input.seen(token);
         match want {
             None => self.go_on(out, seen, obey(seen)),
             Some(want) => self.go_on(out, seen, react(want, seen)),
         }
+    }
+
+    /// The token that a line gives. A name that joins those that are entered gets its location with them.
+    fn resolve(&mut self, lexed: Lexed, enters: bool) -> Result<Token, Full>
+        ensures token { IfOk result (λ t. (x : Lexeme) → IsLexeme self.old.input.buffer lexed x → t ≡ token_of enters self.old.names.names x) }
+        ensures after { OnOk result ((sizes : Sizes) (x : Lexeme) → IsSized sizes self.old → IsLexeme self.old.input.buffer lexed x → self.new ≡ with_names (new_name enters self.old.names.names x) self.old) }
+        ensures fits { OnOk result ((x : Lexeme) → IsLexeme self.old.input.buffer lexed x → EntryFits self.old.names (new_name enters self.old.names.names x)) }
+        ensures refused { IfErr result (λ full. (x : Lexeme) → IsLexeme self.old.input.buffer lexed x → EntryRefused self.old.names (new_name enters self.old.names.names x) full) }
+        ensures err { OnErr result (self.new ≡ self.old) }
+        ensures frames { SameFrames self.old self.new }
+        ensures idle { self.new.input.making ≡ self.old.input.making }
+        ensures column { self.new.in_line ≡ self.old.in_line }
+    {
+        let known = self.names.count();
+        let token = resolve(&mut self.names, self.input.buffer(), lexed, enters)?;
+        if self.names.count() > known && self.input.has_name_room() {
+            self.input.enter_name();
+        }
+        Ok(token)
     }
 
     /// What becomes of a character or a name of the line, which is entered where it is new and the reading enters names.
@@ -691,17 +719,17 @@ impl Engine {
         lexed: Lexed,
     ) -> Result<Ruled, Broken>
         requires idle { self.old.input.making ≡ None }
-        ensures rule { IfOk result (λ ruled. (sizes : Sizes) (f : FilesTold) (work : List Reading) (x : Lexeme) → IsLexeme self.old.input.buffer lexed x → Takes sizes want self.old work →
-            DoesOnward sizes (state_of self.old work) self.new (world_of f (S.told out.old) self.old) (world_of f (S.told out.new) self.new) (name_moves (page_of self.old) (scanning_of self.old work) (enters_of want) (onward_of (page_of self.old) want work) x) ruled) }
-        ensures err { IfErr result (λ b. (sizes : Sizes) (f : FilesTold) (work : List Reading) (x : Lexeme) → IsLexeme self.old.input.buffer lexed x → Takes sizes want self.old work →
-            Cuts sizes (state_of self.old work) self.new work (world_of f (S.told out.old) self.old) (world_of f (S.told out.new) self.new) (name_moves (page_of self.old) (scanning_of self.old work) (enters_of want) (onward_of (page_of self.old) want work) x) b) }
+        ensures rule { IfOk result (λ ruled. (sizes : Sizes) (f : FilesTold) (book : Book) (x : Lexeme) → IsLexeme self.old.input.buffer lexed x → Takes sizes want self.old book →
+            DoesOnward sizes (state_of self.old book) self.new book (world_of f (S.told out.old) self.old) (world_of f (S.told out.new) self.new) (name_moves (page_of self.old book) (scanning_of self.old book.work) (enters_of want) (onward_of (page_of self.old book) want book.work) x) ruled) }
+        ensures err { IfErr result (λ b. (sizes : Sizes) (f : FilesTold) (book : Book) (x : Lexeme) → IsLexeme self.old.input.buffer lexed x → Takes sizes want self.old book →
+            Cuts sizes (state_of self.old book) self.new book (world_of f (S.told out.old) self.old) (world_of f (S.told out.new) self.new) (name_moves (page_of self.old book) (scanning_of self.old book.work) (enters_of want) (onward_of (page_of self.old book) want book.work) x) b) }
         ensures frames { OnErr result (SameFrames self.old self.new) }
         ensures halts { IfOk result (λ ruled. IsHalted ruled → SameFrames self.old self.new) }
         ensures on { IfOk result (λ ruled. IsFree ruled → ⊥) }
         ensures idle { OnOk result (self.new.input.making ≡ None) }
     {
         let enters = enters_names(want);
-        let token = resolve(&mut self.names, self.input.buffer(), lexed, enters)?;
+        let token = self.resolve(lexed, enters)?;
         self.hand_on(out, want, token)
     }
 
@@ -729,10 +757,10 @@ impl Engine {
         then: Option<Want>,
     ) -> Result<Ruled, Broken>
         requires idle { self.old.input.making ≡ None }
-        ensures rule { IfOk result (λ ruled. (sizes : Sizes) (f : FilesTold) (work : List Reading) (page : Page) → SpaceFits sizes then self.old work →
-            DoesOnward sizes (state_of self.old work) self.new (world_of f (S.told out.old) self.old) (world_of f (S.told out.new) self.new) (reported (page_of self.old) (report_of report) (space_moves page then work)) ruled) }
-        ensures err { IfErr result (λ b. (sizes : Sizes) (f : FilesTold) (work : List Reading) (page : Page) → SpaceFits sizes then self.old work →
-            Cuts sizes (state_of self.old work) self.new work (world_of f (S.told out.old) self.old) (world_of f (S.told out.new) self.new) (reported (page_of self.old) (report_of report) (space_moves page then work)) b) }
+        ensures rule { IfOk result (λ ruled. (sizes : Sizes) (f : FilesTold) (book : Book) (page : Page) → SpaceFits sizes then self.old book →
+            DoesOnward sizes (state_of self.old book) self.new book (world_of f (S.told out.old) self.old) (world_of f (S.told out.new) self.new) (reported (page_of self.old book) (report_of report) (space_moves page then book.work)) ruled) }
+        ensures err { IfErr result (λ b. (sizes : Sizes) (f : FilesTold) (book : Book) (page : Page) → SpaceFits sizes then self.old book →
+            Cuts sizes (state_of self.old book) self.new book (world_of f (S.told out.old) self.old) (world_of f (S.told out.new) self.new) (reported (page_of self.old book) (report_of report) (space_moves page then book.work)) b) }
         ensures frames { OnErr result (SameFrames self.old self.new) }
         ensures halts { IfOk result (λ ruled. IsHalted ruled → SameFrames self.old self.new) }
         ensures still { then ≡ None → SameFrames self.old self.new }
@@ -758,10 +786,10 @@ impl Engine {
     ) -> Result<Ruled, Broken>
         requires idle { self.old.input.making ≡ None }
         requires asked { self.old.input.gathered ≡ [] → ⊥ }
-        ensures rule { IfOk result (λ ruled. (sizes : Sizes) (f : FilesTold) (work : List Reading) (page : Page) → SpaceFits sizes then self.old work →
-            DoesOnward sizes (state_of self.old work) self.new (world_of f (S.told out.old) self.old) (world_of f (S.told out.new) self.new) (away_moves (page_of self.old) (away_text self.old) (report_of report) (space_moves page then work)) ruled) }
-        ensures err { IfErr result (λ b. (sizes : Sizes) (f : FilesTold) (work : List Reading) (page : Page) → SpaceFits sizes then self.old work →
-            Cuts sizes (state_of self.old work) self.new work (world_of f (S.told out.old) self.old) (world_of f (S.told out.new) self.new) (away_moves (page_of self.old) (away_text self.old) (report_of report) (space_moves page then work)) b) }
+        ensures rule { IfOk result (λ ruled. (sizes : Sizes) (f : FilesTold) (book : Book) (page : Page) → SpaceFits sizes then self.old book →
+            DoesOnward sizes (state_of self.old book) self.new book (world_of f (S.told out.old) self.old) (world_of f (S.told out.new) self.new) (away_moves (page_of self.old book) (away_text self.old) (report_of report) (space_moves page then book.work)) ruled) }
+        ensures err { IfErr result (λ b. (sizes : Sizes) (f : FilesTold) (book : Book) (page : Page) → SpaceFits sizes then self.old book →
+            Cuts sizes (state_of self.old book) self.new book (world_of f (S.told out.old) self.old) (world_of f (S.told out.new) self.new) (away_moves (page_of self.old book) (away_text self.old) (report_of report) (space_moves page then book.work)) b) }
         ensures frames { OnErr result (SameFrames self.old self.new) }
         ensures halts { IfOk result (λ ruled. IsHalted ruled → SameFrames self.old self.new) }
         ensures still { then ≡ None → SameFrames self.old self.new }
@@ -784,10 +812,10 @@ impl Engine {
     ) -> Result<Ruled, Broken>
         requires idle { self.old.input.making ≡ None }
         requires asked { self.old.input.gathered ≡ [] → ⊥ }
-        ensures rule { IfOk result (λ ruled. (sizes : Sizes) (f : FilesTold) (work : List Reading) → SpaceFits sizes want self.old work →
-            DoesOnward sizes (state_of self.old work) self.new (world_of f (S.told out.old) self.old) (world_of f (S.told out.new) self.new) (put_one token ++ away_moves (page_of self.old) (away_text self.old) (Forbidden OfText name) (space_moves (page_of self.old) want work)) ruled) }
-        ensures err { IfErr result (λ b. (sizes : Sizes) (f : FilesTold) (work : List Reading) → SpaceFits sizes want self.old work →
-            Cuts sizes (state_of self.old work) self.new work (world_of f (S.told out.old) self.old) (world_of f (S.told out.new) self.new) (put_one token ++ away_moves (page_of self.old) (away_text self.old) (Forbidden OfText name) (space_moves (page_of self.old) want work)) b) }
+        ensures rule { IfOk result (λ ruled. (sizes : Sizes) (f : FilesTold) (book : Book) → SpaceFits sizes want self.old book →
+            DoesOnward sizes (state_of self.old book) self.new book (world_of f (S.told out.old) self.old) (world_of f (S.told out.new) self.new) (put_one token ++ away_moves (page_of self.old book) (away_text self.old) (Forbidden OfText name) (space_moves (page_of self.old book) want book.work)) ruled) }
+        ensures err { IfErr result (λ b. (sizes : Sizes) (f : FilesTold) (book : Book) → SpaceFits sizes want self.old book →
+            Cuts sizes (state_of self.old book) self.new book (world_of f (S.told out.old) self.old) (world_of f (S.told out.new) self.new) (put_one token ++ away_moves (page_of self.old book) (away_text self.old) (Forbidden OfText name) (space_moves (page_of self.old book) want book.work)) b) }
         ensures frames { OnErr result (SameFrames self.old self.new) }
         ensures halts { IfOk result (λ ruled. IsHalted ruled → SameFrames self.old self.new) }
         ensures on { IfOk result (λ ruled. IsFree ruled → ⊥) }
@@ -805,16 +833,16 @@ impl Engine {
         token: Token,
     ) -> Result<Ruled, Broken>
         requires idle { self.old.input.making ≡ None }
-        ensures rule { IfOk result (λ ruled. (sizes : Sizes) (f : FilesTold) (work : List Reading) → Takes sizes want self.old work →
-            DoesOnward sizes (state_of self.old work) self.new (world_of f (S.told out.old) self.old) (world_of f (S.told out.new) self.new) (token_moves (page_of self.old) (scanning_of self.old work) (onward_of (page_of self.old) want work) token) ruled) }
-        ensures err { IfErr result (λ b. (sizes : Sizes) (f : FilesTold) (work : List Reading) → Takes sizes want self.old work →
-            Cuts sizes (state_of self.old work) self.new work (world_of f (S.told out.old) self.old) (world_of f (S.told out.new) self.new) (token_moves (page_of self.old) (scanning_of self.old work) (onward_of (page_of self.old) want work) token) b) }
+        ensures rule { IfOk result (λ ruled. (sizes : Sizes) (f : FilesTold) (book : Book) → Takes sizes want self.old book →
+            DoesOnward sizes (state_of self.old book) self.new book (world_of f (S.told out.old) self.old) (world_of f (S.told out.new) self.new) (token_moves (page_of self.old book) (scanning_of self.old book.work) (onward_of (page_of self.old book) want book.work) token) ruled) }
+        ensures err { IfErr result (λ b. (sizes : Sizes) (f : FilesTold) (book : Book) → Takes sizes want self.old book →
+            Cuts sizes (state_of self.old book) self.new book (world_of f (S.told out.old) self.old) (world_of f (S.told out.new) self.new) (token_moves (page_of self.old book) (scanning_of self.old book.work) (onward_of (page_of self.old book) want book.work) token) b) }
         ensures frames { OnErr result (SameFrames self.old self.new) }
         ensures halts { IfOk result (λ ruled. IsHalted ruled → SameFrames self.old self.new) }
         ensures on { IfOk result (λ ruled. IsFree ruled → ⊥) }
         ensures idle { OnOk result (self.new.input.making ≡ None) }
     {
-        if !is_outer(seen(token)) {
+        if !is_outer(self.input.seen(token)) {
             return self.hand_on(out, want, token);
         }
         match self.text_name() {
@@ -826,10 +854,10 @@ impl Engine {
     /// The check where the file has ended.
     fn check<S: Sink>(&mut self, out: &mut S) -> Result<Ruled, Broken>
         requires idle { self.old.input.making ≡ None }
-        ensures rule { IfOk result (λ ruled. (sizes : Sizes) (f : FilesTold) (work : List Reading) → Wants sizes self.old work →
-            DoesOnward sizes (state_of self.old work) self.new (world_of f (S.told out.old) self.old) (world_of f (S.told out.new) self.new) (checked (page_of self.old) (scanning_of self.old work)) ruled) }
-        ensures err { IfErr result (λ b. (sizes : Sizes) (f : FilesTold) (work : List Reading) → Wants sizes self.old work →
-            Cuts sizes (state_of self.old work) self.new work (world_of f (S.told out.old) self.old) (world_of f (S.told out.new) self.new) (checked (page_of self.old) (scanning_of self.old work)) b) }
+        ensures rule { IfOk result (λ ruled. (sizes : Sizes) (f : FilesTold) (book : Book) → Wants sizes self.old book →
+            DoesOnward sizes (state_of self.old book) self.new book (world_of f (S.told out.old) self.old) (world_of f (S.told out.new) self.new) (checked (page_of self.old book) (scanning_of self.old book.work)) ruled) }
+        ensures err { IfErr result (λ b. (sizes : Sizes) (f : FilesTold) (book : Book) → Wants sizes self.old book →
+            Cuts sizes (state_of self.old book) self.new book (world_of f (S.told out.old) self.old) (world_of f (S.told out.new) self.new) (checked (page_of self.old book) (scanning_of self.old book.work)) b) }
         ensures frames { SameFrames self.old self.new }
         ensures light { pending_weight self.new.input.pending ≡ pending_weight self.old.input.pending }
         ensures on { IfOk result (λ ruled. IsFree ruled → ⊥) }
@@ -846,10 +874,10 @@ impl Engine {
         requires idle { self.old.input.making ≡ None }
         ensures light { IfOk result (λ ruled. IsFree ruled → weight self.new < weight self.old) }
         ensures step { IfOk result (λ ruled. StepsIf ruled (gives_step (pulled self.old.categories self.old.input.pending))) }
-        ensures rule { IfOk result (λ ruled. (sizes : Sizes) (f : FilesTold) (work : List Reading) → Takes sizes want self.old work →
-            DoesRule sizes (state_of self.old work) self.new (world_of f (S.told out.old) self.old) (world_of f (S.told out.new) self.new) (handed (page_of self.old) (enters_of want) (scanning_of self.old work) (onward_of (page_of self.old) want work) (pulled self.old.categories self.old.input.pending)) ruled) }
-        ensures err { IfErr result (λ b. (sizes : Sizes) (f : FilesTold) (work : List Reading) → Takes sizes want self.old work →
-            Cuts sizes (state_of self.old work) self.new work (world_of f (S.told out.old) self.old) (world_of f (S.told out.new) self.new) (handed (page_of self.old) (enters_of want) (scanning_of self.old work) (onward_of (page_of self.old) want work) (pulled self.old.categories self.old.input.pending)) b) }
+        ensures rule { IfOk result (λ ruled. (sizes : Sizes) (f : FilesTold) (book : Book) → Takes sizes want self.old book →
+            DoesRule sizes (state_of self.old book) self.new book (world_of f (S.told out.old) self.old) (world_of f (S.told out.new) self.new) (handed (page_of self.old book) (enters_of want) (scanning_of self.old book.work) (onward_of (page_of self.old book) want book.work) (pulled self.old.categories (pending_of book.number self.old.input.pending))) ruled) }
+        ensures err { IfErr result (λ b. (sizes : Sizes) (f : FilesTold) (book : Book) → Takes sizes want self.old book →
+            Cuts sizes (state_of self.old book) self.new book (world_of f (S.told out.old) self.old) (world_of f (S.told out.new) self.new) (handed (page_of self.old book) (enters_of want) (scanning_of self.old book.work) (onward_of (page_of self.old book) want book.work) (pulled self.old.categories (pending_of book.number self.old.input.pending))) b) }
         ensures frames { OnErr result (SameFrames self.old self.new) }
         ensures halts { IfOk result (λ ruled. IsHalted ruled → SameFrames self.old self.new) }
         ensures idle { OnOk result (self.new.input.making ≡ None) }
@@ -880,10 +908,10 @@ impl Engine {
         requires idle { self.old.input.making ≡ None }
         ensures light { IfOk result (λ ruled. IsFree ruled → (f : Frame) → self.old.top ≡ Some f → weight self.new < 2 * frames self.old + 7 + pending_weight self.old.input.pending) }
         ensures step { IfOk result (λ ruled. IsStep ruled → ⊥) }
-        ensures rule { IfOk result (λ ruled. (sizes : Sizes) (f : FilesTold) (r : Reading) (rs : List Reading) → Waits sizes self.old (r ∷ rs) → Counts sizes self.old (r ∷ rs) → IsLast back r.fed → is_told r.fed ≡ false →
-            DoesRule sizes (state_of self.old (r ∷ rs)) self.new (world_of f (S.told out.old) self.old) (world_of f (S.told out.new) self.new) (told (page_of self.old) (report_of report) None (is_some back) r) ruled) }
-        ensures err { IfErr result (λ b. (sizes : Sizes) (f : FilesTold) (r : Reading) (rs : List Reading) → Waits sizes self.old (r ∷ rs) → Counts sizes self.old (r ∷ rs) → IsLast back r.fed → is_told r.fed ≡ false →
-            Cuts sizes (state_of self.old (r ∷ rs)) self.new (r ∷ rs) (world_of f (S.told out.old) self.old) (world_of f (S.told out.new) self.new) (told (page_of self.old) (report_of report) None (is_some back) r) b) }
+        ensures rule { IfOk result (λ ruled. (sizes : Sizes) (f : FilesTold) (book : Book) (r : Reading) (rs : List Reading) → Waits sizes self.old (with_work (r ∷ rs) book) → Counts sizes self.old (with_work (r ∷ rs) book) → IsLast back r.fed → is_told r.fed ≡ false →
+            DoesRule sizes (state_of self.old (with_work (r ∷ rs) book)) self.new (with_work (r ∷ rs) book) (world_of f (S.told out.old) self.old) (world_of f (S.told out.new) self.new) (told (page_of self.old book) (report_of report) None (is_some back) r) ruled) }
+        ensures err { IfErr result (λ b. (sizes : Sizes) (f : FilesTold) (book : Book) (r : Reading) (rs : List Reading) → Waits sizes self.old (with_work (r ∷ rs) book) → Counts sizes self.old (with_work (r ∷ rs) book) → IsLast back r.fed → is_told r.fed ≡ false →
+            Cuts sizes (state_of self.old (with_work (r ∷ rs) book)) self.new (with_work (r ∷ rs) book) (world_of f (S.told out.old) self.old) (world_of f (S.told out.new) self.new) (told (page_of self.old book) (report_of report) None (is_some back) r) b) }
         ensures frames { OnErr result (SameFrames self.old self.new) }
         ensures halts { IfOk result (λ ruled. IsHalted ruled → SameFrames self.old self.new) }
         ensures idle { OnOk result (self.new.input.making ≡ None) }
@@ -901,10 +929,10 @@ impl Engine {
         requires idle { self.old.input.making ≡ None }
         ensures light { IfOk result (λ ruled. IsFree ruled → weight self.new < weight self.old) }
         ensures step { IfOk result (λ ruled. StepsIf ruled (stepping self.old)) }
-        ensures rule { IfOk result (λ ruled. (sizes : Sizes) (f : FilesTold) (work : List Reading) → Stands sizes self.old work →
-            DoesRule sizes (state_of self.old work) self.new (world_of f (S.told out.old) self.old) (world_of f (S.told out.new) self.new) (plan_of self.old work) ruled) }
-        ensures err { IfErr result (λ b. (sizes : Sizes) (f : FilesTold) (work : List Reading) → Stands sizes self.old work →
-            Cuts sizes (state_of self.old work) self.new work (world_of f (S.told out.old) self.old) (world_of f (S.told out.new) self.new) (plan_of self.old work) b) }
+        ensures rule { IfOk result (λ ruled. (sizes : Sizes) (f : FilesTold) (book : Book) → Stands sizes self.old book →
+            DoesRule sizes (state_of self.old book) self.new book (world_of f (S.told out.old) self.old) (world_of f (S.told out.new) self.new) (plan_of self.old book) ruled) }
+        ensures err { IfErr result (λ b. (sizes : Sizes) (f : FilesTold) (book : Book) → Stands sizes self.old book →
+            Cuts sizes (state_of self.old book) self.new book (world_of f (S.told out.old) self.old) (world_of f (S.told out.new) self.new) (plan_of self.old book) b) }
         ensures frames { OnErr result (SameFrames self.old self.new) }
         ensures halts { IfOk result (λ ruled. IsHalted ruled → SameFrames self.old self.new) }
         ensures idle { OnOk result (self.new.input.making ≡ None) }
@@ -950,10 +978,10 @@ impl Engine {
     fn settle<S: Sink>(&mut self, out: &mut S) -> Result<Option<Outcome>, Broken>
         requires idle { self.old.input.making ≡ None }
         ensures waits { IfOk result (λ o. o ≡ None → stepping self.new ≡ true) }
-        ensures run { IfOk result (λ o. (sizes : Sizes) (f : FilesTold) (work : List Reading) → Stands sizes self.old work →
-            Settles sizes (state_of self.old work) self.new (world_of f (S.told out.old) self.old) (world_of f (S.told out.new) self.new) o) }
-        ensures err { IfErr result (λ b. (sizes : Sizes) (f : FilesTold) (work : List Reading) → Stands sizes self.old work →
-            CutBy sizes (state_of self.old work) 0 self.new (world_of f (S.told out.old) self.old) (world_of f (S.told out.new) self.new) b) }
+        ensures run { IfOk result (λ o. (sizes : Sizes) (f : FilesTold) (book : Book) → Stands sizes self.old book →
+            Settles sizes (state_of self.old book) self.new (world_of f (S.told out.old) self.old) (world_of f (S.told out.new) self.new) o) }
+        ensures err { IfErr result (λ b. (sizes : Sizes) (f : FilesTold) (book : Book) → Stands sizes self.old book →
+            CutBy sizes (state_of self.old book) 0 self.new (world_of f (S.told out.old) self.old) (world_of f (S.told out.new) self.new) b) }
         ensures idle { OnOk result (self.new.input.making ≡ None) }
     {
         while !self.needs_step() {
@@ -969,10 +997,10 @@ impl Engine {
     /// Goes on for at most n steps.
     pub fn run_steps<S: Sink>(&mut self, out: &mut S, n: u64) -> Result<Ended, Broken>
         requires idle { self.old.input.making ≡ None }
-        ensures run { IfOk result (λ ended. (sizes : Sizes) (f : FilesTold) (work : List Reading) → Stands sizes self.old work →
-            Ran sizes (state_of self.old work) n self.new (world_of f (S.told out.old) self.old) (world_of f (S.told out.new) self.new) ended) }
-        ensures err { IfErr result (λ b. (sizes : Sizes) (f : FilesTold) (work : List Reading) → Stands sizes self.old work →
-            CutBy sizes (state_of self.old work) n self.new (world_of f (S.told out.old) self.old) (world_of f (S.told out.new) self.new) b) }
+        ensures run { IfOk result (λ ended. (sizes : Sizes) (f : FilesTold) (book : Book) → Stands sizes self.old book →
+            Ran sizes (state_of self.old book) n self.new (world_of f (S.told out.old) self.old) (world_of f (S.told out.new) self.new) ended) }
+        ensures err { IfErr result (λ b. (sizes : Sizes) (f : FilesTold) (book : Book) → Stands sizes self.old book →
+            CutBy sizes (state_of self.old book) n self.new (world_of f (S.told out.old) self.old) (world_of f (S.told out.new) self.new) b) }
         ensures idle { OnOk result (self.new.input.making ≡ None) }
     {
         let mut taken = 0;
@@ -996,9 +1024,9 @@ impl Engine {
 
     /// Keeps the job's name.
     pub fn keep_name(&mut self, name: &[u8]) -> Result<(), Broken>
-        ensures did { OnOk result ((sizes : Sizes) (w : World) (work : List Reading) → IsSized sizes self.old → Did sizes (state_of self.old work) (state_of self.new work) w w (Kept name.now ∷ [])) }
-        ensures err { IfErr result (λ b. (sizes : Sizes) (w : World) (work : List Reading) (more : List Move) → IsSized sizes self.old → Cuts sizes (state_of self.old work) self.new work w w (Kept name.now ∷ more) b) }
-        ensures stands { OnOk result ((sizes : Sizes) (work : List Reading) → Stands sizes self.old work → Stands sizes self.new work) }
+        ensures did { OnOk result ((sizes : Sizes) (w : World) (book : Book) → IsSized sizes self.old → Did sizes (state_of self.old book) (state_of self.new book) w w (Kept name.now ∷ [])) }
+        ensures err { IfErr result (λ b. (sizes : Sizes) (w : World) (book : Book) (more : List Move) → IsSized sizes self.old → Cuts sizes (state_of self.old book) self.new book w w (Kept name.now ∷ more) b) }
+        ensures stands { OnOk result ((sizes : Sizes) (book : Book) → Stands sizes self.old book → Stands sizes self.new book) }
         ensures frames { SameFrames self.old self.new }
         ensures column { self.new.in_line ≡ self.old.in_line }
         ensures input { self.new.input ≡ self.old.input }
@@ -1009,10 +1037,10 @@ impl Engine {
 
     /// The report that a job's file isn't held, and what comes behind it.
     pub fn refuse_job<S: Sink>(&mut self, out: &mut S, file: &[u8]) -> Result<Outcome, Broken>
-        ensures run { IfOk result (λ o. (sizes : Sizes) (f : FilesTold) (work : List Reading) → self.old.in_line ≡ false → self.old.names.names ≡ primitive_names →
-            Halts sizes (state_of self.old work) self.new work (world_of f (S.told out.old) self.old) (world_of f (S.told out.new) self.new) (no_file file.now) (outcome_of o) 0) }
-        ensures err { IfErr result (λ b. (sizes : Sizes) (f : FilesTold) (work : List Reading) → self.old.in_line ≡ false → self.old.names.names ≡ primitive_names → self.old.reports ≡ 0 →
-            Cuts sizes (state_of self.old work) self.new work (world_of f (S.told out.old) self.old) (world_of f (S.told out.new) self.new) (no_file file.now) b) }
+        ensures run { IfOk result (λ o. (sizes : Sizes) (f : FilesTold) (book : Book) → self.old.in_line ≡ false → self.old.names.names ≡ primitive_names →
+            Halts sizes (state_of self.old book) self.new book (world_of f (S.told out.old) self.old) (world_of f (S.told out.new) self.new) (no_file file.now) (outcome_of o) 0) }
+        ensures err { IfErr result (λ b. (sizes : Sizes) (f : FilesTold) (book : Book) → self.old.in_line ≡ false → self.old.names.names ≡ primitive_names → self.old.reports ≡ 0 →
+            Cuts sizes (state_of self.old book) self.new book (world_of f (S.told out.old) self.old) (world_of f (S.told out.new) self.new) (no_file file.now) b) }
         ensures frames { SameFrames self.old self.new }
         ensures no_file { IfOk result (λ o. o ≡ outcomes.Fatal fatal.NoFile) }
     {
@@ -1024,8 +1052,8 @@ impl Engine {
 
     /// Writes the report that a file isn't held.
     fn write_missing<S: Sink>(&mut self, out: &mut S, file: &[u8]) -> Result<(), Broken>
-        ensures did { OnOk result ((sizes : Sizes) (f : FilesTold) (work : List Reading) → Did sizes (state_of self.old work) (state_of self.new work) (world_of f (S.told out.old) self.old) (world_of f (S.told out.new) self.new) (Written Transcript (report_bytes self.old.names.names self.old.in_line 0 (NoSuchFile file.now)) ∷ [])) }
-        ensures err { IfErr result (λ b. (sizes : Sizes) (f : FilesTold) (work : List Reading) (more : List Move) → Cuts sizes (state_of self.old work) self.new work (world_of f (S.told out.old) self.old) (world_of f (S.told out.new) self.new) (Written Transcript (report_bytes self.old.names.names self.old.in_line 0 (NoSuchFile file.now)) ∷ more) b) }
+        ensures did { OnOk result ((sizes : Sizes) (f : FilesTold) (book : Book) → Did sizes (state_of self.old book) (state_of self.new book) (world_of f (S.told out.old) self.old) (world_of f (S.told out.new) self.new) (Written Transcript (report_bytes self.old.names.names self.old.in_line 0 (NoSuchFile file.now)) ∷ [])) }
+        ensures err { IfErr result (λ b. (sizes : Sizes) (f : FilesTold) (book : Book) (more : List Move) → Cuts sizes (state_of self.old book) self.new book (world_of f (S.told out.old) self.old) (world_of f (S.told out.new) self.new) (Written Transcript (report_bytes self.old.names.names self.old.in_line 0 (NoSuchFile file.now)) ∷ more) b) }
         ensures only { OnlyColumn self.old self.new }
     {
         let (hash, pool) = self.names.parts();

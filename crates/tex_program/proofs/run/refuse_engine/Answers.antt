@@ -5,6 +5,7 @@ use Rattle.world_io.specs.Told.{world}
 use Rattle.tex_program.specs.declared.reactions.Outcome.{Outcome}
 use Rattle.tex_program.specs.Begins.{outcome_of}
 use Rattle.tex_program.specs.Stands.{state_of}
+use Rattle.tex_program.specs.Book.{first_book}
 use Rattle.tex_program.specs.Rules.{Halts, world_of}
 use Rattle.tex_program.specs.Ran.{CutBy}
 use Rattle.tex_program.specs.Says.{SaysSo}
@@ -16,7 +17,7 @@ returns-in-Err-clause-says g c = λ sizes f quiet n begins.
     let a = g.S.Sink.told c.args.out.now in
     c.tell_broken.ensures.says sizes f (First quiet c.args.file.now None) n (world f a false) c.keep_name.new.self
     (kept_cut sizes c.args.engine.now c.keep_name.new.self quiet c.args.file.now c.job_name.result.now c.job_name.ensures f a None n c.in-Err.broken c.is_in_line.result
-    (c.is_in_line.ensures ∙ (c.keep_name.ensures.column ∙ begins.column)) begins c.keep_name.ensures.frames (λ more. c.in-Err.ensures.err sizes (world f a false) [] more begins.stands.sized))
+    (c.is_in_line.ensures ∙ (c.keep_name.ensures.column ∙ begins.column)) begins c.keep_name.ensures.frames (λ more. c.in-Err.ensures.err sizes (world f a false) first_book more begins.stands.sound.sized))
 
 pub returns-in-Ok-clause-says : goal.returns-in-Ok-clause-says
 returns-in-Ok-clause-says g c = λ sizes f quiet n begins.
@@ -26,9 +27,9 @@ returns-in-Ok-clause-says g c = λ sizes f quiet n begins.
     let e = c.keep_name.new.self in
     let e' = c.refuse_job.new.self in
     let column = c.keep_name.ensures.column ∙ begins.column in
-    let did = c.in_default.ensures.did sizes (world f a false) [] begins.stands.sized in
+    let did = c.in_default.ensures.did sizes (world f a false) first_book begins.stands.sound.sized in
     let names = kept_names sizes c.args.engine.now e quiet c.args.file.now c.job_name.result.now c.job_name.ensures f a did begins.names in
-    let halts = subst (λ (o : Outcome). Halts sizes (state_of e []) e' [] (world_of f a e) (world_of f b e') (no_file c.args.file.now) (outcome_of o) 0) i.ensures.no_file (i.ensures.run sizes f [] column names) in
+    let halts = subst (λ (o : Outcome). Halts sizes (state_of e first_book) e' first_book (world_of f a e) (world_of f b e') (no_file c.args.file.now) (outcome_of o) 0) i.ensures.no_file (i.ensures.run sizes f first_book column names) in
     subst (λ (x : Bool). SaysSo sizes (First quiet c.args.file.now None) n (world f a false) (world f b x) 2) (sym c.is_in_line-in-Ok.ensures)
     (refused_fails sizes c.args.engine.now e quiet c.args.file.now c.job_name.result.now c.job_name.ensures f a begins column did b e' n halts)
 
@@ -40,9 +41,9 @@ returns-in-Err-refuse_job-clause-says g c = λ sizes f quiet n begins.
     let e = c.keep_name.new.self in
     let e' = c.refuse_job.new.self in
     let column = c.keep_name.ensures.column ∙ begins.column in
-    let did = c.in_default.ensures.did sizes (world f a false) [] begins.stands.sized in
+    let did = c.in_default.ensures.did sizes (world f a false) first_book begins.stands.sound.sized in
     let names = kept_names sizes c.args.engine.now e quiet c.args.file.now c.job_name.result.now c.job_name.ensures f a did begins.names in
     let reports = kept_reports sizes c.args.engine.now e quiet c.args.file.now c.job_name.result.now c.job_name.ensures f a did begins.reports in
     c.tell_broken-in-Err-refuse_job.ensures.says sizes f (First quiet c.args.file.now None) n (world f a false) e'
     (subst (λ (x : Bool). CutBy sizes (First quiet c.args.file.now None) n e' (world f a false) (world f b x) i.broken) (sym c.is_in_line-in-Err-refuse_job.ensures)
-    (refused_cut sizes c.args.engine.now e quiet c.args.file.now c.job_name.result.now c.job_name.ensures f a begins column did b e' n i.broken c.keep_name.ensures.frames c.refuse_job.ensures.frames (i.ensures.err sizes f [] column names reports)))
+    (refused_cut sizes c.args.engine.now e quiet c.args.file.now c.job_name.result.now c.job_name.ensures f a begins column did b e' n i.broken c.keep_name.ensures.frames c.refuse_job.ensures.frames (i.ensures.err sizes f first_book column names reports)))

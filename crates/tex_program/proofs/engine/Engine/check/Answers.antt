@@ -1,5 +1,5 @@
-use Rattle.std.proofs.Common.{ap, refl}
-use Rattle.std.specs.Prelude.{Option}
+use Rattle.std.proofs.Common.{◌≡◌, ap, ◌∙◌, refl, []}
+use Rattle.std.specs.Prelude.{Option, None}
 use Rattle.plain_machine.specs.Plan.{Scanning, checked}
 use Rattle.tex_program.specs.Stands.{page_of}
 use Rattle.tex_program.proofs.Cutting.{cuts_by}
@@ -9,14 +9,14 @@ use Rattle.tex_program.proofs.engine.Engine.check.Goals as goal
 
 pub returns-in-Some-clause-rule : goal.returns-in-Some-clause-rule
 returns-in-Some-clause-rule g c = let e = c.args.self.now in let i = c.in-Some in
-    ok_to c.run_away.result (λ ruled h sizes f work t.
-    onward_by sizes _ c.run_away.new.self _ _ _ _ ruled (runs_away sizes e work i.name (reads_text sizes e work i.name (i.ensures.top refl) i.ensures.some t)) (h sizes f work (page_of e) (wants_stands sizes e work t))) c.run_away.ensures.rule
+    ok_to c.run_away.result (λ ruled h sizes f book t.
+    onward_by sizes _ c.run_away.new.self book _ _ _ _ ruled (runs_away sizes e book i.name (reads_text sizes e book i.name (i.ensures.top refl) i.ensures.some t)) (h sizes f book (page_of e book) (wants_stands sizes e book t))) c.run_away.ensures.rule
 
 pub returns-in-Some-clause-err : goal.returns-in-Some-clause-err
 returns-in-Some-clause-err g c = let e = c.args.self.now in let i = c.in-Some in
-    err_to c.run_away.result (λ b h sizes f work t.
-    cuts_by sizes _ c.run_away.new.self work _ _ _ _ b (runs_away sizes e work i.name (reads_text sizes e work i.name (i.ensures.top refl) i.ensures.some t)) (h sizes f work (page_of e) (wants_stands sizes e work t))) c.run_away.ensures.err
+    err_to c.run_away.result (λ b h sizes f book t.
+    cuts_by sizes _ c.run_away.new.self book _ _ _ _ b (runs_away sizes e book i.name (reads_text sizes e book i.name (i.ensures.top refl) i.ensures.some t)) (h sizes f book (page_of e book) (wants_stands sizes e book t))) c.run_away.ensures.err
 
 pub returns-in-None-clause-rule : goal.returns-in-None-clause-rule
 returns-in-None-clause-rule g c = let e = c.args.self.now in
-    λ sizes f work t. skip_onward sizes e work _ _ (ap (λ (o : Option Scanning). checked (page_of e) o) (reads_no_text sizes e work (c.text_name.ensures.none c.in-None.is) t)) (wants_stands sizes e work t)
+    λ sizes f book t. skip_onward sizes e book _ _ (ap (λ (o : Option Scanning). checked (page_of e book) o) (reads_no_text sizes e book (c.text_name.ensures.none c.in-None.is) t)) (wants_stands sizes e book t)

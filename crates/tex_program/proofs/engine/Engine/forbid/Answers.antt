@@ -1,3 +1,4 @@
+use Rattle.std.proofs.Common.{ap, ◌∙◌, subst}
 use Rattle.plain_state.specs.Reports.{Forbidden, OfText}
 use Rattle.tex_program.specs.Stands.{state_of, page_of}
 use Rattle.tex_program.specs.Rules.{world_of, space_moves, away_text}
@@ -5,27 +6,27 @@ use Rattle.tex_program.specs.Begins.{away_moves}
 use Rattle.tex_program.proofs.Asking.{same_column_cuts}
 use Rattle.tex_program.proofs.Counting.{counts_of}
 use Rattle.tex_program.proofs.Joining.{same_err, ok_to, err_to}
-use Rattle.tex_program.proofs.Reporting.{sized_still}
+use Rattle.tex_program.proofs.Reporting.{others_sound}
 use Rattle.tex_program.proofs.Handing.{space_still, space_stands, forbid_rule, forbid_cuts}
 use Rattle.tex_program.proofs.engine.Engine.forbid.Goals as goal
 
 pub returns-in_err-put_one-clause-err : goal.returns-in_err-put_one-clause-err
 returns-in_err-put_one-clause-err g c = let e = c.args.self.now in let i = c.in_err-put_one in
     same_err c.from_residual.result i.field-0.0 _ c.from_residual.ensures.1
-    (λ sizes f work fits. let st = space_stands sizes c.args.want e work fits in
-    same_column_cuts sizes (state_of e work) c.put_one.new.self work f (g.S.Sink.told c.args.out.now) e.in_line _ i.field-0.0 c.put_one.ensures.others.in_line
-    (i.ensures.err sizes (world_of f (g.S.Sink.told c.args.out.now) e) work (away_moves (page_of e) (away_text e) (Forbidden OfText c.args.name) (space_moves (page_of e) c.args.want work)) (counts_of sizes e work st) st.idle))
+    (λ sizes f book fits. let st = space_stands sizes c.args.want e book fits in
+    same_column_cuts sizes (state_of e book) c.put_one.new.self book f (g.S.Sink.told c.args.out.now) e.in_line _ i.field-0.0 c.put_one.ensures.others.in_line
+    (i.ensures.err sizes (world_of f (g.S.Sink.told c.args.out.now) e) book (away_moves (page_of e book) (away_text e) (Forbidden OfText c.args.name) (space_moves (page_of e book) c.args.want book.work)) (counts_of sizes e book st) st.idle))
 
 pub returns-clause-rule : goal.returns-clause-rule
 returns-clause-rule g c = let e = c.args.self.now in let e1 = c.put_one.new.self in let p = c.put_one.ensures in
-    ok_to c.run_away.result (λ ruled h sizes f work fits. let st = space_stands sizes c.args.want e work fits in
-    forbid_rule sizes e e1 c.run_away.new.self f (g.S.Sink.told c.args.out.now) _ c.args.token (Forbidden OfText c.args.name) (space_moves (page_of e) c.args.want work) work p.page p.frames.lists
-    (λ w. c.in_ok-put_one.ensures.did sizes w work (counts_of sizes e work st) st.idle) ruled
-    (h sizes f work (page_of e) (space_still sizes c.args.want e e1 work p.frames (sized_still sizes e e1 p.others.sizes p.frames.outer p.sizes p.others.names p.others.reports st.sized) c.in_ok-put_one.ensures.idle fits))) c.run_away.ensures.rule
+    ok_to c.run_away.result (λ ruled h sizes f book fits. let st = space_stands sizes c.args.want e book fits in
+    forbid_rule sizes e e1 c.run_away.new.self f (g.S.Sink.told c.args.out.now) _ c.args.token (Forbidden OfText c.args.name) (space_moves (page_of e book) c.args.want book.work) book (p.page book) p.frames.lists
+    (λ w. c.in_ok-put_one.ensures.did sizes w book (counts_of sizes e book st) st.idle) ruled
+    (h sizes f book (page_of e book) (space_still sizes c.args.want e e1 book p.frames (others_sound sizes e e1 book p.others p.store st.sound) c.in_ok-put_one.ensures.idle fits))) c.run_away.ensures.rule
 
 pub returns-clause-err : goal.returns-clause-err
 returns-clause-err g c = let e = c.args.self.now in let e1 = c.put_one.new.self in let p = c.put_one.ensures in
-    err_to c.run_away.result (λ b h sizes f work fits. let st = space_stands sizes c.args.want e work fits in
-    forbid_cuts sizes e e1 c.run_away.new.self f (g.S.Sink.told c.args.out.now) _ c.args.token (Forbidden OfText c.args.name) (space_moves (page_of e) c.args.want work) work p.page p.frames.lists
-    (λ w. c.in_ok-put_one.ensures.did sizes w work (counts_of sizes e work st) st.idle) b
-    (h sizes f work (page_of e) (space_still sizes c.args.want e e1 work p.frames (sized_still sizes e e1 p.others.sizes p.frames.outer p.sizes p.others.names p.others.reports st.sized) c.in_ok-put_one.ensures.idle fits))) c.run_away.ensures.err
+    err_to c.run_away.result (λ b h sizes f book fits. let st = space_stands sizes c.args.want e book fits in
+    forbid_cuts sizes e e1 c.run_away.new.self f (g.S.Sink.told c.args.out.now) _ c.args.token (Forbidden OfText c.args.name) (space_moves (page_of e book) c.args.want book.work) book (p.page book) p.frames.lists
+    (λ w. c.in_ok-put_one.ensures.did sizes w book (counts_of sizes e book st) st.idle) b
+    (h sizes f book (page_of e book) (space_still sizes c.args.want e e1 book p.frames (others_sound sizes e e1 book p.others p.store st.sound) c.in_ok-put_one.ensures.idle fits))) c.run_away.ensures.err

@@ -5,6 +5,7 @@ use Rattle.plain_state.specs.States.{Begun, fed_with, fresh}
 use Rattle.frames.specs.Sees.{kind_of}
 use Rattle.tex_program.specs.declared.engine.Engine.{Engine}
 use Rattle.tex_program.specs.declared.broken.Broken.TheVariants as broken
+use Rattle.tex_program.specs.Book.{with_work}
 use Rattle.tex_program.specs.Stands.{state_of}
 use Rattle.tex_program.specs.Rules.{feeds_of}
 use Rattle.tex_program.proofs.Asking.{same_column, same_column_cuts}
@@ -17,44 +18,44 @@ use Rattle.tex_program.proofs.engine.Engine.go_on.Goals as goal
 pub returns-in_err-feed-in-Feed-clause-err : goal.returns-in_err-feed-in-Feed-clause-err
 returns-in_err-feed-in-Feed-clause-err g c = let e = c.args.self.now in let i = c.in_err-feed-in-Feed in
     rw c.in-Feed.is (same_err c.from_residual.result _ _ c.from_residual.ensures.1
-    (λ sizes f work fits. same_column_cuts sizes (state_of e work) c.feed.new.self work f _ e.in_line (feeds_of work c.args.seen) (broken.Full i.field-0.0) (ap (λ (y : Engine). y.in_line) i.ensures.err) (i.ensures.refused sizes _ work fits)))
+    (λ sizes f book fits. same_column_cuts sizes (state_of e book) c.feed.new.self book f _ e.in_line (feeds_of book.work c.args.seen) (broken.Full i.field-0.0) (ap (λ (y : Engine). y.in_line) i.ensures.err) (i.ensures.refused sizes _ book fits)))
 
 pub returns-in_err-begin-in-Begin-clause-err : goal.returns-in_err-begin-in-Begin-clause-err
 returns-in_err-begin-in-Begin-clause-err g c = let e = c.args.self.now in let i = c.in_err-begin-in-Begin in let r = c.from_residual-in_err-begin-in-Begin in
     rw c.in-Begin.is (same_err r.result _ _ r.ensures.1
-    (λ sizes f work fits. full_out sizes e c.begin.new.self f _ work (Begun (kind_of c.in-Begin.kind)) [] i.field-0.0 i.ensures.err (i.ensures.refused sizes work (counts_of sizes e work fits.1.1))))
+    (λ sizes f book fits. full_out sizes e c.begin.new.self f _ book (Begun (kind_of c.in-Begin.kind)) [] i.field-0.0 i.ensures.err (i.ensures.refused sizes book (counts_of sizes e book fits.1.1))))
 
 pub returns-in_err-token_line-in-Line-clause-err : goal.returns-in_err-token_line-in-Line-clause-err
 returns-in_err-token_line-in-Line-clause-err g c = let i = c.in_err-token_line-in-Line in let r = c.from_residual-in_err-token_line-in-Line in
-    rw c.in-Line.is (same_err r.result i.field-0.0 _ r.ensures.1 (λ sizes f work st. i.ensures.err sizes f work))
+    rw c.in-Line.is (same_err r.result i.field-0.0 _ r.ensures.1 (λ sizes f book st. i.ensures.err sizes f book))
 
 pub returns-in_ok-feed-in-Feed-clause-rule : goal.returns-in_ok-feed-in-Feed-clause-rule
 returns-in_ok-feed-in-Feed-clause-rule g c = let e = c.args.self.now in let i = c.in_ok-feed-in-Feed.ensures in
-    rw c.in-Feed.is (λ sizes f work fits. same_column sizes (state_of e work) c.feed.new.self f _ e.in_line (feeds_of work c.args.seen) 0 i.same.others.in_line (record {
-      work' = fed_with (Tok c.args.seen) work;
-      stands = i.stands sizes work fits;
-      did = i.did sizes _ work fits;
-      count = feeds_none work c.args.seen;
+    rw c.in-Feed.is (λ sizes f book fits. same_column sizes (state_of e book) c.feed.new.self f _ e.in_line (feeds_of book.work c.args.seen) 0 i.same.others.in_line (record {
+      book' = with_work (fed_with (Tok c.args.seen) book.work) book;
+      stands = i.stands sizes book fits;
+      did = i.did sizes _ book fits;
+      count = feeds_none book.work c.args.seen;
     }))
 
 pub returns-in_ok-begin-in-Begin-clause-rule : goal.returns-in_ok-begin-in-Begin-clause-rule
 returns-in_ok-begin-in-Begin-clause-rule g c = let e = c.args.self.now in let i = c.in_ok-begin-in-Begin.ensures in
-    rw c.in-Begin.is (λ sizes f work fits.
-    reading_went sizes e c.begin.new.self work (fresh (kind_of c.in-Begin.kind) ∷ work) f _ (Begun (kind_of c.in-Begin.kind)) tt refl (i.fits sizes work (counts_of sizes e work fits.1.1)) (ap (λ (l : List (List Token)). record (state_of e work) { work = fresh (kind_of c.in-Begin.kind) ∷ work; gathered = l }) (sym i.lists)) i.same
-    (i.stands sizes work (fits.0, fits.1.1) (lone_first sizes e (fresh (kind_of c.in-Begin.kind)) work fits.0 fits.1.0 fits.1.1)))
+    rw c.in-Begin.is (λ sizes f book fits.
+    reading_went sizes e c.begin.new.self book (fresh (kind_of c.in-Begin.kind) ∷ book.work) f _ (Begun (kind_of c.in-Begin.kind)) tt refl (i.fits sizes book (counts_of sizes e book fits.1.1)) (ap (λ (l : List (List Token)). record (state_of e book) { work = fresh (kind_of c.in-Begin.kind) ∷ book.work; gathered = l }) (sym i.lists)) i.same
+    (i.stands sizes book (fits.0, fits.1.1) (lone_first sizes e (fresh (kind_of c.in-Begin.kind)) book fits.0 fits.1.0 fits.1.1)))
 
 pub returns-in-Report-clause-rule : goal.returns-in-Report-clause-rule
 returns-in-Report-clause-rule g c = rw c.in-Report.is c.report_only.ensures.rule
 
 pub returns-in-Report-clause-err : goal.returns-in-Report-clause-err
-returns-in-Report-clause-err g c = rw c.in-Report.is (err_to c.report_only.result (λ b h sizes f work st. h sizes f work st.sized.few_reports) c.report_only.ensures.err)
+returns-in-Report-clause-err g c = rw c.in-Report.is (err_to c.report_only.result (λ b h sizes f book st. h sizes f book st.sound.sized.few_reports) c.report_only.ensures.err)
 
 pub returns-in_ok-token_line-in-Line-clause-rule : goal.returns-in_ok-token_line-in-Line-clause-rule
 returns-in_ok-token_line-in-Line-clause-rule g c = let e = c.args.self.now in
-    rw c.in-Line.is (λ sizes f work st. line_went sizes e c.token_line.new.self work _ _ c.args.seen.meaning c.token_line.ensures.only st (c.in_ok-token_line-in-Line.ensures.did sizes f work))
+    rw c.in-Line.is (λ sizes f book st. line_went sizes e c.token_line.new.self book _ _ c.args.seen.meaning c.token_line.ensures.only st (c.in_ok-token_line-in-Line.ensures.did sizes f book))
 
 pub returns-in-Finish-clause-rule : goal.returns-in-Finish-clause-rule
-returns-in-Finish-clause-rule g c = rw c.in-Finish.is (ok_to c.halt.result (λ ruled h sizes f work st. h sizes f work) c.halt.ensures.rule)
+returns-in-Finish-clause-rule g c = rw c.in-Finish.is (ok_to c.halt.result (λ ruled h sizes f book st. h sizes f book) c.halt.ensures.rule)
 
 pub returns-in-Finish-clause-err : goal.returns-in-Finish-clause-err
-returns-in-Finish-clause-err g c = rw c.in-Finish.is (err_to c.halt.result (λ b h sizes f work st. h sizes f work) c.halt.ensures.err)
+returns-in-Finish-clause-err g c = rw c.in-Finish.is (err_to c.halt.result (λ b h sizes f book st. h sizes f book) c.halt.ensures.err)

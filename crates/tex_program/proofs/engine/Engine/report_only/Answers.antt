@@ -1,18 +1,18 @@
 use Rattle.std.proofs.Common.{[], ap, ◌∙◌}
 use Rattle.transcript.specs.Reported.{report_of}
 use Rattle.tex_program.proofs.Joining.{same_err}
-use Rattle.tex_program.proofs.Reporting.{reports_went, stands_still}
+use Rattle.tex_program.proofs.Reporting.{reports_went, stands_still, input_sound}
 use Rattle.tex_program.proofs.engine.Engine.report_only.Goals as goal
 
 pub returns-in_err-report-clause-err : goal.returns-in_err-report-clause-err
 returns-in_err-report-clause-err g c = let i = c.in_err-report in
-    same_err c.from_residual.result i.field-0.0 _ c.from_residual.ensures.1 (λ sizes f work few. i.ensures.err sizes f work [] few)
+    same_err c.from_residual.result i.field-0.0 _ c.from_residual.ensures.1 (λ sizes f book few. i.ensures.err sizes f book [] few)
 
 pub returns-then-branch-clause-rule : goal.returns-then-branch-clause-rule
-returns-then-branch-clause-rule g c = λ sizes f work st. let e = c.args.self.now in let e' = c.report.new.self in
-    reports_went sizes e e' work _ _ (report_of c.args.report)
-    (stands_still sizes e e' work c.report.ensures.frames (c.in_ok-report.ensures.sized c.if-branch.true sizes st.sized) (ap (λ (i : _). i.making) c.report.ensures.input ∙ st.idle) st)
-    (c.in_ok-report.ensures.on c.if-branch.true sizes f work [])
+returns-then-branch-clause-rule g c = λ sizes f book st. let e = c.args.self.now in let e' = c.report.new.self in
+    reports_went sizes e e' book _ _ (report_of c.args.report)
+    (stands_still sizes e e' book c.report.ensures.frames (input_sound sizes e e' book c.report.ensures.input (c.in_ok-report.ensures.sized c.if-branch.true sizes) st.sound) (ap (λ (i : _). i.making) c.report.ensures.input ∙ st.idle) st)
+    (c.in_ok-report.ensures.on c.if-branch.true sizes f book [])
 
 pub returns-else-branch-clause-rule : goal.returns-else-branch-clause-rule
-returns-else-branch-clause-rule g c = λ sizes f work st. c.in_ok-report.ensures.last c.if-branch.false sizes f work []
+returns-else-branch-clause-rule g c = λ sizes f book st. c.in_ok-report.ensures.last c.if-branch.false sizes f book []

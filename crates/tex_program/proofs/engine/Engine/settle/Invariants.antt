@@ -1,8 +1,8 @@
 use Rattle.std.proofs.Common.{◌≡◌, List}
 use Rattle.std.specs.Prelude.{None}
 use Rattle.tex_defs.specs.declared.Sizes.{Sizes}
-use Rattle.plain_state.specs.States.{Reading}
 use Rattle.world_io.specs.Told.{FilesTold}
+use Rattle.tex_program.specs.Book.{Book}
 use Rattle.tex_program.specs.Stands.{Stands, state_of}
 use Rattle.tex_program.specs.Rules.{world_of}
 use Rattle.tex_program.specs.Steps.{weight}
@@ -12,8 +12,8 @@ use Rattle.tex_program.proofs.engine.Engine.settle.Given as goal
 abbrev pub invariant-loop-self : goal.invariant-loop-self
 invariant-loop-self g l =
     (l.self.input.making ≡ None)
-    × ((sizes : Sizes) (f : FilesTold) (work : List Reading) → Stands sizes l.fn.self work →
-    Came sizes (state_of l.fn.self work) l.self (world_of f (g.S.Sink.told l.fn.out) l.fn.self) (world_of f (g.S.Sink.told l.out) l.self) 0)
+    × ((sizes : Sizes) (f : FilesTold) (book : Book) → Stands sizes l.fn.self book →
+    Came sizes (state_of l.fn.self book) l.self (world_of f (g.S.Sink.told l.fn.out) l.fn.self) (world_of f (g.S.Sink.told l.out) l.self) 0)
 
 abbrev pub decreases-loop-self : goal.decreases-loop-self
 decreases-loop-self g l = weight l.self
