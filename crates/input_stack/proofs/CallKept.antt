@@ -47,7 +47,7 @@ open_same old new None same = refl
 open_same old new (Some r) same = ap (map (Later (number r))) (rest_same old new r same)
 
 abbrev put_from : Call → List (Option Argument) → List Item → List Token → Put
-put_from c args front ts = record { list = number c.body; arguments = map number_of args; reading = open_number c.argument; items = front ++ substituted args ts }
+put_from c args front ts = record { list = number c.body; body = true; arguments = map number_of args; reading = open_number c.argument; items = front ++ substituted args ts }
 
 pub call_same : (old new : List (Option Entry)) (c : Call) → Same old new (call_holds c) → put_of_call new c ≡ put_of_call old c
 call_same old new c same =

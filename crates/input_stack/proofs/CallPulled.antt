@@ -84,7 +84,7 @@ module _ (table : List (Option Entry)) (b : Reader) (args : Args) (r r' : Reader
 
   later_gives : (t : Token) (vs : List Token) → rest table r' ≡ vs → IsCall table whole → CallGives table table whole later (Later (number r) t) (map (Later (number r)) vs ++ behind)
   later_gives t vs left is = record {
-    after = ap₂ (λ (k : ℕ) (us : List Token). record { list = number b; arguments = map number_of (arguments_in table args); reading = Some k; items = map (Later k) us ++ substituted (arguments_in table args) (rest table b) }) same left;
+    after = ap₂ (λ (k : ℕ) (us : List Token). record { list = number b; body = true; arguments = map number_of (arguments_in table args); reading = Some k; items = map (Later k) us ++ substituted (arguments_in table args) (rest table b) }) same left;
     stands = record { body = is.body; argument = at; filled = is.filled; held = is.held };
     shares = record { size = refl; tokens = λ h. refl; places = λ h. refl; holders = λ h. omega arith; held = λ h some. absurd (omega (arith, some)) };
     held = λ h. omega (arith, ap (λ (k : ℕ). holds k h) same);
@@ -166,8 +166,8 @@ module _ (old new : List (Option Entry)) (c : Call) (m : Reader) (argument : Opt
       ∙ ap (λ (ts : List Token). xs ++ substituted (arguments_in old c.args) (drop m.read ts)) (s.tokens (number m)) in
       record {
         after =
-            ap₂ (λ (n : ℕ) (ys : List Item). record { list = n; arguments = map number_of (arguments_in new c.args); reading = open_number argument; items = ys }) same left
-            ∙ ap₂ (λ (o : Option ℕ) (args : List (Option Argument)). record { list = number c.body; arguments = map number_of args; reading = o; items = xs ++ substituted (arguments_in old c.args) (rest old m) }) hands.reading a;
+            ap₂ (λ (n : ℕ) (ys : List Item). record { list = n; body = true; arguments = map number_of (arguments_in new c.args); reading = open_number argument; items = ys }) same left
+            ∙ ap₂ (λ (o : Option ℕ) (args : List (Option Argument)). record { list = number c.body; body = true; arguments = map number_of args; reading = o; items = xs ++ substituted (arguments_in old c.args) (rest old m) }) hands.reading a;
         stands = record {
           body = at_same old new m (s.tokens (number m)) (s.places (number m)) (omega (arith, s.holders (number m), at.held)) at;
           argument = hands.at_next;

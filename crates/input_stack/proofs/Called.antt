@@ -57,7 +57,7 @@ module _ (old : List (Option Entry)) (f : ℕ → ℕ) (body : ListRef) (args : 
   pub call_is : put_of_call old call ≡ put_is
   call_is =
       ap (put_of_call old) is
-      ∙ ap₂ (λ (n : ℕ) (ts : List Token). record { list = n; arguments = map number_of (arguments_in old args); reading = None; items = substituted (arguments_in old args) ts }) same left
+      ∙ ap₂ (λ (n : ℕ) (ts : List Token). record { list = n; body = true; arguments = map number_of (arguments_in old args); reading = None; items = substituted (arguments_in old args) ts }) same left
 
   pub holds_are : (h : ℕ) → call_holds call h ≡ pushed_holds body args h
   holds_are h = omega (arith, ap (λ (c : Call). call_holds c h) is, ap (λ (n : ℕ). holds n h) same, filled_holds args h filled)

@@ -85,7 +85,7 @@ module _ (old new : List (Option Entry)) (c : Call) (f : ℕ → ℕ) (covers : 
   closed_unfinished = subst (λ (p : Put). IsSettled None p.items) (sym same) settled
 
   pub closed_pending : (q : Pending) → in_front (put_of_call new after) q ≡ settle (in_front (put_of_call old c) q)
-  closed_pending q = ap (λ (p : Put). in_front p q) same ∙ sym (closed_settle (put_of_call old c) (put_of_call old after) q refl refl items (subst (IsSettled None) items settled))
+  closed_pending q = ap (λ (p : Put). in_front p q) same ∙ sym (closed_settle (put_of_call old c) (put_of_call old after) q refl refl refl items (subst (IsSettled None) items settled))
 
 -- LEVELS
 

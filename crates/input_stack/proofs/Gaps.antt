@@ -35,7 +35,7 @@ gaps_none (Gap ∷ xs) ys is = gaps_none xs ys is
 pub next_top : (p : Put) (ps : List Put) (x : Item) (left : List Item) → without_gaps p.items ≡ x ∷ left → next_item (p ∷ ps) ≡ Some x
 next_top p ps x left is = gaps_first p.items (flat ps) ∙ ap (λ (xs : List Item). first_of xs (flat ps)) is
 
-pub pulled_is : (p : Put) (ps : List Put) (x : Item) (left : List Item) → without_gaps p.items ≡ x ∷ left → pulled (p ∷ ps) ≡ record { list = p.list; arguments = p.arguments; reading = argument_of x; items = left } ∷ ps
+pub pulled_is : (p : Put) (ps : List Put) (x : Item) (left : List Item) → without_gaps p.items ≡ x ∷ left → pulled (p ∷ ps) ≡ record { list = p.list; body = p.body; arguments = p.arguments; reading = argument_of x; items = left } ∷ ps
 pulled_is p ps x left is = ap (λ (xs : List Item). pulled_top p xs (pulled ps) ps) is
 
 no_items : (xs : List Item) → is_empty xs ≡ true → xs ≡ []

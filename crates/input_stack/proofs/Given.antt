@@ -38,13 +38,13 @@ flat_settled (p ∷ ps) = top_flat p p.items (settled ps) ps (flat_settled ps)
 pub next_settled : (ps : List Put) → next_item (settled ps) ≡ next_item ps
 next_settled ps = ap (λ (xs : List Item). first (without_gaps xs)) (flat_settled ps)
 
-same_top : (p q : Put) (xs : List Item) (below rest : List Put) → q.list ≡ p.list → q.arguments ≡ p.arguments → pulled_top q xs below rest ≡ pulled_top p xs below rest
-same_top p q [] below rest a b = refl
-same_top p q (x ∷ xs) below rest a b = rw (a, b) refl
+same_top : (p q : Put) (xs : List Item) (below rest : List Put) → q.list ≡ p.list → q.body ≡ p.body → q.arguments ≡ p.arguments → pulled_top q xs below rest ≡ pulled_top p xs below rest
+same_top p q [] below rest a k b = refl
+same_top p q (x ∷ xs) below rest a k b = rw (a, k, b) refl
 
 top_pulled : (p : Put) (xs : List Item) (below rest : List Put) → pulled below ≡ pulled rest → pulled (settled_top p xs below rest) ≡ pulled_top p (without_gaps xs) (pulled rest) rest
 top_pulled p [] below rest is = is
-top_pulled p (x ∷ xs) below rest is = same_top p (record { list = p.list; arguments = p.arguments; reading = later_of x; items = x ∷ xs }) (without_gaps (x ∷ xs)) (pulled rest) rest refl refl
+top_pulled p (x ∷ xs) below rest is = same_top p (record { list = p.list; body = p.body; arguments = p.arguments; reading = later_of x; items = x ∷ xs }) (without_gaps (x ∷ xs)) (pulled rest) rest refl refl refl
 
 pulled_settled : (ps : List Put) → pulled (settled ps) ≡ pulled ps
 pulled_settled [] = refl
@@ -79,7 +79,7 @@ list_gives c b d n m t (v ∷ vs) us q q' r is same stays bytes answer =
     let tail : vs ≡ us = cc in
     (answer ∙ ap (λ (x : Token). pulled_as.Token x) (sym head), ap₂ in_front (ap₂ plain_put same (sym tail)) stays, bytes)
 
-call_gives : (c b d : List ℕ) (p p' : Put) (q q' : Pending) (x : Item) (left : List Item) (r : Pulled) → without_gaps p.items ≡ x ∷ left → p' ≡ record { list = p.list; arguments = p.arguments; reading = argument_of x; items = left } → q' ≡ q → d ≡ b → r ≡ pulled_as.Token (token_in x) → PullsTop c b d (in_front p q) (in_front p' q') (next_item (p ∷ q.puts)) r
+call_gives : (c b d : List ℕ) (p p' : Put) (q q' : Pending) (x : Item) (left : List Item) (r : Pulled) → without_gaps p.items ≡ x ∷ left → p' ≡ record { list = p.list; body = p.body; arguments = p.arguments; reading = argument_of x; items = left } → q' ≡ q → d ≡ b → r ≡ pulled_as.Token (token_in x) → PullsTop c b d (in_front p q) (in_front p' q') (next_item (p ∷ q.puts)) r
 call_gives c b d p p' q q' x left r is at stays bytes answer =
     let k : PullsTop c b d (in_front p q) (in_front p' q') (Some x) r = (answer, ap₂ in_front at stays ∙ ap (λ (ps : List Put). with_puts ps (in_front p q)) (sym (pulled_is p q.puts x left is)), bytes) in
     subst (λ (o : Option Item). PullsTop c b d (in_front p q) (in_front p' q') o r) (sym (next_top p q.puts x left is)) k

@@ -18,3 +18,4 @@ pub mod Given
 pub mod Ready
 pub mod Helds
 pub mod Lasting
+pub mod Bounds

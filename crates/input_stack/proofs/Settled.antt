@@ -1,5 +1,5 @@
 -- What is finished goes.
-use Rattle.std.proofs.Common.{zero, suc, ◌≡◌, ℕ, ◌+◌, ◌<◌, ◌≤◌, List, [], ◌∷◌, length, map, take, Option, None, true, refl, sym, ap, ap₂, ◌∙◌, arith}
+use Rattle.std.proofs.Common.{zero, suc, ◌≡◌, ℕ, ◌+◌, ◌<◌, ◌≤◌, List, [], ◌∷◌, length, map, take, Option, None, Bool, true, false, refl, sym, ap, ap₂, ◌∙◌, arith}
 use Rattle.std.specs.Prelude.{All}
 use Rattle.std.proofs.lemmas.List.Elements.{All-head, All-tail}
 use Rattle.std.proofs.lemmas.List.Sums.{sum_by-cons}
@@ -21,13 +21,13 @@ pub finished_goes : (p : Put) (xs : List Item) (below rest : List Put) → is_em
 finished_goes p [] below rest is = refl
 finished_goes p (x ∷ xs) below rest is = cc
 
-text_stays : (n : ℕ) (ts : List Token) (below rest : List Put) → 0 < length ts → settled_top (record { list = n; arguments = []; reading = None; items = map Text ts }) (map Text ts) below rest ≡ record { list = n; arguments = []; reading = None; items = map Text ts } ∷ rest
+text_stays : (n : ℕ) (ts : List Token) (below rest : List Put) → 0 < length ts → settled_top (record { list = n; body = false; arguments = []; reading = None; items = map Text ts }) (map Text ts) below rest ≡ record { list = n; body = false; arguments = []; reading = None; items = map Text ts } ∷ rest
 text_stays n [] below rest some = absurd (omega arith)
 text_stays n (t ∷ ts) below rest some = refl
 
 settled_same : (p : Put) (xs : List Item) (below rest : List Put) → p.items ≡ xs → IsSettled p.reading xs → settled_top p xs below rest ≡ p ∷ rest
 settled_same p [] below rest at is = absurd is
-settled_same p (x ∷ xs) below rest at is = ap₂ (λ (o : Option ℕ) (ys : List Item). record { list = p.list; arguments = p.arguments; reading = o; items = ys } ∷ rest) (sym is) (sym at)
+settled_same p (x ∷ xs) below rest at is = ap₂ (λ (o : Option ℕ) (ys : List Item). record { list = p.list; body = p.body; arguments = p.arguments; reading = o; items = ys } ∷ rest) (sym is) (sym at)
 
 settled_put : (p : Put) (q : Pending) → IsSettled p.reading p.items → settle (in_front p q) ≡ in_front p q
 settled_put p q is = ap (λ (ps : List Put). with_puts ps q) (settled_same p p.items (settled q.puts) q.puts refl is)
@@ -40,15 +40,16 @@ head_settle table (level.List r) ls some =
 head_settle table (level.Call c) ls is = settled_put (put_of_call table c) (pending_in table ls) is
 head_settle table (level.Source s) ls is = refl
 
-settled_to : (p p' : Put) (xs : List Item) (below rest : List Put) → p'.list ≡ p.list → p'.arguments ≡ p.arguments → p'.items ≡ xs → IsSettled p'.reading xs → settled_top p xs below rest ≡ p' ∷ rest
-settled_to p p' [] below rest a b at is = absurd is
-settled_to p p' (x ∷ xs) below rest a b at is =
-    ap₂ (λ (n : ℕ) (ns : List (Option ℕ)). record { list = n; arguments = ns; reading = later_of x; items = x ∷ xs } ∷ rest) (sym a) (sym b)
-    ∙ ap₂ (λ (o : Option ℕ) (ys : List Item). record { list = p'.list; arguments = p'.arguments; reading = o; items = ys } ∷ rest) (sym is) (sym at)
+settled_to : (p p' : Put) (xs : List Item) (below rest : List Put) → p'.list ≡ p.list → p'.body ≡ p.body → p'.arguments ≡ p.arguments → p'.items ≡ xs → IsSettled p'.reading xs → settled_top p xs below rest ≡ p' ∷ rest
+settled_to p p' [] below rest a k b at is = absurd is
+settled_to p p' (x ∷ xs) below rest a k b at is =
+    ap₂ (λ (n : ℕ) (ns : List (Option ℕ)). record { list = n; body = p.body; arguments = ns; reading = later_of x; items = x ∷ xs } ∷ rest) (sym a) (sym b)
+    ∙ ap (λ (body : Bool). record { list = p'.list; body = body; arguments = p'.arguments; reading = later_of x; items = x ∷ xs } ∷ rest) (sym k)
+    ∙ ap₂ (λ (o : Option ℕ) (ys : List Item). record { list = p'.list; body = p'.body; arguments = p'.arguments; reading = o; items = ys } ∷ rest) (sym is) (sym at)
 
 -- a list on top whose argument's level goes
-pub closed_settle : (p p' : Put) (q : Pending) → p'.list ≡ p.list → p'.arguments ≡ p.arguments → p'.items ≡ p.items → IsSettled p'.reading p.items → settle (in_front p q) ≡ in_front p' q
-closed_settle p p' q a b at is = ap (λ (ps : List Put). with_puts ps q) (settled_to p p' p.items (settled q.puts) q.puts a b at is)
+pub closed_settle : (p p' : Put) (q : Pending) → p'.list ≡ p.list → p'.body ≡ p.body → p'.arguments ≡ p.arguments → p'.items ≡ p.items → IsSettled p'.reading p.items → settle (in_front p q) ≡ in_front p' q
+closed_settle p p' q a k b at is = ap (λ (ps : List Put). with_puts ps q) (settled_to p p' p.items (settled q.puts) q.puts a k b at is)
 
 -- where nothing is finished on top, settling changes nothing
 pub unfinished_settle : (table : List (Option Entry)) (ls : List Level) → AreUnfinished table ls → settle (pending_in table ls) ≡ pending_in table ls
@@ -99,7 +100,7 @@ levels_used table (level.Source s ∷ ls) a =
 
 top_used : (p : Put) (xs : List Item) (below rest : List Put) → used below ≡ used rest → used (settled_top p xs below rest) ≡ used_of xs + used rest
 top_used p [] below rest is = omega (arith, is)
-top_used p (x ∷ xs) below rest is = sum_by-cons (λ (q : Put). used_of q.items) (record { list = p.list; arguments = p.arguments; reading = later_of x; items = x ∷ xs }) rest
+top_used p (x ∷ xs) below rest is = sum_by-cons (λ (q : Put). used_of q.items) (record { list = p.list; body = p.body; arguments = p.arguments; reading = later_of x; items = x ∷ xs }) rest
 
 used_settled : (ps : List Put) → used (settled ps) ≡ used ps
 used_settled [] = refl
@@ -156,7 +157,7 @@ arguments_used table (level.Source s ∷ ls) a u =
 
 top_arguments : (p : Put) (xs : List Item) (below rest : List Put) → used_arguments below ≡ used_arguments rest → used_arguments (settled_top p xs below rest) ≡ when_some xs (length p.arguments) + used_arguments rest
 top_arguments p [] below rest is = omega (arith, is)
-top_arguments p (x ∷ xs) below rest is = sum_by-cons (λ (q : Put). when_some q.items (length q.arguments)) (record { list = p.list; arguments = p.arguments; reading = later_of x; items = x ∷ xs }) rest
+top_arguments p (x ∷ xs) below rest is = sum_by-cons (λ (q : Put). when_some q.items (length q.arguments)) (record { list = p.list; body = p.body; arguments = p.arguments; reading = later_of x; items = x ∷ xs }) rest
 
 arguments_settled : (ps : List Put) → used_arguments (settled ps) ≡ used_arguments ps
 arguments_settled [] = refl

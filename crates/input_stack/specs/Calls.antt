@@ -1,5 +1,5 @@
 -- What a macro call puts: its body with the arguments in their places (The TeXbook, chapter 20).
-use Rattle.std.specs.Prelude.{ℕ, ◌-◌, List, [], ◌∷◌, ◌++◌, map, Option, None, Some, slice_get}
+use Rattle.std.specs.Prelude.{ℕ, ◌-◌, List, [], ◌∷◌, ◌++◌, map, Option, None, Some, true, slice_get}
 use Rattle.tex_defs.specs.declared.Token.{Token}
 use Rattle.tex_defs.specs.declared.Token.TheVariants.{Number, EndPlaces}
 use Rattle.input_stack.specs.Puts.{Item, Text, First, Later, Gap, Put}
@@ -48,7 +48,7 @@ body_of (t ∷ ts) = body_of ts
 
 -- a call of the macro whose list has this number and these tokens
 abbrev pub call_put : ℕ → List Token → List (Option Argument) → Put
-call_put n ts arguments = record { list = n; arguments = map number_of arguments; reading = None; items = substituted arguments (body_of ts) }
+call_put n ts arguments = record { list = n; body = true; arguments = map number_of arguments; reading = None; items = substituted arguments (body_of ts) }
 
 -- THE TOKENS OF A CALL
 

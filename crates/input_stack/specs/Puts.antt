@@ -11,10 +11,11 @@ pub data Item : Type 0 where
   Later : ℕ → Token → Item
   Gap : Item
 
--- One list that was put: its number, those of its call's arguments (an argument without tokens has no list), the
--- argument whose level is open, and the items that are left.
+-- One list that was put: its number, whether it is the body of a macro call, the numbers of the call's arguments (an
+-- argument without tokens has no list), the argument whose level is open, and the items that are left.
 pub record Put : Type 0 where
   pub list : ℕ
+  pub body : Bool
   pub arguments : List (Option ℕ)
   pub reading : Option ℕ
   pub items : List Item
@@ -83,7 +84,7 @@ lists_of p = p.list ∷ numbers (p.reading ∷ p.arguments)
 -- without what is finished in front
 abbrev pub settled_top : Put → List Item → List Put → List Put → List Put
 settled_top p [] below rest = below
-settled_top p (x ∷ xs) below rest = record { list = p.list; arguments = p.arguments; reading = later_of x; items = x ∷ xs } ∷ rest
+settled_top p (x ∷ xs) below rest = record { list = p.list; body = p.body; arguments = p.arguments; reading = later_of x; items = x ∷ xs } ∷ rest
 
 -- A finished Put stays, without items, until it is settled: as the next reading or the next push begins.
 abbrev pub settled : List Put → List Put
@@ -113,7 +114,7 @@ next_item puts = first (without_gaps (flat puts))
 -- after the gaps in front and the first item behind them
 abbrev pub pulled_top : Put → List Item → List Put → List Put → List Put
 pulled_top p [] below rest = below
-pulled_top p (x ∷ xs) below rest = record { list = p.list; arguments = p.arguments; reading = argument_of x; items = xs } ∷ rest
+pulled_top p (x ∷ xs) below rest = record { list = p.list; body = p.body; arguments = p.arguments; reading = argument_of x; items = xs } ∷ rest
 
 abbrev pub pulled : List Put → List Put
 pulled [] = []

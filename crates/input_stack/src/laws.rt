@@ -1,12 +1,12 @@
 //! What holds of each stack of levels. The functions do nothing; their contracts are the laws.
-ghost use Rattle.std.specs.Prelude.{◌≡◌, ℕ, ◌+◌, List, [], Option, None, ◌<◌, length};
+ghost use Rattle.std.specs.Prelude.{◌≡◌, ℕ, ◌+◌, List, [], Option, None, ◌<◌, ◌≤◌, length};
 ghost use Rattle.tex_defs.specs.declared.Token.{Token};
 ghost use Rattle.input_stack.specs.Calls.{Argument, spelt, substituted, filled};
 ghost use Rattle.input_stack.specs.Flat.{placed, used_after, used_arguments_after};
 ghost use Rattle.input_stack.specs.Puts.{Put, used, used_arguments};
 ghost use Rattle.token_lists.specs.Table.{Entry};
 ghost use Rattle.token_lists.specs.Accounts.{Moves, Keeps, Covers};
-ghost use Rattle.input_stack.specs.Pending.{times, held_lists};
+ghost use Rattle.input_stack.specs.Pending.{times, held_lists, levels, arguments};
 ghost use Rattle.input_stack.specs.View.{pending, held, innermost, IsSourceOnTop};
 ghost use Rattle.input_stack.specs.Standing.{Stands};
 
@@ -22,6 +22,15 @@ pub fn others_leave_pending(stack: &InputStack)
 /// What the stack holds are the lists of the Puts that are pending, each as often as it stands among them.
 pub fn puts_are_held(stack: &InputStack)
     ensures { (table : List (Option Entry)) (h : ℕ) → held stack.now h ≡ times h (held_lists (pending table stack.now)) }
+{
+    let _ = stack;
+}
+
+/// Each level that stands and each argument of a call holds one list at most. So no list is held more often than levels
+/// and arguments stand, which are within the sizes of the input stack and of the parameter stack.
+pub fn few_are_held(stack: &InputStack)
+    ensures standing { (table : List (Option Entry)) (h : ℕ) → Stands table stack.now → held stack.now h ≤ levels (pending table stack.now) + arguments (pending table stack.now) }
+    ensures sizes { (table : List (Option Entry)) (h : ℕ) → Stands table stack.now → held stack.now h ≤ stack.now.size + stack.now.parameter_size }
 {
     let _ = stack;
 }

@@ -1,7 +1,8 @@
 -- Where only the file is left, what it gives is what is next pending.
 use Rattle.std.proofs.Common.{◌≡◌, ℕ, ◌+◌, List, [], ◌∷◌, Result, Ok, Err, refl, sym, ap, ◌∙◌, subst, arith}
-use Rattle.std.specs.Prelude.{IfOk, IfErr}
+use Rattle.std.specs.Prelude.{IfOk, IfErr, OnErr, MatchResult, None, Some}
 use Rattle.std.proofs.lemmas.List.Sums.{sum_by-cons}
+use Rattle.tex_defs.specs.declared.Token.{Token}
 use Rattle.tex_defs.specs.declared.Full.{Full}
 use Rattle.tex_defs.specs.declared.Sizes.{Sizes}
 use Rattle.tex_defs.specs.declared.Table.TheVariants.{InputStackSize}
@@ -13,7 +14,7 @@ use Rattle.line_lexer.specs.declared.Ahead.TheVariants as ahead
 use Rattle.input_state.specs.declared.answer.Pulled.{Pulled}
 use Rattle.input_state.specs.declared.answer.Pulled.TheVariants as answer
 use Rattle.input_state.specs.Stored.{Stored}
-use Rattle.input_state.specs.Reads.{Reads, Pulls, Refuses, RefusesLine}
+use Rattle.input_state.specs.Reads.{Reads, Pulls, step_demands, pull_refusal, RefusesLine}
 use Rattle.input_state.specs.HeldLists.{ahead_of}
 use Rattle.input_state.proofs.Readies.{used_up}
 
@@ -50,36 +51,52 @@ settled_reads q answer.Invalid sizes p new bytes none past h = h
 settled_reads q answer.FileOver sizes p new bytes none past h = h
 settled_reads q answer.Nothing sizes p new bytes none past h = (h.0, h.1 ∙ settled_twice p none)
 
-abbrev settled_store : Stored → Stored
-settled_store s = record s { pending = settle s.pending }
+-- what was read had room
+fits_reads : (q : plain.Pulled) (x : Pulled) (sizes : Sizes) (p new : Pending) (bytes : List ℕ) → Reads q x sizes p new bytes → refused sizes (step_demands q p) ≡ None
+fits_reads q (answer.Token t) sizes p new bytes h = ap (λ (o : plain.Pulled). refused sizes (step_demands o p)) h.0 ∙ h.1
+fits_reads q (answer.Lexeme l) sizes p new bytes h = ap (λ (o : plain.Pulled). refused sizes (step_demands o p)) h.pulls
+fits_reads q answer.Taken sizes p new bytes h = ap (λ (o : plain.Pulled). refused sizes (step_demands o p)) h.0 ∙ h.1
+fits_reads q answer.Invalid sizes p new bytes h = ap (λ (o : plain.Pulled). refused sizes (step_demands o p)) h
+fits_reads q answer.FileOver sizes p new bytes h = ap (λ (o : plain.Pulled). refused sizes (step_demands o p)) h
+fits_reads q answer.Nothing sizes p new bytes h = ap (λ (o : plain.Pulled). refused sizes (step_demands o p)) h.0
 
-module _ (c : List ℕ) (old new : Stored) (used : ahead_of c old.pending ≡ ahead.End) (finished : settled old.pending.puts ≡ []) where
-  pulls_now : (x : Pulled) → Pulls (from_file old.pending.file old.pending.number old.pending.rest) x (settled_store old) new → Pulls (pulled c old.pending) x old new
+pub fits_pulled : (c : List ℕ) (old new : Stored) (x : Pulled) → Pulls (pulled c old.pending) x old new → pull_refusal c old ≡ None
+fits_pulled c old new x h = fits_reads (pulled c old.pending) x old.sizes old.pending new.pending new.buffer h
+
+abbrev settled_store : List (List Token) → Stored → Stored
+settled_store lists s = record s { pending = settle s.pending; lists = lists }
+
+module _ (c : List ℕ) (ls : List (List Token)) (old new : Stored) (used : ahead_of c old.pending ≡ ahead.End) (finished : settled old.pending.puts ≡ []) where
+  pulls_now : (x : Pulled) → Pulls (from_file old.pending.file old.pending.number old.pending.rest) x (settled_store ls old) new → Pulls (pulled c old.pending) x old new
   pulls_now x h =
       let k = used_up c old.pending used in
       subst (λ (q : plain.Pulled). Reads q x old.sizes old.pending new.pending new.buffer) (sym k.1) (settled_reads _ x old.sizes old.pending new.pending new.buffer finished k.0 h)
 
-  refuses_now : (full : Full) → RefusesLine full (settled_store old) new → Refuses c full old new
+  refuses_now : (full : Full) → RefusesLine full (settled_store ls old) new → pull_refusal c old ≡ Some full
   refuses_now full h =
       let k = used_up c old.pending used in
-      record {
-        line = h.line;
-        next = h.next;
-        takes = k.1 ∙ h.takes;
-        refused = sym (ap (refused old.sizes) (settled_line old.pending)) ∙ h.refused;
-        stays = h.stays ∙ settled_twice old.pending finished;
-      }
+      ap (λ (q : plain.Pulled). refused old.sizes (step_demands q old.pending)) (k.1 ∙ h.takes)
+      ∙ sym (ap (refused old.sizes) (settled_line old.pending))
+      ∙ h.refused
 
-  by_ok : (r : Result Pulled Full) → IfOk r (λ x. Pulls (from_file old.pending.file old.pending.number old.pending.rest) x (settled_store old) new) → IfOk r (λ x. Pulls (pulled c old.pending) x old new)
+  by_ok : (r : Result Pulled Full) → IfOk r (λ x. Pulls (from_file old.pending.file old.pending.number old.pending.rest) x (settled_store ls old) new) → IfOk r (λ x. Pulls (pulled c old.pending) x old new)
   by_ok (Ok x) h = pulls_now x h
   by_ok (Err f) h = tt
 
-  by_err : (r : Result Pulled Full) → IfErr r (λ full. RefusesLine full (settled_store old) new) → IfErr r (λ full. Refuses c full old new)
+  by_refused : (r : Result Pulled Full) → IfOk r (λ x. Pulls (pulled c old.pending) x old new) → IfErr r (λ full. RefusesLine full (settled_store ls old) new) → MatchResult r (λ _. pull_refusal c old ≡ None) (λ full. pull_refusal c old ≡ Some full)
+  by_refused (Ok x) h g = fits_pulled c old new x h
+  by_refused (Err f) h g = refuses_now f g
+
+  by_err : (r : Result Pulled Full) → IfErr r (λ full. RefusesLine full (settled_store ls old) new) → OnErr r (new.pending ≡ settle old.pending)
   by_err (Ok x) h = tt
-  by_err (Err f) h = refuses_now f h
+  by_err (Err f) h = h.stays ∙ settled_twice old.pending finished
 
-  pub pull_ok : (mid : Stored) (r : Result Pulled Full) → mid ≡ settled_store old → IfOk r (λ x. Pulls (from_file mid.pending.file mid.pending.number mid.pending.rest) x mid new) → IfOk r (λ x. Pulls (pulled c old.pending) x old new)
-  pull_ok mid r is h = by_ok r (subst (λ (m : Stored). IfOk r (λ x. Pulls (from_file m.pending.file m.pending.number m.pending.rest) x m new)) is h)
+  module _ (mid : Stored) (r : Result Pulled Full) (is : mid ≡ settled_store ls old) where
+    pub pull_ok : IfOk r (λ x. Pulls (from_file mid.pending.file mid.pending.number mid.pending.rest) x mid new) → IfOk r (λ x. Pulls (pulled c old.pending) x old new)
+    pull_ok h = by_ok r (subst (λ (m : Stored). IfOk r (λ x. Pulls (from_file m.pending.file m.pending.number m.pending.rest) x m new)) is h)
 
-  pub pull_err : (mid : Stored) (r : Result Pulled Full) → mid ≡ settled_store old → IfErr r (λ full. RefusesLine full mid new) → IfErr r (λ full. Refuses c full old new)
-  pull_err mid r is h = by_err r (subst (λ (m : Stored). IfErr r (λ full. RefusesLine full m new)) is h)
+    pub pull_refused : IfOk r (λ x. Pulls (from_file mid.pending.file mid.pending.number mid.pending.rest) x mid new) → IfErr r (λ full. RefusesLine full mid new) → MatchResult r (λ _. pull_refusal c old ≡ None) (λ full. pull_refusal c old ≡ Some full)
+    pull_refused h g = by_refused r (pull_ok h) (subst (λ (m : Stored). IfErr r (λ full. RefusesLine full m new)) is g)
+
+    pub pull_err : IfErr r (λ full. RefusesLine full mid new) → OnErr r (new.pending ≡ settle old.pending)
+    pull_err h = by_err r (subst (λ (m : Stored). IfErr r (λ full. RefusesLine full m new)) is h)

@@ -9,7 +9,7 @@ use Rattle.token_lists.specs.Table.{Entry, tokens_at}
 use Rattle.input_stack.specs.Puts.{Put, Item, Text, First, Later, Gap, later_of, count_of, used, used_of, settled, settled_top, put_top, put_in_front, first, flat, without_gaps, next_item, pulled, pulled_top}
 use Rattle.input_stack.specs.Pending.{plain_put}
 use Rattle.input_stack.specs.Pulls.{token_in}
-use Rattle.input_state.specs.HeldViews.{plain_item, front, fronts}
+use Rattle.input_state.specs.HeldViews.{plain_item, whole_of, argument_text, front, fronts}
 
 -- ITEMS
 
@@ -48,7 +48,7 @@ front_levels table (p ∷ ps) =
 
 top_settled : (table : List (Option Entry)) (p : Put) (xs : List Item) (below rest : List Put) → p.items ≡ xs → fronts table (settled_top p xs below rest) ≡ plain.settled_top (front table p) (map plain_item xs) (fronts table below) (fronts table rest)
 top_settled table p [] below rest is = refl
-top_settled table p (x ∷ xs) below rest is = ap (λ (ys : List Item). record { list = plain.Own (tokens_at table p.list); arguments = []; items = map plain_item ys } ∷ fronts table rest) (sym is)
+top_settled table p (x ∷ xs) below rest is = ap (λ (ys : List Item). record { list = whole_of p.body p.list (tokens_at table p.list); arguments = map (argument_text table) p.arguments; items = map plain_item ys } ∷ fronts table rest) (sym is)
 
 pub fronts_settled : (table : List (Option Entry)) (ps : List Put) → fronts table (settled ps) ≡ plain.settled (fronts table ps)
 fronts_settled table [] = refl
@@ -86,9 +86,9 @@ module _ (table : List (Option Entry)) where
   pulled_now : Put → List Item → List Put → List plain.Put
   pulled_now p xs ps = fronts table (pulled_top p (without_gaps xs) (pulled ps) ps)
 
-  here : (p : Put) (y x : Item) (ys : List Item) (ps : List Put) → Some y ≡ Some x → IsNext (record { list = plain.Own (tokens_at table p.list); arguments = []; items = map plain_item (y ∷ ys) } ∷ fronts table ps) (record { list = plain.Own (tokens_at table p.list); arguments = []; items = map plain_item ys } ∷ fronts table ps) (plain_item x)
+  here : (p : Put) (y x : Item) (ys : List Item) (ps : List Put) → Some y ≡ Some x → IsNext (read_on (front table p) (map plain_item (y ∷ ys)) ∷ fronts table ps) (read_on (front table p) (map plain_item ys) ∷ fronts table ps) (plain_item x)
   here p y x ys ps is = record {
-    put = record { list = plain.Own (tokens_at table p.list); arguments = []; items = map plain_item (y ∷ ys) };
+    put = read_on (front table p) (map plain_item (y ∷ ys));
     left = map plain_item ys;
     below = fronts table ps;
     first = refl;

@@ -1,6 +1,8 @@
 pub mod LineEnds
 pub mod LineRests
 pub mod Counting
+pub mod Ranges
+pub mod Shares
 pub mod Fronts
 pub mod Levels
 pub mod Sharing
@@ -9,6 +11,11 @@ pub mod Refusing
 pub mod ListViews
 pub mod Sounds
 pub mod Putting
+pub mod Opening
+pub mod Calling
+pub mod CallKept
+pub mod Defining
 pub mod Pulling
+pub mod PullKept
 pub mod Readies
 pub mod Files

@@ -15,7 +15,7 @@ use Rattle.line_lexer.specs.declared.Ahead.TheVariants as ahead
 use Rattle.line_lexer.specs.Answers.{state_of, rest_of, span, given, looks_of, Takes}
 use Rattle.token_lists.specs.Table.{Entry}
 use Rattle.input_stack.specs.Puts.{Put, Item, next_item, pulled}
-use Rattle.input_stack.specs.Pending.{Pending, Below, plain_put, with_puts}
+use Rattle.input_stack.specs.Pending.{Pending, Below, with_puts}
 use Rattle.input_stack.specs.Pulls.{Pulls, PullsItem, PullsFrom, HandsOn, refused_at, LineGives, answer_of, looks, item_looks, line_looks, token_in}
 use Rattle.input_stack.specs.View.{pending_in}
 use Rattle.world_io.specs.declared.traits.InId.{InId}
@@ -29,7 +29,8 @@ use Rattle.input_stack.specs.CallViews.{opened, IsCountable}
 use Rattle.input_stack.specs.Lasting.{Lasts, LastsBut}
 use Rattle.input_state.specs.HeldViews.{plain_item, fronts, line_of, IsSingle, ArePlain, IsSimple}
 use Rattle.input_state.proofs.Fronts.{token_is, next_is, next_some, next_none, fronts_settled}
-use Rattle.input_state.proofs.Levels.{is_plain_put, plain_is, plain_settled, next_text, none_finished}
+use Rattle.input_state.proofs.Levels.{flat_put, is_plain_put, plain_is, plain_settled, next_text, none_finished}
+use Rattle.input_state.proofs.Shares.{Fewer, fewer_none, fewer_settled, fewer_pulled}
 use Rattle.input_state.specs.Reads.{Reads}
 use Rattle.input_state.specs.Given.{GivesMore}
 use Rattle.input_state.specs.Given as answers
@@ -51,10 +52,10 @@ pub plain_lasts : (old new : List (Option Entry)) (ps : List Put) → ArePlain p
 plain_lasts old new ps a l = record { size = l.size; fewer = λ h. omega (arith, l.fewer h, none_opens ps a (next_item ps) refl h); tokens = l.tokens }
 
 -- what is left of plain lists is plain
-plain_rest : (p : Put) (t : Token) (ts : List Token) (ps : List Put) → ArePlain ps → ArePlain (pulled (plain_put p.list (t ∷ ts) ∷ ps))
-plain_rest p t ts ps a = (plain_is p.list ts, a)
+plain_rest : (p : Put) (t : Token) (ts : List Token) (ps : List Put) → ArePlain ps → ArePlain (pulled (flat_put p.body p.list (t ∷ ts) ∷ ps))
+plain_rest p t ts ps a = (plain_is p.body p.list ts, a)
 
-plain_next : (p : Put) (ts : List Token) (ps : List Put) → ArePlain ps → ArePlain (pulled ps) → ArePlain (pulled (plain_put p.list ts ∷ ps))
+plain_next : (p : Put) (ts : List Token) (ps : List Put) → ArePlain ps → ArePlain (pulled ps) → ArePlain (pulled (flat_put p.body p.list ts ∷ ps))
 plain_next p [] ps a b = b
 plain_next p (t ∷ ts) ps a b = plain_rest p t ts ps a
 
@@ -235,6 +236,20 @@ item_plain size c b d p q None (Err f) a h =
 
 pub pull_simple : (size : ℕ) (c b d : List ℕ) (p q : Pending) (r : Result Given Full) → Pulls size c b d p q r → IsSimple p → IsSimple q
 pull_simple size c b d p q r h a = record { single = (pull_single size c b d p q r h).0 a.single; plain = item_plain size c b d p q (next_item p.puts) r a.plain h }
+
+hands_fewer : (b d : List ℕ) (p q : Pending) (x : Item) (o : Option Full) (r : Result Given Full) → HandsOn b d p q x o r → Fewer q.puts p.puts
+hands_fewer b d p q x None r h = subst (λ (z : Pending). Fewer z.puts p.puts) (sym h.1) (fewer_pulled p.puts)
+hands_fewer b d p q x (Some f) r h = subst (λ (z : Pending). Fewer z.puts p.puts) (sym h.1) (fewer_settled p.puts)
+
+item_fewer : (size : ℕ) (c b d : List ℕ) (p q : Pending) (o : Option Item) (r : Result Given Full) → PullsItem size c b d p q o r → Fewer q.puts p.puts
+item_fewer size c b d p q (Some x) r h = hands_fewer b d p q x (refused_at size x p) r h
+item_fewer size c b d p q None (Ok r) h = subst (λ (ps : List Put). Fewer ps p.puts) (sym h.0.1) (fewer_none p.puts)
+item_fewer size c b d p q None (Err f) h =
+    let e = h.1 in
+    cc
+
+pub pull_fewer : (size : ℕ) (c b d : List ℕ) (p q : Pending) (r : Result Given Full) → Pulls size c b d p q r → Fewer q.puts p.puts
+pull_fewer size c b d p q r h = item_fewer size c b d p q (next_item p.puts) r h
 
 -- the same, as the views say it
 pub same_reads : (c b d left : List ℕ) (file : plain.Progress) (num : ℕ) (old v now n : HeldLists) (a r : answered.Pulled) → old ≡ v → n ≡ now → a ≡ r → Reads (plain.pulled c (pending_of old b left file num)) r old.sizes (pending_of old b left file num) (pending_of now d left file num) d →

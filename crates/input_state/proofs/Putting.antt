@@ -1,5 +1,5 @@
 -- The list that was made is put in front.
-use Rattle.std.proofs.Common.{◌≡◌, ℕ, ◌+◌, List, [], ◌∷◌, map, reverse, Option, None, Some, refl, sym, ap, ◌∙◌, subst, arith}
+use Rattle.std.proofs.Common.{◌≡◌, ℕ, ◌+◌, ◌<◌, List, [], false, ◌∷◌, map, reverse, Option, None, Some, refl, sym, ap, ◌∙◌, subst, arith}
 use Rattle.std.proofs.lemmas.Option.{none-some}
 use Rattle.tex_defs.specs.declared.Token.{Token}
 use Rattle.tex_defs.specs.declared.Full.{Full}
@@ -10,6 +10,8 @@ use Rattle.token_lists.specs.declared.Build.{Build}
 use Rattle.token_lists.specs.Ids.{build_id}
 use Rattle.token_lists.specs.Table.{Entry, tokens_at}
 use Rattle.token_lists.specs.Accounts.{holds, Moves, Keeps}
+use Rattle.meanings.specs.Map.{Map}
+use Rattle.meanings.specs.Holding as meant
 use Rattle.input_stack.specs.Puts.{Text}
 use Rattle.input_stack.specs.Pending.{Pending, put, plain_put, refusal, room, used_levels}
 use Rattle.input_stack.specs.View.{pending, held}
@@ -17,56 +19,75 @@ use Rattle.input_stack.specs.Standing.{Stands}
 use Rattle.input_stack.specs.Lasting.{Lasts}
 use Rattle.input_stack.specs.declared.stack.InputStack.{InputStack}
 use Rattle.input_state.specs.HeldLists.{HeldLists, made, level_held}
-use Rattle.input_state.specs.HeldViews.{fronts, text, line_of, lists_of, builds, IsSimple, IsShared, IsSound}
+use Rattle.input_state.specs.Macros.{KeepsLists}
+use Rattle.input_state.specs.HeldViews.{fronts, text, texts, line_of, lists_of, builds, built, owns, IsSimple, IsApart, IsDefined, IsShared, IsSound}
+use Rattle.input_state.proofs.Counting.{times_cons}
+use Rattle.input_state.proofs.Shares.{apart_fewer, fewer_put}
+use Rattle.input_state.proofs.Sounds.{sized_now}
 use Rattle.input_state.proofs.Fronts.{token_front, fronts_put}
 use Rattle.input_state.proofs.Levels.{levels_used, simple_put}
 use Rattle.input_state.proofs.Sharing.{Moved, moved, built_cons}
-use Rattle.input_state.proofs.ListViews.{held_lists, moved_view}
+use Rattle.input_state.proofs.ListViews.{held_lists, moved_view, macros_moved}
 use Rattle.input_state.proofs.Refusing.{levels_refused}
 
-module _ (old new : List (Option Entry)) (s t : InputStack) (a : Build) (gathered : List Build) (sizes : Sizes) (n capacity : ℕ) (making : Option Build) (some : making ≡ Some a) (sound : IsSound old s making gathered sizes capacity) (same : n ≡ build_id a) where
-  shared_now : IsShared old s (a ∷ reverse gathered)
-  shared_now = subst (λ (m : Option Build). IsShared old s (builds m gathered)) some sound.shared
+module _ (old new : List (Option Entry)) (s t : InputStack) (a : Build) (gathered : List Build) (m : Map) (sizes : Sizes) (n capacity : ℕ) (making : Option Build) (some : making ≡ Some a) (sound : IsSound old s making gathered m sizes capacity) (same : n ≡ build_id a) where
+  shared_now : IsShared old s (a ∷ reverse gathered) m
+  shared_now = subst (λ (x : Option Build). IsShared old s (builds x gathered) m) some sound.shared
 
-  module _ (stands : Stands new t) (after : pending new t ≡ put (plain_put n (tokens_at old n)) (pending old s)) (moves : Moves old new (λ h. holds n h + held s h) (held t)) (keeps : Keeps old new (λ h. holds n h + held s h)) (lasts : Lasts old new) (size : t.size ≡ s.size) where
-    keeps_now : (h : ℕ) → holds n h ≡ holds (build_id a) h
-    keeps_now h = ap (λ (m : ℕ). holds m h) same
+  module _ (stands : Stands new t) (after : pending new t ≡ put (plain_put n (tokens_at old n)) (pending old s)) (moves : Moves old new (λ h. holds n h + held s h) (held t)) (keeps : Keeps old new (λ h. holds n h + held s h)) (lasts : Lasts old new) (size : t.size ≡ s.size) (parameters : t.parameter_size ≡ s.parameter_size) where
+    own_now : (h : ℕ) → built (a ∷ []) h ≡ holds n h
+    own_now h = omega (arith, built_cons a [] h, ap (λ (k : ℕ). holds k h) same)
 
-    moved_now : Moved old new t (reverse gathered)
-    moved_now =
-        moved old new s t (a ∷ []) (reverse gathered) shared_now stands
-        (subst (λ (p : Pending). IsSimple p) (sym after) (simple_put n (tokens_at old n) (pending old s) sound.shared.simple))
-        (λ h. omega (arith, moves h, built_cons a [] h, keeps_now h))
-        (record { tokens = λ h l. keeps.tokens h (omega (arith, l, built_cons a [] h, keeps_now h)); places = λ h l. keeps.places h (omega (arith, l, built_cons a [] h, keeps_now h)) })
-        lasts
-
-    pub put_sound : (now : Option Build) → now ≡ None → IsSound new t now gathered sizes capacity
-    put_sound now none = record {
-      shared = subst (λ (m : Option Build). IsShared new t (builds m gathered)) (sym none) moved_now.shared;
-      memory = lasts.size ∙ sound.memory;
-      levels = size ∙ sound.levels;
-      room = sound.room;
+    -- the list that was built is the level's
+    apart_first : IsApart (plain_put n (tokens_at old n) ∷ (pending old s).puts) (reverse gathered) m
+    apart_first = record {
+      sole = λ h. omega (arith, shared_now.apart.sole h, built_cons a (reverse gathered) h, ap (λ (k : ℕ). holds k h) same, times_cons h n (owns (pending old s).puts));
+      apart = λ h more. shared_now.apart.apart h (omega (arith, more, built_cons a (reverse gathered) h, ap (λ (k : ℕ). holds k h) same, times_cons h n (owns (pending old s).puts)));
     }
 
-    pub put_view : (now : Option Build) (v : HeldLists) → now ≡ None → lists_of old (pending old s) making gathered sizes ≡ v → plain.settled v.puts ≡ v.puts →
-        lists_of new (pending new t) now gathered sizes ≡ record v { puts = plain.with_put (plain.token_put (made v.making)) v.puts; making = None }
+    apart_now : IsApart (pending new t).puts (reverse gathered) m
+    apart_now = subst (λ (p : Pending). IsApart p.puts (reverse gathered) m) (sym after) (apart_fewer _ _ (reverse gathered) m (fewer_put (plain_put n (tokens_at old n)) (pending old s).puts) apart_first)
+
+    macros_now : (h : ℕ) → 0 < meant.held m h → IsDefined (tokens_at new h)
+    macros_now h more = subst IsDefined (sym (lasts.tokens h (omega (arith, more, moves h, shared_now.counted h, built_cons a (reverse gathered) h, ap (λ (k : ℕ). holds k h) same)))) (shared_now.macros h more)
+
+    moved_now : Moved old new t m (reverse gathered)
+    moved_now =
+        moved old new s t m m (a ∷ []) (reverse gathered) shared_now stands
+        (subst (λ (p : Pending). IsSimple p) (sym after) (simple_put false n (tokens_at old n) (pending old s) sound.shared.simple))
+        apart_now
+        (λ h. omega (arith, moves h, own_now h))
+        (record { tokens = λ h l. keeps.tokens h (omega (arith, l, own_now h)); places = λ h l. keeps.places h (omega (arith, l, own_now h)) })
+        lasts.tokens macros_now
+
+    pub put_sound : (now : Option Build) → now ≡ None → IsSound new t now gathered m sizes capacity
+    put_sound now none = record {
+      shared = subst (λ (x : Option Build). IsShared new t (builds x gathered) m) (sym none) moved_now.shared;
+      sized = sized_now old new s t m sizes capacity capacity sound.sized lasts.size size parameters refl;
+    }
+
+    pub put_view : (now : Option Build) (v : HeldLists) → now ≡ None → lists_of old (pending old s) making gathered m sizes ≡ v → plain.settled v.puts ≡ v.puts →
+        lists_of new (pending new t) now gathered m sizes ≡ record v { puts = plain.with_put (plain.token_put (made v.making)) v.puts; making = None; lists = texts new }
     put_view now v none is settled_already =
-        let was : lists_of old (pending old s) (Some a) gathered sizes ≡ v = ap (λ (m : Option Build). lists_of old (pending old s) m gathered sizes) (sym some) ∙ is in
+        let was : lists_of old (pending old s) (Some a) gathered m sizes ≡ v = ap (λ (x : Option Build). lists_of old (pending old s) x gathered m sizes) (sym some) ∙ is in
         let ps = (pending old s).puts in
         let quiet : plain.settled (fronts old ps) ≡ fronts old ps = ap (λ (w : HeldLists). plain.settled w.puts) was ∙ settled_already ∙ sym (ap (λ (w : HeldLists). w.puts) was) in
         let tokens : tokens_at old n ≡ text old a = ap (tokens_at old) same in
-        ap (λ (m : Option Build). lists_of new (pending new t) m gathered sizes) none
-        ∙ moved_view old new t None gathered sizes moved_now
-        ∙ ap (λ (p : Pending). lists_of old p None gathered sizes) after
-        ∙ ap (λ (qs : List plain.Put). held_lists qs None (map (text old) (reverse gathered)) (line_of (pending old s).sources) sizes) (fronts_put old (plain_put n (tokens_at old n)) ps quiet ∙ ap (λ (x : plain.Put). plain.with_put x (fronts old ps)) (token_front old n (tokens_at old n) refl ∙ ap plain.token_put tokens))
-        ∙ ap (λ (w : HeldLists). record w { puts = plain.with_put (plain.token_put (made w.making)) w.puts; making = None }) was
+        ap (λ (x : Option Build). lists_of new (pending new t) x gathered m sizes) none
+        ∙ moved_view old new t m sizes None gathered moved_now
+        ∙ ap (λ (p : Pending). record (lists_of old p None gathered m sizes) { lists = texts new }) after
+        ∙ ap (λ (qs : List plain.Put). held_lists qs None (map (text old) (reverse gathered)) (line_of (pending old s).sources) m sizes (texts new)) (fronts_put old (plain_put n (tokens_at old n)) ps quiet ∙ ap (λ (x : plain.Put). plain.with_put x (fronts old ps)) (token_front old n (tokens_at old n) refl ∙ ap plain.token_put tokens))
+        ∙ ap (λ (w : HeldLists). record w { puts = plain.with_put (plain.token_put (made w.making)) w.puts; making = None; lists = texts new }) was
+
+    pub put_macros : (v : HeldLists) → lists_of old (pending old s) making gathered m sizes ≡ v → KeepsLists m.cells (fronts new (pending new t).puts) v.lists (texts new)
+    put_macros v is = macros_moved old new t m sizes (reverse gathered) v.lists moved_now (ap (λ (w : HeldLists). w.lists) is)
 
   refusal_none : (ts : List Token) (p : Pending) (size : ℕ) → room size (used_levels p) ≡ None → refusal size (map Text ts) p ≡ None
   refusal_none [] p size none = refl
   refusal_none (x ∷ xs) p size none = none
 
   -- the levels have room
-  pub put_fits : (v : HeldLists) (f : Full) → lists_of old (pending old s) making gathered sizes ≡ v → refused v.sizes (level_held v ∷ []) ≡ None → refusal s.size (map Text (tokens_at old n)) (pending old s) ≡ Some f → ⊥
+  pub put_fits : (v : HeldLists) (f : Full) → lists_of old (pending old s) making gathered m sizes ≡ v → refused v.sizes (level_held v ∷ []) ≡ None → refusal s.size (map Text (tokens_at old n)) (pending old s) ≡ Some f → ⊥
   put_fits v f is fits refuses =
-      let none = levels_refused sizes (used_levels (pending old s)) _ s.size (levels_used old (pending old s) sound.shared.simple.single) sound.levels ∙ ap (λ (w : HeldLists). refused w.sizes (level_held w ∷ [])) is ∙ fits in
+      let none = levels_refused sizes (used_levels (pending old s)) _ s.size (levels_used old (pending old s) sound.shared.simple.single) sound.sized.levels ∙ ap (λ (w : HeldLists). refused w.sizes (level_held w ∷ [])) is ∙ fits in
       none-some f (sym (refusal_none (tokens_at old n) (pending old s) s.size none) ∙ refuses)

@@ -1,25 +1,30 @@
--- Lists with one holder each: one of them changes, and the others stay.
-use Rattle.std.proofs.Common.{◌≡◌, ℕ, ◌+◌, ◌<◌, ◌≤◌, List, [], ◌∷◌, ◌++◌, map, Option, None, inl, inr, refl, sym, ap, ap₂, ◌∙◌, subst, arith}
-use Rattle.std.specs.Prelude.{All, slice_set}
+-- One list changes, or who holds some of them, and the others stay.
+use Rattle.std.proofs.Common.{◌≡◌, ℕ, zero, suc, ◌+◌, ◌<◌, ◌≤◌, List, [], ◌∷◌, ◌++◌, map, Option, None, inl, inr, refl, sym, ap, ap₂, ◌∙◌, subst, arith}
+use Rattle.std.specs.Prelude.{All, slice_set, Bool, true, cond}
 use Rattle.std.proofs.lemmas.Bool.{cases_eq}
 use Rattle.std.proofs.lemmas.List.{get_or-set_other}
 use Rattle.std.proofs.lemmas.List.Elements.{All-append, All-head, All-tail, All-cons, All-nil}
 use Rattle.std.proofs.lemmas.List.Sums.{sum_by-cons, sum_by-append}
 use Rattle.tex_defs.specs.declared.Token.{Token}
+use Rattle.plain_state.specs.Tables.{is_meant}
 use Rattle.token_lists.specs.declared.Build.{Build}
 use Rattle.token_lists.specs.Ids.{build_id, IsBuilding}
 use Rattle.token_lists.specs.Table.{Entry, entry_at, tokens_at, tokens_of, places_at, places_of, holders_at, holders_of, last_or}
 use Rattle.token_lists.specs.Accounts.{holds, Moves, Keeps}
-use Rattle.input_stack.specs.Pending.{Pending}
-use Rattle.input_stack.specs.View.{pending, held, innermost}
+use Rattle.meanings.specs.Map.{Map}
+use Rattle.meanings.specs.Holding as meant
+use Rattle.input_stack.specs.Pending.{Pending, times}
+use Rattle.input_stack.specs.View.{pending, held}
 use Rattle.input_stack.specs.Standing.{Stands}
-use Rattle.input_stack.specs.Lasting.{Lasts}
 use Rattle.input_stack.specs.declared.stack.InputStack.{InputStack}
 use Rattle.input_stack.proofs.Helds.{others}
 use Rattle.input_stack.proofs.Kept.{holds_itself}
 use Rattle.input_state.specs.Changes.{IsOnly}
-use Rattle.input_state.specs.HeldViews.{fronts, text, built, IsShared, IsSimple}
-use Rattle.input_state.proofs.Levels.{fronts_stay}
+use Rattle.input_state.specs.Macros.{list_at, is_macro, KeepsLists}
+use Rattle.input_state.specs.HeldViews.{fronts, text, texts, built, owns, bodies, IsSingle, IsSimple, IsApart, IsDefined, IsShared}
+use Rattle.input_state.proofs.Counting.{some, one_some}
+use Rattle.input_state.proofs.Shares.{held_parts, meant_once, macro_once}
+use Rattle.input_state.proofs.Levels.{plain_opens, fronts_stay}
 
 -- the lists that are held so often are as they were
 pub record Stay (old new : List (Option Entry)) (f : ℕ → ℕ) : Type 0 where
@@ -76,8 +81,8 @@ pub only_set : (old new : List (Option Entry)) (id : ℕ) (e : Option Entry) →
 only_set old new id e after = record { apart = λ h ne. ap (λ (t : List (Option Entry)). entry_at t h) after ∙ get_or-set_other old id h e None ne }
 
 only_stays : (old new : List (Option Entry)) (id : ℕ) (f : ℕ → ℕ) → IsOnly old new id → f id ≡ 0 → Stay old new f
-only_stays old new id f only zero =
-    let ne : (h : ℕ) → 0 < f h → h ≡ id → ⊥ = λ h some e. omega (arith, some, zero, ap f e) in
+only_stays old new id f only free =
+    let ne : (h : ℕ) → 0 < f h → h ≡ id → ⊥ = λ h some e. omega (arith, some, free, ap f e) in
     record {
       tokens = λ h some. ap tokens_of (only.apart h (ne h some));
       places = λ h some. ap places_of (only.apart h (ne h some));
@@ -92,26 +97,55 @@ only_keeps old new id f only mine =
       places = λ h some. ap places_of (only.apart h (ne h some));
     }
 
-only_sole : (old new : List (Option Entry)) (id : ℕ) → IsOnly old new id → ((h : ℕ) → holders_at old h ≤ 1) → holders_at new id ≤ 1 → (h : ℕ) → holders_at new h ≤ 1
-only_sole old new id only sole here h = elim (cases_eq h id) [
-  | inl is ↦ subst (λ (k : ℕ). holders_at new k ≤ 1) (sym is) here
-  | inr other ↦ omega (arith, ap holders_of (only.apart h other), sole h)
-]
+-- WHAT IS HELD
+
+-- nothing but the levels and the builds holds a list that one of these has for itself
+pub own_alone : (table : List (Option Entry)) (stack : InputStack) (bs : List Build) (m : Map) → IsSimple (pending table stack) → IsApart (pending table stack).puts bs m → (h : ℕ) → 0 < built bs h → (built bs h ≡ 1) × (held stack h ≡ 0) × (meant.held m h ≡ 0)
+own_alone table stack bs m simple a h some =
+    let ps = (pending table stack).puts in
+    let none = a.apart h (omega (arith, some)) in
+    (omega (arith, a.sole h, some), omega (arith, held_parts table stack simple.single h, plain_opens ps simple.plain h, a.sole h, some, none), omega (arith, none))
+
+-- a macro that is meant or put is held
+pub macro_held : (table t : List (Option Entry)) (stack : InputStack) (m : Map) → IsSingle (pending table stack).sources → (id : ℕ) → is_macro id m.cells (fronts t (pending table stack).puts) ≡ true → 0 < held stack id + meant.held m id
+macro_held table t stack m single id is =
+    let ps = (pending table stack).puts in
+    let here = macro_once t m ps id in
+    let one : some (meant.held m id + times id (bodies ps)) ≡ 1 = sym here ∙ ap (λ (b : Bool). cond b 1 0) is in
+    omega (arith, one_some _ one, held_parts table stack single id)
+
+-- a list by its number
+pub text_at : (table : List (Option Entry)) (id : ℕ) → list_at (texts table) id ≡ tokens_at table id
+text_at [] id = refl
+text_at (o ∷ os) zero = refl
+text_at (o ∷ os) (suc id) = text_at os id
+
+pub keeps_lists : (old new table t : List (Option Entry)) (stack : InputStack) (m : Map) → IsSingle (pending table stack).sources → ((h : ℕ) → 0 < held stack h + meant.held m h → tokens_at new h ≡ tokens_at old h) → KeepsLists m.cells (fronts t (pending table stack).puts) (texts old) (texts new)
+keeps_lists old new table t stack m single same = record { tokens = λ id is. text_at new id ∙ same id (macro_held table t stack m single id is) ∙ sym (text_at old id) }
+
+-- each macro's list is one
+pub macros_defined : (table : List (Option Entry)) (stack : InputStack) (bs : List Build) (m : Map) → IsShared table stack bs m → (id : ℕ) → is_meant id m.cells ≡ true → IsDefined (list_at (texts table) id)
+macros_defined table stack bs m shared id is =
+    let one : some (meant.held m id) ≡ 1 = sym (meant_once id m.cells) ∙ ap (λ (b : Bool). cond b 1 0) is in
+    subst IsDefined (sym (text_at table id)) (shared.macros id (one_some (meant.held m id) one))
+
+-- A LIST THAT IS BEING BUILT CHANGES
 
 -- Some builds have given way to others; what else is held is as it was.
-pub record Changed (old new : List (Option Entry)) (stack : InputStack) (xs zs ys : List Build) : Type 0 where
-  pub shared : IsShared new stack (xs ++ (zs ++ ys))
+pub record Changed (old new : List (Option Entry)) (stack : InputStack) (m : Map) (xs zs ys : List Build) : Type 0 where
+  pub shared : IsShared new stack (xs ++ (zs ++ ys)) m
   pub still : pending new stack ≡ pending old stack
   pub in_front : fronts new (pending old stack).puts ≡ fronts old (pending old stack).puts
   pub before : map (text new) xs ≡ map (text old) xs
   pub behind : map (text new) ys ≡ map (text old) ys
+  pub kept : (h : ℕ) → 0 < held stack h + meant.held m h → tokens_at new h ≡ tokens_at old h
 
-module _ (old new : List (Option Entry)) (stack : InputStack) (xs zs us ys : List Build) (id : ℕ) (shared : IsShared old stack (xs ++ (zs ++ ys))) (only : IsOnly old new id) (mine : holders_at old id ≡ built zs id) (moves : Moves old new (built zs) (built us)) (building : All (IsBuilding new) us) (sole : holders_at new id ≤ 1) where
+module _ (old new : List (Option Entry)) (stack : InputStack) (m : Map) (xs zs us ys : List Build) (id : ℕ) (shared : IsShared old stack (xs ++ (zs ++ ys)) m) (only : IsOnly old new id) (mine : holders_at old id ≡ built zs id) (moves : Moves old new (built zs) (built us)) (building : All (IsBuilding new) us) (sole : holders_at new id ≤ 1) where
   parts : (vs : List Build) (h : ℕ) → built (xs ++ (vs ++ ys)) h ≡ built xs h + (built vs h + built ys h)
   parts vs h = omega (arith, built_append xs (vs ++ ys) h, built_append vs ys h)
 
   rest : ℕ → ℕ
-  rest h = held stack h + (built xs h + built ys h)
+  rest h = held stack h + (built xs h + (built ys h + meant.held m h))
 
   apart : rest id ≡ 0
   unfolding rest
@@ -131,9 +165,9 @@ module _ (old new : List (Option Entry)) (stack : InputStack) (xs zs us ys : Lis
   unfolding rest
   behind_stays = stay_less old new rest (built ys) (λ h. omega arith) stays
 
-  held_stays : Stay old new (held stack)
+  held_stays : Stay old new (λ h. held stack h + meant.held m h)
   unfolding rest
-  held_stays = stay_less old new rest (held stack) (λ h. omega arith) stays
+  held_stays = stay_less old new rest (λ h. held stack h + meant.held m h) (λ h. omega arith) stays
 
   now_building : All (IsBuilding new) (xs ++ (us ++ ys))
   now_building =
@@ -141,49 +175,83 @@ module _ (old new : List (Option Entry)) (stack : InputStack) (xs zs us ys : Lis
       let e = building_stays old new ys behind_stays (all_right old zs ys (all_right old xs (zs ++ ys) shared.building)) in
       All-append (IsBuilding new) xs (us ++ ys) b (All-append (IsBuilding new) us ys building e)
 
-  pub changed : Changed old new stack xs us ys
+  -- the builds are others at one list alone, which nothing else holds
+  same_builds : (h : ℕ) → (h ≡ id → ⊥) → built us h ≡ built zs h
+  same_builds h ne = omega (arith, moves h, ap holders_of (only.apart h ne))
+
+  one_place : (h : ℕ) → times h (owns (pending old stack).puts) + built (xs ++ (us ++ ys)) h ≤ 1
+  unfolding rest
+  one_place h = elim (cases_eq h id) [
+    | inl is ↦
+        let here : times id (owns (pending old stack).puts) + built (xs ++ (us ++ ys)) id ≤ 1 = omega (arith, apart, sole, moves id, mine, parts us id, held_parts old stack shared.simple.single id) in
+        subst (λ (k : ℕ). times k (owns (pending old stack).puts) + built (xs ++ (us ++ ys)) k ≤ 1) (sym is) here
+    | inr other ↦ omega (arith, shared.apart.sole h, same_builds h other, parts us h, parts zs h)
+  ]
+
+  no_macro : (h : ℕ) → 0 < times h (owns (pending old stack).puts) + built (xs ++ (us ++ ys)) h → times h (bodies (pending old stack).puts) + meant.held m h ≡ 0
+  unfolding rest
+  no_macro h more = elim (cases_eq h id) [
+    | inl is ↦
+        let here : times id (bodies (pending old stack).puts) + meant.held m id ≡ 0 = omega (arith, apart, held_parts old stack shared.simple.single id) in
+        subst (λ (k : ℕ). times k (bodies (pending old stack).puts) + meant.held m k ≡ 0) (sym is) here
+    | inr other ↦ shared.apart.apart h (omega (arith, more, same_builds h other, parts us h, parts zs h))
+  ]
+
+  pub changed : Changed old new stack m xs us ys
   changed = record {
     shared = record {
       stands = stand.0;
       simple = subst (λ (p : Pending). IsSimple p) (sym stand.1) shared.simple;
       building = now_building;
       counted = λ h. omega (arith, shared.counted h, moves h, parts zs h, parts us h);
-      sole = only_sole old new id only shared.sole sole;
+      apart = subst (λ (p : Pending). IsApart p.puts (xs ++ (us ++ ys)) m) (sym stand.1) (record { sole = one_place; apart = no_macro });
+      macros = λ h some. subst IsDefined (sym (held_stays.tokens h (omega (arith, some)))) (shared.macros h some);
     };
     still = stand.1;
-    in_front = fronts_stay old new old (innermost stack) held_stays.tokens;
+    in_front = fronts_stay old new (pending old stack).puts (λ h some. held_stays.tokens h (omega (arith, some, held_parts old stack shared.simple.single h)));
     before = texts_stay old new xs before_stays;
     behind = texts_stay old new ys behind_stays;
+    kept = held_stays.tokens;
   }
 
--- THE LEVELS CHANGE
+-- THE HOLDERS CHANGE
 
--- Levels let lists go, or take one of the builds over; what is being built is as it was.
-pub record Moved (old new : List (Option Entry)) (t : InputStack) (bs : List Build) : Type 0 where
-  pub shared : IsShared new t bs
+-- Levels and names let lists go, or take some over; what is being built is as it was.
+pub record Moved (old new : List (Option Entry)) (t : InputStack) (m : Map) (bs : List Build) : Type 0 where
+  pub shared : IsShared new t bs m
   pub in_front : fronts new (pending new t).puts ≡ fronts old (pending new t).puts
   pub texts : map (text new) bs ≡ map (text old) bs
+  pub kept : (h : ℕ) → 0 < held t h + meant.held m h → tokens_at new h ≡ tokens_at old h
 
-module _ (old new : List (Option Entry)) (s t : InputStack) (zs bs : List Build) (shared : IsShared old s (zs ++ bs)) (stands : Stands new t) (simple : IsSimple (pending new t)) (moves : (h : ℕ) → holders_at new h + (built zs h + held s h) ≡ holders_at old h + held t h) (keeps : Keeps old new (λ h. built zs h + held s h)) (lasts : Lasts old new) where
-  built_stay : Stay old new (built bs)
-  built_stay = record {
-    tokens = λ h some. keeps.tokens h (omega (arith, some, shared.counted h, built_append zs bs h));
-    places = λ h some. keeps.places h (omega (arith, some, shared.counted h, built_append zs bs h));
-    holders = λ h some. omega (arith, some, shared.counted h, shared.sole h, moves h, lasts.fewer h, built_append zs bs h);
-  }
-
-  counted_now : (h : ℕ) → holders_at new h ≡ held t h + built bs h
+module _ (old new : List (Option Entry)) (s t : InputStack) (m n : Map) (zs bs : List Build) (shared : IsShared old s (zs ++ bs) m) (stands : Stands new t) (simple : IsSimple (pending new t)) (apart : IsApart (pending new t).puts bs n) (moves : (h : ℕ) → holders_at new h + (built zs h + (held s h + meant.held m h)) ≡ holders_at old h + (held t h + meant.held n h)) (keeps : Keeps old new (λ h. built zs h + (held s h + meant.held m h))) (lasts : (h : ℕ) → 0 < holders_at new h → tokens_at new h ≡ tokens_at old h) (macros : (h : ℕ) → 0 < meant.held n h → IsDefined (tokens_at new h)) where
+  counted_now : (h : ℕ) → holders_at new h ≡ held t h + (built bs h + meant.held n h)
   counted_now h = omega (arith, shared.counted h, moves h, built_append zs bs h)
 
-  pub moved : Moved old new t bs
+  -- a list that is being built has that one holder, before and now
+  alone : (h : ℕ) → 0 < built bs h → (holders_at old h ≡ 1) × (holders_at new h ≡ 1) × (built zs h + (held s h + meant.held m h) ≡ 0)
+  alone h some =
+      let was = own_alone old s (zs ++ bs) m shared.simple shared.apart h (omega (arith, some, built_append zs bs h)) in
+      let now = own_alone new t bs n simple apart h some in
+      (omega (arith, was.0, was.1, was.2, shared.counted h), omega (arith, now.0, now.1, now.2, counted_now h), omega (arith, was.0, was.1, was.2, now.0, built_append zs bs h))
+
+  built_stay : Stay old new (built bs)
+  built_stay = record {
+    tokens = λ h some. keeps.tokens h (omega (arith, (alone h some).0, (alone h some).2));
+    places = λ h some. keeps.places h (omega (arith, (alone h some).0, (alone h some).2));
+    holders = λ h some. (alone h some).1 ∙ sym (alone h some).0;
+  }
+
+  pub moved : Moved old new t n bs
   moved = record {
     shared = record {
       stands = stands;
       simple = simple;
       building = building_stays old new bs built_stay (all_right old zs bs shared.building);
       counted = counted_now;
-      sole = λ h. omega (arith, shared.sole h, lasts.fewer h);
+      apart = apart;
+      macros = macros;
     };
-    in_front = fronts_stay old new new (innermost t) (λ h some. lasts.tokens h (omega (arith, some, counted_now h)));
+    in_front = fronts_stay old new (pending new t).puts (λ h some. lasts h (omega (arith, some, counted_now h, held_parts new t simple.single h)));
     texts = texts_stay old new bs built_stay;
+    kept = λ h some. lasts h (omega (arith, some, counted_now h));
   }

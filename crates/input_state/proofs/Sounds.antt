@@ -4,15 +4,22 @@ use Rattle.std.specs.Prelude.{option_to_list, OnOk, IfErr, MatchResult}
 use Rattle.std.proofs.lemmas.List.Elements.{All-head, All-cons, All-nil}
 use Rattle.tex_defs.specs.declared.Sizes.{Sizes}
 use Rattle.tex_defs.specs.declared.Full.{Full}
+use Rattle.tex_defs.specs.declared.Token.{Token}
+use Rattle.tex_defs.specs.Sizes.{first_out_of_range}
+use Rattle.plain_state.specs.Meanings.{fixed_locations, primitive_count, first_meanings}
+use Rattle.plain_state.specs.Names.{is_primitive}
 use Rattle.plain_state.specs.Tables.{memory, refused}
 use Rattle.plain_state.specs.Puts as plain
 use Rattle.token_lists.specs.declared.Build.{Build}
 use Rattle.token_lists.specs.Ids.{build_id, IsBuilding}
-use Rattle.token_lists.specs.Table.{Entry, entry_at, holders_at, holders_of, words}
+use Rattle.token_lists.specs.Table.{Entry, entry_at, tokens_at, holders_at, holders_of, words}
 use Rattle.token_lists.specs.Accounts.{holds, none, Moves, Keeps}
 use Rattle.token_lists.specs.Refusals.{IsFull}
 use Rattle.line_lexer.specs.declared.Line.{Line}
 use Rattle.world_io.specs.declared.traits.InId.{InId}
+use Rattle.meanings.specs.Map.{Map, first_map}
+use Rattle.meanings.specs.Holding as meant
+use Rattle.input_stack.specs.Puts.{Put}
 use Rattle.input_stack.specs.Pending.{Pending, Below, settle, sources_at, at_line, Ends, EndsIn}
 use Rattle.input_stack.specs.View.{pending, pending_in, held, held_in, innermost}
 use Rattle.input_stack.specs.Standing.{Stands}
@@ -22,67 +29,79 @@ use Rattle.input_stack.specs.declared.level.Level.{Level}
 use Rattle.input_stack.proofs.Kept.{holds_itself}
 use Rattle.input_state.specs.Changes.{IsOnly}
 use Rattle.input_state.specs.HeldLists.{HeldLists, words_held}
-use Rattle.input_state.specs.HeldViews.{text, made_text, line_of, lists_of, builds, built, IsSingle, IsSimple, ArePlain, IsShared, IsSound}
+use Rattle.input_state.specs.Macros.{KeepsLists}
+use Rattle.input_state.specs.HeldViews.{text, made_text, fronts, line_of, texts, lists_of, builds, built, IsSingle, IsSimple, ArePlain, IsApart, IsDefined, IsShared, IsSized, IsSound}
+use Rattle.input_state.proofs.Shares.{Fewer, apart_fewer, fewer_none, fewer_settled}
 use Rattle.input_state.proofs.Fronts.{fronts_settled}
 use Rattle.input_state.proofs.Levels.{simple_settled}
 use Rattle.input_state.proofs.Sharing.{Changed, Moved, changed, moved, built_cons, all_right}
-use Rattle.input_state.proofs.ListViews.{held_lists, reverse_push, moved_view}
+use Rattle.input_state.proofs.ListViews.{held_lists, reverse_push, moved_view, macros_moved}
 use Rattle.input_state.proofs.Words.{words_are, gathered_few}
+use Rattle.input_state.proofs.Ranges.{hash_least}
 use Rattle.input_state.proofs.Refusing.{memory_fits, memory_full}
 
 -- ONE LIST
 
-module _ (old new : List (Option Entry)) (stack : InputStack) (xs ys : List Build) (b : Build) where
-  pub begun : IsShared old stack (xs ++ ys) → IsBuilding new b → holders_at old (build_id b) ≡ 0 → IsOnly old new (build_id b) → Moves old new none (holds (build_id b)) → Changed old new stack xs (b ∷ []) ys
+module _ (old new : List (Option Entry)) (stack : InputStack) (m : Map) (xs ys : List Build) (b : Build) where
+  pub begun : IsShared old stack (xs ++ ys) m → IsBuilding new b → holders_at old (build_id b) ≡ 0 → IsOnly old new (build_id b) → Moves old new none (holds (build_id b)) → Changed old new stack m xs (b ∷ []) ys
   begun shared building fresh only moves =
-      changed old new stack xs [] (b ∷ []) ys (build_id b) shared only fresh (λ h. omega (arith, moves h, built_cons b [] h)) (All-cons (IsBuilding new) b [] building (All-nil (IsBuilding new))) (omega (arith, building.sole))
+      changed old new stack m xs [] (b ∷ []) ys (build_id b) shared only fresh (λ h. omega (arith, moves h, built_cons b [] h)) (All-cons (IsBuilding new) b [] building (All-nil (IsBuilding new))) (omega (arith, building.sole))
 
-  pub gone : IsShared old stack (xs ++ b ∷ ys) → IsBuilding old b → IsOnly old new (build_id b) → Moves old new (holds (build_id b)) none → Changed old new stack xs [] ys
+  pub gone : IsShared old stack (xs ++ b ∷ ys) m → IsBuilding old b → IsOnly old new (build_id b) → Moves old new (holds (build_id b)) none → Changed old new stack m xs [] ys
   gone shared building only moves =
       let own = holds_itself (build_id b) in
-      changed old new stack xs (b ∷ []) [] ys (build_id b) shared only (omega (arith, building.sole, own, built_cons b [] (build_id b))) (λ h. omega (arith, moves h, built_cons b [] h)) (All-nil (IsBuilding new)) (omega (arith, building.sole, moves (build_id b), own))
+      changed old new stack m xs (b ∷ []) [] ys (build_id b) shared only (omega (arith, building.sole, own, built_cons b [] (build_id b))) (λ h. omega (arith, moves h, built_cons b [] h)) (All-nil (IsBuilding new)) (omega (arith, building.sole, moves (build_id b), own))
 
-  pub grown : (a : Build) → IsShared old stack (xs ++ a ∷ ys) → IsBuilding old a → build_id b ≡ build_id a → IsBuilding new b → IsOnly old new (build_id a) → Moves old new none none → Changed old new stack xs (b ∷ []) ys
+  pub grown : (a : Build) → IsShared old stack (xs ++ a ∷ ys) m → IsBuilding old a → build_id b ≡ build_id a → IsBuilding new b → IsOnly old new (build_id a) → Moves old new none none → Changed old new stack m xs (b ∷ []) ys
   grown a shared was same building only moves =
       let own = holds_itself (build_id a) in
-      changed old new stack xs (a ∷ []) (b ∷ []) ys (build_id a) shared only (omega (arith, was.sole, own, built_cons a [] (build_id a))) (λ h. omega (arith, moves h, built_cons a [] h, built_cons b [] h, ap (λ (n : ℕ). holds n h) same)) (All-cons (IsBuilding new) b [] building (All-nil (IsBuilding new))) (omega (arith, was.sole, moves (build_id a)))
+      changed old new stack m xs (a ∷ []) (b ∷ []) ys (build_id a) shared only (omega (arith, was.sole, own, built_cons a [] (build_id a))) (λ h. omega (arith, moves h, built_cons a [] h, built_cons b [] h, ap (λ (n : ℕ). holds n h) same)) (All-cons (IsBuilding new) b [] building (All-nil (IsBuilding new))) (omega (arith, was.sole, moves (build_id a)))
 
 -- the builds, where this one is the innermost of those that are gathered
 pub push_builds : (making : Option Build) (items rest : List Build) (b : Build) → items ≡ rest ++ b ∷ [] → builds making items ≡ option_to_list making ++ b ∷ reverse rest
 push_builds making items rest b is = ap (λ (bs : List Build). option_to_list making ++ bs) (reverse_push items rest b is)
 
-pub push_shared : (table : List (Option Entry)) (stack : InputStack) (making : Option Build) (items rest : List Build) (b : Build) → items ≡ rest ++ b ∷ [] → IsShared table stack (builds making items) → IsShared table stack (option_to_list making ++ b ∷ reverse rest)
-push_shared table stack making items rest b is shared = subst (IsShared table stack) (push_builds making items rest b is) shared
+pub push_shared : (table : List (Option Entry)) (stack : InputStack) (m : Map) (making : Option Build) (items rest : List Build) (b : Build) → items ≡ rest ++ b ∷ [] → IsShared table stack (builds making items) m → IsShared table stack (option_to_list making ++ b ∷ reverse rest) m
+push_shared table stack m making items rest b is shared = subst (λ (bs : List Build). IsShared table stack bs m) (push_builds making items rest b is) shared
 
-pub push_building : (table : List (Option Entry)) (stack : InputStack) (making : Option Build) (items rest : List Build) (b : Build) → items ≡ rest ++ b ∷ [] → IsShared table stack (builds making items) → IsBuilding table b
-push_building table stack making items rest b is shared =
-    let s = push_shared table stack making items rest b is shared in
+pub push_building : (table : List (Option Entry)) (stack : InputStack) (m : Map) (making : Option Build) (items rest : List Build) (b : Build) → items ≡ rest ++ b ∷ [] → IsShared table stack (builds making items) m → IsBuilding table b
+push_building table stack m making items rest b is shared =
+    let s = push_shared table stack m making items rest b is shared in
     All-head (IsBuilding table) b (reverse rest) (all_right table (option_to_list making) (b ∷ reverse rest) s.building)
 
-module _ (old new : List (Option Entry)) (stack : InputStack) (sizes : Sizes) (capacity now : ℕ) (size : length new ≡ length old) (same : now ≡ capacity) where
-  pub changed_sound : (xs zs ys : List Build) (making was : Option Build) (gathered items : List Build) → builds making gathered ≡ xs ++ (zs ++ ys) → Changed old new stack xs zs ys → IsSound old stack was items sizes capacity → IsSound new stack making gathered sizes now
+pub sized_now : (old new : List (Option Entry)) (s t : InputStack) (m : Map) (sizes : Sizes) (capacity now : ℕ) → IsSized old s m sizes capacity → length new ≡ length old → t.size ≡ s.size → t.parameter_size ≡ s.parameter_size → now ≡ capacity → IsSized new t m sizes now
+sized_now old new s t m sizes capacity now sized length_is size parameters same = record {
+  memory = length_is ∙ sized.memory;
+  levels = size ∙ sized.levels;
+  parameters = parameters ∙ sized.parameters;
+  names = sized.names;
+  few = sized.few;
+  room = omega (arith, sized.room, same);
+  ranges = sized.ranges;
+}
+
+module _ (old new : List (Option Entry)) (stack : InputStack) (m : Map) (sizes : Sizes) (capacity now : ℕ) (size : length new ≡ length old) (same : now ≡ capacity) where
+  pub changed_sound : (xs zs ys : List Build) (making was : Option Build) (gathered items : List Build) → builds making gathered ≡ xs ++ (zs ++ ys) → Changed old new stack m xs zs ys → IsSound old stack was items m sizes capacity → IsSound new stack making gathered m sizes now
   changed_sound xs zs ys making was gathered items is c sound = record {
-    shared = subst (IsShared new stack) (sym is) c.shared;
-    memory = size ∙ sound.memory;
-    levels = sound.levels;
-    room = omega (arith, sound.room, same);
+    shared = subst (λ (bs : List Build). IsShared new stack bs m) (sym is) c.shared;
+    sized = sized_now old new stack stack m sizes capacity now sound.sized size refl refl same;
   }
 
 -- ROOM
 
-module _ (table : List (Option Entry)) (stack : InputStack) (making : Option Build) (gathered : List Build) (sizes : Sizes) (capacity : ℕ) (sound : IsSound table stack making gathered sizes capacity) (v : HeldLists) (is : lists_of table (pending table stack) making gathered sizes ≡ v) where
+module _ (table : List (Option Entry)) (stack : InputStack) (making : Option Build) (gathered : List Build) (m : Map) (sizes : Sizes) (capacity : ℕ) (sound : IsSound table stack making gathered m sizes capacity) (v : HeldLists) (is : lists_of table (pending table stack) making gathered m sizes ≡ v) where
   pub used_now : words table ≡ words_held v
-  used_now = words_are table stack making gathered sizes sound.shared ∙ ap words_held is
+  used_now = words_are table stack making gathered m sizes sound.shared ∙ ap words_held is
 
   pub fits_now : words table < length table → refused v.sizes (memory 1 (words_held v) ∷ []) ≡ None
-  fits_now below = memory_fits v.sizes (words_held v) (length table) (omega (arith, below, used_now)) (sound.memory ∙ ap (λ (w : HeldLists). w.sizes.main_memory_size) is)
+  fits_now below = memory_fits v.sizes (words_held v) (length table) (omega (arith, below, used_now)) (sound.sized.memory ∙ ap (λ (w : HeldLists). w.sizes.main_memory_size) is)
 
   pub full_now : (f : Full) → IsFull f table → refused v.sizes (memory 1 (words_held v) ∷ []) ≡ Some f
-  full_now f full = memory_full v.sizes table (words_held v) f full used_now (sound.memory ∙ ap (λ (w : HeldLists). w.sizes.main_memory_size) is)
+  full_now f full = memory_full v.sizes table (words_held v) f full used_now (sound.sized.memory ∙ ap (λ (w : HeldLists). w.sizes.main_memory_size) is)
 
   -- a list more has a place
   pub few_now : words table < length table → length gathered < capacity
-  few_now below = omega (arith, below, sound.room, sound.memory, words_are table stack making gathered sizes sound.shared, gathered_few table gathered)
+  few_now below = omega (arith, below, sound.sized.room, sound.sized.memory, words_are table stack making gathered m sizes sound.shared, gathered_few table gathered)
 
 pub match_of : {T : Type 0} (r : Result T Full) (A P : Type 0) (B Q : Full → Type 0) → OnOk r A → IfErr r B → (A → P) → ((f : Full) → B f → Q f) → MatchResult r (λ _. P) Q
 match_of (Ok x) A P B Q a b f g = f a
@@ -94,49 +113,60 @@ ok_of (Err e) A P a f = tt
 
 -- THE LEVELS
 
-module _ (old new : List (Option Entry)) (s t : InputStack) (making : Option Build) (gathered : List Build) (sizes : Sizes) (capacity : ℕ) (sound : IsSound old s making gathered sizes capacity) (stands : Stands new t) (moves : Moves old new (held s) (held t)) (keeps : Keeps old new (held s)) (lasts : Lasts old new) (size : t.size ≡ s.size) where
-  keeps_none : Keeps old new (λ h. built [] h + held s h)
+module _ (old new : List (Option Entry)) (s t : InputStack) (making : Option Build) (gathered : List Build) (m : Map) (sizes : Sizes) (capacity : ℕ) (sound : IsSound old s making gathered m sizes capacity) (stands : Stands new t) (moves : Moves old new (held s) (held t)) (keeps : Keeps old new (held s)) (lasts : Lasts old new) (size : t.size ≡ s.size) (parameters : t.parameter_size ≡ s.parameter_size) where
+  keeps_none : Keeps old new (λ h. built [] h + (held s h + meant.held m h))
   keeps_none = record { tokens = λ h l. keeps.tokens h (omega (arith, l)); places = λ h l. keeps.places h (omega (arith, l)) }
 
-  pub levels_moved : IsSimple (pending new t) → Moved old new t (builds making gathered)
-  levels_moved simple = moved old new s t [] (builds making gathered) sound.shared stands simple (λ h. omega (arith, moves h)) keeps_none lasts
+  -- a macro keeps its list
+  macros_stay : (h : ℕ) → 0 < meant.held m h → IsDefined (tokens_at new h)
+  macros_stay h some = subst IsDefined (sym (lasts.tokens h (omega (arith, some, moves h, sound.shared.counted h)))) (sound.shared.macros h some)
 
-  pub levels_sound : IsSimple (pending new t) → IsSound new t making gathered sizes capacity
-  levels_sound simple = record {
-    shared = (levels_moved simple).shared;
-    memory = lasts.size ∙ sound.memory;
-    levels = size ∙ sound.levels;
-    room = sound.room;
+  pub levels_moved : IsSimple (pending new t) → IsApart (pending new t).puts (builds making gathered) m → Moved old new t m (builds making gathered)
+  levels_moved simple apart = moved old new s t m m [] (builds making gathered) sound.shared stands simple apart (λ h. omega (arith, moves h)) keeps_none lasts.tokens macros_stay
+
+  pub levels_sound : IsSimple (pending new t) → IsApart (pending new t).puts (builds making gathered) m → IsSound new t making gathered m sizes capacity
+  levels_sound simple apart = record {
+    shared = (levels_moved simple apart).shared;
+    sized = sized_now old new s t m sizes capacity capacity sound.sized lasts.size size parameters refl;
   }
 
-  settled_simple : pending new t ≡ settle (pending old s) → IsSimple (pending new t)
-  settled_simple after = subst (λ (p : Pending). IsSimple p) (sym after) (simple_settled (pending old s) sound.shared.simple)
+  module _ (after : pending new t ≡ settle (pending old s)) where
+    settled_simple : IsSimple (pending new t)
+    settled_simple = subst (λ (p : Pending). IsSimple p) (sym after) (simple_settled (pending old s) sound.shared.simple)
 
-  pub settled_sound : pending new t ≡ settle (pending old s) → IsSound new t making gathered sizes capacity
-  settled_sound after = levels_sound (settled_simple after)
+    settled_apart : IsApart (pending new t).puts (builds making gathered) m
+    settled_apart = subst (λ (p : Pending). IsApart p.puts (builds making gathered) m) (sym after) (apart_fewer (settle (pending old s)).puts (pending old s).puts (builds making gathered) m (fewer_settled (pending old s).puts) sound.shared.apart)
 
-  pub settled_view : (v : HeldLists) → lists_of old (pending old s) making gathered sizes ≡ v → pending new t ≡ settle (pending old s) → lists_of new (pending new t) making gathered sizes ≡ record v { puts = plain.settled v.puts }
-  settled_view v is after =
-      moved_view old new t making gathered sizes (levels_moved (settled_simple after))
-      ∙ ap (λ (p : Pending). lists_of old p making gathered sizes) after
-      ∙ ap (λ (ps : List plain.Put). held_lists ps (made_text old making) (map (text old) (reverse gathered)) (line_of (pending old s).sources) sizes) (fronts_settled old (pending old s).puts)
-      ∙ ap (λ (w : HeldLists). record w { puts = plain.settled w.puts }) is
+    settled_moved : Moved old new t m (builds making gathered)
+    settled_moved = levels_moved settled_simple settled_apart
+
+    pub settled_sound : IsSound new t making gathered m sizes capacity
+    settled_sound = levels_sound settled_simple settled_apart
+
+    pub settled_view : (v : HeldLists) → lists_of old (pending old s) making gathered m sizes ≡ v → lists_of new (pending new t) making gathered m sizes ≡ record v { puts = plain.settled v.puts; lists = texts new }
+    settled_view v is =
+        moved_view old new t m sizes making gathered settled_moved
+        ∙ ap (λ (p : Pending). record (lists_of old p making gathered m sizes) { lists = texts new }) after
+        ∙ ap (λ (ps : List plain.Put). held_lists ps (made_text old making) (map (text old) (reverse gathered)) (line_of (pending old s).sources) m sizes (texts new)) (fronts_settled old (pending old s).puts)
+        ∙ ap (λ (w : HeldLists). record w { puts = plain.settled w.puts; lists = texts new }) is
+
+    pub settled_macros : (v : HeldLists) → lists_of old (pending old s) making gathered m sizes ≡ v → KeepsLists m.cells (fronts new (pending new t).puts) v.lists (texts new)
+    settled_macros v is = macros_moved old new t m sizes (builds making gathered) v.lists settled_moved (ap (λ (w : HeldLists). w.lists) is)
 
 -- THE LEVELS ALONE
 
-module _ (table : List (Option Entry)) (s t : InputStack) (making : Option Build) (gathered : List Build) (sizes : Sizes) (capacity : ℕ) (sound : IsSound table s making gathered sizes capacity) (stands : Stands table t) (held_same : (h : ℕ) → held t h ≡ held s h) (size : t.size ≡ s.size) where
-  pub line_sound : IsSimple (pending table t) → IsSound table t making gathered sizes capacity
-  line_sound simple = record {
+module _ (table : List (Option Entry)) (s t : InputStack) (making : Option Build) (gathered : List Build) (m : Map) (sizes : Sizes) (capacity : ℕ) (sound : IsSound table s making gathered m sizes capacity) (stands : Stands table t) (held_same : (h : ℕ) → held t h ≡ held s h) (size : t.size ≡ s.size) (parameters : t.parameter_size ≡ s.parameter_size) where
+  pub line_sound : IsSimple (pending table t) → Fewer (pending table t).puts (pending table s).puts → IsSound table t making gathered m sizes capacity
+  line_sound simple fewer = record {
     shared = record {
       stands = stands;
       simple = simple;
       building = sound.shared.building;
       counted = λ h. omega (arith, sound.shared.counted h, held_same h);
-      sole = sound.shared.sole;
+      apart = apart_fewer (pending table t).puts (pending table s).puts (builds making gathered) m fewer sound.shared.apart;
+      macros = sound.shared.macros;
     };
-    memory = sound.memory;
-    levels = size ∙ sound.levels;
-    room = sound.room;
+    sized = sized_now table table s t m sizes capacity capacity sound.sized refl size parameters refl;
   }
 
 single_at : (line : Line) (bs : List Below) → IsSingle bs → IsSingle (sources_at line bs)
@@ -155,6 +185,17 @@ ends_single (b ∷ c ∷ bs) q id single ends = absurd single
 pub end_simple : (p q : Pending) (id : Option InId) → IsSimple p → Ends p q id → IsSimple q
 end_simple p q id simple ends = ends_single p.sources q id simple.single ends
 
+pub line_fewer : (p q : Pending) (line : Line) → q ≡ at_line line p → Fewer q.puts p.puts
+line_fewer p q line is = subst (λ (r : Pending). Fewer r.puts p.puts) (sym is) (record { owns = λ h. omega arith; bodies = λ h. omega arith })
+
+ends_fewer : (bs : List Below) (q : Pending) (id : Option InId) (ps : List Put) → IsSingle bs → EndsIn bs q id → Fewer q.puts ps
+ends_fewer [] q id ps single ends = absurd ends
+ends_fewer (b ∷ []) q id ps single ends = subst (λ (r : Pending). Fewer r.puts ps) (sym ends.1) (subst (λ (rs : List Put). Fewer rs ps) (sym single) (fewer_none ps))
+ends_fewer (b ∷ c ∷ bs) q id ps single ends = absurd single
+
+pub end_fewer : (p q : Pending) (id : Option InId) → IsSimple p → Ends p q id → Fewer q.puts p.puts
+end_fewer p q id simple ends = ends_fewer p.sources q id p.puts simple.single ends
+
 -- NO LISTS
 
 none_at : (n h : ℕ) → entry_at (replicate n None) h ≡ None
@@ -162,23 +203,45 @@ none_at zero h = refl
 none_at (suc n) zero = refl
 none_at (suc n) (suc h) = none_at n h
 
-pub new_sound : (table : List (Option Entry)) (stack : InputStack) (items : List Build) (sizes : Sizes) (capacity : ℕ) → table ≡ replicate sizes.main_memory_size None → innermost stack ≡ [] → Stands table stack → stack.size ≡ sizes.input_stack_size → items ≡ [] → sizes.main_memory_size ≤ capacity → IsSound table stack None items sizes capacity
-new_sound table stack items sizes capacity is empty stands size none room =
+pub texts_none : (n : ℕ) → texts (replicate n None) ≡ replicate n []
+texts_none zero = refl
+texts_none (suc n) = ap (λ (ts : List (List Token)). [] ∷ ts) (texts_none n)
+
+length_new : (n : ℕ) → length (replicate {A = Option Entry} n None) ≡ n
+length_new zero = refl
+length_new (suc n) = omega (arith, length_new n)
+
+pub new_sound : (table : List (Option Entry)) (stack : InputStack) (items : List Build) (m : Map) (sizes : Sizes) (capacity : ℕ) → table ≡ replicate sizes.main_memory_size None → innermost stack ≡ [] → Stands table stack → stack.size ≡ sizes.input_stack_size → stack.parameter_size ≡ sizes.parameter_stack_size → items ≡ [] → sizes.main_memory_size ≤ capacity → first_out_of_range sizes ≡ None → m ≡ first_map sizes.hash_size → length m.cells ≡ fixed_locations + primitive_count → ((h : ℕ) → meant.held m h ≡ 0) → IsSound table stack None items m sizes capacity
+new_sound table stack items m sizes capacity is empty stands size parameters none room ranges first count free =
     let zero_at : (h : ℕ) → holders_at table h ≡ 0 = λ h. ap (λ (t : List (Option Entry)). holders_at t h) is ∙ ap holders_of (none_at sizes.main_memory_size h) in
-    let s : IsShared table stack [] = record {
+    let s : IsShared table stack [] m = record {
       stands = stands;
       simple = subst (λ (ls : List Level). IsSimple (pending_in table ls)) (sym empty) (record { single = tt; plain = tt });
       building = All-nil (IsBuilding table);
-      counted = λ h. omega (arith, zero_at h, ap (λ (ls : List Level). held_in ls h) empty);
-      sole = λ h. omega (arith, zero_at h);
+      counted = λ h. omega (arith, zero_at h, ap (λ (ls : List Level). held_in ls h) empty, free h);
+      apart = subst (λ (ls : List Level). IsApart (pending_in table ls).puts [] m) (sym empty) (record { sole = λ h. omega arith; apart = λ h some. omega (arith, some) });
+      macros = λ h some. absurd (omega (arith, some, free h));
     } in
     record {
-      shared = subst (λ (bs : List Build). IsShared table stack (reverse bs)) (sym none) s;
-      memory = ap length is ∙ length_new sizes.main_memory_size;
-      levels = size;
-      room = room;
+      shared = subst (λ (bs : List Build). IsShared table stack (reverse bs) m) (sym none) s;
+      sized = record {
+        memory = ap length is ∙ length_new sizes.main_memory_size;
+        levels = size;
+        parameters = parameters;
+        names = ap (λ (k : Map). k.hash_size) first;
+        few = omega (arith, count, ap (λ (k : Map). k.hash_size) first, hash_least sizes ranges);
+        room = room;
+        ranges = ranges;
+      };
     }
-  where
-    length_new : (n : ℕ) → length (replicate {A = Option Entry} n None) ≡ n
-    length_new zero = refl
-    length_new (suc n) = omega (arith, length_new n)
+
+-- nothing is held, and the names mean what INITEX's mean
+abbrev pub first_lists : Sizes → HeldLists
+first_lists sizes = record { puts = []; making = None; gathered = []; line = None; sizes = sizes; meanings = first_meanings is_primitive; hash_size = sizes.hash_size; lists = replicate sizes.main_memory_size [] }
+
+pub new_view : (table : List (Option Entry)) (stack : InputStack) (items : List Build) (m : Map) (sizes : Sizes) → table ≡ replicate sizes.main_memory_size None → innermost stack ≡ [] → items ≡ [] → m ≡ first_map sizes.hash_size → lists_of table (pending table stack) None items m sizes ≡ first_lists sizes
+new_view table stack items m sizes is empty none first =
+    ap (λ (ls : List Level). lists_of table (pending_in table ls) None items m sizes) empty
+    ∙ ap (λ (bs : List Build). held_lists [] None (map (text table) (reverse bs)) None m sizes (texts table)) none
+    ∙ ap (λ (k : Map). held_lists [] None [] None k sizes (texts table)) first
+    ∙ ap (λ (ts : List (List Token)). held_lists [] None [] None (first_map sizes.hash_size) sizes ts) (ap texts is ∙ texts_none sizes.main_memory_size)

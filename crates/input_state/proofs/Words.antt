@@ -1,6 +1,7 @@
 -- The words that the lists take in main memory are those of the plain lists.
-use Rattle.std.proofs.Common.{◌≡◌, ℕ, ◌+◌, ◌≤◌, List, [], ◌∷◌, ◌++◌, length, map, reverse, Option, None, Some, refl, arith}
+use Rattle.std.proofs.Common.{◌≡◌, ℕ, ◌+◌, ◌<◌, ◌≤◌, List, [], ◌∷◌, ◌++◌, length, map, reverse, Option, None, Some, inl, inr, refl, ap, arith}
 use Rattle.std.specs.Prelude.{sum_by, option_to_list}
+use Rattle.std.proofs.lemmas.Bool.{cases_lt}
 use Rattle.std.proofs.lemmas.List.{length-reverse}
 use Rattle.std.proofs.lemmas.List.Sums.{sum_by-cons, sum_by-append}
 use Rattle.tex_defs.specs.declared.Token.{Token}
@@ -8,16 +9,17 @@ use Rattle.tex_defs.specs.declared.Sizes.{Sizes}
 use Rattle.plain_state.specs.Tables.{list_words, lists_words, made_words}
 use Rattle.token_lists.specs.declared.Build.{Build}
 use Rattle.token_lists.specs.Ids.{build_id}
-use Rattle.token_lists.specs.Table.{Entry, words}
-use Rattle.token_lists.specs.Accounts.{holds}
-use Rattle.input_stack.specs.Pending.{times, held_lists}
-use Rattle.input_stack.specs.View.{pending, innermost}
+use Rattle.token_lists.specs.Table.{Entry, words, holders_at}
+use Rattle.meanings.specs.Map.{Map}
+use Rattle.meanings.specs.Holding as meant
+use Rattle.input_stack.specs.Pending.{times}
+use Rattle.input_stack.specs.View.{pending}
 use Rattle.input_stack.specs.declared.stack.InputStack.{InputStack}
-use Rattle.input_stack.proofs.Helds.{held_puts}
 use Rattle.input_state.specs.HeldLists.{words_held}
-use Rattle.input_state.specs.HeldViews.{text, made_text, lists_of, builds, built, IsShared}
-use Rattle.input_state.proofs.Counting.{words_at, times_cons, words_counted}
-use Rattle.input_state.proofs.Levels.{held_words}
+use Rattle.input_state.specs.HeldViews.{text, made_text, fronts, lists_of, builds, built, owns, bodies, IsShared}
+use Rattle.input_state.proofs.Counting.{some, some_one, some_none, mark, words_at, times_cons, times_append, words_counted}
+use Rattle.input_state.proofs.Shares.{held_parts, macro_once}
+use Rattle.input_state.proofs.Levels.{plain_opens, front_words}
 use Rattle.input_state.proofs.Sharing.{built_cons}
 
 build_times : (bs : List Build) (h : ℕ) → times h (map build_id bs) ≡ built bs h
@@ -32,13 +34,30 @@ all_words : (table : List (Option Entry)) (making : Option Build) (bs : List Bui
 all_words table None bs = omega arith
 all_words table (Some b) bs = omega (arith, sum_by-cons list_words (text table b) (map (text table) bs))
 
-pub words_are : (table : List (Option Entry)) (stack : InputStack) (making : Option Build) (gathered : List Build) (sizes : Sizes) → IsShared table stack (builds making gathered) → words table ≡ words_held (lists_of table (pending table stack) making gathered sizes)
-words_are table stack making gathered sizes shared =
+-- each list is a macro's, or is held for itself in one place
+held_once : (a b c d : ℕ) → a + d ≤ 1 → (0 < a + d → b + c ≡ 0) → some (a + b + (d + c)) ≡ some (c + b) + (a + d)
+held_once a b c d sole apart = elim (cases_lt 0 (a + d)) [
+  | inl lt ↦
+      let none = apart lt in
+      omega (arith, some_one (a + b + (d + c)) (omega (arith, lt)), some_none (c + b) (omega (arith, none)), sole, lt)
+  | inr ge ↦
+      let same : a + b + (d + c) ≡ c + b = omega (arith, ge) in
+      omega (arith, ap some same, ge)
+]
+
+pub words_are : (table : List (Option Entry)) (stack : InputStack) (making : Option Build) (gathered : List Build) (m : Map) (sizes : Sizes) → IsShared table stack (builds making gathered) m → words table ≡ words_held (lists_of table (pending table stack) making gathered m sizes)
+words_are table stack making gathered m sizes shared =
     let bs = builds making gathered in
-    let ns = held_lists (pending table stack) in
-    let ms = map build_id bs in
-    let counted = words_counted table (ns ++ ms) (λ h. omega (arith, shared.counted h, held_puts table (innermost stack) h, build_times bs h, sum_by-append (λ (n : ℕ). holds n h) ns ms)) shared.sole in
-    omega (arith, counted, sum_by-append (words_at table) ns ms, held_words table (pending table stack) shared.simple, build_words table bs, all_words table making (reverse gathered))
+    let ps = (pending table stack).puts in
+    let ns = owns ps in
+    let ks = map build_id bs in
+    let counted : (h : ℕ) → some (holders_at table h) ≡ mark m.cells (fronts table ps) h + times h (ns ++ ks) =
+    λ h.
+    let all : holders_at table h ≡ times h ns + times h (bodies ps) + (built bs h + meant.held m h) = omega (arith, shared.counted h, held_parts table stack shared.simple.single h, plain_opens ps shared.simple.plain h) in
+    let once = held_once (times h ns) (times h (bodies ps)) (meant.held m h) (built bs h) (shared.apart.sole h) (shared.apart.apart h) in
+    omega (arith, ap some all, once, macro_once table m ps h, build_times bs h, times_append h ns ks) in
+    let words = words_counted m.cells (fronts table ps) table (ns ++ ks) counted in
+    omega (arith, words, sum_by-append (words_at table) ns ks, front_words table ps shared.simple.plain, build_words table bs, all_words table making (reverse gathered))
 
 -- a list takes a word
 few : (us : List (List Token)) → length us ≤ lists_words us

@@ -1,24 +1,32 @@
 -- The lists that are held, and the line of the file beneath those in front.
 use Rattle.std.specs.Prelude.{ℕ, ◌+◌, ◌≤◌, List, [], ◌∷◌, Option, None, Some, Bool, true, false}
 use Rattle.tex_defs.specs.declared.Token.{Token}
+use Rattle.tex_defs.specs.declared.Meaning.{Meaning}
+use Rattle.tex_defs.specs.declared.Full.{Full}
 use Rattle.tex_defs.specs.declared.Sizes.{Sizes}
 use Rattle.tex_defs.specs.declared.Table.TheVariants.{InputStackSize}
 use Rattle.plain_state.specs.Lex as plain
-use Rattle.plain_state.specs.Puts.{Put, put_levels, passed}
+use Rattle.plain_state.specs.Puts.{Put, put_levels, settled, passed}
 use Rattle.plain_state.specs.Pending.{Pending, Progress, NotBegun}
-use Rattle.plain_state.specs.Tables.{Demand, held_words}
+use Rattle.plain_state.specs.Tables.{Demand, refused, held_words, macro_words}
+use Rattle.input_state.specs.Macros.{KeepsLists}
+use Rattle.input_state.specs.Calls.{when_called}
 use Rattle.line_lexer.specs.declared.Line.{Line}
 use Rattle.line_lexer.specs.declared.Ahead.{Ahead}
 use Rattle.line_lexer.specs.declared.Ahead.TheVariants as ahead
 use Rattle.line_lexer.specs.Answers.{state_of, rest_of, looks_of}
 
--- the lists in front, the one that is being made, those that are gathered, and what is left of the line
+-- the lists in front, the one that is being made, those that are gathered, and what is left of the line; what the names mean,
+-- by their locations, how many names may be entered, and all lists by their numbers
 pub record HeldLists : Type 0 where
   pub puts : List Put
   pub making : Option (List Token)
   pub gathered : List (List Token)
   pub line : Option Line
   pub sizes : Sizes
+  pub meanings : List (Meaning (Option ℕ))
+  pub hash_size : ℕ
+  pub lists : List (List Token)
 
 -- the innermost of the lists that are gathered
 abbrev pub first_list : List (List Token) → List Token
@@ -37,7 +45,13 @@ made (Some ts) = ts
 -- WHAT IS USED
 
 abbrev pub words_held : HeldLists → ℕ
-words_held s = held_words s.puts s.making s.gathered
+words_held s = macro_words 0 s.meanings s.puts s.lists + held_words s.puts s.making s.gathered
+
+-- MACROS
+
+-- each macro whose list is held then keeps its tokens
+abbrev pub KeepsHeld : HeldLists → HeldLists → Type 0
+KeepsHeld old new = KeepsLists new.meanings new.puts old.lists new.lists
 
 -- a level for the file that is open
 abbrev pub line_levels : Option Line → ℕ
@@ -47,6 +61,10 @@ line_levels (Some line) = 1
 -- a level more
 abbrev pub level_held : HeldLists → Demand
 level_held s = record { table = InputStackSize; used = put_levels s.puts + line_levels s.line; need = 1 }
+
+-- why the body of a macro isn't put, once the finished lists in front have gone
+abbrev pub call_refusal : Put → HeldLists → Option Full
+call_refusal p s = refused s.sizes (when_called p.items (level_held (record s { puts = settled s.puts })))
 
 -- what the file's first line needs of the levels
 abbrev pub file_demands : Progress → HeldLists → List Demand

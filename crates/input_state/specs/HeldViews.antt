@@ -1,15 +1,20 @@
--- The lists in main memory as plain lists, each with one holder.
-use Rattle.std.specs.Prelude.{◌≡◌, ℕ, ◌+◌, ◌≤◌, List, [], ◌∷◌, ◌++◌, map, reverse, length, Option, None, Some, All, option_to_list, sum_by}
+-- The lists in main memory as plain lists: those of macros may be shared, and each other list is held in one place.
+use Rattle.std.specs.Prelude.{◌≡◌, ℕ, ◌+◌, ◌<◌, ◌≤◌, Bool, true, false, List, [], ◌∷◌, ◌++◌, map, reverse, length, Option, None, Some, All, option_to_list, sum_by}
 use Rattle.tex_defs.specs.declared.Token.{Token}
 use Rattle.tex_defs.specs.declared.Sizes.{Sizes}
+use Rattle.tex_defs.specs.Sizes.{first_out_of_range}
 use Rattle.plain_state.specs.Puts as plain
+use Rattle.plain_state.specs.Meanings.{fixed_locations}
+use Rattle.plain_state.specs.Arguments.{delimiters_of}
+use Rattle.meanings.specs.Map.{Map}
+use Rattle.meanings.specs.Holding as meant
 use Rattle.line_lexer.specs.declared.Line.{Line}
 use Rattle.token_lists.specs.declared.Build.{Build}
 use Rattle.token_lists.specs.Ids.{build_id, IsBuilding}
-use Rattle.token_lists.specs.Table.{Entry, tokens_at, holders_at}
+use Rattle.token_lists.specs.Table.{Entry, tokens_at, tokens_of, holders_at}
 use Rattle.token_lists.specs.Accounts.{holds}
-use Rattle.input_stack.specs.Puts.{Put, Item, Text, First, Later, Gap}
-use Rattle.input_stack.specs.Pending.{Pending, Below}
+use Rattle.input_stack.specs.Puts.{Put, Item, Text, First, Later, Gap, numbers}
+use Rattle.input_stack.specs.Pending.{Pending, Below, times}
 use Rattle.input_stack.specs.Pulls.{token_in}
 use Rattle.input_stack.specs.View.{pending, held}
 use Rattle.input_stack.specs.Standing.{Stands}
@@ -23,9 +28,18 @@ plain_item (First n t) = plain.First t
 plain_item (Later n t) = plain.Later t
 plain_item Gap = plain.Gap
 
--- a list in front: the tokens of its list, which is its own, and the items that are left
+-- a macro's body that was put has the list of its macro, another list its own
+abbrev pub whole_of : Bool → ℕ → List Token → plain.Whole
+whole_of true n ts = plain.Macro n
+whole_of false n ts = plain.Own ts
+
+abbrev pub argument_text : List (Option Entry) → Option ℕ → List Token
+argument_text table None = []
+argument_text table (Some n) = tokens_at table n
+
+-- a list in front: its tokens or its macro, the arguments of its call, and the items that are left
 abbrev pub front : List (Option Entry) → Put → plain.Put
-front table x = record { list = plain.Own (tokens_at table x.list); arguments = []; items = map plain_item x.items }
+front table x = record { list = whole_of x.body x.list (tokens_at table x.list); arguments = map (argument_text table) x.arguments; items = map plain_item x.items }
 
 abbrev pub fronts : List (Option Entry) → List Put → List plain.Put
 fronts table ps = map (front table) ps
@@ -42,13 +56,20 @@ abbrev pub line_of : List Below → Option Line
 line_of [] = None
 line_of (b ∷ bs) = Some b.source.line
 
-abbrev pub lists_of : List (Option Entry) → Pending → Option Build → List Build → Sizes → HeldLists
-lists_of table p making gathered sizes = record {
+-- all lists, by their numbers
+abbrev pub texts : List (Option Entry) → List (List Token)
+texts table = map tokens_of table
+
+abbrev pub lists_of : List (Option Entry) → Pending → Option Build → List Build → Map → Sizes → HeldLists
+lists_of table p making gathered m sizes = record {
   puts = fronts table p.puts;
   making = made_text table making;
   gathered = map (text table) (reverse gathered);
   line = line_of p.sources;
   sizes = sizes;
+  meanings = m.cells;
+  hash_size = m.hash_size;
+  lists = texts table;
 }
 
 -- one file at most, and no lists beneath it
@@ -80,16 +101,60 @@ builds making gathered = option_to_list making ++ reverse gathered
 abbrev pub built : List Build → ℕ → ℕ
 built bs h = sum_by (λ b. holds (build_id b) h) bs
 
--- Each list has one holder, a level or a build.
-pub record IsShared (table : List (Option Entry)) (stack : InputStack) (bs : List Build) : Type 0 where
+-- WHO HOLDS A LIST
+
+-- the lists that a list in front has for itself: its own, where it is no macro's body, and its call's arguments
+abbrev pub own_of : Bool → ℕ → List ℕ → List ℕ
+own_of true n ns = ns
+own_of false n ns = n ∷ ns
+
+abbrev pub owns : List Put → List ℕ
+owns [] = []
+owns (p ∷ ps) = own_of p.body p.list (numbers p.arguments) ++ owns ps
+
+abbrev pub body_of : Bool → ℕ → List ℕ
+body_of true n = n ∷ []
+body_of false n = []
+
+-- the lists of the macros whose bodies are in front
+abbrev pub bodies : List Put → List ℕ
+bodies [] = []
+bodies (p ∷ ps) = body_of p.body p.list ++ bodies ps
+
+-- the arguments whose levels are open
+abbrev pub opens : List Put → List ℕ
+opens [] = []
+opens (p ∷ ps) = numbers (p.reading ∷ []) ++ opens ps
+
+-- A list in front of its own, an argument or a list that is being built is that in one place, and no macro's.
+pub record IsApart (ps : List Put) (bs : List Build) (m : Map) : Type 0 where
+  pub sole : (h : ℕ) → times h (owns ps) + built bs h ≤ 1
+  pub apart : (h : ℕ) → 0 < times h (owns ps) + built bs h → times h (bodies ps) + meant.held m h ≡ 0
+
+-- a macro's list has a token, its end mark, and at most nine places
+pub record IsDefined (ts : List Token) : Type 0 where
+  pub some : 0 < length ts
+  pub few : length (delimiters_of ts) ≤ 9
+
+-- Each list is held by levels, builds and names.
+pub record IsShared (table : List (Option Entry)) (stack : InputStack) (bs : List Build) (m : Map) : Type 0 where
   pub stands : Stands table stack
   pub simple : IsSimple (pending table stack)
   pub building : All (IsBuilding table) bs
-  pub counted : (h : ℕ) → holders_at table h ≡ held stack h + built bs h
-  pub sole : (h : ℕ) → holders_at table h ≤ 1
+  pub counted : (h : ℕ) → holders_at table h ≡ held stack h + (built bs h + meant.held m h)
+  pub apart : IsApart (pending table stack).puts bs m
+  pub macros : (h : ℕ) → 0 < meant.held m h → IsDefined (tokens_at table h)
 
-pub record IsSound (table : List (Option Entry)) (stack : InputStack) (making : Option Build) (gathered : List Build) (sizes : Sizes) (capacity : ℕ) : Type 0 where
-  pub shared : IsShared table stack (builds making gathered)
+-- the sizes are in range, and there is room for what they admit
+pub record IsSized (table : List (Option Entry)) (stack : InputStack) (m : Map) (sizes : Sizes) (capacity : ℕ) : Type 0 where
   pub memory : length table ≡ sizes.main_memory_size
   pub levels : stack.size ≡ sizes.input_stack_size
+  pub parameters : stack.parameter_size ≡ sizes.parameter_stack_size
+  pub names : m.hash_size ≡ sizes.hash_size
+  pub few : length m.cells ≤ fixed_locations + m.hash_size
   pub room : sizes.main_memory_size ≤ capacity
+  pub ranges : first_out_of_range sizes ≡ None
+
+pub record IsSound (table : List (Option Entry)) (stack : InputStack) (making : Option Build) (gathered : List Build) (m : Map) (sizes : Sizes) (capacity : ℕ) : Type 0 where
+  pub shared : IsShared table stack (builds making gathered) m
+  pub sized : IsSized table stack m sizes capacity

@@ -12,6 +12,9 @@ stored_of held buffer file = record {
   gathered = held.gathered;
   buffer = buffer;
   sizes = held.sizes;
+  meanings = held.meanings;
+  hash_size = held.hash_size;
+  lists = held.lists;
 }
 
 -- The file has its level, and a line in the buffer, while it is begun.

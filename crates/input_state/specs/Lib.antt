@@ -5,5 +5,7 @@ pub mod HeldViews
 pub mod FileLeft
 pub mod FileViews
 pub mod InputViews
+pub mod Macros
+pub mod Calls
 pub mod Changes
 pub mod Given

@@ -1,11 +1,11 @@
 -- What a reading answers, and what is pending then.
-use Rattle.std.specs.Prelude.{◌≡◌, ℕ, ◌<◌, ◌≤◌, List, length, None, Some, Bool, true, false}
+use Rattle.std.specs.Prelude.{◌≡◌, ℕ, ◌<◌, ◌≤◌, List, [], length, Option, None, Some, Bool, true, false}
 use Rattle.tex_defs.specs.declared.Full.{Full}
 use Rattle.tex_defs.specs.declared.Sizes.{Sizes}
 use Rattle.plain_state.specs.Lex as plain
 use Rattle.plain_state.specs.Puts.{next_item}
 use Rattle.plain_state.specs.Pending.{Pending, Pulled, TokenFrom, LexemeFrom, LineTaken, InvalidMet, FileOver, NothingLeft, pulled, from_file, taken_line, settle}
-use Rattle.plain_state.specs.Tables.{refused, opened_level, next_line}
+use Rattle.plain_state.specs.Tables.{Demand, refused, opened_level, next_line}
 use Rattle.line_lexer.specs.Answers.{span}
 use Rattle.line_lexer.specs.declared.Lexed.{Lexed}
 use Rattle.line_lexer.specs.declared.Lexed.TheVariants.{Char, Active, Single, Word, Empty, Par, Invalid, End}
@@ -41,18 +41,25 @@ Reads p answer.Nothing sizes old new buffer = (p ≡ NothingLeft) × (new ≡ se
 abbrev pub Pulls : Pulled → answers.Pulled → Stored → Stored → Type 0
 Pulls p result old new = Reads p result old.sizes old.pending new.pending new.buffer
 
+-- What the next step needs: a level for the first token of an argument, and room for a line.
+abbrev pub step_demands : Pulled → Pending → List Demand
+step_demands (TokenFrom t next) p = opened_level (next_item p.puts) p
+step_demands (LineTaken line next) p = next_line p
+step_demands q p = []
+
+-- why it isn't made
+abbrev pub pull_refusal : List ℕ → Stored → Option Full
+pull_refusal categories s = refused s.sizes (step_demands (pulled categories s.pending) s.pending)
+
 -- A line would be taken and has no room: it is not taken.
-pub record RefusesTaken (p : Pulled) (full : Full) (old new : Stored) : Type 0 where
+pub record RefusesTaken (q : Pulled) (full : Full) (old new : Stored) : Type 0 where
   pub line : List ℕ
   pub next : Pending
-  pub takes : p ≡ LineTaken line next
+  pub takes : q ≡ LineTaken line next
   pub refused : refused old.sizes (next_line old.pending) ≡ Some full
   pub stays : new.pending ≡ settle old.pending
 
-abbrev pub Refuses : List ℕ → Full → Stored → Stored → Type 0
-Refuses categories full old new = RefusesTaken (pulled categories old.pending) full old new
-
--- the same of the file alone
+-- it would be the file's
 abbrev pub RefusesLine : Full → Stored → Stored → Type 0
 RefusesLine full old new = RefusesTaken (from_file old.pending.file old.pending.number old.pending.rest) full old new
 

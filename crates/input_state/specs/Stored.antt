@@ -1,10 +1,15 @@
 -- All lists of a run, and all that is still to be read.
-use Rattle.std.specs.Prelude.{ℕ, List, [], Option, None, Some}
+use Rattle.std.specs.Prelude.{ℕ, ◌+◌, List, [], Option, None, Some}
 use Rattle.tex_defs.specs.declared.Token.{Token}
+use Rattle.tex_defs.specs.declared.Meaning.{Meaning}
+use Rattle.tex_defs.specs.declared.Full.{Full}
 use Rattle.tex_defs.specs.declared.Sizes.{Sizes}
+use Rattle.plain_state.specs.Puts.{Put}
 use Rattle.plain_state.specs.Lex.{NewLine}
-use Rattle.plain_state.specs.Pending.{Pending, NotBegun, Closed}
-use Rattle.plain_state.specs.Tables.{held_words}
+use Rattle.plain_state.specs.Pending.{Pending, NotBegun, Closed, settle}
+use Rattle.plain_state.specs.Tables.{held_words, macro_words, level, refused}
+use Rattle.input_state.specs.Macros.{KeepsLists}
+use Rattle.input_state.specs.Calls.{when_called}
 
 pub record Stored : Type 0 where
   pub pending : Pending
@@ -15,10 +20,24 @@ pub record Stored : Type 0 where
   -- all bytes of the line buffer
   pub buffer : List ℕ
   pub sizes : Sizes
+  -- what the names mean, by their locations: a macro has the number of its list
+  pub meanings : List (Meaning (Option ℕ))
+  -- how many names of two or more characters may be entered
+  pub hash_size : ℕ
+  -- all lists of main memory, by their numbers
+  pub lists : List (List Token)
 
 -- the words of main memory that are used
 abbrev pub words : Stored → ℕ
-words s = held_words s.pending.puts s.making s.gathered
+words s = macro_words 0 s.meanings s.pending.puts s.lists + held_words s.pending.puts s.making s.gathered
+
+-- each macro whose list is held then keeps its tokens
+abbrev pub KeepsMacros : Stored → Stored → Type 0
+KeepsMacros old new = KeepsLists new.meanings new.pending.puts old.lists new.lists
+
+-- why the body of a macro isn't put, once the finished lists in front have gone
+abbrev pub call_refusal : Put → Stored → Option Full
+call_refusal p s = refused s.sizes (when_called p.items (level (settle s.pending)))
 
 -- no file, and nothing in front
 abbrev pub closed : Pending

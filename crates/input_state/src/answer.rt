@@ -18,3 +18,14 @@ pub enum Pulled {
     /// Nothing is left.
     Nothing,
 }
+
+/// How a name is called.
+#[derive(Clone, Copy, Debug, PartialEq, Eq)]
+pub enum CallKind {
+    /// It is no macro, or it means what the frozen `\endwrite` does.
+    None,
+    /// The macro has no parameter text: its body is put at once.
+    AtOnce,
+    /// Its parameter text is matched first, and its arguments are gathered.
+    Gathers,
+}

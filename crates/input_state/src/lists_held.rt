@@ -1,37 +1,51 @@
-// The lists in front, those that are being made and gathered, and the line of the file beneath them.
-ghost use Rattle.std.specs.Prelude.{◌≡◌, ◌≢◌, ℕ, ◌≤◌, ◌<◌, ◌+◌, ◌++◌, ◌↔◌, List, [], ◌∷◌, Option, None, Some, IsSome, IsTrue, IfOk, OnOk, OnErr, IfErr, MatchResult, length, drop};
+// The lists in front, those that are being made and gathered, the line of the file beneath them, and what the names mean.
+ghost use Rattle.std.specs.Prelude.{◌≡◌, ◌≢◌, ℕ, ◌≤◌, ◌<◌, ◌+◌, ◌++◌, ◌↔◌, true, List, [], ◌∷◌, Option, None, Some, IsSome, IsTrue, IfOk, OnOk, OnErr, IfErr, MatchResult, length, drop, replicate};
+ghost use Rattle.tex_defs.specs.Sizes.{first_out_of_range};
+ghost use Rattle.plain_state.specs.Names.{is_primitive};
+ghost use Rattle.tex_defs.specs.declared.Meaning.TheVariants.{Undefined};
+ghost use Rattle.plain_state.specs.Meanings.{first_meanings, fixed_locations, location, name_meaning, seen};
 ghost use Rattle.plain_state.specs.Puts.{settled, with_put, token_put};
 ghost use Rattle.plain_state.specs.Pending.{Progress, pulled};
 ghost use Rattle.plain_state.specs.States.{grow_first, grown_by};
-ghost use Rattle.plain_state.specs.Tables.{memory, refused};
+ghost use Rattle.plain_state.specs.Tables.{is_meant, memory, refused};
 ghost use Rattle.line_lexer.specs.declared.Ahead.TheVariants as ahead;
 ghost use Rattle.token_lists.specs.Table.{words, tokens_at, holders_at, IsHeld};
 ghost use Rattle.token_lists.specs.Ids.{build_id, IsBuilding};
 ghost use Rattle.token_lists.specs.Accounts.{Moves, none, holds};
 ghost use Rattle.token_lists.specs.Refusals.{IsFull};
-ghost use Rattle.input_state.specs.HeldLists.{HeldLists, first_list, is_empty, made, words_held, level_held, pending_of, ahead_of, line_levels, IsLineIn};
+ghost use Rattle.input_state.specs.HeldLists.{HeldLists, KeepsHeld, call_refusal, first_list, is_empty, made, words_held, level_held, pending_of, ahead_of, line_levels, IsLineIn};
+ghost use Rattle.meanings.specs.Map.{IsPlaced};
+ghost use Rattle.input_state.specs.HeldViews.{IsDefined};
+ghost use Rattle.input_state.specs.Macros.{list_at};
+ghost use Rattle.input_state.specs.Calls.{call_kind, called_put, called, Defines};
+ghost use Rattle.input_state.specs.declared.answer.CallKind.TheVariants.{AtOnce};
 ghost use Rattle.input_state.specs.Changes.{IsOnly};
 ghost use Rattle.input_state.specs.Reads.{Reads};
 ghost use Rattle.input_state.specs.Given.{GivesMore, answer_of};
 
-use crate::Pulled;
+use crate::holders::{give_back, has_parameters, share};
+use crate::{CallKind, Pulled};
 use input_stack::{InputStack, Pulled as Given};
 use line_lexer::{Ahead, Lexed, Line};
+use macro_args::Args;
+use meanings::Meanings;
 use std::alloc::{AllocError, Global};
 use std::marker::Model;
-use tex_defs::{Full, Sizes, Token};
+use tex_defs::{Full, Meaning, Name, Seen, Sizes, Token};
 use token_lists::{Build, Lists};
 use world_io::InId;
 
 /// The number of the job's file.
 const JOB: InId = InId { number: 0 };
 
-/// The lists of a run, each with one holder, and the levels of input.
+/// The lists of a run, what the names mean, and the levels of input. A macro's list may have many holders, each other list
+/// is held in one place.
 #[must_use]
 #[derive(Debug)]
 pub struct Held {
     lists: Lists,
     stack: InputStack,
+    meanings: Meanings,
     /// The list that is made, to be put in front.
     making: Option<Build>,
     /// The lists that open readings gather, the innermost reading's last.
@@ -48,9 +62,9 @@ impl Model for Held {
 
     ghost use Rattle.input_state.specs.HeldViews.{lists_of, IsSound};
 
-    ghost view = { λ i. lists_of i.lists (pending i.lists i.stack) i.making i.gathered.items i.sizes };
+    ghost view = { λ i. lists_of i.lists (pending i.lists i.stack) i.making i.gathered.items i.meanings i.sizes };
 
-    ghost invariant = { λ i. IsSound i.lists i.stack i.making i.gathered.items i.sizes (vec_capacity i.gathered) };
+    ghost invariant = { λ i. IsSound i.lists i.stack i.making i.gathered.items i.meanings i.sizes (vec_capacity i.gathered) };
 }
 
 // Begins a list. What is used then says that there was room for it.
@@ -120,24 +134,34 @@ fn answer(given: Result<Given, Full>) -> Pulled
 }
 
 impl Held {
-    /// No lists, no line, and room for all that these sizes admit.
+    /// No lists, no line, INITEX's meanings, and room for all that these sizes admit.
     ///
     /// # Errors
     /// There is no room for them. No other call takes memory.
     pub fn new(alloc: Global, sizes: &Sizes) -> Result<Held, AllocError>
-        ensures { IfOk result (λ h. h ≡ record { puts = []; making = None; gathered = []; line = None; sizes = sizes.now }) }
+        requires { first_out_of_range sizes.now ≡ None }
+        ensures { IfOk result (λ h. h ≡ record { puts = []; making = None; gathered = []; line = None; sizes = sizes.now; meanings = first_meanings is_primitive; hash_size = sizes.now.hash_size; lists = replicate sizes.now.main_memory_size [] }) }
     {
-        let lists = Lists::new(alloc, sizes.main_memory_size)?;
+        let mut lists = Lists::new(alloc, sizes.main_memory_size)?;
         let gathered = Vec::with_capacity(alloc, sizes.main_memory_size as usize)?;
+        let meanings = match Meanings::new(alloc, sizes) {
+            Ok(meanings) => meanings,
+            Err(error) => {
+                gathered.destroy_empty();
+                return Err(error);
+            }
+        };
         match InputStack::new(alloc, sizes) {
             Ok(stack) => Ok(Held {
                 lists,
                 stack,
+                meanings,
                 making: None,
                 gathered,
                 sizes: *sizes,
             }),
             Err(error) => {
+                meanings.close(&mut lists);
                 gathered.destroy_empty();
                 Err(error)
             }
@@ -152,7 +176,8 @@ impl Held {
 
     /// The lists in front that are finished go.
     pub fn settle(&mut self)
-        ensures { self.new ≡ record self.old { puts = settled self.old.puts } }
+        ensures after { self.new ≡ record self.old { puts = settled self.old.puts; lists = self.new.lists } }
+        ensures macros { KeepsHeld self.old self.new }
     {
         self.stack.drop_finished(&mut self.lists);
     }
@@ -163,8 +188,9 @@ impl Held {
     /// The main memory is full; nothing has changed.
     pub fn begin_list(&mut self) -> Result<(), Full>
         ensures refused { MatchResult result (λ _. refused self.old.sizes (memory 1 (words_held self.old) ∷ []) ≡ None) (λ full. refused self.old.sizes (memory 1 (words_held self.old) ∷ []) ≡ Some full) }
-        ensures ok { OnOk result (self.new ≡ record self.old { gathered = [] ∷ self.old.gathered }) }
+        ensures ok { OnOk result (self.new ≡ record self.old { gathered = [] ∷ self.old.gathered; lists = self.new.lists }) }
         ensures err { OnErr result (self.new ≡ self.old) }
+        ensures macros { KeepsHeld self.old self.new }
     {
         match begin(&mut self.lists) {
             Ok(build) => {
@@ -182,8 +208,9 @@ impl Held {
     pub fn grow_list(&mut self, token: Token) -> Result<(), Full>
         requires { self.old.gathered ≢ [] }
         ensures refused { MatchResult result (λ _. refused self.old.sizes (memory 1 (words_held self.old) ∷ []) ≡ None) (λ full. refused self.old.sizes (memory 1 (words_held self.old) ∷ []) ≡ Some full) }
-        ensures ok { OnOk result (self.new ≡ record self.old { gathered = grow_first token self.old.gathered }) }
+        ensures ok { OnOk result (self.new ≡ record self.old { gathered = grow_first token self.old.gathered; lists = self.new.lists }) }
         ensures err { OnErr result (self.new ≡ self.old) }
+        ensures macros { KeepsHeld self.old self.new }
     {
         let Some(mut build) = self.gathered.pop() else {
             unreachable!()
@@ -196,7 +223,8 @@ impl Held {
     /// The innermost reading's list goes.
     pub fn drop_list(&mut self)
         requires { self.old.gathered ≢ [] }
-        ensures { self.new ≡ record self.old { gathered = drop 1 self.old.gathered } }
+        ensures after { self.new ≡ record self.old { gathered = drop 1 self.old.gathered; lists = self.new.lists } }
+        ensures macros { KeepsHeld self.old self.new }
     {
         let Some(build) = self.gathered.pop() else {
             unreachable!()
@@ -242,8 +270,9 @@ impl Held {
     pub fn make_list(&mut self) -> Result<(), Full>
         requires { self.old.making ≡ None }
         ensures refused { MatchResult result (λ _. refused self.old.sizes (memory 1 (words_held self.old) ∷ []) ≡ None) (λ full. refused self.old.sizes (memory 1 (words_held self.old) ∷ []) ≡ Some full) }
-        ensures ok { OnOk result (self.new ≡ record self.old { making = Some [] }) }
+        ensures ok { OnOk result (self.new ≡ record self.old { making = Some []; lists = self.new.lists }) }
         ensures err { OnErr result (self.new ≡ self.old) }
+        ensures macros { KeepsHeld self.old self.new }
     {
         match begin(&mut self.lists) {
             Ok(build) => {
@@ -263,8 +292,9 @@ impl Held {
     pub fn grow_made(&mut self, token: Token) -> Result<(), Full>
         requires { IsSome self.old.making }
         ensures refused { MatchResult result (λ _. refused self.old.sizes (memory 1 (words_held self.old) ∷ []) ≡ None) (λ full. refused self.old.sizes (memory 1 (words_held self.old) ∷ []) ≡ Some full) }
-        ensures ok { OnOk result (self.new ≡ record self.old { making = grown_by token self.old.making }) }
+        ensures ok { OnOk result (self.new ≡ record self.old { making = grown_by token self.old.making; lists = self.new.lists }) }
         ensures err { OnErr result (self.new ≡ self.old) }
+        ensures macros { KeepsHeld self.old self.new }
     {
         let Some(mut build) = self.making.take() else {
             unreachable!()
@@ -278,7 +308,8 @@ impl Held {
 
     /// The list that is made, if there is one, goes.
     pub fn drop_made(&mut self)
-        ensures { self.new ≡ record self.old { making = None } }
+        ensures after { self.new ≡ record self.old { making = None; lists = self.new.lists } }
+        ensures macros { KeepsHeld self.old self.new }
     {
         if let Some(build) = self.making.take() {
             abandon(&mut self.lists, build);
@@ -288,7 +319,8 @@ impl Held {
     /// Why there is no room for one more level, once the finished lists in front have gone.
     pub fn room(&mut self) -> Option<Full>
         ensures refused { result ≡ refused self.old.sizes (level_held self.old ∷ []) }
-        ensures after { self.new ≡ record self.old { puts = settled self.old.puts } }
+        ensures after { self.new ≡ record self.old { puts = settled self.old.puts; lists = self.new.lists } }
+        ensures macros { KeepsHeld self.old self.new }
     {
         self.stack.room(&mut self.lists)
     }
@@ -298,7 +330,8 @@ impl Held {
         requires some { IsSome self.old.making }
         requires settled { settled self.old.puts ≡ self.old.puts }
         requires room { refused self.old.sizes (level_held self.old ∷ []) ≡ None }
-        ensures { self.new ≡ record self.old { puts = with_put (token_put (made self.old.making)) self.old.puts; making = None } }
+        ensures after { self.new ≡ record self.old { puts = with_put (token_put (made self.old.making)) self.old.puts; making = None; lists = self.new.lists } }
+        ensures macros { KeepsHeld self.old self.new }
     {
         let Some(build) = self.making.take() else {
             unreachable!()
@@ -325,7 +358,8 @@ impl Held {
         requires more { (rest : List ℕ) (file : Progress) (number : ℕ) → ahead_of categories.now (pending_of self.old bytes.old rest file number) ≢ ahead.End }
         ensures in_buffer { IsLineIn self.new.line (length bytes.new) }
         ensures pulls { (rest : List ℕ) (file : Progress) (number : ℕ) → Reads (pulled categories.now (pending_of self.old bytes.old rest file number)) result self.old.sizes (pending_of self.old bytes.old rest file number) (pending_of self.new bytes.new rest file number) bytes.new }
-        ensures others { self.new ≡ record self.old { puts = self.new.puts; line = self.new.line } }
+        ensures others { self.new ≡ record self.old { puts = self.new.puts; line = self.new.line; lists = self.new.lists } }
+        ensures macros { KeepsHeld self.old self.new }
         ensures levels { line_levels self.new.line ≡ line_levels self.old.line }
     {
         answer(self.stack.pull(&mut self.lists, bytes, categories))
@@ -339,8 +373,9 @@ impl Held {
         requires front { self.old.puts ≡ [] }
         requires closed { self.old.line ≡ None }
         ensures refused { MatchResult result (λ _. refused self.old.sizes (level_held self.old ∷ []) ≡ None) (λ full. refused self.old.sizes (level_held self.old ∷ []) ≡ Some full) }
-        ensures ok { OnOk result (self.new ≡ record self.old { line = Some line }) }
-        ensures err { OnErr result (self.new ≡ self.old) }
+        ensures ok { OnOk result (self.new ≡ record self.old { line = Some line; lists = self.new.lists }) }
+        ensures err { OnErr result (self.new ≡ record self.old { lists = self.new.lists }) }
+        ensures macros { KeepsHeld self.old self.new }
     {
         self.stack.push_file(&mut self.lists, Some(JOB), line)
     }
@@ -363,6 +398,85 @@ impl Held {
         let _id = self.stack.end_file();
     }
 
+    /// A token with what it means.
+    pub fn seen(&self, token: Token) -> Seen
+        ensures { result ≡ seen self.now.meanings token }
+    {
+        self.meanings.seen(token)
+    }
+
+    /// Gives the next name of two or more characters a location. It is undefined.
+    pub fn enter_name(&mut self)
+        requires { length self.old.meanings < fixed_locations + self.old.hash_size }
+        ensures after { self.new ≡ record self.old { meanings = self.old.meanings ++ Undefined ∷ [] } }
+        ensures macros { KeepsHeld self.old self.new }
+    {
+        self.meanings.enter();
+    }
+
+    /// A name becomes a macro: the innermost reading's list is its parameter text, the end mark and its body.
+    pub fn define(&mut self, name: Name, long: bool, outer: bool)
+        requires some { self.old.gathered ≢ [] }
+        requires list { IsDefined (first_list self.old.gathered) }
+        requires assignable { IsPlaced (location name) (length self.old.meanings) }
+        ensures after { self.new ≡ record self.old { gathered = drop 1 self.old.gathered; meanings = self.new.meanings; lists = self.new.lists } }
+        ensures defines { Defines self.old.meanings self.new.meanings self.old.puts self.old.lists self.new.lists (first_list self.old.gathered) name long outer }
+        ensures macros { KeepsHeld self.old self.new }
+    {
+        let Some(build) = self.gathered.pop() else {
+            unreachable!()
+        };
+        let list = Some(self.lists.finish(build));
+        let meaning = Meaning::Macro { long, outer, list };
+        self.meanings.define(&mut self.lists, name, meaning);
+    }
+
+    /// Each macro's list has a token, its end mark, and at most nine places. The call does nothing.
+    pub fn macros_are_lists(&self)
+        ensures { (id : ℕ) → is_meant id self.now.meanings ≡ true → IsDefined (list_at self.now.lists id) }
+    {
+        let _lists = &self.lists;
+    }
+
+    /// How a name is called.
+    pub fn call_kind(&self, name: Name) -> CallKind
+        ensures { result ≡ call_kind self.now.lists (name_meaning self.now.meanings name) }
+    {
+        let Some(list) = self.meanings.list(name) else {
+            return CallKind::None;
+        };
+        if has_parameters(&self.lists, list) {
+            CallKind::Gathers
+        } else {
+            CallKind::AtOnce
+        }
+    }
+
+    /// Puts the body of a macro that has no parameter text in front; one without a body changes nothing. The list is
+    /// shared, not copied.
+    ///
+    /// # Errors
+    /// The input stack is full, once the finished lists in front have gone; nothing else has changed.
+    pub fn call_macro(&mut self, name: Name) -> Result<(), Full>
+        requires { call_kind self.old.lists (name_meaning self.old.meanings name) ≡ AtOnce }
+        ensures refused { MatchResult result (λ _. call_refusal (called_put self.old.lists (name_meaning self.old.meanings name)) self.old ≡ None) (λ full. call_refusal (called_put self.old.lists (name_meaning self.old.meanings name)) self.old ≡ Some full) }
+        ensures ok { OnOk result (self.new ≡ record self.old { puts = called (called_put self.old.lists (name_meaning self.old.meanings name)) self.old.puts; lists = self.new.lists }) }
+        ensures err { OnErr result (self.new ≡ record self.old { puts = settled self.old.puts; lists = self.new.lists }) }
+        ensures macros { KeepsHeld self.old self.new }
+    {
+        let Some(list) = self.meanings.list(name) else {
+            unreachable!()
+        };
+        let body = share(&mut self.lists, list);
+        match self.stack.push_macro(&mut self.lists, body, Args::none()) {
+            Ok(()) => Ok(()),
+            Err((full, body, args)) => {
+                give_back(&mut self.lists, body, args);
+                Err(full)
+            }
+        }
+    }
+
     /// Lets all lists go.
     pub fn close(self) {
         let mut held = self;
@@ -373,6 +487,7 @@ impl Held {
         let Held {
             mut lists,
             stack,
+            meanings,
             making,
             gathered,
             sizes: _,
@@ -382,6 +497,7 @@ impl Held {
             Some(_build) => unreachable!(),
         }
         stack.close(&mut lists);
+        meanings.close(&mut lists);
         gathered.destroy_empty();
     }
 }

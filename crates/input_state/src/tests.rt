@@ -1,11 +1,12 @@
 //! A file that is read to its end, lists that are gathered, made and put in front, and tables that are full.
 
-ghost use Rattle.std.specs.Prelude.{◌≡◌, [], None};
+ghost use Rattle.std.specs.Prelude.{◌≡◌, ◌<◌, [], None, length};
+ghost use Rattle.tex_defs.specs.Sizes.{first_out_of_range};
 
-use crate::{Input, Pulled};
+use crate::{CallKind, Input, Pulled};
 use line_lexer::Lexed;
 use std::test::Fail;
-use tex_defs::{Full, Sizes, Table, Token};
+use tex_defs::{Full, Meaning, Name, Seen, Sizes, Table, Token};
 
 const A: Token = Token::Char {
     cat: 11,
@@ -124,46 +125,148 @@ fn lists_are_read(rt: HostRuntime) -> Result<(), Fail> {
     Ok(())
 }
 
-// What is answered where the job is these four bytes.
-fn first_reading(rt: &HostRuntime, sizes: &Sizes) -> Result<Result<Pulled, Full>, Fail> {
-    let bytes = b"abc\n".to_vec(rt.alloc())?;
+const NAME: Name = Name::Single(b'a');
+
+// The name becomes a macro without a parameter text, whose body is these two tokens.
+fn define_two(input: &mut Input, first: Token, second: Token) -> Result<(), Full>
+    requires { 353 < length input.old.meanings }
+    ensures { length input.new.meanings ≡ length input.old.meanings }
+{
+    input.begin_list()?;
+    input.grow_list(Token::EndPlaces)?;
+    input.grow_list(first)?;
+    input.grow_list(second)?;
+    input.define(NAME, false, false);
+    Ok(())
+}
+
+// Calls it, where nothing is to be gathered.
+fn call(input: &mut Input) -> Option<Result<(), Full>>
+    ensures { length input.new.meanings ≡ length input.old.meanings }
+{
+    match input.call_kind(NAME) {
+        CallKind::AtOnce => Some(input.call_macro(NAME)),
+        CallKind::None | CallKind::Gathers => None,
+    }
+}
+
+// The next three readings.
+fn three(input: &mut Input) -> [Option<Pulled>; 3] {
+    let categories = categories();
+    let mut told = [None; 3];
+    for answer in &mut told {
+        *answer = input.pull(&categories).ok();
+    }
+    told
+}
+
+#[test]
+fn macro_is_called(rt: HostRuntime) -> Result<(), Fail> {
+    let mut input = Input::new(rt.alloc(), &Sizes::DEFAULT, None)?;
+    let undefined = call(&mut input);
+    let defined = define_two(&mut input, A, B);
+    let once = input.words();
+    let called = (call(&mut input), call(&mut input));
+    let shared = input.words();
+    let first = input.pull(&categories());
+    let redefined = define_two(&mut input, B, B);
+    let both = input.words();
+    let again = call(&mut input);
+    let read = (three(&mut input), three(&mut input));
+    let behind = input.words();
+    let seen = input.seen(Token::Named(NAME));
+    input.close();
+    let token = |token| Some(Pulled::Token(token));
+    let meaning = Meaning::Macro {
+        long: false,
+        outer: false,
+        list: (),
+    };
+    assert_eq!(&rt; (undefined, defined, redefined), (None, Ok(()), Ok(())));
+    assert_eq!(&rt;
+        (called.0, called.1, again),
+        (Some(Ok(())), Some(Ok(())), Some(Ok(())))
+    );
+    assert_eq!(&rt; (once, shared, both, behind), (4, 4, 8, 4));
+    assert_eq!(&rt; first, Ok(Pulled::Token(A)));
+    assert_eq!(&rt; read.0, [token(B), token(B), token(B)]);
+    assert_eq!(&rt; read.1, [token(A), token(B), Some(Pulled::Nothing)]);
+    assert_eq!(&rt;
+        seen,
+        Seen {
+            token: Token::Named(NAME),
+            meaning
+        }
+    );
+    Ok(())
+}
+
+#[test]
+fn calls_fill_the_levels(rt: HostRuntime) -> Result<(), Fail> {
+    let least = Sizes {
+        input_stack_size: 4,
+        ..Sizes::DEFAULT
+    };
+    let mut input = Input::new(rt.alloc(), &least, None)?;
+    let _defined = define_two(&mut input, A, B);
+    let mut told = [None; 5];
+    for answer in &mut told {
+        *answer = call(&mut input);
+    }
+    input.close();
+    let full = Full {
+        table: Table::InputStackSize,
+        used: 4,
+        size: 4,
+    };
+    let ok = Some(Ok(()));
+    assert_eq!(&rt; told, [ok, ok, ok, ok, Some(Err(full))]);
+    Ok(())
+}
+
+// What is answered where the job's one line has so many bytes.
+fn first_reading(
+    rt: &HostRuntime,
+    sizes: &Sizes,
+    length: usize,
+) -> Result<Result<Pulled, Full>, Fail>
+    requires { first_out_of_range sizes.now ≡ None }
+{
+    let bytes = vec![in rt.alloc(); b'a'; length]?;
     let mut input = Input::new(rt.alloc(), sizes, Some(bytes))?;
     let told = input.pull(&categories());
     input.close();
     Ok(told)
 }
 
+// How many empty lists are gathered until the main memory is full.
+fn gather_all(input: &mut Input) -> (u32, Option<Full>) {
+    for count in 0..200 {
+        if let Err(full) = input.begin_list() {
+            return (count, Some(full));
+        }
+    }
+    (200, None)
+}
+
 #[test]
 fn tables_are_full(rt: HostRuntime) -> Result<(), Fail> {
-    let exact = Sizes {
-        buffer_size: 4,
-        input_stack_size: 1,
-        main_memory_size: 4,
+    let least = Sizes {
+        buffer_size: 80,
+        main_memory_size: 100,
         ..Sizes::DEFAULT
     };
-    let line = Sizes {
-        buffer_size: 3,
-        ..exact
-    };
-    let level = Sizes {
-        input_stack_size: 0,
-        ..exact
-    };
-    let mut input = Input::new(rt.alloc(), &exact, None)?;
+    let mut input = Input::new(rt.alloc(), &least, None)?;
     let put = put_two(&mut input);
-    let gathered = gather_one(&mut input);
+    let gathered = gather_all(&mut input);
     input.close();
     let full = |table, used, size| Full { table, used, size };
-    assert_eq!(&rt; first_reading(&rt, &exact)?, Ok(Pulled::Taken));
+    assert_eq!(&rt; first_reading(&rt, &least, 79)?, Ok(Pulled::Taken));
     assert_eq!(&rt;
-        first_reading(&rt, &line)?,
-        Err(full(Table::BufferSize, 0, 3))
-    );
-    assert_eq!(&rt;
-        first_reading(&rt, &level)?,
-        Err(full(Table::InputStackSize, 0, 0))
+        first_reading(&rt, &least, 80)?,
+        Err(full(Table::BufferSize, 0, 80))
     );
     assert_eq!(&rt; put, Ok(()));
-    assert_eq!(&rt; gathered, Err(full(Table::MainMemorySize, 4, 4)));
+    assert_eq!(&rt; gathered, (97, Some(full(Table::MainMemorySize, 100, 100))));
     Ok(())
 }

@@ -1,17 +1,10 @@
-use Rattle.std.proofs.Common.{◌≡◌, ℕ, ◌≤◌, Option, None, Some, Bool, true, false, List, ap, ◌∙◌, arith}
-use Rattle.std.specs.Prelude.{IfSome, ◌==◌, cond}
+use Rattle.std.proofs.Common.{◌≡◌, ℕ, ◌≤◌, Option, None, Some, List, ap, ◌∙◌, arith}
+use Rattle.std.specs.Prelude.{IfSome}
 use Rattle.token_lists.specs.Table.{Entry, holders_at}
 use Rattle.token_lists.specs.Ids.{id_of}
-use Rattle.token_lists.specs.Accounts.{holds}
 use Rattle.input_stack.specs.declared.stack.InputStack.{InputStack}
+use Rattle.input_stack.proofs.Bounds.{holds_once}
 use Rattle.input_stack.proofs.tests.call.Goals as goal
-
-one_at_most : (b : Bool) → cond b 1 0 ≤ 1
-one_at_most true = omega arith
-one_at_most false = omega arith
-
-holds_once : (n h : ℕ) → holds n h ≤ 1
-holds_once n h = one_at_most (n == h)
 
 where_some : (P : Type 0) (s : Option InputStack) → P → IfSome s (λ x. P)
 where_some P None p = tt

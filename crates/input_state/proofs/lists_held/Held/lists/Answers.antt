@@ -6,4 +6,4 @@ use Rattle.input_state.proofs.lists_held.Held.lists.Goals as goal
 pub returns : goal.returns
 returns c =
     let i = c.self.inside in
-    words_are i.lists i.stack i.making i.gathered.items i.sizes c.self.invariant.shared ∙ ap words_held c.self.view_is
+    words_are i.lists i.stack i.making i.gathered.items i.meanings i.sizes c.self.invariant.shared ∙ ap words_held c.self.view_is

@@ -1,12 +1,11 @@
-use Rattle.std.proofs.Common.{refl, ◌≢◌, ◌∙◌, [], ap, subst, sym, length}
+use Rattle.std.proofs.Common.{refl, ◌≢◌, [], subst, sym, length}
 use Rattle.plain_state.specs.Pending.{NotBegun}
 use Rattle.line_lexer.specs.declared.Ahead.TheVariants as ahead
 use Rattle.input_stack.specs.View.{innermost, pending}
-use Rattle.input_state.specs.HeldLists.{HeldLists, pending_of, ahead_of, line_levels, IsLineIn}
-use Rattle.input_state.specs.HeldViews.{lists_of, line_of, fronts}
-use Rattle.input_state.proofs.ListViews.{moved_view}
-use Rattle.input_state.proofs.Sounds.{levels_sound, levels_moved}
-use Rattle.input_state.proofs.Pulling.{pull_reads, pull_single, pull_simple, plain_lasts, plain_countable, same_reads}
+use Rattle.input_state.specs.HeldLists.{HeldLists, pending_of, ahead_of, IsLineIn}
+use Rattle.input_state.specs.HeldViews.{lists_of, texts}
+use Rattle.input_state.proofs.Pulling.{pull_reads, plain_countable, same_reads}
+use Rattle.input_state.proofs.PullKept.{pulled_sound, pulled_view, pulled_others, pulled_macros, pulled_levels}
 use Rattle.input_state.proofs.lists_held.Held.pull.Goals as goal
 
 pub answer-requires : goal.answer-requires
@@ -22,9 +21,7 @@ pub invariant_of-self : goal.invariant_of-self
 invariant_of-self c =
     let i = c.self.inside in
     let e = c.pull.ensures in
-    let single = pull_single i.stack.size c.args.categories.now c.args.bytes.now c.pull.new.bytes (pending i.lists i.stack) (pending c.pull.new.lists c.pull.new.self) c.pull.result e.pulls in
-    let simple = pull_simple i.stack.size c.args.categories.now c.args.bytes.now c.pull.new.bytes (pending i.lists i.stack) (pending c.pull.new.lists c.pull.new.self) c.pull.result e.pulls c.self.invariant.shared.simple in
-    levels_sound i.lists c.pull.new.lists i.stack c.pull.new.self i.making i.gathered.items i.sizes _ c.self.invariant e.stands e.account e.kept (plain_lasts i.lists c.pull.new.lists (pending i.lists i.stack).puts c.self.invariant.shared.simple.plain e.lasting) e.size simple
+    pulled_sound i.lists c.pull.new.lists i.stack c.pull.new.self i.making i.gathered.items i.meanings i.sizes _ c.self.invariant e.stands e.account e.kept e.lasting e.size e.parameter_size i.stack.size c.args.categories.now c.args.bytes.now c.pull.new.bytes c.pull.result e.pulls
 
 pub returns-clause-pulls : goal.returns-clause-pulls
 returns-clause-pulls c = λ rest file number.
@@ -34,33 +31,32 @@ returns-clause-pulls c = λ rest file number.
     let b = c.args.bytes.now in
     let d = c.pull.new.bytes in
     let q = pending c.pull.new.lists c.pull.new.self in
-    let single = pull_single i.stack.size cats b d (pending i.lists i.stack) q c.pull.result e.pulls in
-    let simple = pull_simple i.stack.size cats b d (pending i.lists i.stack) q c.pull.result e.pulls c.self.invariant.shared.simple in
-    let moved = levels_moved i.lists c.pull.new.lists i.stack c.pull.new.self i.making i.gathered.items i.sizes _ c.self.invariant e.stands e.account e.kept (plain_lasts i.lists c.pull.new.lists (pending i.lists i.stack).puts c.self.invariant.shared.simple.plain e.lasting) e.size simple in
+    let was = lists_of i.lists (pending i.lists i.stack) i.making i.gathered.items i.meanings i.sizes in
+    let between : HeldLists = record (lists_of i.lists q i.making i.gathered.items i.meanings i.sizes) { lists = texts c.pull.new.lists } in
+    let now = lists_of c.pull.new.lists q i.making i.gathered.items i.meanings i.sizes in
     let more = subst (λ (w : HeldLists). ahead_of cats (pending_of w b rest file number) ≢ ahead.End) (sym c.self.view_is) (c.requires.more rest file number) in
     let inside = subst (λ (w : HeldLists). IsLineIn w.line (length b)) (sym c.self.view_is) c.requires.in_buffer in
     let k = pull_reads i.lists i.lists cats b d (innermost i.stack) q c.self.invariant.shared.simple.plain i.sizes rest file number more c.pull.auto.bytes i.stack.size c.pull.result e.pulls inside in
-    same_reads cats b d rest file number (lists_of i.lists (pending i.lists i.stack) i.making i.gathered.items i.sizes) c.args.self.now (lists_of i.lists q i.making i.gathered.items i.sizes) (lists_of c.pull.new.lists q i.making i.gathered.items i.sizes) _ _ c.self.view_is (moved_view i.lists c.pull.new.lists c.pull.new.self i.making i.gathered.items i.sizes moved) c.answer.ensures k.reads
+    let same = pulled_view i.lists c.pull.new.lists i.stack c.pull.new.self i.making i.gathered.items i.meanings i.sizes _ c.self.invariant e.stands e.account e.kept e.lasting e.size e.parameter_size i.stack.size c.args.categories.now c.args.bytes.now c.pull.new.bytes c.pull.result e.pulls in
+    same_reads cats b d rest file number was c.args.self.now between now _ _ c.self.view_is same c.answer.ensures k.reads
 
 pub returns-clause-others : goal.returns-clause-others
 returns-clause-others c =
     let i = c.self.inside in
     let e = c.pull.ensures in
-    let q = pending c.pull.new.lists c.pull.new.self in
-    let single = pull_single i.stack.size c.args.categories.now c.args.bytes.now c.pull.new.bytes (pending i.lists i.stack) q c.pull.result e.pulls in
-    let simple = pull_simple i.stack.size c.args.categories.now c.args.bytes.now c.pull.new.bytes (pending i.lists i.stack) q c.pull.result e.pulls c.self.invariant.shared.simple in
-    let moved = levels_moved i.lists c.pull.new.lists i.stack c.pull.new.self i.making i.gathered.items i.sizes _ c.self.invariant e.stands e.account e.kept (plain_lasts i.lists c.pull.new.lists (pending i.lists i.stack).puts c.self.invariant.shared.simple.plain e.lasting) e.size simple in
-    let same = moved_view i.lists c.pull.new.lists c.pull.new.self i.making i.gathered.items i.sizes moved in
-    let ps = fronts c.pull.new.lists q.puts in
-    ap (λ (w : HeldLists). record w { puts = ps; line = line_of q.sources }) same
-    ∙ ap (λ (w : HeldLists). record w { puts = ps; line = line_of q.sources }) c.self.view_is
+    pulled_others i.lists c.pull.new.lists i.stack c.pull.new.self i.making i.gathered.items i.meanings i.sizes _ c.self.invariant e.stands e.account e.kept e.lasting e.size e.parameter_size i.stack.size c.args.categories.now c.args.bytes.now c.pull.new.bytes c.pull.result e.pulls c.args.self.now c.self.view_is
+
+pub returns-clause-macros : goal.returns-clause-macros
+returns-clause-macros c =
+    let i = c.self.inside in
+    let e = c.pull.ensures in
+    pulled_macros i.lists c.pull.new.lists i.stack c.pull.new.self i.making i.gathered.items i.meanings i.sizes _ c.self.invariant e.stands e.account e.kept e.lasting e.size e.parameter_size i.stack.size c.args.categories.now c.args.bytes.now c.pull.new.bytes c.pull.result e.pulls c.args.self.now c.self.view_is
 
 pub returns-clause-levels : goal.returns-clause-levels
 returns-clause-levels c =
     let i = c.self.inside in
-    let single = pull_single i.stack.size c.args.categories.now c.args.bytes.now c.pull.new.bytes (pending i.lists i.stack) (pending c.pull.new.lists c.pull.new.self) c.pull.result c.pull.ensures.pulls in
-    let simple = pull_simple i.stack.size c.args.categories.now c.args.bytes.now c.pull.new.bytes (pending i.lists i.stack) (pending c.pull.new.lists c.pull.new.self) c.pull.result c.pull.ensures.pulls c.self.invariant.shared.simple in
-    single.1 ∙ ap (λ (w : HeldLists). line_levels w.line) c.self.view_is
+    let e = c.pull.ensures in
+    pulled_levels i.lists c.pull.new.lists i.stack c.pull.new.self i.making i.gathered.items i.meanings i.sizes _ c.self.invariant e.stands e.account e.kept e.lasting e.size e.parameter_size i.stack.size c.args.categories.now c.args.bytes.now c.pull.new.bytes c.pull.result e.pulls c.args.self.now c.self.view_is
 
 pub pull-requires-clause-countable : goal.pull-requires-clause-countable
 pull-requires-clause-countable c =

@@ -6,4 +6,4 @@ use Rattle.input_state.proofs.lists_held.Held.words.Goals as goal
 pub returns-clause-is : goal.returns-clause-is
 returns-clause-is c =
     let i = c.self.inside in
-    c.used.ensures.is ∙ words_are i.lists i.stack i.making i.gathered.items i.sizes c.self.invariant.shared ∙ ap words_held c.self.view_is
+    c.used.ensures.is ∙ words_are i.lists i.stack i.making i.gathered.items i.meanings i.sizes c.self.invariant.shared ∙ ap words_held c.self.view_is

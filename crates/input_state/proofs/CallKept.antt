@@ -1,0 +1,250 @@
+-- A macro is called: its list has a holder more, or the call is refused.
+use Rattle.std.proofs.Common.{◌≡◌, ℕ, ◌+◌, ◌<◌, ◌^◌, List, [], ◌∷◌, map, take, reverse, length, Option, None, Some, true, cond, inl, inr, refl, sym, ap, ap₂, ◌∙◌, subst, arith}
+use Rattle.std.specs.Prelude.{sum_by, nat_le}
+use Rattle.std.proofs.lemmas.Bool.{cases_eq}
+use Rattle.std.proofs.lemmas.List.Sums.{sum_by-cons}
+use Rattle.tex_defs.specs.declared.Token.{Token}
+use Rattle.tex_defs.specs.declared.Name.{Name}
+use Rattle.tex_defs.specs.declared.Full.{Full}
+use Rattle.tex_defs.specs.declared.Sizes.{Sizes}
+use Rattle.plain_state.specs.Meanings.{name_meaning}
+use Rattle.plain_state.specs.Puts as plain
+use Rattle.plain_state.specs.Tables.{refused}
+use Rattle.token_lists.specs.declared.Build.{Build}
+use Rattle.token_lists.specs.declared.ListRef.{ListRef}
+use Rattle.token_lists.specs.Ids.{id_of}
+use Rattle.token_lists.specs.Table.{Entry, tokens_at, holders_at}
+use Rattle.token_lists.specs.Accounts.{holds, none, Moves, Keeps}
+use Rattle.macro_args.specs.declared.args.Args.{Args}
+use Rattle.macro_args.specs.Args.{args_hold}
+use Rattle.meanings.specs.Map.{Map}
+use Rattle.meanings.specs.Holding as meant
+use Rattle.meanings.specs.Holding.{list_of}
+use Rattle.meanings.proofs.Listed.{within_locations}
+use Rattle.input_stack.specs.Puts.{Put, Item, Text, used_arguments, when_some}
+use Rattle.input_stack.specs.Calls.{Argument, call_put, substituted, body_of}
+use Rattle.input_stack.specs.CallViews.{argument_in, arguments_in, Shares}
+use Rattle.input_stack.specs.Pushes.{pushed_holds, call_refused}
+use Rattle.input_stack.specs.Pending as stack
+use Rattle.input_stack.specs.Pending.{Pending, Below, settle, put, times, used_parameters, used_levels, parameters_full, either, room}
+use Rattle.input_stack.specs.View.{pending, held}
+use Rattle.input_stack.specs.Standing.{Stands}
+use Rattle.input_stack.specs.Lasting.{Lasts}
+use Rattle.input_stack.specs.declared.stack.InputStack.{InputStack}
+use Rattle.input_stack.proofs.Helds.{others}
+use Rattle.input_stack.proofs.Bounds.{held_few}
+use Rattle.input_state.specs.HeldLists.{HeldLists, call_refusal, level_held, line_levels}
+use Rattle.input_state.specs.Macros.{KeepsLists}
+use Rattle.input_state.specs.Calls.{called_put, called, when_called}
+use Rattle.input_state.specs.HeldViews.{text, made_text, texts, front, fronts, plain_item, line_of, lists_of, builds, bodies, IsSingle, ArePlain, IsSimple, IsApart, IsDefined, IsShared, IsSound}
+use Rattle.input_state.proofs.Counting.{times_cons, holds_other}
+use Rattle.input_state.proofs.Ranges.{hash_greatest, input_greatest, parameters_greatest}
+use Rattle.input_state.proofs.Shares.{apart_fewer, fewer_put}
+use Rattle.input_state.proofs.Levels.{flat_put, simple_put, levels_used}
+use Rattle.input_state.proofs.Sharing.{Moved, moved, text_at}
+use Rattle.input_state.proofs.ListViews.{held_lists, moved_view, macros_moved}
+use Rattle.input_state.proofs.Sounds.{sized_now, settled_sound, settled_view, settled_macros}
+use Rattle.input_state.proofs.Refusing.{le_test, levels_refused}
+use Rattle.input_state.proofs.Files.{settled_levels}
+use Rattle.input_state.proofs.Calling.{stack_texts, flat_call, plain_call, put_of_name, fronts_called}
+
+-- the holders of a list can be counted
+pub countable_now : (table : List (Option Entry)) (s : InputStack) (making : Option Build) (gathered : List Build) (m : Map) (sizes : Sizes) (capacity : ℕ) → IsSound table s making gathered m sizes capacity → (k : ℕ) → holders_at table k + 1 < 2 ^ 32
+countable_now table s making gathered m sizes capacity sound k =
+    let h = sound.shared in
+    let z = sound.sized in
+    omega (arith, h.counted k, held_few s k h.stands.fits, h.apart.sole k, within_locations m k, z.few, z.names, z.levels, z.parameters, hash_greatest sizes z.ranges, input_greatest sizes z.ranges, parameters_greatest sizes z.ranges)
+
+-- NO PARAMETERS ARE USED
+
+none_used : (p : Put) → p.arguments ≡ [] → when_some p.items (length p.arguments) ≡ 0
+none_used p is = ap (λ (cells : List (Option ℕ)). when_some p.items (length cells)) is ∙ nothing p.items
+  where
+    nothing : (xs : List Item) → when_some xs 0 ≡ 0
+    nothing [] = refl
+    nothing (x ∷ xs) = refl
+
+front_parameters : (ps : List Put) → ArePlain ps → used_arguments ps ≡ 0
+front_parameters [] a = refl
+front_parameters (p ∷ ps) a = omega (arith, front_parameters ps a.1, none_used p a.0.arguments, sum_by-cons (λ (x : Put). when_some x.items (length x.arguments)) p ps)
+
+below_parameters : (bs : List Below) → IsSingle bs → sum_by (λ (b : Below). used_arguments b.puts) bs ≡ 0
+below_parameters [] single = refl
+below_parameters (b ∷ []) single = omega (arith, ap used_arguments single)
+below_parameters (b ∷ c ∷ bs) single = absurd single
+
+no_parameters : (p : Pending) → IsSimple p → used_parameters p ≡ 0
+no_parameters p a = omega (arith, front_parameters p.puts a.plain, below_parameters p.sources a.single)
+
+-- THE SHARE
+
+module _ (old mid : List (Option Entry)) (s : InputStack) (bs : List Build) (m : Map) (k : ℕ) (shared : IsShared old s bs m) (shares : Shares old mid (holds k)) where
+  pub shared_stands : Stands mid s × (pending mid s ≡ pending old s)
+  shared_stands =
+      others s old mid none (holds k) shared.stands (λ h. omega (arith, shared.counted h)) (λ h. omega (arith, shares.holders h))
+      (record { tokens = λ h l. shares.tokens h; places = λ h l. shares.places h })
+
+-- WHAT IS REFUSED
+
+module _ (old mid : List (Option Entry)) (s : InputStack) (making : Option Build) (gathered : List Build) (m : Map) (sizes : Sizes) (capacity : ℕ) (sound : IsSound old s making gathered m sizes capacity) (body : ListRef) (shares : Shares old mid (holds (id_of body))) (args : Args) (few : args.count ≡ 0) (v : HeldLists) (is : lists_of old (pending old s) making gathered m sizes ≡ v) (name : Name) (list_is : list_of (name_meaning m.cells name) ≡ Some (id_of body)) where
+  us : List Token
+  us = body_of (tokens_at old (id_of body))
+
+  pub no_arguments : arguments_in mid args ≡ []
+  no_arguments = ap (λ (n : ℕ). map (argument_in mid) (take n args.lists)) few
+
+  -- the body that is put
+  pub put_is : front old (flat_put true (id_of body) (body_of (tokens_at old (id_of body)))) ≡ called_put v.lists (name_meaning v.meanings name)
+  put_is =
+      plain_call old (id_of body) (tokens_at old (id_of body))
+      ∙ ap (λ (ts : List Token). plain.call_put (id_of body) ts []) (sym (text_at old (id_of body)))
+      ∙ sym (put_of_name (texts old) (name_meaning m.cells name) (id_of body) list_is)
+      ∙ ap (λ (w : HeldLists). called_put w.lists (name_meaning w.meanings name)) is
+
+  items_are : substituted (arguments_in mid args) (body_of (tokens_at mid (id_of body))) ≡ map Text us
+  unfolding us
+  items_are = ap₂ (λ (xs : List (Option Argument)) (ts : List Token). substituted xs (body_of ts)) no_arguments (shares.tokens (id_of body)) ∙ stack_texts (body_of (tokens_at old (id_of body)))
+
+  parameters_fit : cond (nat_le (used_parameters (pending old s) + 0) s.parameter_size) None (Some (parameters_full (used_parameters (pending old s)) s.parameter_size)) ≡ None
+  parameters_fit = ap (λ b. cond b None (Some (parameters_full (used_parameters (pending old s)) s.parameter_size))) (le_test (used_parameters (pending old s) + 0) s.parameter_size (omega (arith, no_parameters (pending old s) sound.shared.simple)))
+
+  was : HeldLists
+  was = lists_of old (pending old s) making gathered m sizes
+
+  level_refused : room s.size (used_levels (pending old s)) ≡ refused sizes (level_held (record was { puts = plain.settled was.puts }) ∷ [])
+  unfolding was
+  level_refused = levels_refused sizes (used_levels (pending old s)) _ s.size (levels_used old (pending old s) sound.shared.simple.single ∙ sym (ap (λ (n : ℕ). n + line_levels (line_of (pending old s).sources)) (settled_levels (fronts old (pending old s).puts)))) sound.sized.levels
+
+  by_items : (ts : List Token) → stack.call_refusal s.size s.parameter_size 0 (map Text ts) (pending old s) ≡ refused sizes (when_called (map plain_item (map Text ts)) (level_held (record was { puts = plain.settled was.puts })))
+  by_items [] = refl
+  by_items (t ∷ ts) = ap (λ (o : Option Full). either o (room s.size (used_levels (pending old s)))) parameters_fit ∙ level_refused
+
+  pub refusal_is : call_refused s mid body args ≡ call_refusal (called_put v.lists (name_meaning v.meanings name)) v
+  unfolding us was
+  refusal_is =
+      ap (λ (n : ℕ). stack.call_refusal s.size s.parameter_size n (substituted (arguments_in mid args) (body_of (tokens_at mid (id_of body)))) (pending mid s)) few
+      ∙ ap₂ (λ (xs : List Item) (p : Pending). stack.call_refusal s.size s.parameter_size 0 xs p) items_are (shared_stands old mid s (builds making gathered) m (id_of body) sound.shared shares).1
+      ∙ by_items (body_of (tokens_at old (id_of body)))
+      ∙ ap (λ (p : plain.Put). call_refusal p (lists_of old (pending old s) making gathered m sizes)) put_is
+      ∙ ap (call_refusal (called_put v.lists (name_meaning v.meanings name))) is
+
+-- THE BODY IS PUT
+
+module _ (old mid new : List (Option Entry)) (s t : InputStack) (making : Option Build) (gathered : List Build) (m : Map) (sizes : Sizes) (capacity : ℕ) (sound : IsSound old s making gathered m sizes capacity) (body : ListRef) (is_meant : 0 < meant.held m (id_of body)) (shares : Shares old mid (holds (id_of body))) (args : Args) (few : args.count ≡ 0) (free : (h : ℕ) → args_hold args h ≡ 0) (stands : Stands new t) (after : pending new t ≡ put (call_put (id_of body) (tokens_at mid (id_of body)) (arguments_in mid args)) (pending mid s)) (moves : Moves mid new (λ h. pushed_holds body args h + held s h) (held t)) (keeps : Keeps mid new (λ h. pushed_holds body args h + held s h)) (lasts : Lasts mid new) (size : t.size ≡ s.size) (parameters : t.parameter_size ≡ s.parameter_size) where
+  k : ℕ
+  k = id_of body
+
+  bs : List Build
+  bs = builds making gathered
+
+  x : Put
+  x = flat_put true (id_of body) (body_of (tokens_at old (id_of body)))
+
+  no_cells : arguments_in mid args ≡ []
+  no_cells = ap (λ (n : ℕ). map (argument_in mid) (take n args.lists)) few
+
+  now : pending new t ≡ put x (pending old s)
+  unfolding x
+  now =
+      after
+      ∙ ap₂ (λ (ts : List Token) (xs : List (Option Argument)). put (call_put (id_of body) ts xs) (pending mid s)) (shares.tokens (id_of body)) no_cells
+      ∙ ap₂ put (flat_call (id_of body) (tokens_at old (id_of body))) (shared_stands old mid s (builds making gathered) m (id_of body) sound.shared shares).1
+
+  pushed : (h : ℕ) → pushed_holds body args h ≡ holds k h
+  unfolding k
+  pushed h = omega (arith, free h)
+
+  -- the macro's body is read once more
+  apart_first : IsApart (x ∷ (pending old s).puts) bs m
+  unfolding x k bs
+  apart_first = record {
+    sole = λ h. sound.shared.apart.sole h;
+    apart = λ h more. elim (cases_eq h (id_of body)) [
+      | inl is ↦
+          let none = sound.shared.apart.apart h more in
+          absurd (omega (arith, none, ap (meant.held m) is, is_meant))
+      | inr other ↦ omega (arith, sound.shared.apart.apart h more, times_cons h (id_of body) (bodies (pending old s).puts), holds_other (id_of body) h (λ e. other (sym e)))
+    ];
+  }
+
+  apart_now : IsApart (pending new t).puts bs m
+  apart_now = subst (λ (p : Pending). IsApart p.puts bs m) (sym now) (apart_fewer (put x (pending old s)).puts (x ∷ (pending old s).puts) bs m (fewer_put x (pending old s).puts) apart_first)
+
+  simple_now : IsSimple (pending new t)
+  unfolding x
+  simple_now = subst IsSimple (sym now) (simple_put true (id_of body) (body_of (tokens_at old (id_of body))) (pending old s) sound.shared.simple)
+
+  macros_now : (h : ℕ) → 0 < meant.held m h → IsDefined (tokens_at new h)
+  unfolding k
+  macros_now h more =
+      let there : 0 < holders_at new h = omega (arith, more, moves h, pushed h, shares.holders h, sound.shared.counted h) in
+      subst IsDefined (sym (lasts.tokens h there ∙ shares.tokens h)) (sound.shared.macros h more)
+
+  moved_now : Moved old new t m bs
+  unfolding bs k
+  moved_now =
+      moved old new s t m m [] (builds making gathered) sound.shared stands simple_now apart_now
+      (λ h. omega (arith, moves h, pushed h, shares.holders h))
+      (record {
+        tokens = λ h l. keeps.tokens h (omega (arith, l, pushed h, shares.holders h)) ∙ shares.tokens h;
+        places = λ h l. keeps.places h (omega (arith, l, pushed h, shares.holders h)) ∙ shares.places h;
+      })
+      (λ h some. lasts.tokens h some ∙ shares.tokens h) macros_now
+
+  pub call_sound : IsSound new t making gathered m sizes capacity
+  unfolding bs
+  call_sound = record {
+    shared = moved_now.shared;
+    sized = sized_now old new s t m sizes capacity capacity sound.sized (lasts.size ∙ shares.size) size parameters refl;
+  }
+
+  module _ (v : HeldLists) (is : lists_of old (pending old s) making gathered m sizes ≡ v) where
+    pub call_macros : KeepsLists m.cells (fronts new (pending new t).puts) v.lists (texts new)
+    call_macros = macros_moved old new t m sizes bs v.lists moved_now (ap (λ (w : HeldLists). w.lists) is)
+
+    pub call_view : (name : Name) → list_of (name_meaning m.cells name) ≡ Some (id_of body) → lists_of new (pending new t) making gathered m sizes ≡ record v { puts = called (called_put v.lists (name_meaning v.meanings name)) v.puts; lists = texts new }
+    unfolding bs x
+    call_view name list_is =
+        let ps = (pending old s).puts in
+        let what = put_is old mid s making gathered m sizes capacity sound body shares args few v is name list_is in
+        moved_view old new t m sizes making gathered moved_now
+        ∙ ap (λ (p : Pending). record (lists_of old p making gathered m sizes) { lists = texts new }) now
+        ∙ ap (λ (qs : List plain.Put). held_lists qs (made_text old making) (map (text old) (reverse gathered)) (line_of (pending old s).sources) m sizes (texts new)) (fronts_called old (id_of body) (body_of (tokens_at old (id_of body))) ps ∙ ap (λ (p : plain.Put). called p (fronts old ps)) what)
+        ∙ ap (λ (w : HeldLists). record w { puts = called (called_put v.lists (name_meaning v.meanings name)) w.puts; lists = texts new }) is
+
+-- THE LIST IS GIVEN BACK
+
+module _ (old mid new last : List (Option Entry)) (s t : InputStack) (making : Option Build) (gathered : List Build) (m : Map) (sizes : Sizes) (capacity : ℕ) (sound : IsSound old s making gathered m sizes capacity) (body back : ListRef) (shares : Shares old mid (holds (id_of body))) (same : back ≡ body) (stands : Stands new t) (after : pending new t ≡ settle (pending mid s)) (moves : Moves mid new (held s) (held t)) (keeps : Keeps mid new (held s)) (lasts : Lasts mid new) (gives : Moves new last (holds (id_of back)) none) (leaves : Keeps new last (holds (id_of back))) (lets : Lasts new last) (size : t.size ≡ s.size) (parameters : t.parameter_size ≡ s.parameter_size) where
+  own : (h : ℕ) → holds (id_of back) h ≡ holds (id_of body) h
+  own h = ap (λ (r : ListRef). holds (id_of r) h) same
+
+  last_stands : Stands last t × (pending last t ≡ pending new t)
+  last_stands = others t new last (holds (id_of back)) none stands (λ h. omega (arith, own h, moves h, shares.holders h, sound.shared.counted h)) gives leaves
+
+  moves_now : Moves old last (held s) (held t)
+  moves_now h = omega (arith, moves h, gives h, own h, shares.holders h)
+
+  keeps_now : Keeps old last (held s)
+  keeps_now = record {
+    tokens = λ h l. leaves.tokens h (omega (arith, l, own h, moves h, shares.holders h)) ∙ keeps.tokens h (omega (arith, l, shares.holders h)) ∙ shares.tokens h;
+    places = λ h l. leaves.places h (omega (arith, l, own h, moves h, shares.holders h)) ∙ keeps.places h (omega (arith, l, shares.holders h)) ∙ shares.places h;
+  }
+
+  lasts_now : Lasts old last
+  lasts_now = record {
+    size = lets.size ∙ lasts.size ∙ shares.size;
+    fewer = λ h. omega (arith, gives h, own h, lasts.fewer h, shares.holders h);
+    tokens = λ h some. lets.tokens h some ∙ lasts.tokens h (omega (arith, some, lets.fewer h)) ∙ shares.tokens h;
+  }
+
+  after_now : pending last t ≡ settle (pending old s)
+  after_now = last_stands.1 ∙ after ∙ ap settle (shared_stands old mid s (builds making gathered) m (id_of body) sound.shared shares).1
+
+  pub refused_sound : IsSound last t making gathered m sizes capacity
+  refused_sound = settled_sound old last s t making gathered m sizes capacity sound last_stands.0 moves_now keeps_now lasts_now size parameters after_now
+
+  pub refused_view : (v : HeldLists) → lists_of old (pending old s) making gathered m sizes ≡ v → lists_of last (pending last t) making gathered m sizes ≡ record v { puts = plain.settled v.puts; lists = texts last }
+  refused_view v is = settled_view old last s t making gathered m sizes capacity sound last_stands.0 moves_now keeps_now lasts_now size parameters after_now v is
+
+  pub refused_macros : (v : HeldLists) → lists_of old (pending old s) making gathered m sizes ≡ v → KeepsLists m.cells (fronts last (pending last t).puts) v.lists (texts last)
+  refused_macros v is = settled_macros old last s t making gathered m sizes capacity sound last_stands.0 moves_now keeps_now lasts_now size parameters after_now v is

@@ -1,0 +1,136 @@
+-- Who holds the lists in front: those that have them for themselves, the macros whose bodies they are, and open arguments.
+use Rattle.std.proofs.Common.{◌≡◌, ℕ, ◌+◌, ◌≤◌, List, [], ◌∷◌, ◌++◌, Option, None, Some, cond, refl, sym, ap, ◌∙◌, arith}
+use Rattle.std.specs.Prelude.{Bool, true, false}
+use Rattle.std.proofs.lemmas.List.Sums.{sum_by-cons}
+use Rattle.tex_defs.specs.declared.Token.{Token}
+use Rattle.tex_defs.specs.declared.Meaning.{Meaning}
+use Rattle.tex_defs.specs.declared.Meaning.TheVariants as means
+use Rattle.plain_state.specs.Tables.{is_meant, means_macro, is_put, is_whole}
+use Rattle.token_lists.specs.Table.{Entry, tokens_at}
+use Rattle.token_lists.specs.Accounts.{holds}
+use Rattle.meanings.specs.Map.{Map}
+use Rattle.meanings.specs.Holding as meant
+use Rattle.meanings.specs.Holding.{cells_hold, meaning_holds}
+use Rattle.input_stack.specs.Puts.{Put, Item, numbers, lists_of, settled, settled_top, pulled, pulled_top, without_gaps, put_in_front, put_top}
+use Rattle.input_stack.specs.Pending.{Below, times, lists_in, lists_below}
+use Rattle.input_stack.specs.View.{pending, held, innermost}
+use Rattle.input_stack.specs.declared.stack.InputStack.{InputStack}
+use Rattle.input_stack.proofs.Helds.{held_puts}
+use Rattle.token_lists.specs.declared.Build.{Build}
+use Rattle.input_state.specs.Macros.{is_macro}
+use Rattle.input_state.specs.HeldViews.{front, fronts, whole_of, own_of, owns, body_of, bodies, opens, IsSingle, IsApart}
+use Rattle.input_state.proofs.Counting.{some, bit, or_some, times_cons, times_append}
+
+-- PARTS
+
+numbers_cons : (h : ℕ) (o : Option ℕ) (cells : List (Option ℕ)) → times h (numbers (o ∷ cells)) ≡ times h (numbers (o ∷ [])) + times h (numbers cells)
+numbers_cons h None cells = omega arith
+numbers_cons h (Some n) cells = omega (arith, times_cons h n (numbers cells), times_cons h n [])
+
+own_or_body : (h : ℕ) (b : Bool) (n : ℕ) (ns : List ℕ) → times h (own_of b n ns) + times h (body_of b n) ≡ holds n h + times h ns
+own_or_body h true n ns = omega (arith, times_cons h n [])
+own_or_body h false n ns = omega (arith, times_cons h n ns)
+
+parts_of : (p : Put) (h : ℕ) → times h (lists_of p) ≡ times h (own_of p.body p.list (numbers p.arguments)) + (times h (body_of p.body p.list) + times h (numbers (p.reading ∷ [])))
+parts_of p h = omega (arith, times_cons h p.list (numbers (p.reading ∷ p.arguments)), numbers_cons h p.reading p.arguments, own_or_body h p.body p.list (numbers p.arguments))
+
+parts_in : (ps : List Put) (h : ℕ) → times h (lists_in ps) ≡ times h (owns ps) + (times h (bodies ps) + times h (opens ps))
+parts_in [] h = refl
+parts_in (p ∷ ps) h =
+    omega (arith, parts_in ps h, parts_of p h, times_append h (lists_of p) (lists_in ps), times_append h (own_of p.body p.list (numbers p.arguments)) (owns ps), times_append h (body_of p.body p.list) (bodies ps), times_append h (numbers (p.reading ∷ [])) (opens ps))
+
+pub none_below : (bs : List Below) → IsSingle bs → lists_below bs ≡ []
+none_below [] single = refl
+none_below (b ∷ []) single = ap (λ (ps : List Put). lists_in ps ++ []) single
+none_below (b ∷ c ∷ bs) single = absurd single
+
+pub held_parts : (table : List (Option Entry)) (stack : InputStack) → IsSingle (pending table stack).sources → (h : ℕ) → held stack h ≡ times h (owns (pending table stack).puts) + (times h (bodies (pending table stack).puts) + times h (opens (pending table stack).puts))
+held_parts table stack single h =
+    let q = pending table stack in
+    let none : times h (lists_below q.sources) ≡ 0 = ap (times h) (none_below q.sources single) in
+    omega (arith, held_puts table (innermost stack) h, times_append h (lists_in q.puts) (lists_below q.sources), none, parts_in q.puts h)
+
+-- FEWER LISTS IN FRONT
+
+pub record Fewer (ps qs : List Put) : Type 0 where
+  pub owns : (h : ℕ) → times h (owns ps) ≤ times h (owns qs)
+  pub bodies : (h : ℕ) → times h (bodies ps) ≤ times h (bodies qs)
+
+pub apart_fewer : (ps qs : List Put) (bs : List Build) (m : Map) → Fewer ps qs → IsApart qs bs m → IsApart ps bs m
+apart_fewer ps qs bs m f a = record {
+  sole = λ h. omega (arith, f.owns h, a.sole h);
+  apart = λ h more. omega (arith, f.bodies h, a.apart h (omega (arith, more, f.owns h)));
+}
+
+pub fewer_none : (qs : List Put) → Fewer [] qs
+fewer_none qs = record { owns = λ h. omega arith; bodies = λ h. omega arith }
+
+-- the first list goes, or stays with another reading and other items
+drops_first : (p : Put) (ps qs : List Put) → Fewer ps qs → Fewer ps (p ∷ qs)
+drops_first p ps qs f = record {
+  owns = λ h. omega (arith, f.owns h, times_append h (own_of p.body p.list (numbers p.arguments)) (owns qs));
+  bodies = λ h. omega (arith, f.bodies h, times_append h (body_of p.body p.list) (bodies qs));
+}
+
+same_first : (p : Put) (qs : List Put) (r : Option ℕ) (xs : List Item) → Fewer (record { list = p.list; body = p.body; arguments = p.arguments; reading = r; items = xs } ∷ qs) (p ∷ qs)
+same_first p qs r xs = record { owns = λ h. omega arith; bodies = λ h. omega arith }
+
+settled_fewer : (p : Put) (xs : List Item) (ps qs : List Put) → Fewer ps qs → Fewer (settled_top p xs ps qs) (p ∷ qs)
+settled_fewer p [] ps qs f = drops_first p ps qs f
+settled_fewer p (x ∷ xs) ps qs f = same_first p qs _ (x ∷ xs)
+
+pub fewer_settled : (ps : List Put) → Fewer (settled ps) ps
+fewer_settled [] = fewer_none []
+fewer_settled (p ∷ ps) = settled_fewer p p.items (settled ps) ps (fewer_settled ps)
+
+pulled_fewer : (p : Put) (xs : List Item) (ps qs : List Put) → Fewer ps qs → Fewer (pulled_top p xs ps qs) (p ∷ qs)
+pulled_fewer p [] ps qs f = drops_first p ps qs f
+pulled_fewer p (x ∷ xs) ps qs f = same_first p qs _ xs
+
+pub fewer_pulled : (ps : List Put) → Fewer (pulled ps) ps
+fewer_pulled [] = fewer_none []
+fewer_pulled (p ∷ ps) = pulled_fewer p (without_gaps p.items) (pulled ps) ps (fewer_pulled ps)
+
+put_fewer : (p : Put) (xs : List Item) (ps : List Put) → Fewer (put_top p xs ps) (p ∷ ps)
+put_fewer p [] ps = drops_first p ps ps (record { owns = λ h. omega arith; bodies = λ h. omega arith })
+put_fewer p (x ∷ xs) ps =
+    let f = fewer_settled ps in
+    record {
+      owns = λ h. omega (arith, f.owns h, times_append h (own_of p.body p.list (numbers p.arguments)) (owns ps), times_append h (own_of p.body p.list (numbers p.arguments)) (owns (settled ps)));
+      bodies = λ h. omega (arith, f.bodies h, times_append h (body_of p.body p.list) (bodies ps), times_append h (body_of p.body p.list) (bodies (settled ps)));
+    }
+
+pub fewer_put : (p : Put) (ps : List Put) → Fewer (put_in_front p ps) (p ∷ ps)
+fewer_put p ps = put_fewer p p.items ps
+
+-- MACROS
+
+meaning_once : (h : ℕ) (m : Meaning (Option ℕ)) → cond (means_macro h m) 1 0 ≡ meaning_holds m h
+meaning_once h means.Undefined = refl
+meaning_once h means.RelaxMarked = refl
+meaning_once h (means.Char category code) = refl
+meaning_once h (means.CharGiven code) = refl
+meaning_once h (means.MathGiven code) = refl
+meaning_once h (means.Register kind n) = refl
+meaning_once h (means.Prim number) = refl
+meaning_once h (means.Macro long outer None) = refl
+meaning_once h (means.Macro long outer (Some id)) = refl
+
+pub meant_once : (h : ℕ) (cells : List (Meaning (Option ℕ))) → cond (is_meant h cells) 1 0 ≡ some (cells_hold cells h)
+meant_once h [] = refl
+meant_once h (m ∷ ms) =
+    or_some (means_macro h m) (is_meant h ms) (meaning_holds m h) (cells_hold ms h) (bit (means_macro h m) ∙ ap some (meaning_once h m)) (meant_once h ms)
+    ∙ ap some (sym (sum_by-cons (λ (c : Meaning (Option ℕ)). meaning_holds c h) m ms))
+
+whole_once : (h : ℕ) (b : Bool) (n : ℕ) (ts : List Token) → cond (is_whole h (whole_of b n ts)) 1 0 ≡ times h (body_of b n)
+whole_once h true n ts = omega (arith, times_cons h n [])
+whole_once h false n ts = refl
+
+pub put_once : (table : List (Option Entry)) (h : ℕ) (ps : List Put) → cond (is_put h (fronts table ps)) 1 0 ≡ some (times h (bodies ps))
+put_once table h [] = refl
+put_once table h (p ∷ ps) =
+    or_some (is_whole h (front table p).list) (is_put h (fronts table ps)) (times h (body_of p.body p.list)) (times h (bodies ps)) (bit (is_whole h (front table p).list) ∙ ap some (whole_once h p.body p.list (tokens_at table p.list))) (put_once table h ps)
+    ∙ ap some (sym (times_append h (body_of p.body p.list) (bodies ps)))
+
+pub macro_once : (table : List (Option Entry)) (m : Map) (ps : List Put) (h : ℕ) → cond (is_macro h m.cells (fronts table ps)) 1 0 ≡ some (meant.held m h + times h (bodies ps))
+macro_once table m ps h = or_some (is_meant h m.cells) (is_put h (fronts table ps)) (meant.held m h) (times h (bodies ps)) (meant_once h m.cells) (put_once table h ps)

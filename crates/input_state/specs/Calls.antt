@@ -1,0 +1,56 @@
+-- Macros that are defined and called (The TeXbook, chapter 20).
+use Rattle.std.specs.Prelude.{◌≡◌, ℕ, Bool, true, false, List, [], ◌∷◌, Option, Some, if◌then◌else◌}
+use Rattle.tex_defs.specs.declared.Token.{Token}
+use Rattle.tex_defs.specs.declared.Token.TheVariants.{EndPlaces}
+use Rattle.tex_defs.specs.declared.Name.{Name}
+use Rattle.tex_defs.specs.declared.Meaning.{Meaning}
+use Rattle.tex_defs.specs.declared.Meaning.TheVariants as means
+use Rattle.plain_state.specs.Meanings.{assigned}
+use Rattle.plain_state.specs.Arguments.{has_parameters}
+use Rattle.plain_state.specs.Puts.{Item, Put, call_put, token_put, settled}
+use Rattle.plain_state.specs.Pending.{Pending, with_puts}
+use Rattle.plain_state.specs.Tables.{Demand}
+use Rattle.input_state.specs.declared.answer.CallKind.{CallKind}
+use Rattle.input_state.specs.declared.answer.CallKind.TheVariants as kind
+use Rattle.input_state.specs.Macros.{list_at, is_macro}
+
+-- the mark between a macro's parameter text and its body
+abbrev pub is_end_mark : Token → Bool
+is_end_mark EndPlaces = true
+is_end_mark t = false
+
+-- THE CALL OF A NAME. Only a macro with a list is called; where it has no parameter text, nothing is gathered.
+
+abbrev pub call_kind : List (List Token) → Meaning (Option ℕ) → CallKind
+call_kind lists (means.Macro long outer (Some id)) = if has_parameters (list_at lists id) then kind.Gathers else kind.AtOnce
+call_kind lists m = kind.None
+
+-- what is put where nothing is gathered
+abbrev pub called_put : List (List Token) → Meaning (Option ℕ) → Put
+called_put lists (means.Macro long outer (Some id)) = call_put id (list_at lists id) []
+called_put lists m = token_put []
+
+-- A macro without a body changes nothing; else the finished lists in front go, and its body is in front.
+abbrev pub called_top : Put → List Item → List Put → List Put
+called_top p [] puts = puts
+called_top p (x ∷ xs) puts = p ∷ settled puts
+
+abbrev pub called : Put → List Put → List Put
+called p puts = called_top p p.items puts
+
+abbrev pub after_call : Put → Pending → Pending
+after_call p q = with_puts (called p q.puts) q
+
+-- it asks for a level
+abbrev pub when_called : List Item → Demand → List Demand
+when_called [] d = []
+when_called (x ∷ xs) d = d ∷ []
+
+-- A DEFINITION
+
+-- This list is a macro's now, of a number that no macro had; the name means it.
+pub record Defines (meanings new_meanings : List (Meaning (Option ℕ))) (puts : List Put) (lists new_lists : List (List Token)) (ts : List Token) (name : Name) (long outer : Bool) : Type 0 where
+  pub id : ℕ
+  pub free : is_macro id meanings puts ≡ false
+  pub means : new_meanings ≡ assigned meanings name (means.Macro long outer (Some id))
+  pub list : list_at new_lists id ≡ ts

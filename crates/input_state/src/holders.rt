@@ -1,0 +1,64 @@
+// Lists with more than one holder.
+ghost use Rattle.std.specs.Prelude.{◌≡◌, ℕ, ◌+◌, ◌<◌, ◌^◌};
+ghost use Rattle.plain_state.specs.Arguments.{has_parameters};
+ghost use Rattle.token_lists.specs.Table.{IsHeld, holders_at, tokens_at};
+ghost use Rattle.token_lists.specs.Ids.{id_of};
+ghost use Rattle.token_lists.specs.Accounts.{Moves, Keeps, holds, none};
+ghost use Rattle.macro_args.specs.Args.{args_hold};
+ghost use Rattle.input_stack.specs.CallViews.{Shares};
+ghost use Rattle.input_stack.specs.Lasting.{Lasts};
+ghost use Rattle.input_state.specs.Calls.{is_end_mark};
+
+use macro_args::Args;
+use tex_defs::Token;
+use token_lists::{ListRef, Lists};
+
+// The mark between a macro's parameter text and its body.
+fn is_end_mark(token: Token) -> bool
+    ensures { result ≡ is_end_mark token }
+{
+    matches!(token, Token::EndPlaces)
+}
+
+/// Whether a macro's list has a parameter text.
+pub fn has_parameters(lists: &Lists, list: &ListRef) -> bool
+    requires { IsHeld lists.now (id_of list.now) }
+    ensures { result ≡ has_parameters (tokens_at lists.now (id_of list.now)) }
+{
+    match lists.first(list) {
+        Some(place) => !is_end_mark(lists.token(place)),
+        None => false,
+    }
+}
+
+/// A second holder.
+pub fn share(lists: &mut Lists, list: &ListRef) -> ListRef
+    requires held { IsHeld lists.old (id_of list.now) }
+    requires countable { holders_at lists.old (id_of list.now) + 1 < 2 ^ 32 }
+    ensures same { id_of result ≡ id_of list.now }
+    ensures shares { Shares lists.old lists.new (holds (id_of result)) }
+{
+    lists.share(list)
+}
+
+// Lets a holder go.
+fn let_go(lists: &mut Lists, list: ListRef)
+    requires { IsHeld lists.old (id_of list) }
+    ensures account { Moves lists.old lists.new (holds (id_of list)) none }
+    ensures kept { Keeps lists.old lists.new (holds (id_of list)) }
+    ensures lasting { Lasts lists.old lists.new }
+{
+    lists.release(list);
+}
+
+/// Lets a holder go, and with it no arguments.
+pub fn give_back(lists: &mut Lists, list: ListRef, args: Args)
+    requires held { IsHeld lists.old (id_of list) }
+    requires no_arguments { (h : ℕ) → args_hold args h ≡ 0 }
+    ensures account { Moves lists.old lists.new (holds (id_of list)) none }
+    ensures kept { Keeps lists.old lists.new (holds (id_of list)) }
+    ensures lasting { Lasts lists.old lists.new }
+{
+    let_go(lists, list);
+    args.release(lists);
+}
