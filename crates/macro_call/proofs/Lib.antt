@@ -16,6 +16,7 @@ pub mod Listed
 pub mod Entered
 pub mod Completed
 pub mod Growths
+pub mod Checks
 pub mod Resumed
 pub mod Answered
 pub mod Begun

@@ -1,7 +1,7 @@
 -- A scanner as plain data, and what it will answer on what is still to come.
 use Rattle.std.specs.Prelude.{◌≡◌, ℕ, ◌-◌, Bool, true, false, List, [], ◌∷◌, length, take, drop, Option, None, Some, option_map}
 use Rattle.tex_defs.specs.declared.Token.{Token}
-use Rattle.plain_state.specs.Arguments.{ParMode, Checked, start_of, delimiters_of, begins_with_place, Fed, Cut, Settled, Answer, search, behind, gathering}
+use Rattle.plain_state.specs.Arguments.{ParMode, Checked, start_of, delimiters_of, begins_with_place, is_par, Fed, Tok, Cut, Settled, Answer, search, behind, gathering, arguments_in, work_in}
 use Rattle.macro_call.specs.Stages.{Stage, kept_in, read_in}
 
 -- In front of the first place, the index of the token that must come next; in a place, that of its delimiter. Then how a
@@ -65,3 +65,9 @@ pub record ScansGather : Type 0 where
   pub first : (text : List Token) (mode : ParMode) (fed : List Fed) → resume_scan text (first_scan text mode) fed ≡ gathering text mode fed
   pub cut : (text : List Token) (scan : Scan) (fed : List Fed) → resume_scan text scan (Cut ∷ fed) ≡ resume_scan text (cut_scan scan) fed
   pub settled : (text : List Token) (scan : Scan) (fed : List Fed) → resume_scan text scan (Settled ∷ fed) ≡ resume_scan text (settled_scan scan) fed
+
+-- A check shows only at a `\par`: the arguments and the list in work are what they were, and any other token comes to the same.
+pub record ChecksShowAtPars : Type 0 where
+  pub args : (text : List Token) (scan : Scan) → arguments_in (resume_scan text (cut_scan scan) []) ≡ arguments_in (resume_scan text scan [])
+  pub work : (text : List Token) (scan : Scan) → work_in (resume_scan text (cut_scan scan) []) ≡ work_in (resume_scan text scan [])
+  pub answer : (text : List Token) (scan : Scan) (x : Token) → is_par x ≡ false → resume_scan text (cut_scan scan) (Tok x ∷ []) ≡ resume_scan text scan (Tok x ∷ [])

@@ -1,6 +1,6 @@
 // Laws of macro arguments: the functions have no bodies, their contracts are the laws.
 ghost use Rattle.macro_call.specs.ArgumentLaws.{CallsEndAtOnce, ArgumentsAreShortest, DelimitedListsAreBalanced, OneGroupLosesBraces, MatchesRestart};
-ghost use Rattle.macro_call.specs.PlainScans.{ScansGather};
+ghost use Rattle.macro_call.specs.PlainScans.{ChecksShowAtPars, ScansGather};
 ghost use Rattle.macro_call.specs.Rows.{WorkedCalls, WorkedGrowths};
 ghost use Rattle.macro_call.specs.Scans.{ScannersHaveLists};
 
@@ -42,6 +42,11 @@ pub fn worked_growths()
 /// Scanners as plain data answer what the definition asks for, from the first token on and behind checks.
 pub fn scans_gather()
     ensures { ScansGather }
+{}
+
+/// A check shows only at a `\par`: what the call has so far stays, and any other token comes to the same behind it.
+pub fn checks_show_at_pars()
+    ensures { ChecksShowAtPars }
 {}
 
 /// A scanner that goes on has the arguments and the list in work that the definition answers so far.

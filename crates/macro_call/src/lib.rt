@@ -18,8 +18,9 @@ mod tokens;
 
 pub use cursor::Cursor;
 pub use laws::{
-    arguments_are_shortest, calls_end_at_once, delimited_lists_are_balanced, matches_restart,
-    one_group_loses_braces, scanners_have_lists, scans_gather, worked_calls, worked_growths,
+    arguments_are_shortest, calls_end_at_once, checks_show_at_pars, delimited_lists_are_balanced,
+    matches_restart, one_group_loses_braces, scanners_have_lists, scans_gather, worked_calls,
+    worked_growths,
 };
 pub use par_mode::ParMode;
 pub use present::{Present, Step};
