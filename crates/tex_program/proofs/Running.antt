@@ -4,7 +4,7 @@ use Rattle.std.specs.Prelude.{Option, Some, None}
 use Rattle.tex_defs.specs.Places.{World}
 use Rattle.tex_defs.specs.declared.Sizes.{Sizes}
 use Rattle.plain_state.specs.Pending.{Pending, settle}
-use Rattle.plain_state.specs.States.{State, Move, Reading, Settled}
+use Rattle.plain_state.specs.States.{State, Move, Settled}
 use Rattle.plain_machine.specs.Runs.{steps}
 use Rattle.plain_machine.specs.Bounded.{Comes, End}
 use Rattle.plain_machine.specs.Does.{CutAt, Why, IsFull, IsFault, IsWant, but_due}

@@ -1,15 +1,14 @@
 -- The macros that the input holds keep their numbers.
-use Rattle.std.proofs.Common.{◌≡◌, ℕ, zero, suc, ◌+◌, ◌<◌, List, [], ◌∷◌, ◌++◌, length, map, Option, Some, None, inl, inr, refl, sym, ap, ◌∙◌, subst, Bool, true, false, arith}
+use Rattle.std.proofs.Common.{◌≡◌, ℕ, zero, suc, ◌+◌, ◌<◌, List, [], ◌∷◌, length, Option, None, inl, inr, refl, sym, ap, ◌∙◌, subst, true, arith}
 use Rattle.std.specs.Prelude.{slice_index_or}
 use Rattle.std.proofs.lemmas.Bool.{cases_lt}
 use Rattle.std.proofs.lemmas.List.{get_or_past}
 use Rattle.tex_defs.specs.declared.Token.{Token}
 use Rattle.tex_defs.specs.declared.Meaning.{Meaning}
 use Rattle.tex_defs.specs.declared.Sizes.{Sizes}
-use Rattle.plain_state.specs.Puts.{Put, token_put}
+use Rattle.plain_state.specs.Puts.{token_put}
 use Rattle.plain_state.specs.Pending.{Pending, settle, put_front}
 use Rattle.plain_state.specs.Tables.{is_meant, is_put, words}
-use Rattle.plain_machine.specs.Plan.{reports_room}
 use Rattle.plain_machine.specs.Numbers.{IsHeld, Tied}
 use Rattle.plain_machine.proofs.MacroWords.{all_words_tied}
 use Rattle.plain_machine.proofs.Ties.{put_settled, put_with_put, held_more}
