@@ -155,7 +155,7 @@ module _ (old_table table : List (Option Entry)) (macro : ℕ) (old : ArgScan) (
 
     whole_cut_mid : 0 < length (left_at between_table macro mid) → IsCutShort old_table between_table macro old mid x
     whole_cut_mid some = record {
-      owns = record { covered = done.between.owns; building = λ r e. absurd (no_some r (sym done.between.none ∙ e)) };
+      owns = record { covered = done.between.owns; building = λ r e. absurd (no_some r (sym done.between.none ∙ e)); filled = done.between.filled; listed = done.between.listed };
       moves = mid_moves;
       gains = record { others = λ h l. mid_few h; fresh = λ h l. omega (arith, mid_few h, sound.owns h, l) };
       kept = mid_kept;

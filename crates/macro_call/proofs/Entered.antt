@@ -146,7 +146,7 @@ module _ (old_table table : List (Option Entry)) (macro : ℕ) (old : ArgScan) (
     work = ap Some nothing ∙ sym (ap (λ (ps : List (List Token)). work_in (arguments (par_mode old.mode) (args_in old_table old.args) ps [])) places);
     sound = λ o. is_sound;
     same = λ o. goes_on;
-    owns = record { covered = covers; building = λ q e. subst (λ (r : Present). IsBuilding table r.build) (same_Some p q e) is_building };
+    owns = record { covered = covers; building = λ q e. subst (λ (r : Present). IsBuilding table r.build) (same_Some p q e) is_building; filled = is_sound.filled; listed = is_sound.listed };
     hands = tt;
     moves = λ h. omega (arith, account h, old_holds h, new_holds h);
     gains = record {

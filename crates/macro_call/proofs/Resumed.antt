@@ -108,6 +108,8 @@ module _ (old_table table : List (Option Entry)) (macro : ℕ) (old : ArgScan) (
     now_owns mode braced = record {
       covered = λ h. omega (arith, now_holds h, sound.owns h, account h);
       building = λ r e. subst (λ (s : Present). IsBuilding table s.build) (same_Some q r (sym now_present ∙ e)) building;
+      filled = sound.filled;
+      listed = args_listed old_table table macro old p present here.0 sound.owns sound.outside others sound.listed;
     }
 
     pub now_gains : (mode : ParMode) (braced : Bool) → Gains old_table (scan_holds old) (scan_holds (record { cursor = old.cursor; mode = mode; braced = braced; present = n; args = old.args }))

@@ -57,10 +57,12 @@ abbrev pub IsInPlace : List (Option Entry) → (macro : ℕ) → ArgScan → Opt
 IsInPlace table macro scan None = (scan.args.count ≡ 0) × (scan.braced ≡ false) × (0 < length (delimiter_at table macro scan.cursor))
 IsInPlace table macro scan (Some p) = IsBuilding table p.build × Stands (delimiter_at table macro scan.cursor) (stage_of table p) × (scan.args.count < 9)
 
--- what the scanner holds is counted, and its lists may be released
+-- what the scanner holds is counted, its lists may be released, and an argument without tokens has none
 pub record Owns (table : List (Option Entry)) (scan : ArgScan) : Type 0 where
   pub covered : Covers table (scan_holds scan)
   pub building : (p : Present) → scan.present ≡ Some p → IsBuilding table p.build
+  pub filled : IsFilled scan.args
+  pub listed : AreListed table scan.args
 
 -- a scanner that goes on, over the list of this macro, which somebody else holds too
 pub record IsSound (table : List (Option Entry)) (macro : ℕ) (scan : ArgScan) : Type 0 where
@@ -97,6 +99,7 @@ handed (ask.ParEnded silent) h = 0
 
 -- arguments that are handed out, and what is left: an argument without tokens has no list, and the scanner holds nothing
 pub record HandsAll (table : List (Option Entry)) (args : Args) (left : ℕ → ℕ) : Type 0 where
+  pub filled : IsFilled args
   pub listed : AreListed table args
   pub spent : (h : ℕ) → left h ≡ 0
 

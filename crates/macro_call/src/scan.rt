@@ -1,11 +1,11 @@
 // A call: the tokens in front of the first place, and the places.
-ghost use Rattle.std.specs.Prelude.{◌≡◌, Option, ◌<◌, ◌+◌, ◌∷◌, [], ℕ, List, IfOk, IfErr, OnErr, length, None, ◌≢◌};
+ghost use Rattle.std.specs.Prelude.{◌≡◌, true, Option, ◌<◌, ◌+◌, ◌∷◌, [], ℕ, List, IfOk, IfErr, OnErr, length, None, ◌≢◌};
 ghost use Rattle.std.specs.Option.{option_map};
 ghost use Rattle.token_lists.specs.Table.{Entry, tokens_at, IsHeld};
 ghost use Rattle.token_lists.specs.Accounts.{Moves, Keeps, none};
 ghost use Rattle.token_lists.specs.Ids.{id_of, build_id};
 ghost use Rattle.token_lists.specs.Refusals.{IsFull};
-ghost use Rattle.plain_state.specs.Arguments.{start_of, delimiters_of, gathering, Fed, Tok, Cut, Settled};
+ghost use Rattle.plain_state.specs.Arguments.{start_of, delimiters_of, begins_with_place, gathering, Fed, Tok, Cut, Settled};
 ghost use Rattle.macro_args.specs.Args.{IsFilled};
 ghost use Rattle.macro_call.specs.Cursors.{IsOn, delimiter_at};
 ghost use Rattle.macro_call.specs.Modes.{mode_of};
@@ -191,6 +191,7 @@ impl ArgScan {
         ensures account { IfOk result (λ scan. Moves lists.old lists.new none (scan_holds scan)) }
         ensures gains { IfOk result (λ scan. Gains lists.old none (scan_holds scan)) }
         ensures kept { Keeps lists.old lists.new none }
+        ensures place { OnErr result (begins_with_place (tokens_at lists.old (id_of list.now)) ≡ true) }
         ensures err { OnErr result (lists.new ≡ lists.old) }
         ensures full { IfErr result (λ f. IsFull f lists.new) }
         ensures length { length lists.new ≡ length lists.old }
