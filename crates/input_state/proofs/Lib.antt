@@ -6,10 +6,12 @@ pub mod Shares
 pub mod Fronts
 pub mod Levels
 pub mod Sharing
+pub mod CallStays
 pub mod Words
 pub mod Refusing
 pub mod ListViews
 pub mod Sounds
+pub mod Recalling
 pub mod Putting
 pub mod Opening
 pub mod Calling

@@ -10,6 +10,7 @@
 
 mod answer;
 mod file;
+mod gathering;
 mod holders;
 mod lines;
 mod lists_held;

@@ -21,6 +21,7 @@ ghost use Rattle.input_state.specs.declared.answer.CallKind.TheVariants.{AtOnce}
 ghost use Rattle.input_state.specs.HeldViews.{IsDefined};
 ghost use Rattle.input_state.specs.Macros.{HasNameRoom, list_at};
 ghost use Rattle.input_state.specs.Calls.{call_kind, called_put, after_call, Defines};
+ghost use Rattle.input_state.specs.Callings.{NotCalling};
 ghost use Rattle.input_state.specs.FileViews.{progress_of};
 ghost use Rattle.input_state.specs.Stored.{KeepsMacros, call_refusal, words, unread, closed};
 ghost use Rattle.input_state.specs.Reads.{Pulls, pull_refusal, RefusesLine, gives_step};
@@ -107,7 +108,7 @@ impl Input {
     /// There is no room for them. No other call takes memory.
     pub fn new(alloc: Global, sizes: &Sizes, bytes: Option<Vec<u8>>) -> Result<Input, AllocError>
         requires { first_out_of_range sizes.now ≡ None }
-        ensures { IfOk result (λ i. i ≡ record { pending = unread (option_map (λ v. v.items) bytes); making = None; gathered = []; buffer = i.buffer; sizes = sizes.now; meanings = first_meanings is_primitive; hash_size = sizes.now.hash_size; lists = replicate sizes.now.main_memory_size [] }) }
+        ensures { IfOk result (λ i. i ≡ record { pending = unread (option_map (λ v. v.items) bytes); making = None; call = NotCalling; builds = []; buffer = i.buffer; sizes = sizes.now; meanings = first_meanings is_primitive; hash_size = sizes.now.hash_size; lists = replicate sizes.now.main_memory_size [] }) }
     {
         let buffer = vec![in alloc; 0; sizes.buffer_size as usize]?;
         let held = Held::new(alloc, sizes)?;
@@ -154,7 +155,7 @@ impl Input {
     /// The main memory is full; nothing has changed.
     pub fn begin_list(&mut self) -> Result<(), Full>
         ensures refused { MatchResult result (λ _. refused self.old.sizes (memory 1 (words self.old) ∷ []) ≡ None) (λ full. refused self.old.sizes (memory 1 (words self.old) ∷ []) ≡ Some full) }
-        ensures ok { OnOk result (self.new ≡ record self.old { gathered = [] ∷ self.old.gathered; lists = self.new.lists }) }
+        ensures ok { OnOk result (self.new ≡ record self.old { builds = [] ∷ self.old.builds; lists = self.new.lists }) }
         ensures err { OnErr result (self.new ≡ self.old) }
         ensures macros { KeepsMacros self.old self.new }
     {
@@ -166,9 +167,9 @@ impl Input {
     /// # Errors
     /// The main memory is full; nothing has changed.
     pub fn grow_list(&mut self, token: Token) -> Result<(), Full>
-        requires { self.old.gathered ≢ [] }
+        requires { self.old.builds ≢ [] }
         ensures refused { MatchResult result (λ _. refused self.old.sizes (memory 1 (words self.old) ∷ []) ≡ None) (λ full. refused self.old.sizes (memory 1 (words self.old) ∷ []) ≡ Some full) }
-        ensures ok { OnOk result (self.new ≡ record self.old { gathered = grow_first token self.old.gathered; lists = self.new.lists }) }
+        ensures ok { OnOk result (self.new ≡ record self.old { builds = grow_first token self.old.builds; lists = self.new.lists }) }
         ensures err { OnErr result (self.new ≡ self.old) }
         ensures macros { KeepsMacros self.old self.new }
     {
@@ -177,8 +178,8 @@ impl Input {
 
     /// The innermost reading's list goes.
     pub fn drop_list(&mut self)
-        requires { self.old.gathered ≢ [] }
-        ensures after { self.new ≡ record self.old { gathered = drop 1 self.old.gathered; lists = self.new.lists } }
+        requires { self.old.builds ≢ [] }
+        ensures after { self.new ≡ record self.old { builds = drop 1 self.old.builds; lists = self.new.lists } }
         ensures macros { KeepsMacros self.old self.new }
     {
         self.held.drop_list();
@@ -186,15 +187,15 @@ impl Input {
 
     /// Whether a reading holds a list.
     pub fn has_list(&self) -> bool
-        ensures { MatchBool result (self.now.gathered ≢ []) (self.now.gathered ≡ []) }
+        ensures { MatchBool result (self.now.builds ≢ []) (self.now.builds ≡ []) }
     {
         self.held.is_gathering()
     }
 
     /// Whether the innermost reading's list has no token.
     pub fn is_list_empty(&self) -> bool
-        requires { self.now.gathered ≢ [] }
-        ensures { result ≡ is_empty (first_list self.now.gathered) }
+        requires { self.now.builds ≢ [] }
+        ensures { result ≡ is_empty (first_list self.now.builds) }
     {
         let (lists, build) = self.held.list();
         lists.first_built(build).is_none()
@@ -202,9 +203,9 @@ impl Input {
 
     /// The innermost reading's list, and the memory in which it stands.
     pub fn list(&self) -> (&Lists, &Build)
-        requires { self.now.gathered ≢ [] }
+        requires { self.now.builds ≢ [] }
         ensures held { IsHeld result.0.now (build_id result.1.now) }
-        ensures tokens { tokens_at result.0.now (build_id result.1.now) ≡ first_list self.now.gathered }
+        ensures tokens { tokens_at result.0.now (build_id result.1.now) ≡ first_list self.now.builds }
     {
         self.held.list()
     }
@@ -396,11 +397,12 @@ impl Input {
     /// A name becomes a macro: the innermost reading's list is its parameter text, the end mark and its body. The list of
     /// what the name meant is let go. *The TeXbook*, chapter 20; *TeX: The Program*, part 49 (`define`).
     pub fn define(&mut self, name: Name, long: bool, outer: bool)
-        requires some { self.old.gathered ≢ [] }
-        requires list { IsDefined (first_list self.old.gathered) }
+        requires some { self.old.builds ≢ [] }
+        requires calls { self.old.call ≡ NotCalling }
+        requires list { IsDefined (first_list self.old.builds) }
         requires assignable { IsPlaced (location name) (length self.old.meanings) }
-        ensures after { self.new ≡ record self.old { gathered = drop 1 self.old.gathered; meanings = self.new.meanings; lists = self.new.lists } }
-        ensures defines { Defines self.old.meanings self.new.meanings self.old.pending.puts self.old.lists self.new.lists (first_list self.old.gathered) name long outer }
+        ensures after { self.new ≡ record self.old { builds = drop 1 self.old.builds; meanings = self.new.meanings; lists = self.new.lists } }
+        ensures defines { Defines self.old.meanings self.new.meanings self.old.pending.puts self.old.lists self.new.lists (first_list self.old.builds) name long outer }
         ensures macros { KeepsMacros self.old self.new }
     {
         self.held.define(name, long, outer);
