@@ -30,7 +30,7 @@ use Rattle.meanings.specs.Holding as meant
 use Rattle.meanings.proofs.Listed.{list_held}
 use Rattle.input_state.specs.declared.gathering.Gathering as code
 use Rattle.input_state.specs.declared.gathering.Gathering.TheVariants as call
-use Rattle.input_state.specs.Callings.{Gathering, Gathered}
+use Rattle.input_state.specs.Callings.{Gathering, Stopped, Gathered}
 use Rattle.input_state.specs.HeldViews.{call_holds, calling_of, IsCall, IsGathering, IsGathered}
 use Rattle.input_state.proofs.Sharing.{Stay, stay_less}
 
@@ -83,18 +83,26 @@ module _ (old new : List (Option Entry)) (scan : ArgScan) (s : Stay old new (sca
       ap₂ (λ (o : Option Stage) (us : List (List Token)). let k : Scan = record { at = scan.cursor.index; mode = par_mode scan.mode; braced = scan.braced; present = o; args = us } in k)
       (same_present scan.present refl) (args_stay old new scan.args args_part)
 
+  building_stays : (p : Present) → scan.present ≡ Some p → IsBuilding old p.build → IsBuilding new p.build
+  building_stays p is building = record {
+    sole = s.holders (build_id p.build) (own p is) ∙ building.sole;
+    at_end = ap (last_or (build_id p.build)) (s.places (build_id p.build) (own p is)) ∙ building.at_end;
+  }
+
+  pub owned_stays : ((h : ℕ) → scans.scan_holds scan h ≤ holders_at new h) → scans.Owns old scan → scans.Owns new scan
+  owned_stays covers owns = record {
+    covered = covers;
+    building = λ p is. building_stays p is (owns.building p is);
+    filled = owns.filled;
+    listed = listed_stay old new scan.args args_part owns.listed;
+  }
+
   module _ (id : ℕ) (tokens : tokens_at new id ≡ tokens_at old id) (places : places_at new id ≡ places_at old id) (outside : scans.scan_holds scan id < holders_at new id) where
     on_stays : IsOn old id scan.cursor → IsOn new id scan.cursor
     on_stays on = record {
       held = omega (arith, outside);
       place = on.place ∙ ap (λ (ps : List ℕ). slice_get ps scan.cursor.index) (sym places);
       ends = subst (λ (ts : List Token). IsSome scan.cursor.at ↔ (scan.cursor.index < length ts)) (sym tokens) on.ends;
-    }
-
-    building_stays : (p : Present) → scan.present ≡ Some p → IsBuilding old p.build → IsBuilding new p.build
-    building_stays p is building = record {
-      sole = s.holders (build_id p.build) (own p is) ∙ building.sole;
-      at_end = ap (last_or (build_id p.build)) (s.places (build_id p.build) (own p is)) ∙ building.at_end;
     }
 
     same_delimiter : delimiter_at new id scan.cursor ≡ delimiter_at old id scan.cursor
@@ -123,6 +131,7 @@ module _ (old new : List (Option Entry)) (scan : ArgScan) (s : Stay old new (sca
 pub calling_stays : (old new : List (Option Entry)) (k : code.Gathering) → Stay old new (call_holds k) → calling_of new k ≡ calling_of old k
 calling_stays old new call.None s = refl
 calling_stays old new (call.Gathers name scan) s = ap (Gathering name) (scan_stays old new scan s)
+calling_stays old new (call.Stopped name scan) s = ap (Stopped name) (scan_stays old new scan s)
 calling_stays old new (call.Gathered name args) s = ap (Gathered name) (args_stay old new args s)
 
 -- each macro that is meant keeps its list
@@ -144,4 +153,5 @@ call_stays old new m (call.Gathers name scan) s meant_stay counted is =
       list = is.list;
       sound = sound_stays old new scan s is.id (meant_stay.tokens is.id some) (meant_stay.places is.id some) (counted.outside is.id some) counted.covers is.sound;
     }
+call_stays old new m (call.Stopped name scan) s meant_stay counted is = owned_stays old new scan s counted.covers is
 call_stays old new m (call.Gathered name args) s meant_stay counted is = record { id = is.id; list = is.list; filled = is.filled; listed = listed_stay old new args s is.listed }

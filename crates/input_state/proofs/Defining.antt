@@ -140,9 +140,10 @@ module _ (old new : List (Option Entry)) (s : InputStack) (m n : Named) (b : Bui
   pub defined_text : tokens_at new (build_id b) ≡ tokens_at old (build_id b)
   defined_text = lasting.tokens (build_id b) (still_held (build_id b) means_it)
 
-no_call : (table : List (Option Entry)) (k : code.Gathering) → calling_of table k ≡ NotCalling → k ≡ call.None
+pub no_call : (table : List (Option Entry)) (k : code.Gathering) → calling_of table k ≡ NotCalling → k ≡ call.None
 no_call table call.None is = refl
 no_call table (call.Gathers name scan) is = cc
+no_call table (call.Stopped name scan) is = cc
 no_call table (call.Gathered name args) is = cc
 
 without_length : (o : Option ℕ) (table : List (Option Entry)) → length (without_holder o table) ≡ length table

@@ -11,7 +11,9 @@ pub mod Words
 pub mod Refusing
 pub mod ListViews
 pub mod Sounds
+pub mod Growing
 pub mod Recalling
+pub mod Called
 pub mod Putting
 pub mod Opening
 pub mod Calling

@@ -10,7 +10,7 @@ use Rattle.plain_state.specs.Meanings.{fixed_locations, name_meaning}
 use Rattle.plain_state.specs.Puts as plain
 use Rattle.token_lists.specs.declared.Build.{Build}
 use Rattle.token_lists.specs.Ids.{IsBuilding}
-use Rattle.token_lists.specs.Table.{Entry, tokens_at, holders_at}
+use Rattle.token_lists.specs.Table.{Entry, words, tokens_of, tokens_at, holders_at}
 use Rattle.token_lists.specs.Accounts.{Moves, Keeps, Covers, none}
 use Rattle.macro_args.specs.declared.args.Args.{Args}
 use Rattle.macro_args.specs.Args.{args_hold}
@@ -26,7 +26,14 @@ use Rattle.input_stack.specs.View.{pending, held}
 use Rattle.input_stack.specs.Standing.{Stands}
 use Rattle.input_stack.specs.declared.stack.InputStack.{InputStack}
 use Rattle.input_stack.proofs.Helds.{others}
-use Rattle.input_state.specs.HeldLists.{HeldLists}
+use Rattle.tex_defs.specs.declared.Meaning.{Meaning}
+use Rattle.std.proofs.lemmas.List.{length-map}
+use Rattle.plain_state.specs.Tables.{lists_words}
+use Rattle.input_state.specs.Recalls.{Recalls}
+use Rattle.input_state.specs.Callings.{call_lists}
+use Rattle.input_state.proofs.Words.{words_are}
+use Rattle.input_state.proofs.Growing.{words_recalled}
+use Rattle.input_state.specs.HeldLists.{HeldLists, words_held}
 use Rattle.input_state.specs.Macros.{KeepsLists}
 use Rattle.input_state.specs.Callings.{Calling, NotCalling}
 use Rattle.input_state.specs.declared.gathering.Gathering as code
@@ -99,6 +106,39 @@ module _ (old new : List (Option Entry)) (s : InputStack) (making : Option Build
         ∙ ap (λ (p : Pending). record (lists_of old p making gathered (named m k) sizes) { call = calling_of new l; lists = texts new }) recalled_stand.1
         ∙ ap (λ (w : HeldLists). record w { call = calling_of new l; lists = texts new }) is
 
+-- WHAT A CALL TOOK OVER
+
+module _ (old new : List (Option Entry)) (s : InputStack) (making : Option Build) (gathered : List Build) (m : Map) (k j l n : code.Gathering) (sizes : Sizes) (capacity : ℕ) (sound : IsSound old s making gathered (named m k) sizes capacity) (was : k ≡ j) (is_now : n ≡ l) (recalls : Recalls old new m j l) where
+  both : Recalls old new m k n
+  both = subst (λ (g : code.Gathering). Recalls old new m g n) (sym was) (subst (λ (g : code.Gathering). Recalls old new m j g) (sym is_now) recalls)
+
+  pub recalls_sound : IsSound new s making gathered (named m n) sizes capacity
+  recalls_sound = recalled_sound old new s making gathered m k n sizes capacity sound both.moves both.keeps both.gains both.size both.is
+
+  module _ (v : HeldLists) (is : lists_of old (pending old s) making gathered (named m k) sizes ≡ v) where
+    pub recalls_view : lists_of new (pending new s) making gathered (named m n) sizes ≡ record v { call = calling_of new l; lists = texts new }
+    recalls_view =
+        recalled_view old new s making gathered m k n sizes capacity sound both.moves both.keeps both.gains both.size v is
+        ∙ ap (λ (g : code.Gathering). let w : HeldLists = record v { call = calling_of new g; lists = texts new } in w) is_now
+
+    pub recalls_others : lists_of new (pending new s) making gathered (named m n) sizes ≡ record v { call = calling_of new n; lists = texts new }
+    recalls_others = recalled_view old new s making gathered m k n sizes capacity sound both.moves both.keeps both.gains both.size v is
+
+    pub recalls_macros : KeepsLists m.cells (fronts new (pending new s).puts) v.lists (texts new)
+    recalls_macros = recalled_macros old new s making gathered m k n sizes capacity sound both.moves both.keeps both.gains both.size v is
+
+    -- what was used, and what the call takes now
+    pub recalls_words : words new + lists_words (call_lists v.call) ≡ words_held v + lists_words (call_lists (calling_of new l))
+    recalls_words =
+        let puts : fronts new (pending new s).puts ≡ v.puts = ap (λ (w : HeldLists). w.puts) recalls_view in
+        let meanings : m.cells ≡ v.meanings = ap (λ (w : HeldLists). w.meanings) is in
+        let keeps : KeepsLists v.meanings v.puts v.lists (texts new) = subst (λ (ps : List plain.Put). KeepsLists v.meanings ps v.lists (texts new)) puts (subst (λ (ms : List (Meaning (Option ℕ))). KeepsLists ms (fronts new (pending new s).puts) v.lists (texts new)) meanings recalls_macros) in
+        let lists : texts old ≡ v.lists = ap (λ (w : HeldLists). w.lists) is in
+        let count : length (texts new) ≡ length v.lists = length-map new tokens_of ∙ both.size ∙ sym (length-map old tokens_of) ∙ ap length lists in
+        let all = words_recalled v (calling_of new l) (texts new) keeps count in
+        let here : words new ≡ words_held (record v { call = calling_of new l; lists = texts new }) = words_are new s making gathered (named m n) sizes recalls_sound.shared recalls_sound.call ∙ ap words_held recalls_view in
+        omega (arith, here, all)
+
 -- THE CALL'S LISTS GO
 
 module _ (old new : List (Option Entry)) (s : InputStack) (making : Option Build) (gathered : List Build) (m : Map) (k l : code.Gathering) (sizes : Sizes) (capacity : ℕ) (sound : IsSound old s making gathered (named m k) sizes capacity) (dropped : l ≡ call.None) (moves : Moves old new (call_holds k) none) (keeps : Keeps old new (call_holds k)) (size : length new ≡ length old) where
@@ -122,12 +162,15 @@ in_place table id scan None p is h = cc
 in_place table id scan (Some q) p is h = subst (λ (r : Present). IsBuilding table r.build) (same_Some q p is) h.0
 
 pub scan_owned : (table : List (Option Entry)) (id : ℕ) (scan : ArgScan) → scans.IsSound table id scan → scans.Owns table scan
-scan_owned table id scan sound = record { covered = sound.owns; building = λ p is. in_place table id scan scan.present p is sound.in_place }
+scan_owned table id scan sound = record { covered = sound.owns; building = λ p is. in_place table id scan scan.present p is sound.in_place; filled = sound.filled; listed = sound.listed }
 
 pub gathering_owned : (table : List (Option Entry)) (m : Map) (k : code.Gathering) (name : Name) (scan : ArgScan) → k ≡ call.Gathers name scan → IsCall table m k → scans.Owns table scan
 gathering_owned table m k name scan is h =
     let g : IsCall table m (call.Gathers name scan) = subst (IsCall table m) is h in
     scan_owned table g.id scan g.sound
+
+pub stopped_owned : (table : List (Option Entry)) (m : Map) (k : code.Gathering) (name : Name) (scan : ArgScan) → k ≡ call.Stopped name scan → IsCall table m k → scans.Owns table scan
+stopped_owned table m k name scan is h = subst (IsCall table m) is h
 
 -- A NAME IS ENTERED
 
@@ -159,4 +202,5 @@ enter_sound table s making gathered m n k sizes capacity sound after same few = 
     entered_call : (j : code.Gathering) → IsCall table m j → IsCall table (entered m) j
     entered_call call.None is = tt
     entered_call (call.Gathers name scan) is = record { id = is.id; list = ap meant.list_of (entering m name) ∙ is.list; sound = is.sound }
+    entered_call (call.Stopped name scan) is = is
     entered_call (call.Gathered name args) is = record { id = is.id; list = ap meant.list_of (entering m name) ∙ is.list; filled = is.filled; listed = is.listed }

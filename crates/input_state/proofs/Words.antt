@@ -118,12 +118,14 @@ work_words table (Some p) others = omega (arith, sum_by-cons list_words (tokens_
 call_ids : code.Gathering → List ℕ
 call_ids call.None = []
 call_ids (call.Gathers name scan) = work_ids scan.present ++ args_ids scan.args
+call_ids (call.Stopped name scan) = work_ids scan.present ++ args_ids scan.args
 call_ids (call.Gathered name args) = args_ids args
 
 call_times : (table : List (Option Entry)) (m : Map) (k : code.Gathering) (h : ℕ) → IsCall table m k → times h (call_ids k) ≡ call_holds k h
 unfolding call_ids
 call_times table m call.None h is = refl
 call_times table m (call.Gathers name scan) h is = omega (arith, times_append h (work_ids scan.present) (args_ids scan.args), work_times scan.present h, args_times scan.args h is.sound.filled)
+call_times table m (call.Stopped name scan) h is = omega (arith, times_append h (work_ids scan.present) (args_ids scan.args), work_times scan.present h, args_times scan.args h is.filled)
 call_times table m (call.Gathered name args) h is = args_times args h is.filled
 
 call_words : (table : List (Option Entry)) (m : Map) (k : code.Gathering) → IsCall table m k → lists_words (call_lists (calling_of table k)) ≡ sum_by (words_at table) (call_ids k)
@@ -131,6 +133,8 @@ unfolding call_ids
 call_words table m call.None is = refl
 call_words table m (call.Gathers name scan) is =
     omega (arith, work_words table scan.present (last_first (args_in table scan.args) []), args_words table scan.args is.sound.listed, sum_by-append (words_at table) (work_ids scan.present) (args_ids scan.args))
+call_words table m (call.Stopped name scan) is =
+    omega (arith, work_words table scan.present (last_first (args_in table scan.args) []), args_words table scan.args is.listed, sum_by-append (words_at table) (work_ids scan.present) (args_ids scan.args))
 call_words table m (call.Gathered name args) is = args_words table args is.listed
 
 -- each list is a macro's, or is held for itself in one place

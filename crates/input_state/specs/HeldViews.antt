@@ -25,7 +25,7 @@ use Rattle.macro_args.specs.declared.args.Args.{Args}
 use Rattle.tex_defs.specs.declared.Name.{Name}
 use Rattle.plain_state.specs.Meanings.{fixed_locations, name_meaning}
 use Rattle.input_state.specs.HeldLists.{HeldLists}
-use Rattle.input_state.specs.Callings.{Calling, NotCalling, Gathering, Gathered}
+use Rattle.input_state.specs.Callings.{Calling, NotCalling, Gathering, Stopped, Gathered}
 use Rattle.input_state.specs.declared.gathering.Gathering as code
 use Rattle.input_state.specs.declared.gathering.Gathering.TheVariants as call
 
@@ -79,6 +79,7 @@ named m gathering = record { map = m; call = gathering }
 abbrev pub calling_of : List (Option Entry) → code.Gathering → Calling
 calling_of table call.None = NotCalling
 calling_of table (call.Gathers name scan) = Gathering name (scans.scan_of table scan)
+calling_of table (call.Stopped name scan) = Stopped name (scans.scan_of table scan)
 calling_of table (call.Gathered name args) = Gathered name (args_in table args)
 
 abbrev pub lists_of : List (Option Entry) → Pending → Option Build → List Build → Named → Sizes → HeldLists
@@ -148,10 +149,18 @@ abbrev pub opens : List Put → List ℕ
 opens [] = []
 opens (p ∷ ps) = numbers (p.reading ∷ []) ++ opens ps
 
+-- the call takes tokens
+abbrev pub IsScanning : code.Gathering → Type 0
+IsScanning call.None = ⊥
+IsScanning (call.Gathers name scan) = Unit {0}
+IsScanning (call.Stopped name scan) = ⊥
+IsScanning (call.Gathered name args) = ⊥
+
 -- how often a call holds the list of a number
 abbrev pub call_holds : code.Gathering → ℕ → ℕ
 call_holds call.None h = 0
 call_holds (call.Gathers name scan) h = scans.scan_holds scan h
+call_holds (call.Stopped name scan) h = scans.scan_holds scan h
 call_holds (call.Gathered name args) h = args_hold args h
 
 -- how often names and the call do
@@ -194,6 +203,7 @@ pub record IsGathered (table : List (Option Entry)) (m : Map) (name : Name) (arg
 abbrev pub IsCall : List (Option Entry) → Map → code.Gathering → Type 0
 IsCall table m call.None = Unit {0}
 IsCall table m (call.Gathers name scan) = IsGathering table m name scan
+IsCall table m (call.Stopped name scan) = scans.Owns table scan
 IsCall table m (call.Gathered name args) = IsGathered table m name args
 
 -- the sizes are in range, and there is room for what they admit

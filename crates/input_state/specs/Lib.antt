@@ -7,6 +7,8 @@ pub mod FileViews
 pub mod InputViews
 pub mod Macros
 pub mod Callings
+pub mod CallFeeds
+pub mod Recalls
 pub mod Calls
 pub mod Changes
 pub mod Given

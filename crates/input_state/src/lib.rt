@@ -18,5 +18,5 @@ mod state;
 #[cfg(test)]
 mod tests;
 
-pub use answer::{CallKind, Pulled};
+pub use answer::{CallKind, CallTold, Pulled};
 pub use state::Input;

@@ -1,5 +1,5 @@
 // The lists in front, those that are being made and gathered, the line of the file beneath them, and what the names mean.
-ghost use Rattle.std.specs.Prelude.{◌≡◌, ◌≢◌, ℕ, ◌≤◌, ◌<◌, ◌+◌, ◌++◌, ◌↔◌, true, List, [], ◌∷◌, Option, None, Some, IsSome, IsTrue, IfOk, OnOk, OnErr, IfErr, MatchResult, MatchBool, length, drop, replicate};
+ghost use Rattle.std.specs.Prelude.{◌≡◌, ◌≢◌, ℕ, ◌≤◌, ◌<◌, ◌+◌, ◌++◌, ◌↔◌, true, List, [], ◌∷◌, Option, None, Some, IsSome, IfSome, IsTrue, IfOk, OnOk, OnErr, IfErr, MatchResult, MatchBool, length, drop, replicate};
 ghost use Rattle.tex_defs.specs.Sizes.{first_out_of_range};
 ghost use Rattle.plain_state.specs.Names.{is_primitive};
 ghost use Rattle.tex_defs.specs.declared.Meaning.TheVariants.{Undefined};
@@ -7,7 +7,7 @@ ghost use Rattle.plain_state.specs.Meanings.{first_meanings, fixed_locations, lo
 ghost use Rattle.plain_state.specs.Puts.{settled, with_put, token_put};
 ghost use Rattle.plain_state.specs.Pending.{Progress, pulled};
 ghost use Rattle.plain_state.specs.States.{grow_first, grown_by};
-ghost use Rattle.plain_state.specs.Tables.{is_meant, memory, refused};
+ghost use Rattle.plain_state.specs.Tables.{is_meant, lists_words, memory, refused};
 ghost use Rattle.line_lexer.specs.declared.Ahead.TheVariants as ahead;
 ghost use Rattle.token_lists.specs.Table.{words, tokens_at, holders_at, IsHeld};
 ghost use Rattle.token_lists.specs.Ids.{build_id, IsBuilding};
@@ -17,16 +17,21 @@ ghost use Rattle.input_state.specs.HeldLists.{HeldLists, KeepsHeld, call_refusal
 ghost use Rattle.meanings.specs.Map.{IsPlaced};
 ghost use Rattle.input_state.specs.HeldViews.{IsDefined};
 ghost use Rattle.input_state.specs.Macros.{HasNameRoom, list_at};
-ghost use Rattle.input_state.specs.Calls.{call_kind, called_put, called, Defines};
-ghost use Rattle.input_state.specs.declared.answer.CallKind.TheVariants.{AtOnce};
+ghost use Rattle.input_state.specs.Calls.{call_kind, called_put, called, text_of, begun_lists, Defines};
+ghost use Rattle.input_state.specs.declared.answer.CallKind.TheVariants.{AtOnce, Gathers};
 ghost use Rattle.input_state.specs.Callings.{NotCalling};
+ghost use Rattle.input_state.specs.Callings as calls;
+ghost use Rattle.input_state.specs.CallFeeds.{IsTaking, Feeds, CutShort, growth, with_scan, call_work};
+ghost use Rattle.macro_call.specs.PlainScans.{first_scan, cut_scan, settled_scan};
+ghost use Rattle.macro_call.specs.Modes.{mode_of};
+ghost use Rattle.std.specs.Option.{option_map};
 ghost use Rattle.input_state.specs.Changes.{IsOnly};
 ghost use Rattle.input_state.specs.Reads.{Reads};
 ghost use Rattle.input_state.specs.Given.{GivesMore, answer_of};
 
-use crate::gathering::Gathering;
+use crate::gathering::{Gathering, begin as begin_call, feed};
 use crate::holders::{give_back, has_parameters, share};
-use crate::{CallKind, Pulled};
+use crate::{CallKind, CallTold, Pulled};
 use input_stack::{InputStack, Pulled as Given};
 use line_lexer::{Ahead, Lexed, Line};
 use macro_args::Args;
@@ -491,6 +496,97 @@ impl Held {
         }
     }
 
+    /// A call of a macro with a parameter text begins: its arguments are gathered. Where the text begins with a place, the
+    /// first argument's list is begun. `long` tells whether the macro is `\long`.
+    ///
+    /// # Errors
+    /// The main memory is full; nothing has changed.
+    pub fn begin_call(&mut self, name: Name, long: bool) -> Result<(), Full>
+        requires none { self.old.call ≡ NotCalling }
+        requires gathers { call_kind self.old.lists (name_meaning self.old.meanings name) ≡ Gathers }
+        ensures refused { MatchResult result (λ _. refused self.old.sizes (memory (lists_words (begun_lists (text_of self.old.lists self.old.meanings name))) (words_held self.old) ∷ []) ≡ None) (λ full. refused self.old.sizes (memory (lists_words (begun_lists (text_of self.old.lists self.old.meanings name))) (words_held self.old) ∷ []) ≡ Some full) }
+        ensures ok { OnOk result (self.new ≡ record self.old { call = calls.Gathering name (first_scan (text_of self.old.lists self.old.meanings name) (mode_of long)); lists = self.new.lists }) }
+        ensures err { OnErr result (self.new ≡ self.old) }
+        ensures macros { KeepsHeld self.old self.new }
+    {
+        let Some(list) = self.meanings.list(name) else {
+            unreachable!()
+        };
+        match begin_call(&mut self.lists, list, name, long) {
+            Ok(call) => {
+                mem::replace(&mut self.call, call).end();
+                let _words = self.lists.used();
+                Ok(())
+            }
+            Err(full) => Err(full),
+        }
+    }
+
+    /// Feeds a token to the call. What is told is what the definition of arguments asks for behind all that was fed.
+    ///
+    /// # Errors
+    /// The main memory is full: some of the tokens that go into the list in work are in it, from the first on, and not
+    /// all, and nothing else has changed; or the argument is whole, and the next one's list isn't begun. The call takes no
+    /// more tokens.
+    pub fn feed_call(&mut self, token: Token) -> Result<CallTold, Full>
+        requires { IsTaking self.old.call }
+        ensures ok { IfOk result (λ told. Feeds (text_of self.old.lists self.old.meanings) token told self.old.call self.new.call) }
+        ensures fits { OnOk result (words_held self.old + length (growth (text_of self.old.lists self.old.meanings) token self.old.call) ≤ self.old.sizes.main_memory_size) }
+        ensures err { OnErr result (CutShort (text_of self.old.lists self.old.meanings) token self.old.call self.new.call) }
+        ensures full { IfErr result (λ full. refused self.new.sizes (memory 1 (words_held self.new) ∷ []) ≡ Some full) }
+        ensures others { self.new ≡ record self.old { call = self.new.call; lists = self.new.lists } }
+        ensures macros { KeepsHeld self.old self.new }
+    {
+        let _old_words = self.lists.used();
+        let (name, scan) = mem::replace(&mut self.call, Gathering::None).into_scan();
+        let Some(list) = self.meanings.list(name) else {
+            unreachable!()
+        };
+        let seen = self.meanings.seen(token);
+        let (call, told) = feed(&mut self.lists, list, name, scan, seen);
+        mem::replace(&mut self.call, call).end();
+        let _words = self.lists.used();
+        told
+    }
+
+    /// A check came in the call, at a file's end or at an `\outer` name: from here the macro counts as not `\long`, and a
+    /// `\par` that ends the call has no report.
+    pub fn cut_call(&mut self)
+        requires { IsTaking self.old.call }
+        ensures after { self.new ≡ record self.old { call = with_scan cut_scan self.old.call } }
+    {
+        let (name, mut scan) = mem::replace(&mut self.call, Gathering::None).into_scan();
+        scan.cut();
+        mem::replace(&mut self.call, Gathering::Gathers(name, scan)).end();
+    }
+
+    /// The extra brace that the call told was put back and reported.
+    pub fn settle_call(&mut self)
+        requires { IsTaking self.old.call }
+        ensures after { self.new ≡ record self.old { call = with_scan settled_scan self.old.call } }
+    {
+        let (name, mut scan) = mem::replace(&mut self.call, Gathering::None).into_scan();
+        scan.settle();
+        mem::replace(&mut self.call, Gathering::Gathers(name, scan)).end();
+    }
+
+    /// The list in work of the call, if there is one, and the memory in which it stands.
+    pub fn call_list(&self) -> Option<(&Lists, &Build)>
+        ensures held { IfSome result (λ r. IsHeld r.0.now (build_id r.1.now)) }
+        ensures tokens { call_work self.now.call ≡ option_map (λ r. tokens_at r.0.now (build_id r.1.now)) result }
+    {
+        let scan = match &self.call {
+            Gathering::Gathers(_name, scan) => scan,
+            Gathering::Stopped(_name, scan) => scan,
+            Gathering::None => return None,
+            Gathering::Gathered(_name, _args) => return None,
+        };
+        match scan.built() {
+            Some(build) => Some((&self.lists, build)),
+            None => None,
+        }
+    }
+
     /// The call's lists go, and none is gathered.
     pub fn drop_call(&mut self)
         ensures after { self.new ≡ record self.old { call = NotCalling; lists = self.new.lists } }
@@ -499,6 +595,7 @@ impl Held {
         match mem::replace(&mut self.call, Gathering::None) {
             Gathering::None => {}
             Gathering::Gathers(_name, scan) => scan.abandon(&mut self.lists),
+            Gathering::Stopped(_name, scan) => scan.abandon(&mut self.lists),
             Gathering::Gathered(_name, args) => args.release(&mut self.lists),
         }
     }
@@ -527,6 +624,7 @@ impl Held {
         match call {
             Gathering::None => {}
             Gathering::Gathers(_name, _scan) => unreachable!(),
+            Gathering::Stopped(_name, _scan) => unreachable!(),
             Gathering::Gathered(_name, _args) => unreachable!(),
         }
         stack.close(&mut lists);
