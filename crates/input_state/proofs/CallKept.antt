@@ -37,11 +37,12 @@ use Rattle.input_stack.proofs.Kept.{holds_itself}
 use Rattle.input_state.specs.HeldLists.{HeldLists, call_refusal, level_held, line_levels}
 use Rattle.input_state.specs.Macros.{KeepsLists}
 use Rattle.input_state.specs.Calls.{called_put, called, when_called}
-use Rattle.input_state.specs.HeldViews.{text, made_text, texts, front, fronts, plain_item, line_of, lists_of, builds, bodies, IsSingle, ArePlain, IsSimple, IsApart, IsDefined, IsShared, IsSound}
+use Rattle.input_state.specs.HeldViews.{Named, names_hold, calling_of, text, made_text, texts, front, fronts, plain_item, line_of, lists_of, all_builds, bodies, IsSingle, ArePlain, IsSimple, IsApart, IsDefined, IsShared, IsSound}
 use Rattle.input_state.proofs.Counting.{times_cons, holds_other}
 use Rattle.input_state.proofs.Ranges.{hash_greatest, input_greatest, parameters_greatest}
 use Rattle.input_state.proofs.Shares.{apart_fewer, fewer_put}
 use Rattle.input_state.proofs.Levels.{flat_put, simple_put, levels_used}
+use Rattle.input_state.proofs.CallStays.{call_stays}
 use Rattle.input_state.proofs.Sharing.{Moved, moved, text_at}
 use Rattle.input_state.proofs.ListViews.{held_lists, moved_view, macros_moved}
 use Rattle.input_state.proofs.Sounds.{sized_now, settled_sound, settled_view, settled_macros}
@@ -50,11 +51,11 @@ use Rattle.input_state.proofs.Files.{settled_levels}
 use Rattle.input_state.proofs.Calling.{stack_texts, flat_call, plain_call, put_of_name, fronts_called}
 
 -- the holders of a list can be counted
-pub countable_now : (table : List (Option Entry)) (s : InputStack) (making : Option Build) (gathered : List Build) (m : Map) (sizes : Sizes) (capacity : ℕ) → IsSound table s making gathered m sizes capacity → (k : ℕ) → holders_at table k + 1 < 2 ^ 32
+pub countable_now : (table : List (Option Entry)) (s : InputStack) (making : Option Build) (gathered : List Build) (m : Named) (sizes : Sizes) (capacity : ℕ) → IsSound table s making gathered m sizes capacity → (k : ℕ) → holders_at table k + 1 < 2 ^ 32
 countable_now table s making gathered m sizes capacity sound k =
     let h = sound.shared in
     let z = sound.sized in
-    omega (arith, h.counted k, held_few s k h.stands.fits, h.apart.sole k, within_locations m k, z.few, z.names, z.levels, z.parameters, hash_greatest sizes z.ranges, input_greatest sizes z.ranges, parameters_greatest sizes z.ranges)
+    omega (arith, h.counted k, held_few s k h.stands.fits, h.apart.sole k, within_locations m.map k, z.few, z.names, z.levels, z.parameters, hash_greatest sizes z.ranges, input_greatest sizes z.ranges, parameters_greatest sizes z.ranges)
 
 -- NO PARAMETERS ARE USED
 
@@ -79,7 +80,7 @@ no_parameters p a = omega (arith, front_parameters p.puts a.plain, below_paramet
 
 -- THE SHARE
 
-module _ (old mid : List (Option Entry)) (s : InputStack) (bs : List Build) (m : Map) (k : ℕ) (shared : IsShared old s bs m) (shares : Shares old mid (holds k)) where
+module _ (old mid : List (Option Entry)) (s : InputStack) (bs : List Build) (m : Named) (k : ℕ) (shared : IsShared old s bs m) (shares : Shares old mid (holds k)) where
   pub shared_stands : Stands mid s × (pending mid s ≡ pending old s)
   shared_stands =
       others s old mid none (holds k) shared.stands (λ h. omega (arith, shared.counted h)) (λ h. omega (arith, shares.holders h))
@@ -87,7 +88,7 @@ module _ (old mid : List (Option Entry)) (s : InputStack) (bs : List Build) (m :
 
 -- WHAT IS REFUSED
 
-module _ (old mid : List (Option Entry)) (s : InputStack) (making : Option Build) (gathered : List Build) (m : Map) (sizes : Sizes) (capacity : ℕ) (sound : IsSound old s making gathered m sizes capacity) (body : ListRef) (shares : Shares old mid (holds (id_of body))) (args : Args) (few : args.count ≡ 0) (v : HeldLists) (is : lists_of old (pending old s) making gathered m sizes ≡ v) (name : Name) (list_is : list_of (name_meaning m.cells name) ≡ Some (id_of body)) where
+module _ (old mid : List (Option Entry)) (s : InputStack) (making : Option Build) (gathered : List Build) (m : Named) (sizes : Sizes) (capacity : ℕ) (sound : IsSound old s making gathered m sizes capacity) (body : ListRef) (shares : Shares old mid (holds (id_of body))) (args : Args) (few : args.count ≡ 0) (v : HeldLists) (is : lists_of old (pending old s) making gathered m sizes ≡ v) (name : Name) (list_is : list_of (name_meaning m.map.cells name) ≡ Some (id_of body)) where
   us : List Token
   us = body_of (tokens_at old (id_of body))
 
@@ -99,7 +100,7 @@ module _ (old mid : List (Option Entry)) (s : InputStack) (making : Option Build
   put_is =
       plain_call old (id_of body) (tokens_at old (id_of body))
       ∙ ap (λ (ts : List Token). plain.call_put (id_of body) ts []) (sym (text_at old (id_of body)))
-      ∙ sym (put_of_name (texts old) (name_meaning m.cells name) (id_of body) list_is)
+      ∙ sym (put_of_name (texts old) (name_meaning m.map.cells name) (id_of body) list_is)
       ∙ ap (λ (w : HeldLists). called_put w.lists (name_meaning w.meanings name)) is
 
   items_are : substituted (arguments_in mid args) (body_of (tokens_at mid (id_of body))) ≡ map Text us
@@ -124,19 +125,19 @@ module _ (old mid : List (Option Entry)) (s : InputStack) (making : Option Build
   unfolding us was
   refusal_is =
       ap (λ (n : ℕ). stack.call_refusal s.size s.parameter_size n (substituted (arguments_in mid args) (body_of (tokens_at mid (id_of body)))) (pending mid s)) few
-      ∙ ap₂ (λ (xs : List Item) (p : Pending). stack.call_refusal s.size s.parameter_size 0 xs p) items_are (shared_stands old mid s (builds making gathered) m (id_of body) sound.shared shares).1
+      ∙ ap₂ (λ (xs : List Item) (p : Pending). stack.call_refusal s.size s.parameter_size 0 xs p) items_are (shared_stands old mid s (all_builds making gathered) m (id_of body) sound.shared shares).1
       ∙ by_items (body_of (tokens_at old (id_of body)))
       ∙ ap (λ (p : plain.Put). call_refusal p (lists_of old (pending old s) making gathered m sizes)) put_is
       ∙ ap (call_refusal (called_put v.lists (name_meaning v.meanings name))) is
 
 -- THE BODY IS PUT
 
-module _ (old mid new : List (Option Entry)) (s t : InputStack) (making : Option Build) (gathered : List Build) (m : Map) (sizes : Sizes) (capacity : ℕ) (sound : IsSound old s making gathered m sizes capacity) (body : ListRef) (is_meant : 0 < meant.held m (id_of body)) (shares : Shares old mid (holds (id_of body))) (args : Args) (few : args.count ≡ 0) (free : (h : ℕ) → args_hold args h ≡ 0) (stands : Stands new t) (after : pending new t ≡ put (call_put (id_of body) (tokens_at mid (id_of body)) (arguments_in mid args)) (pending mid s)) (moves : Moves mid new (λ h. pushed_holds body args h + held s h) (held t)) (keeps : Keeps mid new (λ h. pushed_holds body args h + held s h)) (lasts : Lasts mid new) (size : t.size ≡ s.size) (parameters : t.parameter_size ≡ s.parameter_size) where
+module _ (old mid new : List (Option Entry)) (s t : InputStack) (making : Option Build) (gathered : List Build) (m : Named) (sizes : Sizes) (capacity : ℕ) (sound : IsSound old s making gathered m sizes capacity) (body : ListRef) (is_meant : 0 < meant.held m.map (id_of body)) (shares : Shares old mid (holds (id_of body))) (args : Args) (few : args.count ≡ 0) (free : (h : ℕ) → args_hold args h ≡ 0) (stands : Stands new t) (after : pending new t ≡ put (call_put (id_of body) (tokens_at mid (id_of body)) (arguments_in mid args)) (pending mid s)) (moves : Moves mid new (λ h. pushed_holds body args h + held s h) (held t)) (keeps : Keeps mid new (λ h. pushed_holds body args h + held s h)) (lasts : Lasts mid new) (size : t.size ≡ s.size) (parameters : t.parameter_size ≡ s.parameter_size) where
   k : ℕ
   k = id_of body
 
   bs : List Build
-  bs = builds making gathered
+  bs = all_builds making gathered
 
   x : Put
   x = flat_put true (id_of body) (body_of (tokens_at old (id_of body)))
@@ -149,7 +150,7 @@ module _ (old mid new : List (Option Entry)) (s t : InputStack) (making : Option
   now =
       after
       ∙ ap₂ (λ (ts : List Token) (xs : List (Option Argument)). put (call_put (id_of body) ts xs) (pending mid s)) (shares.tokens (id_of body)) no_cells
-      ∙ ap₂ put (flat_call (id_of body) (tokens_at old (id_of body))) (shared_stands old mid s (builds making gathered) m (id_of body) sound.shared shares).1
+      ∙ ap₂ put (flat_call (id_of body) (tokens_at old (id_of body))) (shared_stands old mid s (all_builds making gathered) m (id_of body) sound.shared shares).1
 
   pushed : (h : ℕ) → pushed_holds body args h ≡ holds k h
   unfolding k
@@ -163,7 +164,7 @@ module _ (old mid new : List (Option Entry)) (s t : InputStack) (making : Option
     apart = λ h more. elim (cases_eq h (id_of body)) [
       | inl is ↦
           let none = sound.shared.apart.apart h more in
-          absurd (omega (arith, none, ap (meant.held m) is, is_meant))
+          absurd (omega (arith, none, ap (meant.held m.map) is, is_meant))
       | inr other ↦ omega (arith, sound.shared.apart.apart h more, times_cons h (id_of body) (bodies (pending old s).puts), holds_other (id_of body) h (λ e. other (sym e)))
     ];
   }
@@ -175,7 +176,7 @@ module _ (old mid new : List (Option Entry)) (s t : InputStack) (making : Option
   unfolding x
   simple_now = subst IsSimple (sym now) (simple_put true (id_of body) (body_of (tokens_at old (id_of body))) (pending old s) sound.shared.simple)
 
-  macros_now : (h : ℕ) → 0 < meant.held m h → IsDefined (tokens_at new h)
+  macros_now : (h : ℕ) → 0 < meant.held m.map h → IsDefined (tokens_at new h)
   unfolding k
   macros_now h more =
       let there : 0 < holders_at new h = omega (arith, more, moves h, pushed h, shares.holders h, sound.shared.counted h) in
@@ -184,45 +185,50 @@ module _ (old mid new : List (Option Entry)) (s t : InputStack) (making : Option
   moved_now : Moved old new t m bs
   unfolding bs k
   moved_now =
-      moved old new s t m m [] (builds making gathered) sound.shared stands simple_now apart_now
+      moved old new s t m m [] (all_builds making gathered) sound.shared stands simple_now apart_now
       (λ h. omega (arith, moves h, pushed h, shares.holders h))
       (record {
         tokens = λ h l. keeps.tokens h (omega (arith, l, pushed h, shares.holders h)) ∙ shares.tokens h;
         places = λ h l. keeps.places h (omega (arith, l, pushed h, shares.holders h)) ∙ shares.places h;
       })
-      (λ h some. lasts.tokens h some ∙ shares.tokens h) macros_now
+      (λ h some. lasts.tokens h some ∙ shares.tokens h) macros_now (λ h. refl)
 
   pub call_sound : IsSound new t making gathered m sizes capacity
   unfolding bs
   call_sound = record {
-    shared = moved_now.shared;
+    shared = moved_now.reheld.shared;
     sized = sized_now old new s t m sizes capacity capacity sound.sized (lasts.size ∙ shares.size) size parameters refl;
+    call =
+        let now = moved_now.reheld.shared.counted in
+        let there : (h : ℕ) → 0 < meant.held m.map h → pushed_holds body args h + held s h < holders_at mid h = λ h some. omega (arith, some, pushed h, shares.holders h, sound.shared.counted h) in
+        call_stays old new m.map m.call moved_now.called (record { tokens = λ h some. keeps.tokens h (there h some) ∙ shares.tokens h; places = λ h some. keeps.places h (there h some) ∙ shares.places h })
+        (record { covers = λ h. omega (arith, now h); outside = λ h some. omega (arith, now h, some) }) sound.call;
   }
 
   module _ (v : HeldLists) (is : lists_of old (pending old s) making gathered m sizes ≡ v) where
-    pub call_macros : KeepsLists m.cells (fronts new (pending new t).puts) v.lists (texts new)
+    pub call_macros : KeepsLists m.map.cells (fronts new (pending new t).puts) v.lists (texts new)
     call_macros = macros_moved old new t m sizes bs v.lists moved_now (ap (λ (w : HeldLists). w.lists) is)
 
-    pub call_view : (name : Name) → list_of (name_meaning m.cells name) ≡ Some (id_of body) → lists_of new (pending new t) making gathered m sizes ≡ record v { puts = called (called_put v.lists (name_meaning v.meanings name)) v.puts; lists = texts new }
+    pub call_view : (name : Name) → list_of (name_meaning m.map.cells name) ≡ Some (id_of body) → lists_of new (pending new t) making gathered m sizes ≡ record v { puts = called (called_put v.lists (name_meaning v.meanings name)) v.puts; lists = texts new }
     unfolding bs x
     call_view name list_is =
         let ps = (pending old s).puts in
         let what = put_is old mid s making gathered m sizes capacity sound body shares args few v is name list_is in
         moved_view old new t m sizes making gathered moved_now
         ∙ ap (λ (p : Pending). record (lists_of old p making gathered m sizes) { lists = texts new }) now
-        ∙ ap (λ (qs : List plain.Put). held_lists qs (made_text old making) (map (text old) (reverse gathered)) (line_of (pending old s).sources) m sizes (texts new)) (fronts_called old (id_of body) (body_of (tokens_at old (id_of body))) ps ∙ ap (λ (p : plain.Put). called p (fronts old ps)) what)
+        ∙ ap (λ (qs : List plain.Put). held_lists qs (made_text old making) (calling_of old m.call) (map (text old) (reverse gathered)) (line_of (pending old s).sources) m.map sizes (texts new)) (fronts_called old (id_of body) (body_of (tokens_at old (id_of body))) ps ∙ ap (λ (p : plain.Put). called p (fronts old ps)) what)
         ∙ ap (λ (w : HeldLists). record w { puts = called (called_put v.lists (name_meaning v.meanings name)) w.puts; lists = texts new }) is
 
 -- THE LIST IS GIVEN BACK
 
 -- the holder that is handed back is counted
-pub back_held : (old mid new : List (Option Entry)) (s t : InputStack) (bs : List Build) (m : Map) (body back : ListRef) → IsShared old s bs m → Shares old mid (holds (id_of body)) → back ≡ body → Moves mid new (held s) (held t) → IsHeld new (id_of back)
+pub back_held : (old mid new : List (Option Entry)) (s t : InputStack) (bs : List Build) (m : Named) (body back : ListRef) → IsShared old s bs m → Shares old mid (holds (id_of body)) → back ≡ body → Moves mid new (held s) (held t) → IsHeld new (id_of back)
 back_held old mid new s t bs m body back shared shares same moves =
     let k = id_of body in
     let here : 0 < holders_at new k = omega (arith, moves k, shares.holders k, shared.counted k, holds_itself k) in
     subst (λ (r : ListRef). IsHeld new (id_of r)) (sym same) here
 
-module _ (old mid new last : List (Option Entry)) (s t : InputStack) (making : Option Build) (gathered : List Build) (m : Map) (sizes : Sizes) (capacity : ℕ) (sound : IsSound old s making gathered m sizes capacity) (body back : ListRef) (shares : Shares old mid (holds (id_of body))) (same : back ≡ body) (stands : Stands new t) (after : pending new t ≡ settle (pending mid s)) (moves : Moves mid new (held s) (held t)) (keeps : Keeps mid new (held s)) (lasts : Lasts mid new) (gives : Moves new last (holds (id_of back)) none) (leaves : Keeps new last (holds (id_of back))) (lets : Lasts new last) (size : t.size ≡ s.size) (parameters : t.parameter_size ≡ s.parameter_size) where
+module _ (old mid new last : List (Option Entry)) (s t : InputStack) (making : Option Build) (gathered : List Build) (m : Named) (sizes : Sizes) (capacity : ℕ) (sound : IsSound old s making gathered m sizes capacity) (body back : ListRef) (shares : Shares old mid (holds (id_of body))) (same : back ≡ body) (stands : Stands new t) (after : pending new t ≡ settle (pending mid s)) (moves : Moves mid new (held s) (held t)) (keeps : Keeps mid new (held s)) (lasts : Lasts mid new) (gives : Moves new last (holds (id_of back)) none) (leaves : Keeps new last (holds (id_of back))) (lets : Lasts new last) (size : t.size ≡ s.size) (parameters : t.parameter_size ≡ s.parameter_size) where
   own : (h : ℕ) → holds (id_of back) h ≡ holds (id_of body) h
   own h = ap (λ (r : ListRef). holds (id_of r) h) same
 
@@ -246,7 +252,7 @@ module _ (old mid new last : List (Option Entry)) (s t : InputStack) (making : O
   }
 
   after_now : pending last t ≡ settle (pending old s)
-  after_now = last_stands.1 ∙ after ∙ ap settle (shared_stands old mid s (builds making gathered) m (id_of body) sound.shared shares).1
+  after_now = last_stands.1 ∙ after ∙ ap settle (shared_stands old mid s (all_builds making gathered) m (id_of body) sound.shared shares).1
 
   pub refused_sound : IsSound last t making gathered m sizes capacity
   refused_sound = settled_sound old last s t making gathered m sizes capacity sound last_stands.0 moves_now keeps_now lasts_now size parameters after_now
@@ -254,5 +260,5 @@ module _ (old mid new last : List (Option Entry)) (s t : InputStack) (making : O
   pub refused_view : (v : HeldLists) → lists_of old (pending old s) making gathered m sizes ≡ v → lists_of last (pending last t) making gathered m sizes ≡ record v { puts = plain.settled v.puts; lists = texts last }
   refused_view v is = settled_view old last s t making gathered m sizes capacity sound last_stands.0 moves_now keeps_now lasts_now size parameters after_now v is
 
-  pub refused_macros : (v : HeldLists) → lists_of old (pending old s) making gathered m sizes ≡ v → KeepsLists m.cells (fronts last (pending last t).puts) v.lists (texts last)
+  pub refused_macros : (v : HeldLists) → lists_of old (pending old s) making gathered m sizes ≡ v → KeepsLists m.map.cells (fronts last (pending last t).puts) v.lists (texts last)
   refused_macros v is = settled_macros old last s t making gathered m sizes capacity sound last_stands.0 moves_now keeps_now lasts_now size parameters after_now v is

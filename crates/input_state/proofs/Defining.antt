@@ -1,5 +1,5 @@
 -- A list that was gathered becomes a macro's.
-use Rattle.std.proofs.Common.{◌≡◌, ℕ, ◌+◌, ◌<◌, ◌≤◌, List, [], ◌∷◌, ◌++◌, length, map, reverse, drop, Bool, false, Option, None, Some, inl, inr, refl, sym, ap, ◌∙◌, subst, arith}
+use Rattle.std.proofs.Common.{◌≡◌, ℕ, ◌+◌, ◌<◌, ◌≤◌, List, [], ◌∷◌, ◌++◌, length, map, reverse, drop, Bool, false, Option, None, Some, inl, inr, refl, sym, ap, ap₂, ◌∙◌, subst, arith}
 use Rattle.std.specs.Prelude.{option_to_list}
 use Rattle.std.proofs.lemmas.Bool.{cases_eq}
 use Rattle.std.proofs.lemmas.List.{length-set}
@@ -26,7 +26,10 @@ use Rattle.input_stack.proofs.Kept.{holds_itself}
 use Rattle.input_state.specs.HeldLists.{HeldLists, first_list}
 use Rattle.input_state.specs.Macros.{is_macro, KeepsLists}
 use Rattle.input_state.specs.Calls.{Defines}
-use Rattle.input_state.specs.HeldViews.{text, made_text, texts, fronts, line_of, lists_of, builds, built, bodies, IsSimple, IsApart, IsDefined, IsShared, IsSound}
+use Rattle.input_state.specs.HeldViews.{Named, named, call_holds, calling_of, IsCall, text, made_text, texts, fronts, line_of, lists_of, all_builds, built, bodies, IsSimple, IsApart, IsDefined, IsShared, IsSound}
+use Rattle.input_state.specs.Callings.{NotCalling}
+use Rattle.input_state.specs.declared.gathering.Gathering as code
+use Rattle.input_state.specs.declared.gathering.Gathering.TheVariants as call
 use Rattle.input_state.proofs.Counting.{some_none, is_none, holds_other}
 use Rattle.input_state.proofs.Shares.{held_parts, macro_once}
 use Rattle.input_state.proofs.Sharing.{Moved, moved, own_alone, text_at, built_cons, built_append, all_left, all_right}
@@ -48,7 +51,7 @@ set_length cells None v = refl
 set_length cells (Some k) v = length-set cells k v
 
 -- the build in front of the others
-front_shared : (table : List (Option Entry)) (stack : InputStack) (xs ys : List Build) (b : Build) (m : Map) → IsShared table stack (xs ++ b ∷ ys) m → IsShared table stack (b ∷ (xs ++ ys)) m
+front_shared : (table : List (Option Entry)) (stack : InputStack) (xs ys : List Build) (b : Build) (m : Named) → IsShared table stack (xs ++ b ∷ ys) m → IsShared table stack (b ∷ (xs ++ ys)) m
 front_shared table stack xs ys b m s =
     let same : (h : ℕ) → built (b ∷ (xs ++ ys)) h ≡ built (xs ++ b ∷ ys) h = λ h. omega (arith, built_cons b (xs ++ ys) h, built_append xs ys h, built_append xs (b ∷ ys) h, built_cons b ys h) in
     let right = all_right table xs (b ∷ ys) s.building in
@@ -67,36 +70,44 @@ front_shared table stack xs ys b m s =
 
 -- A NAME TAKES A LIST OVER
 
-module _ (old new : List (Option Entry)) (s : InputStack) (m n : Map) (b : Build) (bs : List Build) (shared : IsShared old s (b ∷ bs) m) (name : Name) (value : Meaning (Option ℕ)) (list : list_of value ≡ Some (build_id b)) (assignable : IsPlaced (location name) (length m.cells)) (after : n ≡ defined m name value) (moves : Moves old new (λ h. meaning_holds value h + meant.held m h) (meant.held n)) (keeps : Keeps old new (λ h. meaning_holds value h + meant.held m h)) (lasting : meant.Lasts old new) (text_is : IsDefined (tokens_at old (build_id b))) where
+module _ (old new : List (Option Entry)) (s : InputStack) (m n : Named) (b : Build) (bs : List Build) (shared : IsShared old s (b ∷ bs) m) (name : Name) (value : Meaning (Option ℕ)) (list : list_of value ≡ Some (build_id b)) (assignable : IsPlaced (location name) (length m.map.cells)) (after : n ≡ named (defined m.map name value) m.call) (moves : Moves old new (λ h. meaning_holds value h + meant.held m.map h) (meant.held n.map)) (keeps : Keeps old new (λ h. meaning_holds value h + meant.held m.map h)) (lasting : meant.Lasts old new) (text_is : IsDefined (tokens_at old (build_id b))) where
   value_holds : (h : ℕ) → meaning_holds value h ≡ holds (build_id b) h
   value_holds h = ap (λ (o : Option ℕ). list_holds o h) list
 
   -- the list of the old meaning is let go
-  held_now : (h : ℕ) → meant.held n h + meaning_holds (name_meaning m.cells name) h ≡ meant.held m h + holds (build_id b) h
-  held_now h = omega (arith, ap (λ (k : Map). meant.held k h) after, set_holds m.cells (location name) (fixed_meaning name) value h assignable, value_holds h)
+  held_now : (h : ℕ) → meant.held n.map h + meaning_holds (name_meaning m.map.cells name) h ≡ meant.held m.map h + holds (build_id b) h
+  held_now h = omega (arith, ap (λ (k : Named). meant.held k.map h) after, set_holds m.map.cells (location name) (fixed_meaning name) value h assignable, value_holds h)
+
+  same_call : (h : ℕ) → call_holds n.call h ≡ call_holds m.call h
+  same_call h = ap (λ (k : Named). call_holds k.call h) after
 
   own : (0 < built (b ∷ bs) (build_id b))
   own = omega (arith, built_cons b bs (build_id b), holds_itself (build_id b))
 
-  alone : (built (b ∷ bs) (build_id b) ≡ 1) × (held s (build_id b) ≡ 0) × (meant.held m (build_id b) ≡ 0)
-  alone = own_alone old s (b ∷ bs) m shared.simple shared.apart (build_id b) own
+  own_build : (built (b ∷ bs) (build_id b) ≡ 1) × (held s (build_id b) ≡ 0) × (meant.held m.map (build_id b) ≡ 0)
+  own_build =
+      let k = own_alone old s (b ∷ bs) m shared.simple shared.apart (build_id b) (omega (arith, own)) in
+      (omega (arith, k.0, own), k.1, k.2)
 
-  means_it : 0 < meant.held n (build_id b)
-  means_it = omega (arith, held_now (build_id b), old_within m.cells (location name) (fixed_meaning name) (build_id b) assignable, alone.2, holds_itself (build_id b))
+  alone : (built (b ∷ bs) (build_id b) ≡ 1) × (held s (build_id b) ≡ 0) × (meant.held m.map (build_id b) ≡ 0)
+  alone = own_build
+
+  means_it : 0 < meant.held n.map (build_id b)
+  means_it = omega (arith, held_now (build_id b), old_within m.map.cells (location name) (fixed_meaning name) (build_id b) assignable, alone.2, holds_itself (build_id b))
 
   stand : Stands new s × (pending new s ≡ pending old s)
-  stand = others s old new (λ h. meaning_holds value h + meant.held m h) (meant.held n) shared.stands (λ h. omega (arith, shared.counted h, value_holds h, built_cons b bs h)) moves keeps
+  stand = others s old new (λ h. meaning_holds value h + meant.held m.map h) (meant.held n.map) shared.stands (λ h. omega (arith, shared.counted h, value_holds h, built_cons b bs h)) moves keeps
 
   apart_now : IsApart (pending old s).puts bs n
   apart_now = record {
-    sole = λ h. omega (arith, shared.apart.sole h, built_cons b bs h);
-    apart = λ h more. omega (arith, more, shared.apart.sole h, built_cons b bs h, held_now h, shared.apart.apart h (omega (arith, more, built_cons b bs h)));
+    sole = λ h. omega (arith, shared.apart.sole h, built_cons b bs h, same_call h);
+    apart = λ h more. omega (arith, more, shared.apart.sole h, built_cons b bs h, held_now h, same_call h, shared.apart.apart h (omega (arith, more, built_cons b bs h, same_call h)));
   }
 
-  still_held : (h : ℕ) → 0 < meant.held n h → 0 < holders_at new h
+  still_held : (h : ℕ) → 0 < meant.held n.map h → 0 < holders_at new h
   still_held h more = omega (arith, more, moves h, shared.counted h, value_holds h, built_cons b bs h)
 
-  macros_now : (h : ℕ) → 0 < meant.held n h → IsDefined (tokens_at new h)
+  macros_now : (h : ℕ) → 0 < meant.held n.map h → IsDefined (tokens_at new h)
   macros_now h more =
       let same = lasting.tokens h (still_held h more) in
       elim (cases_eq h (build_id b)) [
@@ -114,20 +125,26 @@ module _ (old new : List (Option Entry)) (s : InputStack) (m n : Map) (b : Build
       (subst (λ (p : Pending). IsApart p.puts bs n) (sym stand.1) apart_now)
       (λ h. omega (arith, moves h, value_holds h, own_holds h))
       (record { tokens = λ h l. keeps.tokens h (omega (arith, l, value_holds h, own_holds h)); places = λ h l. keeps.places h (omega (arith, l, value_holds h, own_holds h)) })
-      lasting.tokens macros_now
+      lasting.tokens macros_now same_call
 
   pub defined_still : pending new s ≡ pending old s
   defined_still = stand.1
 
   -- no macro had this list
-  pub defined_free : (t : List (Option Entry)) → is_macro (build_id b) m.cells (fronts t (pending old s).puts) ≡ false
+  pub defined_free : (t : List (Option Entry)) → is_macro (build_id b) m.map.cells (fronts t (pending old s).puts) ≡ false
   defined_free t =
       let ps = (pending old s).puts in
-      let none : meant.held m (build_id b) + times (build_id b) (bodies ps) ≡ 0 = omega (arith, alone.2, alone.1, held_parts old s shared.simple.single (build_id b)) in
-      is_none _ (macro_once t m ps (build_id b) ∙ some_none _ none)
+      let none : meant.held m.map (build_id b) + times (build_id b) (bodies ps) ≡ 0 = omega (arith, alone.2, alone.1, held_parts old s shared.simple.single (build_id b)) in
+      is_none _ (macro_once t m.map ps (build_id b) ∙ some_none _ none)
 
   pub defined_text : tokens_at new (build_id b) ≡ tokens_at old (build_id b)
   defined_text = lasting.tokens (build_id b) (still_held (build_id b) means_it)
+
+pub no_call : (table : List (Option Entry)) (k : code.Gathering) → calling_of table k ≡ NotCalling → k ≡ call.None
+no_call table call.None is = refl
+no_call table (call.Gathers name scan) is = cc
+no_call table (call.Stopped name scan) is = cc
+no_call table (call.Gathered name args) is = cc
 
 without_length : (o : Option ℕ) (table : List (Option Entry)) → length (without_holder o table) ≡ length table
 without_length None table = refl
@@ -136,17 +153,23 @@ without_length (Some id) table = length-set table id _
 -- THE INNERMOST LIST IS TAKEN OVER
 
 -- its holder and the names' are counted
-pub covered_now : (table : List (Option Entry)) (s : InputStack) (m : Map) (making : Option Build) (items rest : List Build) (b : Build) → items ≡ rest ++ b ∷ [] → IsShared table s (builds making items) m → (long outer : Bool) (id : ℕ) → id ≡ build_id b → Covers table (λ h. meaning_holds (means.Macro long outer (Some id)) h + meant.held m h)
+pub covered_now : (table : List (Option Entry)) (s : InputStack) (m : Named) (making : Option Build) (items rest : List Build) (b : Build) → items ≡ rest ++ b ∷ [] → IsShared table s (all_builds making items) m → (long outer : Bool) (id : ℕ) → id ≡ build_id b → Covers table (λ h. meaning_holds (means.Macro long outer (Some id)) h + meant.held m.map h)
 covered_now table s m making items rest b pops shared long outer id is h =
     let now = front_shared table s (option_to_list making) (reverse rest) b m (subst (λ (us : List Build). IsShared table s us m) (push_builds making items rest b pops) shared) in
     omega (arith, now.counted h, built_cons b (option_to_list making ++ reverse rest) h, ap (λ (k : ℕ). holds k h) is)
 
-module _ (old new : List (Option Entry)) (s : InputStack) (m n : Map) (making : Option Build) (items rest : List Build) (b : Build) (pops : items ≡ rest ++ b ∷ []) (sizes : Sizes) (capacity now : ℕ) (sound : IsSound old s making items m sizes capacity) (same : now ≡ capacity) (v : HeldLists) (is : lists_of old (pending old s) making items m sizes ≡ v) (name : Name) (long outer : Bool) (id : ℕ) (id_is : id ≡ build_id b) (list : IsDefined (first_list v.gathered)) (assignable : IsPlaced (location name) (length v.meanings)) (after : n ≡ defined m name (means.Macro long outer (Some id))) (o : Option ℕ) (lists : new ≡ without_holder o old) (moves : Moves old new (λ h. meaning_holds (means.Macro long outer (Some id)) h + meant.held m h) (meant.held n)) (keeps : Keeps old new (λ h. meaning_holds (means.Macro long outer (Some id)) h + meant.held m h)) (lasting : meant.Lasts old new) where
+module _ (old new : List (Option Entry)) (s : InputStack) (m n : Named) (making : Option Build) (items rest : List Build) (b : Build) (pops : items ≡ rest ++ b ∷ []) (sizes : Sizes) (capacity now : ℕ) (sound : IsSound old s making items m sizes capacity) (same : now ≡ capacity) (v : HeldLists) (is : lists_of old (pending old s) making items m sizes ≡ v) (name : Name) (long outer : Bool) (id : ℕ) (id_is : id ≡ build_id b) (calls : v.call ≡ NotCalling) (list : IsDefined (first_list v.builds)) (assignable : IsPlaced (location name) (length v.meanings)) (after : n.map ≡ defined m.map name (means.Macro long outer (Some id))) (same_gathering : n.call ≡ m.call) (o : Option ℕ) (lists : new ≡ without_holder o old) (moves : Moves old new (λ h. meaning_holds (means.Macro long outer (Some id)) h + meant.held m.map h) (meant.held n.map)) (keeps : Keeps old new (λ h. meaning_holds (means.Macro long outer (Some id)) h + meant.held m.map h)) (lasting : meant.Lasts old new) where
   bs : List Build
-  bs = builds making rest
+  bs = all_builds making rest
 
-  first_is : first_list v.gathered ≡ text old b
-  first_is = ap (λ (w : HeldLists). first_list w.gathered) (sym is) ∙ ap (λ (us : List Build). first_list (map (text old) us)) (reverse_push items rest b pops)
+  both : n ≡ named (defined m.map name (means.Macro long outer (Some id))) m.call
+  both = ap₂ named after same_gathering
+
+  none : m.call ≡ call.None
+  none = no_call old m.call (ap (λ (w : HeldLists). w.call) is ∙ calls)
+
+  first_is : first_list v.builds ≡ text old b
+  first_is = ap (λ (w : HeldLists). first_list w.builds) (sym is) ∙ ap (λ (us : List Build). first_list (map (text old) us)) (reverse_push items rest b pops)
 
   shared : IsShared old s (b ∷ bs) m
   unfolding bs
@@ -155,17 +178,17 @@ module _ (old new : List (Option Entry)) (s : InputStack) (m n : Map) (making : 
   text_is : IsDefined (tokens_at old (build_id b))
   text_is = subst IsDefined first_is list
 
-  placed : IsPlaced (location name) (length m.cells)
+  placed : IsPlaced (location name) (length m.map.cells)
   placed = subst (λ (w : HeldLists). IsPlaced (location name) (length w.meanings)) (sym is) assignable
 
   list_is : list_of (means.Macro long outer (Some id)) ≡ Some (build_id b)
   list_is = ap (λ (k : ℕ). Some k) id_is
 
   moved_now : Moved old new s n bs
-  moved_now = defined_moved old new s m n b bs shared name (means.Macro long outer (Some id)) list_is placed after moves keeps lasting text_is
+  moved_now = defined_moved old new s m n b bs shared name (means.Macro long outer (Some id)) list_is placed both moves keeps lasting text_is
 
   still : pending new s ≡ pending old s
-  still = defined_still old new s m n b bs shared name (means.Macro long outer (Some id)) list_is placed after moves keeps lasting text_is
+  still = defined_still old new s m n b bs shared name (means.Macro long outer (Some id)) list_is placed both moves keeps lasting text_is
 
   size : length new ≡ length old
   size = ap length lists ∙ without_length o old
@@ -173,38 +196,40 @@ module _ (old new : List (Option Entry)) (s : InputStack) (m n : Map) (making : 
   pub define_sound : IsSound new s making rest n sizes now
   unfolding bs
   define_sound = record {
-    shared = moved_now.shared;
+    shared = moved_now.reheld.shared;
     sized = record {
       memory = size ∙ sound.sized.memory;
       levels = sound.sized.levels;
       parameters = sound.sized.parameters;
       names = ap (λ (k : Map). k.hash_size) after ∙ sound.sized.names;
-      few = omega (arith, sound.sized.few, ap (λ (k : Map). k.hash_size) after, ap (λ (k : Map). length k.cells) after, set_length m.cells (location name) (means.Macro long outer (Some id)));
+      few = omega (arith, sound.sized.few, ap (λ (k : Map). k.hash_size) after, ap (λ (k : Map). length k.cells) after, set_length m.map.cells (location name) (means.Macro long outer (Some id)));
       room = omega (arith, sound.sized.room, same);
       ranges = sound.sized.ranges;
     };
+    call = subst (λ (k : code.Gathering). IsCall new n.map k) (sym (same_gathering ∙ none)) tt;
   }
 
-  pub define_view : lists_of new (pending new s) making rest n sizes ≡ record v { gathered = drop 1 v.gathered; meanings = n.cells; lists = texts new }
+  pub define_view : lists_of new (pending new s) making rest n sizes ≡ record v { builds = drop 1 v.builds; meanings = n.map.cells; lists = texts new }
   unfolding bs
   define_view =
       let p = pending old s in
-      let was : lists_of old p making items m sizes ≡ held_lists (fronts old p.puts) (made_text old making) (text old b ∷ map (text old) (reverse rest)) (line_of p.sources) m sizes (texts old) = ap (λ (us : List Build). held_lists (fronts old p.puts) (made_text old making) (map (text old) us) (line_of p.sources) m sizes (texts old)) (reverse_push items rest b pops) in
+      let was : lists_of old p making items m sizes ≡ held_lists (fronts old p.puts) (made_text old making) (calling_of old m.call) (text old b ∷ map (text old) (reverse rest)) (line_of p.sources) m.map sizes (texts old) = ap (λ (us : List Build). held_lists (fronts old p.puts) (made_text old making) (calling_of old m.call) (map (text old) us) (line_of p.sources) m.map sizes (texts old)) (reverse_push items rest b pops) in
       moved_view old new s n sizes making rest moved_now
       ∙ ap (λ (q : Pending). record (lists_of old q making rest n sizes) { lists = texts new }) still
       ∙ ap (λ (k : ℕ). record (lists_of old p making rest n sizes) { hash_size = k; lists = texts new }) (ap (λ (k : Map). k.hash_size) after)
-      ∙ ap (λ (w : HeldLists). record w { gathered = drop 1 w.gathered; meanings = n.cells; lists = texts new }) (sym was ∙ is)
+      ∙ ap (λ (k : code.Gathering). record (lists_of old p making rest (named m.map k) sizes) { meanings = n.map.cells; lists = texts new }) same_gathering
+      ∙ ap (λ (w : HeldLists). record w { builds = drop 1 w.builds; meanings = n.map.cells; lists = texts new }) (sym was ∙ is)
 
-  pub define_macros : KeepsLists n.cells (fronts new (pending new s).puts) v.lists (texts new)
+  pub define_macros : KeepsLists n.map.cells (fronts new (pending new s).puts) v.lists (texts new)
   define_macros = macros_moved old new s n sizes bs v.lists moved_now (ap (λ (w : HeldLists). w.lists) is)
 
-  pub define_defines : Defines v.meanings n.cells v.puts v.lists (texts new) (first_list v.gathered) name long outer
+  pub define_defines : Defines v.meanings n.map.cells v.puts v.lists (texts new) (first_list v.builds) name long outer
   define_defines =
-      let free = defined_free old new s m n b bs shared name (means.Macro long outer (Some id)) list_is placed after moves keeps lasting text_is old in
-      let kept = defined_text old new s m n b bs shared name (means.Macro long outer (Some id)) list_is placed after moves keeps lasting text_is in
+      let free = defined_free old new s m n b bs shared name (means.Macro long outer (Some id)) list_is placed both moves keeps lasting text_is old in
+      let kept = defined_text old new s m n b bs shared name (means.Macro long outer (Some id)) list_is placed both moves keeps lasting text_is in
       record {
         id = id;
-        free = ap (λ (w : HeldLists). is_macro id w.meanings w.puts) (sym is) ∙ ap (λ (k : ℕ). is_macro k m.cells (fronts old (pending old s).puts)) id_is ∙ free;
+        free = ap (λ (w : HeldLists). is_macro id w.meanings w.puts) (sym is) ∙ ap (λ (k : ℕ). is_macro k m.map.cells (fronts old (pending old s).puts)) id_is ∙ free;
         means = ap (λ (k : Map). k.cells) after ∙ ap (λ (w : HeldLists). set_at w.meanings (location name) (means.Macro long outer (Some id))) is;
         list = text_at new id ∙ ap (tokens_at new) id_is ∙ kept ∙ sym first_is;
       }

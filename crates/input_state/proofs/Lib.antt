@@ -6,10 +6,14 @@ pub mod Shares
 pub mod Fronts
 pub mod Levels
 pub mod Sharing
+pub mod CallStays
 pub mod Words
 pub mod Refusing
 pub mod ListViews
 pub mod Sounds
+pub mod Growing
+pub mod Recalling
+pub mod Called
 pub mod Putting
 pub mod Opening
 pub mod Calling

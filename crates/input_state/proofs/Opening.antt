@@ -19,7 +19,7 @@ use Rattle.input_stack.specs.Lasting.{Lasts}
 use Rattle.input_stack.specs.declared.stack.InputStack.{InputStack}
 use Rattle.input_state.specs.HeldLists.{HeldLists}
 use Rattle.input_state.specs.Macros.{KeepsLists}
-use Rattle.input_state.specs.HeldViews.{fronts, line_of, texts, lists_of, builds, IsSimple, IsApart, IsSound}
+use Rattle.input_state.specs.HeldViews.{Named, fronts, line_of, texts, lists_of, all_builds, IsSimple, IsApart, IsSound}
 use Rattle.input_state.proofs.Shares.{Fewer, apart_fewer, fewer_none, fewer_settled}
 use Rattle.input_state.proofs.Levels.{simple_settled}
 use Rattle.input_state.proofs.Sharing.{Moved}
@@ -34,7 +34,7 @@ no_sources : (bs : List Below) → line_of bs ≡ None → bs ≡ []
 no_sources [] e = refl
 no_sources (b ∷ bs) e = absurd (none-some b.source.line (sym e))
 
-module _ (old new : List (Option Entry)) (s t : InputStack) (making : Option Build) (gathered : List Build) (m : Map) (sizes : Sizes) (capacity : ℕ) (sound : IsSound old s making gathered m sizes capacity) (stands : Stands new t) (moves : Moves old new (held s) (held t)) (keeps : Keeps old new (held s)) (lasts : Lasts old new) (size : t.size ≡ s.size) (parameters : t.parameter_size ≡ s.parameter_size) (v : HeldLists) (is : lists_of old (pending old s) making gathered m sizes ≡ v) (front : v.puts ≡ []) (closed : v.line ≡ None) (id : Option InId) (line : Line) where
+module _ (old new : List (Option Entry)) (s t : InputStack) (making : Option Build) (gathered : List Build) (m : Named) (sizes : Sizes) (capacity : ℕ) (sound : IsSound old s making gathered m sizes capacity) (stands : Stands new t) (moves : Moves old new (held s) (held t)) (keeps : Keeps old new (held s)) (lasts : Lasts old new) (size : t.size ≡ s.size) (parameters : t.parameter_size ≡ s.parameter_size) (v : HeldLists) (is : lists_of old (pending old s) making gathered m sizes ≡ v) (front : v.puts ≡ []) (closed : v.line ≡ None) (id : Option InId) (line : Line) where
   no_lists : (pending old s).puts ≡ []
   no_lists = no_puts old (pending old s).puts (ap (λ (w : HeldLists). w.puts) is ∙ front)
 
@@ -70,17 +70,17 @@ module _ (old new : List (Option Entry)) (s t : InputStack) (making : Option Bui
   after_fewer (Err f) ok err = subst (λ (p : Pending). Fewer p.puts (pending old s).puts) (sym err) (fewer_settled (pending old s).puts)
 
   module _ (r : Result Unit Full) (ok : OnOk r (pending new t ≡ open_over id line (settle (pending old s)))) (err : OnErr r (pending new t ≡ settle (pending old s))) where
-    apart_now : IsApart (pending new t).puts (builds making gathered) m
-    apart_now = apart_fewer (pending new t).puts (pending old s).puts (builds making gathered) m (after_fewer r ok err) sound.shared.apart
+    apart_now : IsApart (pending new t).puts (all_builds making gathered) m
+    apart_now = apart_fewer (pending new t).puts (pending old s).puts (all_builds making gathered) m (after_fewer r ok err) sound.shared.apart
 
-    moved_now : Moved old new t m (builds making gathered)
+    moved_now : Moved old new t m (all_builds making gathered)
     moved_now = levels_moved old new s t making gathered m sizes capacity sound stands moves keeps lasts size parameters (after_simple r ok err) apart_now
 
     pub open_sound : IsSound new t making gathered m sizes capacity
     open_sound = levels_sound old new s t making gathered m sizes capacity sound stands moves keeps lasts size parameters (after_simple r ok err) apart_now
 
-    pub open_macros : KeepsLists m.cells (fronts new (pending new t).puts) v.lists (texts new)
-    open_macros = macros_moved old new t m sizes (builds making gathered) v.lists moved_now (ap (λ (w : HeldLists). w.lists) is)
+    pub open_macros : KeepsLists m.map.cells (fronts new (pending new t).puts) v.lists (texts new)
+    open_macros = macros_moved old new t m sizes (all_builds making gathered) v.lists moved_now (ap (λ (w : HeldLists). w.lists) is)
 
     -- the lists are as they were, in front of what is pending then
     pub open_view : lists_of new (pending new t) making gathered m sizes ≡ record v { puts = fronts old (pending new t).puts; line = line_of (pending new t).sources; lists = texts new }

@@ -16,24 +16,24 @@ use Rattle.input_stack.specs.declared.level.Pulled.{Pulled as Given}
 use Rattle.input_stack.specs.declared.stack.InputStack.{InputStack}
 use Rattle.input_state.specs.HeldLists.{HeldLists, line_levels}
 use Rattle.input_state.specs.Macros.{KeepsLists}
-use Rattle.input_state.specs.HeldViews.{fronts, line_of, texts, lists_of, builds, IsSimple, IsApart, IsSound}
+use Rattle.input_state.specs.HeldViews.{Named, fronts, line_of, texts, lists_of, all_builds, IsSimple, IsApart, IsSound}
 use Rattle.input_state.proofs.Shares.{apart_fewer}
 use Rattle.input_state.proofs.Sharing.{Moved}
 use Rattle.input_state.proofs.ListViews.{moved_view, macros_moved}
 use Rattle.input_state.proofs.Sounds.{levels_moved, levels_sound}
 use Rattle.input_state.proofs.Pulling.{pull_single, pull_simple, pull_fewer, plain_lasts}
 
-module _ (old new : List (Option Entry)) (s t : InputStack) (making : Option Build) (gathered : List Build) (m : Map) (sizes : Sizes) (capacity : ℕ) (sound : IsSound old s making gathered m sizes capacity) (stands : Stands new t) (moves : Moves old new (held s) (held t)) (keeps : Keeps old new (held s)) (lasting : LastsBut old new (opened (next_item (pending old s).puts))) (size : t.size ≡ s.size) (parameters : t.parameter_size ≡ s.parameter_size) (n : ℕ) (c b d : List ℕ) (r : Result Given Full) (pulls : Pulls n c b d (pending old s) (pending new t) r) where
+module _ (old new : List (Option Entry)) (s t : InputStack) (making : Option Build) (gathered : List Build) (m : Named) (sizes : Sizes) (capacity : ℕ) (sound : IsSound old s making gathered m sizes capacity) (stands : Stands new t) (moves : Moves old new (held s) (held t)) (keeps : Keeps old new (held s)) (lasting : LastsBut old new (opened (next_item (pending old s).puts))) (size : t.size ≡ s.size) (parameters : t.parameter_size ≡ s.parameter_size) (n : ℕ) (c b d : List ℕ) (r : Result Given Full) (pulls : Pulls n c b d (pending old s) (pending new t) r) where
   lasts : Lasts old new
   lasts = plain_lasts old new (pending old s).puts sound.shared.simple.plain lasting
 
   simple : IsSimple (pending new t)
   simple = pull_simple n c b d (pending old s) (pending new t) r pulls sound.shared.simple
 
-  apart : IsApart (pending new t).puts (builds making gathered) m
-  apart = apart_fewer (pending new t).puts (pending old s).puts (builds making gathered) m (pull_fewer n c b d (pending old s) (pending new t) r pulls) sound.shared.apart
+  apart : IsApart (pending new t).puts (all_builds making gathered) m
+  apart = apart_fewer (pending new t).puts (pending old s).puts (all_builds making gathered) m (pull_fewer n c b d (pending old s) (pending new t) r pulls) sound.shared.apart
 
-  moved_now : Moved old new t m (builds making gathered)
+  moved_now : Moved old new t m (all_builds making gathered)
   moved_now = levels_moved old new s t making gathered m sizes capacity sound stands moves keeps lasts size parameters simple apart
 
   pub pulled_sound : IsSound new t making gathered m sizes capacity
@@ -47,8 +47,8 @@ module _ (old new : List (Option Entry)) (s t : InputStack) (making : Option Bui
       ap (λ (w : HeldLists). record w { puts = fronts new (pending new t).puts; line = line_of (pending new t).sources; lists = texts new }) pulled_view
       ∙ ap (λ (w : HeldLists). record w { puts = fronts new (pending new t).puts; line = line_of (pending new t).sources; lists = texts new }) is
 
-  pub pulled_macros : (v : HeldLists) → lists_of old (pending old s) making gathered m sizes ≡ v → KeepsLists m.cells (fronts new (pending new t).puts) v.lists (texts new)
-  pulled_macros v is = macros_moved old new t m sizes (builds making gathered) v.lists moved_now (ap (λ (w : HeldLists). w.lists) is)
+  pub pulled_macros : (v : HeldLists) → lists_of old (pending old s) making gathered m sizes ≡ v → KeepsLists m.map.cells (fronts new (pending new t).puts) v.lists (texts new)
+  pulled_macros v is = macros_moved old new t m sizes (all_builds making gathered) v.lists moved_now (ap (λ (w : HeldLists). w.lists) is)
 
   pub pulled_levels : (v : HeldLists) → lists_of old (pending old s) making gathered m sizes ≡ v → line_levels (line_of (pending new t).sources) ≡ line_levels v.line
   pulled_levels v is = (pull_single n c b d (pending old s) (pending new t) r pulls).1 ∙ ap (λ (w : HeldLists). line_levels w.line) is

@@ -8,7 +8,7 @@ use Rattle.plain_state.specs.Puts as plain
 use Rattle.plain_state.specs.Tables.{refused}
 use Rattle.token_lists.specs.declared.Build.{Build}
 use Rattle.token_lists.specs.Ids.{build_id}
-use Rattle.token_lists.specs.Table.{Entry, tokens_at}
+use Rattle.token_lists.specs.Table.{Entry, tokens_at, holders_at}
 use Rattle.token_lists.specs.Accounts.{holds, Moves, Keeps}
 use Rattle.meanings.specs.Map.{Map}
 use Rattle.meanings.specs.Holding as meant
@@ -20,19 +20,20 @@ use Rattle.input_stack.specs.Lasting.{Lasts}
 use Rattle.input_stack.specs.declared.stack.InputStack.{InputStack}
 use Rattle.input_state.specs.HeldLists.{HeldLists, made, level_held}
 use Rattle.input_state.specs.Macros.{KeepsLists}
-use Rattle.input_state.specs.HeldViews.{fronts, text, texts, line_of, lists_of, builds, built, owns, IsSimple, IsApart, IsDefined, IsShared, IsSound}
+use Rattle.input_state.specs.HeldViews.{Named, calling_of, fronts, text, texts, line_of, lists_of, all_builds, built, owns, IsSimple, IsApart, IsDefined, IsShared, IsSound}
 use Rattle.input_state.proofs.Counting.{times_cons}
 use Rattle.input_state.proofs.Shares.{apart_fewer, fewer_put}
 use Rattle.input_state.proofs.Sounds.{sized_now}
 use Rattle.input_state.proofs.Fronts.{token_front, fronts_put}
 use Rattle.input_state.proofs.Levels.{levels_used, simple_put}
+use Rattle.input_state.proofs.CallStays.{call_stays}
 use Rattle.input_state.proofs.Sharing.{Moved, moved, built_cons}
 use Rattle.input_state.proofs.ListViews.{held_lists, moved_view, macros_moved}
 use Rattle.input_state.proofs.Refusing.{levels_refused}
 
-module _ (old new : List (Option Entry)) (s t : InputStack) (a : Build) (gathered : List Build) (m : Map) (sizes : Sizes) (n capacity : ℕ) (making : Option Build) (some : making ≡ Some a) (sound : IsSound old s making gathered m sizes capacity) (same : n ≡ build_id a) where
+module _ (old new : List (Option Entry)) (s t : InputStack) (a : Build) (gathered : List Build) (m : Named) (sizes : Sizes) (n capacity : ℕ) (making : Option Build) (some : making ≡ Some a) (sound : IsSound old s making gathered m sizes capacity) (same : n ≡ build_id a) where
   shared_now : IsShared old s (a ∷ reverse gathered) m
-  shared_now = subst (λ (x : Option Build). IsShared old s (builds x gathered) m) some sound.shared
+  shared_now = subst (λ (x : Option Build). IsShared old s (all_builds x gathered) m) some sound.shared
 
   module _ (stands : Stands new t) (after : pending new t ≡ put (plain_put n (tokens_at old n)) (pending old s)) (moves : Moves old new (λ h. holds n h + held s h) (held t)) (keeps : Keeps old new (λ h. holds n h + held s h)) (lasts : Lasts old new) (size : t.size ≡ s.size) (parameters : t.parameter_size ≡ s.parameter_size) where
     own_now : (h : ℕ) → built (a ∷ []) h ≡ holds n h
@@ -48,7 +49,7 @@ module _ (old new : List (Option Entry)) (s t : InputStack) (a : Build) (gathere
     apart_now : IsApart (pending new t).puts (reverse gathered) m
     apart_now = subst (λ (p : Pending). IsApart p.puts (reverse gathered) m) (sym after) (apart_fewer _ _ (reverse gathered) m (fewer_put (plain_put n (tokens_at old n)) (pending old s).puts) apart_first)
 
-    macros_now : (h : ℕ) → 0 < meant.held m h → IsDefined (tokens_at new h)
+    macros_now : (h : ℕ) → 0 < meant.held m.map h → IsDefined (tokens_at new h)
     macros_now h more = subst IsDefined (sym (lasts.tokens h (omega (arith, more, moves h, shared_now.counted h, built_cons a (reverse gathered) h, ap (λ (k : ℕ). holds k h) same)))) (shared_now.macros h more)
 
     moved_now : Moved old new t m (reverse gathered)
@@ -58,12 +59,17 @@ module _ (old new : List (Option Entry)) (s t : InputStack) (a : Build) (gathere
         apart_now
         (λ h. omega (arith, moves h, own_now h))
         (record { tokens = λ h l. keeps.tokens h (omega (arith, l, own_now h)); places = λ h l. keeps.places h (omega (arith, l, own_now h)) })
-        lasts.tokens macros_now
+        lasts.tokens macros_now (λ h. refl)
 
     pub put_sound : (now : Option Build) → now ≡ None → IsSound new t now gathered m sizes capacity
     put_sound now none = record {
-      shared = subst (λ (x : Option Build). IsShared new t (builds x gathered) m) (sym none) moved_now.shared;
+      shared = subst (λ (x : Option Build). IsShared new t (all_builds x gathered) m) (sym none) moved_now.reheld.shared;
       sized = sized_now old new s t m sizes capacity capacity sound.sized lasts.size size parameters refl;
+      call =
+          let now = moved_now.reheld.shared.counted in
+          let there : (h : ℕ) → 0 < meant.held m.map h → holds n h + held s h < holders_at old h = λ h some. omega (arith, some, shared_now.counted h, built_cons a (reverse gathered) h, ap (λ (k : ℕ). holds k h) same) in
+          call_stays old new m.map m.call moved_now.called (record { tokens = λ h some. keeps.tokens h (there h some); places = λ h some. keeps.places h (there h some) })
+          (record { covers = λ h. omega (arith, now h); outside = λ h some. omega (arith, now h, some) }) sound.call;
     }
 
     pub put_view : (now : Option Build) (v : HeldLists) → now ≡ None → lists_of old (pending old s) making gathered m sizes ≡ v → plain.settled v.puts ≡ v.puts →
@@ -76,10 +82,10 @@ module _ (old new : List (Option Entry)) (s t : InputStack) (a : Build) (gathere
         ap (λ (x : Option Build). lists_of new (pending new t) x gathered m sizes) none
         ∙ moved_view old new t m sizes None gathered moved_now
         ∙ ap (λ (p : Pending). record (lists_of old p None gathered m sizes) { lists = texts new }) after
-        ∙ ap (λ (qs : List plain.Put). held_lists qs None (map (text old) (reverse gathered)) (line_of (pending old s).sources) m sizes (texts new)) (fronts_put old (plain_put n (tokens_at old n)) ps quiet ∙ ap (λ (x : plain.Put). plain.with_put x (fronts old ps)) (token_front old n (tokens_at old n) refl ∙ ap plain.token_put tokens))
+        ∙ ap (λ (qs : List plain.Put). held_lists qs None (calling_of old m.call) (map (text old) (reverse gathered)) (line_of (pending old s).sources) m.map sizes (texts new)) (fronts_put old (plain_put n (tokens_at old n)) ps quiet ∙ ap (λ (x : plain.Put). plain.with_put x (fronts old ps)) (token_front old n (tokens_at old n) refl ∙ ap plain.token_put tokens))
         ∙ ap (λ (w : HeldLists). record w { puts = plain.with_put (plain.token_put (made w.making)) w.puts; making = None; lists = texts new }) was
 
-    pub put_macros : (v : HeldLists) → lists_of old (pending old s) making gathered m sizes ≡ v → KeepsLists m.cells (fronts new (pending new t).puts) v.lists (texts new)
+    pub put_macros : (v : HeldLists) → lists_of old (pending old s) making gathered m sizes ≡ v → KeepsLists m.map.cells (fronts new (pending new t).puts) v.lists (texts new)
     put_macros v is = macros_moved old new t m sizes (reverse gathered) v.lists moved_now (ap (λ (w : HeldLists). w.lists) is)
 
   refusal_none : (ts : List Token) (p : Pending) (size : ℕ) → room size (used_levels p) ≡ None → refusal size (map Text ts) p ≡ None

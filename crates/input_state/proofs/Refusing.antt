@@ -20,6 +20,9 @@ gt_test a b h = grind (arith, nat_tests)
 pub memory_fits : (sizes : Sizes) (w n : ℕ) → w < n → n ≡ sizes.main_memory_size → refused sizes (memory 1 w ∷ []) ≡ None
 memory_fits sizes w n below size = ap (λ (b : Bool). if b then None else Some (full sizes (memory 1 w))) (le_test (w + 1) sizes.main_memory_size (omega (arith, below, size)))
 
+pub memory_room : (sizes : Sizes) (w n : ℕ) → w + n ≤ sizes.main_memory_size → refused sizes (memory n w ∷ []) ≡ None
+memory_room sizes w n fits = ap (λ (b : Bool). if b then None else Some (full sizes (memory n w))) (le_test (w + n) sizes.main_memory_size fits)
+
 same_full : (t u : Table) (a b c d : ℕ) → t ≡ u → a ≡ b → c ≡ d → ◌≡◌ {A = Full} (record { table = t; used = a; size = c }) (record { table = u; used = b; size = d })
 same_full t u a b c d e f g = rw (e, f, g) refl
 

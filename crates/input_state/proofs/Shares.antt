@@ -18,7 +18,7 @@ use Rattle.input_stack.specs.declared.stack.InputStack.{InputStack}
 use Rattle.input_stack.proofs.Helds.{held_puts}
 use Rattle.token_lists.specs.declared.Build.{Build}
 use Rattle.input_state.specs.Macros.{is_macro}
-use Rattle.input_state.specs.HeldViews.{front, fronts, whole_of, own_of, owns, body_of, bodies, opens, IsSingle, IsApart}
+use Rattle.input_state.specs.HeldViews.{Named, front, fronts, whole_of, own_of, owns, body_of, bodies, opens, IsSingle, IsApart}
 use Rattle.input_state.proofs.Counting.{some, bit, or_some, times_cons, times_append}
 
 -- PARTS
@@ -56,7 +56,7 @@ pub record Fewer (ps qs : List Put) : Type 0 where
   pub owns : (h : ℕ) → times h (owns ps) ≤ times h (owns qs)
   pub bodies : (h : ℕ) → times h (bodies ps) ≤ times h (bodies qs)
 
-pub apart_fewer : (ps qs : List Put) (bs : List Build) (m : Map) → Fewer ps qs → IsApart qs bs m → IsApart ps bs m
+pub apart_fewer : (ps qs : List Put) (bs : List Build) (m : Named) → Fewer ps qs → IsApart qs bs m → IsApart ps bs m
 apart_fewer ps qs bs m f a = record {
   sole = λ h. omega (arith, f.owns h, a.sole h);
   apart = λ h more. omega (arith, f.bodies h, a.apart h (omega (arith, more, f.owns h)));

@@ -21,7 +21,7 @@ use Rattle.input_stack.proofs.Helds.{others}
 use Rattle.input_stack.proofs.Kept.{holds_itself}
 use Rattle.input_state.specs.Changes.{IsOnly}
 use Rattle.input_state.specs.Macros.{list_at, is_macro, KeepsLists}
-use Rattle.input_state.specs.HeldViews.{fronts, text, texts, built, owns, bodies, IsSingle, IsSimple, IsApart, IsDefined, IsShared}
+use Rattle.input_state.specs.HeldViews.{Named, call_holds, names_hold, fronts, text, texts, built, owns, bodies, IsSingle, IsSimple, IsApart, IsDefined, IsShared}
 use Rattle.input_state.proofs.Counting.{some, one_some}
 use Rattle.input_state.proofs.Shares.{held_parts, meant_once, macro_once}
 use Rattle.input_state.proofs.Levels.{plain_opens, fronts_stay}
@@ -100,7 +100,8 @@ only_keeps old new id f only mine =
 -- WHAT IS HELD
 
 -- nothing but the levels and the builds holds a list that one of these has for itself
-pub own_alone : (table : List (Option Entry)) (stack : InputStack) (bs : List Build) (m : Map) → IsSimple (pending table stack) → IsApart (pending table stack).puts bs m → (h : ℕ) → 0 < built bs h → (built bs h ≡ 1) × (held stack h ≡ 0) × (meant.held m h ≡ 0)
+pub own_alone : (table : List (Option Entry)) (stack : InputStack) (bs : List Build) (m : Named) → IsSimple (pending table stack) → IsApart (pending table stack).puts bs m → (h : ℕ) → 0 < built bs h + call_holds m.call h →
+    (built bs h + call_holds m.call h ≡ 1) × (held stack h ≡ 0) × (meant.held m.map h ≡ 0)
 own_alone table stack bs m simple a h some =
     let ps = (pending table stack).puts in
     let none = a.apart h (omega (arith, some)) in
@@ -124,28 +125,28 @@ pub keeps_lists : (old new table t : List (Option Entry)) (stack : InputStack) (
 keeps_lists old new table t stack m single same = record { tokens = λ id is. text_at new id ∙ same id (macro_held table t stack m single id is) ∙ sym (text_at old id) }
 
 -- each macro's list is one
-pub macros_defined : (table : List (Option Entry)) (stack : InputStack) (bs : List Build) (m : Map) → IsShared table stack bs m → (id : ℕ) → is_meant id m.cells ≡ true → IsDefined (list_at (texts table) id)
+pub macros_defined : (table : List (Option Entry)) (stack : InputStack) (bs : List Build) (m : Named) → IsShared table stack bs m → (id : ℕ) → is_meant id m.map.cells ≡ true → IsDefined (list_at (texts table) id)
 macros_defined table stack bs m shared id is =
-    let one : some (meant.held m id) ≡ 1 = sym (meant_once id m.cells) ∙ ap (λ (b : Bool). cond b 1 0) is in
-    subst IsDefined (sym (text_at table id)) (shared.macros id (one_some (meant.held m id) one))
+    let one : some (meant.held m.map id) ≡ 1 = sym (meant_once id m.map.cells) ∙ ap (λ (b : Bool). cond b 1 0) is in
+    subst IsDefined (sym (text_at table id)) (shared.macros id (one_some (meant.held m.map id) one))
 
 -- A LIST THAT IS BEING BUILT CHANGES
 
 -- Some builds have given way to others; what else is held is as it was.
-pub record Changed (old new : List (Option Entry)) (stack : InputStack) (m : Map) (xs zs ys : List Build) : Type 0 where
+pub record Changed (old new : List (Option Entry)) (stack : InputStack) (m : Named) (xs zs ys : List Build) : Type 0 where
   pub shared : IsShared new stack (xs ++ (zs ++ ys)) m
   pub still : pending new stack ≡ pending old stack
   pub in_front : fronts new (pending old stack).puts ≡ fronts old (pending old stack).puts
   pub before : map (text new) xs ≡ map (text old) xs
   pub behind : map (text new) ys ≡ map (text old) ys
-  pub kept : (h : ℕ) → 0 < held stack h + meant.held m h → tokens_at new h ≡ tokens_at old h
+  pub stays : Stay old new (λ h. held stack h + names_hold m h)
 
-module _ (old new : List (Option Entry)) (stack : InputStack) (m : Map) (xs zs us ys : List Build) (id : ℕ) (shared : IsShared old stack (xs ++ (zs ++ ys)) m) (only : IsOnly old new id) (mine : holders_at old id ≡ built zs id) (moves : Moves old new (built zs) (built us)) (building : All (IsBuilding new) us) (sole : holders_at new id ≤ 1) where
+module _ (old new : List (Option Entry)) (stack : InputStack) (m : Named) (xs zs us ys : List Build) (id : ℕ) (shared : IsShared old stack (xs ++ (zs ++ ys)) m) (only : IsOnly old new id) (mine : holders_at old id ≡ built zs id) (moves : Moves old new (built zs) (built us)) (building : All (IsBuilding new) us) (sole : holders_at new id ≤ 1) where
   parts : (vs : List Build) (h : ℕ) → built (xs ++ (vs ++ ys)) h ≡ built xs h + (built vs h + built ys h)
   parts vs h = omega (arith, built_append xs (vs ++ ys) h, built_append vs ys h)
 
   rest : ℕ → ℕ
-  rest h = held stack h + (built xs h + (built ys h + meant.held m h))
+  rest h = held stack h + (built xs h + (built ys h + names_hold m h))
 
   apart : rest id ≡ 0
   unfolding rest
@@ -165,9 +166,9 @@ module _ (old new : List (Option Entry)) (stack : InputStack) (m : Map) (xs zs u
   unfolding rest
   behind_stays = stay_less old new rest (built ys) (λ h. omega arith) stays
 
-  held_stays : Stay old new (λ h. held stack h + meant.held m h)
+  held_stays : Stay old new (λ h. held stack h + names_hold m h)
   unfolding rest
-  held_stays = stay_less old new rest (λ h. held stack h + meant.held m h) (λ h. omega arith) stays
+  held_stays = stay_less old new rest (λ h. held stack h + names_hold m h) (λ h. omega arith) stays
 
   now_building : All (IsBuilding new) (xs ++ (us ++ ys))
   now_building =
@@ -179,21 +180,21 @@ module _ (old new : List (Option Entry)) (stack : InputStack) (m : Map) (xs zs u
   same_builds : (h : ℕ) → (h ≡ id → ⊥) → built us h ≡ built zs h
   same_builds h ne = omega (arith, moves h, ap holders_of (only.apart h ne))
 
-  one_place : (h : ℕ) → times h (owns (pending old stack).puts) + built (xs ++ (us ++ ys)) h ≤ 1
+  one_place : (h : ℕ) → times h (owns (pending old stack).puts) + (built (xs ++ (us ++ ys)) h + call_holds m.call h) ≤ 1
   unfolding rest
   one_place h = elim (cases_eq h id) [
     | inl is ↦
-        let here : times id (owns (pending old stack).puts) + built (xs ++ (us ++ ys)) id ≤ 1 = omega (arith, apart, sole, moves id, mine, parts us id, held_parts old stack shared.simple.single id) in
-        subst (λ (k : ℕ). times k (owns (pending old stack).puts) + built (xs ++ (us ++ ys)) k ≤ 1) (sym is) here
+        let here : times id (owns (pending old stack).puts) + (built (xs ++ (us ++ ys)) id + call_holds m.call id) ≤ 1 = omega (arith, apart, sole, moves id, mine, parts us id, held_parts old stack shared.simple.single id) in
+        subst (λ (k : ℕ). times k (owns (pending old stack).puts) + (built (xs ++ (us ++ ys)) k + call_holds m.call k) ≤ 1) (sym is) here
     | inr other ↦ omega (arith, shared.apart.sole h, same_builds h other, parts us h, parts zs h)
   ]
 
-  no_macro : (h : ℕ) → 0 < times h (owns (pending old stack).puts) + built (xs ++ (us ++ ys)) h → times h (bodies (pending old stack).puts) + meant.held m h ≡ 0
+  no_macro : (h : ℕ) → 0 < times h (owns (pending old stack).puts) + (built (xs ++ (us ++ ys)) h + call_holds m.call h) → times h (bodies (pending old stack).puts) + meant.held m.map h ≡ 0
   unfolding rest
   no_macro h more = elim (cases_eq h id) [
     | inl is ↦
-        let here : times id (bodies (pending old stack).puts) + meant.held m id ≡ 0 = omega (arith, apart, held_parts old stack shared.simple.single id) in
-        subst (λ (k : ℕ). times k (bodies (pending old stack).puts) + meant.held m k ≡ 0) (sym is) here
+        let here : times id (bodies (pending old stack).puts) + meant.held m.map id ≡ 0 = omega (arith, apart, held_parts old stack shared.simple.single id) in
+        subst (λ (k : ℕ). times k (bodies (pending old stack).puts) + meant.held m.map k ≡ 0) (sym is) here
     | inr other ↦ shared.apart.apart h (omega (arith, more, same_builds h other, parts us h, parts zs h))
   ]
 
@@ -211,47 +212,80 @@ module _ (old new : List (Option Entry)) (stack : InputStack) (m : Map) (xs zs u
     in_front = fronts_stay old new (pending old stack).puts (λ h some. held_stays.tokens h (omega (arith, some, held_parts old stack shared.simple.single h)));
     before = texts_stay old new xs before_stays;
     behind = texts_stay old new ys behind_stays;
-    kept = held_stays.tokens;
+    stays = held_stays;
   }
 
 -- THE HOLDERS CHANGE
 
--- Levels and names let lists go, or take some over; what is being built is as it was.
-pub record Moved (old new : List (Option Entry)) (t : InputStack) (m : Map) (bs : List Build) : Type 0 where
+-- Levels, names and the call let lists go, or take some over; what is being built is as it was.
+pub record Reheld (old new : List (Option Entry)) (t : InputStack) (m : Named) (bs : List Build) : Type 0 where
   pub shared : IsShared new t bs m
   pub in_front : fronts new (pending new t).puts ≡ fronts old (pending new t).puts
   pub texts : map (text new) bs ≡ map (text old) bs
-  pub kept : (h : ℕ) → 0 < held t h + meant.held m h → tokens_at new h ≡ tokens_at old h
+  pub kept : (h : ℕ) → 0 < held t h + meant.held m.map h → tokens_at new h ≡ tokens_at old h
 
-module _ (old new : List (Option Entry)) (s t : InputStack) (m n : Map) (zs bs : List Build) (shared : IsShared old s (zs ++ bs) m) (stands : Stands new t) (simple : IsSimple (pending new t)) (apart : IsApart (pending new t).puts bs n) (moves : (h : ℕ) → holders_at new h + (built zs h + (held s h + meant.held m h)) ≡ holders_at old h + (held t h + meant.held n h)) (keeps : Keeps old new (λ h. built zs h + (held s h + meant.held m h))) (lasts : (h : ℕ) → 0 < holders_at new h → tokens_at new h ≡ tokens_at old h) (macros : (h : ℕ) → 0 < meant.held n h → IsDefined (tokens_at new h)) where
-  counted_now : (h : ℕ) → holders_at new h ≡ held t h + (built bs h + meant.held n h)
+-- the call has none of them
+pub record Moved (old new : List (Option Entry)) (t : InputStack) (m : Named) (bs : List Build) : Type 0 where
+  pub reheld : Reheld old new t m bs
+  pub called : Stay old new (call_holds m.call)
+
+module _ (old new : List (Option Entry)) (s t : InputStack) (m n : Named) (zs bs : List Build) (shared : IsShared old s (zs ++ bs) m) (moves : (h : ℕ) → holders_at new h + (built zs h + (held s h + names_hold m h)) ≡ holders_at old h + (held t h + names_hold n h)) where
+  pub counted_now : (h : ℕ) → holders_at new h ≡ held t h + (built bs h + names_hold n h)
   counted_now h = omega (arith, shared.counted h, moves h, built_append zs bs h)
 
-  -- a list that is being built has that one holder, before and now
-  alone : (h : ℕ) → 0 < built bs h → (holders_at old h ≡ 1) × (holders_at new h ≡ 1) × (built zs h + (held s h + meant.held m h) ≡ 0)
-  alone h some =
-      let was = own_alone old s (zs ++ bs) m shared.simple shared.apart h (omega (arith, some, built_append zs bs h)) in
-      let now = own_alone new t bs n simple apart h some in
-      (omega (arith, was.0, was.1, was.2, shared.counted h), omega (arith, now.0, now.1, now.2, counted_now h), omega (arith, was.0, was.1, was.2, now.0, built_append zs bs h))
+  module _ (stands : Stands new t) (simple : IsSimple (pending new t)) (apart : IsApart (pending new t).puts bs n) where
+    -- a list that is being built has that one holder, before and now
+    alone : (h : ℕ) → 0 < built bs h → (holders_at old h ≡ 1) × (holders_at new h ≡ 1) × (built zs h + (held s h + names_hold m h) ≡ 0)
+    alone h some =
+        let was = own_alone old s (zs ++ bs) m shared.simple shared.apart h (omega (arith, some, built_append zs bs h)) in
+        let now = own_alone new t bs n simple apart h (omega (arith, some)) in
+        (omega (arith, was.0, was.1, was.2, shared.counted h), omega (arith, now.0, now.1, now.2, counted_now h), omega (arith, was.0, was.1, was.2, some, built_append zs bs h))
 
-  built_stay : Stay old new (built bs)
-  built_stay = record {
-    tokens = λ h some. keeps.tokens h (omega (arith, (alone h some).0, (alone h some).2));
-    places = λ h some. keeps.places h (omega (arith, (alone h some).0, (alone h some).2));
-    holders = λ h some. (alone h some).1 ∙ sym (alone h some).0;
-  }
+    -- so has a list of the call, if that is as it was
+    pub call_alone : (h : ℕ) → call_holds n.call h ≡ call_holds m.call h → 0 < call_holds n.call h → (holders_at old h ≡ 1) × (holders_at new h ≡ 1) × (built zs h + (held s h + meant.held m.map h) ≡ 0)
+    call_alone h same some =
+        let was = own_alone old s (zs ++ bs) m shared.simple shared.apart h (omega (arith, some, same)) in
+        let now = own_alone new t bs n simple apart h (omega (arith, some)) in
+        (omega (arith, was.0, was.1, was.2, shared.counted h), omega (arith, now.0, now.1, now.2, counted_now h), omega (arith, was.0, was.1, was.2, some, same, built_append zs bs h))
+
+    module _ (keeps : Keeps old new (λ h. built zs h + (held s h + names_hold m h))) (lasts : (h : ℕ) → 0 < held t h + meant.held n.map h → tokens_at new h ≡ tokens_at old h) (macros : (h : ℕ) → 0 < meant.held n.map h → IsDefined (tokens_at new h)) where
+      built_stay : Stay old new (built bs)
+      built_stay = record {
+        tokens = λ h some. keeps.tokens h (omega (arith, (alone h some).0, (alone h some).2));
+        places = λ h some. keeps.places h (omega (arith, (alone h some).0, (alone h some).2));
+        holders = λ h some. (alone h some).1 ∙ sym (alone h some).0;
+      }
+
+      pub reheld : Reheld old new t n bs
+      reheld = record {
+        shared = record {
+          stands = stands;
+          simple = simple;
+          building = building_stays old new bs built_stay (all_right old zs bs shared.building);
+          counted = counted_now;
+          apart = apart;
+          macros = macros;
+        };
+        in_front = fronts_stay old new (pending new t).puts (λ h some. lasts h (omega (arith, some, held_parts new t simple.single h)));
+        texts = texts_stay old new bs built_stay;
+        kept = lasts;
+      }
+
+module _ (old new : List (Option Entry)) (s t : InputStack) (m n : Named) (zs bs : List Build) (shared : IsShared old s (zs ++ bs) m) (stands : Stands new t) (simple : IsSimple (pending new t)) (apart : IsApart (pending new t).puts bs n) (moves : (h : ℕ) → holders_at new h + (built zs h + (held s h + meant.held m.map h)) ≡ holders_at old h + (held t h + meant.held n.map h)) (keeps : Keeps old new (λ h. built zs h + (held s h + meant.held m.map h))) (lasts : (h : ℕ) → 0 < holders_at new h → tokens_at new h ≡ tokens_at old h) (macros : (h : ℕ) → 0 < meant.held n.map h → IsDefined (tokens_at new h)) (same : (h : ℕ) → call_holds n.call h ≡ call_holds m.call h) where
+  moves_all : (h : ℕ) → holders_at new h + (built zs h + (held s h + names_hold m h)) ≡ holders_at old h + (held t h + names_hold n h)
+  moves_all h = omega (arith, moves h, same h)
 
   pub moved : Moved old new t n bs
   moved = record {
-    shared = record {
-      stands = stands;
-      simple = simple;
-      building = building_stays old new bs built_stay (all_right old zs bs shared.building);
-      counted = counted_now;
-      apart = apart;
-      macros = macros;
-    };
-    in_front = fronts_stay old new (pending new t).puts (λ h some. lasts h (omega (arith, some, counted_now h, held_parts new t simple.single h)));
-    texts = texts_stay old new bs built_stay;
-    kept = λ h some. lasts h (omega (arith, some, counted_now h));
+    reheld =
+        reheld old new s t m n zs bs shared moves_all stands simple apart
+        (record { tokens = λ h l. keeps.tokens h (omega (arith, l)); places = λ h l. keeps.places h (omega (arith, l)) })
+        (λ h some. lasts h (omega (arith, some, counted_now old new s t m n zs bs shared moves_all h))) macros;
+    called =
+        let alone = λ (h : ℕ). call_alone old new s t m n zs bs shared moves_all stands simple apart h (same h) in
+        record {
+          tokens = λ h some. keeps.tokens h (omega (arith, (alone h some).0, (alone h some).2));
+          places = λ h some. keeps.places h (omega (arith, (alone h some).0, (alone h some).2));
+          holders = λ h some. (alone h some).1 ∙ sym (alone h some).0;
+        };
   }

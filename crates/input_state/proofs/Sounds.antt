@@ -1,6 +1,7 @@
 -- All stands after one list has changed, or the levels have.
 use Rattle.std.proofs.Common.{◌≡◌, ℕ, ◌+◌, ◌<◌, ◌≤◌, List, [], ◌∷◌, ◌++◌, length, map, reverse, replicate, zero, suc, Option, None, Some, Result, Ok, Err, refl, sym, ap, ◌∙◌, subst, arith}
 use Rattle.std.specs.Prelude.{option_to_list, OnOk, IfErr, MatchResult}
+use Rattle.std.proofs.lemmas.List.Sums.{sum_by-append}
 use Rattle.std.proofs.lemmas.List.Elements.{All-head, All-cons, All-nil}
 use Rattle.tex_defs.specs.declared.Sizes.{Sizes}
 use Rattle.tex_defs.specs.declared.Full.{Full}
@@ -8,7 +9,7 @@ use Rattle.tex_defs.specs.declared.Token.{Token}
 use Rattle.tex_defs.specs.Sizes.{first_out_of_range}
 use Rattle.plain_state.specs.Meanings.{fixed_locations, primitive_count, first_meanings}
 use Rattle.plain_state.specs.Names.{is_primitive}
-use Rattle.plain_state.specs.Tables.{memory, refused}
+use Rattle.plain_state.specs.Tables.{memory, refused, list_words}
 use Rattle.plain_state.specs.Puts as plain
 use Rattle.token_lists.specs.declared.Build.{Build}
 use Rattle.token_lists.specs.Ids.{build_id, IsBuilding}
@@ -30,11 +31,14 @@ use Rattle.input_stack.proofs.Kept.{holds_itself}
 use Rattle.input_state.specs.Changes.{IsOnly}
 use Rattle.input_state.specs.HeldLists.{HeldLists, words_held}
 use Rattle.input_state.specs.Macros.{KeepsLists}
-use Rattle.input_state.specs.HeldViews.{text, made_text, fronts, line_of, texts, lists_of, builds, built, IsSingle, IsSimple, ArePlain, IsApart, IsDefined, IsShared, IsSized, IsSound}
+use Rattle.input_state.specs.HeldViews.{Named, named, names_hold, call_holds, calling_of, IsCall, text, made_text, fronts, line_of, texts, lists_of, all_builds, built, IsSingle, IsSimple, ArePlain, IsApart, IsDefined, IsShared, IsSized, IsSound}
 use Rattle.input_state.proofs.Shares.{Fewer, apart_fewer, fewer_none, fewer_settled}
 use Rattle.input_state.proofs.Fronts.{fronts_settled}
 use Rattle.input_state.proofs.Levels.{simple_settled}
-use Rattle.input_state.proofs.Sharing.{Changed, Moved, changed, moved, built_cons, all_right}
+use Rattle.input_state.specs.Callings.{NotCalling, call_lists}
+use Rattle.input_state.specs.declared.gathering.Gathering.TheVariants as call
+use Rattle.input_state.proofs.CallStays.{call_stays}
+use Rattle.input_state.proofs.Sharing.{Changed, Moved, stay_less, changed, moved, built_cons, all_right}
 use Rattle.input_state.proofs.ListViews.{held_lists, reverse_push, moved_view, macros_moved}
 use Rattle.input_state.proofs.Words.{words_are, gathered_few}
 use Rattle.input_state.proofs.Ranges.{hash_least}
@@ -42,7 +46,7 @@ use Rattle.input_state.proofs.Refusing.{memory_fits, memory_full}
 
 -- ONE LIST
 
-module _ (old new : List (Option Entry)) (stack : InputStack) (m : Map) (xs ys : List Build) (b : Build) where
+module _ (old new : List (Option Entry)) (stack : InputStack) (m : Named) (xs ys : List Build) (b : Build) where
   pub begun : IsShared old stack (xs ++ ys) m → IsBuilding new b → holders_at old (build_id b) ≡ 0 → IsOnly old new (build_id b) → Moves old new none (holds (build_id b)) → Changed old new stack m xs (b ∷ []) ys
   begun shared building fresh only moves =
       changed old new stack m xs [] (b ∷ []) ys (build_id b) shared only fresh (λ h. omega (arith, moves h, built_cons b [] h)) (All-cons (IsBuilding new) b [] building (All-nil (IsBuilding new))) (omega (arith, building.sole))
@@ -58,18 +62,18 @@ module _ (old new : List (Option Entry)) (stack : InputStack) (m : Map) (xs ys :
       changed old new stack m xs (a ∷ []) (b ∷ []) ys (build_id a) shared only (omega (arith, was.sole, own, built_cons a [] (build_id a))) (λ h. omega (arith, moves h, built_cons a [] h, built_cons b [] h, ap (λ (n : ℕ). holds n h) same)) (All-cons (IsBuilding new) b [] building (All-nil (IsBuilding new))) (omega (arith, was.sole, moves (build_id a)))
 
 -- the builds, where this one is the innermost of those that are gathered
-pub push_builds : (making : Option Build) (items rest : List Build) (b : Build) → items ≡ rest ++ b ∷ [] → builds making items ≡ option_to_list making ++ b ∷ reverse rest
+pub push_builds : (making : Option Build) (items rest : List Build) (b : Build) → items ≡ rest ++ b ∷ [] → all_builds making items ≡ option_to_list making ++ b ∷ reverse rest
 push_builds making items rest b is = ap (λ (bs : List Build). option_to_list making ++ bs) (reverse_push items rest b is)
 
-pub push_shared : (table : List (Option Entry)) (stack : InputStack) (m : Map) (making : Option Build) (items rest : List Build) (b : Build) → items ≡ rest ++ b ∷ [] → IsShared table stack (builds making items) m → IsShared table stack (option_to_list making ++ b ∷ reverse rest) m
+pub push_shared : (table : List (Option Entry)) (stack : InputStack) (m : Named) (making : Option Build) (items rest : List Build) (b : Build) → items ≡ rest ++ b ∷ [] → IsShared table stack (all_builds making items) m → IsShared table stack (option_to_list making ++ b ∷ reverse rest) m
 push_shared table stack m making items rest b is shared = subst (λ (bs : List Build). IsShared table stack bs m) (push_builds making items rest b is) shared
 
-pub push_building : (table : List (Option Entry)) (stack : InputStack) (m : Map) (making : Option Build) (items rest : List Build) (b : Build) → items ≡ rest ++ b ∷ [] → IsShared table stack (builds making items) m → IsBuilding table b
+pub push_building : (table : List (Option Entry)) (stack : InputStack) (m : Named) (making : Option Build) (items rest : List Build) (b : Build) → items ≡ rest ++ b ∷ [] → IsShared table stack (all_builds making items) m → IsBuilding table b
 push_building table stack m making items rest b is shared =
     let s = push_shared table stack m making items rest b is shared in
     All-head (IsBuilding table) b (reverse rest) (all_right table (option_to_list making) (b ∷ reverse rest) s.building)
 
-pub sized_now : (old new : List (Option Entry)) (s t : InputStack) (m : Map) (sizes : Sizes) (capacity now : ℕ) → IsSized old s m sizes capacity → length new ≡ length old → t.size ≡ s.size → t.parameter_size ≡ s.parameter_size → now ≡ capacity → IsSized new t m sizes now
+pub sized_now : (old new : List (Option Entry)) (s t : InputStack) (m : Named) (sizes : Sizes) (capacity now : ℕ) → IsSized old s m sizes capacity → length new ≡ length old → t.size ≡ s.size → t.parameter_size ≡ s.parameter_size → now ≡ capacity → IsSized new t m sizes now
 sized_now old new s t m sizes capacity now sized length_is size parameters same = record {
   memory = length_is ∙ sized.memory;
   levels = size ∙ sized.levels;
@@ -80,18 +84,23 @@ sized_now old new s t m sizes capacity now sized length_is size parameters same 
   ranges = sized.ranges;
 }
 
-module _ (old new : List (Option Entry)) (stack : InputStack) (m : Map) (sizes : Sizes) (capacity now : ℕ) (size : length new ≡ length old) (same : now ≡ capacity) where
-  pub changed_sound : (xs zs ys : List Build) (making was : Option Build) (gathered items : List Build) → builds making gathered ≡ xs ++ (zs ++ ys) → Changed old new stack m xs zs ys → IsSound old stack was items m sizes capacity → IsSound new stack making gathered m sizes now
+module _ (old new : List (Option Entry)) (stack : InputStack) (m : Named) (sizes : Sizes) (capacity now : ℕ) (size : length new ≡ length old) (same : now ≡ capacity) where
+  pub changed_sound : (xs zs ys : List Build) (making was : Option Build) (gathered items : List Build) → all_builds making gathered ≡ xs ++ (zs ++ ys) → Changed old new stack m xs zs ys → IsSound old stack was items m sizes capacity → IsSound new stack making gathered m sizes now
   changed_sound xs zs ys making was gathered items is c sound = record {
     shared = subst (λ (bs : List Build). IsShared new stack bs m) (sym is) c.shared;
     sized = sized_now old new stack stack m sizes capacity now sound.sized size refl refl same;
+    call =
+        let part = λ (f : ℕ → ℕ) (less : (h : ℕ) → f h ≤ held stack h + names_hold m h). stay_less old new (λ h. held stack h + names_hold m h) f less c.stays in
+        let macros = part (meant.held m.map) (λ h. omega arith) in
+        call_stays old new m.map m.call (part (call_holds m.call) (λ h. omega arith)) (record { tokens = macros.tokens; places = macros.places })
+        (record { covers = λ h. omega (arith, c.shared.counted h); outside = λ h some. omega (arith, c.shared.counted h, some) }) sound.call;
   }
 
 -- ROOM
 
-module _ (table : List (Option Entry)) (stack : InputStack) (making : Option Build) (gathered : List Build) (m : Map) (sizes : Sizes) (capacity : ℕ) (sound : IsSound table stack making gathered m sizes capacity) (v : HeldLists) (is : lists_of table (pending table stack) making gathered m sizes ≡ v) where
+module _ (table : List (Option Entry)) (stack : InputStack) (making : Option Build) (gathered : List Build) (m : Named) (sizes : Sizes) (capacity : ℕ) (sound : IsSound table stack making gathered m sizes capacity) (v : HeldLists) (is : lists_of table (pending table stack) making gathered m sizes ≡ v) where
   pub used_now : words table ≡ words_held v
-  used_now = words_are table stack making gathered m sizes sound.shared ∙ ap words_held is
+  used_now = words_are table stack making gathered m sizes sound.shared sound.call ∙ ap words_held is
 
   pub fits_now : words table < length table → refused v.sizes (memory 1 (words_held v) ∷ []) ≡ None
   fits_now below = memory_fits v.sizes (words_held v) (length table) (omega (arith, below, used_now)) (sound.sized.memory ∙ ap (λ (w : HeldLists). w.sizes.main_memory_size) is)
@@ -101,7 +110,7 @@ module _ (table : List (Option Entry)) (stack : InputStack) (making : Option Bui
 
   -- a list more has a place
   pub few_now : words table < length table → length gathered < capacity
-  few_now below = omega (arith, below, sound.sized.room, sound.sized.memory, words_are table stack making gathered m sizes sound.shared, gathered_few table gathered)
+  few_now below = omega (arith, below, sound.sized.room, sound.sized.memory, words_are table stack making gathered m sizes sound.shared sound.call, gathered_few table gathered, sum_by-append list_words (call_lists (calling_of table m.call)) (map (text table) (reverse gathered)))
 
 pub match_of : {T : Type 0} (r : Result T Full) (A P : Type 0) (B Q : Full → Type 0) → OnOk r A → IfErr r B → (A → P) → ((f : Full) → B f → Q f) → MatchResult r (λ _. P) Q
 match_of (Ok x) A P B Q a b f g = f a
@@ -113,31 +122,36 @@ ok_of (Err e) A P a f = tt
 
 -- THE LEVELS
 
-module _ (old new : List (Option Entry)) (s t : InputStack) (making : Option Build) (gathered : List Build) (m : Map) (sizes : Sizes) (capacity : ℕ) (sound : IsSound old s making gathered m sizes capacity) (stands : Stands new t) (moves : Moves old new (held s) (held t)) (keeps : Keeps old new (held s)) (lasts : Lasts old new) (size : t.size ≡ s.size) (parameters : t.parameter_size ≡ s.parameter_size) where
-  keeps_none : Keeps old new (λ h. built [] h + (held s h + meant.held m h))
+module _ (old new : List (Option Entry)) (s t : InputStack) (making : Option Build) (gathered : List Build) (m : Named) (sizes : Sizes) (capacity : ℕ) (sound : IsSound old s making gathered m sizes capacity) (stands : Stands new t) (moves : Moves old new (held s) (held t)) (keeps : Keeps old new (held s)) (lasts : Lasts old new) (size : t.size ≡ s.size) (parameters : t.parameter_size ≡ s.parameter_size) where
+  keeps_none : Keeps old new (λ h. built [] h + (held s h + meant.held m.map h))
   keeps_none = record { tokens = λ h l. keeps.tokens h (omega (arith, l)); places = λ h l. keeps.places h (omega (arith, l)) }
 
   -- a macro keeps its list
-  macros_stay : (h : ℕ) → 0 < meant.held m h → IsDefined (tokens_at new h)
+  macros_stay : (h : ℕ) → 0 < meant.held m.map h → IsDefined (tokens_at new h)
   macros_stay h some = subst IsDefined (sym (lasts.tokens h (omega (arith, some, moves h, sound.shared.counted h)))) (sound.shared.macros h some)
 
-  pub levels_moved : IsSimple (pending new t) → IsApart (pending new t).puts (builds making gathered) m → Moved old new t m (builds making gathered)
-  levels_moved simple apart = moved old new s t m m [] (builds making gathered) sound.shared stands simple apart (λ h. omega (arith, moves h)) keeps_none lasts.tokens macros_stay
+  pub levels_moved : IsSimple (pending new t) → IsApart (pending new t).puts (all_builds making gathered) m → Moved old new t m (all_builds making gathered)
+  levels_moved simple apart = moved old new s t m m [] (all_builds making gathered) sound.shared stands simple apart (λ h. omega (arith, moves h)) keeps_none lasts.tokens macros_stay (λ h. refl)
 
-  pub levels_sound : IsSimple (pending new t) → IsApart (pending new t).puts (builds making gathered) m → IsSound new t making gathered m sizes capacity
+  pub levels_sound : IsSimple (pending new t) → IsApart (pending new t).puts (all_builds making gathered) m → IsSound new t making gathered m sizes capacity
   levels_sound simple apart = record {
-    shared = (levels_moved simple apart).shared;
+    shared = (levels_moved simple apart).reheld.shared;
     sized = sized_now old new s t m sizes capacity capacity sound.sized lasts.size size parameters refl;
+    call =
+        let now = (levels_moved simple apart).reheld.shared.counted in
+        call_stays old new m.map m.call (levels_moved simple apart).called
+        (record { tokens = λ h some. keeps.tokens h (omega (arith, some, sound.shared.counted h)); places = λ h some. keeps.places h (omega (arith, some, sound.shared.counted h)) })
+        (record { covers = λ h. omega (arith, now h); outside = λ h some. omega (arith, now h, some) }) sound.call;
   }
 
   module _ (after : pending new t ≡ settle (pending old s)) where
     settled_simple : IsSimple (pending new t)
     settled_simple = subst (λ (p : Pending). IsSimple p) (sym after) (simple_settled (pending old s) sound.shared.simple)
 
-    settled_apart : IsApart (pending new t).puts (builds making gathered) m
-    settled_apart = subst (λ (p : Pending). IsApart p.puts (builds making gathered) m) (sym after) (apart_fewer (settle (pending old s)).puts (pending old s).puts (builds making gathered) m (fewer_settled (pending old s).puts) sound.shared.apart)
+    settled_apart : IsApart (pending new t).puts (all_builds making gathered) m
+    settled_apart = subst (λ (p : Pending). IsApart p.puts (all_builds making gathered) m) (sym after) (apart_fewer (settle (pending old s)).puts (pending old s).puts (all_builds making gathered) m (fewer_settled (pending old s).puts) sound.shared.apart)
 
-    settled_moved : Moved old new t m (builds making gathered)
+    settled_moved : Moved old new t m (all_builds making gathered)
     settled_moved = levels_moved settled_simple settled_apart
 
     pub settled_sound : IsSound new t making gathered m sizes capacity
@@ -147,15 +161,15 @@ module _ (old new : List (Option Entry)) (s t : InputStack) (making : Option Bui
     settled_view v is =
         moved_view old new t m sizes making gathered settled_moved
         ∙ ap (λ (p : Pending). record (lists_of old p making gathered m sizes) { lists = texts new }) after
-        ∙ ap (λ (ps : List plain.Put). held_lists ps (made_text old making) (map (text old) (reverse gathered)) (line_of (pending old s).sources) m sizes (texts new)) (fronts_settled old (pending old s).puts)
+        ∙ ap (λ (ps : List plain.Put). held_lists ps (made_text old making) (calling_of old m.call) (map (text old) (reverse gathered)) (line_of (pending old s).sources) m.map sizes (texts new)) (fronts_settled old (pending old s).puts)
         ∙ ap (λ (w : HeldLists). record w { puts = plain.settled w.puts; lists = texts new }) is
 
-    pub settled_macros : (v : HeldLists) → lists_of old (pending old s) making gathered m sizes ≡ v → KeepsLists m.cells (fronts new (pending new t).puts) v.lists (texts new)
-    settled_macros v is = macros_moved old new t m sizes (builds making gathered) v.lists settled_moved (ap (λ (w : HeldLists). w.lists) is)
+    pub settled_macros : (v : HeldLists) → lists_of old (pending old s) making gathered m sizes ≡ v → KeepsLists m.map.cells (fronts new (pending new t).puts) v.lists (texts new)
+    settled_macros v is = macros_moved old new t m sizes (all_builds making gathered) v.lists settled_moved (ap (λ (w : HeldLists). w.lists) is)
 
 -- THE LEVELS ALONE
 
-module _ (table : List (Option Entry)) (s t : InputStack) (making : Option Build) (gathered : List Build) (m : Map) (sizes : Sizes) (capacity : ℕ) (sound : IsSound table s making gathered m sizes capacity) (stands : Stands table t) (held_same : (h : ℕ) → held t h ≡ held s h) (size : t.size ≡ s.size) (parameters : t.parameter_size ≡ s.parameter_size) where
+module _ (table : List (Option Entry)) (s t : InputStack) (making : Option Build) (gathered : List Build) (m : Named) (sizes : Sizes) (capacity : ℕ) (sound : IsSound table s making gathered m sizes capacity) (stands : Stands table t) (held_same : (h : ℕ) → held t h ≡ held s h) (size : t.size ≡ s.size) (parameters : t.parameter_size ≡ s.parameter_size) where
   pub line_sound : IsSimple (pending table t) → Fewer (pending table t).puts (pending table s).puts → IsSound table t making gathered m sizes capacity
   line_sound simple fewer = record {
     shared = record {
@@ -163,10 +177,11 @@ module _ (table : List (Option Entry)) (s t : InputStack) (making : Option Build
       simple = simple;
       building = sound.shared.building;
       counted = λ h. omega (arith, sound.shared.counted h, held_same h);
-      apart = apart_fewer (pending table t).puts (pending table s).puts (builds making gathered) m fewer sound.shared.apart;
+      apart = apart_fewer (pending table t).puts (pending table s).puts (all_builds making gathered) m fewer sound.shared.apart;
       macros = sound.shared.macros;
     };
     sized = sized_now table table s t m sizes capacity capacity sound.sized refl size parameters refl;
+    call = sound.call;
   }
 
 single_at : (line : Line) (bs : List Below) → IsSingle bs → IsSingle (sources_at line bs)
@@ -211,19 +226,19 @@ length_new : (n : ℕ) → length (replicate {A = Option Entry} n None) ≡ n
 length_new zero = refl
 length_new (suc n) = omega (arith, length_new n)
 
-pub new_sound : (table : List (Option Entry)) (stack : InputStack) (items : List Build) (m : Map) (sizes : Sizes) (capacity : ℕ) → table ≡ replicate sizes.main_memory_size None → innermost stack ≡ [] → Stands table stack → stack.size ≡ sizes.input_stack_size → stack.parameter_size ≡ sizes.parameter_stack_size → items ≡ [] → sizes.main_memory_size ≤ capacity → first_out_of_range sizes ≡ None → m ≡ first_map sizes.hash_size → length m.cells ≡ fixed_locations + primitive_count → ((h : ℕ) → meant.held m h ≡ 0) → IsSound table stack None items m sizes capacity
+pub new_sound : (table : List (Option Entry)) (stack : InputStack) (items : List Build) (m : Map) (sizes : Sizes) (capacity : ℕ) → table ≡ replicate sizes.main_memory_size None → innermost stack ≡ [] → Stands table stack → stack.size ≡ sizes.input_stack_size → stack.parameter_size ≡ sizes.parameter_stack_size → items ≡ [] → sizes.main_memory_size ≤ capacity → first_out_of_range sizes ≡ None → m ≡ first_map sizes.hash_size → length m.cells ≡ fixed_locations + primitive_count → ((h : ℕ) → meant.held m h ≡ 0) → IsSound table stack None items (named m call.None) sizes capacity
 new_sound table stack items m sizes capacity is empty stands size parameters none room ranges first count free =
     let zero_at : (h : ℕ) → holders_at table h ≡ 0 = λ h. ap (λ (t : List (Option Entry)). holders_at t h) is ∙ ap holders_of (none_at sizes.main_memory_size h) in
-    let s : IsShared table stack [] m = record {
+    let s : IsShared table stack [] (named m call.None) = record {
       stands = stands;
       simple = subst (λ (ls : List Level). IsSimple (pending_in table ls)) (sym empty) (record { single = tt; plain = tt });
       building = All-nil (IsBuilding table);
       counted = λ h. omega (arith, zero_at h, ap (λ (ls : List Level). held_in ls h) empty, free h);
-      apart = subst (λ (ls : List Level). IsApart (pending_in table ls).puts [] m) (sym empty) (record { sole = λ h. omega arith; apart = λ h some. omega (arith, some) });
+      apart = subst (λ (ls : List Level). IsApart (pending_in table ls).puts [] (named m call.None)) (sym empty) (record { sole = λ h. omega arith; apart = λ h some. omega (arith, some) });
       macros = λ h some. absurd (omega (arith, some, free h));
     } in
     record {
-      shared = subst (λ (bs : List Build). IsShared table stack (reverse bs) m) (sym none) s;
+      shared = subst (λ (bs : List Build). IsShared table stack (reverse bs) (named m call.None)) (sym none) s;
       sized = record {
         memory = ap length is ∙ length_new sizes.main_memory_size;
         levels = size;
@@ -233,15 +248,16 @@ new_sound table stack items m sizes capacity is empty stands size parameters non
         room = room;
         ranges = ranges;
       };
+      call = tt;
     }
 
 -- nothing is held, and the names mean what INITEX's mean
 abbrev pub first_lists : Sizes → HeldLists
-first_lists sizes = record { puts = []; making = None; gathered = []; line = None; sizes = sizes; meanings = first_meanings is_primitive; hash_size = sizes.hash_size; lists = replicate sizes.main_memory_size [] }
+first_lists sizes = record { puts = []; making = None; call = NotCalling; builds = []; line = None; sizes = sizes; meanings = first_meanings is_primitive; hash_size = sizes.hash_size; lists = replicate sizes.main_memory_size [] }
 
-pub new_view : (table : List (Option Entry)) (stack : InputStack) (items : List Build) (m : Map) (sizes : Sizes) → table ≡ replicate sizes.main_memory_size None → innermost stack ≡ [] → items ≡ [] → m ≡ first_map sizes.hash_size → lists_of table (pending table stack) None items m sizes ≡ first_lists sizes
+pub new_view : (table : List (Option Entry)) (stack : InputStack) (items : List Build) (m : Map) (sizes : Sizes) → table ≡ replicate sizes.main_memory_size None → innermost stack ≡ [] → items ≡ [] → m ≡ first_map sizes.hash_size → lists_of table (pending table stack) None items (named m call.None) sizes ≡ first_lists sizes
 new_view table stack items m sizes is empty none first =
-    ap (λ (ls : List Level). lists_of table (pending_in table ls) None items m sizes) empty
-    ∙ ap (λ (bs : List Build). held_lists [] None (map (text table) (reverse bs)) None m sizes (texts table)) none
-    ∙ ap (λ (k : Map). held_lists [] None [] None k sizes (texts table)) first
-    ∙ ap (λ (ts : List (List Token)). held_lists [] None [] None (first_map sizes.hash_size) sizes ts) (ap texts is ∙ texts_none sizes.main_memory_size)
+    ap (λ (ls : List Level). lists_of table (pending_in table ls) None items (named m call.None) sizes) empty
+    ∙ ap (λ (bs : List Build). held_lists [] None NotCalling (map (text table) (reverse bs)) None m sizes (texts table)) none
+    ∙ ap (λ (k : Map). held_lists [] None NotCalling [] None k sizes (texts table)) first
+    ∙ ap (λ (ts : List (List Token)). held_lists [] None NotCalling [] None (first_map sizes.hash_size) sizes ts) (ap texts is ∙ texts_none sizes.main_memory_size)

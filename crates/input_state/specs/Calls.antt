@@ -5,8 +5,8 @@ use Rattle.tex_defs.specs.declared.Token.TheVariants.{EndPlaces}
 use Rattle.tex_defs.specs.declared.Name.{Name}
 use Rattle.tex_defs.specs.declared.Meaning.{Meaning}
 use Rattle.tex_defs.specs.declared.Meaning.TheVariants as means
-use Rattle.plain_state.specs.Meanings.{assigned}
-use Rattle.plain_state.specs.Arguments.{has_parameters}
+use Rattle.plain_state.specs.Meanings.{assigned, name_meaning}
+use Rattle.plain_state.specs.Arguments.{has_parameters, begins_with_place}
 use Rattle.plain_state.specs.Puts.{Item, Put, call_put, token_put, settled}
 use Rattle.plain_state.specs.Pending.{Pending, with_puts}
 use Rattle.plain_state.specs.Tables.{Demand}
@@ -24,6 +24,18 @@ is_end_mark t = false
 abbrev pub call_kind : List (List Token) → Meaning (Option ℕ) → CallKind
 call_kind lists (means.Macro long outer (Some id)) = if has_parameters (list_at lists id) then kind.Gathers else kind.AtOnce
 call_kind lists m = kind.None
+
+-- the list of the macro that a name means
+abbrev pub macro_text : List (List Token) → Meaning (Option ℕ) → List Token
+macro_text lists (means.Macro long outer (Some id)) = list_at lists id
+macro_text lists m = []
+
+abbrev pub text_of : List (List Token) → List (Meaning (Option ℕ)) → Name → List Token
+text_of lists meanings name = macro_text lists (name_meaning meanings name)
+
+-- the list of the first argument, which is begun with the call where the parameter text begins with its place
+abbrev pub begun_lists : (text : List Token) → List (List Token)
+begun_lists text = if begins_with_place text then [] ∷ [] else []
 
 -- what is put where nothing is gathered
 abbrev pub called_put : List (List Token) → Meaning (Option ℕ) → Put

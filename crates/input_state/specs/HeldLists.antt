@@ -1,5 +1,5 @@
 -- The lists that are held, and the line of the file beneath those in front.
-use Rattle.std.specs.Prelude.{ℕ, ◌+◌, ◌≤◌, List, [], ◌∷◌, Option, None, Some, Bool, true, false}
+use Rattle.std.specs.Prelude.{ℕ, ◌+◌, ◌≤◌, List, [], ◌∷◌, ◌++◌, Option, None, Some, Bool, true, false}
 use Rattle.tex_defs.specs.declared.Token.{Token}
 use Rattle.tex_defs.specs.declared.Meaning.{Meaning}
 use Rattle.tex_defs.specs.declared.Full.{Full}
@@ -11,17 +11,19 @@ use Rattle.plain_state.specs.Pending.{Pending, Progress, NotBegun}
 use Rattle.plain_state.specs.Tables.{Demand, refused, held_words, macro_words}
 use Rattle.input_state.specs.Macros.{KeepsLists}
 use Rattle.input_state.specs.Calls.{when_called}
+use Rattle.input_state.specs.Callings.{Calling, call_lists}
 use Rattle.line_lexer.specs.declared.Line.{Line}
 use Rattle.line_lexer.specs.declared.Ahead.{Ahead}
 use Rattle.line_lexer.specs.declared.Ahead.TheVariants as ahead
 use Rattle.line_lexer.specs.Answers.{state_of, rest_of, looks_of}
 
--- the lists in front, the one that is being made, those that are gathered, and what is left of the line; what the names mean,
+-- the lists in front, the one that is being made, the call, the lists of other readings, and what is left of the line; what the names mean,
 -- by their locations, how many names may be entered, and all lists by their numbers
 pub record HeldLists : Type 0 where
   pub puts : List Put
   pub making : Option (List Token)
-  pub gathered : List (List Token)
+  pub call : Calling
+  pub builds : List (List Token)
   pub line : Option Line
   pub sizes : Sizes
   pub meanings : List (Meaning (Option ℕ))
@@ -44,8 +46,12 @@ made (Some ts) = ts
 
 -- WHAT IS USED
 
+-- all lists that are gathered, innermost first
+abbrev pub gathered_held : HeldLists → List (List Token)
+gathered_held s = call_lists s.call ++ s.builds
+
 abbrev pub words_held : HeldLists → ℕ
-words_held s = macro_words 0 s.meanings s.puts s.lists + held_words s.puts s.making s.gathered
+words_held s = macro_words 0 s.meanings s.puts s.lists + held_words s.puts s.making (gathered_held s)
 
 -- MACROS
 

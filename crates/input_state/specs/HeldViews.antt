@@ -4,8 +4,6 @@ use Rattle.tex_defs.specs.declared.Token.{Token}
 use Rattle.tex_defs.specs.declared.Sizes.{Sizes}
 use Rattle.tex_defs.specs.Sizes.{first_out_of_range}
 use Rattle.plain_state.specs.Puts as plain
-use Rattle.plain_state.specs.Meanings.{fixed_locations}
-use Rattle.plain_state.specs.Arguments.{delimiters_of}
 use Rattle.meanings.specs.Map.{Map}
 use Rattle.meanings.specs.Holding as meant
 use Rattle.line_lexer.specs.declared.Line.{Line}
@@ -19,7 +17,17 @@ use Rattle.input_stack.specs.Pulls.{token_in}
 use Rattle.input_stack.specs.View.{pending, held}
 use Rattle.input_stack.specs.Standing.{Stands}
 use Rattle.input_stack.specs.declared.stack.InputStack.{InputStack}
+use Rattle.macro_args.specs.Args.{args_in, args_hold, IsFilled}
+use Rattle.macro_call.specs.Scans as scans
+use Rattle.macro_call.specs.Listed.{AreListed}
+use Rattle.macro_call.specs.declared.scan.ArgScan.{ArgScan}
+use Rattle.macro_args.specs.declared.args.Args.{Args}
+use Rattle.tex_defs.specs.declared.Name.{Name}
+use Rattle.plain_state.specs.Meanings.{fixed_locations, name_meaning}
 use Rattle.input_state.specs.HeldLists.{HeldLists}
+use Rattle.input_state.specs.Callings.{Calling, NotCalling, Gathering, Stopped, Gathered}
+use Rattle.input_state.specs.declared.gathering.Gathering as code
+use Rattle.input_state.specs.declared.gathering.Gathering.TheVariants as call
 
 -- an item without the number of its argument's list
 abbrev pub plain_item : Item → plain.Item
@@ -60,15 +68,30 @@ line_of (b ∷ bs) = Some b.source.line
 abbrev pub texts : List (Option Entry) → List (List Token)
 texts table = map tokens_of table
 
-abbrev pub lists_of : List (Option Entry) → Pending → Option Build → List Build → Map → Sizes → HeldLists
+-- what the names mean, and the call that is gathered
+pub record Named : Type 0 where
+  pub map : Map
+  pub call : code.Gathering
+
+abbrev pub named : Map → code.Gathering → Named
+named m gathering = record { map = m; call = gathering }
+
+abbrev pub calling_of : List (Option Entry) → code.Gathering → Calling
+calling_of table call.None = NotCalling
+calling_of table (call.Gathers name scan) = Gathering name (scans.scan_of table scan)
+calling_of table (call.Stopped name scan) = Stopped name (scans.scan_of table scan)
+calling_of table (call.Gathered name args) = Gathered name (args_in table args)
+
+abbrev pub lists_of : List (Option Entry) → Pending → Option Build → List Build → Named → Sizes → HeldLists
 lists_of table p making gathered m sizes = record {
   puts = fronts table p.puts;
   making = made_text table making;
-  gathered = map (text table) (reverse gathered);
+  call = calling_of table m.call;
+  builds = map (text table) (reverse gathered);
   line = line_of p.sources;
   sizes = sizes;
-  meanings = m.cells;
-  hash_size = m.hash_size;
+  meanings = m.map.cells;
+  hash_size = m.map.hash_size;
   lists = texts table;
 }
 
@@ -94,8 +117,8 @@ pub record IsSimple (p : Pending) : Type 0 where
   pub plain : ArePlain p.puts
 
 -- all lists that are being built
-abbrev pub builds : Option Build → List Build → List Build
-builds making gathered = option_to_list making ++ reverse gathered
+abbrev pub all_builds : Option Build → List Build → List Build
+all_builds making gathered = option_to_list making ++ reverse gathered
 
 -- how often they hold the list of a number
 abbrev pub built : List Build → ℕ → ℕ
@@ -126,35 +149,74 @@ abbrev pub opens : List Put → List ℕ
 opens [] = []
 opens (p ∷ ps) = numbers (p.reading ∷ []) ++ opens ps
 
--- A list in front of its own, an argument or a list that is being built is that in one place, and no macro's.
-pub record IsApart (ps : List Put) (bs : List Build) (m : Map) : Type 0 where
-  pub sole : (h : ℕ) → times h (owns ps) + built bs h ≤ 1
-  pub apart : (h : ℕ) → 0 < times h (owns ps) + built bs h → times h (bodies ps) + meant.held m h ≡ 0
+-- the call takes tokens
+abbrev pub IsScanning : code.Gathering → Type 0
+IsScanning call.None = ⊥
+IsScanning (call.Gathers name scan) = Unit {0}
+IsScanning (call.Stopped name scan) = ⊥
+IsScanning (call.Gathered name args) = ⊥
 
--- a macro's list has a token, its end mark, and at most nine places
+-- how often a call holds the list of a number
+abbrev pub call_holds : code.Gathering → ℕ → ℕ
+call_holds call.None h = 0
+call_holds (call.Gathers name scan) h = scans.scan_holds scan h
+call_holds (call.Stopped name scan) h = scans.scan_holds scan h
+call_holds (call.Gathered name args) h = args_hold args h
+
+-- how often names and the call do
+abbrev pub names_hold : Named → ℕ → ℕ
+names_hold m h = meant.held m.map h + call_holds m.call h
+
+-- A list in front of its own, an argument, a list of the call or one that is being built is that in one place, and no macro's.
+pub record IsApart (ps : List Put) (bs : List Build) (m : Named) : Type 0 where
+  pub sole : (h : ℕ) → times h (owns ps) + (built bs h + call_holds m.call h) ≤ 1
+  pub apart : (h : ℕ) → 0 < times h (owns ps) + (built bs h + call_holds m.call h) → times h (bodies ps) + meant.held m.map h ≡ 0
+
+-- a macro's list has a token, its end mark
 pub record IsDefined (ts : List Token) : Type 0 where
   pub some : 0 < length ts
-  pub few : length (delimiters_of ts) ≤ 9
 
--- Each list is held by levels, builds and names.
-pub record IsShared (table : List (Option Entry)) (stack : InputStack) (bs : List Build) (m : Map) : Type 0 where
+-- Each list is held by levels, builds, names and the call.
+pub record IsShared (table : List (Option Entry)) (stack : InputStack) (bs : List Build) (m : Named) : Type 0 where
   pub stands : Stands table stack
   pub simple : IsSimple (pending table stack)
   pub building : All (IsBuilding table) bs
-  pub counted : (h : ℕ) → holders_at table h ≡ held stack h + (built bs h + meant.held m h)
+  pub counted : (h : ℕ) → holders_at table h ≡ held stack h + (built bs h + names_hold m h)
   pub apart : IsApart (pending table stack).puts bs m
-  pub macros : (h : ℕ) → 0 < meant.held m h → IsDefined (tokens_at table h)
+  pub macros : (h : ℕ) → 0 < meant.held m.map h → IsDefined (tokens_at table h)
+
+-- THE CALL
+
+-- the name means the macro over whose list the scanner stands
+pub record IsGathering (table : List (Option Entry)) (m : Map) (name : Name) (scan : ArgScan) : Type 0 where
+  pub id : ℕ
+  pub list : meant.list_of (name_meaning m.cells name) ≡ Some id
+  pub sound : scans.IsSound table id scan
+
+-- the name means a macro, and an argument without tokens has no list
+pub record IsGathered (table : List (Option Entry)) (m : Map) (name : Name) (args : Args) : Type 0 where
+  pub id : ℕ
+  pub list : meant.list_of (name_meaning m.cells name) ≡ Some id
+  pub filled : IsFilled args
+  pub listed : AreListed table args
+
+abbrev pub IsCall : List (Option Entry) → Map → code.Gathering → Type 0
+IsCall table m call.None = Unit {0}
+IsCall table m (call.Gathers name scan) = IsGathering table m name scan
+IsCall table m (call.Stopped name scan) = scans.Owns table scan
+IsCall table m (call.Gathered name args) = IsGathered table m name args
 
 -- the sizes are in range, and there is room for what they admit
-pub record IsSized (table : List (Option Entry)) (stack : InputStack) (m : Map) (sizes : Sizes) (capacity : ℕ) : Type 0 where
+pub record IsSized (table : List (Option Entry)) (stack : InputStack) (m : Named) (sizes : Sizes) (capacity : ℕ) : Type 0 where
   pub memory : length table ≡ sizes.main_memory_size
   pub levels : stack.size ≡ sizes.input_stack_size
   pub parameters : stack.parameter_size ≡ sizes.parameter_stack_size
-  pub names : m.hash_size ≡ sizes.hash_size
-  pub few : length m.cells ≤ fixed_locations + m.hash_size
+  pub names : m.map.hash_size ≡ sizes.hash_size
+  pub few : length m.map.cells ≤ fixed_locations + m.map.hash_size
   pub room : sizes.main_memory_size ≤ capacity
   pub ranges : first_out_of_range sizes ≡ None
 
-pub record IsSound (table : List (Option Entry)) (stack : InputStack) (making : Option Build) (gathered : List Build) (m : Map) (sizes : Sizes) (capacity : ℕ) : Type 0 where
-  pub shared : IsShared table stack (builds making gathered) m
+pub record IsSound (table : List (Option Entry)) (stack : InputStack) (making : Option Build) (gathered : List Build) (m : Named) (sizes : Sizes) (capacity : ℕ) : Type 0 where
+  pub shared : IsShared table stack (all_builds making gathered) m
   pub sized : IsSized table stack m sizes capacity
+  pub call : IsCall table m.map m.call

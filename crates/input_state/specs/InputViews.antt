@@ -9,7 +9,8 @@ abbrev pub stored_of : HeldLists → List ℕ → FileLeft → Stored
 stored_of held buffer file = record {
   pending = pending_of held buffer file.rest file.file file.number;
   making = held.making;
-  gathered = held.gathered;
+  call = held.call;
+  builds = held.builds;
   buffer = buffer;
   sizes = held.sizes;
   meanings = held.meanings;

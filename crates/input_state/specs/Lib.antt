@@ -6,6 +6,9 @@ pub mod FileLeft
 pub mod FileViews
 pub mod InputViews
 pub mod Macros
+pub mod Callings
+pub mod CallFeeds
+pub mod Recalls
 pub mod Calls
 pub mod Changes
 pub mod Given

@@ -1,5 +1,5 @@
 -- All lists of a run, and all that is still to be read.
-use Rattle.std.specs.Prelude.{ℕ, ◌+◌, List, [], Option, None, Some}
+use Rattle.std.specs.Prelude.{ℕ, ◌+◌, List, [], ◌++◌, Option, None, Some}
 use Rattle.tex_defs.specs.declared.Token.{Token}
 use Rattle.tex_defs.specs.declared.Meaning.{Meaning}
 use Rattle.tex_defs.specs.declared.Full.{Full}
@@ -10,13 +10,16 @@ use Rattle.plain_state.specs.Pending.{Pending, NotBegun, Closed, settle}
 use Rattle.plain_state.specs.Tables.{held_words, macro_words, level, refused}
 use Rattle.input_state.specs.Macros.{KeepsLists}
 use Rattle.input_state.specs.Calls.{when_called}
+use Rattle.input_state.specs.Callings.{Calling, call_lists}
 
 pub record Stored : Type 0 where
   pub pending : Pending
   -- the list that is being made, to be put in front
   pub making : Option (List Token)
-  -- the lists that open readings gather, innermost first
-  pub gathered : List (List Token)
+  -- the call whose arguments are gathered
+  pub call : Calling
+  -- the lists that other readings gather, innermost first
+  pub builds : List (List Token)
   -- all bytes of the line buffer
   pub buffer : List ℕ
   pub sizes : Sizes
@@ -27,9 +30,13 @@ pub record Stored : Type 0 where
   -- all lists of main memory, by their numbers
   pub lists : List (List Token)
 
+-- all lists that are gathered, innermost first
+abbrev pub gathered : Stored → List (List Token)
+gathered s = call_lists s.call ++ s.builds
+
 -- the words of main memory that are used
 abbrev pub words : Stored → ℕ
-words s = macro_words 0 s.meanings s.pending.puts s.lists + held_words s.pending.puts s.making s.gathered
+words s = macro_words 0 s.meanings s.pending.puts s.lists + held_words s.pending.puts s.making (gathered s)
 
 -- each macro whose list is held then keeps its tokens
 abbrev pub KeepsMacros : Stored → Stored → Type 0

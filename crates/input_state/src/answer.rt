@@ -29,3 +29,18 @@ pub enum CallKind {
     /// Its parameter text is matched first, and its arguments are gathered.
     Gathers,
 }
+
+/// What a call whose arguments are gathered answers to a token.
+#[derive(Clone, Copy, Debug, PartialEq, Eq)]
+pub enum CallTold {
+    /// More tokens are needed.
+    More,
+    /// A right brace that closes nothing came: "Argument of \a has an extra }". The call goes on behind the report.
+    ExtraBrace,
+    /// All arguments are there.
+    Gathered,
+    /// The tokens in front of the first place don't match: "Use of \a doesn't match its definition".
+    Mismatch,
+    /// A `\par` ended the call: "Paragraph ended before \a was complete", or, where this is true, without a report.
+    ParEnded(bool),
+}

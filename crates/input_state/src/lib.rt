@@ -10,6 +10,7 @@
 
 mod answer;
 mod file;
+mod gathering;
 mod holders;
 mod lines;
 mod lists_held;
@@ -17,5 +18,5 @@ mod state;
 #[cfg(test)]
 mod tests;
 
-pub use answer::{CallKind, Pulled};
+pub use answer::{CallKind, CallTold, Pulled};
 pub use state::Input;

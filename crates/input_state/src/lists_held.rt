@@ -1,5 +1,5 @@
 // The lists in front, those that are being made and gathered, the line of the file beneath them, and what the names mean.
-ghost use Rattle.std.specs.Prelude.{◌≡◌, ◌≢◌, ℕ, ◌≤◌, ◌<◌, ◌+◌, ◌++◌, ◌↔◌, true, List, [], ◌∷◌, Option, None, Some, IsSome, IsTrue, IfOk, OnOk, OnErr, IfErr, MatchResult, MatchBool, length, drop, replicate};
+ghost use Rattle.std.specs.Prelude.{◌≡◌, ◌≢◌, ℕ, ◌≤◌, ◌<◌, ◌+◌, ◌++◌, ◌↔◌, true, List, [], ◌∷◌, Option, None, Some, IsSome, IfSome, IsTrue, IfOk, OnOk, OnErr, IfErr, MatchResult, MatchBool, length, drop, replicate};
 ghost use Rattle.tex_defs.specs.Sizes.{first_out_of_range};
 ghost use Rattle.plain_state.specs.Names.{is_primitive};
 ghost use Rattle.tex_defs.specs.declared.Meaning.TheVariants.{Undefined};
@@ -7,7 +7,7 @@ ghost use Rattle.plain_state.specs.Meanings.{first_meanings, fixed_locations, lo
 ghost use Rattle.plain_state.specs.Puts.{settled, with_put, token_put};
 ghost use Rattle.plain_state.specs.Pending.{Progress, pulled};
 ghost use Rattle.plain_state.specs.States.{grow_first, grown_by};
-ghost use Rattle.plain_state.specs.Tables.{is_meant, memory, refused};
+ghost use Rattle.plain_state.specs.Tables.{is_meant, lists_words, memory, refused};
 ghost use Rattle.line_lexer.specs.declared.Ahead.TheVariants as ahead;
 ghost use Rattle.token_lists.specs.Table.{words, tokens_at, holders_at, IsHeld};
 ghost use Rattle.token_lists.specs.Ids.{build_id, IsBuilding};
@@ -17,20 +17,28 @@ ghost use Rattle.input_state.specs.HeldLists.{HeldLists, KeepsHeld, call_refusal
 ghost use Rattle.meanings.specs.Map.{IsPlaced};
 ghost use Rattle.input_state.specs.HeldViews.{IsDefined};
 ghost use Rattle.input_state.specs.Macros.{HasNameRoom, list_at};
-ghost use Rattle.input_state.specs.Calls.{call_kind, called_put, called, Defines};
-ghost use Rattle.input_state.specs.declared.answer.CallKind.TheVariants.{AtOnce};
+ghost use Rattle.input_state.specs.Calls.{call_kind, called_put, called, text_of, begun_lists, Defines};
+ghost use Rattle.input_state.specs.declared.answer.CallKind.TheVariants.{AtOnce, Gathers};
+ghost use Rattle.input_state.specs.Callings.{NotCalling};
+ghost use Rattle.input_state.specs.Callings as calls;
+ghost use Rattle.input_state.specs.CallFeeds.{IsTaking, Feeds, CutShort, growth, with_scan, call_work};
+ghost use Rattle.macro_call.specs.PlainScans.{first_scan, cut_scan, settled_scan};
+ghost use Rattle.macro_call.specs.Modes.{mode_of};
+ghost use Rattle.std.specs.Option.{option_map};
 ghost use Rattle.input_state.specs.Changes.{IsOnly};
 ghost use Rattle.input_state.specs.Reads.{Reads};
 ghost use Rattle.input_state.specs.Given.{GivesMore, answer_of};
 
+use crate::gathering::{Gathering, begin as begin_call, feed};
 use crate::holders::{give_back, has_parameters, share};
-use crate::{CallKind, Pulled};
+use crate::{CallKind, CallTold, Pulled};
 use input_stack::{InputStack, Pulled as Given};
 use line_lexer::{Ahead, Lexed, Line};
 use macro_args::Args;
 use meanings::Meanings;
 use std::alloc::{AllocError, Global};
 use std::marker::Model;
+use std::mem;
 use tex_defs::{Full, Meaning, Name, Seen, Sizes, Token};
 use token_lists::{Build, Lists};
 use world_io::InId;
@@ -48,8 +56,10 @@ pub struct Held {
     meanings: Meanings,
     /// The list that is made, to be put in front.
     making: Option<Build>,
-    /// The lists that open readings gather, the innermost reading's last.
-    gathered: Vec<Build>,
+    /// The call that is gathered.
+    call: Gathering,
+    /// The lists that other readings gather, the innermost reading's last.
+    builds: Vec<Build>,
     sizes: Sizes,
 }
 
@@ -60,11 +70,11 @@ impl Model for Held {
 
     ghost Value = { HeldLists };
 
-    ghost use Rattle.input_state.specs.HeldViews.{lists_of, IsSound};
+    ghost use Rattle.input_state.specs.HeldViews.{lists_of, named, IsSound};
 
-    ghost view = { λ i. lists_of i.lists (pending i.lists i.stack) i.making i.gathered.items i.meanings i.sizes };
+    ghost view = { λ i. lists_of i.lists (pending i.lists i.stack) i.making i.builds.items (named i.meanings i.call) i.sizes };
 
-    ghost invariant = { λ i. IsSound i.lists i.stack i.making i.gathered.items i.meanings i.sizes (vec_capacity i.gathered) };
+    ghost invariant = { λ i. IsSound i.lists i.stack i.making i.builds.items (named i.meanings i.call) i.sizes (vec_capacity i.builds) };
 }
 
 // Begins a list. What is used then says that there was room for it.
@@ -140,14 +150,14 @@ impl Held {
     /// There is no room for them. No other call takes memory.
     pub fn new(alloc: Global, sizes: &Sizes) -> Result<Held, AllocError>
         requires { first_out_of_range sizes.now ≡ None }
-        ensures { IfOk result (λ h. h ≡ record { puts = []; making = None; gathered = []; line = None; sizes = sizes.now; meanings = first_meanings is_primitive; hash_size = sizes.now.hash_size; lists = replicate sizes.now.main_memory_size [] }) }
+        ensures { IfOk result (λ h. h ≡ record { puts = []; making = None; call = NotCalling; builds = []; line = None; sizes = sizes.now; meanings = first_meanings is_primitive; hash_size = sizes.now.hash_size; lists = replicate sizes.now.main_memory_size [] }) }
     {
         let mut lists = Lists::new(alloc, sizes.main_memory_size)?;
-        let gathered = Vec::with_capacity(alloc, sizes.main_memory_size as usize)?;
+        let builds = Vec::with_capacity(alloc, sizes.main_memory_size as usize)?;
         let meanings = match Meanings::new(alloc, sizes) {
             Ok(meanings) => meanings,
             Err(error) => {
-                gathered.destroy_empty();
+                builds.destroy_empty();
                 return Err(error);
             }
         };
@@ -157,12 +167,13 @@ impl Held {
                 stack,
                 meanings,
                 making: None,
-                gathered,
+                call: Gathering::None,
+                builds,
                 sizes: *sizes,
             }),
             Err(error) => {
                 meanings.close(&mut lists);
-                gathered.destroy_empty();
+                builds.destroy_empty();
                 Err(error)
             }
         }
@@ -188,13 +199,13 @@ impl Held {
     /// The main memory is full; nothing has changed.
     pub fn begin_list(&mut self) -> Result<(), Full>
         ensures refused { MatchResult result (λ _. refused self.old.sizes (memory 1 (words_held self.old) ∷ []) ≡ None) (λ full. refused self.old.sizes (memory 1 (words_held self.old) ∷ []) ≡ Some full) }
-        ensures ok { OnOk result (self.new ≡ record self.old { gathered = [] ∷ self.old.gathered; lists = self.new.lists }) }
+        ensures ok { OnOk result (self.new ≡ record self.old { builds = [] ∷ self.old.builds; lists = self.new.lists }) }
         ensures err { OnErr result (self.new ≡ self.old) }
         ensures macros { KeepsHeld self.old self.new }
     {
         match begin(&mut self.lists) {
             Ok(build) => {
-                self.gathered.push_reserved(build);
+                self.builds.push_reserved(build);
                 Ok(())
             }
             Err(full) => Err(full),
@@ -206,27 +217,27 @@ impl Held {
     /// # Errors
     /// The main memory is full; nothing has changed.
     pub fn grow_list(&mut self, token: Token) -> Result<(), Full>
-        requires { self.old.gathered ≢ [] }
+        requires { self.old.builds ≢ [] }
         ensures refused { MatchResult result (λ _. refused self.old.sizes (memory 1 (words_held self.old) ∷ []) ≡ None) (λ full. refused self.old.sizes (memory 1 (words_held self.old) ∷ []) ≡ Some full) }
-        ensures ok { OnOk result (self.new ≡ record self.old { gathered = grow_first token self.old.gathered; lists = self.new.lists }) }
+        ensures ok { OnOk result (self.new ≡ record self.old { builds = grow_first token self.old.builds; lists = self.new.lists }) }
         ensures err { OnErr result (self.new ≡ self.old) }
         ensures macros { KeepsHeld self.old self.new }
     {
-        let Some(mut build) = self.gathered.pop() else {
+        let Some(mut build) = self.builds.pop() else {
             unreachable!()
         };
         let grown = append(&mut self.lists, &mut build, token);
-        self.gathered.push_reserved(build);
+        self.builds.push_reserved(build);
         grown
     }
 
     /// The innermost reading's list goes.
     pub fn drop_list(&mut self)
-        requires { self.old.gathered ≢ [] }
-        ensures after { self.new ≡ record self.old { gathered = drop 1 self.old.gathered; lists = self.new.lists } }
+        requires { self.old.builds ≢ [] }
+        ensures after { self.new ≡ record self.old { builds = drop 1 self.old.builds; lists = self.new.lists } }
         ensures macros { KeepsHeld self.old self.new }
     {
-        let Some(build) = self.gathered.pop() else {
+        let Some(build) = self.builds.pop() else {
             unreachable!()
         };
         abandon(&mut self.lists, build);
@@ -234,18 +245,18 @@ impl Held {
 
     /// Whether some reading gathers a list.
     pub fn is_gathering(&self) -> bool
-        ensures { IsTrue result ↔ (0 < length self.now.gathered) }
+        ensures { IsTrue result ↔ (0 < length self.now.builds) }
     {
-        !self.gathered.is_empty()
+        !self.builds.is_empty()
     }
 
     /// The innermost reading's list, and the memory in which it stands.
     pub fn list(&self) -> (&Lists, &Build)
-        requires { self.now.gathered ≢ [] }
+        requires { self.now.builds ≢ [] }
         ensures held { IsHeld result.0.now (build_id result.1.now) }
-        ensures tokens { tokens_at result.0.now (build_id result.1.now) ≡ first_list self.now.gathered }
+        ensures tokens { tokens_at result.0.now (build_id result.1.now) ≡ first_list self.now.builds }
     {
-        (&self.lists, &self.gathered[self.gathered.len() - 1])
+        (&self.lists, &self.builds[self.builds.len() - 1])
     }
 
     /// The memory of the lists.
@@ -423,14 +434,15 @@ impl Held {
 
     /// A name becomes a macro: the innermost reading's list is its parameter text, the end mark and its body.
     pub fn define(&mut self, name: Name, long: bool, outer: bool)
-        requires some { self.old.gathered ≢ [] }
-        requires list { IsDefined (first_list self.old.gathered) }
+        requires some { self.old.builds ≢ [] }
+        requires calls { self.old.call ≡ NotCalling }
+        requires list { IsDefined (first_list self.old.builds) }
         requires assignable { IsPlaced (location name) (length self.old.meanings) }
-        ensures after { self.new ≡ record self.old { gathered = drop 1 self.old.gathered; meanings = self.new.meanings; lists = self.new.lists } }
-        ensures defines { Defines self.old.meanings self.new.meanings self.old.puts self.old.lists self.new.lists (first_list self.old.gathered) name long outer }
+        ensures after { self.new ≡ record self.old { builds = drop 1 self.old.builds; meanings = self.new.meanings; lists = self.new.lists } }
+        ensures defines { Defines self.old.meanings self.new.meanings self.old.puts self.old.lists self.new.lists (first_list self.old.builds) name long outer }
         ensures macros { KeepsHeld self.old self.new }
     {
-        let Some(build) = self.gathered.pop() else {
+        let Some(build) = self.builds.pop() else {
             unreachable!()
         };
         let list = Some(self.lists.finish(build));
@@ -484,9 +496,114 @@ impl Held {
         }
     }
 
+    /// A call of a macro with a parameter text begins: its arguments are gathered. Where the text begins with a place, the
+    /// first argument's list is begun. `long` tells whether the macro is `\long`.
+    ///
+    /// # Errors
+    /// The main memory is full; nothing has changed.
+    pub fn begin_call(&mut self, name: Name, long: bool) -> Result<(), Full>
+        requires none { self.old.call ≡ NotCalling }
+        requires gathers { call_kind self.old.lists (name_meaning self.old.meanings name) ≡ Gathers }
+        ensures refused { MatchResult result (λ _. refused self.old.sizes (memory (lists_words (begun_lists (text_of self.old.lists self.old.meanings name))) (words_held self.old) ∷ []) ≡ None) (λ full. refused self.old.sizes (memory (lists_words (begun_lists (text_of self.old.lists self.old.meanings name))) (words_held self.old) ∷ []) ≡ Some full) }
+        ensures ok { OnOk result (self.new ≡ record self.old { call = calls.Gathering name (first_scan (text_of self.old.lists self.old.meanings name) (mode_of long)); lists = self.new.lists }) }
+        ensures err { OnErr result (self.new ≡ self.old) }
+        ensures macros { KeepsHeld self.old self.new }
+    {
+        let Some(list) = self.meanings.list(name) else {
+            unreachable!()
+        };
+        match begin_call(&mut self.lists, list, name, long) {
+            Ok(call) => {
+                mem::replace(&mut self.call, call).end();
+                let _words = self.lists.used();
+                Ok(())
+            }
+            Err(full) => Err(full),
+        }
+    }
+
+    /// Feeds a token to the call. What is told is what the definition of arguments asks for behind all that was fed.
+    ///
+    /// # Errors
+    /// The main memory is full: some of the tokens that go into the list in work are in it, from the first on, and not
+    /// all, and nothing else has changed; or the argument is whole, and the next one's list isn't begun. The call takes no
+    /// more tokens.
+    pub fn feed_call(&mut self, token: Token) -> Result<CallTold, Full>
+        requires { IsTaking self.old.call }
+        ensures ok { IfOk result (λ told. Feeds (text_of self.old.lists self.old.meanings) token told self.old.call self.new.call) }
+        ensures fits { OnOk result (words_held self.old + length (growth (text_of self.old.lists self.old.meanings) token self.old.call) ≤ self.old.sizes.main_memory_size) }
+        ensures err { OnErr result (CutShort (text_of self.old.lists self.old.meanings) token self.old.call self.new.call) }
+        ensures full { IfErr result (λ full. refused self.new.sizes (memory 1 (words_held self.new) ∷ []) ≡ Some full) }
+        ensures others { self.new ≡ record self.old { call = self.new.call; lists = self.new.lists } }
+        ensures macros { KeepsHeld self.old self.new }
+    {
+        let _old_words = self.lists.used();
+        let (name, scan) = mem::replace(&mut self.call, Gathering::None).into_scan();
+        let Some(list) = self.meanings.list(name) else {
+            unreachable!()
+        };
+        let seen = self.meanings.seen(token);
+        let (call, told) = feed(&mut self.lists, list, name, scan, seen);
+        mem::replace(&mut self.call, call).end();
+        let _words = self.lists.used();
+        told
+    }
+
+    /// A check came in the call, at a file's end or at an `\outer` name: from here the macro counts as not `\long`, and a
+    /// `\par` that ends the call has no report.
+    pub fn cut_call(&mut self)
+        requires { IsTaking self.old.call }
+        ensures after { self.new ≡ record self.old { call = with_scan cut_scan self.old.call } }
+    {
+        let (name, mut scan) = mem::replace(&mut self.call, Gathering::None).into_scan();
+        scan.cut();
+        mem::replace(&mut self.call, Gathering::Gathers(name, scan)).end();
+    }
+
+    /// The extra brace that the call told was put back and reported.
+    pub fn settle_call(&mut self)
+        requires { IsTaking self.old.call }
+        ensures after { self.new ≡ record self.old { call = with_scan settled_scan self.old.call } }
+    {
+        let (name, mut scan) = mem::replace(&mut self.call, Gathering::None).into_scan();
+        scan.settle();
+        mem::replace(&mut self.call, Gathering::Gathers(name, scan)).end();
+    }
+
+    /// The list in work of the call, if there is one, and the memory in which it stands.
+    pub fn call_list(&self) -> Option<(&Lists, &Build)>
+        ensures held { IfSome result (λ r. IsHeld r.0.now (build_id r.1.now)) }
+        ensures tokens { call_work self.now.call ≡ option_map (λ r. tokens_at r.0.now (build_id r.1.now)) result }
+    {
+        let scan = match &self.call {
+            Gathering::Gathers(_name, scan) => scan,
+            Gathering::Stopped(_name, scan) => scan,
+            Gathering::None => return None,
+            Gathering::Gathered(_name, _args) => return None,
+        };
+        match scan.built() {
+            Some(build) => Some((&self.lists, build)),
+            None => None,
+        }
+    }
+
+    /// The call's lists go, and none is gathered.
+    pub fn drop_call(&mut self)
+        ensures after { self.new ≡ record self.old { call = NotCalling; lists = self.new.lists } }
+        ensures macros { KeepsHeld self.old self.new }
+    {
+        match mem::replace(&mut self.call, Gathering::None) {
+            Gathering::None => {}
+            Gathering::Gathers(_name, scan) => scan.abandon(&mut self.lists),
+            Gathering::Stopped(_name, scan) => scan.abandon(&mut self.lists),
+            Gathering::Gathered(_name, args) => args.release(&mut self.lists),
+        }
+    }
+
     /// Lets all lists go.
     pub fn close(self) {
         let mut held = self;
+        held.drop_call();
         while held.is_gathering() {
             held.drop_list();
         }
@@ -496,15 +613,22 @@ impl Held {
             stack,
             meanings,
             making,
-            gathered,
+            call,
+            builds,
             sizes: _,
         } = held;
         match making {
             None => {}
             Some(_build) => unreachable!(),
         }
+        match call {
+            Gathering::None => {}
+            Gathering::Gathers(_name, _scan) => unreachable!(),
+            Gathering::Stopped(_name, _scan) => unreachable!(),
+            Gathering::Gathered(_name, _args) => unreachable!(),
+        }
         stack.close(&mut lists);
         meanings.close(&mut lists);
-        gathered.destroy_empty();
+        builds.destroy_empty();
     }
 }

@@ -1,5 +1,5 @@
 // The input of a run.
-ghost use Rattle.std.specs.Prelude.{◌≡◌, ◌≢◌, ℕ, true, ◌≤◌, ◌<◌, ◌+◌, ◌++◌, [], ◌∷◌, None, Some, IsSome, IfOk, IfErr, OnOk, OnErr, MatchResult, MatchBool, length, drop, replicate};
+ghost use Rattle.std.specs.Prelude.{◌≡◌, ◌≢◌, ℕ, true, ◌≤◌, ◌<◌, ◌+◌, ◌++◌, [], ◌∷◌, None, Some, IsSome, IfSome, IfOk, IfErr, OnOk, OnErr, MatchResult, MatchBool, length, drop, replicate};
 ghost use Rattle.std.specs.Option.{option_map};
 ghost use Rattle.tex_defs.specs.Sizes.{first_out_of_range};
 ghost use Rattle.plain_state.specs.Names.{is_primitive};
@@ -8,7 +8,7 @@ ghost use Rattle.plain_state.specs.Meanings.{first_meanings, fixed_locations, lo
 ghost use Rattle.plain_state.specs.Puts.{settled, token_put};
 ghost use Rattle.plain_state.specs.Pending.{NotBegun, Begun, Closed, LineTaken, pulled, settle, put_front, line_taken, taken_line, from_file};
 ghost use Rattle.plain_state.specs.States.{grow_first, grown_by};
-ghost use Rattle.plain_state.specs.Tables.{is_meant, memory, level, file_levels, next_line, refused};
+ghost use Rattle.plain_state.specs.Tables.{is_meant, lists_words, memory, level, file_levels, next_line, refused};
 ghost use Rattle.line_lexer.specs.declared.Ahead.TheVariants as ahead;
 ghost use Rattle.line_lexer.specs.declared.LineState.TheVariants.{NewLine};
 ghost use Rattle.tex_defs.specs.declared.Table.TheVariants.{BufferSize};
@@ -17,10 +17,15 @@ ghost use Rattle.token_lists.specs.Table as table;
 ghost use Rattle.token_lists.specs.Ids.{build_id};
 ghost use Rattle.input_state.specs.HeldLists.{KeepsHeld, first_list, is_empty, made, ahead_of, line_levels, file_demands};
 ghost use Rattle.meanings.specs.Map.{IsPlaced};
-ghost use Rattle.input_state.specs.declared.answer.CallKind.TheVariants.{AtOnce};
+ghost use Rattle.input_state.specs.declared.answer.CallKind.TheVariants.{AtOnce, Gathers};
 ghost use Rattle.input_state.specs.HeldViews.{IsDefined};
 ghost use Rattle.input_state.specs.Macros.{HasNameRoom, list_at};
-ghost use Rattle.input_state.specs.Calls.{call_kind, called_put, after_call, Defines};
+ghost use Rattle.input_state.specs.Calls.{call_kind, called_put, after_call, text_of, begun_lists, Defines};
+ghost use Rattle.input_state.specs.Callings.{NotCalling};
+ghost use Rattle.input_state.specs.Callings as calls;
+ghost use Rattle.input_state.specs.CallFeeds.{IsTaking, Feeds, CutShort, growth, with_scan, call_work};
+ghost use Rattle.macro_call.specs.PlainScans.{first_scan, cut_scan, settled_scan};
+ghost use Rattle.macro_call.specs.Modes.{mode_of};
 ghost use Rattle.input_state.specs.FileViews.{progress_of};
 ghost use Rattle.input_state.specs.Stored.{KeepsMacros, call_refusal, words, unread, closed};
 ghost use Rattle.input_state.specs.Reads.{Pulls, pull_refusal, RefusesLine, gives_step};
@@ -28,7 +33,7 @@ ghost use Rattle.input_state.specs.Reads.{Pulls, pull_refusal, RefusesLine, give
 use crate::file::{JobFile, Progress};
 use crate::lines::{first_line, put_line};
 use crate::lists_held::Held;
-use crate::{CallKind, Pulled};
+use crate::{CallKind, CallTold, Pulled};
 use line_lexer::{Ahead, Line, LineState};
 use std::alloc::{AllocError, Global};
 use std::marker::Model;
@@ -107,7 +112,7 @@ impl Input {
     /// There is no room for them. No other call takes memory.
     pub fn new(alloc: Global, sizes: &Sizes, bytes: Option<Vec<u8>>) -> Result<Input, AllocError>
         requires { first_out_of_range sizes.now ≡ None }
-        ensures { IfOk result (λ i. i ≡ record { pending = unread (option_map (λ v. v.items) bytes); making = None; gathered = []; buffer = i.buffer; sizes = sizes.now; meanings = first_meanings is_primitive; hash_size = sizes.now.hash_size; lists = replicate sizes.now.main_memory_size [] }) }
+        ensures { IfOk result (λ i. i ≡ record { pending = unread (option_map (λ v. v.items) bytes); making = None; call = NotCalling; builds = []; buffer = i.buffer; sizes = sizes.now; meanings = first_meanings is_primitive; hash_size = sizes.now.hash_size; lists = replicate sizes.now.main_memory_size [] }) }
     {
         let buffer = vec![in alloc; 0; sizes.buffer_size as usize]?;
         let held = Held::new(alloc, sizes)?;
@@ -154,7 +159,7 @@ impl Input {
     /// The main memory is full; nothing has changed.
     pub fn begin_list(&mut self) -> Result<(), Full>
         ensures refused { MatchResult result (λ _. refused self.old.sizes (memory 1 (words self.old) ∷ []) ≡ None) (λ full. refused self.old.sizes (memory 1 (words self.old) ∷ []) ≡ Some full) }
-        ensures ok { OnOk result (self.new ≡ record self.old { gathered = [] ∷ self.old.gathered; lists = self.new.lists }) }
+        ensures ok { OnOk result (self.new ≡ record self.old { builds = [] ∷ self.old.builds; lists = self.new.lists }) }
         ensures err { OnErr result (self.new ≡ self.old) }
         ensures macros { KeepsMacros self.old self.new }
     {
@@ -166,9 +171,9 @@ impl Input {
     /// # Errors
     /// The main memory is full; nothing has changed.
     pub fn grow_list(&mut self, token: Token) -> Result<(), Full>
-        requires { self.old.gathered ≢ [] }
+        requires { self.old.builds ≢ [] }
         ensures refused { MatchResult result (λ _. refused self.old.sizes (memory 1 (words self.old) ∷ []) ≡ None) (λ full. refused self.old.sizes (memory 1 (words self.old) ∷ []) ≡ Some full) }
-        ensures ok { OnOk result (self.new ≡ record self.old { gathered = grow_first token self.old.gathered; lists = self.new.lists }) }
+        ensures ok { OnOk result (self.new ≡ record self.old { builds = grow_first token self.old.builds; lists = self.new.lists }) }
         ensures err { OnErr result (self.new ≡ self.old) }
         ensures macros { KeepsMacros self.old self.new }
     {
@@ -177,8 +182,8 @@ impl Input {
 
     /// The innermost reading's list goes.
     pub fn drop_list(&mut self)
-        requires { self.old.gathered ≢ [] }
-        ensures after { self.new ≡ record self.old { gathered = drop 1 self.old.gathered; lists = self.new.lists } }
+        requires { self.old.builds ≢ [] }
+        ensures after { self.new ≡ record self.old { builds = drop 1 self.old.builds; lists = self.new.lists } }
         ensures macros { KeepsMacros self.old self.new }
     {
         self.held.drop_list();
@@ -186,15 +191,15 @@ impl Input {
 
     /// Whether a reading holds a list.
     pub fn has_list(&self) -> bool
-        ensures { MatchBool result (self.now.gathered ≢ []) (self.now.gathered ≡ []) }
+        ensures { MatchBool result (self.now.builds ≢ []) (self.now.builds ≡ []) }
     {
         self.held.is_gathering()
     }
 
     /// Whether the innermost reading's list has no token.
     pub fn is_list_empty(&self) -> bool
-        requires { self.now.gathered ≢ [] }
-        ensures { result ≡ is_empty (first_list self.now.gathered) }
+        requires { self.now.builds ≢ [] }
+        ensures { result ≡ is_empty (first_list self.now.builds) }
     {
         let (lists, build) = self.held.list();
         lists.first_built(build).is_none()
@@ -202,9 +207,9 @@ impl Input {
 
     /// The innermost reading's list, and the memory in which it stands.
     pub fn list(&self) -> (&Lists, &Build)
-        requires { self.now.gathered ≢ [] }
+        requires { self.now.builds ≢ [] }
         ensures held { IsHeld result.0.now (build_id result.1.now) }
-        ensures tokens { tokens_at result.0.now (build_id result.1.now) ≡ first_list self.now.gathered }
+        ensures tokens { tokens_at result.0.now (build_id result.1.now) ≡ first_list self.now.builds }
     {
         self.held.list()
     }
@@ -396,11 +401,12 @@ impl Input {
     /// A name becomes a macro: the innermost reading's list is its parameter text, the end mark and its body. The list of
     /// what the name meant is let go. *The TeXbook*, chapter 20; *TeX: The Program*, part 49 (`define`).
     pub fn define(&mut self, name: Name, long: bool, outer: bool)
-        requires some { self.old.gathered ≢ [] }
-        requires list { IsDefined (first_list self.old.gathered) }
+        requires some { self.old.builds ≢ [] }
+        requires calls { self.old.call ≡ NotCalling }
+        requires list { IsDefined (first_list self.old.builds) }
         requires assignable { IsPlaced (location name) (length self.old.meanings) }
-        ensures after { self.new ≡ record self.old { gathered = drop 1 self.old.gathered; meanings = self.new.meanings; lists = self.new.lists } }
-        ensures defines { Defines self.old.meanings self.new.meanings self.old.pending.puts self.old.lists self.new.lists (first_list self.old.gathered) name long outer }
+        ensures after { self.new ≡ record self.old { builds = drop 1 self.old.builds; meanings = self.new.meanings; lists = self.new.lists } }
+        ensures defines { Defines self.old.meanings self.new.meanings self.old.pending.puts self.old.lists self.new.lists (first_list self.old.builds) name long outer }
         ensures macros { KeepsMacros self.old self.new }
     {
         self.held.define(name, long, outer);
@@ -433,6 +439,73 @@ impl Input {
         ensures macros { KeepsMacros self.old self.new }
     {
         self.held.call_macro(name)
+    }
+
+    /// A call of a macro with a parameter text begins: its arguments are gathered. Where the text begins with a place, the
+    /// first argument's list is begun. `long` tells whether the macro is `\long`.
+    ///
+    /// # Errors
+    /// The main memory is full; nothing has changed.
+    pub fn begin_call(&mut self, name: Name, long: bool) -> Result<(), Full>
+        requires none { self.old.call ≡ NotCalling }
+        requires gathers { call_kind self.old.lists (name_meaning self.old.meanings name) ≡ Gathers }
+        ensures refused { MatchResult result (λ _. refused self.old.sizes (memory (lists_words (begun_lists (text_of self.old.lists self.old.meanings name))) (words self.old) ∷ []) ≡ None) (λ full. refused self.old.sizes (memory (lists_words (begun_lists (text_of self.old.lists self.old.meanings name))) (words self.old) ∷ []) ≡ Some full) }
+        ensures ok { OnOk result (self.new ≡ record self.old { call = calls.Gathering name (first_scan (text_of self.old.lists self.old.meanings name) (mode_of long)); lists = self.new.lists }) }
+        ensures err { OnErr result (self.new ≡ self.old) }
+        ensures macros { KeepsMacros self.old self.new }
+    {
+        self.held.begin_call(name, long)
+    }
+
+    /// Feeds a token to the call. What is told is what the definition of arguments asks for behind all that was fed.
+    ///
+    /// # Errors
+    /// The main memory is full: some of the tokens that go into the list in work are in it, from the first on, and not
+    /// all, and nothing else has changed; or the argument is whole, and the next one's list isn't begun. The call takes no
+    /// more tokens.
+    pub fn feed_call(&mut self, token: Token) -> Result<CallTold, Full>
+        requires { IsTaking self.old.call }
+        ensures ok { IfOk result (λ told. Feeds (text_of self.old.lists self.old.meanings) token told self.old.call self.new.call) }
+        ensures fits { OnOk result (words self.old + length (growth (text_of self.old.lists self.old.meanings) token self.old.call) ≤ self.old.sizes.main_memory_size) }
+        ensures err { OnErr result (CutShort (text_of self.old.lists self.old.meanings) token self.old.call self.new.call) }
+        ensures full { IfErr result (λ full. refused self.new.sizes (memory 1 (words self.new) ∷ []) ≡ Some full) }
+        ensures others { self.new ≡ record self.old { call = self.new.call; lists = self.new.lists } }
+        ensures macros { KeepsMacros self.old self.new }
+    {
+        self.held.feed_call(token)
+    }
+
+    /// A check came in the call, at a file's end or at an `\outer` name: from here the macro counts as not `\long`, and a
+    /// `\par` that ends the call has no report.
+    pub fn cut_call(&mut self)
+        requires { IsTaking self.old.call }
+        ensures after { self.new ≡ record self.old { call = with_scan cut_scan self.old.call } }
+    {
+        self.held.cut_call();
+    }
+
+    /// The extra brace that the call told was put back and reported.
+    pub fn settle_call(&mut self)
+        requires { IsTaking self.old.call }
+        ensures after { self.new ≡ record self.old { call = with_scan settled_scan self.old.call } }
+    {
+        self.held.settle_call();
+    }
+
+    /// The list in work of the call, if there is one, and the memory in which it stands.
+    pub fn call_list(&self) -> Option<(&Lists, &Build)>
+        ensures held { IfSome result (λ r. IsHeld r.0.now (build_id r.1.now)) }
+        ensures tokens { call_work self.now.call ≡ option_map (λ r. tokens_at r.0.now (build_id r.1.now)) result }
+    {
+        self.held.call_list()
+    }
+
+    /// The call's lists go, and none is gathered.
+    pub fn drop_call(&mut self)
+        ensures after { self.new ≡ record self.old { call = NotCalling; lists = self.new.lists } }
+        ensures macros { KeepsMacros self.old self.new }
+    {
+        self.held.drop_call();
     }
 
     /// Lets all lists go, and with them the input.

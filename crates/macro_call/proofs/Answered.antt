@@ -1,12 +1,13 @@
 -- What a scanner answers to a token in a place.
-use Rattle.std.proofs.Common.{◌≡◌, ℕ, ◌<◌, length, List, [], ◌∷◌, ◌++◌, drop, Bool, true, false, Option, None, Some, refl, sym, ap, ap₂, subst, ◌∙◌, arith, inl, inr, Result, Ok, Err}
+use Rattle.std.proofs.Common.{◌≡◌, ℕ, ◌<◌, ◌≤◌, length, List, [], ◌∷◌, ◌++◌, drop, Bool, true, false, Option, None, Some, refl, sym, ap, ap₂, subst, ◌∙◌, arith, inl, inr, Result, Ok, Err}
 use Rattle.std.specs.Prelude.{unwrap_or, option_map}
 use Rattle.std.specs.Result.{IfOk, OnErr}
 use Rattle.tex_defs.specs.declared.Full.{Full}
 use Rattle.std.proofs.lemmas.Option.{none-some}
+use Rattle.std.proofs.lemmas.Bool.{cases_lt}
 use Rattle.tex_defs.specs.declared.Token.{Token}
 use Rattle.token_lists.specs.Ids.{build_id, IsBuilding}
-use Rattle.token_lists.specs.Table.{Entry, tokens_at}
+use Rattle.token_lists.specs.Table.{Entry, tokens_at, holders_at}
 use Rattle.token_lists.specs.Accounts.{Moves, Keeps, none}
 use Rattle.macro_call.specs.declared.par_mode.ParMode.{ParMode}
 use Rattle.macro_call.specs.declared.par_mode.ParMode.TheVariants.{Short}
@@ -28,7 +29,7 @@ use Rattle.macro_call.specs.Scans.{resume, left_at, behind_at, scan_holds, IsSou
 use Rattle.macro_call.specs.Growths.{target_of}
 use Rattle.macro_call.proofs.Growths.{arguments-more}
 use Rattle.macro_call.proofs.Completed.{args_stay, macro_tokens, shared_kept}
-use Rattle.macro_call.proofs.Resumed.{case_on, target, growth, goes, now_owns, now_moves, here}
+use Rattle.macro_call.proofs.Resumed.{case_on, target, growth, goes, now_owns, now_moves, now_gains, here}
 
 pub record Parts (old_table table : List (Option Entry)) (macro : ℕ) (cursor : Cursor) (mode : ParMode) (x : Token) (s : Step) (o n : Option Present) : Type 0 where
   pub p : Present
@@ -71,6 +72,9 @@ module _ (old_table table : List (Option Entry)) (macro : ℕ) (old : ArgScan) (
     owns = now_owns old_table table macro old x t.p t.was sound t.took.2 account t.q n t.now t.took.0 t.took.1 old.mode false;
     hands = tt;
     moves = λ h. omega (arith, now_moves old_table table macro old x t.p t.was sound t.took.2 account t.q n t.now t.took.0 t.took.1 old.mode false h);
+    gains =
+        let g = now_gains old_table table macro old x t.p t.was sound t.took.2 account t.q n t.now t.took.0 t.took.1 old.mode false in
+        record { others = λ h l. omega (arith, g.others h l); fresh = λ h l. omega (arith, g.fresh h l) };
     kept = shared_kept old_table table macro old t.p t.was (here old_table table macro old x t.p t.was sound t.took.2 account).0 sound.owns sound.outside t.took.2;
   }
 
@@ -103,6 +107,12 @@ module _ (old_table table : List (Option Entry)) (macro : ℕ) (old : ArgScan) (
     mid_moves : Moves old_table between_table (scan_holds old) (scan_holds mid)
     mid_moves h = omega (arith, taken_moves h, done.moves h)
 
+    taken_holds : (h : ℕ) → scan_holds taken h ≡ scan_holds old h
+    taken_holds h = omega (arith, taken_moves h, account h)
+
+    mid_few : (h : ℕ) → scan_holds mid h ≤ scan_holds old h
+    mid_few h = omega (arith, taken_holds h, done.fewer h)
+
     taken_kept : Keeps old_table table (scan_holds old)
     taken_kept = shared_kept old_table table macro old t.p t.was building sound.owns sound.outside t.took.2
 
@@ -127,6 +137,16 @@ module _ (old_table table : List (Option Entry)) (macro : ℕ) (old : ArgScan) (
       owns = e.owns;
       hands = e.hands;
       moves = λ h. omega (arith, mid_moves h, e.moves h);
+      gains = record {
+        others = λ h l. elim (cases_lt 0 (holders_at between_table h)) [
+          | inl some ↦ omega (arith, mid_few h, e.gains.others h some)
+          | inr none ↦ omega (arith, mid_moves h, none, l, e.gains.fresh h (omega (arith, none)))
+        ];
+        fresh = λ h l. elim (cases_lt 0 (holders_at between_table h)) [
+          | inl some ↦ omega (arith, mid_few h, e.gains.others h some, sound.owns h, l)
+          | inr none ↦ omega (arith, e.gains.fresh h (omega (arith, none)))
+        ];
+      };
       kept = record {
         tokens = λ h l. e.kept.tokens h (omega (arith, mid_moves h, l)) ∙ mid_kept.tokens h l;
         places = λ h l. e.kept.places h (omega (arith, mid_moves h, l)) ∙ mid_kept.places h l;
@@ -135,8 +155,9 @@ module _ (old_table table : List (Option Entry)) (macro : ℕ) (old : ArgScan) (
 
     whole_cut_mid : 0 < length (left_at between_table macro mid) → IsCutShort old_table between_table macro old mid x
     whole_cut_mid some = record {
-      owns = record { covered = done.between.owns; building = λ r e. absurd (no_some r (sym done.between.none ∙ e)) };
+      owns = record { covered = done.between.owns; building = λ r e. absurd (no_some r (sym done.between.none ∙ e)); filled = done.between.filled; listed = done.between.listed };
       moves = mid_moves;
+      gains = record { others = λ h l. mid_few h; fresh = λ h l. omega (arith, mid_few h, sound.owns h, l) };
       kept = mid_kept;
       stage = inr (record {
         none = done.between.none;
@@ -185,6 +206,7 @@ cut_step old_table table macro old x (Some p) (Some q) e sound account h =
     record {
       owns = now_owns old_table table macro old x p e sound h.2 account q (Some q) refl h.0 h.1 old.mode old.braced;
       moves = now_moves old_table table macro old x p e sound h.2 account q (Some q) refl h.0 h.1 old.mode old.braced;
+      gains = now_gains old_table table macro old x p e sound h.2 account q (Some q) refl h.0 h.1 old.mode old.braced;
       kept = shared_kept old_table table macro old p e building sound.owns sound.outside h.2;
       stage = inl (record {
         was = tokens_at old_table (build_id p.build);

@@ -1,10 +1,11 @@
 -- The list in work becomes an argument.
 use Rattle.std.specs.Prelude.{unwrap_or}
-use Rattle.std.proofs.Common.{◌≡◌, ◌≢◌, ℕ, ◌+◌, ◌<◌, List, [], ◌∷◌, ◌++◌, length, drop, set, Option, None, Some, refl, sym, ap, subst, ◌∙◌, arith}
+use Rattle.std.proofs.Common.{◌≡◌, ◌≢◌, ℕ, ◌+◌, ◌<◌, ◌≤◌, List, [], ◌∷◌, ◌++◌, length, drop, set, Option, None, Some, inl, inr, refl, sym, ap, subst, ◌∙◌, arith}
+use Rattle.std.proofs.lemmas.Bool.{cases_eq}
 use Rattle.tex_defs.specs.declared.Token.{Token}
 use Rattle.token_lists.specs.declared.ListRef.{ListRef}
 use Rattle.token_lists.specs.Ids.{id_of, build_id, IsBuilding}
-use Rattle.token_lists.specs.Table.{Entry, tokens_of, tokens_at, places_of, holders_at}
+use Rattle.token_lists.specs.Table.{Entry, tokens_of, tokens_at, places_of, holders_at, holders_of}
 use Rattle.token_lists.specs.Accounts.{Moves, Covers, Keeps, holds, cell_holds}
 use Rattle.plain_state.specs.Arguments.{delimiters_of}
 use Rattle.macro_args.specs.declared.args.Args.{Args}
@@ -18,7 +19,7 @@ use Rattle.macro_call.specs.Listed.{AreListed}
 use Rattle.macro_call.specs.Tables.{IsOnly}
 use Rattle.macro_call.specs.PlainScans.{places_left}
 use Rattle.macro_call.specs.Scans.{behind_at, scan_holds, IsWhole, IsBuildingIn, work_by, Completes}
-use Rattle.macro_call.proofs.Entered.{args_kept}
+use Rattle.macro_call.proofs.Entered.{args_kept, holds_few}
 use Rattle.macro_call.proofs.Places.{left_behind}
 use Rattle.macro_args.proofs.Releases.{holds_own}
 use Rattle.macro_call.proofs.Listed.{listed_kept, kept_listed}
@@ -61,6 +62,10 @@ module _ (old_table table : List (Option Entry)) (macro : ℕ) (old : ArgScan) (
     places = λ h l. ap places_of (others.apart h (shared_apart h l));
   }
 
+cell_few : (cell : Option ListRef) (h : ℕ) → cell_holds cell h ≤ 1
+cell_few None h = omega arith
+cell_few (Some r) h = holds_few (id_of r) h
+
 pub building_in : (table : List (Option Entry)) (o : Option Present) (p : Present) → o ≡ Some p → IsBuildingIn table o → IsBuilding table p.build
 building_in table o p e h = subst (IsBuildingIn table) e h
 
@@ -102,5 +107,11 @@ module _ (old_table table : List (Option Entry)) (macro : ℕ) (old : ArgScan) (
     places = places;
     mode = refl;
     moves = λ h. omega (arith, holds_now h, account h, held h);
+    fewer = λ h. elim (cases_eq h (build_id p.build)) [
+      | inl is ↦ omega (arith, holds_now h, held h, cell_few cell h, ap (holds (build_id p.build)) is, holds_own (build_id p.build))
+      | inr other ↦
+          let same : holders_at table h ≡ holders_at old_table h = ap holders_of (others.apart h other) in
+          omega (arith, holds_now h, held h, account h, same)
+    ];
     kept = shared_kept old_table table macro old p present building whole.owns whole.outside others;
   }

@@ -1,6 +1,6 @@
 -- The next place is entered.
-use Rattle.std.proofs.Common.{◌≡◌, ◌≢◌, ℕ, ◌+◌, ◌<◌, List, [], ◌∷◌, ◌++◌, length, take, drop, map, Bool, false, Option, None, Some, refl, sym, ap, ap₂, subst, ◌∙◌, arith}
-use Rattle.std.specs.Prelude.{slice_set}
+use Rattle.std.proofs.Common.{◌≡◌, ◌≢◌, ℕ, ◌+◌, ◌<◌, ◌≤◌, List, [], ◌∷◌, ◌++◌, length, take, drop, map, cond, Bool, true, false, Option, None, Some, refl, sym, ap, ap₂, subst, ◌∙◌, arith}
+use Rattle.std.specs.Prelude.{slice_set, ◌==◌}
 use Rattle.std.proofs.lemmas.List.{get_or-set_same}
 use Rattle.std.proofs.lemmas.List.Sums.{sum_by-cons, sum_by-take-le}
 use Rattle.std.proofs.lemmas.Option.{same_Some}
@@ -29,6 +29,13 @@ use Rattle.macro_call.proofs.Delimited.{at_begin}
 use Rattle.macro_args.proofs.Releases.{holds_own}
 use Rattle.macro_call.proofs.Listed.{listed_kept}
 use Rattle.macro_call.proofs.Tables.{only_set, on_kept, tokens_kept}
+
+pub holds_few : (n h : ℕ) → holds n h ≤ 1
+holds_few n h = by (n == h)
+  where
+    by : (b : Bool) → cond b 1 0 ≤ 1
+    by true = omega arith
+    by false = omega arith
 
 -- lists whose entries stay
 pub cells_kept : (old new : List (Option Entry)) (cells : List (Option ListRef)) → ((h : ℕ) → 0 < cells_hold cells h → entry_at new h ≡ entry_at old h) →
@@ -139,9 +146,15 @@ module _ (old_table table : List (Option Entry)) (macro : ℕ) (old : ArgScan) (
     work = ap Some nothing ∙ sym (ap (λ (ps : List (List Token)). work_in (arguments (par_mode old.mode) (args_in old_table old.args) ps [])) places);
     sound = λ o. is_sound;
     same = λ o. goes_on;
-    owns = record { covered = covers; building = λ q e. subst (λ (r : Present). IsBuilding table r.build) (same_Some p q e) is_building };
+    owns = record { covered = covers; building = λ q e. subst (λ (r : Present). IsBuilding table r.build) (same_Some p q e) is_building; filled = is_sound.filled; listed = is_sound.listed };
     hands = tt;
     moves = λ h. omega (arith, account h, old_holds h, new_holds h);
+    gains = record {
+      others = λ h l.
+          let same : holders_at table h ≡ holders_at old_table h = ap holders_of (only.apart h (held_apart h l)) in
+          omega (arith, account h, same, old_holds h, new_holds h);
+      fresh = λ h l. omega (arith, old_holds h, new_holds h, between.owns h, l, holds_few (build_id b) h);
+    };
     kept = record {
       tokens = λ h l. ap tokens_of (only.apart h (held_apart h (omega (arith, l))));
       places = λ h l. ap places_of (only.apart h (held_apart h (omega (arith, l))));

@@ -22,7 +22,7 @@ use Rattle.macro_call.specs.Growths.{target_of, growth_of}
 use Rattle.macro_call.specs.Stages.{Stage, Stands, stage_of, kept_in, read_in, target_at, gained}
 use Rattle.macro_call.specs.Tables.{IsOnly}
 use Rattle.macro_call.specs.PlainScans.{resume_at, places_behind}
-use Rattle.macro_call.specs.Scans.{scan_of, resume, behind_at, scan_holds, Owns, IsSound, IsInPlace, Answers, answer_of, work_of, work_by, args_left, handed, HandsOut, ScannersHaveLists}
+use Rattle.macro_call.specs.Scans.{scan_of, resume, behind_at, scan_holds, Owns, Gains, IsSound, IsInPlace, Answers, answer_of, work_of, work_by, args_left, handed, HandsOut, ScannersHaveLists}
 use Rattle.macro_call.proofs.Completed.{holds_both, args_stay, args_listed, macro_apart, macro_tokens, shared_kept}
 use Rattle.macro_call.proofs.Growths.{work-sought, arguments-sought, args-left-sought, whole_met, growth_met}
 use Rattle.macro_call.proofs.Tables.{on_kept}
@@ -108,7 +108,12 @@ module _ (old_table table : List (Option Entry)) (macro : ℕ) (old : ArgScan) (
     now_owns mode braced = record {
       covered = λ h. omega (arith, now_holds h, sound.owns h, account h);
       building = λ r e. subst (λ (s : Present). IsBuilding table s.build) (same_Some q r (sym now_present ∙ e)) building;
+      filled = sound.filled;
+      listed = args_listed old_table table macro old p present here.0 sound.owns sound.outside others sound.listed;
     }
+
+    pub now_gains : (mode : ParMode) (braced : Bool) → Gains old_table (scan_holds old) (scan_holds (record { cursor = old.cursor; mode = mode; braced = braced; present = n; args = old.args }))
+    now_gains mode braced = record { others = λ h l. omega (arith, now_holds h); fresh = λ h l. omega (arith, now_holds h, sound.owns h, l) }
 
     pub now_moves : (mode : ParMode) (braced : Bool) → Moves old_table table (scan_holds old) (scan_holds (record { cursor = old.cursor; mode = mode; braced = braced; present = n; args = old.args }))
     now_moves mode braced = λ h. omega (arith, now_holds h, account h)
@@ -154,5 +159,6 @@ module _ (old_table table : List (Option Entry)) (macro : ℕ) (old : ArgScan) (
         owns = now_owns mode braced;
         hands = hands _;
         moves = λ h. omega (arith, now_moves mode braced h, gives h);
+        gains = record { others = λ h l. omega (arith, now_holds h, gives h); fresh = λ h l. omega (arith, now_holds h, gives h, sound.owns h, l) };
         kept = shared_kept old_table table macro old p present here.0 sound.owns sound.outside others;
       }

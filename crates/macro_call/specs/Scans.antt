@@ -1,5 +1,5 @@
 -- A scanner, what it has of the call, and what a token does to it.
-use Rattle.std.specs.Prelude.{false, ◌≡◌, ◌≢◌, ℕ, ◌+◌, ◌<◌, List, [], ◌∷◌, ◌++◌, ◌⊎◌, Option, None, Some, option_map, unwrap_or, length}
+use Rattle.std.specs.Prelude.{false, ◌≡◌, ◌≢◌, ℕ, ◌+◌, ◌<◌, ◌≤◌, List, [], ◌∷◌, ◌++◌, ◌⊎◌, Option, None, Some, option_map, unwrap_or, length}
 use Rattle.tex_defs.specs.declared.Token.{Token}
 use Rattle.token_lists.specs.Table.{Entry, holders_at, tokens_at}
 use Rattle.token_lists.specs.Accounts.{Covers, Moves, Keeps}
@@ -57,10 +57,12 @@ abbrev pub IsInPlace : List (Option Entry) → (macro : ℕ) → ArgScan → Opt
 IsInPlace table macro scan None = (scan.args.count ≡ 0) × (scan.braced ≡ false) × (0 < length (delimiter_at table macro scan.cursor))
 IsInPlace table macro scan (Some p) = IsBuilding table p.build × Stands (delimiter_at table macro scan.cursor) (stage_of table p) × (scan.args.count < 9)
 
--- what the scanner holds is counted, and its lists may be released
+-- what the scanner holds is counted, its lists may be released, and an argument without tokens has none
 pub record Owns (table : List (Option Entry)) (scan : ArgScan) : Type 0 where
   pub covered : Covers table (scan_holds scan)
   pub building : (p : Present) → scan.present ≡ Some p → IsBuilding table p.build
+  pub filled : IsFilled scan.args
+  pub listed : AreListed table scan.args
 
 -- a scanner that goes on, over the list of this macro, which somebody else holds too
 pub record IsSound (table : List (Option Entry)) (macro : ℕ) (scan : ArgScan) : Type 0 where
@@ -97,6 +99,7 @@ handed (ask.ParEnded silent) h = 0
 
 -- arguments that are handed out, and what is left: an argument without tokens has no list, and the scanner holds nothing
 pub record HandsAll (table : List (Option Entry)) (args : Args) (left : ℕ → ℕ) : Type 0 where
+  pub filled : IsFilled args
   pub listed : AreListed table args
   pub spent : (h : ℕ) → left h ≡ 0
 
@@ -127,6 +130,11 @@ pub record Next (old_table new_table : List (Option Entry)) (macro : ℕ) (old n
   pub sound : IsSound new_table macro new
   pub same : (fed : List Fed) → resume old_table macro old (Tok x ∷ fed) ≡ resume new_table macro new fed
 
+-- No list that has a holder gets another one, and a new list has one.
+pub record Gains (old_table : List (Option Entry)) (before after : ℕ → ℕ) : Type 0 where
+  pub others : (h : ℕ) → 0 < holders_at old_table h → after h ≤ before h
+  pub fresh : (h : ℕ) → holders_at old_table h ≡ 0 → after h ≤ 1
+
 -- Behind the tokens in front of the first place, or behind a delimiter: the next place is entered, or the call is made.
 pub record Enters (old_table new_table : List (Option Entry)) (macro : ℕ) (old new : ArgScan) (answer : ArgAsk) : Type 0 where
   pub answers : answer_of new_table answer (args_in new_table new.args) (work_of new_table new) ≡ arguments (par_mode old.mode) (args_in old_table old.args) (left_at old_table macro old) []
@@ -137,6 +145,7 @@ pub record Enters (old_table new_table : List (Option Entry)) (macro : ℕ) (old
   pub owns : Owns new_table new
   pub hands : HandsOut new_table answer (scan_holds new)
   pub moves : Moves old_table new_table (scan_holds old) (λ h. scan_holds new h + handed answer h)
+  pub gains : Gains old_table (scan_holds old) (λ h. scan_holds new h + handed answer h)
   pub kept : Keeps old_table new_table (scan_holds old)
 
 -- a scanner that may enter the next place
@@ -166,6 +175,7 @@ pub record Answers (old_table new_table : List (Option Entry)) (macro : ℕ) (ol
   pub owns : Owns new_table new
   pub hands : HandsOut new_table answer (scan_holds new)
   pub moves : Moves old_table new_table (scan_holds old) (λ h. scan_holds new h + handed answer h)
+  pub gains : Gains old_table (scan_holds old) (λ h. scan_holds new h + handed answer h)
   pub kept : Keeps old_table new_table (scan_holds old)
 
 -- The memory is full within a growth: the list in work has some of the tokens that go into it, from the first on, and not all,
@@ -198,6 +208,7 @@ pub record IsCutBetween (old_table new_table : List (Option Entry)) (macro : ℕ
 pub record IsCutShort (old_table new_table : List (Option Entry)) (macro : ℕ) (old new : ArgScan) (x : Token) : Type 0 where
   pub owns : Owns new_table new
   pub moves : Moves old_table new_table (scan_holds old) (scan_holds new)
+  pub gains : Gains old_table (scan_holds old) (scan_holds new)
   pub kept : Keeps old_table new_table (scan_holds old)
   pub stage : IsCutInGrowth old_table new_table macro old new x ⊎ IsCutBetween old_table new_table macro old new x
 
@@ -245,4 +256,5 @@ pub record Completes (old_table new_table : List (Option Entry)) (macro : ℕ) (
   pub places : left_at new_table macro new ≡ behind_at old_table macro old
   pub mode : new.mode ≡ old.mode
   pub moves : Moves old_table new_table (scan_holds old) (scan_holds new)
+  pub fewer : (h : ℕ) → scan_holds new h ≤ scan_holds old h
   pub kept : Keeps old_table new_table (scan_holds old)

@@ -1,5 +1,5 @@
 // The outer braces of an argument.
-ghost use Rattle.std.specs.Prelude.{◌≡◌};
+ghost use Rattle.std.specs.Prelude.{◌≡◌, length};
 ghost use Rattle.token_lists.specs.Table.{tokens_at};
 ghost use Rattle.token_lists.specs.Accounts.{Moves, none};
 ghost use Rattle.token_lists.specs.Ids.{build_id, IsBuilding};
@@ -50,6 +50,7 @@ pub fn without_braces(lists: &mut Lists, build: &mut Build)
     ensures stripped { tokens_at lists.new (build_id build.old) ≡ without_braces (tokens_at lists.old (build_id build.old)) }
     ensures others { IsOnly lists.old lists.new (build_id build.old) }
     ensures account { Moves lists.old lists.new none none }
+    ensures length { length lists.new ≡ length lists.old }
 {
     if is_group(lists, build) {
         lists.drop_first(build);

@@ -21,6 +21,7 @@ pub fn store(lists: &mut Lists, build: &mut Build, token: Token) -> Result<(), F
     ensures account { Moves lists.old lists.new none none }
     ensures err { OnErr result (lists.new ≡ lists.old) }
     ensures full { IfErr result (λ f. IsFull f lists.new) }
+    ensures length { length lists.new ≡ length lists.old }
 {
     lists.append(build, token)
 }
@@ -44,6 +45,7 @@ pub fn store_front(
     ensures account { Moves lists.old lists.new none none }
     ensures err { OnErr result (IsGrownByPart (tokens_at lists.old (build_id build.old)) (tokens_at lists.new (build_id build.old)) (take count (delimiter_at lists.old (id_of list.now) delimiter))) }
     ensures full { IfErr result (λ f. IsFull f lists.new) }
+    ensures length { length lists.new ≡ length lists.old }
 {
     let mut from = delimiter;
     for _i in 0..count {

@@ -109,6 +109,7 @@ impl Present {
         ensures full { IfErr result (λ f. IsFull f lists.new) }
         ensures cut_short { OnErr result (IsGrownByPart (tokens_at lists.old (build_id self.old.build)) (tokens_at lists.new (build_id self.old.build)) (take self.old.matched (delimiter_at lists.old (id_of list.now) delimiter))) }
         ensures stays { OnErr result (IsSamePoint self.old self.new) }
+        ensures length { length lists.new ≡ length lists.old }
     {
         store_front(lists, list, &mut self.build, delimiter, self.matched)?;
         self.from = built_len(lists, &self.build);
@@ -130,6 +131,7 @@ impl Present {
         ensures unchanged { OnErr result (tokens_at lists.new (build_id self.old.build) ≡ tokens_at lists.old (build_id self.old.build)) }
         ensures cut_short { OnErr result (IsGrownByPart (tokens_at lists.old (build_id self.old.build)) (tokens_at lists.new (build_id self.old.build)) (gained [] (stage_of lists.old self.old) x (undelimited_case (par_mode mode) (tokens_at lists.old (build_id self.old.build)) x))) }
         ensures stays { OnErr result (IsSamePoint self.old self.new) }
+        ensures length { length lists.new ≡ length lists.old }
     {
         if self.depth == 1 && is_end(x) {
             lists.drop_first(&mut self.build);
@@ -160,6 +162,7 @@ impl Present {
         ensures unchanged { OnErr result (tokens_at lists.new (build_id self.old.build) ≡ tokens_at lists.old (build_id self.old.build)) }
         ensures cut_short { OnErr result (IsGrownByPart (tokens_at lists.old (build_id self.old.build)) (tokens_at lists.new (build_id self.old.build)) (gained [] (stage_of lists.old self.old) x (undelimited_case (par_mode mode) (tokens_at lists.old (build_id self.old.build)) x))) }
         ensures stays { OnErr result (IsSamePoint self.old self.new) }
+        ensures length { length lists.new ≡ length lists.old }
     {
         if self.depth > 0 {
             return self.feed_group(lists, mode, x);
@@ -217,6 +220,7 @@ impl Present {
         ensures full { IfErr result (λ f. IsFull f lists.new) }
         ensures cut_short { OnErr result (IsGrownByPart (tokens_at lists.old (build_id self.old.build)) (tokens_at lists.new (build_id self.old.build)) (gained (delimiter_at lists.old (id_of list.now) delimiter) (stage_of lists.old self.old) x (delimited_case (delimiter_at lists.old (id_of list.now) delimiter) (par_mode mode) (kept_in (stage_of lists.old self.old)) (read_in (delimiter_at lists.old (id_of list.now) delimiter) (stage_of lists.old self.old)) x))) }
         ensures stays { OnErr result (IsSamePoint self.old self.new) }
+        ensures length { length lists.new ≡ length lists.old }
     {
         let _used = lists.used();
         let depth = behind(self.depth, x);
@@ -263,6 +267,7 @@ impl Present {
         ensures full { IfErr result (λ f. IsFull f lists.new) }
         ensures cut_short { OnErr result (IsGrownByPart (tokens_at lists.old (build_id self.old.build)) (tokens_at lists.new (build_id self.old.build)) (gained (delimiter_at lists.old (id_of list.now) delimiter) (stage_of lists.old self.old) x (delimited_case (delimiter_at lists.old (id_of list.now) delimiter) (par_mode mode) (kept_in (stage_of lists.old self.old)) (read_in (delimiter_at lists.old (id_of list.now) delimiter) (stage_of lists.old self.old)) x))) }
         ensures stays { OnErr result (IsSamePoint self.old self.new) }
+        ensures length { length lists.new ≡ length lists.old }
     {
         let _used = lists.used();
         let before = if self.matched > 0 { 0 } else { self.depth };
@@ -304,6 +309,7 @@ impl Present {
         ensures full { IfErr result (λ f. IsFull f lists.new) }
         ensures cut_short { OnErr result (IsGrownByPart (tokens_at lists.old (build_id self.old.build)) (tokens_at lists.new (build_id self.old.build)) (gained (delimiter_at lists.old (id_of list.now) delimiter) (stage_of lists.old self.old) x (case_at (delimiter_at lists.old (id_of list.now) delimiter) (par_mode mode) (kept_in (stage_of lists.old self.old)) (read_in (delimiter_at lists.old (id_of list.now) delimiter) (stage_of lists.old self.old)) x))) }
         ensures stays { OnErr result (IsSamePoint self.old self.new) }
+        ensures length { length lists.new ≡ length lists.old }
     {
         if delimiter.next_along(lists).is_none() {
             return self.feed_undelimited(lists, mode, x);
@@ -318,6 +324,7 @@ impl Present {
         ensures listed { IfSome result (λ r. 0 < length (tokens_at lists.new (id_of r))) }
         ensures others { IsOnly lists.old lists.new (build_id self.build) }
         ensures account { Moves lists.old lists.new (holds (build_id self.build)) (cell_holds result) }
+        ensures length { length lists.new ≡ length lists.old }
     {
         let Present {
             build,
@@ -339,6 +346,7 @@ pub fn abandon(lists: &mut Lists, present: Option<Present>)
     ensures account { Moves lists.old lists.new (present_holds present) none }
     ensures others { (h : ℕ) → present_holds present h ≡ 0 → entry_at lists.new h ≡ entry_at lists.old h }
     ensures free { present ≡ None → lists.new ≡ lists.old }
+    ensures length { length lists.new ≡ length lists.old }
 {
     if let Some(
         Present {

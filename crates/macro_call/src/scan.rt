@@ -1,16 +1,16 @@
 // A call: the tokens in front of the first place, and the places.
-ghost use Rattle.std.specs.Prelude.{◌≡◌, Option, ◌<◌, ◌+◌, ◌∷◌, [], ℕ, List, IfOk, IfErr, OnErr, length, None, ◌≢◌};
+ghost use Rattle.std.specs.Prelude.{◌≡◌, true, Option, ◌<◌, ◌+◌, ◌∷◌, [], ℕ, List, IfOk, IfErr, OnErr, length, None, ◌≢◌};
 ghost use Rattle.std.specs.Option.{option_map};
 ghost use Rattle.token_lists.specs.Table.{Entry, tokens_at, IsHeld};
 ghost use Rattle.token_lists.specs.Accounts.{Moves, Keeps, none};
 ghost use Rattle.token_lists.specs.Ids.{id_of, build_id};
 ghost use Rattle.token_lists.specs.Refusals.{IsFull};
-ghost use Rattle.plain_state.specs.Arguments.{start_of, delimiters_of, gathering, Fed, Tok, Cut, Settled};
+ghost use Rattle.plain_state.specs.Arguments.{start_of, delimiters_of, begins_with_place, gathering, Fed, Tok, Cut, Settled};
 ghost use Rattle.macro_args.specs.Args.{IsFilled};
 ghost use Rattle.macro_call.specs.Cursors.{IsOn, delimiter_at};
 ghost use Rattle.macro_call.specs.Modes.{mode_of};
 ghost use Rattle.macro_call.specs.PlainScans.{first_scan, cut_scan, settled_scan};
-ghost use Rattle.macro_call.specs.Scans.{scan_of, resume, scan_holds, Owns, IsSound, answer_of, handed, IsOpen, Next, IsBetween, NextPlace, left_at, Enters, Answers, IsCutShort, TookIn, CutIn, IsReady, IsWhole, Completes};
+ghost use Rattle.macro_call.specs.Scans.{scan_of, resume, scan_holds, Owns, IsSound, answer_of, handed, IsOpen, Gains, Next, IsBetween, NextPlace, left_at, Enters, Answers, IsCutShort, TookIn, CutIn, IsReady, IsWhole, Completes};
 
 use crate::cursor::{Cursor, at_first};
 use crate::par_mode::ParMode;
@@ -66,6 +66,7 @@ fn take_step(
     ensures cut_short { OnErr result (CutIn lists.old lists.new (id_of list.now) cursor mode x present.old present.new) }
     ensures account { Moves lists.old lists.new none none }
     ensures full { IfErr result (λ f. IsFull f lists.new) }
+    ensures length { length lists.new ≡ length lists.old }
 {
     match present {
         Some(present) => present.feed(lists, list, cursor, mode, x),
@@ -96,6 +97,7 @@ impl ArgScan {
         ensures unchanged { OnErr result (self.new ≡ self.old) }
         ensures place { OnErr result (0 < length (left_at lists.old (id_of list.now) self.old)) }
         ensures full { IfErr result (λ f. IsFull f lists.new) }
+        ensures length { length lists.new ≡ length lists.old }
     {
         let Some(next) = self.next_place(lists, list) else {
             let args = mem::replace(&mut self.args, Args::none());
@@ -118,6 +120,7 @@ impl ArgScan {
         ensures answers { IfOk result (λ answer. Answers lists.old lists.new (id_of list.now) self.old self.new x answer) }
         ensures cut_short { OnErr result (IsCutShort lists.old lists.new (id_of list.now) self.old self.new x) }
         ensures full { IfErr result (λ f. IsFull f lists.new) }
+        ensures length { length lists.new ≡ length lists.old }
     {
         let (wanted, next) = self.cursor.delimiting(lists, list);
         if !same(x, wanted) {
@@ -133,7 +136,8 @@ impl ArgScan {
     // The list in work is a whole argument.
     fn complete(&mut self, lists: &mut Lists, list: &ListRef)
         requires { IsWhole lists.old (id_of list.now) self.old }
-        ensures { Completes lists.old lists.new (id_of list.now) self.old self.new }
+        ensures completes { Completes lists.old lists.new (id_of list.now) self.old self.new }
+        ensures length { length lists.new ≡ length lists.old }
     {
         let Some(present) = mem::replace(&mut self.present, None) else {
             return;
@@ -150,6 +154,7 @@ impl ArgScan {
         ensures answers { IfOk result (λ answer. Answers lists.old lists.new (id_of list.now) self.old self.new x answer) }
         ensures cut_short { OnErr result (IsCutShort lists.old lists.new (id_of list.now) self.old self.new x) }
         ensures full { IfErr result (λ f. IsFull f lists.new) }
+        ensures length { length lists.new ≡ length lists.old }
     {
         let step = match take_step(&mut self.present, lists, list, self.cursor, self.mode, x) {
             Ok(step) => step,
@@ -184,9 +189,12 @@ impl ArgScan {
         ensures plain { IfOk result (λ scan. scan_of lists.new scan ≡ first_scan (tokens_at lists.old (id_of list.now)) (mode_of long)) }
         ensures stands { IfOk result (λ scan. (fed : List Fed) → resume lists.new (id_of list.now) scan fed ≡ gathering (tokens_at lists.old (id_of list.now)) (mode_of long) fed) }
         ensures account { IfOk result (λ scan. Moves lists.old lists.new none (scan_holds scan)) }
+        ensures gains { IfOk result (λ scan. Gains lists.old none (scan_holds scan)) }
         ensures kept { Keeps lists.old lists.new none }
+        ensures place { OnErr result (begins_with_place (tokens_at lists.old (id_of list.now)) ≡ true) }
         ensures err { OnErr result (lists.new ≡ lists.old) }
         ensures full { IfErr result (λ f. IsFull f lists.new) }
+        ensures length { length lists.new ≡ length lists.old }
     {
         let mut cursor = at_first(lists, list);
         let mut present = None;
@@ -223,6 +231,7 @@ impl ArgScan {
         ensures answers { IfOk result (λ answer. Answers lists.old lists.new (id_of list.now) self.old self.new seen.token answer) }
         ensures cut_short { OnErr result (IsCutShort lists.old lists.new (id_of list.now) self.old self.new seen.token) }
         ensures full { IfErr result (λ f. IsFull f lists.new) }
+        ensures length { length lists.new ≡ length lists.old }
     {
         if self.present.is_none() {
             return self.feed_start(lists, list, seen.token);
@@ -268,6 +277,7 @@ impl ArgScan {
         requires { Owns lists.old self }
         ensures account { Moves lists.old lists.new (scan_holds self) none }
         ensures kept { Keeps lists.old lists.new (scan_holds self) }
+        ensures length { length lists.new ≡ length lists.old }
     {
         let ArgScan {
             cursor: _,

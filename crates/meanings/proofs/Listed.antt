@@ -39,7 +39,7 @@ looked_up_held cells (Some k) fixed id free is = elim (cases_lt k (length cells)
   | inr past ↦ absurd (none-some id (sym (ap list_of (get_or_past cells k means.Undefined past)) ∙ is))
 ]
 
-list_held : (m : Map) (n : Name) (id : ℕ) → list_of (meaning_of m n) ≡ Some id → 0 < held m id
+pub list_held : (m : Map) (n : Name) (id : ℕ) → list_of (meaning_of m n) ≡ Some id → 0 < held m id
 list_held m n id is = looked_up_held m.cells (location n) (fixed_meaning n) id (fixed_unlisted n) is
 
 pub others_leave : OthersLeaveMeanings

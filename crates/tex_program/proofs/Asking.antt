@@ -31,6 +31,9 @@ use Rattle.tex_program.specs.declared.engine.Engine.{Engine}
 use Rattle.tex_program.specs.Book.{Book, with_work}
 use Rattle.tex_program.specs.Stands.{Stands, WorkStands, WaitStands, Waits, WaitsWith, EndsHere, IsTaken, OuterStand, FrameStands, Innermost, SameState, state_of, page_of}
 use Rattle.tex_program.specs.Rules.{world_of, plan_of, onward_of, enters_of, scanning_of, Takes, Cuts, Went}
+use Rattle.input_state.specs.Callings.{NotCalling}
+use Rattle.input_state.specs.Stored.{gathered}
+use Rattle.tex_program.proofs.Bare.{bare_after}
 use Rattle.tex_program.proofs.Cutting.{full_cuts, cuts_by}
 use Rattle.tex_program.proofs.Joining.{IsQuiet, quiet_wrote, went_by}
 use Rattle.tex_program.proofs.Reporting.{reads_now}
@@ -42,7 +45,7 @@ pub by_none : (sizes : Sizes) (e : Engine) (P : Book → List Move → Type 0) �
 by_none sizes e P top h book st = at book.work st where
   at : (work : List Reading) → Stands sizes e (with_work work book) → P (with_work work book) (plan_of e (with_work work book))
   at [] st = h (with_work [] book) (top, st)
-  at (r ∷ rs) st = absurd (subst (λ (x : Option Frame). WorkStands e.ask x e.outer.items e.input.gathered (r ∷ rs)) top st.readings)
+  at (r ∷ rs) st = absurd (subst (λ (x : Option Frame). WorkStands e.ask x e.outer.items e.input.builds (r ∷ rs)) top st.readings)
 
 -- the innermost reading, which asks for this, and those beneath it
 pub record Asks (sizes : Sizes) (e : Engine) (a : Ask) (book : Book) (r : Reading) (rs : List Reading) : Type 0 where
@@ -50,29 +53,29 @@ pub record Asks (sizes : Sizes) (e : Engine) (a : Ask) (book : Book) (r : Readin
   pub frame : Frame
   pub top : e.top ≡ Some frame
   pub ask : e.ask ≡ a
-  pub innermost : Innermost a frame e.input.gathered r
+  pub innermost : Innermost a frame e.input.builds r
   pub outer : OuterStand (reverse e.outer.items) rs
 
 module _ (sizes : Sizes) (e : Engine) (P : Book → List Move → Type 0) where
   by_top : (t : Option Frame) (a : Ask) → e.top ≡ t → (t ≡ None → ⊥) → e.ask ≡ a →
-      ((book : Book) (r : Reading) (rs : List Reading) → Asks sizes e a book r rs → P (with_work (r ∷ rs) book) (answered (state_of e (with_work (r ∷ rs) book)) (r ∷ rs) r (ask_of e.input.gathered a))) →
-      (book : Book) (work : List Reading) → Stands sizes e (with_work work book) → WorkStands a t e.outer.items e.input.gathered work → P (with_work work book) (plan_of e (with_work work book))
+      ((book : Book) (r : Reading) (rs : List Reading) → Asks sizes e a book r rs → P (with_work (r ∷ rs) book) (answered (state_of e (with_work (r ∷ rs) book)) (r ∷ rs) r (ask_of e.input.builds a))) →
+      (book : Book) (work : List Reading) → Stands sizes e (with_work work book) → WorkStands a t e.outer.items e.input.builds work → P (with_work work book) (plan_of e (with_work work book))
   by_top None a top some is h book work st ws = absurd (some refl)
   by_top (Some f) a top some is h book [] st ws = absurd ws
   by_top (Some f) a top some is h book (r ∷ rs) st ws =
       subst (λ (x : reading.Ask). P (with_work (r ∷ rs) book) (answered (state_of e (with_work (r ∷ rs) book)) (r ∷ rs) r x)) ws.0.asked (h book r rs (record { stands = st; frame = f; top = top; ask = is; innermost = ws.0; outer = ws.1 }))
 
   pub by_ask : (a : Ask) → (e.top ≡ None → ⊥) → e.ask ≡ a →
-      ((book : Book) (r : Reading) (rs : List Reading) → Asks sizes e a book r rs → P (with_work (r ∷ rs) book) (answered (state_of e (with_work (r ∷ rs) book)) (r ∷ rs) r (ask_of e.input.gathered a))) →
+      ((book : Book) (r : Reading) (rs : List Reading) → Asks sizes e a book r rs → P (with_work (r ∷ rs) book) (answered (state_of e (with_work (r ∷ rs) book)) (r ∷ rs) r (ask_of e.input.builds a))) →
       (book : Book) → Stands sizes e book → P book (plan_of e book)
-  by_ask a some is h book st = by_top e.top a refl some is h book book.work st (subst (λ (x : Ask). WorkStands x e.top e.outer.items e.input.gathered book.work) is st.readings)
+  by_ask a some is h book st = by_top e.top a refl some is h book book.work st (subst (λ (x : Ask). WorkStands x e.top e.outer.items e.input.builds book.work) is st.readings)
 
 -- a reading that ends
 ends_here : (sizes : Sizes) (e : Engine) (a : Ask) (v : reading.Value) (book : Book) (r : Reading) (rs : List Reading) → Asks sizes e a book r rs → IsTaken v rs → EndsHere sizes e v r rs book
-ends_here sizes e a v book r rs h taken = record { sound = h.stands.sound; idle = h.stands.idle; few = h.innermost.few; holds = h.innermost.holds; taken = taken; outer = h.outer }
+ends_here sizes e a v book r rs h taken = record { sound = h.stands.sound; idle = h.stands.idle; few = h.innermost.few; holds = h.innermost.holds; taken = taken; outer = h.outer; uncalled = h.stands.uncalled }
 
-pub done_here : (sizes : Sizes) (e : Engine) (value : Value) (back : Option Seen) (book : Book) (r : Reading) (rs : List Reading) → Asks sizes e (Done value back) book r rs → EndsHere sizes e (value_of e.input.gathered value) r rs book
-done_here sizes e value back book r rs h = ends_here sizes e (Done value back) (value_of e.input.gathered value) book r rs h (done_taken (value_of e.input.gathered value) (is_some back) r rs h.innermost.asked h.stands.lone)
+pub done_here : (sizes : Sizes) (e : Engine) (value : Value) (back : Option Seen) (book : Book) (r : Reading) (rs : List Reading) → Asks sizes e (Done value back) book r rs → EndsHere sizes e (value_of e.input.builds value) r rs book
+done_here sizes e value back book r rs h = ends_here sizes e (Done value back) (value_of e.input.builds value) book r rs h (done_taken (value_of e.input.builds value) (is_some back) r rs h.innermost.asked h.stands.lone)
 
 flag_taken : (b : Bool) (rs : List Reading) → IsTaken (reading.Flag b) rs
 flag_taken b [] = refl
@@ -82,18 +85,19 @@ pub act_here : (sizes : Sizes) (e : Engine) (effect : Effect) (book : Book) (r :
 act_here sizes e effect book r rs h = ends_here sizes e (Act effect) (reading.Flag true) book r rs h (flag_taken true rs)
 
 -- a reading that goes on
-pub waits_here : (sizes : Sizes) (e : Engine) (a : Ask) (book : Book) (r : Reading) (rs : List Reading) (h : Asks sizes e a book r rs) → FrameStands h.frame e.input.gathered r → Waits sizes e (with_work (r ∷ rs) book)
+pub waits_here : (sizes : Sizes) (e : Engine) (a : Ask) (book : Book) (r : Reading) (rs : List Reading) (h : Asks sizes e a book r rs) → FrameStands h.frame e.input.builds r → Waits sizes e (with_work (r ∷ rs) book)
 waits_here sizes e a book r rs h stands = record {
   sound = h.stands.sound;
   idle = h.stands.idle;
-  readings = subst (λ (x : Option Frame). WaitStands x e.outer.items e.input.gathered (r ∷ rs)) (sym h.top) (stands, (h.innermost.holds, h.outer));
+  readings = subst (λ (x : Option Frame). WaitStands x e.outer.items e.input.builds (r ∷ rs)) (sym h.top) (stands, (h.innermost.holds, h.outer));
   lone = h.stands.lone;
+  uncalled = h.stands.uncalled;
 }
 
 -- the command in front of a reading that begins waits
 module _ (sizes : Sizes) (e : Engine) (waits : Waiting) (kind : Kind) (begins : Option Seen) (book : Book) (r : Reading) (rs : List Reading) (h : Asks sizes e (Inner waits kind begins) book r rs) where
-  waiting_frame : FrameStands (frame.Waits waits) e.input.gathered r
-  waiting_frame = subst (λ (f : Frame). FrameStands f e.input.gathered r) h.innermost.waits (h.innermost.open_frame tt)
+  waiting_frame : FrameStands (frame.Waits waits) e.input.builds r
+  waiting_frame = subst (λ (f : Frame). FrameStands f e.input.builds r) h.innermost.waits (h.innermost.open_frame tt)
 
   pub command_waits : WaitsWith sizes e (Some waits) (with_work (r ∷ rs) book)
   command_waits = record {
@@ -101,6 +105,7 @@ module _ (sizes : Sizes) (e : Engine) (waits : Waiting) (kind : Kind) (begins : 
     idle = h.stands.idle;
     bare = waiting_frame.owns;
     readings = (record { goes_on = waiting_frame.goes_on; kind = waiting_frame.kind; none = h.innermost.holds ∙ ap (length {A = List Token}) waiting_frame.owns }, h.outer);
+    uncalled = h.stands.uncalled;
   }
 
   pub command_lends : WaitsWith sizes e (Some waits) (with_work (lending (r ∷ rs)) book)
@@ -109,6 +114,7 @@ module _ (sizes : Sizes) (e : Engine) (waits : Waiting) (kind : Kind) (begins : 
     idle = h.stands.idle;
     bare = waiting_frame.owns;
     readings = (record { goes_on = waiting_frame.goes_on; kind = waiting_frame.kind; none = h.innermost.holds ∙ ap (length {A = List Token}) waiting_frame.owns }, h.outer);
+    uncalled = h.stands.uncalled;
   }
 
 -- the moves of a reading that begins with the token looked at
@@ -127,7 +133,7 @@ with_plan sizes e waits kind x book r rs h = with_is (kind_of kind) r x h.innerm
 module _ (sizes : Sizes) (e e' : Engine) (book : Book) (f : FilesTold) (s : SinkTold) (same : SameState e e') where
   -- one move of the readings that writes nothing
   quiet_went : (m : Move) (work : List Reading) (lists : List (List Token)) → IsQuiet m → step_of m ≡ 0 → refusal sizes m (state_of e book) ≡ None → made m (state_of e book) ≡ record (state_of e book) { work = work; gathered = lists } →
-      e'.input.gathered ≡ lists → Stands sizes e' (with_work work book) → Went sizes (state_of e book) e' (world_of f s e) (world_of f s e') (m ∷ []) 0
+      gathered e'.input ≡ lists → Stands sizes e' (with_work work book) → Went sizes (state_of e book) e' (world_of f s e) (world_of f s e') (m ∷ []) 0
   quiet_went m work lists q n fits makes is stands = record {
     book' = with_work work book;
     stands = stands;
@@ -136,14 +142,14 @@ module _ (sizes : Sizes) (e e' : Engine) (book : Book) (f : FilesTold) (s : Sink
     count = omega (arith, n);
   }
 
-  pub begun_went : (k : reading.Kind) → refusal sizes (Begun k) (state_of e book) ≡ None → e'.input.gathered ≡ own_lists k ++ e.input.gathered → Stands sizes e' (with_work (fresh k ∷ book.work) book) → Went sizes (state_of e book) e' (world_of f s e) (world_of f s e') (Begun k ∷ []) 0
-  begun_went k fits lists stands = quiet_went (Begun k) (fresh k ∷ book.work) (own_lists k ++ e.input.gathered) tt refl fits refl lists stands
+  pub begun_went : (k : reading.Kind) → refusal sizes (Begun k) (state_of e book) ≡ None → e.input.call ≡ NotCalling → e'.input.builds ≡ own_lists k ++ e.input.builds → Stands sizes e' (with_work (fresh k ∷ book.work) book) → Went sizes (state_of e book) e' (world_of f s e) (world_of f s e') (Begun k ∷ []) 0
+  begun_went k fits none lists stands = quiet_went (Begun k) (fresh k ∷ book.work) (own_lists k ++ gathered e.input) tt refl fits refl (bare_after e.input e'.input none same.calling (λ l. own_lists k ++ l) lists) stands
 
-  pub begun_with_went : (k : reading.Kind) (x : Seen) (ms : List Move) → ms ≡ BegunWith k x ∷ [] → refusal sizes (BegunWith k x) (state_of e book) ≡ None → e'.input.gathered ≡ own_lists k ++ e.input.gathered → Stands sizes e' (with_work (fed_with (Tok x) (fresh k ∷ lending book.work)) book) →
+  pub begun_with_went : (k : reading.Kind) (x : Seen) (ms : List Move) → ms ≡ BegunWith k x ∷ [] → refusal sizes (BegunWith k x) (state_of e book) ≡ None → e.input.call ≡ NotCalling → e'.input.builds ≡ own_lists k ++ e.input.builds → Stands sizes e' (with_work (fed_with (Tok x) (fresh k ∷ lending book.work)) book) →
       Went sizes (state_of e book) e' (world_of f s e) (world_of f s e') ms 0
-  begun_with_went k x ms is fits lists stands =
+  begun_with_went k x ms is fits none lists stands =
       went_by sizes (state_of e book) e' (world_of f s e) (world_of f s e') (BegunWith k x ∷ []) ms 0 is
-      (quiet_went (BegunWith k x) (fed_with (Tok x) (fresh k ∷ lending book.work)) (own_lists k ++ e.input.gathered) tt refl fits refl lists stands)
+      (quiet_went (BegunWith k x) (fed_with (Tok x) (fresh k ∷ lending book.work)) (own_lists k ++ gathered e.input) tt refl fits refl (bare_after e.input e'.input none same.calling (λ l. own_lists k ++ l) lists) stands)
 
 -- a move that a table has no room for, before which the engine stays
 pub refused_cuts : (sizes : Sizes) (e e' : Engine) (book : Book) (f : FilesTold) (s : SinkTold) (m : Move) (ms rest : List Move) (full : Full) (b : Broken) →

@@ -18,7 +18,7 @@ use Rattle.frames.specs.declared.frame.Frame.{Frame}
 use Rattle.frames.specs.declared.frame.Waiting.{Waiting}
 use Rattle.tex_program.specs.declared.engine.Engine.{Engine}
 use Rattle.tex_program.specs.Book.{Book}
-use Rattle.tex_program.specs.Stands.{Stands, Waits, WaitsFirst, WaitsWith, WorkStands, WaitStands, OuterStand, IsSound, Counts, state_of, frames, top_count, depth_full}
+use Rattle.tex_program.specs.Stands.{Stands, Waits, WaitsFirst, WaitsWith, WorkStands, WaitStands, OuterStand, IsSound, Counts, state_of, frames, top_count, call_count, depth_full}
 use Rattle.tex_program.proofs.Storing.{words_are}
 
 pub outer_depth : (fs : List Waiting) (rs : List Reading) → OuterStand fs rs → length rs ≡ length fs
@@ -42,16 +42,20 @@ wait_depth None outer lists (r ∷ rs) h = absurd h
 wait_depth (Some f) outer lists [] h = absurd h
 wait_depth (Some f) outer lists (r ∷ rs) h = top_depth r outer rs h.1.1
 
+-- no call counts
+uncounted : (e : Engine) (n : ℕ) → e.call ≡ None → n ≡ length e.outer.items + top_count e.top → n ≡ frames e
+uncounted e n none h = omega (arith, h, ap call_count none)
+
 pub counts_of : (sizes : Sizes) (e : Engine) (book : Book) → Stands sizes e book → Counts sizes e book
 counts_of sizes e book h = record {
   sound = h.sound;
-  depth = work_depth e.ask e.top e.outer.items e.input.gathered book.work h.readings;
+  depth = uncounted e (length book.work) h.uncalled.none (work_depth e.ask e.top e.outer.items e.input.builds book.work h.readings);
 }
 
 pub waits_count : (sizes : Sizes) (e : Engine) (book : Book) → Waits sizes e book → Counts sizes e book
 waits_count sizes e book h = record {
   sound = h.sound;
-  depth = wait_depth e.top e.outer.items e.input.gathered book.work h.readings;
+  depth = uncounted e (length book.work) h.uncalled.none (wait_depth e.top e.outer.items e.input.builds book.work h.readings);
 }
 
 open_count : (t : Option Frame) → IsSome t → top_count t ≡ 1
@@ -60,8 +64,8 @@ open_count (Some f) h = refl
 
 -- a command waits in place of the innermost reading
 pub inner_count : (sizes : Sizes) (e : Engine) (waiting : Waiting) (book : Book) → IsSome e.top → WaitsWith sizes e (Some waiting) book → Counts sizes e book
-inner_count sizes e waiting book o h = record { sound = h.sound; depth = at book.work h.readings } where
-  at : (work : List Reading) → WaitsFirst e waiting work → length work ≡ frames e
+inner_count sizes e waiting book o h = record { sound = h.sound; depth = uncounted e (length book.work) h.uncalled.none (at book.work h.readings) } where
+  at : (work : List Reading) → WaitsFirst e waiting work → length work ≡ length e.outer.items + top_count e.top
   at [] w = absurd w
   at (r ∷ rs) w = top_depth r e.outer.items rs w.1 ∙ ap (λ (n : ℕ). length e.outer.items + n) (sym (open_count e.top o))
 
@@ -85,7 +89,7 @@ in_range sizes [] behind t h = (if_in (is_in_range t (size_of sizes t)) (first_o
 in_range sizes (v ∷ before) behind t h = in_range sizes before behind t (if_in (is_in_range v (size_of sizes v)) (first_out_among sizes (before ++ t ∷ behind)) v h).1
 
 -- the readings of a run can be counted
-pub small_depth : (sizes : Sizes) → first_out_of_range sizes ≡ None → sizes.expansion_depth < 4294967295
+pub small_depth : (sizes : Sizes) → first_out_of_range sizes ≡ None → sizes.expansion_depth < 4294967294
 small_depth sizes h =
     let k = in_range sizes (take 11 tables) (DelayedWrites ∷ []) ExpansionDepth h in
     grind (arith, nat_tests, k)

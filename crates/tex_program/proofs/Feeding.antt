@@ -25,8 +25,11 @@ use Rattle.frames.specs.Resumes.{resume, resume_waiting, frame_list, frame_kind,
 use Rattle.frames.specs.Stack.{Stack}
 use Rattle.tex_program.specs.declared.engine.Engine.{Engine}
 use Rattle.tex_program.specs.Book.{Book, with_work}
-use Rattle.tex_program.specs.Stands.{Stands, WaitsFirst, WaitsWith, Waits as WaitsFor, WaitStands, WorkStands, OuterStand, WaitingStands, EndsHere, FrameStands, Innermost, FedFrame, IsSound, SameState, IsLone, IsTaken, IsLast, GivesLast, TellsOnce, BeginsBuilt, AtMostOne, kept_lists, other_lists}
+use Rattle.tex_program.specs.Stands.{Stands, WaitsFirst, WaitsWith, Waits as WaitsFor, WaitStands, WorkStands, OuterStand, WaitingStands, EndsHere, FrameStands, Innermost, FedFrame, IsSound, IsUncalled, SameState, IsLone, IsTaken, IsLast, GivesLast, TellsOnce, BeginsBuilt, AtMostOne, kept_lists, other_lists}
+use Rattle.input_state.specs.Callings.{NotCalling}
+use Rattle.input_state.specs.Stored.{Stored, gathered}
 use Rattle.tex_program.specs.Begins.{IsCommand}
+use Rattle.tex_program.proofs.Bare.{bare}
 use Rattle.tex_program.proofs.Storing.{sound_still}
 
 -- THE LAST OF WHAT IT WAS FED WITH
@@ -227,14 +230,19 @@ told_on a' frame frame' lists r below holds g none untold =
 pub sound_on : (sizes : Sizes) (e e' : Engine) (number : ℕ → ℕ) (macros : List (List Token)) → SameState e e' → IsSound sizes e number macros → IsSound sizes e' number macros
 sound_on sizes e e' number macros same h = sound_still sizes e e' number macros same.others.sizes same.others.depth same.others.names same.others.reports same.store h
 
+-- no call is gathered then
+pub uncalled_on : (e e' : Engine) → SameState e e' → IsUncalled e → IsUncalled e'
+uncalled_on e e' same h = record { none = same.others.call ∙ h.none; input = same.calling ∙ h.input }
+
 -- with this innermost reading
-pub stands_now : (sizes : Sizes) (e e' : Engine) (frame : Frame) (r : Reading) (rs : List Reading) (book : Book) → SameState e e' → IsSound sizes e book.number book.macros → e.input.making ≡ None →
-    e'.top ≡ Some frame → Innermost e'.ask frame e'.input.gathered r → OuterStand (reverse e'.outer.items) rs → IsLone (r ∷ rs) → Stands sizes e' (with_work (r ∷ rs) book)
-stands_now sizes e e' frame r rs book same sound idle top inner outer lone = record {
+pub stands_now : (sizes : Sizes) (e e' : Engine) (frame : Frame) (r : Reading) (rs : List Reading) (book : Book) → SameState e e' → IsSound sizes e book.number book.macros → e.input.making ≡ None → IsUncalled e →
+    e'.top ≡ Some frame → Innermost e'.ask frame e'.input.builds r → OuterStand (reverse e'.outer.items) rs → IsLone (r ∷ rs) → Stands sizes e' (with_work (r ∷ rs) book)
+stands_now sizes e e' frame r rs book same sound idle uncalled top inner outer lone = record {
   sound = sound_on sizes e e' book.number book.macros same sound;
   idle = same.making ∙ idle;
-  readings = subst (λ (t : Option Frame). WorkStands e'.ask t e'.outer.items e'.input.gathered (r ∷ rs)) (sym top) (inner, outer);
+  readings = subst (λ (t : Option Frame). WorkStands e'.ask t e'.outer.items e'.input.builds (r ∷ rs)) (sym top) (inner, outer);
   lone = lone;
+  uncalled = uncalled_on e e' same uncalled;
 }
 
 -- a reading of the same kind in its place
@@ -244,14 +252,14 @@ lone_fed x r (s ∷ rs) h = tt
 
 -- behind a token that its frame was fed with
 pub feeds_on : (sizes : Sizes) (e e' : Engine) (f frame frame' : Frame) (x : Seen) (lists : List (List Token)) (r : Reading) (rs : List Reading) (book : Book) → SameState e e' → f ≡ frame →
-    FedFrame sizes e f x lists r rs book → e'.top ≡ Some frame' → GivesBack e'.ask x → e'.outer ≡ e.outer → length e'.input.gathered ≡ length lists →
-    (MayFeed frame x lists → IsShallow frame lists → OwnedBy (frame_kind frame) (lists_after (frame_grows frame x) x lists) → GoesOn e'.ask frame frame' lists e'.input.gathered (Tok x)) →
+    FedFrame sizes e f x lists r rs book → e'.top ≡ Some frame' → GivesBack e'.ask x → e'.outer ≡ e.outer → length e'.input.builds ≡ length lists →
+    (MayFeed frame x lists → IsShallow frame lists → OwnedBy (frame_kind frame) (lists_after (frame_grows frame x) x lists) → GoesOn e'.ask frame frame' lists e'.input.builds (Tok x)) →
     Stands sizes e' (with_work (fed_with (Tok x) (r ∷ rs)) book)
 feeds_on sizes e e' f frame frame' x lists r rs book same is h top back outer long g =
     let below : FrameStands frame lists r = subst (λ (y : Frame). FrameStands y lists r) is h.frame in
     let may : MayFeed frame x lists = subst (λ (y : Frame). MayFeed y x lists) is h.may_feed in
     let on = g may below.shallow (owned_after frame x lists (owned_of frame lists below.owns)) in
-    stands_now sizes e e' frame' (record { kind = r.kind; fed = r.fed ++ Tok x ∷ []; lent = false; holds = r.holds }) rs book same h.sound h.idle top (fed_on e'.ask frame frame' lists e'.input.gathered x r below h.holds long h.built on back)
+    stands_now sizes e e' frame' (record { kind = r.kind; fed = r.fed ++ Tok x ∷ []; lent = false; holds = r.holds }) rs book same h.sound h.idle h.uncalled top (fed_on e'.ask frame frame' lists e'.input.builds x r below h.holds long h.built on back)
     (subst (λ (o : Stack). OuterStand (reverse o.items) rs) (sym outer) h.outer) (lone_fed (Tok x) r rs h.lone)
 
 -- a note changes no list
@@ -262,17 +270,17 @@ told_builds (Text name scan) lists h = sym (ap first_list h)
 
 -- behind the note that its report was written
 pub notes_on : (sizes : Sizes) (e e' : Engine) (f frame' : Frame) (book : Book) → SameState e e' → e.top ≡ Some f → WaitsFor sizes e book → e'.top ≡ Some frame' → GivesNone e'.ask → IsUntold e'.ask → e'.outer ≡ e.outer →
-    e'.input.gathered ≡ e.input.gathered →
+    e'.input.builds ≡ e.input.builds →
     ((lists : List (List Token)) → Builds f lists lists [] → IsShallow f lists → OwnedBy (frame_kind f) lists → GoesOn e'.ask f frame' lists lists Told) →
     Stands sizes e' (with_work (fed_with Told book.work) book)
-notes_on sizes e e' f frame' book same is h top none untold outer lists g = at book.work (subst (λ (t : Option Frame). WaitStands t e.outer.items e.input.gathered book.work) is h.readings) h.lone where
-  at : (work : List Reading) → WaitStands (Some f) e.outer.items e.input.gathered work → IsLone work → Stands sizes e' (with_work (fed_with Told work) book)
+notes_on sizes e e' f frame' book same is h top none untold outer lists g = at book.work (subst (λ (t : Option Frame). WaitStands t e.outer.items e.input.builds book.work) is h.readings) h.lone where
+  at : (work : List Reading) → WaitStands (Some f) e.outer.items e.input.builds work → IsLone work → Stands sizes e' (with_work (fed_with Told work) book)
   at [] w lone = absurd w
   at (r ∷ rs) w lone =
-      let below : FrameStands f e.input.gathered r = w.0 in
-      let on = g e.input.gathered (told_builds f e.input.gathered below.owns) below.shallow (owned_of f e.input.gathered below.owns) in
-      let inner = told_on e'.ask f frame' e.input.gathered r below w.1.0 on none untold in
-      stands_now sizes e e' frame' (record { kind = r.kind; fed = r.fed ++ Told ∷ []; lent = false; holds = r.holds }) rs book same h.sound h.idle top
+      let below : FrameStands f e.input.builds r = w.0 in
+      let on = g e.input.builds (told_builds f e.input.builds below.owns) below.shallow (owned_of f e.input.builds below.owns) in
+      let inner = told_on e'.ask f frame' e.input.builds r below w.1.0 on none untold in
+      stands_now sizes e e' frame' (record { kind = r.kind; fed = r.fed ++ Told ∷ []; lent = false; holds = r.holds }) rs book same h.sound h.idle h.uncalled top
       (subst (λ (l : List (List Token)). Innermost e'.ask frame' l (record { kind = r.kind; fed = r.fed ++ Told ∷ []; lent = false; holds = r.holds })) (sym lists) inner)
       (subst (λ (o : Stack). OuterStand (reverse o.items) rs) (sym outer) w.1.1) (lone_fed Told r rs lone)
 
@@ -315,6 +323,12 @@ pub ended_lists : (v : EngineValue) (lists : List (List Token)) (r : Reading) (r
 ended_lists v lists r rs few holds =
     let none : drop r.holds lists ≡ [] = ap (λ (n : ℕ). drop n lists) holds ∙ nothing_past lists in
     ap (λ (l : List (List Token)). reading.value_lists (value_of lists v) ++ l) none ∙ (append-nil (reading.value_lists (value_of lists v)) ∙ sym (value_kept v lists few))
+
+-- among all that are gathered
+pub ended_gathered : (v : EngineValue) (i j : Stored) (r : Reading) (rs : List Reading) → AtMostOne i.builds → r.holds ≡ length i.builds → i.call ≡ NotCalling → j.call ≡ i.call → j.builds ≡ kept_lists v i.builds →
+    reading.value_lists (value_of i.builds v) ++ beneath (r ∷ rs) (gathered i) ≡ gathered j
+ended_gathered v i j r rs few holds none same lists =
+    ap (λ (l : List (List Token)). reading.value_lists (value_of i.builds v) ++ beneath (r ∷ rs) l) (bare i none) ∙ ended_lists v i.builds r rs few holds ∙ sym lists ∙ sym (bare j (same ∙ none))
 
 -- and where no reading is beneath
 few_others : (lists : List (List Token)) → AtMostOne lists → other_lists lists ≡ []
@@ -374,26 +388,27 @@ lone_command w v r0 r [] is = subst IsCommand (sym is) (waits_command w)
 lone_command w v r0 r (s ∷ rs) is = tt
 
 -- the reading beneath goes on with the value of the one that ended
-pub ends_on : (sizes : Sizes) (e e' : Engine) (w w' : Waiting) (value : EngineValue) (r0 : Reading) (rs : List Reading) (book : Book) → SameState e e' → EndsHere sizes e (value_of e.input.gathered value) r0 rs book → e.outer.items ≡ e'.outer.items ++ w ∷ [] →
-    e'.top ≡ Some (Waits w') → e'.input.gathered ≡ kept_lists value e.input.gathered → GoesBy e'.ask w w' e.input.gathered value → Stands sizes e' (with_work (ended_with (value_of e.input.gathered value) (r0 ∷ rs)) book)
+pub ends_on : (sizes : Sizes) (e e' : Engine) (w w' : Waiting) (value : EngineValue) (r0 : Reading) (rs : List Reading) (book : Book) → SameState e e' → EndsHere sizes e (value_of e.input.builds value) r0 rs book → e.outer.items ≡ e'.outer.items ++ w ∷ [] →
+    e'.top ≡ Some (Waits w') → e'.input.builds ≡ kept_lists value e.input.builds → GoesBy e'.ask w w' e.input.builds value → Stands sizes e' (with_work (ended_with (value_of e.input.builds value) (r0 ∷ rs)) book)
 ends_on sizes e e' w w' value r0 rs book same h items top lists g =
     at rs (subst (λ (l : List Waiting). OuterStand l rs) (ap (λ (l : List Waiting). reverse l) items ∙ reverse-append e'.outer.items (w ∷ [])) h.outer) where
-      at : (rs : List Reading) → OuterStand (w ∷ reverse e'.outer.items) rs → Stands sizes e' (with_work (ended_with (value_of e.input.gathered value) (r0 ∷ rs)) book)
+      at : (rs : List Reading) → OuterStand (w ∷ reverse e'.outer.items) rs → Stands sizes e' (with_work (ended_with (value_of e.input.builds value) (r0 ∷ rs)) book)
       at [] o = absurd o
-      at (r ∷ rs) o = stands_now sizes e e' (Waits w') (record { kind = r.kind; fed = r.fed ++ Val (value_of e.input.gathered value) ∷ []; lent = false; holds = r.holds + length (reading.value_lists (value_of e.input.gathered value)) }) rs book same h.sound h.idle top
-          (subst (λ (l : List (List Token)). Innermost e'.ask (Waits w') l (record { kind = r.kind; fed = r.fed ++ Val (value_of e.input.gathered value) ∷ []; lent = false; holds = r.holds + length (reading.value_lists (value_of e.input.gathered value)) })) (sym lists) (value_on e'.ask w w' e.input.gathered value r h.few o.0 g)) o.1
-          (lone_command w (value_of e.input.gathered value) r0 r rs o.0.kind)
+      at (r ∷ rs) o = stands_now sizes e e' (Waits w') (record { kind = r.kind; fed = r.fed ++ Val (value_of e.input.builds value) ∷ []; lent = false; holds = r.holds + length (reading.value_lists (value_of e.input.builds value)) }) rs book same h.sound h.idle h.uncalled top
+          (subst (λ (l : List (List Token)). Innermost e'.ask (Waits w') l (record { kind = r.kind; fed = r.fed ++ Val (value_of e.input.builds value) ∷ []; lent = false; holds = r.holds + length (reading.value_lists (value_of e.input.builds value)) })) (sym lists) (value_on e'.ask w w' e.input.builds value r h.few o.0 g)) o.1
+          (lone_command w (value_of e.input.builds value) r0 r rs o.0.kind)
 
 -- no reading is beneath
-pub ends_last : (sizes : Sizes) (e e' : Engine) (value : EngineValue) (r : Reading) (rs : List Reading) (book : Book) → SameState e e' → EndsHere sizes e (value_of e.input.gathered value) r rs book → e.outer.items ≡ [] → e'.outer.items ≡ [] →
-    e'.top ≡ None → e'.input.gathered ≡ other_lists e.input.gathered → Stands sizes e' (with_work (ended_with (value_of e.input.gathered value) (r ∷ rs)) book)
+pub ends_last : (sizes : Sizes) (e e' : Engine) (value : EngineValue) (r : Reading) (rs : List Reading) (book : Book) → SameState e e' → EndsHere sizes e (value_of e.input.builds value) r rs book → e.outer.items ≡ [] → e'.outer.items ≡ [] →
+    e'.top ≡ None → e'.input.builds ≡ other_lists e.input.builds → Stands sizes e' (with_work (ended_with (value_of e.input.builds value) (r ∷ rs)) book)
 ends_last sizes e e' value r rs book same h none outer top lists = at rs (subst (λ (l : List Waiting). OuterStand (reverse l) rs) none h.outer) where
-  at : (rs : List Reading) → OuterStand [] rs → Stands sizes e' (with_work (ended_with (value_of e.input.gathered value) (r ∷ rs)) book)
+  at : (rs : List Reading) → OuterStand [] rs → Stands sizes e' (with_work (ended_with (value_of e.input.builds value) (r ∷ rs)) book)
   at [] o = record {
     sound = sound_on sizes e e' book.number book.macros same h.sound;
     idle = same.making ∙ h.idle;
-    readings = subst (λ (t : Option Frame). WorkStands e'.ask t e'.outer.items e'.input.gathered []) (sym top) (outer, lists ∙ few_others e.input.gathered h.few);
+    readings = subst (λ (t : Option Frame). WorkStands e'.ask t e'.outer.items e'.input.builds []) (sym top) (outer, lists ∙ few_others e.input.builds h.few);
     lone = tt;
+    uncalled = uncalled_on e e' same h.uncalled;
   }
   at (s ∷ rs) o = absurd o
 
@@ -442,7 +457,8 @@ first_inner a frame k b =
 pub record Beneath (sizes : Sizes) (e : Engine) (waits : Option Waiting) (book : Book) : Type 0 where
   pub sound : IsSound sizes e book.number book.macros
   pub idle : e.input.making ≡ None
-  pub bare : e.input.gathered ≡ []
+  pub bare : e.input.builds ≡ []
+  pub uncalled : IsUncalled e
   pub outer : OuterStand (reverse (e.outer.items ++ option_to_list waits)) book.work
 
 outer_with : (e : Engine) (w : Waiting) (work : List Reading) → WaitsFirst e w work → OuterStand (reverse (e.outer.items ++ w ∷ [])) work
@@ -450,20 +466,20 @@ outer_with e w [] h = absurd h
 outer_with e w (r ∷ rs) h = subst (λ (l : List Waiting). OuterStand l (r ∷ rs)) (sym (reverse-append e.outer.items (w ∷ []))) h
 
 below_it : (sizes : Sizes) (e : Engine) (waits : Option Waiting) (book : Book) → WaitsWith sizes e waits book → Beneath sizes e waits book
-below_it sizes e (Some w) book h = record { sound = h.sound; idle = h.idle; bare = h.bare; outer = outer_with e w book.work h.readings }
-below_it sizes e None book h = record { sound = h.1.sound; idle = h.1.idle; bare = (at book.work none).1; outer = (at book.work none).0 } where
-  none : WorkStands e.ask None e.outer.items e.input.gathered book.work
-  none = subst (λ (t : Option Frame). WorkStands e.ask t e.outer.items e.input.gathered book.work) h.0 h.1.readings
+below_it sizes e (Some w) book h = record { sound = h.sound; idle = h.idle; bare = h.bare; uncalled = h.uncalled; outer = outer_with e w book.work h.readings }
+below_it sizes e None book h = record { sound = h.1.sound; idle = h.1.idle; bare = (at book.work none).1; uncalled = h.1.uncalled; outer = (at book.work none).0 } where
+  none : WorkStands e.ask None e.outer.items e.input.builds book.work
+  none = subst (λ (t : Option Frame). WorkStands e.ask t e.outer.items e.input.builds book.work) h.0 h.1.readings
 
-  at : (work : List Reading) → WorkStands e.ask None e.outer.items e.input.gathered work → OuterStand (reverse (e.outer.items ++ [])) work × (e.input.gathered ≡ [])
+  at : (work : List Reading) → WorkStands e.ask None e.outer.items e.input.builds work → OuterStand (reverse (e.outer.items ++ [])) work × (e.input.builds ≡ [])
   at [] w = (subst (λ (l : List Waiting). OuterStand (reverse (l ++ [])) []) (sym w.0) tt, w.1)
   at (r ∷ rs) w = absurd w
 
 pub begins_on : (sizes : Sizes) (e e' : Engine) (waits : Option Waiting) (frame : Frame) (k : reading.Kind) (book : Book) → SameState e e' → WaitsWith sizes e waits book → e'.outer.items ≡ e.outer.items ++ option_to_list waits →
-    e'.top ≡ Some frame → e'.input.gathered ≡ own_lists k ++ e.input.gathered → StartsAs e'.ask frame k → IsLone (fresh k ∷ book.work) → Stands sizes e' (with_work (fresh k ∷ book.work) book)
+    e'.top ≡ Some frame → e'.input.builds ≡ own_lists k ++ e.input.builds → StartsAs e'.ask frame k → IsLone (fresh k ∷ book.work) → Stands sizes e' (with_work (fresh k ∷ book.work) book)
 begins_on sizes e e' waits frame k book same h items top lists b lone =
     let under = below_it sizes e waits book h in
-    let own : e'.input.gathered ≡ own_lists k = lists ∙ (ap (λ (l : List (List Token)). own_lists k ++ l) under.bare ∙ append-nil (own_lists k)) in
-    stands_now sizes e e' frame (fresh k) book.work book same under.sound under.idle top
+    let own : e'.input.builds ≡ own_lists k = lists ∙ (ap (λ (l : List (List Token)). own_lists k ++ l) under.bare ∙ append-nil (own_lists k)) in
+    stands_now sizes e e' frame (fresh k) book.work book same under.sound under.idle under.uncalled top
     (subst (λ (l : List (List Token)). Innermost e'.ask frame l (fresh k)) (sym own) (first_inner e'.ask frame k b))
     (subst (λ (l : List Waiting). OuterStand (reverse l) book.work) (sym items) under.outer) lone

@@ -2,7 +2,7 @@
 use Rattle.std.proofs.Common.{◌≡◌, ℕ, ◌+◌, ◌*◌, ◌<◌, ◌≤◌, Bool, true, false, List, [], ◌∷◌, ◌++◌, length, drop, map, refl, sym, ap, ◌∙◌, subst, reverse, true≢false, arith}
 use Rattle.std.specs.Prelude.{Option, Some, None, IsSome, if◌then◌else◌, not, ◌&&◌, ◌==◌}
 use Rattle.std.proofs.lemmas.List.{append-nil}
-use Rattle.std.proofs.lemmas.List.Sums.{sum_by-cons}
+use Rattle.std.proofs.lemmas.List.Sums.{sum_by-cons, sum_by-append}
 use Rattle.std.proofs.lemmas.Bool.Decides.{nat_tests}
 use Rattle.tex_defs.specs.declared.Seen.{Seen}
 use Rattle.tex_defs.specs.declared.Sizes.{Sizes}
@@ -21,7 +21,9 @@ use Rattle.plain_state.specs.Tables.{list_words, lists_words, memory, refused, r
 use Rattle.plain_machine.specs.Plan.{feeding, feeding_kind, noting, grown_to}
 use Rattle.plain_machine.specs.Does.{Did}
 use Rattle.plain_machine.proofs.Doing.{did_join, did_one, wrote_none}
-use Rattle.input_state.specs.Stored.{KeepsMacros, words as stored_words}
+use Rattle.input_state.specs.Callings.{NotCalling, call_lists}
+use Rattle.input_state.specs.Stored.{KeepsMacros, gathered, words as stored_words}
+use Rattle.frames.specs.declared.scan.Ask.{Ask}
 use Rattle.frames.specs.declared.scan.Ask.TheVariants.{More}
 use Rattle.frames.specs.declared.scan.Want.{Want}
 use Rattle.frames.specs.declared.frame.Frame.{Frame}
@@ -36,12 +38,13 @@ use Rattle.frames.specs.declared.frame.Waiting.TheVariants as waiting
 use Rattle.frames.specs.Resumes.{resume, frame_grows, grow_first, lists_after, frame_kind, frame_list, IsOpen, Builds, IsShallow, Owns, MayFeed, HasList, TakesTokens, is_built}
 use Rattle.tex_program.specs.declared.engine.Engine.{Engine}
 use Rattle.tex_program.specs.Book.{Book, with_work}
-use Rattle.tex_program.specs.Stands.{WaitsFirst, IsSound, Stands, WorkStands, OuterStand, FrameStands, Innermost, FedFrame, FeedsHere, Waits as WaitsFor, WaitStands, WaitsWith, IsLone, SameState, state_of, top_grows, frames}
+use Rattle.tex_program.specs.Stands.{WaitsFirst, IsSound, IsUncalled, Stands, WorkStands, OuterStand, FrameStands, Innermost, FedFrame, FeedsHere, Waits as WaitsFor, WaitStands, WaitsWith, IsLone, SameState, state_of, top_grows, frames}
 use Rattle.tex_program.specs.Steps.{weight, pending_weight}
 use Rattle.frames.specs.Weights.{frame_rank}
 use Rattle.tex_program.specs.Rules.{TopTakes, feeds_of, Cuts}
 use Rattle.tex_program.specs.declared.broken.Broken.TheVariants as broken
 use Rattle.tex_program.proofs.Counting.{words_more}
+use Rattle.tex_program.proofs.Bare.{bare_after}
 use Rattle.tex_program.proofs.Cutting.{cuts_by, full_cuts}
 use Rattle.tex_program.proofs.Joining.{quiet_here}
 use Rattle.tex_program.proofs.Reporting.{reads_now}
@@ -159,9 +162,9 @@ noting_is f lists r below =
 
 pub waits_note : (sizes : Sizes) (e : Engine) (book : Book) (r : Reading) (rs : List Reading) → WaitsFor sizes e (with_work (r ∷ rs) book) → noting r ≡ Noted ∷ []
 waits_note sizes e book r rs h = at e.top h.readings where
-  at : (t : Option Frame) → WaitStands t e.outer.items e.input.gathered (r ∷ rs) → noting r ≡ Noted ∷ []
+  at : (t : Option Frame) → WaitStands t e.outer.items e.input.builds (r ∷ rs) → noting r ≡ Noted ∷ []
   at None w = absurd w
-  at (Some f) w = noting_is f e.input.gathered r w.0
+  at (Some f) w = noting_is f e.input.builds r w.0
 
 -- a list that grows is there
 grows_list : (f : Frame) (x : Seen) (lists : List (List Token)) → Owns f lists → frame_grows f x ≡ true → lists ≡ [] → ⊥
@@ -191,32 +194,33 @@ may_feed (Text name scan) x lists h takes shallow small = has_list scan name x l
 
 -- the engine behind a token that went onto the list, or didn't
 abbrev pub grown_engine : Engine → Seen → (lists : List (List Token)) → Engine
-grown_engine e x lists = record e { input = record e.input { gathered = lists_after (top_grows e.top x) x e.input.gathered; lists = lists } }
+grown_engine e x lists = record e { input = record e.input { builds = lists_after (top_grows e.top x) x e.input.builds; lists = lists } }
 
 -- its words can be counted, and its lists then
-few_words : (e : Engine) → stored_words e.input < 4294967296 → lists_words e.input.gathered < 4294967296
-few_words e h = omega (arith, h)
+few_words : (e : Engine) → stored_words e.input < 4294967296 → lists_words e.input.builds < 4294967296
+few_words e h = omega (arith, h, sum_by-append list_words (call_lists e.input.call) e.input.builds)
 
 -- its macros are as they were
 grown_sound : (sizes : Sizes) (e : Engine) (x : Seen) (lists : List (List Token)) (number : ℕ → ℕ) (macros : List (List Token)) → KeepsMacros e.input (grown_engine e x lists).input → IsSound sizes e number macros → IsSound sizes (grown_engine e x lists) number macros
 grown_sound sizes e x lists number macros kept h =
-    sound_still sizes e (grown_engine e x lists) number macros refl refl refl refl (store_gathered e.input (grown_engine e x lists).input (lists_after (top_grows e.top x) x e.input.gathered) refl kept) h
+    sound_still sizes e (grown_engine e x lists) number macros refl refl refl refl (store_gathered e.input (grown_engine e x lists).input (lists_after (top_grows e.top x) x e.input.builds) refl kept) h
 
 frame_fed : (sizes : Sizes) (e : Engine) (f : Frame) (x : Seen) (lists : List (List Token)) (r : Reading) (rs : List Reading) (book : Book) → KeepsMacros e.input (grown_engine e x lists).input → e.top ≡ Some f → IsSound sizes e book.number book.macros → e.input.making ≡ None →
-    (want : Want) → e.ask ≡ More want → is_built x.meaning ≡ true → stored_words e.input < 4294967296 → Innermost e.ask f e.input.gathered r → OuterStand (reverse e.outer.items) rs → IsLone (r ∷ rs) → FedFrame sizes (grown_engine e x lists) f x e.input.gathered r rs book
-frame_fed sizes e f x lists r rs book kept top sound idle want asks built small inner outer lone =
-    let below : FrameStands f e.input.gathered r = inner.open_frame (subst IsOpen (sym asks) tt) in
-    let takes : TakesTokens f = takes_of f e.input.gathered r want below (ap (ask_of e.input.gathered) (sym asks) ∙ inner.asked) in
+    (want : Want) → e.ask ≡ More want → is_built x.meaning ≡ true → stored_words e.input < 4294967296 → Innermost e.ask f e.input.builds r → OuterStand (reverse e.outer.items) rs → IsLone (r ∷ rs) → IsUncalled e → FedFrame sizes (grown_engine e x lists) f x e.input.builds r rs book
+frame_fed sizes e f x lists r rs book kept top sound idle want asks built small inner outer lone uncalled =
+    let below : FrameStands f e.input.builds r = inner.open_frame (subst IsOpen (sym asks) tt) in
+    let takes : TakesTokens f = takes_of f e.input.builds r want below (ap (ask_of e.input.builds) (sym asks) ∙ inner.asked) in
     record {
       sound = grown_sound sizes e x lists book.number book.macros kept sound;
       idle = idle;
       frame = below;
       holds = inner.holds;
       built = built;
-      may_feed = may_feed f x e.input.gathered below.owns takes below.shallow (λ g. few_words e small);
-      grown = ap (λ (t : Option Frame). lists_after (top_grows t x) x e.input.gathered) top;
+      may_feed = may_feed f x e.input.builds below.owns takes below.shallow (λ g. few_words e small);
+      grown = ap (λ (t : Option Frame). lists_after (top_grows t x) x e.input.builds) top;
       outer = outer;
       lone = lone;
+      uncalled = record { none = uncalled.none; input = uncalled.input };
     }
 
 -- behind a token that the innermost reading was fed with
@@ -229,17 +233,18 @@ token_stands sizes e e1 e2 x book h small is kept none some = by_top e.top refl 
   keeps : KeepsMacros e.input (grown_engine e x e1.input.lists).input
   keeps = subst (λ (y : Engine). KeepsMacros e.input y.input) is kept
 
-  by_top : (t : Option Frame) → e.top ≡ t → (work : List Reading) → WorkStands e.ask t e.outer.items e.input.gathered work → IsLone work → Stands sizes e2 (with_work (fed_with (Tok x) work) book)
+  by_top : (t : Option Frame) → e.top ≡ t → (work : List Reading) → WorkStands e.ask t e.outer.items e.input.builds work → IsLone work → Stands sizes e2 (with_work (fed_with (Tok x) work) book)
   by_top None top [] w lone = subst (λ (y : Engine). Stands sizes y (with_work [] book)) (sym (none (top_is ∙ top) ∙ is)) (record {
     sound = grown_sound sizes e x e1.input.lists book.number book.macros keeps h.stands.sound;
     idle = h.stands.idle;
-    readings = subst (λ (t : Option Frame). WorkStands e.ask t e.outer.items (lists_after (top_grows t x) x e.input.gathered) []) (sym top) w;
+    readings = subst (λ (t : Option Frame). WorkStands e.ask t e.outer.items (lists_after (top_grows t x) x e.input.builds) []) (sym top) w;
     lone = tt;
+    uncalled = record { none = h.stands.uncalled.none; input = h.stands.uncalled.input };
   })
   by_top None top (r ∷ rs) w lone = absurd w
   by_top (Some f) top [] w lone = absurd w
-  by_top (Some f) top (r ∷ rs) w lone = some f e.input.gathered r rs (top_is ∙ top) (subst (λ (y : Engine). FedFrame sizes y f x e.input.gathered r rs book) (sym is)
-      (frame_fed sizes e f x e1.input.lists r rs book keeps top h.stands.sound h.stands.idle h.want h.asks h.built small w.0 w.1 lone))
+  by_top (Some f) top (r ∷ rs) w lone = some f e.input.builds r rs (top_is ∙ top) (subst (λ (y : Engine). FedFrame sizes y f x e.input.builds r rs book) (sym is)
+      (frame_fed sizes e f x e1.input.lists r rs book keeps top h.stands.sound h.stands.idle h.want h.asks h.built small w.0 w.1 lone h.stands.uncalled))
 
 -- WHAT IS DONE THEN
 
@@ -247,32 +252,33 @@ token_stands sizes e e1 e2 x book h small is kept none some = by_top e.top refl 
 record Fed1 (e : Engine) (x : Seen) (r : Reading) (f : Frame) : Type 0 where
   top : e.top ≡ Some f
   moves : feeding r x ≡ grown_moves (frame_grows f x) x
-  owns : Owns f e.input.gathered
+  owns : Owns f e.input.builds
 
-fed_one : (sizes : Sizes) (e : Engine) (x : Seen) (book : Book) (r : Reading) (rs : List Reading) (f : Frame) → e.top ≡ Some f → FeedsHere sizes e x (with_work (r ∷ rs) book) → WorkStands e.ask (Some f) e.outer.items e.input.gathered (r ∷ rs) → Fed1 e x r f
+fed_one : (sizes : Sizes) (e : Engine) (x : Seen) (book : Book) (r : Reading) (rs : List Reading) (f : Frame) → e.top ≡ Some f → FeedsHere sizes e x (with_work (r ∷ rs) book) → WorkStands e.ask (Some f) e.outer.items e.input.builds (r ∷ rs) → Fed1 e x r f
 fed_one sizes e x book r rs f top h w =
-    let below : FrameStands f e.input.gathered r = w.0.open_frame (subst IsOpen (sym h.asks) tt) in
-    let takes : TakesTokens f = takes_of f e.input.gathered r h.want below (ap (ask_of e.input.gathered) (sym h.asks) ∙ w.0.asked) in
-    record { top = top; moves = feeding_is f e.input.gathered r x below takes; owns = below.owns }
+    let below : FrameStands f e.input.builds r = w.0.open_frame (subst IsOpen (sym h.asks) tt) in
+    let takes : TakesTokens f = takes_of f e.input.builds r h.want below (ap (ask_of e.input.builds) (sym h.asks) ∙ w.0.asked) in
+    record { top = top; moves = feeding_is f e.input.builds r x below takes; owns = below.owns }
 
-module _ (sizes : Sizes) (e e2 : Engine) (x : Seen) (book : Book) (same : SameState e e2) (lists : e2.input.gathered ≡ lists_after (top_grows e.top x) x e.input.gathered) where
-  grown_did : (b : Bool) (r : Reading) (rs : List Reading) (w : World) → top_grows e.top x ≡ b → (b ≡ true → refusal sizes (Grows x.token) (state_of e (with_work (r ∷ rs) book)) ≡ None) →
+module _ (sizes : Sizes) (e e2 : Engine) (x : Seen) (book : Book) (same : SameState e e2) (lists : e2.input.builds ≡ lists_after (top_grows e.top x) x e.input.builds) where
+  grown_did : (b : Bool) (r : Reading) (rs : List Reading) (w : World) → e.input.call ≡ NotCalling → top_grows e.top x ≡ b → (b ≡ true → refusal sizes (Grows x.token) (state_of e (with_work (r ∷ rs) book)) ≡ None) →
       Did sizes (state_of e (with_work (r ∷ rs) book)) (state_of e2 (with_work (fed_with (Tok x) (r ∷ rs)) book)) w w (grown_moves b x)
-  grown_did true r rs w is fits =
-      let now : machine.grow_first x.token e.input.gathered ≡ e2.input.gathered = same_growth x.token e.input.gathered ∙ sym (lists ∙ ap (λ (b : Bool). lists_after b x e.input.gathered) is) in
+  grown_did true r rs w none is fits =
+      let own : e2.input.builds ≡ machine.grow_first x.token e.input.builds = lists ∙ ap (λ (b : Bool). lists_after b x e.input.builds) is ∙ sym (same_growth x.token e.input.builds) in
+      let now : machine.grow_first x.token (gathered e.input) ≡ gathered e2.input = sym (bare_after e.input e2.input none same.calling (machine.grow_first x.token) own) in
       did_join sizes _ _ _ w w w (Grows x.token ∷ []) (Feeds x ∷ []) (did_one sizes (Grows x.token) _ (made (Grows x.token) (state_of e (with_work (r ∷ rs) book))) w w (fits refl) refl (quiet_here (Grows x.token) w tt))
       (did_one sizes (Feeds x) _ _ w w refl (ap (λ (l : List (List Token)). record (state_of e (with_work (r ∷ rs) book)) { work = fed_with (Tok x) (r ∷ rs); gathered = l }) now ∙ reads_now e e2 (with_work (r ∷ rs) book) (fed_with (Tok x) (r ∷ rs)) same) (quiet_here (Feeds x) w tt))
-  grown_did false r rs w is fits =
-      let now : e.input.gathered ≡ e2.input.gathered = sym (lists ∙ ap (λ (b : Bool). lists_after b x e.input.gathered) is) in
+  grown_did false r rs w none is fits =
+      let now : gathered e.input ≡ gathered e2.input = sym (bare_after e.input e2.input none same.calling (λ l. l) (lists ∙ ap (λ (b : Bool). lists_after b x e.input.builds) is)) in
       did_one sizes (Feeds x) _ _ w w refl (ap (λ (l : List (List Token)). record (state_of e (with_work (r ∷ rs) book)) { work = fed_with (Tok x) (r ∷ rs); gathered = l }) now ∙ reads_now e e2 (with_work (r ∷ rs) book) (fed_with (Tok x) (r ∷ rs)) same) (quiet_here (Feeds x) w tt)
 
-  pub token_did : (w : World) → FeedsHere sizes e x book → (top_grows e.top x ≡ true → (e.input.gathered ≡ [] → ⊥) → refused e.input.sizes (memory 1 (stored_words e.input) ∷ []) ≡ None) →
+  pub token_did : (w : World) → FeedsHere sizes e x book → (top_grows e.top x ≡ true → (e.input.builds ≡ [] → ⊥) → refused e.input.sizes (memory 1 (stored_words e.input) ∷ []) ≡ None) →
       Did sizes (state_of e book) (state_of e2 (with_work (fed_with (Tok x) book.work) book)) w w (feeds_of book.work x)
   token_did w h fits = by_top e.top refl book.work h h.stands.readings where
-    by_top : (t : Option Frame) → e.top ≡ t → (work : List Reading) → FeedsHere sizes e x (with_work work book) → WorkStands e.ask t e.outer.items e.input.gathered work →
+    by_top : (t : Option Frame) → e.top ≡ t → (work : List Reading) → FeedsHere sizes e x (with_work work book) → WorkStands e.ask t e.outer.items e.input.builds work →
         Did sizes (state_of e (with_work work book)) (state_of e2 (with_work (fed_with (Tok x) work) book)) w w (feeds_of work x)
     by_top None top [] h ws =
-        let now : e2.input.gathered ≡ e.input.gathered = lists ∙ ap (λ (t : Option Frame). lists_after (top_grows t x) x e.input.gathered) top in
+        let now : gathered e2.input ≡ gathered e.input = bare_after e.input e2.input h.stands.uncalled.input same.calling (λ l. l) (lists ∙ ap (λ (t : Option Frame). lists_after (top_grows t x) x e.input.builds) top) in
         record { state = ap (λ (l : List (List Token)). record (state_of e (with_work [] book)) { gathered = l }) (sym now) ∙ reads_now e e2 (with_work [] book) [] same; fits = tt; written = wrote_none w }
     by_top None top (r ∷ rs) h ws = absurd ws
     by_top (Some f) top [] h ws = absurd ws
@@ -280,13 +286,13 @@ module _ (sizes : Sizes) (e e2 : Engine) (x : Seen) (book : Book) (same : SameSt
         let one : Fed1 e x r f = fed_one sizes e x book r rs f top h ws in
         let grows : top_grows e.top x ≡ frame_grows f x = ap (λ (t : Option Frame). top_grows t x) top in
         subst (λ (ms : List Move). Did sizes (state_of e (with_work (r ∷ rs) book)) (state_of e2 (with_work (fed_with (Tok x) (r ∷ rs)) book)) w w ms) (sym one.moves)
-        (grown_did (frame_grows f x) r rs w grows (λ g. words_more sizes e (with_work (r ∷ rs) book) 1 None h.stands.sound (fits (grows ∙ g) (grows_list f x e.input.gathered one.owns g))))
+        (grown_did (frame_grows f x) r rs w h.stands.uncalled.input grows (λ g. words_more sizes e (with_work (r ∷ rs) book) 1 None h.stands.sound (fits (grows ∙ g) (grows_list f x e.input.builds one.owns g))))
 
 -- the list has no room for it
 pub token_cuts : (sizes : Sizes) (e : Engine) (x : Seen) (book : Book) (w : World) (full : Full) → FeedsHere sizes e x book → top_grows e.top x ≡ true → refused e.input.sizes (memory 1 (stored_words e.input) ∷ []) ≡ Some full →
     Cuts sizes (state_of e book) e book w w (feeds_of book.work x) (broken.Full full)
 token_cuts sizes e x book w full h grows refuses = by_top e.top refl book.work h h.stands.readings where
-  by_top : (t : Option Frame) → e.top ≡ t → (work : List Reading) → FeedsHere sizes e x (with_work work book) → WorkStands e.ask t e.outer.items e.input.gathered work → Cuts sizes (state_of e (with_work work book)) e (with_work work book) w w (feeds_of work x) (broken.Full full)
+  by_top : (t : Option Frame) → e.top ≡ t → (work : List Reading) → FeedsHere sizes e x (with_work work book) → WorkStands e.ask t e.outer.items e.input.builds work → Cuts sizes (state_of e (with_work work book)) e (with_work work book) w w (feeds_of work x) (broken.Full full)
   by_top None top work h ws = absurd (true≢false (sym grows ∙ ap (λ (t : Option Frame). top_grows t x) top))
   by_top (Some f) top [] h ws = absurd ws
   by_top (Some f) top (r ∷ rs) h ws =
@@ -305,20 +311,21 @@ apart h k = true≢false (sym h ∙ k)
 begun_frame : (sizes : Sizes) (e e2 : Engine) (k : reading.Kind) (x : Seen) (book : Book) (f : Frame) → e.top ≡ Some f → IsOpen e.ask → TakesTokens f → frame_grows f x ≡ false → is_built x.meaning ≡ true →
     ((f : Frame) (lists : List (List Token)) (r : Reading) (rs : List Reading) → e.top ≡ Some f → FedFrame sizes e f x lists r rs book → Stands sizes e2 (with_work (fed_with (Tok x) (r ∷ rs)) book)) →
     Stands sizes e (with_work (fresh k ∷ book.work) book) → Stands sizes e2 (with_work (fed_with (Tok x) (fresh k ∷ book.work)) book)
-begun_frame sizes e e2 k x book f top opened takes keeps built some h = at (subst (λ (t : Option Frame). WorkStands e.ask t e.outer.items e.input.gathered (fresh k ∷ book.work)) top h.readings) where
-  at : WorkStands e.ask (Some f) e.outer.items e.input.gathered (fresh k ∷ book.work) → Stands sizes e2 (with_work (fed_with (Tok x) (fresh k ∷ book.work)) book)
+begun_frame sizes e e2 k x book f top opened takes keeps built some h = at (subst (λ (t : Option Frame). WorkStands e.ask t e.outer.items e.input.builds (fresh k ∷ book.work)) top h.readings) where
+  at : WorkStands e.ask (Some f) e.outer.items e.input.builds (fresh k ∷ book.work) → Stands sizes e2 (with_work (fed_with (Tok x) (fresh k ∷ book.work)) book)
   at w =
-      let below : FrameStands f e.input.gathered (fresh k) = w.0.open_frame opened in
-      some f e.input.gathered (fresh k) book.work top (record {
+      let below : FrameStands f e.input.builds (fresh k) = w.0.open_frame opened in
+      some f e.input.builds (fresh k) book.work top (record {
         sound = h.sound;
         idle = h.idle;
         frame = below;
         holds = w.0.holds;
         built = built;
-        may_feed = may_feed f x e.input.gathered below.owns takes below.shallow (λ g. absurd (apart g keeps));
-        grown = ap (λ (g : Bool). lists_after g x e.input.gathered) (sym keeps);
+        may_feed = may_feed f x e.input.builds below.owns takes below.shallow (λ g. absurd (apart g keeps));
+        grown = ap (λ (g : Bool). lists_after g x e.input.builds) (sym keeps);
         outer = w.1;
         lone = h.lone;
+        uncalled = h.uncalled;
       })
 
 takes_top : (t : Option Frame) (f : Frame) → t ≡ Some f → TopTakes t → TakesTokens f

@@ -91,11 +91,11 @@ module _ (sizes : Sizes) (e e1 e2 : Engine) (w w1 w2 : World) (report : reports.
 
 -- THE NAME IS PUT BACK
 
-module _ (sizes : Sizes) (e e1 e2 : Engine) (f : FilesTold) (s : SinkTold) (w2 : World) (t : Token) (report : reports.Report) (rest : List Move) (book : Book) (page : page_of e1 book ≡ page_of e book) (lists : e1.input.gathered ≡ e.input.gathered)
+module _ (sizes : Sizes) (e e1 e2 : Engine) (f : FilesTold) (s : SinkTold) (w2 : World) (t : Token) (report : reports.Report) (rest : List Move) (book : Book) (page : page_of e1 book ≡ page_of e book) (lists : e1.input.builds ≡ e.input.builds)
     (put : (w : World) → Did sizes (state_of e book) (state_of e1 book) w w (put_one t)) where
   away_same : away_moves (page_of e book) (away_text e) report rest ≡ away_moves (page_of e1 book) (away_text e1) report rest
   away_same =
-      ap (λ (p : Page). away_moves p (runaway_bytes reports.OfText p.categories p.names p.in_line (first_list e.input.gathered)) report rest) (sym page)
+      ap (λ (p : Page). away_moves p (runaway_bytes reports.OfText p.categories p.names p.in_line (first_list e.input.builds)) report rest) (sym page)
       ∙ ap (λ (l : List (List Token)). away_moves (page_of e1 book) (runaway_bytes reports.OfText e1.categories e1.names.names e1.in_line (first_list l)) report rest) (sym lists)
 
   put_did : Did sizes (state_of e book) (state_of e1 book) (world_of f s e) (world_of f s e1) (put_one t)
@@ -126,7 +126,7 @@ pub seen_outer : (e : Engine) (book : Book) (t : Token) (x : Seen) (result b : B
 seen_outer e book t x result b is outer here = ap (λ (y : Seen). is_outer y.meaning) (seen_of book.number e.input.meanings t ∙ sym is) ∙ sym outer ∙ here
 
 pub spaced_moves : (sizes : Sizes) (want : Option ScanWant) (e : Engine) (book : Book) (t : Token) (name : Name) → is_outer (seen (page_of e book).meanings t).meaning ≡ true →
-    scanning_of e book.work ≡ Some (text_of name e.input.gathered) → Spaced sizes want e book →
+    scanning_of e book.work ≡ Some (text_of name e.input.builds) → Spaced sizes want e book →
     token_moves (page_of e book) (scanning_of e book.work) (onward_of (page_of e book) want book.work) t ≡ put_one t ++ away_moves (page_of e book) (away_text e) (reports.Forbidden reports.OfText name) (space_moves (page_of e book) want book.work)
 spaced_moves sizes want e book t name outer is spaced =
     meets_away sizes e book name (onward_of (page_of e book) want book.work) t outer is

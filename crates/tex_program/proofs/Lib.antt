@@ -1,4 +1,5 @@
 pub mod Asking
+pub mod Bare
 pub mod Cells
 pub mod Commands
 pub mod Counting

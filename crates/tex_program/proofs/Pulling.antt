@@ -34,7 +34,8 @@ use Rattle.plain_machine.proofs.Settling.{pulled_settled, passed_settled}
 use Rattle.plain_machine.proofs.Silent.{Lighter, lighter}
 use Rattle.world_io.specs.Told.{FilesTold, SinkTold, world}
 use Rattle.name_table.specs.Strings.{Strings}
-use Rattle.input_state.specs.Stored.{Stored, KeepsMacros}
+use Rattle.input_state.specs.Macros.{HasNameRoom}
+use Rattle.input_state.specs.Stored.{Stored, KeepsMacros, gathered}
 use Rattle.input_state.specs.Reads.{Pulls, ReadsLexeme, step_demands, pull_refusal}
 use Rattle.input_state.specs.declared.answer.Pulled as answers
 use Rattle.input_state.specs.declared.answer.Pulled.TheVariants as answer
@@ -63,6 +64,7 @@ use Rattle.tex_program.specs.Book.{Book}
 use Rattle.tex_program.specs.Entering.{located, with_names, EntryFits, EntryRefused}
 use Rattle.tex_program.specs.Stands.{Counts, IsSized, IsSound, SameStore, Stands, WorkStands, OuterStand, FrameStands, SameFrames, OnlyColumn, state_of, page_of, frames}
 use Rattle.tex_program.specs.Rules.{world_of, onward_of, enters_of, scanning_of, token_moves, name_moves, Takes, Wants, Cuts, Went, DoesRule, DoesOnward, away_text}
+use Rattle.tex_program.proofs.Bare.{bare}
 use Rattle.tex_program.proofs.Cutting.{cuts_by, later_cuts, full_cuts}
 use Rattle.tex_program.proofs.Reporting.{stands_still}
 use Rattle.tex_program.proofs.Storing.{store_with, sound_still}
@@ -72,10 +74,10 @@ use Rattle.tex_program.proofs.Joining.{IsQuiet, quiet_here, went_by, onward_by, 
 -- AN ENGINE THAT HAS WRITTEN
 
 pub column_frames : (e e' : Engine) → OnlyColumn e e' → SameFrames e e'
-column_frames e e' only = record { outer = only.outer; top = only.top; ask = only.ask; lists = ap (λ (x : Stored). x.gathered) only.input }
+column_frames e e' only = record { outer = only.outer; top = only.top; ask = only.ask; lists = ap (λ (x : Stored). x.builds) only.input; call = only.call; calling = ap (λ (x : Stored). x.call) only.input }
 
 pub same_frames : (e e' : Engine) → SameFrames e e' → frames e' ≡ frames e
-same_frames e e' h = rw (h.outer, h.top) refl
+same_frames e e' h = rw (h.outer, h.top, h.call) refl
 
 pub counts_still : (sizes : Sizes) (e e' : Engine) (book : Book) → SameFrames e e' → IsSound sizes e' book.number book.macros → Counts sizes e book → Counts sizes e' book
 counts_still sizes e e' book same sound h = record { sound = sound; depth = h.depth ∙ sym (same_frames e e' same) }
@@ -181,19 +183,19 @@ none_scanned g fs r rs lists k h o =
     ap (λ (x : reading.Kind). scanning_kind x (first_of r.holds lists) (scanning rs (drop r.holds lists))) k ∙ other_scanned g (first_of r.holds lists) (scanning rs (drop r.holds lists)) h ∙ none_waits fs rs (drop r.holds lists) o
 
 module _ (sizes : Sizes) (e : Engine) (book : Book) where
-  text_at : (t : Option Frame) (rs : List Reading) (name : Name) (want : ScanWant) → IsSome t → ((g : Frame) → t ≡ Some g → frame_kind g ≡ reading.Text name) → WorkStands (More want) t e.outer.items e.input.gathered rs →
-      scanning_of e rs ≡ Some (text_of name e.input.gathered)
+  text_at : (t : Option Frame) (rs : List Reading) (name : Name) (want : ScanWant) → IsSome t → ((g : Frame) → t ≡ Some g → frame_kind g ≡ reading.Text name) → WorkStands (More want) t e.outer.items e.input.builds rs →
+      scanning rs e.input.builds ≡ Some (text_of name e.input.builds)
   text_at None rs name want some kind st = cc
   text_at (Some g) [] name want some kind st = absurd st
   text_at (Some g) (r ∷ rs) name want some kind st =
-      let below : FrameStands g e.input.gathered r = st.0.open_frame tt in text_scanned r rs name e.input.gathered (below.kind ∙ kind g refl) st.0.holds
+      let below : FrameStands g e.input.builds r = st.0.open_frame tt in text_scanned r rs name e.input.builds (below.kind ∙ kind g refl) st.0.holds
 
   -- a text is read
-  pub reads_text : (name : Name) → IsSome e.top → ((g : Frame) → e.top ≡ Some g → frame_kind g ≡ reading.Text name) → Wants sizes e book → scanning_of e book.work ≡ Some (text_of name e.input.gathered)
+  pub reads_text : (name : Name) → IsSome e.top → ((g : Frame) → e.top ≡ Some g → frame_kind g ≡ reading.Text name) → Wants sizes e book → scanning_of e book.work ≡ Some (text_of name e.input.builds)
   reads_text name some kind t = by_want t.0 t.1 where
-    by_want : (want : Option ScanWant) → Takes sizes want e book → scanning_of e book.work ≡ Some (text_of name e.input.gathered)
+    by_want : (want : Option ScanWant) → Takes sizes want e book → scanning_of e book.work ≡ Some (text_of name e.input.builds)
     by_want None h = let open_top : IsSome {T = Frame} None = subst IsSome h.0 some in cc
-    by_want (Some want) h = text_at e.top book.work name want some kind (subst (λ (a : Ask). WorkStands a e.top e.outer.items e.input.gathered book.work) h.0 h.1.readings)
+    by_want (Some want) h = ap (scanning book.work) (bare e.input h.1.uncalled.input) ∙ text_at e.top book.work name want some kind (subst (λ (a : Ask). WorkStands a e.top e.outer.items e.input.builds book.work) h.0 h.1.readings)
 
   text_holds : (g : Frame) (lists : List (List Token)) → Owns g lists → lists ≡ [] → IsNoText (frame_kind g)
   text_holds (frame.Waits (waiting.Catcode scan)) lists h is = tt
@@ -206,35 +208,35 @@ module _ (sizes : Sizes) (e : Engine) (book : Book) where
   none_at g [] h free = text_holds g [] h refl
   none_at g (ts ∷ lists) h free = free (λ (is : ts ∷ lists ≡ []). cc)
 
-  on_at : (t : Option Frame) (rs : List Reading) (want : ScanWant) → ((g : Frame) → t ≡ Some g → (e.input.gathered ≡ [] → ⊥) → IsNoText (frame_kind g)) → WorkStands (More want) t e.outer.items e.input.gathered rs →
-      scanning_of e rs ≡ None
+  on_at : (t : Option Frame) (rs : List Reading) (want : ScanWant) → ((g : Frame) → t ≡ Some g → (e.input.builds ≡ [] → ⊥) → IsNoText (frame_kind g)) → WorkStands (More want) t e.outer.items e.input.builds rs →
+      scanning rs e.input.builds ≡ None
   on_at None [] want none st = refl
   on_at None (r ∷ rs) want none st = absurd st
   on_at (Some g) [] want none st = absurd st
   on_at (Some g) (r ∷ rs) want none st =
-      let below : FrameStands g e.input.gathered r = st.0.open_frame tt in
-      none_scanned g (reverse e.outer.items) r rs e.input.gathered below.kind (none_at g e.input.gathered below.owns (none g refl)) st.1
+      let below : FrameStands g e.input.builds r = st.0.open_frame tt in
+      none_scanned g (reverse e.outer.items) r rs e.input.builds below.kind (none_at g e.input.builds below.owns (none g refl)) st.1
 
-  nothing_at : (a : Ask) (t : Option Frame) (rs : List Reading) → t ≡ None → WorkStands a t e.outer.items e.input.gathered rs → scanning_of e rs ≡ None
+  nothing_at : (a : Ask) (t : Option Frame) (rs : List Reading) → t ≡ None → WorkStands a t e.outer.items e.input.builds rs → scanning rs e.input.builds ≡ None
   nothing_at a None [] is st = refl
   nothing_at a None (r ∷ rs) is st = absurd st
   nothing_at a (Some g) rs is st = cc
 
   -- or none is
-  pub reads_no_text : ((g : Frame) → e.top ≡ Some g → (e.input.gathered ≡ [] → ⊥) → IsNoText (frame_kind g)) → Wants sizes e book → scanning_of e book.work ≡ None
+  pub reads_no_text : ((g : Frame) → e.top ≡ Some g → (e.input.builds ≡ [] → ⊥) → IsNoText (frame_kind g)) → Wants sizes e book → scanning_of e book.work ≡ None
   reads_no_text none t = by_want t.0 t.1 where
     by_want : (want : Option ScanWant) → Takes sizes want e book → scanning_of e book.work ≡ None
-    by_want None h = nothing_at e.ask e.top book.work h.0 h.1.readings
-    by_want (Some want) h = on_at e.top book.work want none (subst (λ (a : Ask). WorkStands a e.top e.outer.items e.input.gathered book.work) h.0 h.1.readings)
+    by_want None h = ap (scanning book.work) (bare e.input h.1.uncalled.input) ∙ nothing_at e.ask e.top book.work h.0 h.1.readings
+    by_want (Some want) h = ap (scanning book.work) (bare e.input h.1.uncalled.input) ∙ on_at e.top book.work want none (subst (λ (a : Ask). WorkStands a e.top e.outer.items e.input.builds book.work) h.0 h.1.readings)
 
   -- a text runs away where the file has ended
-  pub runs_away : (name : Name) → scanning_of e book.work ≡ Some (text_of name e.input.gathered) → checked (page_of e book) (scanning_of e book.work) ≡ away_moves (page_of e book) (away_text e) (reports.FileEnded reports.OfText name) []
+  pub runs_away : (name : Name) → scanning_of e book.work ≡ Some (text_of name e.input.builds) → checked (page_of e book) (scanning_of e book.work) ≡ away_moves (page_of e book) (away_text e) (reports.FileEnded reports.OfText name) []
   runs_away name is = ap (checked (page_of e book)) is
 
   -- and where the name of an \outer macro comes
-  pub meets_away : (name : Name) (onward : Seen → List Move) (t : Token) → is_outer (seen (page_of e book).meanings t).meaning ≡ true → scanning_of e book.work ≡ Some (text_of name e.input.gathered) →
+  pub meets_away : (name : Name) (onward : Seen → List Move) (t : Token) → is_outer (seen (page_of e book).meanings t).meaning ≡ true → scanning_of e book.work ≡ Some (text_of name e.input.builds) →
       token_moves (page_of e book) (scanning_of e book.work) onward t ≡ put_one t ++ away_moves (page_of e book) (away_text e) (reports.Forbidden reports.OfText name) (onward (seen (page_of e book).meanings space_token))
-  meets_away name onward t outer is = ap (λ (o : Option Scanning). token_moves (page_of e book) o onward t) is ∙ outer_meets (page_of e book) (Some (text_of name e.input.gathered)) onward (seen (page_of e book).meanings t) outer
+  meets_away name onward t outer is = ap (λ (o : Option Scanning). token_moves (page_of e book) o onward t) is ∙ outer_meets (page_of e book) (Some (text_of name e.input.builds)) onward (seen (page_of e book).meanings t) outer
 
 -- other moves, the same
 rule_by : (sizes : Sizes) (s : State) (e' : Engine) (book : Book) (w w' : World) (ms ns : List Move) (ruled : Ruled) → ns ≡ ms → DoesRule sizes s e' book w w' ms ruled → DoesRule sizes s e' book w w' ns ruled
@@ -325,7 +327,7 @@ module _ (sizes : Sizes) (e : Engine) (book : Book) where
   }
 
   stands_names : (new : List (List ℕ)) → Stands sizes e book → Stands sizes (with_names new e) book
-  stands_names new st = record { sound = sound_names new st.sound; idle = st.idle; readings = st.readings; lone = st.lone }
+  stands_names new st = record { sound = sound_names new st.sound; idle = st.idle; readings = st.readings; lone = st.lone; uncalled = record { none = st.uncalled.none; input = st.uncalled.input } }
 
   pub takes_names : (want : Option ScanWant) (new : List (List ℕ)) → Takes sizes want e book → Takes sizes want (with_names new e) book
   takes_names None new h = (h.0, stands_names new h.1)
@@ -522,9 +524,7 @@ module _ (e : Engine) (i : Stored) where
   lighter_skip is = subst (Lighter e.input.pending) is (lighter e.categories e.input.pending)
 
   pub lighter_close : pulled e.categories e.input.pending ≡ FileOver i.pending → pending_weight i.pending < pending_weight e.input.pending
-  lighter_close is =
-      let less : pending_weight i.pending + 9 ≤ pending_weight e.input.pending = subst (Lighter e.input.pending) is (lighter e.categories e.input.pending) in
-      omega (arith, less)
+  lighter_close is = subst (Lighter e.input.pending) is (lighter e.categories e.input.pending)
 
 module _ (sizes : Sizes) (e : Engine) (i : Stored) (others : i ≡ record e.input { pending = i.pending; buffer = i.buffer; lists = i.lists }) where
   abbrev now : Engine
@@ -532,7 +532,7 @@ module _ (sizes : Sizes) (e : Engine) (i : Stored) (others : i ≡ record e.inpu
 
   -- the input keeps its macros
   pub pull_store : (a : answers.Pulled) → Pulls (pulled e.categories e.input.pending) a e.input i → KeepsMacros e.input i → SameStore e.input i
-  pull_store a h macros = store_with e.input i i.pending e.input.making e.input.gathered i.buffer others (fewer a h) macros where
+  pull_store a h macros = store_with e.input i i.pending e.input.making e.input.builds i.buffer others (fewer a h) macros where
     fewer : (a : answers.Pulled) → Pulls (pulled e.categories e.input.pending) a e.input i → (n : ℕ) → is_put n i.pending.puts ≡ true → is_put n e.input.pending.puts ≡ true
     fewer (answer.Token t) h = fewer_by e.categories e.input.pending i.pending (TokenFrom t i.pending) h.0 refl
     fewer (answer.Lexeme l) h = fewer_by e.categories e.input.pending i.pending (LexemeFrom h.lexeme i.pending) h.pulls refl
@@ -542,7 +542,7 @@ module _ (sizes : Sizes) (e : Engine) (i : Stored) (others : i ≡ record e.inpu
     fewer answer.Nothing h = λ n put. put_settled n e.input.pending.puts (subst (λ (x : Pending). is_put n x.puts ≡ true) h.1 put)
 
   frames_now : SameFrames e now
-  frames_now = record { outer = refl; top = refl; ask = refl; lists = ap (λ (x : Stored). x.gathered) others }
+  frames_now = record { outer = refl; top = refl; ask = refl; lists = ap (λ (x : Stored). x.builds) others; call = refl; calling = ap (λ (x : Stored). x.call) others }
 
   stands_now : (book : Book) → SameStore e.input i → Stands sizes e book → Stands sizes now book
   stands_now book store st = stands_still sizes e now book frames_now (sound_still sizes e now book.number book.macros refl refl refl refl store st.sound) (ap (λ (x : Stored). x.making) others ∙ st.idle) st
@@ -553,7 +553,7 @@ module _ (sizes : Sizes) (e : Engine) (i : Stored) (others : i ≡ record e.inpu
 
   -- the text that is read is the same
   pub scanning_still : (work : List Reading) → scanning_of now work ≡ scanning_of e work
-  scanning_still work = ap (λ (x : Stored). scanning work x.gathered) others
+  scanning_still work = ap (λ (x : Stored). scanning work (gathered x)) others
 
   page_at : (book : Book) → i.pending.number ≡ e.input.pending.number → page_of now book ≡ page_of e book
   page_at book is = ap (λ (x : Stored). page_of (record e { input = x }) book) others ∙ ap (λ (n : ℕ). record (page_of e book) { line = n }) is

@@ -21,7 +21,7 @@ use Rattle.plain_machine.proofs.Joins.{steps_join}
 use Rattle.plain_machine.proofs.Renumbering.{settle_of, put_front_of, level_of}
 use Rattle.name_table.specs.Strings.{Strings, other_refusal}
 use Rattle.world_io.specs.Told.{FilesTold, SinkTold, world}
-use Rattle.input_state.specs.Stored.{Stored, KeepsMacros, words as stored_words}
+use Rattle.input_state.specs.Stored.{Stored, KeepsMacros, gathered, words as stored_words}
 use Rattle.input_state.specs.HeldLists.{made as made_list}
 use Rattle.tex_program.specs.declared.broken.Broken.{Broken}
 use Rattle.tex_program.specs.declared.broken.Broken.TheVariants as broken
@@ -176,7 +176,7 @@ back_none true fed = all_none (last_seen fed)
 -- THE INNERMOST READING ENDS
 
 module _ (sizes : Sizes) (e e1 e2 : Engine) (book : Book) (r : Reading) (rs : List Reading) (w w1 w2 : World) (ms : List Move) (v : Value) where
-  pub ended_went : Did sizes (state_of e (with_work (r ∷ rs) book)) (state_of e1 (with_work (r ∷ rs) book)) w w1 ms → steps ms ≡ 0 → SameState e1 e2 → Wrote w1 w2 (Ended v ∷ []) → value_lists v ++ beneath (r ∷ rs) e1.input.gathered ≡ e2.input.gathered → Stands sizes e2 (with_work (ended_with v (r ∷ rs)) book) →
+  pub ended_went : Did sizes (state_of e (with_work (r ∷ rs) book)) (state_of e1 (with_work (r ∷ rs) book)) w w1 ms → steps ms ≡ 0 → SameState e1 e2 → Wrote w1 w2 (Ended v ∷ []) → value_lists v ++ beneath (r ∷ rs) (gathered e1.input) ≡ gathered e2.input → Stands sizes e2 (with_work (ended_with v (r ∷ rs)) book) →
       Went sizes (state_of e (with_work (r ∷ rs) book)) e2 w w2 (ms ++ Ended v ∷ []) 0
   ended_went d n same wrote lists stands = record {
     book' = with_work (ended_with v (r ∷ rs)) book;
@@ -192,7 +192,7 @@ told_is page report back r once notes = rw once (ap (λ (ms : List Move). given_
 
 module _ (sizes : Sizes) (e e1 e2 : Engine) (f : FilesTold) (s0 s2 : SinkTold) (book : Book) (r : Reading) (rs : List Reading) (report : Report) (back : Bool) (once : is_told r.fed ≡ false) (notes : noting r ≡ Noted ∷ []) (page : page_of e1 book ≡ page_of e book)
     (given : Did sizes (state_of e (with_work (r ∷ rs) book)) (state_of e1 (with_work (r ∷ rs) book)) (world_of f s0 e) (world_of f s0 e) (given_back back r.fed)) where
-  pub told_went : (e3 : Engine) → Reports sizes (state_of e1 (with_work (r ∷ rs) book)) (state_of e2 (with_work (r ∷ rs) book)) (world_of f s0 e1) (world_of f s2 e2) (page_of e1 book) report (Noted ∷ []) → SameState e2 e3 → e3.input.gathered ≡ e2.input.gathered → Stands sizes e3 (with_work (fed_with Told (r ∷ rs)) book) →
+  pub told_went : (e3 : Engine) → Reports sizes (state_of e1 (with_work (r ∷ rs) book)) (state_of e2 (with_work (r ∷ rs) book)) (world_of f s0 e1) (world_of f s2 e2) (page_of e1 book) report (Noted ∷ []) → SameState e2 e3 → gathered e3.input ≡ gathered e2.input → Stands sizes e3 (with_work (fed_with Told (r ∷ rs)) book) →
       Went sizes (state_of e (with_work (r ∷ rs) book)) e3 (world_of f s0 e) (world_of f s2 e3) (told (page_of e book) report None back r) 0
   told_went e3 rep same lists stands =
       let h : Reports sizes (state_of e1 (with_work (r ∷ rs) book)) (state_of e2 (with_work (r ∷ rs) book)) (world_of f s0 e) (world_of f s2 e2) (page_of e book) report (Noted ∷ []) =

@@ -31,6 +31,7 @@ use Rattle.string_pool.specs.Pool.{Pool}
 use Rattle.token_show.specs.declared.view.View.{View}
 use Rattle.token_lists.specs.Table.{Entry, tokens_at}
 use Rattle.input_state.specs.HeldLists.{first_list as first_held}
+use Rattle.input_state.specs.Stored.{gathered}
 use Rattle.frames.specs.Stack.{Stack}
 use Rattle.frames.specs.Sees.{first_list}
 use Rattle.frames.specs.Resumes.{is_built}
@@ -48,7 +49,7 @@ use Rattle.tex_program.specs.declared.reactions.Last.TheVariants as last
 use Rattle.tex_program.specs.Faults.{broken_by}
 use Rattle.tex_program.specs.Begins.{outcome_of, outcome_of_last, last_moves, last_bytes, IsNoFeed, IsNoBegin, IsCommand}
 use Rattle.tex_program.specs.Book.{Book, with_work}
-use Rattle.tex_program.specs.Stands.{Stands, FramesStand, WorkStands, Waits, WaitStands, EndsHere, OuterStand, AtMostOne, IsSized, IsSound, IsLone, SameFrames, SameStore, SameState, SameOthers, OnlyColumn, state_of, page_of}
+use Rattle.tex_program.specs.Stands.{Stands, FramesStand, WorkStands, Waits, WaitStands, EndsHere, OuterStand, AtMostOne, IsSized, IsSound, IsLone, IsUncalled, SameFrames, SameStore, SameState, SameOthers, OnlyColumn, state_of, page_of}
 use Rattle.tex_program.specs.Rules.{world_of, Takes, FitsOnward, Cuts, CountsReports, Went, Halts, Reports}
 use Rattle.tex_program.proofs.Cutting.{cuts_by, full_cuts, later_cuts, did_out, cut_out}
 use Rattle.tex_program.proofs.Joining.{IsQuiet, quiet_here, quiet_wrote}
@@ -75,7 +76,7 @@ list_is table held id lists t h = ap (λ (x : List (Option Entry)). tokens_at x 
 
 module _ (s s' : SinkTold) (e : Engine) (b' : Bool) (text shown : List ℕ) (is : shown ≡ text) where
   only_column : OnlyColumn e (record e { in_line = b' })
-  only_column = record { outer = refl; top = refl; ask = refl; input = refl; names = refl; categories = refl; reports = refl; quiet = refl; sizes = refl }
+  only_column = record { outer = refl; top = refl; ask = refl; call = refl; input = refl; names = refl; categories = refl; reports = refl; quiet = refl; sizes = refl }
 
   -- what was taken, in other words
   pub took_out : Took s s' e.in_line b' shown → (sizes : Sizes) (f : FilesTold) (book : Book) →
@@ -237,13 +238,17 @@ counted_last e book n is = ap (λ (k : ℕ). record (state_of e book) { reports 
 pub frames_still : (e e' : Engine) (work : List Reading) → SameFrames e e' → FramesStand e work → FramesStand e' work
 frames_still e e' work same h =
     subst (λ (x : List (List Token)). WorkStands e'.ask e'.top e'.outer.items x work) (sym same.lists)
-    (subst (λ (x : List Waiting). WorkStands e'.ask e'.top x e.input.gathered work) (sym (ap (λ (o : _). o.items) same.outer))
-    (subst (λ (x : Option Frame). WorkStands e'.ask x e.outer.items e.input.gathered work) (sym same.top)
-    (subst (λ (x : Ask). WorkStands x e.top e.outer.items e.input.gathered work) (sym same.ask) h)))
+    (subst (λ (x : List Waiting). WorkStands e'.ask e'.top x e.input.builds work) (sym (ap (λ (o : _). o.items) same.outer))
+    (subst (λ (x : Option Frame). WorkStands e'.ask x e.outer.items e.input.builds work) (sym same.top)
+    (subst (λ (x : Ask). WorkStands x e.top e.outer.items e.input.builds work) (sym same.ask) h)))
+
+-- and no call is gathered
+uncalled_still : (e e' : Engine) → SameFrames e e' → IsUncalled e → IsUncalled e'
+uncalled_still e e' same h = record { none = same.call ∙ h.none; input = same.calling ∙ h.input }
 
 -- the engine whose readings are as they were
 pub stands_still : (sizes : Sizes) (e e' : Engine) (book : Book) → SameFrames e e' → IsSound sizes e' book.number book.macros → e'.input.making ≡ None → Stands sizes e book → Stands sizes e' book
-stands_still sizes e e' book same sound idle st = record { sound = sound; idle = idle; readings = frames_still e e' book.work same st.readings; lone = st.lone }
+stands_still sizes e e' book same sound idle st = record { sound = sound; idle = idle; readings = frames_still e e' book.work same st.readings; lone = st.lone; uncalled = uncalled_still e e' same st.uncalled }
 
 -- or waits, as it did
 pub waits_still : (sizes : Sizes) (e e' : Engine) (book : Book) → SameFrames e e' → IsSound sizes e' book.number book.macros → e'.input.making ≡ None → Waits sizes e book → Waits sizes e' book
@@ -252,9 +257,10 @@ waits_still sizes e e' book same sound idle st = record {
   idle = idle;
   readings =
       subst (λ (x : List (List Token)). WaitStands e'.top e'.outer.items x book.work) (sym same.lists)
-      (subst (λ (x : List Waiting). WaitStands e'.top x e.input.gathered book.work) (sym (ap (λ (o : _). o.items) same.outer))
-      (subst (λ (x : Option Frame). WaitStands x e.outer.items e.input.gathered book.work) (sym same.top) st.readings));
+      (subst (λ (x : List Waiting). WaitStands e'.top x e.input.builds book.work) (sym (ap (λ (o : _). o.items) same.outer))
+      (subst (λ (x : Option Frame). WaitStands x e.outer.items e.input.builds book.work) (sym same.top) st.readings));
   lone = st.lone;
+  uncalled = uncalled_still e e' same st.uncalled;
 }
 
 pub ends_still : (sizes : Sizes) (e e' : Engine) (v : reading.Value) (r : Reading) (rs : List Reading) (book : Book) → SameFrames e e' → IsSound sizes e' book.number book.macros → e'.input.making ≡ None → EndsHere sizes e v r rs book → EndsHere sizes e' v r rs book
@@ -265,10 +271,11 @@ ends_still sizes e e' v r rs book same sound idle h = record {
   holds = h.holds ∙ sym (ap (length {A = List Token}) same.lists);
   taken = h.taken;
   outer = subst (λ (x : List Waiting). OuterStand (reverse x) rs) (sym (ap (λ (o : _). o.items) same.outer)) h.outer;
+  uncalled = uncalled_still e e' same h.uncalled;
 }
 
 -- with these readings, and the lists that they hold
-pub reads_now : (e e' : Engine) (book : Book) (work : List Reading) → SameState e e' → record (state_of e book) { work = work; gathered = e'.input.gathered } ≡ state_of e' (with_work work book)
+pub reads_now : (e e' : Engine) (book : Book) (work : List Reading) → SameState e e' → record (state_of e book) { work = work; gathered = gathered e'.input } ≡ state_of e' (with_work work book)
 reads_now e e' book work same = let h = same.others in
     let pending : pending_of book.number e'.input.pending ≡ pending_of book.number e.input.pending = ap (pending_of book.number) same.pending in
     let meanings : meanings_of book.number e'.input.meanings ≡ meanings_of book.number e.input.meanings = ap (meanings_of book.number) same.store.meanings in
@@ -290,13 +297,13 @@ effect_none s (reading.Say ts) = refl
 effect_none s (reading.SetMacro name long outer ts) = refl
 
 -- the innermost reading ends
-pub ended_state : (e e' : Engine) (book : Book) (r : Reading) (rs : List Reading) (v : reading.Value) → SameState e e' → reading.value_lists v ++ beneath (r ∷ rs) e.input.gathered ≡ e'.input.gathered →
+pub ended_state : (e e' : Engine) (book : Book) (r : Reading) (rs : List Reading) (v : reading.Value) → SameState e e' → reading.value_lists v ++ beneath (r ∷ rs) (gathered e.input) ≡ gathered e'.input →
     made (Ended v) (state_of e (with_work (r ∷ rs) book)) ≡ state_of e' (with_work (ended_with v (r ∷ rs)) book)
 ended_state e e' book r rs v same lists = ap (λ (l : List (List Token)). record (state_of e (with_work (r ∷ rs) book)) { work = ended_with v (r ∷ rs); gathered = l }) lists ∙ reads_now e e' (with_work (r ∷ rs) book) (ended_with v (r ∷ rs)) same
 
 -- and so behind moves without a step
 pub ends_behind_moves : (sizes : Sizes) (e e1 e2 : Engine) (book : Book) (r : Reading) (rs : List Reading) (f : FilesTold) (w : World) (s : SinkTold) (ms : List Move) (v : reading.Value) →
-    Did sizes (state_of e (with_work (r ∷ rs) book)) (state_of e1 (with_work (r ∷ rs) book)) w (world_of f s e1) ms → steps ms ≡ 0 → SameState e1 e2 → reading.value_lists v ++ beneath (r ∷ rs) e1.input.gathered ≡ e2.input.gathered → Stands sizes e2 (with_work (ended_with v (r ∷ rs)) book) →
+    Did sizes (state_of e (with_work (r ∷ rs) book)) (state_of e1 (with_work (r ∷ rs) book)) w (world_of f s e1) ms → steps ms ≡ 0 → SameState e1 e2 → reading.value_lists v ++ beneath (r ∷ rs) (gathered e1.input) ≡ gathered e2.input → Stands sizes e2 (with_work (ended_with v (r ∷ rs)) book) →
     Went sizes (state_of e (with_work (r ∷ rs) book)) e2 w (world_of f s e2) (ms ++ Ended v ∷ []) 0
 ends_behind_moves sizes e e1 e2 book r rs f w s ms v d n same lists stands = record {
   book' = with_work (ended_with v (r ∷ rs)) book;
@@ -317,7 +324,7 @@ full_out sizes e e' f s book m rest full is refused =
 
 -- a move of the readings alone
 pub reading_went : (sizes : Sizes) (e e' : Engine) (book : Book) (work : List Reading) (f : FilesTold) (s : SinkTold) (m : Move) → IsQuiet m → step_of m ≡ 0 → refusal sizes m (state_of e book) ≡ None →
-    made m (state_of e book) ≡ record (state_of e book) { work = work; gathered = e'.input.gathered } → SameState e e' → Stands sizes e' (with_work work book) → Went sizes (state_of e book) e' (world_of f s e) (world_of f s e') (m ∷ []) 0
+    made m (state_of e book) ≡ record (state_of e book) { work = work; gathered = gathered e'.input } → SameState e e' → Stands sizes e' (with_work work book) → Went sizes (state_of e book) e' (world_of f s e) (world_of f s e') (m ∷ []) 0
 reading_went sizes e e' book work f s m quiet silent fits is same stands = record {
   book' = with_work work book;
   stands = stands;
@@ -340,7 +347,7 @@ column_sound sizes e e' number macros only h = sound_still sizes e e' number mac
 -- a token's line alone
 column_still : (sizes : Sizes) (e e' : Engine) (book : Book) → OnlyColumn e e' → Stands sizes e book → Stands sizes e' book
 column_still sizes e e' book only st =
-    stands_still sizes e e' book (record { outer = only.outer; top = only.top; ask = only.ask; lists = ap (λ (i : _). i.gathered) only.input })
+    stands_still sizes e e' book (record { outer = only.outer; top = only.top; ask = only.ask; lists = ap (λ (i : _). i.builds) only.input; call = only.call; calling = ap (λ (i : _). i.call) only.input })
     (column_sound sizes e e' book.number book.macros only st.sound) (ap (λ (i : _). i.making) only.input ∙ st.idle) st
 
 line_silent : (page : Page) (m : Meaning Unit) → steps (token_line page m) ≡ 0
@@ -372,7 +379,7 @@ fits_some sizes e want book x onward.Finish built h t = t.1
 
 -- where no reading is open, a command begins
 pub lone_first : (sizes : Sizes) (e : Engine) (r : Reading) (book : Book) → e.top ≡ None → IsCommand r.kind → Stands sizes e book → IsLone (r ∷ book.work)
-lone_first sizes e r book top is st = at book.work (subst (λ (t : Option Frame). WorkStands e.ask t e.outer.items e.input.gathered book.work) top st.readings) where
-  at : (work : List Reading) → WorkStands e.ask None e.outer.items e.input.gathered work → IsLone (r ∷ work)
+lone_first sizes e r book top is st = at book.work (subst (λ (t : Option Frame). WorkStands e.ask t e.outer.items e.input.builds book.work) top st.readings) where
+  at : (work : List Reading) → WorkStands e.ask None e.outer.items e.input.builds work → IsLone (r ∷ work)
   at [] w = is
   at (s ∷ rs) w = absurd w

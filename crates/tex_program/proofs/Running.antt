@@ -153,7 +153,7 @@ module _ (sizes : Sizes) (e : Engine) (i : Stored) (is : i ≡ record e.input { 
   settled_engine = record e { input = i }
 
   settled_frames : SameFrames e settled_engine
-  settled_frames = record { outer = refl; top = refl; ask = refl; lists = ap (λ (x : Stored). x.gathered) is }
+  settled_frames = record { outer = refl; top = refl; ask = refl; lists = ap (λ (x : Stored). x.builds) is; call = refl; calling = ap (λ (x : Stored). x.call) is }
 
   settled_stands : (book : Book) → Stands sizes e book → Stands sizes settled_engine book
   settled_stands book h = stands_still sizes e settled_engine book settled_frames

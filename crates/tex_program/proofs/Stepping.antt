@@ -31,6 +31,7 @@ use Rattle.frames.specs.declared.frame.Frame.{Frame}
 use Rattle.frames.specs.Sees.{ask_of, want_of, effect_of, value_of, kind_of}
 use Rattle.transcript.specs.Reported.{report_of}
 use Rattle.input_state.specs.Reads.{gives_step}
+use Rattle.input_state.specs.Stored.{gathered}
 use Rattle.tex_program.specs.declared.engine.Engine.{Engine}
 use Rattle.tex_program.specs.Book.{Book, with_work}
 use Rattle.tex_program.specs.Stands.{Stands, WorkStands, state_of}
@@ -228,16 +229,16 @@ handed_now : (e : Engine) (book : Book) (page : Page) (enters : Bool) (o : Optio
 handed_now e book page enters o onward h = handed_steps page enters o onward (pulled e.categories (pending_of book.number e.input.pending)) h ∙ ap one_if (gives_same book.number e.categories e.input.pending)
 
 answer_steps : (e : Engine) (book : Book) (r : Reading) (f : Frame) (a : Ask) →
-    steps (answered (state_of e book) book.work r (ask_of e.input.gathered a)) ≡ one_if (wants_token (Some f) a && gives_step (pulled e.categories e.input.pending))
+    steps (answered (state_of e book) book.work r (ask_of e.input.builds a)) ≡ one_if (wants_token (Some f) a && gives_step (pulled e.categories e.input.pending))
 answer_steps e book r f (More w) = let page = page_of (state_of e book) in
-    handed_now e book page (enters_names (want_of w)) (scanning book.work e.input.gathered) (λ x. wanted page (want_of w) (feeding r x) x) (λ x. wanted_none page (want_of w) (feeding r x) x (kind_none r.kind r.fed x))
+    handed_now e book page (enters_names (want_of w)) (scanning book.work (gathered e.input)) (λ x. wanted page (want_of w) (feeding r x) x) (λ x. wanted_none page (want_of w) (feeding r x) x (kind_none r.kind r.fed x))
 answer_steps e book r f (Inner waits k begins) = begun_none (kind_of k) (is_some begins) r
-answer_steps e book r f (Done v back) = steps_join (given_back (is_some back) r.fed) (Ended (value_of e.input.gathered v) ∷ []) ∙ omega (arith, back_none (is_some back) r.fed)
+answer_steps e book r f (Done v back) = steps_join (given_back (is_some back) r.fed) (Ended (value_of e.input.builds v) ∷ []) ∙ omega (arith, back_none (is_some back) r.fed)
 answer_steps e book r f (Act ef) =
-    steps_join (effect (state_of e book) (effect_of e.input.gathered ef)) (Ended (reading.Flag true) ∷ []) ∙ omega (arith, effect_none (state_of e book) (effect_of e.input.gathered ef))
+    steps_join (effect (state_of e book) (effect_of e.input.builds ef)) (Ended (reading.Flag true) ∷ []) ∙ omega (arith, effect_none (state_of e book) (effect_of e.input.builds ef))
 answer_steps e book r f (Tells report back) = told_none (page_of (state_of e book)) (report_of report) (is_some back) r
 
-steps_at : (e : Engine) (x : Option Frame) (book : Book) (work : List Reading) → WorkStands e.ask x e.outer.items e.input.gathered work → steps (plan_of e (with_work work book)) ≡ one_if (wants_token x e.ask && gives_step (pulled e.categories e.input.pending))
+steps_at : (e : Engine) (x : Option Frame) (book : Book) (work : List Reading) → WorkStands e.ask x e.outer.items e.input.builds work → steps (plan_of e (with_work work book)) ≡ one_if (wants_token x e.ask && gives_step (pulled e.categories e.input.pending))
 steps_at e None book [] h = let page = page_of (state_of e (with_work [] book)) in handed_now e book page false None (stomach page) (λ x. command_none page x.token x.meaning)
 steps_at e None book (r ∷ rs) h = absurd h
 steps_at e (Some f) book [] h = absurd h
@@ -270,16 +271,16 @@ module _ (sizes : Sizes) where
   pulled_needs e book page enters o onward h g =
       needs_of (state_of e book) page enters o onward (pulled e.categories (pending_of book.number e.input.pending)) refl h (gives_same book.number e.categories e.input.pending ∙ g)
 
-  answer_needs : (e : Engine) (book : Book) (r : Reading) (f : Frame) (a : Ask) → plan_of e book ≡ answered (state_of e book) book.work r (ask_of e.input.gathered a) →
+  answer_needs : (e : Engine) (book : Book) (r : Reading) (f : Frame) (a : Ask) → plan_of e book ≡ answered (state_of e book) book.work r (ask_of e.input.builds a) →
       (wants_token (Some f) a && gives_step (pulled e.categories e.input.pending)) ≡ true → StepComes sizes (state_of e book)
   answer_needs e book r f (More w) h g = let page = page_of (state_of e book) in
-      pulled_needs e book page (enters_names (want_of w)) (scanning book.work e.input.gathered) (λ x. wanted page (want_of w) (feeding r x) x) h g
+      pulled_needs e book page (enters_names (want_of w)) (scanning book.work (gathered e.input)) (λ x. wanted page (want_of w) (feeding r x) x) h g
   answer_needs e book r f (Inner waits k begins) h g = cc
   answer_needs e book r f (Done v back) h g = cc
   answer_needs e book r f (Act ef) h g = cc
   answer_needs e book r f (Tells report back) h g = cc
 
-  needs_at : (e : Engine) (x : Option Frame) (book : Book) (work : List Reading) → WorkStands e.ask x e.outer.items e.input.gathered work → (wants_token x e.ask && gives_step (pulled e.categories e.input.pending)) ≡ true → StepComes sizes (state_of e (with_work work book))
+  needs_at : (e : Engine) (x : Option Frame) (book : Book) (work : List Reading) → WorkStands e.ask x e.outer.items e.input.builds work → (wants_token x e.ask && gives_step (pulled e.categories e.input.pending)) ≡ true → StepComes sizes (state_of e (with_work work book))
   needs_at e None book [] h g = let page = page_of (state_of e (with_work [] book)) in pulled_needs e (with_work [] book) page false None (stomach page) refl g
   needs_at e None book (r ∷ rs) h g = absurd h
   needs_at e (Some f) book [] h g = absurd h

@@ -13,7 +13,7 @@ use Rattle.plain_machine.specs.Numbers.{IsHeld, Tied}
 use Rattle.plain_machine.proofs.MacroWords.{all_words_tied}
 use Rattle.plain_machine.proofs.Ties.{put_settled, put_with_put, held_more}
 use Rattle.name_table.specs.Strings.{Strings}
-use Rattle.input_state.specs.Stored.{Stored, KeepsMacros, words as stored_words}
+use Rattle.input_state.specs.Stored.{Stored, KeepsMacros, gathered, words as stored_words}
 use Rattle.tex_program.specs.declared.engine.Engine.{Engine}
 use Rattle.tex_program.specs.Book.{Book, AreBodies}
 use Rattle.tex_program.specs.Stands.{IsSized, IsSound, ArePlain, SameStore, SameState, SameOthers, state_of}
@@ -41,7 +41,7 @@ store_join i j k a b = record {
 
 -- no macro's body is put
 pub store_with : (i j : Stored) (p : Pending) (making : Option (List Token)) (gathered : List (List Token)) (buffer : List ℕ) →
-    j ≡ record i { pending = p; making = making; gathered = gathered; buffer = buffer; lists = j.lists } → ((n : ℕ) → is_put n p.puts ≡ true → is_put n i.pending.puts ≡ true) → KeepsMacros i j → SameStore i j
+    j ≡ record i { pending = p; making = making; builds = gathered; buffer = buffer; lists = j.lists } → ((n : ℕ) → is_put n p.puts ≡ true → is_put n i.pending.puts ≡ true) → KeepsMacros i j → SameStore i j
 store_with i j p making gathered buffer is fewer macros = record {
   sizes = ap (λ (x : Stored). x.sizes) is;
   hash = ap (λ (x : Stored). x.hash_size) is;
@@ -50,14 +50,14 @@ store_with i j p making gathered buffer is fewer macros = record {
   lists = macros;
 }
 
-pub store_gathered : (i j : Stored) (gathered : List (List Token)) → j ≡ record i { gathered = gathered; lists = j.lists } → KeepsMacros i j → SameStore i j
+pub store_gathered : (i j : Stored) (gathered : List (List Token)) → j ≡ record i { builds = gathered; lists = j.lists } → KeepsMacros i j → SameStore i j
 store_gathered i j gathered is macros = store_with i j i.pending i.making gathered i.buffer is (λ n h. h) macros
 
 pub store_making : (i j : Stored) (making : Option (List Token)) → j ≡ record i { making = making; lists = j.lists } → KeepsMacros i j → SameStore i j
-store_making i j making is macros = store_with i j i.pending making i.gathered i.buffer is (λ n h. h) macros
+store_making i j making is macros = store_with i j i.pending making i.builds i.buffer is (λ n h. h) macros
 
 pub store_settled : (i j : Stored) → j ≡ record i { pending = settle i.pending; lists = j.lists } → KeepsMacros i j → SameStore i j
-store_settled i j is macros = store_with i j (settle i.pending) i.making i.gathered i.buffer is (λ n h. put_settled n i.pending.puts h) macros
+store_settled i j is macros = store_with i j (settle i.pending) i.making i.builds i.buffer is (λ n h. put_settled n i.pending.puts h) macros
 
 own_put : (n : ℕ) (ts : List Token) (p : Pending) → is_put n (put_front (token_put ts) p).puts ≡ true → is_put n p.puts ≡ true
 own_put n ts p h = elim (put_with_put n (token_put ts) p.puts h) [
@@ -66,7 +66,7 @@ own_put n ts p h = elim (put_with_put n (token_put ts) p.puts h) [
 ]
 
 pub store_put : (i j : Stored) (ts : List Token) → j ≡ record i { pending = put_front (token_put ts) i.pending; making = None; lists = j.lists } → KeepsMacros i j → SameStore i j
-store_put i j ts is macros = store_with i j (put_front (token_put ts) i.pending) None i.gathered i.buffer is (λ n h. own_put n ts i.pending h) macros
+store_put i j ts is macros = store_with i j (put_front (token_put ts) i.pending) None i.builds i.buffer is (λ n h. own_put n ts i.pending h) macros
 
 -- THE MACROS
 
@@ -120,11 +120,12 @@ module _ (sizes : Sizes) (e e' : Engine) (number : ℕ → ℕ) (macros : List (
   sound_still own outer names reports store h = sound_sized (sized_still sizes e e' own outer names reports store h.sized) store h
 
 -- but for the lists that readings hold
-pub same_lists : (e e' : Engine) (i : Stored) (gathered : List (List Token)) → SameOthers e e' → i ≡ record e.input { gathered = gathered; lists = i.lists } → KeepsMacros e.input i → e'.input ≡ i → SameState e e'
+pub same_lists : (e e' : Engine) (i : Stored) (gathered : List (List Token)) → SameOthers e e' → i ≡ record e.input { builds = gathered; lists = i.lists } → KeepsMacros e.input i → e'.input ≡ i → SameState e e'
 same_lists e e' i gathered others is kept same = record {
   others = others;
   pending = ap (λ (x : Stored). x.pending) same ∙ ap (λ (x : Stored). x.pending) is;
   making = ap (λ (x : Stored). x.making) same ∙ ap (λ (x : Stored). x.making) is;
+  calling = ap (λ (x : Stored). x.call) same ∙ ap (λ (x : Stored). x.call) is;
   store = subst (λ (x : Stored). SameStore e.input x) (sym same) (store_gathered e.input i gathered is kept);
 }
 
@@ -132,6 +133,7 @@ pub same_join : (e e1 e2 : Engine) → SameState e e1 → SameState e1 e2 → Sa
 same_join e e1 e2 a b = record {
   others = record {
     depth = b.others.depth ∙ a.others.depth;
+    call = b.others.call ∙ a.others.call;
     names = b.others.names ∙ a.others.names;
     categories = b.others.categories ∙ a.others.categories;
     in_line = b.others.in_line ∙ a.others.in_line;
@@ -141,9 +143,10 @@ same_join e e1 e2 a b = record {
   };
   pending = b.pending ∙ a.pending;
   making = b.making ∙ a.making;
+  calling = b.calling ∙ a.calling;
   store = store_join e.input e1.input e2.input a.store b.store;
 }
 
 -- the words that are used are the machine's
 pub words_are : (sizes : Sizes) (e : Engine) (book : Book) → IsSound sizes e book.number book.macros → words (state_of e book) ≡ stored_words e.input
-words_are sizes e book h = all_words_tied book.number book.macros e.input.meanings e.input.pending.puts e.input.lists e.input.making e.input.gathered h.tied
+words_are sizes e book h = all_words_tied book.number book.macros e.input.meanings e.input.pending.puts e.input.lists e.input.making (gathered e.input) h.tied

@@ -1,5 +1,6 @@
 pub mod Begins
 pub mod Book
+pub mod Calls
 pub mod Entering
 pub mod Stands
 pub mod First

@@ -29,6 +29,7 @@ use Rattle.frames.specs.declared.scan.Ask.TheVariants.{More}
 use Rattle.frames.specs.declared.scan.Want.{Want as ScanWant}
 use Rattle.frames.specs.Sees.{want_of, kind_of, first_list}
 use Rattle.frames.specs.Resumes.{TakesTokens}
+use Rattle.input_state.specs.Stored.{gathered}
 use Rattle.tex_program.specs.Book.{Book}
 use Rattle.tex_program.specs.Stands.{Stands, FeedsHere, state_of}
 
@@ -84,7 +85,7 @@ enters_of (Some want) = enters_names (want_of want)
 
 -- the text that is read, if one is
 abbrev pub scanning_of : Engine → List Reading → Option Scanning
-scanning_of e work = scanning work e.input.gathered
+scanning_of e work = scanning work (gathered e.input)
 
 -- what becomes of a token of a list
 abbrev pub token_moves : Page → Option Scanning → (onward : Seen → List Move) → Token → List Move
@@ -96,7 +97,7 @@ name_moves page scanned enters onward x = entered (new_name enters page.names x)
 
 -- what is shown of a text that runs away
 abbrev pub away_text : Engine → List ℕ
-away_text e = runaway_bytes reports.OfText e.categories e.names.names e.in_line (first_list e.input.gathered)
+away_text e = runaway_bytes reports.OfText e.categories e.names.names e.in_line (first_list e.input.builds)
 
 -- the engine is where such a token is wanted
 abbrev pub Takes : Sizes → Option ScanWant → Engine → Book → Type 0

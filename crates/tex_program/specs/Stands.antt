@@ -11,7 +11,8 @@ use Rattle.plain_state.specs.Meanings.{fixed_locations}
 use Rattle.plain_state.specs.States.{Reading, State}
 use Rattle.plain_machine.specs.Plan.{Page, last_seen, is_told, reports_room}
 use Rattle.plain_machine.specs.Numbers.{Tied, pending_of, meanings_of}
-use Rattle.input_state.specs.Stored.{Stored, KeepsMacros}
+use Rattle.input_state.specs.Stored.{Stored, KeepsMacros, gathered}
+use Rattle.input_state.specs.Callings.{NotCalling}
 use Rattle.plain_state.specs.Tables.{is_put}
 use Rattle.tex_defs.specs.declared.Meaning.{Meaning}
 use Rattle.tex_defs.specs.declared.Meaning.TheVariants as means
@@ -25,6 +26,7 @@ use Rattle.frames.specs.declared.frame.Waiting.{Waiting}
 use Rattle.frames.specs.Sees.{ask_of}
 use Rattle.frames.specs.Resumes.{resume, resume_waiting, waiting_kind, frame_list, frame_kind, IsOpen, frame_grows, lists_after, InnerWaits, MayFeed, Owns, IsShallow, is_built}
 use Rattle.tex_program.specs.declared.engine.Engine.{Engine}
+use Rattle.tex_program.specs.declared.call.Call.{Call}
 use Rattle.tex_program.specs.Begins.{IsCommand}
 use Rattle.tex_program.specs.Book.{Book, AreBodies}
 
@@ -95,18 +97,18 @@ WorkStands a (Some frame) outer lists (r ∷ rs) = Innermost a frame lists r × 
 
 -- the open readings, with the lists that they hold, are these
 abbrev pub FramesStand : Engine → List Reading → Type 0
-FramesStand e work = WorkStands e.ask e.top e.outer.items e.input.gathered work
+FramesStand e work = WorkStands e.ask e.top e.outer.items e.input.builds work
 
 -- where one reading is open, it is a command
 abbrev pub IsLone : List Reading → Type 0
 IsLone (r ∷ []) = IsCommand r.kind
 IsLone rs = Unit {0}
 
--- the tables' sizes are these, a reading more than may be open can be counted, the last report that a run may have hasn't come,
+-- the tables' sizes are these, two readings more than may be open can be counted, the last report that a run may have hasn't come,
 -- and each name that is entered has a location
 pub record IsSized (sizes : Sizes) (e : Engine) : Type 0 where
   pub few_reports : e.reports ≤ reports_room
-  pub small : sizes.expansion_depth < 4294967295
+  pub small : sizes.expansion_depth < 4294967294
   pub own : e.sizes ≡ sizes
   pub outer : e.outer.size ≡ sizes.expansion_depth
   pub input : e.input.sizes ≡ sizes
@@ -131,12 +133,18 @@ pub record IsSound (sizes : Sizes) (e : Engine) (number : ℕ → ℕ) (macros :
   pub bodies : AreBodies macros
   pub plain : ArePlain e.input.meanings
 
--- The engine's open readings and its macros are those of the book, and no list is being made.
+-- no call gathers its arguments
+pub record IsUncalled (e : Engine) : Type 0 where
+  pub none : e.call ≡ None
+  pub input : e.input.call ≡ NotCalling
+
+-- The engine's open readings and its macros are those of the book, no list is being made, and no call gathers its arguments.
 pub record Stands (sizes : Sizes) (e : Engine) (book : Book) : Type 0 where
   pub sound : IsSound sizes e book.number book.macros
   pub idle : e.input.making ≡ None
   pub readings : FramesStand e book.work
   pub lone : IsLone book.work
+  pub uncalled : IsUncalled e
 
 -- The innermost reading waits for what comes.
 abbrev pub WaitStands : Option Frame → List Waiting → List (List Token) → List Reading → Type 0
@@ -148,8 +156,9 @@ WaitStands (Some frame) outer lists (r ∷ rs) = FrameStands frame lists r × ((
 pub record Waits (sizes : Sizes) (e : Engine) (book : Book) : Type 0 where
   pub sound : IsSound sizes e book.number book.macros
   pub idle : e.input.making ≡ None
-  pub readings : WaitStands e.top e.outer.items e.input.gathered book.work
+  pub readings : WaitStands e.top e.outer.items e.input.builds book.work
   pub lone : IsLone book.work
+  pub uncalled : IsUncalled e
 
 -- A command waits in front of the reading that begins.
 abbrev pub WaitsFirst : Engine → Waiting → List Reading → Type 0
@@ -159,8 +168,9 @@ WaitsFirst e waiting (r ∷ rs) = WaitingStands waiting r × OuterStand (reverse
 pub record WaitsIn (sizes : Sizes) (e : Engine) (waiting : Waiting) (book : Book) : Type 0 where
   pub sound : IsSound sizes e book.number book.macros
   pub idle : e.input.making ≡ None
-  pub bare : e.input.gathered ≡ []
+  pub bare : e.input.builds ≡ []
   pub readings : WaitsFirst e waiting book.work
+  pub uncalled : IsUncalled e
 
 abbrev pub WaitsWith : Sizes → Engine → Option Waiting → Book → Type 0
 WaitsWith sizes e None book = (e.top ≡ None) × Stands sizes e book
@@ -175,10 +185,11 @@ IsTaken v (r ∷ rs) = Unit {0}
 pub record EndsHere (sizes : Sizes) (e : Engine) (v : reading.Value) (r : Reading) (rs : List Reading) (book : Book) : Type 0 where
   pub sound : IsSound sizes e book.number book.macros
   pub idle : e.input.making ≡ None
-  pub few : AtMostOne e.input.gathered
-  pub holds : r.holds ≡ length e.input.gathered
+  pub few : AtMostOne e.input.builds
+  pub holds : r.holds ≡ length e.input.builds
   pub taken : IsTaken v rs
   pub outer : OuterStand (reverse e.outer.items) rs
+  pub uncalled : IsUncalled e
 
 -- The innermost reading is fed with this token, and no report is due.
 pub record FeedsHere (sizes : Sizes) (e : Engine) (x : Seen) (book : Book) : Type 0 where
@@ -195,9 +206,10 @@ pub record FedFrame (sizes : Sizes) (e : Engine) (f : Frame) (x : Seen) (lists :
   pub holds : r.holds ≡ length lists
   pub built : is_built x.meaning ≡ true
   pub may_feed : MayFeed f x lists
-  pub grown : e.input.gathered ≡ lists_after (frame_grows f x) x lists
+  pub grown : e.input.builds ≡ lists_after (frame_grows f x) x lists
   pub outer : OuterStand (reverse e.outer.items) rs
   pub lone : IsLone (r ∷ rs)
+  pub uncalled : IsUncalled e
 
 -- whether a token goes onto the list that the innermost reading builds, if one is open
 abbrev pub top_grows : Option Frame → Seen → Bool
@@ -225,7 +237,7 @@ state_of e book = record {
   meanings = meanings_of book.number e.input.meanings;
   macros = book.macros;
   work = book.work;
-  gathered = e.input.gathered;
+  gathered = gathered e.input;
   making = e.input.making;
   in_line = e.in_line;
   reports = e.reports;
@@ -252,8 +264,13 @@ abbrev pub top_count : Option Frame → ℕ
 top_count None = 0
 top_count (Some f) = 1
 
+-- a call that gathers its arguments
+abbrev pub call_count : Option Call → ℕ
+call_count None = 0
+call_count (Some c) = 1
+
 abbrev pub frames : Engine → ℕ
-frames e = length e.outer.items + top_count e.top
+frames e = length e.outer.items + top_count e.top + call_count e.call
 
 -- The engine counts the open readings and the macros as the machine.
 pub record Counts (sizes : Sizes) (e : Engine) (book : Book) : Type 0 where
@@ -269,11 +286,14 @@ pub record SameFrames (e e' : Engine) : Type 0 where
   pub outer : e'.outer ≡ e.outer
   pub top : e'.top ≡ e.top
   pub ask : e'.ask ≡ e.ask
-  pub lists : e'.input.gathered ≡ e.input.gathered
+  pub lists : e'.input.builds ≡ e.input.builds
+  pub call : e'.call ≡ e.call
+  pub calling : e'.input.call ≡ e.input.call
 
--- all but the readings and the input is as it was
+-- all but the frames and the input is as it was
 pub record SameOthers (e e' : Engine) : Type 0 where
   pub depth : e'.outer.size ≡ e.outer.size
+  pub call : e'.call ≡ e.call
   pub names : e'.names ≡ e.names
   pub categories : e'.categories ≡ e.categories
   pub in_line : e'.in_line ≡ e.in_line
@@ -289,11 +309,12 @@ pub record SameStore (old new : Stored) : Type 0 where
   pub puts : (n : ℕ) → is_put n new.pending.puts ≡ true → is_put n old.pending.puts ≡ true
   pub lists : KeepsMacros old new
 
--- all but the readings, with the lists that they hold, is as it was
+-- all but the frames, with the lists that they hold, is as it was
 pub record SameState (e e' : Engine) : Type 0 where
   pub others : SameOthers e e'
   pub pending : e'.input.pending ≡ e.input.pending
   pub making : e'.input.making ≡ e.input.making
+  pub calling : e'.input.call ≡ e.input.call
   pub store : SameStore e.input e'.input
 
 -- nothing but the column has changed
@@ -301,6 +322,7 @@ pub record OnlyColumn (e e' : Engine) : Type 0 where
   pub outer : e'.outer ≡ e.outer
   pub top : e'.top ≡ e.top
   pub ask : e'.ask ≡ e.ask
+  pub call : e'.call ≡ e.call
   pub input : e'.input ≡ e.input
   pub names : e'.names ≡ e.names
   pub categories : e'.categories ≡ e.categories

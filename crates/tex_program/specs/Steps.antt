@@ -28,10 +28,10 @@ IsStep Step = Unit {0}
 IsStep Free = ⊥
 IsStep (Halted o) = ⊥
 
--- an invalid character may still be skipped, and the file may still end, where a reading may still be told of a check
+-- an invalid character may still be skipped, and the file may still end
 abbrev pub file_weight : Progress → ℕ
 file_weight Closed = 0
-file_weight p = 9
+file_weight p = 1
 
 abbrev pub pending_weight : Pending → ℕ
 pending_weight p = length p.line + file_weight p.file

@@ -22,7 +22,7 @@ ghost use Rattle.transcript.specs.Reported.{report_of};
 ghost use Rattle.frames.specs.Resumes.{IsNoText, IsOpen, is_built, frame_kind, frame_grows, lists_after};
 ghost use Rattle.frames.specs.Weights.{frame_rank};
 ghost use Rattle.input_state.specs.Reads.{gives_step, IsLexeme};
-ghost use Rattle.input_state.specs.Stored.{KeepsMacros, words as stored_words};
+ghost use Rattle.input_state.specs.Stored.{KeepsMacros, gathered, words as stored_words};
 ghost use Rattle.plain_state.specs.Lookup.{token_of, new_name};
 ghost use Rattle.plain_machine.specs.Numbers.{pending_of};
 ghost use Rattle.tex_program.specs.Book.{Book, with_work};
@@ -38,6 +38,7 @@ ghost use Rattle.tex_program.specs.declared.broken.Broken.TheVariants as broken;
 ghost use Rattle.tex_program.specs.declared.engine.Ruled.TheVariants.{Halted};
 
 use crate::broken::Broken;
+use crate::call::Call;
 use crate::meaning::is_outer;
 use crate::names::resolve;
 use crate::reactions::{Last, Onward, Outcome, obey, react};
@@ -81,6 +82,8 @@ pub struct Engine {
     top: Option<Frame>,
     /// What it asks for.
     ask: Ask,
+    /// The call that gathers its arguments, if one does.
+    call: Option<Call>,
     /// Whether the last byte that the transcript took isn't a line feed.
     in_line: bool,
     /// The reports so far.
@@ -151,6 +154,7 @@ impl Engine {
             outer,
             top: None,
             ask: Ask::More(Want::Expanded),
+            call: None,
             in_line: false,
             reports: 0,
             quiet,
@@ -167,6 +171,7 @@ impl Engine {
             outer: _,
             top: _,
             ask: _,
+            call: _,
             in_line: _,
             reports: _,
             quiet: _,
@@ -209,8 +214,8 @@ impl Engine {
 
     /// Writes a message: the list that the innermost reading holds.
     fn write_message<S: Sink>(&mut self, out: &mut S) -> Result<(), Broken>
-        ensures did { OnOk result ((sizes : Sizes) (f : FilesTold) (book : Book) → Did sizes (state_of self.old book) (state_of self.new book) (world_of f (S.told out.old) self.old) (world_of f (S.told out.new) self.new) (Written Transcript (message_bytes self.old.categories self.old.names.names self.old.in_line (first_list self.old.input.gathered)) ∷ [])) }
-        ensures err { IfErr result (λ b. (sizes : Sizes) (f : FilesTold) (book : Book) (more : List Move) → Cuts sizes (state_of self.old book) self.new book (world_of f (S.told out.old) self.old) (world_of f (S.told out.new) self.new) (Written Transcript (message_bytes self.old.categories self.old.names.names self.old.in_line (first_list self.old.input.gathered)) ∷ more) b) }
+        ensures did { OnOk result ((sizes : Sizes) (f : FilesTold) (book : Book) → Did sizes (state_of self.old book) (state_of self.new book) (world_of f (S.told out.old) self.old) (world_of f (S.told out.new) self.new) (Written Transcript (message_bytes self.old.categories self.old.names.names self.old.in_line (first_list self.old.input.builds)) ∷ [])) }
+        ensures err { IfErr result (λ b. (sizes : Sizes) (f : FilesTold) (book : Book) (more : List Move) → Cuts sizes (state_of self.old book) self.new book (world_of f (S.told out.old) self.old) (world_of f (S.told out.new) self.new) (Written Transcript (message_bytes self.old.categories self.old.names.names self.old.in_line (first_list self.old.input.builds)) ∷ more) b) }
         ensures only { OnlyColumn self.old self.new }
     {
         let (hash, pool) = self.names.parts();
@@ -227,9 +232,9 @@ impl Engine {
 
     /// Writes what is shown of a text that runs away: the list that the innermost reading holds.
     fn write_runaway<S: Sink>(&mut self, out: &mut S) -> Result<(), Broken>
-        requires { self.old.input.gathered ≡ [] → ⊥ }
-        ensures did { OnOk result ((sizes : Sizes) (f : FilesTold) (book : Book) → Did sizes (state_of self.old book) (state_of self.new book) (world_of f (S.told out.old) self.old) (world_of f (S.told out.new) self.new) (Written Transcript (runaway_bytes OfText self.old.categories self.old.names.names self.old.in_line (first_list self.old.input.gathered)) ∷ [])) }
-        ensures err { IfErr result (λ b. (sizes : Sizes) (f : FilesTold) (book : Book) (more : List Move) → Cuts sizes (state_of self.old book) self.new book (world_of f (S.told out.old) self.old) (world_of f (S.told out.new) self.new) (Written Transcript (runaway_bytes OfText self.old.categories self.old.names.names self.old.in_line (first_list self.old.input.gathered)) ∷ more) b) }
+        requires { self.old.input.builds ≡ [] → ⊥ }
+        ensures did { OnOk result ((sizes : Sizes) (f : FilesTold) (book : Book) → Did sizes (state_of self.old book) (state_of self.new book) (world_of f (S.told out.old) self.old) (world_of f (S.told out.new) self.new) (Written Transcript (runaway_bytes OfText self.old.categories self.old.names.names self.old.in_line (first_list self.old.input.builds)) ∷ [])) }
+        ensures err { IfErr result (λ b. (sizes : Sizes) (f : FilesTold) (book : Book) (more : List Move) → Cuts sizes (state_of self.old book) self.new book (world_of f (S.told out.old) self.old) (world_of f (S.told out.new) self.new) (Written Transcript (runaway_bytes OfText self.old.categories self.old.names.names self.old.in_line (first_list self.old.input.builds)) ∷ more) b) }
         ensures only { OnlyColumn self.old self.new }
     {
         let (hash, pool) = self.names.parts();
@@ -328,20 +333,16 @@ impl Engine {
     /// How many readings are open.
     fn depth(&self) -> u64
         ensures is { result ≡ frames self.now }
-        ensures within { result ≤ self.now.outer.size + 1 }
+        ensures within { result ≤ self.now.outer.size + 2 }
     {
         let waiting = u64::from(self.outer.len());
-        if self.top.is_some() {
-            waiting + 1
-        } else {
-            waiting
-        }
+        waiting + u64::from(self.top.is_some()) + u64::from(self.call.is_some())
     }
 
     /// Why there is no room for one more reading.
     fn depth_refusal(&self) -> Option<Full>
         ensures room { result ≡ None → frames self.now < self.now.outer.size }
-        ensures is { self.now.outer.size < 4294967295 → result ≡ depth_full (frames self.now) self.now.outer.size }
+        ensures is { self.now.outer.size < 4294967294 → result ≡ depth_full (frames self.now) self.now.outer.size }
     {
         let used = self.depth();
         let size = self.outer.size();
@@ -366,7 +367,7 @@ impl Engine {
         ensures takes { OnOk result (TopTakes self.new.top) }
         ensures asks { OnOk result (IsOpen self.new.ask) }
         ensures fresh { OnOk result ((f : Frame) (x : Seen) → self.new.top ≡ Some f → frame_grows f x ≡ false) }
-        ensures lists { OnOk result (self.new.input.gathered ≡ own_lists (kind_of kind) ++ self.old.input.gathered) }
+        ensures lists { OnOk result (self.new.input.builds ≡ own_lists (kind_of kind) ++ self.old.input.builds) }
         ensures stands { OnOk result ((sizes : Sizes) (book : Book) → WaitsWith sizes self.old waits book → IsLone (fresh (kind_of kind) ∷ book.work) → Stands sizes self.new (with_work (fresh (kind_of kind) ∷ book.work) book)) }
         ensures fits { OnOk result ((sizes : Sizes) (book : Book) → Counts sizes self.old book → refusal sizes (Begun (kind_of kind)) (state_of self.old book) ≡ None) }
         ensures refused { IfErr result (λ full. (sizes : Sizes) (book : Book) → Counts sizes self.old book → refusal sizes (Begun (kind_of kind)) (state_of self.old book) ≡ Some full) }
@@ -394,7 +395,7 @@ impl Engine {
 
     /// Begins the list that a reading of this kind builds, if it builds one.
     fn begin_list(&mut self, kind: Kind) -> Result<(), Full>
-        ensures ok { OnOk result (self.new ≡ record self.old { input = record self.old.input { gathered = own_lists (kind_of kind) ++ self.old.input.gathered; lists = self.new.input.lists } }) }
+        ensures ok { OnOk result (self.new ≡ record self.old { input = record self.old.input { builds = own_lists (kind_of kind) ++ self.old.input.builds; lists = self.new.input.lists } }) }
         ensures fits { OnOk result (refused self.old.input.sizes (memory (lists_words (own_lists (kind_of kind))) (stored_words self.old.input) ∷ []) ≡ None) }
         ensures refused { IfErr result (λ full. refused self.old.input.sizes (memory (lists_words (own_lists (kind_of kind))) (stored_words self.old.input) ∷ []) ≡ Some full) }
         ensures macros { KeepsMacros self.old.input self.new.input }
@@ -427,9 +428,9 @@ impl Engine {
 
     /// A token goes onto the list that the innermost reading builds, unless it isn't of it.
     fn grow(&mut self, seen: Seen) -> Result<(), Full>
-        ensures ok { OnOk result (self.new ≡ record self.old { input = record self.old.input { gathered = lists_after (top_grows self.old.top seen) seen self.old.input.gathered; lists = self.new.input.lists } }) }
+        ensures ok { OnOk result (self.new ≡ record self.old { input = record self.old.input { builds = lists_after (top_grows self.old.top seen) seen self.old.input.builds; lists = self.new.input.lists } }) }
         ensures macros { KeepsMacros self.old.input self.new.input }
-        ensures fits { OnOk result (top_grows self.old.top seen ≡ true → (self.old.input.gathered ≡ [] → ⊥) → refused self.old.input.sizes (memory 1 (stored_words self.old.input) ∷ []) ≡ None) }
+        ensures fits { OnOk result (top_grows self.old.top seen ≡ true → (self.old.input.builds ≡ [] → ⊥) → refused self.old.input.sizes (memory 1 (stored_words self.old.input) ∷ []) ≡ None) }
         ensures grows { OnErr result (top_grows self.old.top seen ≡ true) }
         ensures refused { IfErr result (λ full. refused self.old.input.sizes (memory 1 (stored_words self.old.input) ∷ []) ≡ Some full) }
         ensures small { stored_words self.old.input < 4294967296 }
@@ -446,9 +447,9 @@ impl Engine {
     /// Whether a token goes onto the list that the innermost reading builds.
     fn grows(&self, seen: Seen) -> bool
         ensures grows { result ≡ true → (f : Frame) → self.now.top ≡ Some f → frame_grows f seen ≡ true }
-        ensures list { result ≡ true → self.now.input.gathered ≡ [] → ⊥ }
+        ensures list { result ≡ true → self.now.input.builds ≡ [] → ⊥ }
         ensures top { result ≡ true → IsSome self.now.top }
-        ensures none { result ≡ false → (f : Frame) → self.now.top ≡ Some f → (self.now.input.gathered ≡ [] → ⊥) → frame_grows f seen ≡ false }
+        ensures none { result ≡ false → (f : Frame) → self.now.top ≡ Some f → (self.now.input.builds ≡ [] → ⊥) → frame_grows f seen ≡ false }
     {
         match &self.top {
             Some(frame) => frame.grows(seen) && self.input.has_list(),
@@ -474,7 +475,7 @@ impl Engine {
 
     /// The list that the innermost reading holds goes, if there is one.
     fn drop_list(&mut self)
-        ensures after { self.new ≡ record self.old { input = record self.old.input { gathered = other_lists self.old.input.gathered; lists = self.new.input.lists } } }
+        ensures after { self.new ≡ record self.old { input = record self.old.input { builds = other_lists self.old.input.builds; lists = self.new.input.lists } } }
         ensures macros { KeepsMacros self.old.input self.new.input }
     {
         if self.input.has_list() {
@@ -484,7 +485,7 @@ impl Engine {
 
     /// The list that the innermost reading holds goes, unless it has the value's tokens.
     fn keep_value(&mut self, value: Value)
-        ensures after { self.new ≡ record self.old { input = record self.old.input { gathered = kept_lists value self.old.input.gathered; lists = self.new.input.lists } } }
+        ensures after { self.new ≡ record self.old { input = record self.old.input { builds = kept_lists value self.old.input.builds; lists = self.new.input.lists } } }
         ensures macros { KeepsMacros self.old.input self.new.input }
     {
         match value {
@@ -497,8 +498,8 @@ impl Engine {
     fn end(&mut self, value: Value)
         ensures light { (f : Frame) → self.old.top ≡ Some f → weight self.new < 2 * frames self.old + 6 + pending_weight self.old.input.pending }
         ensures same { SameState self.old self.new }
-        ensures lists { (sizes : Sizes) (book : Book) (r : Reading) (rs : List Reading) → EndsHere sizes self.old (value_of self.old.input.gathered value) r rs book → value_lists (value_of self.old.input.gathered value) ++ beneath (r ∷ rs) self.old.input.gathered ≡ self.new.input.gathered }
-        ensures stands { (sizes : Sizes) (book : Book) (r : Reading) (rs : List Reading) → EndsHere sizes self.old (value_of self.old.input.gathered value) r rs book → Stands sizes self.new (with_work (ended_with (value_of self.old.input.gathered value) (r ∷ rs)) book) }
+        ensures lists { (sizes : Sizes) (book : Book) (r : Reading) (rs : List Reading) → EndsHere sizes self.old (value_of self.old.input.builds value) r rs book → value_lists (value_of self.old.input.builds value) ++ beneath (r ∷ rs) (gathered self.old.input) ≡ gathered self.new.input }
+        ensures stands { (sizes : Sizes) (book : Book) (r : Reading) (rs : List Reading) → EndsHere sizes self.old (value_of self.old.input.builds value) r rs book → Stands sizes self.new (with_work (ended_with (value_of self.old.input.builds value) (r ∷ rs)) book) }
     {
         match self.outer.pop() {
             None => {
@@ -520,7 +521,7 @@ impl Engine {
         requires { IsSome self.old.top }
         ensures light { OnOk result (weight self.new < 2 * frames self.old + (10 + 3 * rank (kind_of kind)) + pending_weight self.old.input.pending) }
         ensures same { OnOk result (SameState self.old self.new) }
-        ensures lists { OnOk result (self.new.input.gathered ≡ own_lists (kind_of kind) ++ self.old.input.gathered) }
+        ensures lists { OnOk result (self.new.input.builds ≡ own_lists (kind_of kind) ++ self.old.input.builds) }
         ensures stands { OnOk result ((sizes : Sizes) (book : Book) → is_built seen.meaning ≡ true → WaitsWith sizes self.old (Some waits) book → Stands sizes self.new (with_work (fed_with (Tok seen) (fresh (kind_of kind) ∷ book.work)) book)) }
         ensures fits { OnOk result ((sizes : Sizes) (book : Book) → Counts sizes self.old book → refusal sizes (BegunWith (kind_of kind) seen) (state_of self.old book) ≡ None) }
         ensures refused { IfErr result (λ full. (sizes : Sizes) (book : Book) → Counts sizes self.old book → refusal sizes (BegunWith (kind_of kind) seen) (state_of self.old book) ≡ Some full) }
@@ -590,10 +591,10 @@ impl Engine {
     fn done(&mut self, value: Value, back: Option<Seen>) -> Result<(), Broken>
         requires idle { self.old.input.making ≡ None }
         ensures light { OnOk result ((f : Frame) → self.old.top ≡ Some f → weight self.new < 2 * frames self.old + 6 + pending_weight self.old.input.pending) }
-        ensures rule { OnOk result ((sizes : Sizes) (w : World) (book : Book) (r : Reading) (rs : List Reading) → Counts sizes self.old (with_work (r ∷ rs) book) → EndsHere sizes self.old (value_of self.old.input.gathered value) r rs book → IsLast back r.fed →
-            Went sizes (state_of self.old (with_work (r ∷ rs) book)) self.new w w (given_back (is_some back) r.fed ++ EndedMove (value_of self.old.input.gathered value) ∷ []) 0) }
-        ensures err { IfErr result (λ b. (sizes : Sizes) (w : World) (book : Book) (r : Reading) (rs : List Reading) → Counts sizes self.old (with_work (r ∷ rs) book) → EndsHere sizes self.old (value_of self.old.input.gathered value) r rs book → IsLast back r.fed →
-            Cuts sizes (state_of self.old (with_work (r ∷ rs) book)) self.new (with_work (r ∷ rs) book) w w (given_back (is_some back) r.fed ++ EndedMove (value_of self.old.input.gathered value) ∷ []) b) }
+        ensures rule { OnOk result ((sizes : Sizes) (w : World) (book : Book) (r : Reading) (rs : List Reading) → Counts sizes self.old (with_work (r ∷ rs) book) → EndsHere sizes self.old (value_of self.old.input.builds value) r rs book → IsLast back r.fed →
+            Went sizes (state_of self.old (with_work (r ∷ rs) book)) self.new w w (given_back (is_some back) r.fed ++ EndedMove (value_of self.old.input.builds value) ∷ []) 0) }
+        ensures err { IfErr result (λ b. (sizes : Sizes) (w : World) (book : Book) (r : Reading) (rs : List Reading) → Counts sizes self.old (with_work (r ∷ rs) book) → EndsHere sizes self.old (value_of self.old.input.builds value) r rs book → IsLast back r.fed →
+            Cuts sizes (state_of self.old (with_work (r ∷ rs) book)) self.new (with_work (r ∷ rs) book) w w (given_back (is_some back) r.fed ++ EndedMove (value_of self.old.input.builds value) ∷ []) b) }
         ensures frames { OnErr result (SameFrames self.old self.new) }
         ensures column { self.new.in_line ≡ self.old.in_line }
         ensures idle { OnOk result (self.new.input.making ≡ None) }
@@ -605,8 +606,8 @@ impl Engine {
 
     /// Does what a command says.
     fn act<S: Sink>(&mut self, out: &mut S, effect: Effect) -> Result<(), Broken>
-        ensures did { OnOk result ((sizes : Sizes) (f : FilesTold) (book : Book) → Did sizes (state_of self.old book) (state_of self.new book) (world_of f (S.told out.old) self.old) (world_of f (S.told out.new) self.new) (effect_moves (state_of self.old book) (effect_of self.old.input.gathered effect))) }
-        ensures err { IfErr result (λ b. (sizes : Sizes) (f : FilesTold) (book : Book) (more : List Move) → Cuts sizes (state_of self.old book) self.new book (world_of f (S.told out.old) self.old) (world_of f (S.told out.new) self.new) (effect_moves (state_of self.old book) (effect_of self.old.input.gathered effect) ++ more) b) }
+        ensures did { OnOk result ((sizes : Sizes) (f : FilesTold) (book : Book) → Did sizes (state_of self.old book) (state_of self.new book) (world_of f (S.told out.old) self.old) (world_of f (S.told out.new) self.new) (effect_moves (state_of self.old book) (effect_of self.old.input.builds effect))) }
+        ensures err { IfErr result (λ b. (sizes : Sizes) (f : FilesTold) (book : Book) (more : List Move) → Cuts sizes (state_of self.old book) self.new book (world_of f (S.told out.old) self.old) (world_of f (S.told out.new) self.new) (effect_moves (state_of self.old book) (effect_of self.old.input.builds effect) ++ more) b) }
         ensures frames { SameFrames self.old self.new }
         ensures input { self.new.input ≡ self.old.input }
         ensures names { self.new.names ≡ self.old.names }
@@ -627,8 +628,8 @@ impl Engine {
         requires idle { self.old.input.making ≡ None }
         ensures light { OnOk result ((f : Frame) → self.old.top ≡ Some f → weight self.new < 2 * frames self.old + 6 + pending_weight self.old.input.pending) }
         ensures rule { OnOk result ((sizes : Sizes) (f : FilesTold) (book : Book) (r : Reading) (rs : List Reading) → EndsHere sizes self.old (FlagValue true) r rs book →
-            Went sizes (state_of self.old (with_work (r ∷ rs) book)) self.new (world_of f (S.told out.old) self.old) (world_of f (S.told out.new) self.new) (effect_moves (state_of self.old (with_work (r ∷ rs) book)) (effect_of self.old.input.gathered effect) ++ EndedMove (FlagValue true) ∷ []) 0) }
-        ensures err { IfErr result (λ b. (sizes : Sizes) (f : FilesTold) (book : Book) → Cuts sizes (state_of self.old book) self.new book (world_of f (S.told out.old) self.old) (world_of f (S.told out.new) self.new) (effect_moves (state_of self.old book) (effect_of self.old.input.gathered effect) ++ EndedMove (FlagValue true) ∷ []) b) }
+            Went sizes (state_of self.old (with_work (r ∷ rs) book)) self.new (world_of f (S.told out.old) self.old) (world_of f (S.told out.new) self.new) (effect_moves (state_of self.old (with_work (r ∷ rs) book)) (effect_of self.old.input.builds effect) ++ EndedMove (FlagValue true) ∷ []) 0) }
+        ensures err { IfErr result (λ b. (sizes : Sizes) (f : FilesTold) (book : Book) → Cuts sizes (state_of self.old book) self.new book (world_of f (S.told out.old) self.old) (world_of f (S.told out.new) self.new) (effect_moves (state_of self.old book) (effect_of self.old.input.builds effect) ++ EndedMove (FlagValue true) ∷ []) b) }
         ensures frames { OnErr result (SameFrames self.old self.new) }
         ensures idle { OnOk result (self.new.input.making ≡ None) }
     {
@@ -737,8 +738,8 @@ impl Engine {
     fn text_name(&self) -> Option<Name>
         ensures some { IfSome result (λ name. (f : Frame) → self.now.top ≡ Some f → frame_kind f ≡ TextKind name) }
         ensures top { IsSome result → IsSome self.now.top }
-        ensures list { IsSome result → self.now.input.gathered ≡ [] → ⊥ }
-        ensures none { result ≡ None → (f : Frame) → self.now.top ≡ Some f → (self.now.input.gathered ≡ [] → ⊥) → IsNoText (frame_kind f) }
+        ensures list { IsSome result → self.now.input.builds ≡ [] → ⊥ }
+        ensures none { result ≡ None → (f : Frame) → self.now.top ≡ Some f → (self.now.input.builds ≡ [] → ⊥) → IsNoText (frame_kind f) }
     {
         let Some(frame) = &self.top else {
             return None;
@@ -785,7 +786,7 @@ impl Engine {
         then: Option<Want>,
     ) -> Result<Ruled, Broken>
         requires idle { self.old.input.making ≡ None }
-        requires asked { self.old.input.gathered ≡ [] → ⊥ }
+        requires asked { self.old.input.builds ≡ [] → ⊥ }
         ensures rule { IfOk result (λ ruled. (sizes : Sizes) (f : FilesTold) (book : Book) (page : Page) → SpaceFits sizes then self.old book →
             DoesOnward sizes (state_of self.old book) self.new book (world_of f (S.told out.old) self.old) (world_of f (S.told out.new) self.new) (away_moves (page_of self.old book) (away_text self.old) (report_of report) (space_moves page then book.work)) ruled) }
         ensures err { IfErr result (λ b. (sizes : Sizes) (f : FilesTold) (book : Book) (page : Page) → SpaceFits sizes then self.old book →
@@ -811,7 +812,7 @@ impl Engine {
         name: Name,
     ) -> Result<Ruled, Broken>
         requires idle { self.old.input.making ≡ None }
-        requires asked { self.old.input.gathered ≡ [] → ⊥ }
+        requires asked { self.old.input.builds ≡ [] → ⊥ }
         ensures rule { IfOk result (λ ruled. (sizes : Sizes) (f : FilesTold) (book : Book) → SpaceFits sizes want self.old book →
             DoesOnward sizes (state_of self.old book) self.new book (world_of f (S.told out.old) self.old) (world_of f (S.told out.new) self.new) (put_one token ++ away_moves (page_of self.old book) (away_text self.old) (Forbidden OfText name) (space_moves (page_of self.old book) want book.work)) ruled) }
         ensures err { IfErr result (λ b. (sizes : Sizes) (f : FilesTold) (book : Book) → SpaceFits sizes want self.old book →

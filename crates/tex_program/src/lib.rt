@@ -2,6 +2,7 @@
 #![tactic(auto)]
 
 mod broken;
+mod call;
 mod engine;
 mod meaning;
 mod names;

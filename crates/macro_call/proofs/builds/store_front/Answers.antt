@@ -26,6 +26,7 @@ loop-i-preserved c =
       moves_join c.args.lists.now c.loop-i.lists c.store.new.lists c.loop-i.invariant.5 c.store.ensures.account,
       grown ∙ ap (λ (l : List Token). l ++ c.delimiting-token.result.0 ∷ []) c.loop-i.invariant.6 ∙ append_assoc (tokens_at c.args.lists.now id) (take c.loop-i._i (delimiter_at c.args.lists.now (id_of c.args.list.now) c.args.delimiter)) (c.delimiting-token.result.0 ∷ []) ∙ ap (λ (l : List Token). tokens_at c.args.lists.now id ++ l) (sym both.1),
       both.0 ∙ sym rest,
+      c.store.ensures.length ∙ c.loop-i.invariant.8,
     )
 
 pub returns-in-Err-clause-err : goal.returns-in-Err-clause-err

@@ -16,3 +16,4 @@ invariant-loop-i l =
     × Moves l.initial.lists l.lists none none
     × (tokens_at l.lists (build_id l.initial.build) ≡ tokens_at l.initial.lists (build_id l.initial.build) ++ take l._i (delimiter_at l.initial.lists (id_of l.list) l.fn.delimiter))
     × (drop l._i (delimiter_at l.initial.lists (id_of l.list) l.fn.delimiter) ≡ delimiter_at l.lists (id_of l.list) l.from)
+    × (length l.lists ≡ length l.initial.lists)

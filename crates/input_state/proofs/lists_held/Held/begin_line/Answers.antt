@@ -1,4 +1,5 @@
 use Rattle.input_stack.specs.View.{pending}
+use Rattle.input_state.specs.HeldViews.{named}
 use Rattle.input_state.proofs.Sounds.{line_sound, line_simple, line_fewer}
 use Rattle.input_state.proofs.lists_held.Held.begin_line.Goals as goal
 
@@ -7,4 +8,4 @@ invariant_of-self c =
     let i = c.self.inside in
     let e = c.begin_line.ensures in
     let s = c.self.invariant.shared in
-    line_sound i.lists i.stack c.begin_line.new.self i.making i.gathered.items i.meanings i.sizes _ c.self.invariant (e.stands i.lists s.stands) e.held e.size e.parameter_size (line_simple (pending i.lists i.stack) (pending i.lists c.begin_line.new.self) c.args.line s.simple (e.after i.lists)) (line_fewer (pending i.lists i.stack) (pending i.lists c.begin_line.new.self) c.args.line (e.after i.lists))
+    line_sound i.lists i.stack c.begin_line.new.self i.making i.builds.items (named i.meanings i.call) i.sizes _ c.self.invariant (e.stands i.lists s.stands) e.held e.size e.parameter_size (line_simple (pending i.lists i.stack) (pending i.lists c.begin_line.new.self) c.args.line s.simple (e.after i.lists)) (line_fewer (pending i.lists i.stack) (pending i.lists c.begin_line.new.self) c.args.line (e.after i.lists))

@@ -4,7 +4,7 @@ use Rattle.token_lists.specs.declared.Build.{Build}
 use Rattle.token_lists.specs.Ids.{IsBuilding}
 use Rattle.input_stack.specs.View.{pending}
 use Rattle.input_state.specs.HeldLists.{HeldLists}
-use Rattle.input_state.specs.HeldViews.{builds, lists_of, IsShared, texts}
+use Rattle.input_state.specs.HeldViews.{named, all_builds, lists_of, IsShared, texts}
 use Rattle.input_state.proofs.ListViews.{none_view, macros_view}
 use Rattle.input_state.proofs.Sounds.{gone, changed_sound}
 use Rattle.input_state.proofs.lists_held.Held.drop_made.Goals as goal
@@ -15,11 +15,11 @@ invariant_of-self c =
     let a = c.in-Some.build in
     let new = c.abandon.new.lists in
     let e = c.abandon.ensures in
-    let ys = reverse i.gathered.items in
+    let ys = reverse i.builds.items in
     let some : i.making ≡ Some a = sym c.take.ensures.value ∙ c.in-Some.is in
-    let shared : IsShared i.lists i.stack (a ∷ ys) i.meanings = subst (λ (m : Option Build). IsShared i.lists i.stack (builds m i.gathered.items) i.meanings) some c.self.invariant.shared in
-    let changed = gone i.lists new i.stack i.meanings [] ys a shared (All-head (IsBuilding i.lists) a ys shared.building) e.others e.account in
-    changed_sound i.lists new i.stack i.meanings i.sizes _ _ e.length refl [] [] ys c.take.new.self i.making i.gathered.items i.gathered.items (ap (λ (m : Option Build). builds m i.gathered.items) c.take.ensures.after) changed c.self.invariant
+    let shared : IsShared i.lists i.stack (a ∷ ys) (named i.meanings i.call) = subst (λ (m : Option Build). IsShared i.lists i.stack (all_builds m i.builds.items) (named i.meanings i.call)) some c.self.invariant.shared in
+    let changed = gone i.lists new i.stack (named i.meanings i.call) [] ys a shared (All-head (IsBuilding i.lists) a ys shared.building) e.others e.account in
+    changed_sound i.lists new i.stack (named i.meanings i.call) i.sizes _ _ e.length refl [] [] ys c.take.new.self i.making i.builds.items i.builds.items (ap (λ (m : Option Build). all_builds m i.builds.items) c.take.ensures.after) changed c.self.invariant
 
 pub returns-in-Some-clause-after : goal.returns-in-Some-clause-after
 returns-in-Some-clause-after c =
@@ -27,21 +27,21 @@ returns-in-Some-clause-after c =
     let a = c.in-Some.build in
     let new = c.abandon.new.lists in
     let e = c.abandon.ensures in
-    let ys = reverse i.gathered.items in
+    let ys = reverse i.builds.items in
     let some : i.making ≡ Some a = sym c.take.ensures.value ∙ c.in-Some.is in
-    let shared : IsShared i.lists i.stack (a ∷ ys) i.meanings = subst (λ (m : Option Build). IsShared i.lists i.stack (builds m i.gathered.items) i.meanings) some c.self.invariant.shared in
-    let changed = gone i.lists new i.stack i.meanings [] ys a shared (All-head (IsBuilding i.lists) a ys shared.building) e.others e.account in
-    ap (λ (m : Option Build). lists_of new (pending new i.stack) m i.gathered.items i.meanings i.sizes) c.take.ensures.after
-    ∙ none_view i.lists new i.stack i.meanings i.sizes i.gathered.items changed
+    let shared : IsShared i.lists i.stack (a ∷ ys) (named i.meanings i.call) = subst (λ (m : Option Build). IsShared i.lists i.stack (all_builds m i.builds.items) (named i.meanings i.call)) some c.self.invariant.shared in
+    let changed = gone i.lists new i.stack (named i.meanings i.call) [] ys a shared (All-head (IsBuilding i.lists) a ys shared.building) e.others e.account in
+    ap (λ (m : Option Build). lists_of new (pending new i.stack) m i.builds.items (named i.meanings i.call) i.sizes) c.take.ensures.after
+    ∙ none_view i.lists new i.stack (named i.meanings i.call) i.sizes i.builds.items changed
     ∙ ap (λ (v : HeldLists). record v { making = None; lists = texts new }) c.self.view_is
 
 pub abandon-requires : goal.abandon-requires
 abandon-requires c =
     let i = c.self.inside in
     let a = c.in-Some.build in
-    let ys = reverse i.gathered.items in
+    let ys = reverse i.builds.items in
     let some : i.making ≡ Some a = sym c.take.ensures.value ∙ c.in-Some.is in
-    let shared : IsShared i.lists i.stack (a ∷ ys) i.meanings = subst (λ (m : Option Build). IsShared i.lists i.stack (builds m i.gathered.items) i.meanings) some c.self.invariant.shared in
+    let shared : IsShared i.lists i.stack (a ∷ ys) (named i.meanings i.call) = subst (λ (m : Option Build). IsShared i.lists i.stack (all_builds m i.builds.items) (named i.meanings i.call)) some c.self.invariant.shared in
     All-head (IsBuilding i.lists) a ys shared.building
 
 pub returns-in-Some-clause-macros : goal.returns-in-Some-clause-macros
@@ -50,8 +50,8 @@ returns-in-Some-clause-macros c =
     let a = c.in-Some.build in
     let new = c.abandon.new.lists in
     let e = c.abandon.ensures in
-    let ys = reverse i.gathered.items in
+    let ys = reverse i.builds.items in
     let some : i.making ≡ Some a = sym c.take.ensures.value ∙ c.in-Some.is in
-    let shared : IsShared i.lists i.stack (a ∷ ys) i.meanings = subst (λ (m : Option Build). IsShared i.lists i.stack (builds m i.gathered.items) i.meanings) some c.self.invariant.shared in
-    let changed = gone i.lists new i.stack i.meanings [] ys a shared (All-head (IsBuilding i.lists) a ys shared.building) e.others e.account in
-    macros_view i.lists new i.stack i.meanings i.sizes i.making i.gathered.items [] [] ys c.args.self.now changed shared.simple.single c.self.view_is
+    let shared : IsShared i.lists i.stack (a ∷ ys) (named i.meanings i.call) = subst (λ (m : Option Build). IsShared i.lists i.stack (all_builds m i.builds.items) (named i.meanings i.call)) some c.self.invariant.shared in
+    let changed = gone i.lists new i.stack (named i.meanings i.call) [] ys a shared (All-head (IsBuilding i.lists) a ys shared.building) e.others e.account in
+    macros_view i.lists new i.stack (named i.meanings i.call) i.sizes i.making i.builds.items [] [] ys c.args.self.now changed shared.simple.single c.self.view_is

@@ -1,9 +1,10 @@
 use Rattle.std.proofs.Common.{◌∙◌, ap}
 use Rattle.input_state.specs.HeldLists.{words_held}
+use Rattle.input_state.specs.HeldViews.{named}
 use Rattle.input_state.proofs.Words.{words_are}
 use Rattle.input_state.proofs.lists_held.Held.lists.Goals as goal
 
 pub returns : goal.returns
 returns c =
     let i = c.self.inside in
-    words_are i.lists i.stack i.making i.gathered.items i.meanings i.sizes c.self.invariant.shared ∙ ap words_held c.self.view_is
+    words_are i.lists i.stack i.making i.builds.items (named i.meanings i.call) i.sizes c.self.invariant.shared c.self.invariant.call ∙ ap words_held c.self.view_is

@@ -2,11 +2,11 @@ use Rattle.std.proofs.Common.{◌≡◌, ℕ, true, subst}
 use Rattle.plain_state.specs.Tables.{is_meant}
 use Rattle.input_state.specs.HeldLists.{HeldLists}
 use Rattle.input_state.specs.Macros.{list_at}
-use Rattle.input_state.specs.HeldViews.{builds, IsDefined}
+use Rattle.input_state.specs.HeldViews.{named, all_builds, IsDefined}
 use Rattle.input_state.proofs.Sharing.{macros_defined}
 use Rattle.input_state.proofs.lists_held.Held.macros_are_lists.Goals as goal
 
 pub returns : goal.returns
 returns c =
     let i = c.self.inside in
-    subst (λ (w : HeldLists). (id : ℕ) → is_meant id w.meanings ≡ true → IsDefined (list_at w.lists id)) c.self.view_is (macros_defined i.lists i.stack (builds i.making i.gathered.items) i.meanings c.self.invariant.shared)
+    subst (λ (w : HeldLists). (id : ℕ) → is_meant id w.meanings ≡ true → IsDefined (list_at w.lists id)) c.self.view_is (macros_defined i.lists i.stack (all_builds i.making i.builds.items) (named i.meanings i.call) c.self.invariant.shared)

@@ -2,7 +2,7 @@ use Rattle.std.proofs.Common.{◌≡◌, ◌∙◌, ◌∷◌, [], Option, None,
 use Rattle.token_lists.specs.declared.Build.{Build}
 use Rattle.input_stack.specs.View.{pending}
 use Rattle.input_state.specs.HeldLists.{HeldLists}
-use Rattle.input_state.specs.HeldViews.{builds, lists_of, IsShared, texts}
+use Rattle.input_state.specs.HeldViews.{named, all_builds, lists_of, IsShared, texts}
 use Rattle.input_state.proofs.ListViews.{made_view, macros_view}
 use Rattle.input_state.proofs.Sounds.{begun, changed_sound, fits_now, full_now}
 use Rattle.input_state.proofs.lists_held.Held.make_list.Goals as goal
@@ -13,16 +13,16 @@ invariant_of-self c =
     let b = c.in-Ok.build in
     let e = c.in-Ok.ensures in
     let new = c.begin.new.lists in
-    let ys = reverse i.gathered.items in
+    let ys = reverse i.builds.items in
     let none : i.making ≡ None = sym c.replace.ensures.value ∙ c.in-None.is in
-    let shared : IsShared i.lists i.stack ys i.meanings = subst (λ (m : Option Build). IsShared i.lists i.stack (builds m i.gathered.items) i.meanings) none c.self.invariant.shared in
-    let changed = begun i.lists new i.stack i.meanings [] ys b shared e.building e.fresh e.others e.account in
-    changed_sound i.lists new i.stack i.meanings i.sizes _ _ e.length refl [] (b ∷ []) ys c.replace.new.self i.making i.gathered.items i.gathered.items (ap (λ (m : Option Build). builds m i.gathered.items) c.replace.ensures.after) changed c.self.invariant
+    let shared : IsShared i.lists i.stack ys (named i.meanings i.call) = subst (λ (m : Option Build). IsShared i.lists i.stack (all_builds m i.builds.items) (named i.meanings i.call)) none c.self.invariant.shared in
+    let changed = begun i.lists new i.stack (named i.meanings i.call) [] ys b shared e.building e.fresh e.others e.account in
+    changed_sound i.lists new i.stack (named i.meanings i.call) i.sizes _ _ e.length refl [] (b ∷ []) ys c.replace.new.self i.making i.builds.items i.builds.items (ap (λ (m : Option Build). all_builds m i.builds.items) c.replace.ensures.after) changed c.self.invariant
 
 pub returns-in-None-clause-refused : goal.returns-in-None-clause-refused
 returns-in-None-clause-refused c =
     let i = c.self.inside in
-    fits_now i.lists i.stack i.making i.gathered.items i.meanings i.sizes _ c.self.invariant c.args.self.now c.self.view_is c.in-Ok.ensures.room
+    fits_now i.lists i.stack i.making i.builds.items (named i.meanings i.call) i.sizes _ c.self.invariant c.args.self.now c.self.view_is c.in-Ok.ensures.room
 
 pub returns-in-None-clause-ok : goal.returns-in-None-clause-ok
 returns-in-None-clause-ok c =
@@ -30,18 +30,18 @@ returns-in-None-clause-ok c =
     let b = c.in-Ok.build in
     let e = c.in-Ok.ensures in
     let new = c.begin.new.lists in
-    let ys = reverse i.gathered.items in
+    let ys = reverse i.builds.items in
     let none : i.making ≡ None = sym c.replace.ensures.value ∙ c.in-None.is in
-    let shared : IsShared i.lists i.stack ys i.meanings = subst (λ (m : Option Build). IsShared i.lists i.stack (builds m i.gathered.items) i.meanings) none c.self.invariant.shared in
-    let changed = begun i.lists new i.stack i.meanings [] ys b shared e.building e.fresh e.others e.account in
-    ap (λ (m : Option Build). lists_of new (pending new i.stack) m i.gathered.items i.meanings i.sizes) c.replace.ensures.after
-    ∙ made_view i.lists new i.stack i.meanings i.sizes i.gathered.items b [] changed e.empty
+    let shared : IsShared i.lists i.stack ys (named i.meanings i.call) = subst (λ (m : Option Build). IsShared i.lists i.stack (all_builds m i.builds.items) (named i.meanings i.call)) none c.self.invariant.shared in
+    let changed = begun i.lists new i.stack (named i.meanings i.call) [] ys b shared e.building e.fresh e.others e.account in
+    ap (λ (m : Option Build). lists_of new (pending new i.stack) m i.builds.items (named i.meanings i.call) i.sizes) c.replace.ensures.after
+    ∙ made_view i.lists new i.stack (named i.meanings i.call) i.sizes i.builds.items b [] changed e.empty
     ∙ ap (λ (v : HeldLists). record v { making = Some []; lists = texts new }) c.self.view_is
 
 pub returns-in-Err-clause-refused : goal.returns-in-Err-clause-refused
 returns-in-Err-clause-refused c =
     let i = c.self.inside in
-    full_now i.lists i.stack i.making i.gathered.items i.meanings i.sizes _ c.self.invariant c.args.self.now c.self.view_is c.in-Err.full c.in-Err.ensures.full
+    full_now i.lists i.stack i.making i.builds.items (named i.meanings i.call) i.sizes _ c.self.invariant c.args.self.now c.self.view_is c.in-Err.full c.in-Err.ensures.full
 
 pub returns-in-None-clause-macros : goal.returns-in-None-clause-macros
 returns-in-None-clause-macros c =
@@ -49,8 +49,8 @@ returns-in-None-clause-macros c =
     let b = c.in-Ok.build in
     let e = c.in-Ok.ensures in
     let new = c.begin.new.lists in
-    let ys = reverse i.gathered.items in
+    let ys = reverse i.builds.items in
     let none : i.making ≡ None = sym c.replace.ensures.value ∙ c.in-None.is in
-    let shared : IsShared i.lists i.stack ys i.meanings = subst (λ (m : Option Build). IsShared i.lists i.stack (builds m i.gathered.items) i.meanings) none c.self.invariant.shared in
-    let changed = begun i.lists new i.stack i.meanings [] ys b shared e.building e.fresh e.others e.account in
-    macros_view i.lists new i.stack i.meanings i.sizes i.making i.gathered.items [] (b ∷ []) ys c.args.self.now changed shared.simple.single c.self.view_is
+    let shared : IsShared i.lists i.stack ys (named i.meanings i.call) = subst (λ (m : Option Build). IsShared i.lists i.stack (all_builds m i.builds.items) (named i.meanings i.call)) none c.self.invariant.shared in
+    let changed = begun i.lists new i.stack (named i.meanings i.call) [] ys b shared e.building e.fresh e.others e.account in
+    macros_view i.lists new i.stack (named i.meanings i.call) i.sizes i.making i.builds.items [] (b ∷ []) ys c.args.self.now changed shared.simple.single c.self.view_is

@@ -1,3 +1,4 @@
+use Rattle.input_state.specs.HeldViews.{named}
 use Rattle.input_state.proofs.Opening.{open_sound, open_macros, open_ok, open_err}
 use Rattle.input_state.proofs.lists_held.Held.open_file.Goals as goal
 
@@ -5,22 +6,22 @@ pub invariant_of-self : goal.invariant_of-self
 invariant_of-self c =
     let i = c.self.inside in
     let e = c.push_file.ensures in
-    open_sound i.lists c.push_file.new.lists i.stack c.push_file.new.self i.making i.gathered.items i.meanings i.sizes _ c.self.invariant e.stands e.account e.kept e.lasting e.size e.parameter_size c.args.self.now c.self.view_is c.requires.front c.requires.closed _ c.args.line c.push_file.result e.ok e.err
+    open_sound i.lists c.push_file.new.lists i.stack c.push_file.new.self i.making i.builds.items (named i.meanings i.call) i.sizes _ c.self.invariant e.stands e.account e.kept e.lasting e.size e.parameter_size c.args.self.now c.self.view_is c.requires.front c.requires.closed _ c.args.line c.push_file.result e.ok e.err
 
 pub returns-clause-ok : goal.returns-clause-ok
 returns-clause-ok c =
     let i = c.self.inside in
     let e = c.push_file.ensures in
-    open_ok i.lists c.push_file.new.lists i.stack c.push_file.new.self i.making i.gathered.items i.meanings i.sizes _ c.self.invariant e.stands e.account e.kept e.lasting e.size e.parameter_size c.args.self.now c.self.view_is c.requires.front c.requires.closed _ c.args.line c.push_file.result e.ok e.err
+    open_ok i.lists c.push_file.new.lists i.stack c.push_file.new.self i.making i.builds.items (named i.meanings i.call) i.sizes _ c.self.invariant e.stands e.account e.kept e.lasting e.size e.parameter_size c.args.self.now c.self.view_is c.requires.front c.requires.closed _ c.args.line c.push_file.result e.ok e.err
 
 pub returns-clause-err : goal.returns-clause-err
 returns-clause-err c =
     let i = c.self.inside in
     let e = c.push_file.ensures in
-    open_err i.lists c.push_file.new.lists i.stack c.push_file.new.self i.making i.gathered.items i.meanings i.sizes _ c.self.invariant e.stands e.account e.kept e.lasting e.size e.parameter_size c.args.self.now c.self.view_is c.requires.front c.requires.closed _ c.args.line c.push_file.result e.ok e.err
+    open_err i.lists c.push_file.new.lists i.stack c.push_file.new.self i.making i.builds.items (named i.meanings i.call) i.sizes _ c.self.invariant e.stands e.account e.kept e.lasting e.size e.parameter_size c.args.self.now c.self.view_is c.requires.front c.requires.closed _ c.args.line c.push_file.result e.ok e.err
 
 pub returns-clause-macros : goal.returns-clause-macros
 returns-clause-macros c =
     let i = c.self.inside in
     let e = c.push_file.ensures in
-    open_macros i.lists c.push_file.new.lists i.stack c.push_file.new.self i.making i.gathered.items i.meanings i.sizes _ c.self.invariant e.stands e.account e.kept e.lasting e.size e.parameter_size c.args.self.now c.self.view_is c.requires.front c.requires.closed _ c.args.line c.push_file.result e.ok e.err
+    open_macros i.lists c.push_file.new.lists i.stack c.push_file.new.self i.making i.builds.items (named i.meanings i.call) i.sizes _ c.self.invariant e.stands e.account e.kept e.lasting e.size e.parameter_size c.args.self.now c.self.view_is c.requires.front c.requires.closed _ c.args.line c.push_file.result e.ok e.err

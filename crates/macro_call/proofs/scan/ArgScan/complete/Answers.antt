@@ -14,8 +14,8 @@ use Rattle.macro_call.proofs.scan.ArgScan.complete.Goals as goal
 listed : (table : List (Option Entry)) (cell : Option ListRef) (r : ListRef) → cell ≡ Some r → IfSome cell (λ r. 0 < length (tokens_at table (id_of r))) → 0 < length (tokens_at table (id_of r))
 listed table cell r is some = subst (λ (o : Option ListRef). IfSome o (λ r. 0 < length (tokens_at table (id_of r)))) is some
 
-pub returns : goal.returns
-returns c =
+pub returns-clause-completes : goal.returns-clause-completes
+returns-clause-completes c =
     let old = c.args.self.now in
     let macro = id_of c.args.list.now in
     let present : old.present ≡ Some c.in-Some.present = sym c.replace.ensures.value ∙ c.in-Some.is in

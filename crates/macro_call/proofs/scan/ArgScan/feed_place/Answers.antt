@@ -11,13 +11,13 @@ returns-in-Err-clause-cut_short c =
 pub returns-in-Argument-clause-answers : goal.returns-in-Argument-clause-answers
 returns-in-Argument-clause-answers c =
     whole_ok c.args.lists.now c.take_step.new.lists (id_of c.args.list.now) c.args.self.now c.args.x c.take_step.new.present c.requires.sound c.take_step.ensures.account _ refl c.complete.new.lists c.complete.new.self
-    (parts_at c.args.lists.now c.take_step.new.lists (id_of c.args.list.now) c.args.self.now.cursor c.args.self.now.mode c.args.x c.in-Ok.step step.Argument c.args.self.now.present c.take_step.new.present c.in-Argument.is c.in-Ok.ensures.took) c.complete.ensures
+    (parts_at c.args.lists.now c.take_step.new.lists (id_of c.args.list.now) c.args.self.now.cursor c.args.self.now.mode c.args.x c.in-Ok.step step.Argument c.args.self.now.present c.take_step.new.present c.in-Argument.is c.in-Ok.ensures.took) c.complete.ensures.completes
     c.enter.new.lists c.enter.new.self c.enter.result c.enter.ensures.enters
 
 pub returns-in-Argument-clause-cut_short : goal.returns-in-Argument-clause-cut_short
 returns-in-Argument-clause-cut_short c =
     whole_err c.args.lists.now c.take_step.new.lists (id_of c.args.list.now) c.args.self.now c.args.x c.take_step.new.present c.requires.sound c.take_step.ensures.account _ refl c.complete.new.lists c.complete.new.self
-    (parts_at c.args.lists.now c.take_step.new.lists (id_of c.args.list.now) c.args.self.now.cursor c.args.self.now.mode c.args.x c.in-Ok.step step.Argument c.args.self.now.present c.take_step.new.present c.in-Argument.is c.in-Ok.ensures.took) c.complete.ensures
+    (parts_at c.args.lists.now c.take_step.new.lists (id_of c.args.list.now) c.args.self.now.cursor c.args.self.now.mode c.args.x c.in-Ok.step step.Argument c.args.self.now.present c.take_step.new.present c.in-Argument.is c.in-Ok.ensures.took) c.complete.ensures.completes
     c.enter.new.lists c.enter.new.self c.enter.result c.enter.ensures.err c.enter.ensures.unchanged c.enter.ensures.place
 
 pub returns-in-ExtraBrace-clause-answers : goal.returns-in-ExtraBrace-clause-answers

@@ -20,6 +20,6 @@ returns-clause-rule g c = λ sizes f book r rs here.
     let e = c.args.self.now in let e1 = c.act.new.self in let a = c.act.ensures in
     let sound = sound_still sizes e e1 book.number book.macros a.sizes (ap (λ (o : Stack). o.size) a.frames.outer) a.names a.reports (store_is e.input e1.input a.input) here.sound in
     let there = ends_still sizes e e1 (Flag true) r rs book a.frames sound (ap (λ (i : _). i.making) a.input ∙ here.idle) here in
-    ends_behind_moves sizes e e1 c.end.new.self book r rs f _ _ (effect (state_of e (with_work (r ∷ rs) book)) (effect_of e.input.gathered c.args.effect)) (Flag true)
-    (c.in_ok-act.ensures.did sizes f (with_work (r ∷ rs) book)) (effect_none (state_of e (with_work (r ∷ rs) book)) (effect_of e.input.gathered c.args.effect)) c.end.ensures.same
+    ends_behind_moves sizes e e1 c.end.new.self book r rs f _ _ (effect (state_of e (with_work (r ∷ rs) book)) (effect_of e.input.builds c.args.effect)) (Flag true)
+    (c.in_ok-act.ensures.did sizes f (with_work (r ∷ rs) book)) (effect_none (state_of e (with_work (r ∷ rs) book)) (effect_of e.input.builds c.args.effect)) c.end.ensures.same
     (c.end.ensures.lists sizes book r rs there) (c.end.ensures.stands sizes book r rs there)

@@ -14,7 +14,7 @@ use Rattle.tex_program.proofs.engine.Engine.begin.Goals as goal
 
 pub returns-clause-same : goal.returns-clause-same
 returns-clause-same c = let e = c.args.self.now in
-    same_lists e _ c.begin_list.new.self.input (own_lists (kind_of c.args.kind) ++ e.input.gathered) (search rules) (ap (λ (x : Engine). x.input) c.in_ok-begin_list.ensures.ok) c.begin_list.ensures.macros (ap (λ (x : Engine). x.input) c.wait.ensures)
+    same_lists e _ c.begin_list.new.self.input (own_lists (kind_of c.args.kind) ++ e.input.builds) (search rules) (ap (λ (x : Engine). x.input) c.in_ok-begin_list.ensures.ok) c.begin_list.ensures.macros (ap (λ (x : Engine). x.input) c.wait.ensures)
 
 pub returns-clause-stands : goal.returns-clause-stands
 returns-clause-stands c = λ sizes book h lone.
@@ -23,7 +23,7 @@ returns-clause-stands c = λ sizes book h lone.
     let list = c.in_ok-begin_list.ensures.ok in
     begins_on sizes c.args.self.now _ c.args.waits c.new.result _ book (returns-clause-same c) h
     (ap (λ (e : Engine). e.outer.items) c.wait.ensures ∙ ap (λ (e : Engine). e.outer.items ++ option_to_list c.args.waits) list) refl
-    (ap (λ (e : Engine). e.input.gathered) c.wait.ensures ∙ ap (λ (e : Engine). e.input.gathered) list)
+    (ap (λ (e : Engine). e.input.builds) c.wait.ensures ∙ ap (λ (e : Engine). e.input.builds) list)
     (record { answer = a.answer; none = a.none; untold = a.untold; waits = subst (λ (x : Frame). InnerWaits c.first_ask-self.result x) (sym f.is) a.waits; stands = f.stands; list = f.list; kind = f.kind; builds = f.builds; shallow = f.shallow }) lone
 
 pub returns-in_err-begin_list-clause-refused : goal.returns-in_err-begin_list-clause-refused

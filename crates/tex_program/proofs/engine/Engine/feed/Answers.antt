@@ -11,7 +11,7 @@ use Rattle.tex_program.proofs.engine.Engine.feed.Goals as goal
 
 pub returns-clause-same : goal.returns-clause-same
 returns-clause-same c = let e = c.args.self.now in
-    same_lists e c.feed_frame.new.self c.grow.new.self.input (lists_after (top_grows e.top c.args.seen) c.args.seen e.input.gathered) (search rules) (ap (λ (x : Engine). x.input) c.in_ok-grow.ensures.ok) c.grow.ensures.macros c.feed_frame.ensures.lists
+    same_lists e c.feed_frame.new.self c.grow.new.self.input (lists_after (top_grows e.top c.args.seen) c.args.seen e.input.builds) (search rules) (ap (λ (x : Engine). x.input) c.in_ok-grow.ensures.ok) c.grow.ensures.macros c.feed_frame.ensures.lists
 
 pub returns-clause-stands : goal.returns-clause-stands
 returns-clause-stands c = λ sizes book h.
@@ -20,7 +20,7 @@ returns-clause-stands c = λ sizes book h.
 pub returns-clause-did : goal.returns-clause-did
 returns-clause-did c = λ sizes w book h. let e = c.args.self.now in let e2 = c.feed_frame.new.self in
     let same : SameState e e2 = returns-clause-same c in
-    let lists : e2.input.gathered ≡ lists_after (top_grows e.top c.args.seen) c.args.seen e.input.gathered = ap (λ (i : _). i.gathered) c.feed_frame.ensures.lists ∙ ap (λ (y : Engine). y.input.gathered) c.in_ok-grow.ensures.ok in
+    let lists : e2.input.builds ≡ lists_after (top_grows e.top c.args.seen) c.args.seen e.input.builds = ap (λ (i : _). i.builds) c.feed_frame.ensures.lists ∙ ap (λ (y : Engine). y.input.builds) c.in_ok-grow.ensures.ok in
     token_did sizes e e2 c.args.seen book same lists w h c.in_ok-grow.ensures.fits
 
 pub returns-in_err-grow-clause-refused : goal.returns-in_err-grow-clause-refused

@@ -1,6 +1,6 @@
-use Rattle.std.proofs.Common.{[], ◌∷◌, refl, sym, ap, List}
+use Rattle.std.proofs.Common.{[], ◌∷◌, ◌++◌, refl, sym, ap, List}
 use Rattle.tex_defs.specs.declared.Token.{Token}
-use Rattle.plain_state.specs.Readings.{Tok}
+use Rattle.plain_state.specs.Readings.{Tok, own_lists}
 use Rattle.plain_state.specs.States.{Begun, fed_with, fresh}
 use Rattle.frames.specs.Sees.{kind_of}
 use Rattle.tex_program.specs.declared.engine.Engine.{Engine}
@@ -9,6 +9,7 @@ use Rattle.tex_program.specs.Book.{with_work}
 use Rattle.tex_program.specs.Stands.{state_of}
 use Rattle.tex_program.specs.Rules.{feeds_of}
 use Rattle.tex_program.proofs.Asking.{same_column, same_column_cuts}
+use Rattle.tex_program.proofs.Bare.{bare_after}
 use Rattle.tex_program.proofs.Stepping.{feeds_none}
 use Rattle.tex_program.proofs.Counting.{counts_of}
 use Rattle.tex_program.proofs.Joining.{same_err, ok_to, err_to}
@@ -41,7 +42,7 @@ returns-in_ok-feed-in-Feed-clause-rule g c = let e = c.args.self.now in let i = 
 pub returns-in_ok-begin-in-Begin-clause-rule : goal.returns-in_ok-begin-in-Begin-clause-rule
 returns-in_ok-begin-in-Begin-clause-rule g c = let e = c.args.self.now in let i = c.in_ok-begin-in-Begin.ensures in
     rw c.in-Begin.is (λ sizes f book fits.
-    reading_went sizes e c.begin.new.self book (fresh (kind_of c.in-Begin.kind) ∷ book.work) f _ (Begun (kind_of c.in-Begin.kind)) tt refl (i.fits sizes book (counts_of sizes e book fits.1.1)) (ap (λ (l : List (List Token)). record (state_of e book) { work = fresh (kind_of c.in-Begin.kind) ∷ book.work; gathered = l }) (sym i.lists)) i.same
+    reading_went sizes e c.begin.new.self book (fresh (kind_of c.in-Begin.kind) ∷ book.work) f _ (Begun (kind_of c.in-Begin.kind)) tt refl (i.fits sizes book (counts_of sizes e book fits.1.1)) (ap (λ (l : List (List Token)). record (state_of e book) { work = fresh (kind_of c.in-Begin.kind) ∷ book.work; gathered = l }) (sym (bare_after e.input c.begin.new.self.input fits.1.1.uncalled.input i.same.calling (λ l. own_lists (kind_of c.in-Begin.kind) ++ l) i.lists))) i.same
     (i.stands sizes book (fits.0, fits.1.1) (lone_first sizes e (fresh (kind_of c.in-Begin.kind)) book fits.0 fits.1.0 fits.1.1)))
 
 pub returns-in-Report-clause-rule : goal.returns-in-Report-clause-rule

@@ -14,7 +14,7 @@ use Rattle.plain_state.specs.Categories.{initial_categories}
 use Rattle.plain_machine.specs.Plan.{file_opened, job_progress, job_due, first_state}
 use Rattle.name_table.specs.Strings.{Strings}
 use Rattle.frames.specs.Stack.{Stack}
-use Rattle.input_state.specs.Stored.{Stored, unread}
+use Rattle.input_state.specs.Stored.{Stored, gathered, unread}
 use Rattle.tex_program.proofs.Counting.{small_depth}
 use Rattle.tex_program.specs.Book.{first_book}
 use Rattle.tex_program.specs.Stands.{ArePlain}
@@ -66,10 +66,11 @@ returns c = let i = c.in_ok-input.ensures in let n = c.in-Ok.ensures in let o = 
           plain = subst ArePlain (sym meanings) first_plain;
         };
         idle = making;
-        readings = (ap (λ (x : Stack). x.items) o, ap (λ (x : Stored). x.gathered) i);
+        readings = (ap (λ (x : Stack). x.items) o, ap (λ (x : Stored). x.builds) i);
         lone = tt;
+        uncalled = record { none = refl; input = ap (λ (x : Stored). x.call) i };
       };
-      state = λ file. first_at _ _ _ _ _ _ _ c.args.quiet file _ here c.initial_categories.ensures names others means (ap (λ (x : Stored). x.gathered) i) making;
+      state = λ file. first_at _ _ _ _ _ _ _ c.args.quiet file _ here c.initial_categories.ensures names others means (ap gathered i) making;
       column = refl;
       reports = refl;
       names = names;

@@ -78,7 +78,7 @@ returns-in_ok-ruled-in-Invalid-clause-step g c = let n = c.in_ok-ruled-in-Invali
 pub returns-in_ok-ruled-in-Invalid-clause-light : goal.returns-in_ok-ruled-in-Invalid-clause-light
 returns-in_ok-ruled-in-Invalid-clause-light g c = λ free. let e = c.args.self.now in let i = c.pull.new.self in let o = c.pull.ensures.others in let p = invalid_at _ _ c.args.self.now.input c.pull.new.self c.in_ok-token.ensures.ok c.in-Invalid.is in
     let same = c.report_only.ensures.frames in let input = ap (λ (x : Stored). pending_weight x.pending) c.report_only.ensures.input in let less = lighter_skip e i p in
-    lighter_after e c.report_only.new.self (record { outer = same.outer; top = same.top; ask = same.ask; lists = same.lists ∙ ap (λ (x : Stored). x.gathered) o }) (omega (arith, input, less))
+    lighter_after e c.report_only.new.self (record { outer = same.outer; top = same.top; ask = same.ask; lists = same.lists ∙ ap (λ (x : Stored). x.builds) o; call = same.call; calling = same.calling ∙ ap (λ (x : Stored). x.call) o }) (omega (arith, input, less))
 
 pub returns-in_err-ruled-in-FileOver-clause-err : goal.returns-in_err-ruled-in-FileOver-clause-err
 returns-in_err-ruled-in-FileOver-clause-err g c = let e = c.args.self.now in let n = c.in_err-ruled-in-FileOver in let i = c.pull.new.self in let o = c.pull.ensures.others in let p = over_at _ _ c.args.self.now.input c.pull.new.self c.in_ok-token.ensures.ok c.in-FileOver.is in
@@ -98,7 +98,7 @@ returns-in_ok-ruled-in-FileOver-clause-step g c = let n = c.in_ok-ruled-in-FileO
 pub returns-in_ok-ruled-in-FileOver-clause-light : goal.returns-in_ok-ruled-in-FileOver-clause-light
 returns-in_ok-ruled-in-FileOver-clause-light g c = λ free. let e = c.args.self.now in let i = c.pull.new.self in let p = over_at _ _ c.args.self.now.input c.pull.new.self c.in_ok-token.ensures.ok c.in-FileOver.is in
     let less = lighter_close e i p in let light = c.check.ensures.light in let same = c.check.ensures.frames in
-    lighter_after e c.check.new.self (record { outer = same.outer; top = same.top; ask = same.ask; lists = same.lists ∙ ap (λ (x : Stored). x.gathered) c.pull.ensures.others }) (omega (arith, less, light))
+    lighter_after e c.check.new.self (record { outer = same.outer; top = same.top; ask = same.ask; lists = same.lists ∙ ap (λ (x : Stored). x.builds) c.pull.ensures.others; call = same.call; calling = same.calling ∙ ap (λ (x : Stored). x.call) c.pull.ensures.others }) (omega (arith, less, light))
 
 pub returns-in-Nothing-clause-rule : goal.returns-in-Nothing-clause-rule
 returns-in-Nothing-clause-rule g c = let e = c.args.self.now in let i = c.pull.new.self in let o = c.pull.ensures.others in let p = nothing_left _ _ c.args.self.now.input c.pull.new.self c.in_ok-token.ensures.ok c.in-Nothing.is in

@@ -36,7 +36,7 @@ returns-in_ok-begin-in-None-clause-rule g c =
     let e = c.args.self.now in let i = c.in-Inner in let b = c.in_ok-begin-in-None.ensures in
     λ sizes f. by_ask sizes e (λ book plan. Went sizes (state_of e book) c.begin.new.self (world_of f (g.S.Sink.told c.args.out.now) e) (world_of f (g.S.Sink.told c.args.out.now) c.begin.new.self) plan 0) (Inner i.waits i.kind None)
     (some_if e.top _ c.is_none.ensures c.if-is_none.false) (i.is ∙ ap (Inner i.waits i.kind) c.in-None.is)
-    (λ book r rs a. begun_went sizes e c.begin.new.self (with_work (r ∷ rs) book) f (g.S.Sink.told c.args.out.now) b.same (kind_of i.kind) (b.fits sizes (with_work (r ∷ rs) book) (counts_of sizes e (with_work (r ∷ rs) book) a.stands)) b.lists (b.stands sizes (with_work (r ∷ rs) book) (command_waits sizes e i.waits i.kind None book r rs a) tt))
+    (λ book r rs a. begun_went sizes e c.begin.new.self (with_work (r ∷ rs) book) f (g.S.Sink.told c.args.out.now) b.same (kind_of i.kind) (b.fits sizes (with_work (r ∷ rs) book) (counts_of sizes e (with_work (r ∷ rs) book) a.stands)) a.stands.uncalled.input b.lists (b.stands sizes (with_work (r ∷ rs) book) (command_waits sizes e i.waits i.kind None book r rs a) tt))
 
 pub returns-in_err-begin-in-None-clause-err : goal.returns-in_err-begin-in-None-clause-err
 returns-in_err-begin-in-None-clause-err g c =
@@ -53,7 +53,7 @@ returns-in_ok-begin_with-in-Some-clause-rule g c =
     λ sizes f. by_ask sizes e (λ book plan. Went sizes (state_of e book) c.begin_with.new.self (world_of f (g.S.Sink.told c.args.out.now) e) (world_of f (g.S.Sink.told c.args.out.now) c.begin_with.new.self) plan 0) (Inner i.waits i.kind (Some c.in-Some.seen))
     (some_if e.top _ c.is_none.ensures c.if-is_none.false) (i.is ∙ ap (Inner i.waits i.kind) c.in-Some.is)
     (λ book r rs a. begun_with_went sizes e c.begin_with.new.self (with_work (r ∷ rs) book) f (g.S.Sink.told c.args.out.now) b.same (kind_of i.kind) c.in-Some.seen _ (with_plan sizes e i.waits i.kind c.in-Some.seen book r rs a)
-    (b.fits sizes (with_work (r ∷ rs) book) (counts_of sizes e (with_work (r ∷ rs) book) a.stands)) b.lists (b.stands sizes (with_work (lending (r ∷ rs)) book) (with_built sizes e i.waits i.kind c.in-Some.seen book r rs a) (command_lends sizes e i.waits i.kind (Some c.in-Some.seen) book r rs a)))
+    (b.fits sizes (with_work (r ∷ rs) book) (counts_of sizes e (with_work (r ∷ rs) book) a.stands)) a.stands.uncalled.input b.lists (b.stands sizes (with_work (lending (r ∷ rs)) book) (with_built sizes e i.waits i.kind c.in-Some.seen book r rs a) (command_lends sizes e i.waits i.kind (Some c.in-Some.seen) book r rs a)))
 
 pub returns-in_err-begin_with-in-Some-clause-err : goal.returns-in_err-begin_with-in-Some-clause-err
 returns-in_err-begin_with-in-Some-clause-err g c =

@@ -3,7 +3,7 @@ use Rattle.std.specs.Prelude.{is_some}
 use Rattle.plain_state.specs.States.{Noted, AtFatal}
 use Rattle.plain_machine.specs.Plan.{reported}
 use Rattle.tex_defs.specs.declared.Fatal.TheVariants as fatal
-use Rattle.input_state.specs.Stored.{Stored}
+use Rattle.input_state.specs.Stored.{Stored, gathered}
 use Rattle.transcript.specs.Reported.{report_of}
 use Rattle.tex_program.specs.Book.{with_work}
 use Rattle.tex_program.specs.Stands.{page_of}
@@ -32,7 +32,7 @@ returns-then-branch-clause-rule g c = let e = c.args.self.now in let e1 = c.put_
     λ sizes f book r rs waits counts last once. let sound = others_sound sizes e e1 book p.others p.store waits.sound in
     told_went sizes e e1 e2 f (g.S.Sink.told c.args.out.now) (g.S.Sink.told c.report.new.out) book r rs (report_of c.args.report) (is_some c.args.back) once (waits_note sizes e book r rs waits) (p.page book)
     (c.in_ok-put_back.ensures.did sizes (world_of f (g.S.Sink.told c.args.out.now) e) (with_work (r ∷ rs) book) r.fed counts waits.idle last) c.note.new.self
-    (c.in_ok-report.ensures.on c.if-branch.true sizes f (with_work (r ∷ rs) book) (Noted ∷ [])) c.note.ensures.same (ap (λ (x : Stored). x.gathered) c.note.ensures.input)
+    (c.in_ok-report.ensures.on c.if-branch.true sizes f (with_work (r ∷ rs) book) (Noted ∷ [])) c.note.ensures.same (ap gathered c.note.ensures.input)
     (c.note.ensures.stands sizes (with_work (r ∷ rs) book) (waits_still sizes e1 e2 (with_work (r ∷ rs) book) c.report.ensures.frames (input_sound sizes e1 e2 book c.report.ensures.input (c.in_ok-report.ensures.sized c.if-branch.true sizes) sound) (ap (λ (x : Stored). x.making) c.report.ensures.input ∙ c.in_ok-put_back.ensures.idle)
     (waits_still sizes e e1 (with_work (r ∷ rs) book) p.frames sound c.in_ok-put_back.ensures.idle waits)))
 

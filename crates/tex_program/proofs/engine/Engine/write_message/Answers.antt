@@ -11,7 +11,7 @@ returns-in_err-write_message-clause-err g c =
     let e = c.args.self.now in let view = c.initial_view-view in
     let names : names_of view.result ≡ e.names.names = names_is view.result _ _ _ view.ensures.same_hash view.ensures.same_pool c.parts.ensures.names in
     err_out _ _ e c.write_message.new.in_line _ _ (shown_is (λ categories ns ts. message_bytes categories ns e.in_line ts) view.result e.categories e.names.names _ _ view.ensures.same_categories names
-    (list_is _ _ (build_id c.list.result.1.now) e.input.gathered view.ensures.same_lists c.list.ensures.tokens)) c.from_residual.result c.in_err-write_message.field-0.0 c.from_residual.ensures.1 c.in_err-write_message.ensures.err
+    (list_is _ _ (build_id c.list.result.1.now) e.input.builds view.ensures.same_lists c.list.ensures.tokens)) c.from_residual.result c.in_err-write_message.field-0.0 c.from_residual.ensures.1 c.in_err-write_message.ensures.err
 
 pub returns-in_err-write_message-2-clause-err : goal.returns-in_err-write_message-2-clause-err
 returns-in_err-write_message-2-clause-err g c =

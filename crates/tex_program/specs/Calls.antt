@@ -1,0 +1,126 @@
+-- A call that gathers its arguments: the innermost reading of all.
+use Rattle.std.specs.Prelude.{◌≡◌, ℕ, Bool, true, false, List, [], ◌∷◌, ◌++◌, length, Option, Some, None}
+use Rattle.tex_defs.specs.declared.Seen.{Seen}
+use Rattle.tex_defs.specs.declared.Sizes.{Sizes}
+use Rattle.tex_defs.specs.declared.Token.{Token}
+use Rattle.tex_defs.specs.declared.Name.{Name}
+use Rattle.tex_defs.specs.declared.Meaning.TheVariants.{Macro}
+use Rattle.plain_state.specs.Arguments.{arguments_in, work_in}
+use Rattle.plain_state.specs.Meanings.{name_meaning}
+use Rattle.plain_state.specs.Readings as reading
+use Rattle.plain_state.specs.Readings.{Fed, gathered_by, call_fed, par_token}
+use Rattle.plain_state.specs.Reports as reports
+use Rattle.plain_state.specs.States.{Reading}
+use Rattle.plain_state.specs.Tokens.{Raw}
+use Rattle.plain_machine.specs.Plan.{is_told, last_seen}
+use Rattle.macro_call.specs.PlainScans.{Scan, resume_scan, scan_work}
+use Rattle.input_state.specs.Callings.{Calling, NotCalling, Gathering, Gathered, call_lists}
+use Rattle.input_state.specs.Macros.{list_at}
+use Rattle.frames.specs.declared.scan.Ask.{Ask}
+use Rattle.frames.specs.declared.scan.Ask.TheVariants as asks
+use Rattle.frames.specs.declared.frame.Frame.{Frame}
+use Rattle.tex_program.specs.declared.call.Call.{Call}
+use Rattle.tex_program.specs.declared.call.CallAsk.{CallAsk}
+use Rattle.tex_program.specs.declared.call.CallAsk.TheVariants as call
+use Rattle.tex_program.specs.declared.engine.Engine.{Engine}
+use Rattle.tex_program.specs.Book.{Book}
+use Rattle.tex_program.specs.Stands.{Stands, FramesStand, IsLone, IsSound}
+
+-- the arguments, where all of them are there
+abbrev pub args_of : Calling → List (List Token)
+args_of NotCalling = []
+args_of (Gathering name scan) = []
+args_of (Gathered name args) = args
+
+-- what the call of a macro asks for, as its reading does
+abbrev pub asks_by : Name → CallAsk → Calling → reading.Ask
+asks_by name call.More k = reading.More Raw
+asks_by name (call.ExtraBrace x) k = reading.Inserts par_token (reports.ExtraBrace name) true
+asks_by name call.Gathered k = reading.Calls (args_of k)
+asks_by name call.Mismatch k = reading.Fails (reports.UseMismatch name)
+asks_by name (call.ParEnded (Some x)) k = reading.RunsAway (reports.ParagraphEnded name)
+asks_by name (call.ParEnded None) k = reading.Closes
+
+abbrev pub asks_of : Call → Calling → reading.Ask
+asks_of c k = asks_by c.name c.ask k
+
+-- The scanner has the arguments and the list in work of the reading, and goes on as it.
+pub record Gathers (long : Bool) (text : List Token) (scan : Scan) (fed : List Fed) : Type 0 where
+  pub args : arguments_in (gathered_by long text fed) ≡ scan.args
+  pub work : work_in (gathered_by long text fed) ≡ scan_work scan
+  pub goes_on : (more : List Fed) → gathered_by long text (fed ++ more) ≡ resume_scan text scan (call_fed more)
+
+-- it has no argument where it has no list in work
+abbrev pub HasWork : Scan → Type 0
+HasWork scan = scan_work scan ≡ None → scan.args ≡ []
+
+-- the call of this name takes tokens
+abbrev pub IsTaking : Name → (long : Bool) → (text : List Token) → Calling → List Fed → Type 0
+IsTaking name long text NotCalling fed = ⊥
+IsTaking name long text (Gathering n scan) fed = (n ≡ name) × (HasWork scan × Gathers long text scan fed)
+IsTaking name long text (Gathered n args) fed = ⊥
+
+-- it takes none, and its arguments aren't there
+abbrev pub IsStopped : Name → Calling → Type 0
+IsStopped name NotCalling = ⊥
+IsStopped name (Gathering n scan) = (n ≡ name) × HasWork scan
+IsStopped name (Gathered n args) = ⊥
+
+-- its arguments are there
+abbrev pub IsGathered : Name → Calling → Type 0
+IsGathered name NotCalling = ⊥
+IsGathered name (Gathering n scan) = ⊥
+IsGathered name (Gathered n args) = n ≡ name
+
+-- where it stands, by what it asks for
+abbrev pub CallAt : CallAsk → Name → (long : Bool) → (text : List Token) → Calling → List Fed → Type 0
+CallAt call.More name long text k fed = IsTaking name long text k fed
+CallAt (call.ExtraBrace x) name long text k fed = IsTaking name long text k fed
+CallAt call.Gathered name long text k fed = IsGathered name k
+CallAt call.Mismatch name long text k fed = IsStopped name k
+CallAt (call.ParEnded x) name long text k fed = IsStopped name k
+
+-- the token that is given back is the last
+abbrev pub GivesLast : CallAsk → List Fed → Type 0
+GivesLast (call.ExtraBrace x) fed = (last_seen fed ≡ x ∷ []) × (is_told fed ≡ false)
+GivesLast (call.ParEnded (Some x)) fed = last_seen fed ≡ x ∷ []
+GivesLast a fed = Unit {0}
+
+-- The call is this reading: that of a macro with a list.
+pub record CallStands (e : Engine) (number : ℕ → ℕ) (c : Call) (r : Reading) : Type 0 where
+  pub long : Bool
+  pub outer : Bool
+  pub id : ℕ
+  pub meaning : name_meaning e.input.meanings c.name ≡ Macro long outer (Some id)
+  pub kind : r.kind ≡ reading.Arguments c.name long (number id) (list_at e.input.lists id)
+  pub asked : asks_of c e.input.call ≡ reading.ask r.kind r.fed
+  pub at : CallAt c.ask c.name long (list_at e.input.lists id) e.input.call r.fed
+  pub holds : r.holds ≡ length (call_lists e.input.call)
+  pub last : GivesLast c.ask r.fed
+  pub not_lent : r.lent ≡ false
+
+-- a call begins where a token is wanted
+abbrev pub WantsToken : Option Frame → Ask → Type 0
+WantsToken None a = Unit {0}
+WantsToken (Some f) (asks.More want) = Unit {0}
+WantsToken (Some f) a = ⊥
+
+-- It is the innermost reading; the frames, with the lists that they hold, are those beneath it.
+abbrev pub CallReadings : Engine → (number : ℕ → ℕ) → Call → List Reading → Type 0
+CallReadings e number c [] = ⊥
+CallReadings e number c (r ∷ rs) = CallStands e number c r × (FramesStand e rs × IsLone rs)
+
+pub record Calls (sizes : Sizes) (e : Engine) (c : Call) (book : Book) : Type 0 where
+  pub sound : IsSound sizes e book.number book.macros
+  pub idle : e.input.making ≡ None
+  pub call : e.call ≡ Some c
+  pub readings : CallReadings e book.number c book.work
+  pub waits : WantsToken e.top e.ask
+
+-- The engine's open readings and its macros are those of the book, and no list is being made; a call gathers its arguments or none does.
+abbrev pub StandsBy : Option Call → Sizes → Engine → Book → Type 0
+StandsBy None sizes e book = Stands sizes e book
+StandsBy (Some c) sizes e book = Calls sizes e c book
+
+abbrev pub AllStands : Sizes → Engine → Book → Type 0
+AllStands sizes e book = StandsBy e.call sizes e book
