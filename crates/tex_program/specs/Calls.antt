@@ -14,7 +14,7 @@ use Rattle.plain_state.specs.States.{Reading}
 use Rattle.plain_state.specs.Tokens.{Raw}
 use Rattle.plain_machine.specs.Plan.{is_told, last_seen}
 use Rattle.macro_call.specs.PlainScans.{Scan, resume_scan, scan_work}
-use Rattle.input_state.specs.Callings.{Calling, NotCalling, Gathering, Gathered, call_lists}
+use Rattle.input_state.specs.Callings.{Calling, NotCalling, Gathering, Stopped, Gathered, call_lists}
 use Rattle.input_state.specs.Macros.{list_at}
 use Rattle.frames.specs.declared.scan.Ask.{Ask}
 use Rattle.frames.specs.declared.scan.Ask.TheVariants as asks
@@ -30,6 +30,7 @@ use Rattle.tex_program.specs.Stands.{Stands, FramesStand, IsLone, IsSound}
 abbrev pub args_of : Calling → List (List Token)
 args_of NotCalling = []
 args_of (Gathering name scan) = []
+args_of (Stopped name scan) = []
 args_of (Gathered name args) = args
 
 -- what the call of a macro asks for, as its reading does
@@ -58,18 +59,21 @@ HasWork scan = scan_work scan ≡ None → scan.args ≡ []
 abbrev pub IsTaking : Name → (long : Bool) → (text : List Token) → Calling → List Fed → Type 0
 IsTaking name long text NotCalling fed = ⊥
 IsTaking name long text (Gathering n scan) fed = (n ≡ name) × (HasWork scan × Gathers long text scan fed)
+IsTaking name long text (Stopped n scan) fed = ⊥
 IsTaking name long text (Gathered n args) fed = ⊥
 
 -- it takes none, and its arguments aren't there
 abbrev pub IsStopped : Name → Calling → Type 0
 IsStopped name NotCalling = ⊥
-IsStopped name (Gathering n scan) = (n ≡ name) × HasWork scan
+IsStopped name (Gathering n scan) = ⊥
+IsStopped name (Stopped n scan) = (n ≡ name) × HasWork scan
 IsStopped name (Gathered n args) = ⊥
 
 -- its arguments are there
 abbrev pub IsGathered : Name → Calling → Type 0
 IsGathered name NotCalling = ⊥
 IsGathered name (Gathering n scan) = ⊥
+IsGathered name (Stopped n scan) = ⊥
 IsGathered name (Gathered n args) = n ≡ name
 
 -- where it stands, by what it asks for
