@@ -34,7 +34,7 @@ first_decides (u ∷ us) t is = sym (ap (λ (x : Token). not (is_end_mark x)) (s
 
 -- WHAT IS PUT, WITHOUT ARGUMENTS
 
-same_body : (ts : List Token) → plain.body_of ts ≡ body_of ts
+pub same_body : (ts : List Token) → plain.body_of ts ≡ body_of ts
 same_body [] = refl
 same_body (token.Char category code ∷ ts) = same_body ts
 same_body (token.Named name ∷ ts) = same_body ts

@@ -1,7 +1,7 @@
 -- The words that the lists take in main memory are those of the plain lists.
-use Rattle.std.proofs.Common.{◌≡◌, ℕ, zero, suc, ◌+◌, ◌<◌, ◌≤◌, List, [], ◌∷◌, ◌++◌, length, map, take, reverse, Option, None, Some, inl, inr, refl, sym, ap, ◌∙◌, arith}
+use Rattle.std.proofs.Common.{◌≡◌, ℕ, zero, suc, ◌+◌, ◌<◌, ◌≤◌, List, [], ◌∷◌, ◌++◌, length, map, take, reverse, Option, None, Some, inl, inr, refl, sym, ap, ◌∙◌, subst, arith}
 use Rattle.std.specs.Prelude.{sum_by, option_to_list, slice_index_or}
-use Rattle.std.proofs.lemmas.Bool.{cases_lt}
+use Rattle.std.proofs.lemmas.Bool.{cases_lt, cases_eq}
 use Rattle.std.proofs.lemmas.List.{length-reverse}
 use Rattle.std.proofs.lemmas.List.Sums.{sum_by-cons, sum_by-append}
 use Rattle.tex_defs.specs.declared.Token.{Token}
@@ -30,7 +30,7 @@ use Rattle.input_stack.specs.View.{pending}
 use Rattle.input_stack.specs.declared.stack.InputStack.{InputStack}
 use Rattle.input_state.specs.HeldLists.{words_held}
 use Rattle.input_state.specs.HeldViews.{Named, call_holds, calling_of, IsCall, text, made_text, fronts, lists_of, all_builds, built, owns, bodies, opens, IsShared}
-use Rattle.input_state.proofs.Counting.{some, some_one, some_none, mark, words_at, times_cons, times_append, words_counted}
+use Rattle.input_state.proofs.Counting.{holds_other, some, some_one, some_none, mark, words_at, times_cons, times_append, words_counted}
 use Rattle.input_state.proofs.Shares.{held_parts, macro_once}
 use Rattle.input_state.proofs.Levels.{no_opens, front_words}
 use Rattle.input_state.proofs.Sharing.{built_cons}
@@ -77,10 +77,20 @@ cell_words table (Some r ∷ cells) others have =
     let ts = tokens_at table (id_of r) in
     omega (arith, cell_words table cells (list_of_tokens ts ++ others) have.1, some_words ts others (have.0 r refl), sum_by-cons (words_at table) (id_of r) (cell_ids cells))
 
-have_tokens : (table : List (Option Entry)) (cells : List (Option ListRef)) → ((i : ℕ) (r : ListRef) → slice_index_or cells i None ≡ Some r → 0 < length (tokens_at table (id_of r))) → HaveTokens table cells
+pub have_tokens : (table : List (Option Entry)) (cells : List (Option ListRef)) → ((i : ℕ) (r : ListRef) → slice_index_or cells i None ≡ Some r → 0 < length (tokens_at table (id_of r))) → HaveTokens table cells
 unfolding HaveTokens
 have_tokens table [] listed = tt
 have_tokens table (c ∷ cells) listed = (λ r is. listed 0 r is, have_tokens table cells (λ i r is. listed (suc i) r is))
+
+-- so has each list that they hold
+pub token_at : (table : List (Option Entry)) (cells : List (Option ListRef)) → HaveTokens table cells → (h : ℕ) → 0 < cells_hold cells h → 0 < length (tokens_at table h)
+unfolding HaveTokens
+token_at table [] have h some = absurd (omega (arith, some))
+token_at table (None ∷ cells) have h some = token_at table cells have.1 h (omega (arith, some, sum_by-cons (λ (c : Option ListRef). cell_holds c h) None cells))
+token_at table (Some r ∷ cells) have h some = elim (cases_eq (id_of r) h) [
+  | inl is ↦ subst (λ (k : ℕ). 0 < length (tokens_at table k)) is (have.0 r refl)
+  | inr other ↦ token_at table cells have.1 h (omega (arith, some, holds_other (id_of r) h other, sum_by-cons (λ (c : Option ListRef). cell_holds c h) (Some r) cells))
+]
 
 taken_tokens : (table : List (Option Entry)) (n : ℕ) (cells : List (Option ListRef)) → HaveTokens table cells → HaveTokens table (take n cells)
 unfolding HaveTokens

@@ -168,6 +168,13 @@ IsScanning (call.Gathers name scan) = Unit {0}
 IsScanning (call.Stopped name scan) = ⊥
 IsScanning (call.Gathered name args) = ⊥
 
+-- all arguments are there
+abbrev pub HasArguments : code.Gathering → Type 0
+HasArguments call.None = ⊥
+HasArguments (call.Gathers name scan) = ⊥
+HasArguments (call.Stopped name scan) = ⊥
+HasArguments (call.Gathered name args) = Unit {0}
+
 -- how often a call holds the list of a number
 abbrev pub call_holds : code.Gathering → ℕ → ℕ
 call_holds call.None h = 0

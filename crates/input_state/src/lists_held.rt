@@ -13,13 +13,13 @@ ghost use Rattle.token_lists.specs.Table.{words, tokens_at, holders_at, IsHeld};
 ghost use Rattle.token_lists.specs.Ids.{build_id, IsBuilding};
 ghost use Rattle.token_lists.specs.Accounts.{Moves, none, holds};
 ghost use Rattle.token_lists.specs.Refusals.{IsFull};
-ghost use Rattle.input_state.specs.HeldLists.{HeldLists, KeepsHeld, call_refusal, first_list, is_empty, made, words_held, level_held, pending_of, ahead_of, line_levels, IsLineIn};
+ghost use Rattle.input_state.specs.HeldLists.{HeldLists, KeepsHeld, call_refusal, put_refusal, first_list, is_empty, made, words_held, level_held, pending_of, ahead_of, line_levels, IsLineIn};
 ghost use Rattle.meanings.specs.Map.{IsPlaced};
 ghost use Rattle.input_state.specs.HeldViews.{IsDefined};
 ghost use Rattle.input_state.specs.Macros.{list_at};
-ghost use Rattle.input_state.specs.Calls.{call_kind, called_put, called, text_of, begun_lists, Defines};
+ghost use Rattle.input_state.specs.Calls.{call_kind, called_put, called, put_of, text_of, begun_lists, Defines};
 ghost use Rattle.input_state.specs.declared.answer.CallKind.TheVariants.{AtOnce, Gathers};
-ghost use Rattle.input_state.specs.Callings.{NotCalling};
+ghost use Rattle.input_state.specs.Callings.{NotCalling, IsComplete};
 ghost use Rattle.input_state.specs.Callings as calls;
 ghost use Rattle.input_state.specs.CallFeeds.{IsTaking, Feeds, CutShort, growth, with_scan, call_work};
 ghost use Rattle.macro_call.specs.PlainScans.{first_scan, cut_scan, settled_scan};
@@ -30,7 +30,7 @@ ghost use Rattle.input_state.specs.Reads.{GivesTo, step_demands};
 ghost use Rattle.input_state.specs.Given.{GivesMore, GivesOrRefuses, answer_of, told};
 
 use crate::gathering::{Gathering, begin as begin_call, feed};
-use crate::holders::{give_back, has_parameters, share};
+use crate::holders::{give_back, has_parameters, let_go, share};
 use crate::{CallKind, CallTold, Pulled};
 use input_stack::{InputStack, Pulled as Given};
 use line_lexer::{Ahead, Lexed, Line};
@@ -607,6 +607,34 @@ impl Held {
         match scan.built() {
             Some(build) => Some((&self.lists, build)),
             None => None,
+        }
+    }
+
+    /// Puts the call in front of all that is pending: the macro's body, each parameter number replaced by its argument.
+    /// The list is shared, not copied, and the arguments pass to it; one without a body lets them go and changes nothing
+    /// else. *TeX: The Program*, part 25 (`macro_call`).
+    ///
+    /// # Errors
+    /// The arguments or the level have no room, once the finished lists in front have gone; nothing else has changed.
+    pub fn put_call(&mut self) -> Result<(), Full>
+        requires { IsComplete self.old.call }
+        ensures refused { MatchResult result (λ _. put_refusal (put_of self.old.lists self.old.meanings self.old.call) self.old ≡ None) (λ full. put_refusal (put_of self.old.lists self.old.meanings self.old.call) self.old ≡ Some full) }
+        ensures ok { OnOk result (self.new ≡ record self.old { puts = called (put_of self.old.lists self.old.meanings self.old.call) self.old.puts; call = NotCalling; lists = self.new.lists }) }
+        ensures err { OnErr result (self.new ≡ record self.old { puts = settled self.old.puts; lists = self.new.lists }) }
+        ensures macros { KeepsHeld self.old self.new }
+    {
+        let (name, args) = mem::replace(&mut self.call, Gathering::None).into_args();
+        let Some(list) = self.meanings.list(name) else {
+            unreachable!()
+        };
+        let body = share(&mut self.lists, list);
+        match self.stack.push_macro(&mut self.lists, body, args) {
+            Ok(()) => Ok(()),
+            Err((full, body, args)) => {
+                let_go(&mut self.lists, body);
+                mem::replace(&mut self.call, Gathering::Gathered(name, args)).end();
+                Err(full)
+            }
         }
     }
 

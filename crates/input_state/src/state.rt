@@ -20,14 +20,14 @@ ghost use Rattle.meanings.specs.Map.{IsPlaced};
 ghost use Rattle.input_state.specs.declared.answer.CallKind.TheVariants.{AtOnce, Gathers};
 ghost use Rattle.input_state.specs.HeldViews.{IsDefined};
 ghost use Rattle.input_state.specs.Macros.{list_at};
-ghost use Rattle.input_state.specs.Calls.{call_kind, called_put, after_call, text_of, begun_lists, Defines};
-ghost use Rattle.input_state.specs.Callings.{NotCalling};
+ghost use Rattle.input_state.specs.Calls.{call_kind, called_put, after_call, put_of, text_of, begun_lists, Defines};
+ghost use Rattle.input_state.specs.Callings.{NotCalling, IsComplete};
 ghost use Rattle.input_state.specs.Callings as calls;
 ghost use Rattle.input_state.specs.CallFeeds.{IsTaking, Feeds, CutShort, growth, with_scan, call_work};
 ghost use Rattle.macro_call.specs.PlainScans.{first_scan, cut_scan, settled_scan};
 ghost use Rattle.macro_call.specs.Modes.{mode_of};
 ghost use Rattle.input_state.specs.FileViews.{progress_of};
-ghost use Rattle.input_state.specs.Stored.{KeepsMacros, call_refusal, words, unread, closed};
+ghost use Rattle.input_state.specs.Stored.{KeepsMacros, call_refusal, put_refusal, words, unread, closed};
 ghost use Rattle.input_state.specs.Reads.{GivesTo, Pulls, pull_refusal, RefusesLine, gives_step};
 
 use crate::file::{JobFile, Progress};
@@ -525,6 +525,22 @@ impl Input {
         ensures tokens { call_work self.now.call ≡ option_map (λ r. tokens_at r.0.now (build_id r.1.now)) result }
     {
         self.held.call_list()
+    }
+
+    /// Puts the call in front of all that is pending: the macro's body, each parameter number replaced by its argument.
+    /// The list is shared, not copied, and the arguments pass to it; one without a body lets them go and changes nothing
+    /// else. *TeX: The Program*, part 25 (`macro_call`).
+    ///
+    /// # Errors
+    /// The arguments or the level have no room, once the finished lists in front have gone; nothing else has changed.
+    pub fn put_call(&mut self) -> Result<(), Full>
+        requires { IsComplete self.old.call }
+        ensures refused { MatchResult result (λ _. put_refusal (put_of self.old.lists self.old.meanings self.old.call) self.old ≡ None) (λ full. put_refusal (put_of self.old.lists self.old.meanings self.old.call) self.old ≡ Some full) }
+        ensures ok { OnOk result (self.new ≡ record self.old { pending = after_call (put_of self.old.lists self.old.meanings self.old.call) self.old.pending; call = NotCalling; lists = self.new.lists }) }
+        ensures err { OnErr result (self.new ≡ record self.old { pending = settle self.old.pending; lists = self.new.lists }) }
+        ensures macros { KeepsMacros self.old self.new }
+    {
+        self.held.put_call()
     }
 
     /// The call's lists go, and none is gathered.
