@@ -1,5 +1,5 @@
 // The lists in front, those that are being made and gathered, the line of the file beneath them, and what the names mean.
-ghost use Rattle.std.specs.Prelude.{◌≡◌, ◌≢◌, ℕ, ◌≤◌, ◌<◌, ◌+◌, ◌++◌, ◌↔◌, true, List, [], ◌∷◌, Option, None, Some, Ok, IsSome, IfSome, IsTrue, IfOk, OnOk, OnErr, IfErr, MatchResult, length, drop, replicate};
+ghost use Rattle.std.specs.Prelude.{◌≡◌, ◌≢◌, ℕ, ◌≤◌, ◌<◌, ◌+◌, ◌++◌, ◌↔◌, true, List, [], ◌∷◌, Option, None, Some, Ok, IsSome, IfSome, IsTrue, IfOk, OnOk, OnErr, IfErr, MatchResult, MatchBool, length, drop, replicate};
 ghost use Rattle.tex_defs.specs.Sizes.{first_out_of_range};
 ghost use Rattle.plain_state.specs.Names.{is_primitive};
 ghost use Rattle.tex_defs.specs.declared.Meaning.TheVariants.{Undefined};
@@ -545,6 +545,30 @@ impl Held {
         }
     }
 
+    /// Whether a call takes tokens.
+    pub fn is_taking(&self) -> bool
+        ensures { MatchBool result (IsTaking self.now.call) (IsTaking self.now.call → ⊥) }
+    {
+        match &self.call {
+            Gathering::Gathers(_name, _scan) => true,
+            Gathering::None => false,
+            Gathering::Stopped(_name, _scan) => false,
+            Gathering::Gathered(_name, _args) => false,
+        }
+    }
+
+    /// Whether all arguments of a call are there.
+    pub fn is_complete(&self) -> bool
+        ensures { MatchBool result (IsComplete self.now.call) (IsComplete self.now.call → ⊥) }
+    {
+        match &self.call {
+            Gathering::Gathered(_name, _args) => true,
+            Gathering::None => false,
+            Gathering::Gathers(_name, _scan) => false,
+            Gathering::Stopped(_name, _scan) => false,
+        }
+    }
+
     /// Feeds a token to the call. What is told is what the definition of arguments asks for behind all that was fed.
     ///
     /// # Errors
@@ -630,10 +654,10 @@ impl Held {
         let body = share(&mut self.lists, list);
         match self.stack.push_macro(&mut self.lists, body, args) {
             Ok(()) => Ok(()),
-            Err((full, body, args)) => {
+            Err((refusal, body, args)) => {
                 let_go(&mut self.lists, body);
                 mem::replace(&mut self.call, Gathering::Gathered(name, args)).end();
-                Err(full)
+                Err(refusal)
             }
         }
     }

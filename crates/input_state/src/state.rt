@@ -88,17 +88,20 @@ fn buffer_full(sizes: &Sizes) -> Full
     }
 }
 
-// Why the level of the first line has no room.
-fn line_full(held: &mut Held, progress: Progress) -> Option<Full>
+// Whether the level of the first line has room.
+fn line_room(held: &mut Held, progress: Progress) -> Result<(), Full>
     requires { settled held.old.puts ≡ held.old.puts }
-    ensures refused { result ≡ refused held.old.sizes (file_demands (progress_of progress) held.old) }
+    ensures refused { MatchResult result (λ _. refused held.old.sizes (file_demands (progress_of progress) held.old) ≡ None) (λ full. refused held.old.sizes (file_demands (progress_of progress) held.old) ≡ Some full) }
     ensures after { held.new ≡ record held.old { lists = held.new.lists } }
     ensures macros { KeepsHeld held.old held.new }
 {
     if progress == Progress::NotBegun {
-        return held.room();
+        return match held.room() {
+            Some(full) => Err(full),
+            None => Ok(()),
+        };
     }
-    None
+    Ok(())
 }
 
 // The file goes on at this line, and gets its level with the first.
@@ -332,9 +335,7 @@ impl Input {
             return Err(buffer_full(self.held.sizes()));
         }
         let progress = self.file.progress();
-        if let Some(full) = line_full(&mut self.held, progress) {
-            return Err(full);
-        }
+        line_room(&mut self.held, progress)?;
         self.held.drop_front(&mut self.buffer, categories);
         put_line(&mut self.buffer, &self.file.rest()[..cut.kept]);
         open_line(&mut self.held, progress, line_start(cut.kept + 1));
@@ -482,6 +483,20 @@ impl Input {
         ensures macros { KeepsMacros self.old self.new }
     {
         self.held.begin_call(name, long)
+    }
+
+    /// Whether a call takes tokens.
+    pub fn is_taking(&self) -> bool
+        ensures { MatchBool result (IsTaking self.now.call) (IsTaking self.now.call → ⊥) }
+    {
+        self.held.is_taking()
+    }
+
+    /// Whether all arguments of a call are there.
+    pub fn is_complete(&self) -> bool
+        ensures { MatchBool result (IsComplete self.now.call) (IsComplete self.now.call → ⊥) }
+    {
+        self.held.is_complete()
     }
 
     /// Feeds a token to the call. What is told is what the definition of arguments asks for behind all that was fed.
