@@ -17,7 +17,6 @@ use Rattle.token_lists.specs.Table.{Entry, tokens_at, holders_at, IsHeld}
 use Rattle.token_lists.specs.Accounts.{holds, none, Moves, Keeps}
 use Rattle.macro_args.specs.declared.args.Args.{Args}
 use Rattle.macro_args.specs.Args.{args_hold}
-use Rattle.meanings.specs.Map.{Map}
 use Rattle.meanings.specs.Holding as meant
 use Rattle.meanings.specs.Holding.{list_of}
 use Rattle.meanings.proofs.Listed.{within_locations}
@@ -38,7 +37,7 @@ use Rattle.input_stack.proofs.Kept.{holds_itself}
 use Rattle.input_state.specs.HeldLists.{HeldLists, call_refusal, level_held, line_levels}
 use Rattle.input_state.specs.Macros.{KeepsLists}
 use Rattle.input_state.specs.Calls.{called_put, called, when_called}
-use Rattle.input_state.specs.HeldViews.{Named, names_hold, calling_of, text, made_text, texts, front, fronts, plain_item, line_of, lists_of, all_builds, bodies, cells_of, IsSimple, IsApart, IsDefined, IsShared, IsSound}
+use Rattle.input_state.specs.HeldViews.{Named, calling_of, text, made_text, texts, front, fronts, plain_item, line_of, lists_of, all_builds, bodies, cells_of, IsSimple, IsApart, IsDefined, IsShared, IsSound}
 use Rattle.input_state.proofs.Counting.{times_cons, holds_other}
 use Rattle.input_state.proofs.Ranges.{hash_greatest, input_greatest, parameters_greatest}
 use Rattle.input_state.proofs.Shares.{apart_fewer, fewer_put}

@@ -1,21 +1,19 @@
 -- The call stays as its lists and its macro's list do.
-use Rattle.std.proofs.Common.{◌≡◌, ℕ, ◌+◌, ◌<◌, ◌≤◌, List, [], ◌∷◌, map, take, drop, length, Option, None, Some, inl, inr, refl, sym, ap, ap₂, ◌∙◌, subst, arith}
+use Rattle.std.proofs.Common.{◌≡◌, ℕ, ◌<◌, ◌≤◌, List, [], ◌∷◌, map, take, drop, length, Option, None, Some, inl, inr, refl, sym, ap, ap₂, ◌∙◌, subst, arith}
 use Rattle.std.specs.Prelude.{option_map, slice_index_or, slice_get, IsSome, ◌↔◌}
 use Rattle.std.proofs.lemmas.Bool.{cases_lt}
 use Rattle.std.proofs.lemmas.List.{get_or_past}
 use Rattle.std.proofs.lemmas.List.Sums.{sum_by-cons, sum_by-take-le, get_or-le-sum_by}
 use Rattle.std.proofs.lemmas.Option.{none-some}
 use Rattle.tex_defs.specs.declared.Token.{Token}
-use Rattle.tex_defs.specs.declared.Name.{Name}
 use Rattle.token_lists.specs.declared.ListRef.{ListRef}
 use Rattle.token_lists.specs.Ids.{id_of, build_id, IsBuilding}
 use Rattle.token_lists.specs.Table.{Entry, tokens_at, places_at, holders_at, last_or}
-use Rattle.token_lists.specs.Accounts.{holds, cell_holds, cells_hold}
+use Rattle.token_lists.specs.Accounts.{cell_holds, cells_hold}
 use Rattle.plain_state.specs.Arguments.{start_of}
 use Rattle.macro_args.specs.declared.args.Args.{Args}
 use Rattle.macro_args.specs.Args.{args_in, args_hold, cell_tokens}
 use Rattle.macro_args.proofs.Releases.{holds_own}
-use Rattle.macro_call.specs.declared.cursor.Cursor.{Cursor}
 use Rattle.macro_call.specs.declared.present.Present.{Present}
 use Rattle.macro_call.specs.declared.scan.ArgScan.{ArgScan}
 use Rattle.macro_call.specs.Cursors.{IsOn, delimiter_at}
@@ -31,7 +29,7 @@ use Rattle.meanings.proofs.Listed.{list_held}
 use Rattle.input_state.specs.declared.gathering.Gathering as code
 use Rattle.input_state.specs.declared.gathering.Gathering.TheVariants as call
 use Rattle.input_state.specs.Callings.{Gathering, Stopped, Gathered}
-use Rattle.input_state.specs.HeldViews.{call_holds, calling_of, IsCall, IsGathering, IsGathered}
+use Rattle.input_state.specs.HeldViews.{call_holds, calling_of, IsCall}
 use Rattle.input_state.proofs.Sharing.{Stay, stay_less}
 
 -- ARGUMENTS

@@ -1,5 +1,5 @@
 -- A call begins and takes tokens.
-use Rattle.std.proofs.Common.{◌≡◌, ℕ, ◌+◌, ◌<◌, ◌≤◌, List, [], ◌∷◌, ◌++◌, length, drop, map, take, Bool, true, Option, None, Some, Result, Ok, Err, refl, sym, ap, ap₂, ◌∙◌, subst, arith}
+use Rattle.std.proofs.Common.{◌≡◌, ℕ, ◌+◌, ◌<◌, ◌≤◌, List, [], ◌∷◌, length, drop, map, take, Bool, true, Option, None, Some, Result, Ok, Err, refl, sym, ap, ap₂, ◌∙◌, subst, arith}
 use Rattle.std.specs.Prelude.{if◌then◌else◌, IfOk, OnOk, OnErr, IfErr, option_map}
 use Rattle.std.proofs.lemmas.Option.{none-some, same_Some}
 use Rattle.std.proofs.lemmas.List.Sums.{sum_by-append}
@@ -13,12 +13,12 @@ use Rattle.plain_state.specs.Arguments.{ParMode, begins_with_place, start_of}
 use Rattle.plain_state.specs.Meanings.{name_meaning}
 use Rattle.plain_state.specs.Tables.{lists_words, list_words, memory, refused}
 use Rattle.token_lists.specs.declared.Build.{Build}
-use Rattle.token_lists.specs.Table.{Entry, words, tokens_at}
+use Rattle.token_lists.specs.Table.{Entry, tokens_at}
 use Rattle.token_lists.specs.Refusals.{IsFull}
-use Rattle.macro_args.specs.Args.{args_in, cell_tokens}
+use Rattle.macro_args.specs.Args.{cell_tokens}
 use Rattle.macro_call.specs.declared.present.Present.{Present}
 use Rattle.macro_call.specs.declared.scan.ArgScan.{ArgScan}
-use Rattle.macro_call.specs.Stages.{Stage, stage_of}
+use Rattle.macro_call.specs.Stages.{stage_of}
 use Rattle.macro_call.specs.PlainScans.{Scan, first_scan}
 use Rattle.macro_call.specs.Scans.{IsSound as IsStanding, IsInPlace, scan_of, scan_holds}
 use Rattle.macro_call.proofs.Resumed.{has_lists}
@@ -35,7 +35,7 @@ use Rattle.input_state.specs.Recalls.{Recalls}
 use Rattle.input_state.specs.declared.gathering.Gathering as code
 use Rattle.input_state.specs.declared.gathering.Gathering.TheVariants as call
 use Rattle.input_state.specs.declared.answer.CallTold.{CallTold}
-use Rattle.input_state.specs.HeldViews.{Named, named, calling_of, texts, lists_of, IsCall, IsScanning, IsSound}
+use Rattle.input_state.specs.HeldViews.{Named, calling_of, texts, lists_of, IsCall, IsScanning, IsSound}
 use Rattle.input_state.proofs.Sharing.{text_at}
 use Rattle.input_state.proofs.Sounds.{full_now}
 use Rattle.input_state.proofs.Growing.{begun_words, growth_fits}

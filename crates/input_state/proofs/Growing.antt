@@ -1,23 +1,21 @@
 -- What a token of a call takes of main memory.
-use Rattle.std.proofs.Common.{◌≡◌, ℕ, zero, suc, ◌+◌, ◌<◌, ◌≤◌, List, [], ◌∷◌, ◌++◌, length, drop, take, Bool, true, false, Option, None, Some, inl, inr, refl, sym, ap, ap₂, ◌∙◌, subst, arith}
-use Rattle.std.specs.Prelude.{◌||◌, if◌then◌else◌, option_to_list, option_map, unwrap_or}
-use Rattle.std.proofs.lemmas.Bool.{cases_lt}
-use Rattle.std.proofs.lemmas.List.{length-map, drop_at, drop_all, length-drop}
+use Rattle.std.proofs.Common.{◌≡◌, ℕ, zero, suc, ◌+◌, ◌<◌, ◌≤◌, List, [], ◌∷◌, ◌++◌, length, drop, Bool, true, false, Option, None, Some, refl, sym, ap, ap₂, ◌∙◌, subst, arith}
+use Rattle.std.specs.Prelude.{if◌then◌else◌, option_to_list, option_map, unwrap_or}
+use Rattle.std.proofs.lemmas.List.{drop_at, drop_all, length-drop}
 use Rattle.std.proofs.lemmas.List.Sums.{sum_by-cons, sum_by-append}
 use Rattle.tex_defs.specs.declared.Token.{Token}
 use Rattle.tex_defs.specs.declared.Name.{Name}
 use Rattle.tex_defs.specs.declared.Meaning.{Meaning}
 use Rattle.plain_state.specs.Puts.{Put}
 use Rattle.plain_state.specs.Readings.{list_of_tokens}
-use Rattle.plain_state.specs.Tables.{list_words, lists_words, macro_words, is_meant, is_put}
+use Rattle.plain_state.specs.Tables.{list_words, lists_words, macro_words}
 use Rattle.plain_state.specs.Arguments as arg
 use Rattle.plain_state.specs.Arguments.{ParMode, Answer, More, Called, Mismatch, Tok, arguments, arguments_in, work_in, behind, gathering, call, start_of, places_of, case_at, same, begins_with_place}
 use Rattle.macro_call.specs.Stages.{Stage, kept_in, read_in}
-use Rattle.macro_call.specs.Growths.{target_by, target_of, growth_of}
+use Rattle.macro_call.specs.Growths.{target_by}
 use Rattle.macro_call.specs.PlainScans.{Scan, scan_work, resume_scan, resume_at, places_behind, first_scan, first_by}
 use Rattle.macro_call.proofs.ArgumentRuns.{search_at, found_after}
-use Rattle.macro_call.proofs.Growths.{work-sought, arguments-sought}
-use Rattle.input_state.specs.HeldLists.{HeldLists, words_held, gathered_held}
+use Rattle.input_state.specs.HeldLists.{HeldLists, words_held}
 use Rattle.input_state.specs.Macros.{list_at, is_macro, KeepsLists}
 use Rattle.input_state.specs.Calls.{begun_lists}
 use Rattle.input_state.specs.Callings.{Calling, NotCalling, Gathering, Stopped, Gathered, last_first, scan_lists, call_lists}

@@ -14,7 +14,7 @@ use Rattle.input_stack.specs.View.{pending, held}
 use Rattle.input_stack.specs.declared.stack.InputStack.{InputStack}
 use Rattle.input_state.specs.HeldLists.{HeldLists}
 use Rattle.input_state.specs.Macros.{KeepsLists}
-use Rattle.input_state.specs.HeldViews.{Named, named, names_hold, call_holds, calling_of, fronts, text, made_text, line_of, texts, lists_of, all_builds, IsSingle}
+use Rattle.input_state.specs.HeldViews.{Named, names_hold, call_holds, calling_of, fronts, text, made_text, line_of, texts, lists_of, all_builds, IsSingle}
 use Rattle.input_state.specs.Callings.{Calling}
 use Rattle.input_state.proofs.Sharing.{Changed, Moved, stay_less, keeps_lists}
 use Rattle.input_state.proofs.CallStays.{calling_stays}

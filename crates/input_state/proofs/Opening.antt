@@ -10,7 +10,6 @@ use Rattle.token_lists.specs.Table.{Entry}
 use Rattle.token_lists.specs.Accounts.{Moves, Keeps, none}
 use Rattle.line_lexer.specs.declared.Line.{Line}
 use Rattle.world_io.specs.declared.traits.InId.{InId}
-use Rattle.meanings.specs.Map.{Map}
 use Rattle.input_stack.specs.Puts.{Put, settled}
 use Rattle.input_stack.specs.Pending.{Pending, Below, settle, open_over}
 use Rattle.input_stack.specs.View.{pending, held}

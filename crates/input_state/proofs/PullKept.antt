@@ -5,7 +5,6 @@ use Rattle.tex_defs.specs.declared.Sizes.{Sizes}
 use Rattle.token_lists.specs.declared.Build.{Build}
 use Rattle.token_lists.specs.Table.{Entry}
 use Rattle.token_lists.specs.Accounts.{Moves, Keeps}
-use Rattle.meanings.specs.Map.{Map}
 use Rattle.input_stack.specs.Puts.{Put, next_item}
 use Rattle.input_stack.specs.Pending.{Pending, settle}
 use Rattle.plain_state.specs.Puts as plain

@@ -1,6 +1,6 @@
 -- What a call with arguments puts.
-use Rattle.std.proofs.Common.{zero, suc, ◌≡◌, ℕ, ◌+◌, ◌-◌, ◌<◌, ◌≤◌, List, [], ◌∷◌, ◌++◌, map, take, length, Option, None, Some, true, refl, sym, ap, ap₂, ◌∙◌, subst, arith}
-use Rattle.std.specs.Prelude.{slice_get, option_map, sum_by}
+use Rattle.std.proofs.Common.{zero, suc, ◌≡◌, ℕ, ◌-◌, ◌<◌, ◌≤◌, List, [], ◌∷◌, ◌++◌, map, take, length, Option, None, Some, refl, sym, ap, ap₂, ◌∙◌, subst, arith}
+use Rattle.std.specs.Prelude.{slice_get, option_map}
 use Rattle.std.proofs.lemmas.Option.{none-some, same_Some}
 use Rattle.std.proofs.lemmas.List.Sums.{sum_by-cons}
 use Rattle.tex_defs.specs.declared.Token.{Token}
@@ -11,11 +11,11 @@ use Rattle.plain_state.specs.Puts as plain
 use Rattle.token_lists.specs.declared.ListRef.{ListRef}
 use Rattle.token_lists.specs.Ids.{id_of}
 use Rattle.token_lists.specs.Table.{Entry, tokens_at}
-use Rattle.token_lists.specs.Accounts.{holds, cell_holds, cells_hold}
+use Rattle.token_lists.specs.Accounts.{cell_holds, cells_hold}
 use Rattle.macro_args.specs.declared.args.Args.{Args}
 use Rattle.macro_args.specs.Args.{args_in, args_hold, cell_tokens, IsFilled}
 use Rattle.meanings.specs.Holding.{list_of}
-use Rattle.input_stack.specs.Puts.{Put, Item, Text, First, Later, Gap, numbers, when_some, put_in_front, put_top}
+use Rattle.input_stack.specs.Puts.{Put, Item, Later, numbers, put_in_front, put_top}
 use Rattle.input_stack.specs.Calls.{Argument, call_put, substituted, body_of, spread, argument_items, placed_argument, token_items, number_of, tokens_of}
 use Rattle.input_stack.specs.CallViews.{argument_in, arguments_in}
 use Rattle.input_stack.specs.Pending.{times}

@@ -1,5 +1,5 @@
 -- A call whose arguments are there is put.
-use Rattle.std.proofs.Common.{◌≡◌, ℕ, ◌+◌, ◌<◌, ◌≤◌, List, [], ◌∷◌, ◌++◌, map, take, reverse, length, Option, None, Some, Bool, true, false, cond, inl, inr, refl, sym, ap, ap₂, ◌∙◌, subst, arith}
+use Rattle.std.proofs.Common.{◌≡◌, ℕ, ◌+◌, ◌<◌, List, [], ◌∷◌, map, take, reverse, length, Option, None, Some, Bool, true, false, cond, inl, inr, refl, sym, ap, ap₂, ◌∙◌, subst, arith}
 use Rattle.std.specs.Prelude.{sum_by, nat_le, if◌then◌else◌}
 use Rattle.std.proofs.lemmas.Bool.{cases_eq, cases_lt}
 use Rattle.std.proofs.lemmas.List.Sums.{sum_by-cons}
@@ -10,20 +10,19 @@ use Rattle.tex_defs.specs.declared.Sizes.{Sizes}
 use Rattle.tex_defs.specs.declared.Meaning.{Meaning}
 use Rattle.plain_state.specs.Meanings.{name_meaning}
 use Rattle.plain_state.specs.Puts as plain
-use Rattle.plain_state.specs.Tables.{refused, full}
+use Rattle.plain_state.specs.Tables.{refused}
 use Rattle.token_lists.specs.declared.Build.{Build}
 use Rattle.token_lists.specs.declared.ListRef.{ListRef}
 use Rattle.token_lists.specs.Ids.{id_of}
 use Rattle.token_lists.specs.Table.{Entry, tokens_at, holders_at}
-use Rattle.token_lists.specs.Accounts.{holds, none, Moves, Keeps, Covers}
+use Rattle.token_lists.specs.Accounts.{holds, Moves, Keeps, Covers}
 use Rattle.macro_args.specs.declared.args.Args.{Args}
-use Rattle.macro_args.specs.Args.{args_in, args_hold, cell_tokens, IsFilled}
-use Rattle.macro_call.specs.Listed.{AreListed}
+use Rattle.macro_args.specs.Args.{args_in, args_hold, IsFilled}
 use Rattle.meanings.specs.Map.{Map}
 use Rattle.meanings.specs.Holding as meant
 use Rattle.meanings.specs.Holding.{list_of}
 use Rattle.input_stack.specs.Puts.{Put, Item, numbers, when_some, used_arguments}
-use Rattle.input_stack.specs.Calls.{Argument, call_put, substituted, body_of, number_of}
+use Rattle.input_stack.specs.Calls.{Argument, call_put, number_of}
 use Rattle.input_stack.specs.CallViews.{argument_in, arguments_in, Shares}
 use Rattle.input_stack.specs.Pushes.{pushed_holds, call_refused}
 use Rattle.input_stack.specs.Pending as stack
@@ -35,10 +34,10 @@ use Rattle.input_stack.specs.declared.stack.InputStack.{InputStack}
 use Rattle.input_state.specs.HeldLists.{HeldLists, put_refusal, parameters_held, level_held, line_levels}
 use Rattle.input_state.specs.Macros.{KeepsLists}
 use Rattle.input_state.specs.Calls.{put_of, called, when_put}
-use Rattle.input_state.specs.Callings.{Calling, NotCalling, Gathered}
+use Rattle.input_state.specs.Callings.{NotCalling, Gathered}
 use Rattle.input_state.specs.declared.gathering.Gathering as code
 use Rattle.input_state.specs.declared.gathering.Gathering.TheVariants as call
-use Rattle.input_state.specs.HeldViews.{Named, named, call_holds, names_hold, calling_of, IsCall, text, made_text, texts, front, fronts, plain_item, line_of, lists_of, all_builds, built, owns, bodies, cells_of, IsSingle, IsSimple, IsApart, IsDefined, IsShared, IsSound}
+use Rattle.input_state.specs.HeldViews.{named, call_holds, names_hold, calling_of, IsCall, text, made_text, texts, front, fronts, plain_item, line_of, lists_of, all_builds, built, owns, bodies, cells_of, IsSingle, IsSimple, IsApart, IsDefined, IsSound}
 use Rattle.input_state.proofs.Counting.{times_cons, times_append, holds_other}
 use Rattle.input_state.proofs.Shares.{apart_fewer, fewer_put}
 use Rattle.input_state.proofs.Levels.{simple_put, levels_used}

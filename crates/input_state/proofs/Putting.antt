@@ -10,7 +10,6 @@ use Rattle.token_lists.specs.declared.Build.{Build}
 use Rattle.token_lists.specs.Ids.{build_id}
 use Rattle.token_lists.specs.Table.{Entry, tokens_at, holders_at}
 use Rattle.token_lists.specs.Accounts.{holds, Moves, Keeps}
-use Rattle.meanings.specs.Map.{Map}
 use Rattle.meanings.specs.Holding as meant
 use Rattle.input_stack.specs.Puts.{Text}
 use Rattle.input_stack.specs.Pending.{Pending, times, put, plain_put, refusal, room, used_levels}

@@ -1,19 +1,16 @@
 -- The call takes lists over, or lets them go.
-use Rattle.std.proofs.Common.{◌≡◌, ℕ, ◌+◌, ◌<◌, ◌≤◌, List, [], ◌∷◌, ◌++◌, map, reverse, length, Option, None, Some, inl, inr, refl, sym, ap, ap₂, ◌∙◌, subst, arith, length-append}
+use Rattle.std.proofs.Common.{◌≡◌, ℕ, ◌+◌, ◌<◌, ◌≤◌, List, [], ◌∷◌, length, Option, None, Some, inl, inr, sym, ap, ◌∙◌, subst, arith, length-append}
 use Rattle.std.proofs.lemmas.Bool.{cases_lt}
 use Rattle.std.proofs.lemmas.Option.{same_Some}
-use Rattle.tex_defs.specs.declared.Token.{Token}
 use Rattle.tex_defs.specs.declared.Name.{Name}
 use Rattle.tex_defs.specs.declared.Sizes.{Sizes}
 use Rattle.tex_defs.specs.declared.Meaning.TheVariants as means
-use Rattle.plain_state.specs.Meanings.{fixed_locations, name_meaning}
+use Rattle.plain_state.specs.Meanings.{fixed_locations}
 use Rattle.plain_state.specs.Puts as plain
 use Rattle.token_lists.specs.declared.Build.{Build}
 use Rattle.token_lists.specs.Ids.{IsBuilding}
-use Rattle.token_lists.specs.Table.{Entry, words, tokens_of, tokens_at, holders_at}
-use Rattle.token_lists.specs.Accounts.{Moves, Keeps, Covers, none}
-use Rattle.macro_args.specs.declared.args.Args.{Args}
-use Rattle.macro_args.specs.Args.{args_hold}
+use Rattle.token_lists.specs.Table.{Entry, words, tokens_of, holders_at}
+use Rattle.token_lists.specs.Accounts.{Moves, Keeps, none}
 use Rattle.macro_call.specs.declared.present.Present.{Present}
 use Rattle.macro_call.specs.declared.scan.ArgScan.{ArgScan}
 use Rattle.macro_call.specs.Scans as scans
@@ -35,13 +32,13 @@ use Rattle.input_state.proofs.Words.{words_are}
 use Rattle.input_state.proofs.Growing.{words_recalled}
 use Rattle.input_state.specs.HeldLists.{HeldLists, words_held}
 use Rattle.input_state.specs.Macros.{KeepsLists}
-use Rattle.input_state.specs.Callings.{Calling, NotCalling}
+use Rattle.input_state.specs.Callings.{NotCalling}
 use Rattle.input_state.specs.declared.gathering.Gathering as code
 use Rattle.input_state.specs.declared.gathering.Gathering.TheVariants as call
-use Rattle.input_state.specs.HeldViews.{Named, named, call_holds, calling_of, IsCall, text, made_text, texts, fronts, line_of, lists_of, all_builds, built, owns, bodies, cells_of, IsSimple, IsApart, IsDefined, IsShared, IsSound}
+use Rattle.input_state.specs.HeldViews.{named, call_holds, calling_of, IsCall, texts, fronts, line_of, lists_of, all_builds, built, owns, bodies, cells_of, IsSimple, IsApart, IsDefined, IsShared, IsSound}
 use Rattle.input_state.proofs.Shares.{held_parts}
 use Rattle.input_state.proofs.Sharing.{Reheld, reheld, keeps_lists}
-use Rattle.input_state.proofs.ListViews.{held_lists, same_held}
+use Rattle.input_state.proofs.ListViews.{same_held}
 
 module _ (old new : List (Option Entry)) (s : InputStack) (making : Option Build) (gathered : List Build) (m : Map) (k l : code.Gathering) (sizes : Sizes) (capacity : ℕ) (sound : IsSound old s making gathered (named m k) sizes capacity) (moves : Moves old new (call_holds k) (call_holds l)) (keeps : Keeps old new (call_holds k)) (gains : Gains old (call_holds k) (call_holds l)) (size : length new ≡ length old) where
   bs : List Build

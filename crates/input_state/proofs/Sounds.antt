@@ -31,7 +31,7 @@ use Rattle.input_stack.proofs.Kept.{holds_itself}
 use Rattle.input_state.specs.Changes.{IsOnly}
 use Rattle.input_state.specs.HeldLists.{HeldLists, words_held}
 use Rattle.input_state.specs.Macros.{KeepsLists}
-use Rattle.input_state.specs.HeldViews.{Named, named, names_hold, call_holds, calling_of, IsCall, text, made_text, fronts, line_of, texts, lists_of, all_builds, built, IsSingle, IsSimple, AreFronts, cells_of, IsApart, IsDefined, IsShared, IsSized, IsSound}
+use Rattle.input_state.specs.HeldViews.{Named, named, names_hold, call_holds, calling_of, text, made_text, fronts, line_of, texts, lists_of, all_builds, built, IsSingle, IsSimple, AreFronts, cells_of, IsApart, IsDefined, IsShared, IsSized, IsSound}
 use Rattle.input_state.proofs.Shares.{Fewer, apart_fewer, fewer_none, fewer_settled}
 use Rattle.input_state.proofs.Fronts.{fronts_settled}
 use Rattle.input_state.proofs.Levels.{simple_settled}

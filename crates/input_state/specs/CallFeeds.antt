@@ -1,5 +1,5 @@
 -- What a token comes to in a call whose arguments are gathered.
-use Rattle.std.specs.Prelude.{◌≡◌, ℕ, ◌<◌, List, [], ◌∷◌, ◌++◌, length, drop, Bool, true, false, Option, None, Some, unwrap_or}
+use Rattle.std.specs.Prelude.{◌≡◌, ◌<◌, List, [], ◌∷◌, ◌++◌, length, drop, Bool, true, false, Option, None, Some, unwrap_or}
 use Rattle.tex_defs.specs.declared.Token.{Token}
 use Rattle.tex_defs.specs.declared.Name.{Name}
 use Rattle.plain_state.specs.Arguments.{Fed, Tok, Answer, More, ExtraBraceFound, Called, Mismatch, Ended, arguments, work_in}

@@ -346,16 +346,16 @@ fn fed(input: &mut Input, token: Token) -> (Option<Result<CallTold, Full>>, u32)
 // How many tokens the call's list in work has, if there is one, up to three.
 fn work(input: &Input) -> Option<usize> {
     let (lists, build) = input.call_list()?;
-    let mut count = 0;
-    let mut at = lists.first_built(build);
-    while let Some(place) = at {
-        if count == 3 {
-            break;
-        }
-        count += 1;
-        at = lists.next(place);
+    let Some(first) = lists.first_built(build) else {
+        return Some(0);
+    };
+    let Some(second) = lists.next(first) else {
+        return Some(1);
+    };
+    match lists.next(second) {
+        Some(_third) => Some(3),
+        None => Some(2),
     }
-    Some(count)
 }
 
 #[test]

@@ -1,4 +1,4 @@
-use Rattle.std.proofs.Common.{◌≡◌, ◌≤◌, ◌∙◌, ℕ, List, ap, sym, arith}
+use Rattle.std.proofs.Common.{◌≡◌, ◌∙◌, List, ap, sym, arith}
 use Rattle.tex_defs.specs.declared.Token.{Token}
 use Rattle.token_lists.specs.Table.{tokens_at}
 use Rattle.token_lists.specs.Ids.{id_of}
@@ -6,7 +6,7 @@ use Rattle.macro_call.specs.Modes.{mode_of}
 use Rattle.macro_call.specs.PlainScans.{first_scan}
 use Rattle.plain_state.specs.Arguments.{begins_with_place}
 use Rattle.plain_state.specs.Tables.{lists_words}
-use Rattle.input_state.specs.HeldLists.{HeldLists, words_held}
+use Rattle.input_state.specs.HeldLists.{HeldLists}
 use Rattle.input_state.specs.Calls.{text_of}
 use Rattle.input_state.specs.Callings.{Calling, Gathering, call_lists}
 use Rattle.input_state.specs.HeldViews.{named, texts}

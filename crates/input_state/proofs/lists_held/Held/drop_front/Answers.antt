@@ -1,4 +1,4 @@
-use Rattle.std.proofs.Common.{◌≡◌, ◌∙◌, [], refl, ap, subst, sym}
+use Rattle.std.proofs.Common.{◌≡◌, ◌∙◌, [], refl, ap}
 use Rattle.plain_state.specs.Pending.{NotBegun}
 use Rattle.line_lexer.specs.declared.Ahead.TheVariants as ahead
 use Rattle.input_stack.specs.Pulls.{looks}

@@ -1,16 +1,15 @@
-use Rattle.std.proofs.Common.{◌≡◌, ◌≤◌, ◌+◌, ◌∙◌, ℕ, List, length, ap, ap₂, sym, subst, arith}
+use Rattle.std.proofs.Common.{◌≡◌, ◌∙◌, ap, sym, subst, arith}
 use Rattle.std.specs.Prelude.{IfOk, OnErr}
 use Rattle.tex_defs.specs.declared.Token.{Token}
 use Rattle.tex_defs.specs.declared.Seen.{Seen}
 use Rattle.token_lists.specs.Table.{tokens_at}
 use Rattle.token_lists.specs.Ids.{id_of}
 use Rattle.macro_call.specs.Scans.{scan_of}
-use Rattle.plain_state.specs.Tables.{lists_words}
-use Rattle.input_state.specs.HeldLists.{HeldLists, words_held}
+use Rattle.input_state.specs.HeldLists.{HeldLists}
 use Rattle.input_state.specs.Calls.{text_of}
-use Rattle.input_state.specs.Callings.{Calling, Gathering, call_lists}
+use Rattle.input_state.specs.Callings.{Calling, Gathering}
 use Rattle.input_state.specs.CallFeeds.{Comes, CutTo}
-use Rattle.input_state.specs.HeldViews.{named, calling_of, texts, IsCall}
+use Rattle.input_state.specs.HeldViews.{named, calling_of, IsCall}
 use Rattle.input_state.specs.declared.gathering.Gathering.TheVariants as call
 use Rattle.input_state.proofs.Recalling.{recalls_sound, recalls_others, recalls_macros, recalls_words}
 use Rattle.input_state.proofs.Sounds.{used_now}

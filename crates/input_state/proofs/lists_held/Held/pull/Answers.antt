@@ -1,4 +1,4 @@
-use Rattle.std.proofs.Common.{◌≡◌, ◌≢◌, ◌∙◌, [], refl, ap, subst, sym, length, Result, Ok, Err}
+use Rattle.std.proofs.Common.{◌≢◌, ◌∙◌, [], refl, ap, subst, sym, length, Result, Ok, Err}
 use Rattle.std.specs.Prelude.{OnErr}
 use Rattle.plain_state.specs.Pending.{NotBegun}
 use Rattle.line_lexer.specs.declared.Ahead.TheVariants as ahead

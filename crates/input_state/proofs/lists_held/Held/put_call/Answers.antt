@@ -5,7 +5,6 @@ use Rattle.token_lists.specs.Ids.{id_of}
 use Rattle.meanings.specs.Holding as meant
 use Rattle.meanings.specs.Holding.{list_of}
 use Rattle.input_stack.specs.View.{pending}
-use Rattle.input_state.specs.HeldLists.{HeldLists}
 use Rattle.input_state.specs.declared.gathering.Gathering as code
 use Rattle.input_state.specs.declared.gathering.Gathering.TheVariants as call
 use Rattle.input_state.specs.HeldViews.{named, lists_of, all_builds, IsCall, IsSound}

@@ -1,9 +1,8 @@
-use Rattle.std.proofs.Common.{◌≡◌, ◌∙◌, List, ap, sym, subst}
-use Rattle.tex_defs.specs.declared.Meaning.{Meaning}
-use Rattle.plain_state.specs.Pending.{Pending, settle}
+use Rattle.std.proofs.Common.{◌∙◌, ap, sym}
+use Rattle.plain_state.specs.Pending.{settle}
 use Rattle.input_state.specs.Stored.{Stored}
 use Rattle.input_state.specs.HeldLists.{ahead_of}
-use Rattle.input_state.proofs.Files.{keeps_twice, front_ok, settled_twice, ahead_settled, pull_ok, pull_refused, pull_err}
+use Rattle.input_state.proofs.Files.{keeps_twice, settled_twice, ahead_settled, pull_ok, pull_refused, pull_err}
 use Rattle.input_state.proofs.state.Input.pull.Goals as goal
 
 pub returns-in-End-clause-ok : goal.returns-in-End-clause-ok
