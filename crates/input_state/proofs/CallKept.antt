@@ -1,5 +1,5 @@
 -- A macro is called: its list has a holder more, or the call is refused.
-use Rattle.std.proofs.Common.{◌≡◌, ℕ, ◌+◌, ◌<◌, ◌^◌, List, [], ◌∷◌, map, take, reverse, length, Option, None, Some, true, cond, inl, inr, refl, sym, ap, ap₂, ◌∙◌, subst, arith}
+use Rattle.std.proofs.Common.{◌≡◌, ℕ, ◌+◌, ◌<◌, ◌≤◌, ◌^◌, List, [], ◌∷◌, map, take, reverse, length, Option, None, Some, true, cond, inl, inr, refl, sym, ap, ap₂, ◌∙◌, subst, arith}
 use Rattle.std.specs.Prelude.{sum_by, nat_le}
 use Rattle.std.proofs.lemmas.Bool.{cases_eq}
 use Rattle.std.proofs.lemmas.List.Sums.{sum_by-cons}
@@ -21,13 +21,14 @@ use Rattle.meanings.specs.Map.{Map}
 use Rattle.meanings.specs.Holding as meant
 use Rattle.meanings.specs.Holding.{list_of}
 use Rattle.meanings.proofs.Listed.{within_locations}
-use Rattle.input_stack.specs.Puts.{Put, Item, Text, used_arguments, when_some}
+use Rattle.input_stack.specs.Puts.{Put, Item, Text, used_arguments, standing_arguments, when_some}
 use Rattle.input_stack.specs.Calls.{Argument, call_put, substituted, body_of}
 use Rattle.input_stack.specs.CallViews.{argument_in, arguments_in, Shares}
 use Rattle.input_stack.specs.Pushes.{pushed_holds, call_refused}
 use Rattle.input_stack.specs.Pending as stack
 use Rattle.input_stack.specs.Pending.{Pending, Below, settle, put, times, used_parameters, used_levels, parameters_full, either, room}
-use Rattle.input_stack.specs.View.{pending, held}
+use Rattle.input_stack.specs.View.{pending, held, innermost}
+use Rattle.input_stack.proofs.Settled.{arguments_are}
 use Rattle.input_stack.specs.Standing.{Stands}
 use Rattle.input_stack.specs.Lasting.{Lasts}
 use Rattle.input_stack.specs.declared.stack.InputStack.{InputStack}
@@ -37,11 +38,11 @@ use Rattle.input_stack.proofs.Kept.{holds_itself}
 use Rattle.input_state.specs.HeldLists.{HeldLists, call_refusal, level_held, line_levels}
 use Rattle.input_state.specs.Macros.{KeepsLists}
 use Rattle.input_state.specs.Calls.{called_put, called, when_called}
-use Rattle.input_state.specs.HeldViews.{Named, names_hold, calling_of, text, made_text, texts, front, fronts, plain_item, line_of, lists_of, all_builds, bodies, IsSingle, ArePlain, IsSimple, IsApart, IsDefined, IsShared, IsSound}
+use Rattle.input_state.specs.HeldViews.{Named, names_hold, calling_of, text, made_text, texts, front, fronts, plain_item, line_of, lists_of, all_builds, bodies, cells_of, IsSimple, IsApart, IsDefined, IsShared, IsSound}
 use Rattle.input_state.proofs.Counting.{times_cons, holds_other}
 use Rattle.input_state.proofs.Ranges.{hash_greatest, input_greatest, parameters_greatest}
 use Rattle.input_state.proofs.Shares.{apart_fewer, fewer_put}
-use Rattle.input_state.proofs.Levels.{flat_put, simple_put, levels_used}
+use Rattle.input_state.proofs.Levels.{flat_put, flat_is, simple_put, levels_used}
 use Rattle.input_state.proofs.CallStays.{call_stays}
 use Rattle.input_state.proofs.Sharing.{Moved, moved, text_at}
 use Rattle.input_state.proofs.ListViews.{held_lists, moved_view, macros_moved}
@@ -57,26 +58,23 @@ countable_now table s making gathered m sizes capacity sound k =
     let z = sound.sized in
     omega (arith, h.counted k, held_few s k h.stands.fits, h.apart.sole k, within_locations m.map k, z.few, z.names, z.levels, z.parameters, hash_greatest sizes z.ranges, input_greatest sizes z.ranges, parameters_greatest sizes z.ranges)
 
--- NO PARAMETERS ARE USED
+-- THE PARAMETERS THAT ARE USED FIT
 
-none_used : (p : Put) → p.arguments ≡ [] → when_some p.items (length p.arguments) ≡ 0
-none_used p is = ap (λ (cells : List (Option ℕ)). when_some p.items (length cells)) is ∙ nothing p.items
-  where
-    nothing : (xs : List Item) → when_some xs 0 ≡ 0
-    nothing [] = refl
-    nothing (x ∷ xs) = refl
+used_one : (xs : List Item) (n : ℕ) → when_some xs n ≤ n
+used_one [] n = omega arith
+used_one (x ∷ xs) n = omega arith
 
-front_parameters : (ps : List Put) → ArePlain ps → used_arguments ps ≡ 0
-front_parameters [] a = refl
-front_parameters (p ∷ ps) a = omega (arith, front_parameters ps a.1, none_used p a.0.arguments, sum_by-cons (λ (x : Put). when_some x.items (length x.arguments)) p ps)
+front_within : (ps : List Put) → used_arguments ps ≤ standing_arguments ps
+front_within [] = omega arith
+front_within (p ∷ ps) = omega (arith, front_within ps, used_one p.items (length p.arguments), sum_by-cons (λ (x : Put). when_some x.items (length x.arguments)) p ps, sum_by-cons (λ (x : Put). length x.arguments) p ps)
 
-below_parameters : (bs : List Below) → IsSingle bs → sum_by (λ (b : Below). used_arguments b.puts) bs ≡ 0
-below_parameters [] single = refl
-below_parameters (b ∷ []) single = omega (arith, ap used_arguments single)
-below_parameters (b ∷ c ∷ bs) single = absurd single
+below_within : (bs : List Below) → sum_by (λ (b : Below). used_arguments b.puts) bs ≤ sum_by (λ (b : Below). standing_arguments b.puts) bs
+below_within [] = omega arith
+below_within (b ∷ bs) = omega (arith, below_within bs, front_within b.puts, sum_by-cons (λ (x : Below). used_arguments x.puts) b bs, sum_by-cons (λ (x : Below). standing_arguments x.puts) b bs)
 
-no_parameters : (p : Pending) → IsSimple p → used_parameters p ≡ 0
-no_parameters p a = omega (arith, front_parameters p.puts a.plain, below_parameters p.sources a.single)
+pub parameters_within : (table : List (Option Entry)) (s : InputStack) → Stands table s → used_parameters (pending table s) ≤ s.parameter_size
+parameters_within table s stands =
+    omega (arith, front_within (pending table s).puts, below_within (pending table s).sources, arguments_are table (innermost s) stands.read.levels, stands.fits.counts, stands.fits.few)
 
 -- THE SHARE
 
@@ -108,7 +106,7 @@ module _ (old mid : List (Option Entry)) (s : InputStack) (making : Option Build
   items_are = ap₂ (λ (xs : List (Option Argument)) (ts : List Token). substituted xs (body_of ts)) no_arguments (shares.tokens (id_of body)) ∙ stack_texts (body_of (tokens_at old (id_of body)))
 
   parameters_fit : cond (nat_le (used_parameters (pending old s) + 0) s.parameter_size) None (Some (parameters_full (used_parameters (pending old s)) s.parameter_size)) ≡ None
-  parameters_fit = ap (λ b. cond b None (Some (parameters_full (used_parameters (pending old s)) s.parameter_size))) (le_test (used_parameters (pending old s) + 0) s.parameter_size (omega (arith, no_parameters (pending old s) sound.shared.simple)))
+  parameters_fit = ap (λ b. cond b None (Some (parameters_full (used_parameters (pending old s)) s.parameter_size))) (le_test (used_parameters (pending old s) + 0) s.parameter_size (omega (arith, parameters_within old s sound.shared.stands)))
 
   was : HeldLists
   was = lists_of old (pending old s) making gathered m sizes
@@ -174,7 +172,7 @@ module _ (old mid new : List (Option Entry)) (s t : InputStack) (making : Option
 
   simple_now : IsSimple (pending new t)
   unfolding x
-  simple_now = subst IsSimple (sym now) (simple_put true (id_of body) (body_of (tokens_at old (id_of body))) (pending old s) sound.shared.simple)
+  simple_now = subst IsSimple (sym now) (simple_put (flat_put true (id_of body) (body_of (tokens_at old (id_of body)))) (pending old s) (flat_is true (id_of body) (body_of (tokens_at old (id_of body)))) sound.shared.simple)
 
   macros_now : (h : ℕ) → 0 < meant.held m.map h → IsDefined (tokens_at new h)
   unfolding k
@@ -183,9 +181,10 @@ module _ (old mid new : List (Option Entry)) (s t : InputStack) (making : Option
       subst IsDefined (sym (lasts.tokens h there ∙ shares.tokens h)) (sound.shared.macros h more)
 
   moved_now : Moved old new t m bs
-  unfolding bs k
+  unfolding bs k x
   moved_now =
       moved old new s t m m [] (all_builds making gathered) sound.shared stands simple_now apart_now
+      (λ h some. sound.shared.listed h (omega (arith, (fewer_put (flat_put true (id_of body) (body_of (tokens_at old (id_of body)))) (pending old s).puts).cells h, subst (λ (p : Pending). 0 < times h (cells_of p.puts)) now some)))
       (λ h. omega (arith, moves h, pushed h, shares.holders h))
       (record {
         tokens = λ h l. keeps.tokens h (omega (arith, l, pushed h, shares.holders h)) ∙ shares.tokens h;

@@ -66,7 +66,7 @@ kind_some lists (means.Macro long outer (Some i)) id b is same =
 
 -- WHAT IS PUT, WITHOUT ARGUMENTS
 
-same_body : (ts : List Token) → plain.body_of ts ≡ body_of ts
+pub same_body : (ts : List Token) → plain.body_of ts ≡ body_of ts
 same_body [] = refl
 same_body (token.Char category code ∷ ts) = same_body ts
 same_body (token.Named name ∷ ts) = same_body ts

@@ -26,7 +26,7 @@ use Rattle.input_stack.proofs.Kept.{holds_itself}
 use Rattle.input_state.specs.HeldLists.{HeldLists, first_list}
 use Rattle.input_state.specs.Macros.{is_macro, KeepsLists}
 use Rattle.input_state.specs.Calls.{Defines}
-use Rattle.input_state.specs.HeldViews.{Named, named, call_holds, calling_of, IsCall, text, made_text, texts, fronts, line_of, lists_of, all_builds, built, bodies, IsSimple, IsApart, IsDefined, IsShared, IsSound}
+use Rattle.input_state.specs.HeldViews.{Named, named, call_holds, calling_of, IsCall, text, made_text, texts, fronts, line_of, lists_of, all_builds, built, bodies, cells_of, IsSimple, IsApart, IsDefined, IsShared, IsSound}
 use Rattle.input_state.specs.Callings.{NotCalling}
 use Rattle.input_state.specs.declared.gathering.Gathering as code
 use Rattle.input_state.specs.declared.gathering.Gathering.TheVariants as call
@@ -66,6 +66,7 @@ front_shared table stack xs ys b m s =
         apart = λ h more. s.apart.apart h (omega (arith, more, same h));
       };
       macros = s.macros;
+      listed = s.listed;
     }
 
 -- A NAME TAKES A LIST OVER
@@ -123,6 +124,7 @@ module _ (old new : List (Option Entry)) (s : InputStack) (m n : Named) (b : Bui
       moved old new s s m n (b ∷ []) bs shared stand.0
       (subst (λ (p : Pending). IsSimple p) (sym stand.1) shared.simple)
       (subst (λ (p : Pending). IsApart p.puts bs n) (sym stand.1) apart_now)
+      (λ h some. shared.listed h (subst (λ (p : Pending). 0 < times h (cells_of p.puts)) stand.1 some))
       (λ h. omega (arith, moves h, value_holds h, own_holds h))
       (record { tokens = λ h l. keeps.tokens h (omega (arith, l, value_holds h, own_holds h)); places = λ h l. keeps.places h (omega (arith, l, value_holds h, own_holds h)) })
       lasting.tokens macros_now same_call

@@ -1,21 +1,24 @@
 -- Where only the file is left, what it gives is what is next pending.
 use Rattle.std.proofs.Common.{◌≡◌, ℕ, ◌+◌, List, [], ◌∷◌, Result, Ok, Err, refl, sym, ap, ◌∙◌, subst, arith}
-use Rattle.std.specs.Prelude.{IfOk, IfErr, OnErr, MatchResult, None, Some}
+use Rattle.std.specs.Prelude.{IfOk, IfErr, OnErr, MatchResult, None, Some, Bool, true, false, ◌||◌}
 use Rattle.std.proofs.lemmas.List.Sums.{sum_by-cons}
 use Rattle.tex_defs.specs.declared.Token.{Token}
 use Rattle.tex_defs.specs.declared.Full.{Full}
 use Rattle.tex_defs.specs.declared.Sizes.{Sizes}
 use Rattle.tex_defs.specs.declared.Table.TheVariants.{InputStackSize}
-use Rattle.plain_state.specs.Puts.{Item, Put, settled, settled_top, passed, top_item, put_levels, levels_of}
+use Rattle.plain_state.specs.Puts.{Item, Put, settled, settled_top, passed, passed_top, without_gaps, top_item, put_levels, levels_of}
 use Rattle.plain_state.specs.Pending.{Pending, Progress, NotBegun, Begun, Closed, settle, with_puts, pulled, from_file}
 use Rattle.plain_state.specs.Pending as plain
-use Rattle.plain_state.specs.Tables.{Demand, file_levels, file_level, next_line, opened_level, buffer, refused}
+use Rattle.plain_state.specs.Tables.{is_meant, is_put, Demand, file_levels, file_level, next_line, opened_level, buffer, refused}
 use Rattle.line_lexer.specs.declared.Ahead.TheVariants as ahead
 use Rattle.input_state.specs.declared.answer.Pulled.{Pulled}
 use Rattle.input_state.specs.declared.answer.Pulled.TheVariants as answer
-use Rattle.input_state.specs.Stored.{Stored}
-use Rattle.input_state.specs.Reads.{Reads, Pulls, step_demands, pull_refusal, RefusesLine}
-use Rattle.input_state.specs.HeldLists.{ahead_of}
+use Rattle.input_state.specs.Stored.{Stored, KeepsMacros}
+use Rattle.input_state.specs.Macros.{KeepsLists}
+use Rattle.input_state.specs.Reads.{Reads, Gives, GivesTo, Pulls, step_demands, pull_refusal, RefusesLine}
+use Rattle.input_state.specs.HeldLists.{HeldLists, pending_of, line_levels, ahead_of, front_ahead}
+use Rattle.input_state.specs.FileLeft.{FileLeft}
+use Rattle.input_state.specs.InputViews.{stored_of}
 use Rattle.input_state.proofs.Readies.{used_up}
 
 top_levels : (p : Put) (xs : List Item) (below rest : List Put) → p.items ≡ xs → put_levels below ≡ put_levels rest → put_levels (settled_top p xs below rest) ≡ levels_of xs + put_levels rest
@@ -39,17 +42,37 @@ settled_demands p Closed = refl
 pub settled_line : (p : Pending) → next_line (settle p) ≡ next_line p
 settled_line p = ap (λ (ds : List Demand). buffer p.rest ∷ ds) (settled_demands p p.file)
 
-settled_twice : (p : Pending) → settled p.puts ≡ [] → settle (settle p) ≡ settle p
-settled_twice p none = ap (λ (ps : List Put). with_puts (settled ps) p) none ∙ ap (λ (ps : List Put). with_puts ps p) (sym none)
+top_twice : (p : Put) (xs : List Item) (below rest : List Put) → p.items ≡ xs → settled below ≡ below → settled (settled_top p xs below rest) ≡ settled_top p xs below rest
+top_twice p [] below rest is same = same
+top_twice p (x ∷ xs) below rest is same = ap (λ (ys : List Item). settled_top p ys (settled rest) rest) is
+
+puts_twice : (ps : List Put) → settled (settled ps) ≡ settled ps
+puts_twice [] = refl
+puts_twice (p ∷ ps) = top_twice p p.items (settled ps) ps refl (puts_twice ps)
+
+pub settled_twice : (p : Pending) → settle (settle p) ≡ settle p
+settled_twice p = ap (λ (ps : List Put). with_puts ps p) (puts_twice p.puts)
+
+top_passed : (p : Put) (xs : List Item) (below rest : List Put) → p.items ≡ xs → passed below ≡ passed rest → passed (settled_top p xs below rest) ≡ passed_top p (without_gaps xs) (passed rest) rest
+top_passed p [] below rest is same = same
+top_passed p (x ∷ xs) below rest is same = ap (λ (ys : List Item). passed_top p (without_gaps ys) (passed rest) rest) is
+
+-- the finished lists are passed over
+pub passed_settled : (ps : List Put) → passed (settled ps) ≡ passed ps
+passed_settled [] = refl
+passed_settled (p ∷ ps) = top_passed p p.items (settled ps) ps refl (passed_settled ps)
+
+pub ahead_settled : (c : List ℕ) (p : Pending) → ahead_of c (settle p) ≡ ahead_of c p
+ahead_settled c p = ap (front_ahead c p) (passed_settled p.puts)
 
 -- the answer on what is settled is that on all
-settled_reads : (q : plain.Pulled) (x : Pulled) (sizes : Sizes) (p new : Pending) (bytes : List ℕ) → settled p.puts ≡ [] → passed p.puts ≡ [] → Reads q x sizes (settle p) new bytes → Reads q x sizes p new bytes
-settled_reads q (answer.Token t) sizes p new bytes none past h = (h.0, ap (λ (ps : List Put). refused sizes (opened_level (top_item ps) p)) past)
-settled_reads q (answer.Lexeme l) sizes p new bytes none past h = h
-settled_reads q answer.Taken sizes p new bytes none past h = (h.0, sym (ap (refused sizes) (settled_line p)) ∙ h.1)
-settled_reads q answer.Invalid sizes p new bytes none past h = h
-settled_reads q answer.FileOver sizes p new bytes none past h = h
-settled_reads q answer.Nothing sizes p new bytes none past h = (h.0, h.1 ∙ settled_twice p none)
+settled_reads : (q : plain.Pulled) (x : Pulled) (sizes : Sizes) (p new : Pending) (bytes : List ℕ) → passed p.puts ≡ [] → Reads q x sizes (settle p) new bytes → Reads q x sizes p new bytes
+settled_reads q (answer.Token t) sizes p new bytes past h = (h.0, ap (λ (ps : List Put). refused sizes (opened_level (top_item ps) p)) past)
+settled_reads q (answer.Lexeme l) sizes p new bytes past h = h
+settled_reads q answer.Taken sizes p new bytes past h = (h.0, sym (ap (refused sizes) (settled_line p)) ∙ h.1)
+settled_reads q answer.Invalid sizes p new bytes past h = h
+settled_reads q answer.FileOver sizes p new bytes past h = h
+settled_reads q answer.Nothing sizes p new bytes past h = (h.0, h.1 ∙ settled_twice p)
 
 -- what was read had room
 fits_reads : (q : plain.Pulled) (x : Pulled) (sizes : Sizes) (p new : Pending) (bytes : List ℕ) → Reads q x sizes p new bytes → refused sizes (step_demands q p) ≡ None
@@ -66,11 +89,11 @@ fits_pulled c old new x h = fits_reads (pulled c old.pending) x old.sizes old.pe
 abbrev settled_store : List (List Token) → Stored → Stored
 settled_store lists s = record s { pending = settle s.pending; lists = lists }
 
-module _ (c : List ℕ) (ls : List (List Token)) (old new : Stored) (used : ahead_of c old.pending ≡ ahead.End) (finished : settled old.pending.puts ≡ []) where
+module _ (c : List ℕ) (ls : List (List Token)) (old new : Stored) (used : ahead_of c old.pending ≡ ahead.End) where
   pulls_now : (x : Pulled) → Pulls (from_file old.pending.file old.pending.number old.pending.rest) x (settled_store ls old) new → Pulls (pulled c old.pending) x old new
   pulls_now x h =
       let k = used_up c old.pending used in
-      subst (λ (q : plain.Pulled). Reads q x old.sizes old.pending new.pending new.buffer) (sym k.1) (settled_reads _ x old.sizes old.pending new.pending new.buffer finished k.0 h)
+      subst (λ (q : plain.Pulled). Reads q x old.sizes old.pending new.pending new.buffer) (sym k.1) (settled_reads _ x old.sizes old.pending new.pending new.buffer k.0 h)
 
   refuses_now : (full : Full) → RefusesLine full (settled_store ls old) new → pull_refusal c old ≡ Some full
   refuses_now full h =
@@ -89,7 +112,7 @@ module _ (c : List ℕ) (ls : List (List Token)) (old new : Stored) (used : ahea
 
   by_err : (r : Result Pulled Full) → IfErr r (λ full. RefusesLine full (settled_store ls old) new) → OnErr r (new.pending ≡ settle old.pending)
   by_err (Ok x) h = tt
-  by_err (Err f) h = h.stays ∙ settled_twice old.pending finished
+  by_err (Err f) h = h.stays ∙ settled_twice old.pending
 
   module _ (mid : Stored) (r : Result Pulled Full) (is : mid ≡ settled_store ls old) where
     pub pull_ok : IfOk r (λ x. Pulls (from_file mid.pending.file mid.pending.number mid.pending.rest) x mid new) → IfOk r (λ x. Pulls (pulled c old.pending) x old new)
@@ -100,3 +123,34 @@ module _ (c : List ℕ) (ls : List (List Token)) (old new : Stored) (used : ahea
 
     pub pull_err : IfErr r (λ full. RefusesLine full mid new) → OnErr r (new.pending ≡ settle old.pending)
     pull_err h = by_err r (subst (λ (m : Stored). IfErr r (λ full. RefusesLine full m new)) is h)
+
+-- what the levels refuse is refused of all that is pending
+pub front_refused : (c : List ℕ) (h : HeldLists) (b : List ℕ) (file : FileLeft) (old : Stored) → stored_of h b file ≡ old → line_levels h.line ≡ file_levels file.file → (r : Result Pulled Full) →
+    ((rest : List ℕ) (f : Progress) (number : ℕ) → line_levels h.line ≡ file_levels f → MatchResult r (λ _. refused h.sizes (step_demands (pulled c (pending_of h b rest f number)) (pending_of h b rest f number)) ≡ None) (λ full. refused h.sizes (step_demands (pulled c (pending_of h b rest f number)) (pending_of h b rest f number)) ≡ Some full)) →
+    MatchResult r (λ _. pull_refusal c old ≡ None) (λ full. pull_refusal c old ≡ Some full)
+front_refused c h b file old is tied r why = subst (λ (v : Stored). MatchResult r (λ _. pull_refusal c v ≡ None) (λ full. pull_refusal c v ≡ Some full)) is (why file.rest file.file file.number tied)
+
+-- what is given and has room is read
+reads_of : (q : plain.Pulled) (x : Pulled) (sizes : Sizes) (p new : Pending) (bytes : List ℕ) → Gives q x p new bytes → refused sizes (step_demands q p) ≡ None → Reads q x sizes p new bytes
+reads_of q (answer.Token t) sizes p new bytes h room = (h, sym (ap (λ (o : plain.Pulled). refused sizes (step_demands o p)) h) ∙ room)
+reads_of q (answer.Lexeme l) sizes p new bytes h room = h
+reads_of q answer.Taken sizes p new bytes h room = (h, sym (ap (λ (o : plain.Pulled). refused sizes (step_demands o p)) h) ∙ room)
+reads_of q answer.Invalid sizes p new bytes h room = h
+reads_of q answer.FileOver sizes p new bytes h room = h
+reads_of q answer.Nothing sizes p new bytes h room = h
+
+pub front_ok : (c : List ℕ) (old new : Stored) (r : Result Pulled Full) → GivesTo (pulled c old.pending) r old.pending new.pending new.buffer → MatchResult r (λ _. pull_refusal c old ≡ None) (λ full. pull_refusal c old ≡ Some full) → IfOk r (λ x. Pulls (pulled c old.pending) x old new)
+front_ok c old new (Ok x) gives room = reads_of (pulled c old.pending) x old.sizes old.pending new.pending new.buffer gives room
+front_ok c old new (Err f) gives room = tt
+
+-- what keeps the lists of macros twice keeps them
+pub keeps_twice : (old mid new : Stored) → KeepsMacros old mid → KeepsMacros mid new → new.meanings ≡ mid.meanings → ((id : ℕ) → is_put id new.pending.puts ≡ true → is_put id mid.pending.puts ≡ true) → KeepsLists new.meanings new.pending.puts old.lists new.lists
+keeps_twice old mid new first second meanings fewer = record {
+  tokens = λ id is. second.tokens id is ∙ first.tokens id (either (is_meant id new.meanings) (is_meant id mid.meanings) (is_put id new.pending.puts) (is_put id mid.pending.puts) (ap (is_meant id) meanings) (fewer id) is);
+}
+  where
+    either : (a b c d : Bool) → a ≡ b → (c ≡ true → d ≡ true) → (a || c) ≡ true → (b || d) ≡ true
+    either true true c d same less is = refl
+    either true false c d same less is = cc
+    either false true c d same less is = refl
+    either false false c d same less is = less is

@@ -1,114 +1,129 @@
 -- Levels as lists in front.
-use Rattle.std.proofs.Common.{◌≡◌, ℕ, ◌+◌, ◌<◌, ◌≤◌, List, [], ◌∷◌, ◌++◌, map, length, Option, None, Some, refl, sym, ap, ap₂, ◌∙◌, subst, arith}
+use Rattle.std.proofs.Common.{◌≡◌, ℕ, ◌+◌, ◌<◌, ◌≤◌, List, [], ◌∷◌, ◌++◌, map, length, Option, None, Some, inl, inr, refl, sym, ap, ap₂, ◌∙◌, subst, arith}
 use Rattle.std.specs.Prelude.{sum_by, Bool, true, false}
-use Rattle.std.proofs.lemmas.Option.{none-some, same_Some}
+use Rattle.std.proofs.lemmas.Bool.{cases_eq, cases_lt}
 use Rattle.std.proofs.lemmas.List.Sums.{sum_by-cons, sum_by-append}
 use Rattle.tex_defs.specs.declared.Token.{Token}
 use Rattle.plain_state.specs.Puts as plain
-use Rattle.plain_state.specs.Tables.{put_words, whole_words, argument_words}
+use Rattle.token_lists.specs.Accounts.{holds}
+use Rattle.plain_state.specs.Readings.{list_of_tokens}
+use Rattle.plain_state.specs.Tables.{put_words, whole_words, argument_words, list_words, lists_words}
 use Rattle.token_lists.specs.Table.{Entry, tokens_at}
-use Rattle.input_stack.specs.Puts.{Put, Item, Text, later_of, numbers, used, settled, settled_top, put_in_front, first, flat, without_gaps, next_item}
+use Rattle.input_stack.specs.Puts.{Put, Item, Text, First, Later, Gap, argument_of, later_of, numbers, used, settled, settled_top, put_top, without_gaps, pulled, pulled_top}
 use Rattle.input_stack.specs.Pending.{Pending, Below, settle, put, used_levels, times}
-use Rattle.input_stack.specs.Pulls.{token_in}
 use Rattle.input_stack.proofs.Kept.{holds_itself}
 use Rattle.input_state.specs.HeldLists.{line_levels}
-use Rattle.input_state.specs.HeldViews.{plain_item, whole_of, argument_text, front, fronts, own_of, owns, opens, line_of, IsSingle, IsPlain, ArePlain, IsSimple}
-use Rattle.input_state.proofs.Counting.{words_at, times_cons, times_append}
+use Rattle.input_state.specs.HeldViews.{plain_item, whole_of, argument_text, front, fronts, own_of, owns, opens, cells_of, line_of, IsSingle, IsOf, AreOf, IsFront, AreFronts, IsSimple}
+use Rattle.input_state.proofs.Counting.{words_at, times_cons, times_append, holds_other}
 use Rattle.input_state.proofs.Fronts.{front_levels}
-
--- LISTS WITHOUT ARGUMENTS
-
-texts_back : (ts : List Token) → map token_in (map Text ts) ≡ ts
-texts_back [] = refl
-texts_back (t ∷ ts) = ap (λ (us : List Token). t ∷ us) (texts_back ts)
-
-back_texts : (ts : List Token) → map Text ts ≡ map Text (map token_in (map Text ts))
-back_texts ts = ap (map Text) (sym (texts_back ts))
 
 -- these tokens of a list, a macro's or its own
 abbrev pub flat_put : Bool → ℕ → List Token → Put
 flat_put body n ts = record { list = n; body = body; arguments = []; reading = None; items = map Text ts }
 
-pub plain_is : (body : Bool) (n : ℕ) (ts : List Token) → IsPlain (flat_put body n ts)
-plain_is body n ts = record { arguments = refl; reading = refl; texts = back_texts ts }
+-- THE ARGUMENTS THAT ARE READ
 
--- a plain list is one of its tokens
-pub is_plain_put : (p : Put) → IsPlain p → p ≡ flat_put p.body p.list (map token_in p.items)
-is_plain_put p a =
-    ap₂ (λ (ns : List (Option ℕ)) (o : Option ℕ). record { list = p.list; body = p.body; arguments = ns; reading = o; items = p.items }) a.arguments a.reading
-    ∙ ap (λ (xs : List Item). record { list = p.list; body = p.body; arguments = []; reading = None; items = xs }) a.texts
+pub texts_of : (cells : List (Option ℕ)) (ts : List Token) → AreOf cells (map Text ts)
+texts_of cells [] = tt
+texts_of cells (t ∷ ts) = (tt, texts_of cells ts)
 
-text_later : (ts : List Token) (x : Item) (xs : List Item) → x ∷ xs ≡ map Text ts → later_of x ≡ None
-text_later [] x xs is = absurd (omega (arith, ap length is))
-text_later (t ∷ ts) x xs is =
-    let e : x ≡ Text t = cc in
-    ap later_of e
+pub flat_is : (body : Bool) (n : ℕ) (ts : List Token) → IsFront (flat_put body n ts)
+flat_is body n ts = record { reading = tt; items = texts_of [] ts }
 
-plain_top : (p : Put) (xs : List Item) (below rest : List Put) → p.items ≡ xs → IsPlain p → ArePlain below → ArePlain rest → ArePlain (settled_top p xs below rest)
-plain_top p [] below rest at a b c = b
-plain_top p (x ∷ xs) below rest at a b c = (
-  record {
-    arguments = a.arguments;
-    reading = text_later (map token_in p.items) x xs (sym at ∙ a.texts);
-    texts = sym at ∙ a.texts ∙ ap (λ (ys : List Item). map Text (map token_in ys)) at;
-  },
-  c,
-)
+later_is : (cells : List (Option ℕ)) (x : Item) → IsOf cells (argument_of x) → IsOf cells (later_of x)
+later_is cells (Text t) is = tt
+later_is cells (First n t) is = tt
+later_is cells (Later n t) is = is
+later_is cells Gap is = tt
 
-pub plain_settled : (ps : List Put) → ArePlain ps → ArePlain (settled ps)
-plain_settled [] a = tt
-plain_settled (p ∷ ps) a = plain_top p p.items (settled ps) ps refl a.0 (plain_settled ps a.1) a.1
+settled_is : (p : Put) (xs : List Item) (below rest : List Put) → AreOf p.arguments xs → AreFronts below → AreFronts rest → AreFronts (settled_top p xs below rest)
+settled_is p [] below rest a b c = b
+settled_is p (x ∷ xs) below rest a b c = (record { reading = later_is p.arguments x a.0; items = a }, c)
+
+pub fronts_settle : (ps : List Put) → AreFronts ps → AreFronts (settled ps)
+fronts_settle [] a = tt
+fronts_settle (p ∷ ps) a = settled_is p p.items (settled ps) ps a.0.items (fronts_settle ps a.1) a.1
 
 pub simple_settled : (p : Pending) → IsSimple p → IsSimple (settle p)
-simple_settled p a = record { single = a.single; plain = plain_settled p.puts a.plain }
+simple_settled p a = record { single = a.single; fronts = fronts_settle p.puts a.fronts }
 
-plain_front : (body : Bool) (n : ℕ) (ts : List Token) (ps : List Put) → ArePlain ps → ArePlain (put_in_front (flat_put body n ts) ps)
-plain_front body n [] ps a = a
-plain_front body n (t ∷ ts) ps a = (plain_is body n (t ∷ ts), plain_settled ps a)
+put_is : (p : Put) (xs : List Item) (ps : List Put) → IsFront p → AreFronts ps → AreFronts (put_top p xs ps)
+put_is p [] ps a b = b
+put_is p (x ∷ xs) ps a b = (a, fronts_settle ps b)
 
-pub simple_put : (body : Bool) (n : ℕ) (ts : List Token) (p : Pending) → IsSimple p → IsSimple (put (flat_put body n ts) p)
-simple_put body n ts p a = record { single = a.single; plain = plain_front body n ts p.puts a.plain }
+pub simple_put : (p : Put) (q : Pending) → IsFront p → IsSimple q → IsSimple (put p q)
+simple_put p q a b = record { single = b.single; fronts = put_is p p.items q.puts a b.fronts }
 
--- the next item of plain lists is a token of the text
+without_is : (cells : List (Option ℕ)) (xs : List Item) → AreOf cells xs → AreOf cells (without_gaps xs)
+without_is cells [] a = tt
+without_is cells (Text t ∷ xs) a = a
+without_is cells (First n t ∷ xs) a = a
+without_is cells (Later n t ∷ xs) a = a
+without_is cells (Gap ∷ xs) a = without_is cells xs a.1
 
-text_next : (ts : List Token) (ps : List Put) (x : Item) → (next_item ps ≡ Some x → x ≡ Text (token_in x)) → first (without_gaps (map Text ts ++ flat ps)) ≡ Some x → x ≡ Text (token_in x)
-text_next [] ps x more is = more is
-text_next (t ∷ ts) ps x more is = subst (λ (y : Item). y ≡ Text (token_in y)) (same_Some (Text t) x is) refl
+pulled_is : (p : Put) (xs : List Item) (below rest : List Put) → AreOf p.arguments xs → AreFronts below → AreFronts rest → AreFronts (pulled_top p xs below rest)
+pulled_is p [] below rest a b c = b
+pulled_is p (x ∷ xs) below rest a b c = (record { reading = a.0; items = a.1 }, c)
 
-pub next_text : (ps : List Put) → ArePlain ps → (x : Item) → next_item ps ≡ Some x → x ≡ Text (token_in x)
-next_text [] a x is = absurd (none-some x is)
-next_text (p ∷ ps) a x is = text_next (map token_in p.items) ps x (next_text ps a.1 x) (ap (λ (xs : List Item). first (without_gaps (xs ++ flat ps))) (sym a.0.texts) ∙ is)
+pub fronts_pull : (ps : List Put) → AreFronts ps → AreFronts (pulled ps)
+fronts_pull [] a = tt
+fronts_pull (p ∷ ps) a = pulled_is p (without_gaps p.items) (pulled ps) ps (without_is p.arguments p.items a.0.items) (fronts_pull ps a.1) a.1
 
--- where no item is next, all of them are finished
+-- an open argument is one of a call in front
 
-text_finished : (p : Put) (ts : List Token) (ps : List Put) → (next_item ps ≡ None → settled ps ≡ []) → first (without_gaps (map Text ts ++ flat ps)) ≡ None → settled_top p (map Text ts) (settled ps) ps ≡ []
-text_finished p [] ps more is = more is
-text_finished p (t ∷ ts) ps more is = absurd (none-some (Text t) (sym is))
+same_held : (n h : ℕ) → 0 < holds n h → n ≡ h
+same_held n h some = elim (cases_eq n h) [ inl is ↦ is | inr other ↦ absurd (omega (arith, some, holds_other n h other)) ]
 
-pub none_finished : (ps : List Put) → ArePlain ps → next_item ps ≡ None → settled ps ≡ []
-none_finished [] a is = refl
-none_finished (p ∷ ps) a is =
-    ap (λ (xs : List Item). settled_top p xs (settled ps) ps) a.0.texts
-    ∙ text_finished p (map token_in p.items) ps (none_finished ps a.1) (ap (λ (xs : List Item). first (without_gaps (xs ++ flat ps))) (sym a.0.texts) ∙ is)
+own_cells : (h : ℕ) (b : Bool) (n : ℕ) (ns : List ℕ) → times h ns ≤ times h (own_of b n ns)
+own_cells h true n ns = omega arith
+own_cells h false n ns = omega (arith, times_cons h n ns)
 
--- no argument's level is open
+open_own : (cells : List (Option ℕ)) (o : Option ℕ) (h : ℕ) → IsOf cells o → 0 < times h (numbers (o ∷ [])) → 0 < times h (numbers cells)
+open_own cells None h is some = absurd (omega (arith, some))
+open_own cells (Some n) h is some = subst (λ (k : ℕ). 0 < times k (numbers cells)) (same_held n h (omega (arith, some, times_cons h n []))) is
 
-pub plain_opens : (ps : List Put) → ArePlain ps → (h : ℕ) → times h (opens ps) ≡ 0
-plain_opens [] a h = refl
-plain_opens (p ∷ ps) a h = omega (arith, plain_opens ps a.1 h, times_append h (numbers (p.reading ∷ [])) (opens ps), ap (λ (o : Option ℕ). times h (numbers (o ∷ []))) a.0.reading)
+pub opens_own : (ps : List Put) → AreFronts ps → (h : ℕ) → 0 < times h (opens ps) → 0 < times h (owns ps)
+opens_own [] a h some = some
+opens_own (p ∷ ps) a h some = elim (cases_lt 0 (times h (numbers (p.reading ∷ [])))) [
+  | inl here ↦ omega (arith, open_own p.arguments p.reading h a.0.reading here, own_cells h p.body p.list (numbers p.arguments), times_append h (own_of p.body p.list (numbers p.arguments)) (owns ps))
+  | inr none ↦ omega (arith, opens_own ps a.1 h (omega (arith, some, none, times_append h (numbers (p.reading ∷ [])) (opens ps))), times_append h (own_of p.body p.list (numbers p.arguments)) (owns ps))
+]
+
+pub no_opens : (ps : List Put) → AreFronts ps → (h : ℕ) → times h (owns ps) ≡ 0 → times h (opens ps) ≡ 0
+no_opens ps a h none = elim (cases_lt 0 (times h (opens ps))) [
+  | inl some ↦ absurd (omega (arith, opens_own ps a h some, none))
+  | inr free ↦ omega (arith, free)
+]
+
+pub cells_owned : (ps : List Put) (h : ℕ) → times h (cells_of ps) ≤ times h (owns ps)
+cells_owned [] h = omega arith
+cells_owned (p ∷ ps) h =
+    omega (arith, cells_owned ps h, own_cells h p.body p.list (numbers p.arguments), times_append h (numbers p.arguments) (cells_of ps), times_append h (own_of p.body p.list (numbers p.arguments)) (owns ps))
 
 -- WORDS
 
-own_words : (table : List (Option Entry)) (b : Bool) (n : ℕ) → sum_by (words_at table) (own_of b n []) ≡ whole_words (whole_of b n (tokens_at table n))
-own_words table true n = refl
-own_words table false n = omega (arith, sum_by-cons (words_at table) n [])
+some_tokens : (ts : List Token) → 0 < length ts → lists_words (list_of_tokens ts) ≡ list_words ts
+some_tokens [] some = absurd (omega (arith, some))
+some_tokens (t ∷ ts) some = omega (arith, sum_by-cons list_words (t ∷ ts) [])
 
-pub front_words : (table : List (Option Entry)) (ps : List Put) → ArePlain ps → sum_by (words_at table) (owns ps) ≡ put_words (fronts table ps)
-front_words table [] a = refl
-front_words table (p ∷ ps) a =
-    let own = ap (λ (cells : List (Option ℕ)). sum_by (words_at table) (own_of p.body p.list (numbers cells))) a.0.arguments in
-    let no_arguments = ap (λ (cells : List (Option ℕ)). argument_words (map (argument_text table) cells)) a.0.arguments in
-    omega (arith, front_words table ps a.1, own, no_arguments, own_words table p.body p.list, sum_by-append (words_at table) (own_of p.body p.list (numbers p.arguments)) (owns ps), sum_by-cons (λ (x : plain.Put). whole_words x.list + argument_words x.arguments) (front table p) (fronts table ps))
+cell_words : (table : List (Option Entry)) (cells : List (Option ℕ)) → ((h : ℕ) → 0 < times h (numbers cells) → 0 < length (tokens_at table h)) → sum_by (words_at table) (numbers cells) ≡ argument_words (map (argument_text table) cells)
+cell_words table [] listed = refl
+cell_words table (None ∷ cells) listed = omega (arith, cell_words table cells listed, sum_by-cons (λ (a : List Token). lists_words (list_of_tokens a)) [] (map (argument_text table) cells))
+cell_words table (Some n ∷ cells) listed =
+    let more = cell_words table cells (λ h some. listed h (omega (arith, some, times_cons h n (numbers cells)))) in
+    let here = some_tokens (tokens_at table n) (listed n (omega (arith, times_cons n n (numbers cells), holds_itself n))) in
+    omega (arith, more, here, sum_by-cons (words_at table) n (numbers cells), sum_by-cons (λ (a : List Token). lists_words (list_of_tokens a)) (tokens_at table n) (map (argument_text table) cells))
+
+own_words : (table : List (Option Entry)) (b : Bool) (n : ℕ) (ns : List ℕ) → sum_by (words_at table) (own_of b n ns) ≡ whole_words (whole_of b n (tokens_at table n)) + sum_by (words_at table) ns
+own_words table true n ns = omega arith
+own_words table false n ns = sum_by-cons (words_at table) n ns
+
+pub front_words : (table : List (Option Entry)) (ps : List Put) → ((h : ℕ) → 0 < times h (cells_of ps) → 0 < length (tokens_at table h)) → sum_by (words_at table) (owns ps) ≡ put_words (fronts table ps)
+front_words table [] listed = refl
+front_words table (p ∷ ps) listed =
+    let here = cell_words table p.arguments (λ h some. listed h (omega (arith, some, times_append h (numbers p.arguments) (cells_of ps)))) in
+    let more = front_words table ps (λ h some. listed h (omega (arith, some, times_append h (numbers p.arguments) (cells_of ps)))) in
+    omega (arith, here, more, own_words table p.body p.list (numbers p.arguments), sum_by-append (words_at table) (own_of p.body p.list (numbers p.arguments)) (owns ps), sum_by-cons (λ (x : plain.Put). whole_words x.list + argument_words x.arguments) (front table p) (fronts table ps))
 
 -- LEVELS
 

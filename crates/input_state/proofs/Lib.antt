@@ -18,6 +18,8 @@ pub mod Putting
 pub mod Opening
 pub mod Calling
 pub mod CallKept
+pub mod PutItems
+pub mod PutKept
 pub mod Defining
 pub mod Pulling
 pub mod PullKept

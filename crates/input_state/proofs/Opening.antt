@@ -7,7 +7,7 @@ use Rattle.tex_defs.specs.declared.Sizes.{Sizes}
 use Rattle.plain_state.specs.Puts as plain
 use Rattle.token_lists.specs.declared.Build.{Build}
 use Rattle.token_lists.specs.Table.{Entry}
-use Rattle.token_lists.specs.Accounts.{Moves, Keeps}
+use Rattle.token_lists.specs.Accounts.{Moves, Keeps, none}
 use Rattle.line_lexer.specs.declared.Line.{Line}
 use Rattle.world_io.specs.declared.traits.InId.{InId}
 use Rattle.meanings.specs.Map.{Map}
@@ -19,12 +19,12 @@ use Rattle.input_stack.specs.Lasting.{Lasts}
 use Rattle.input_stack.specs.declared.stack.InputStack.{InputStack}
 use Rattle.input_state.specs.HeldLists.{HeldLists}
 use Rattle.input_state.specs.Macros.{KeepsLists}
-use Rattle.input_state.specs.HeldViews.{Named, fronts, line_of, texts, lists_of, all_builds, IsSimple, IsApart, IsSound}
-use Rattle.input_state.proofs.Shares.{Fewer, apart_fewer, fewer_none, fewer_settled}
+use Rattle.input_state.specs.HeldViews.{Named, fronts, line_of, texts, lists_of, all_builds, IsSimple, IsSound}
+use Rattle.input_state.proofs.Shares.{Fewer, fewer_none, fewer_settled}
 use Rattle.input_state.proofs.Levels.{simple_settled}
 use Rattle.input_state.proofs.Sharing.{Moved}
 use Rattle.input_state.proofs.ListViews.{moved_view, macros_moved}
-use Rattle.input_state.proofs.Sounds.{levels_moved, levels_sound}
+use Rattle.input_state.proofs.Sounds.{levels_moved, levels_sound, lasts_none}
 
 no_puts : (table : List (Option Entry)) (ps : List Put) → fronts table ps ≡ [] → ps ≡ []
 no_puts table [] e = refl
@@ -55,7 +55,7 @@ module _ (old new : List (Option Entry)) (s t : InputStack) (making : Option Bui
 
   opened_simple : IsSimple opened
   unfolding opened
-  opened_simple = record { single = refl; plain = tt }
+  opened_simple = record { single = refl; fronts = tt }
 
   after_simple : (r : Result Unit Full) → OnOk r (pending new t ≡ open_over id line (settle (pending old s))) → OnErr r (pending new t ≡ settle (pending old s)) → IsSimple (pending new t)
   after_simple (Ok u) ok err = subst IsSimple (sym (ok ∙ opened_now)) opened_simple
@@ -70,14 +70,11 @@ module _ (old new : List (Option Entry)) (s t : InputStack) (making : Option Bui
   after_fewer (Err f) ok err = subst (λ (p : Pending). Fewer p.puts (pending old s).puts) (sym err) (fewer_settled (pending old s).puts)
 
   module _ (r : Result Unit Full) (ok : OnOk r (pending new t ≡ open_over id line (settle (pending old s)))) (err : OnErr r (pending new t ≡ settle (pending old s))) where
-    apart_now : IsApart (pending new t).puts (all_builds making gathered) m
-    apart_now = apart_fewer (pending new t).puts (pending old s).puts (all_builds making gathered) m (after_fewer r ok err) sound.shared.apart
-
     moved_now : Moved old new t m (all_builds making gathered)
-    moved_now = levels_moved old new s t making gathered m sizes capacity sound stands moves keeps lasts size parameters (after_simple r ok err) apart_now
+    moved_now = levels_moved old new s t making gathered m sizes capacity none sound stands moves keeps (lasts_none old new lasts) size parameters (after_simple r ok err) (after_fewer r ok err)
 
     pub open_sound : IsSound new t making gathered m sizes capacity
-    open_sound = levels_sound old new s t making gathered m sizes capacity sound stands moves keeps lasts size parameters (after_simple r ok err) apart_now
+    open_sound = levels_sound old new s t making gathered m sizes capacity none sound stands moves keeps (lasts_none old new lasts) size parameters (after_simple r ok err) (after_fewer r ok err)
 
     pub open_macros : KeepsLists m.map.cells (fronts new (pending new t).puts) v.lists (texts new)
     open_macros = macros_moved old new t m sizes (all_builds making gathered) v.lists moved_now (ap (λ (w : HeldLists). w.lists) is)

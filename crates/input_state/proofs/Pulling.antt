@@ -1,5 +1,6 @@
 -- What the levels give is what is next pending.
-use Rattle.std.proofs.Common.{◌≡◌, ◌≢◌, ℕ, ◌≤◌, List, [], ◌∷◌, map, length, Option, None, Some, Result, Ok, Err, refl, sym, ap, ap₂, ◌∙◌, subst, arith}
+use Rattle.std.proofs.Common.{◌≡◌, ◌≢◌, ℕ, ◌+◌, ◌<◌, ◌≤◌, ◌^◌, List, [], ◌∷◌, map, length, Option, None, Some, Result, Ok, Err, refl, sym, ap, ap₂, ◌∙◌, subst, arith}
+use Rattle.std.specs.Prelude.{OnErr, MatchResult}
 use Rattle.tex_defs.specs.declared.Token.{Token}
 use Rattle.tex_defs.specs.declared.Full.{Full}
 use Rattle.tex_defs.specs.declared.Sizes.{Sizes}
@@ -7,15 +8,16 @@ use Rattle.plain_state.specs.Lex as lex
 use Rattle.plain_state.specs.Lex.{lexed}
 use Rattle.plain_state.specs.Puts as lists
 use Rattle.plain_state.specs.Pending as plain
-use Rattle.plain_state.specs.Tables.{refused, opened_level}
+use Rattle.plain_state.specs.Tables.{refused, opened_level, file_levels}
 use Rattle.line_lexer.specs.declared.Line.{Line}
 use Rattle.line_lexer.specs.declared.Lexed.{Lexed}
 use Rattle.line_lexer.specs.declared.Lexed.TheVariants as lexed_as
 use Rattle.line_lexer.specs.declared.Ahead.TheVariants as ahead
 use Rattle.line_lexer.specs.Answers.{state_of, rest_of, span, given, looks_of, Takes}
-use Rattle.token_lists.specs.Table.{Entry}
-use Rattle.input_stack.specs.Puts.{Put, Item, next_item, pulled}
-use Rattle.input_stack.specs.Pending.{Pending, Below, with_puts}
+use Rattle.token_lists.specs.Table.{Entry, holders_at}
+use Rattle.input_stack.specs.CallViews.{IsCountable}
+use Rattle.input_stack.specs.Puts.{Put, Item, Text, First, Later, Gap, next_item, pulled}
+use Rattle.input_stack.specs.Pending.{Pending, Below, settle, used_levels, with_puts}
 use Rattle.input_stack.specs.Pulls.{Pulls, PullsItem, PullsFrom, HandsOn, refused_at, LineGives, answer_of, looks, item_looks, line_looks, token_in}
 use Rattle.input_stack.specs.View.{pending_in}
 use Rattle.world_io.specs.declared.traits.InId.{InId}
@@ -25,43 +27,16 @@ use Rattle.input_stack.specs.declared.level.Pulled.{Pulled as Given}
 use Rattle.input_stack.specs.declared.level.Pulled.TheVariants as given_as
 use Rattle.input_stack.specs.Rest.{number}
 use Rattle.input_state.specs.HeldLists.{HeldLists, pending_of, ahead_of, front_ahead, line_rest, line_state, line_levels, IsLineIn}
-use Rattle.input_stack.specs.CallViews.{opened, IsCountable}
-use Rattle.input_stack.specs.Lasting.{Lasts, LastsBut}
-use Rattle.input_state.specs.HeldViews.{plain_item, fronts, line_of, IsSingle, ArePlain, IsSimple}
-use Rattle.input_state.proofs.Fronts.{token_is, next_is, next_some, next_none, fronts_settled}
-use Rattle.input_state.proofs.Levels.{flat_put, is_plain_put, plain_is, plain_settled, next_text, none_finished}
+use Rattle.input_state.specs.HeldViews.{plain_item, fronts, line_of, IsSingle, AreFronts, IsSimple}
+use Rattle.input_state.proofs.Fronts.{token_is, next_is, next_some, next_none}
+use Rattle.input_state.proofs.Levels.{levels_used, fronts_settle, fronts_pull}
+use Rattle.input_state.proofs.Refusing.{levels_refused}
 use Rattle.input_state.proofs.Shares.{Fewer, fewer_none, fewer_settled, fewer_pulled}
-use Rattle.input_state.specs.Reads.{Reads}
+use Rattle.input_state.specs.Reads.{Gives, GivesTo, step_demands}
 use Rattle.input_state.specs.Given.{GivesMore}
 use Rattle.input_state.specs.Given as answers
 use Rattle.input_state.specs.declared.answer.Pulled as answered
 use Rattle.input_state.specs.declared.answer.Pulled.TheVariants as answer
-
--- THE LISTS IN FRONT
-
--- no argument's first token is next
-none_opens : (ps : List Put) → ArePlain ps → (o : Option Item) → next_item ps ≡ o → (h : ℕ) → opened o h ≡ 0
-none_opens ps a None is h = refl
-none_opens ps a (Some x) is h = ap (λ (y : Item). opened (Some y) h) (next_text ps a x is)
-
-pub plain_countable : (table : List (Option Entry)) (ps : List Put) → ArePlain ps → (o : Option Item) → next_item ps ≡ o → IsCountable table o
-plain_countable table ps a None is = tt
-plain_countable table ps a (Some x) is = subst (λ (y : Item). IsCountable table (Some y)) (sym (next_text ps a x is)) tt
-
-pub plain_lasts : (old new : List (Option Entry)) (ps : List Put) → ArePlain ps → LastsBut old new (opened (next_item ps)) → Lasts old new
-plain_lasts old new ps a l = record { size = l.size; fewer = λ h. omega (arith, l.fewer h, none_opens ps a (next_item ps) refl h); tokens = l.tokens }
-
--- what is left of plain lists is plain
-plain_rest : (p : Put) (t : Token) (ts : List Token) (ps : List Put) → ArePlain ps → ArePlain (pulled (flat_put p.body p.list (t ∷ ts) ∷ ps))
-plain_rest p t ts ps a = (plain_is p.body p.list ts, a)
-
-plain_next : (p : Put) (ts : List Token) (ps : List Put) → ArePlain ps → ArePlain (pulled ps) → ArePlain (pulled (flat_put p.body p.list ts ∷ ps))
-plain_next p [] ps a b = b
-plain_next p (t ∷ ts) ps a b = plain_rest p t ts ps a
-
-pub plain_pulled : (ps : List Put) → ArePlain ps → ArePlain (pulled ps)
-plain_pulled [] a = tt
-plain_pulled (p ∷ ps) a = subst (λ (q : Put). ArePlain (pulled (q ∷ ps))) (sym (is_plain_put p a.0)) (plain_next p (map token_in p.items) ps a.1 (plain_pulled ps a.1))
 
 -- WHAT COMES NEXT
 
@@ -89,20 +64,31 @@ module _ (t s : List (Option Entry)) (c b : List ℕ) (ls : List Level) (p : pla
   pub looks_are : looks c b (pending_in s ls) ≡ ahead_of c p
   looks_are = item_ahead (next_item (pending_in s ls).puts) refl
 
-item_finished : (t : List (Option Entry)) (c b : List ℕ) (p : Pending) → ArePlain p.puts → (o : Option Item) → next_item p.puts ≡ o → item_looks c b p.sources o ≡ ahead.End → lists.settled (fronts t p.puts) ≡ []
-item_finished t c b p a None is end = sym (fronts_settled t p.puts) ∙ ap (fronts t) (none_finished p.puts a is)
-item_finished t c b p a (Some x) is end = cc
+item_passed : (t : List (Option Entry)) (c b : List ℕ) (p : Pending) (o : Option Item) → next_item p.puts ≡ o → item_looks c b p.sources o ≡ ahead.End → lists.passed (fronts t p.puts) ≡ []
+item_passed t c b p None is end = next_none t p.puts is
+item_passed t c b p (Some x) is end = cc
 
--- where only the file is left, all lists in front are finished
-pub all_finished : (t : List (Option Entry)) (c b : List ℕ) (p : Pending) → ArePlain p.puts → looks c b p ≡ ahead.End → lists.settled (fronts t p.puts) ≡ []
-all_finished t c b p a end = item_finished t c b p a (next_item p.puts) refl end
+-- where only the file is left, nothing but gaps is left of the lists in front
+pub all_passed : (t : List (Option Entry)) (c b : List ℕ) (p : Pending) → looks c b p ≡ ahead.End → lists.passed (fronts t p.puts) ≡ []
+all_passed t c b p end = item_passed t c b p (next_item p.puts) refl end
+
+-- then a pull leaves none
+item_left : (size : ℕ) (c b d : List ℕ) (p q : Pending) (o : Option Item) (r : Result Given Full) → item_looks c b p.sources o ≡ ahead.End → PullsItem size c b d p q o r → q.puts ≡ []
+item_left size c b d p q (Some x) r end h = cc
+item_left size c b d p q None (Ok r) end h = h.0.1
+item_left size c b d p q None (Err f) end h =
+    let e = h.1 in
+    cc
+
+pub none_left : (size : ℕ) (c b d : List ℕ) (p q : Pending) (r : Result Given Full) → looks c b p ≡ ahead.End → Pulls size c b d p q r → q.puts ≡ []
+none_left size c b d p q r end h = item_left size c b d p q (next_item p.puts) r end h
 
 -- A LINE GIVES SOMETHING
 
 -- what an answer makes of what is pending
 pub record IsRead (c d : List ℕ) (sizes : Sizes) (p q : plain.Pending) (r : Result Given Full) : Type 0 where
   pub more : GivesMore r
-  pub reads : Reads (plain.pulled c p) (answers.answer_of r) sizes p q d
+  pub reads : Gives (plain.pulled c p) (answers.answer_of r) p q d
 
 line_more : (o : Option InId) (x : Lexed) → (x ≡ lexed_as.End → ⊥) → GivesMore (Ok (answer_of o x))
 line_more o (lexed_as.Char category code) ne = tt
@@ -115,7 +101,7 @@ line_more o lexed_as.Invalid ne = tt
 line_more o lexed_as.End ne = absurd (ne refl)
 
 line_reads : (sizes : Sizes) (p : plain.Pending) (d : List ℕ) (o : Option InId) (x : Lexed) (at next : ℕ) (state : lex.LineState) (left : List ℕ) → (x ≡ lexed_as.End → ⊥) → Takes at next x → next ≤ length d →
-    Reads (plain.from_line p (given d state left x)) (answers.answer_of (Ok (answer_of o x))) sizes p (plain.on_line left state p) d
+    Gives (plain.from_line p (given d state left x)) (answers.answer_of (Ok (answer_of o x))) p (plain.on_line left state p) d
 line_reads sizes p d o (lexed_as.Char category code) at next state left ne takes within = record { lexeme = lex.Character category code; is = refl; pulls = refl }
 line_reads sizes p d o (lexed_as.Active code) at next state left ne takes within = record { lexeme = lex.ActiveName code; is = refl; pulls = refl }
 line_reads sizes p d o (lexed_as.Single code) at next state left ne takes within = record { lexeme = lex.SingleName code; is = refl; pulls = refl }
@@ -142,7 +128,7 @@ module _ (c b d : List ℕ) (sizes : Sizes) (p : plain.Pending) (front_none : li
       let q = plain.on_line (rest_of d s'.line) (state_of s'.line.state) p in
       record {
         more = subst (λ (y : Given). GivesMore (Ok y)) (sym g.answer) (line_more s.id x ne);
-        reads = subst (λ (y : plain.Pulled). Reads y (answers.answer_of (Ok r)) sizes p q d) (sym pulls) (subst (λ (y : Given). Reads (plain.from_line p (given d (state_of s'.line.state) (rest_of d s'.line) x)) (answers.answer_of (Ok y)) sizes p q d) (sym g.answer) k);
+        reads = subst (λ (y : plain.Pulled). Gives y (answers.answer_of (Ok r)) p q d) (sym pulls) (subst (λ (y : Given). Gives (plain.from_line p (given d (state_of s'.line.state) (rest_of d s'.line) x)) (answers.answer_of (Ok y)) p q d) (sym g.answer) k);
       }
 
 -- ALL THAT IS PENDING
@@ -151,10 +137,10 @@ module _ (c b d : List ℕ) (sizes : Sizes) (p : plain.Pending) (front_none : li
 abbrev pub seen : List (Option Entry) → Pending → List ℕ → List ℕ → plain.Progress → ℕ → plain.Pending
 seen t p bytes left file number = record { puts = fronts t p.puts; line = line_rest bytes (line_of p.sources); lex = line_state (line_of p.sources); rest = left; file = file; number = number }
 
-module _ (t s : List (Option Entry)) (c b d : List ℕ) (ls : List Level) (q : Pending) (texts : ArePlain (pending_in s ls).puts) (sizes : Sizes) (left : List ℕ) (file : plain.Progress) (num : ℕ) (more : ahead_of c (seen t (pending_in s ls) b left file num) ≢ ahead.End) (same : length d ≡ length b) where
+module _ (t s : List (Option Entry)) (c b d : List ℕ) (ls : List Level) (q : Pending) (sizes : Sizes) (left : List ℕ) (file : plain.Progress) (num : ℕ) (more : ahead_of c (seen t (pending_in s ls) b left file num) ≢ ahead.End) (same : length d ≡ length b) where
   -- an item is handed on that has room
-  item_seen : (x : Item) (r : Result Given Full) → next_item (pending_in s ls).puts ≡ Some x → r ≡ Ok (given_as.Token (token_in x)) → q ≡ with_puts (pulled (pending_in s ls).puts) (pending_in s ls) → d ≡ b → refused sizes (opened_level (Some (plain_item x)) (seen t (pending_in s ls) b left file num)) ≡ None → IsRead c d sizes (seen t (pending_in s ls) b left file num) (seen t q d left file num) r
-  item_seen x r next answer_is after bytes fits =
+  item_seen : (x : Item) (r : Result Given Full) → next_item (pending_in s ls).puts ≡ Some x → r ≡ Ok (given_as.Token (token_in x)) → q ≡ with_puts (pulled (pending_in s ls).puts) (pending_in s ls) → d ≡ b → IsRead c d sizes (seen t (pending_in s ls) b left file num) (seen t q d left file num) r
+  item_seen x r next answer_is after bytes =
       let pp = seen t (pending_in s ls) b left file num in
       let k = next_some t (pending_in s ls).puts x next in
       let then_pending : plain.with_puts (plain.read_on k.put k.left ∷ k.below) pp ≡ seen t q d left file num =
@@ -165,11 +151,10 @@ module _ (t s : List (Option Entry)) (c b d : List ℕ) (ls : List Level) (q : P
       ap (plain.from_front c pp) k.first
       ∙ ap (plain.from_list c pp k.put k.below) k.has
       ∙ ap₂ plain.TokenFrom (token_is x) then_pending in
-      let room : refused sizes (opened_level (lists.next_item pp.puts) pp) ≡ None = ap (λ (o : Option lists.Item). refused sizes (opened_level o pp)) (next_is _ _ _ k) ∙ fits in
-      let reads : Reads (plain.pulled c pp) (answer.Token (token_in x)) sizes pp (seen t q d left file num) d = (pulls, room) in
+      let reads : Gives (plain.pulled c pp) (answer.Token (token_in x)) pp (seen t q d left file num) d = pulls in
       record {
         more = subst GivesMore (sym answer_is) tt;
-        reads = subst (λ (y : Result Given Full). Reads (plain.pulled c pp) (answers.answer_of y) sizes pp (seen t q d left file num) d) (sym answer_is) reads;
+        reads = subst (λ (y : Result Given Full). Gives (plain.pulled c pp) (answers.answer_of y) pp (seen t q d left file num) d) (sym answer_is) reads;
       }
 
   source_seen : (bs : List Below) → (pending_in s ls).sources ≡ bs → (r : Given) → PullsFrom c b d bs q.sources r → q.puts ≡ [] → lists.passed (fronts t (pending_in s ls).puts) ≡ [] → IsLineIn (line_of bs) (length b) → IsRead c d sizes (seen t (pending_in s ls) b left file num) (seen t q d left file num) (Ok r)
@@ -188,19 +173,115 @@ module _ (t s : List (Option Entry)) (c b d : List ℕ) (ls : List Level) (q : P
       ∙ ap (λ (ps : List Put). record { puts = fronts t ps; line = line_rest d (line_of q.sources); lex = line_state (line_of q.sources); rest = left; file = file; number = num }) (sym none) in
       subst (λ (z : plain.Pending). IsRead c d sizes pp z (Ok r)) then_pending k
 
-  item_reads : (size : ℕ) (o : Option Item) (r : Result Given Full) → next_item (pending_in s ls).puts ≡ o → PullsItem size c b d (pending_in s ls) q o r → IsLineIn (line_of (pending_in s ls).sources) (length b) → IsRead c d sizes (seen t (pending_in s ls) b left file num) (seen t q d left file num) r
+  -- what is given, or that nothing is
+  abbrev pub IsPulled : Result Given Full → Type 0
+  IsPulled (Ok g) = IsRead c d sizes (seen t (pending_in s ls) b left file num) (seen t q d left file num) (Ok g)
+  IsPulled (Err f) = (q ≡ settle (pending_in s ls)) × (d ≡ b)
+
+  handed : (size : ℕ) (x : Item) (o : Option Full) (r : Result Given Full) → next_item (pending_in s ls).puts ≡ Some x → HandsOn b d (pending_in s ls) q x o r → IsPulled r
+  handed size x None r is h = subst IsPulled (sym h.0) (item_seen x (Ok (given_as.Token (token_in x))) is refl h.1 h.2)
+  handed size x (Some f) r is h = subst IsPulled (sym h.0) (h.1, h.2)
+
+  item_reads : (size : ℕ) (o : Option Item) (r : Result Given Full) → next_item (pending_in s ls).puts ≡ o → PullsItem size c b d (pending_in s ls) q o r → IsLineIn (line_of (pending_in s ls).sources) (length b) → IsPulled r
   item_reads size None (Ok r) is h inside = source_seen (pending_in s ls).sources refl r h.0.0 h.0.1 (next_none t (pending_in s ls).puts is) inside
   item_reads size None (Err f) is h inside =
       let e = h.1 in
       cc
-  item_reads size (Some x) r is h inside =
-      let text = next_text (pending_in s ls).puts texts x is in
-      let hands : HandsOn b d (pending_in s ls) q x None r = subst (λ (y : Item). HandsOn b d (pending_in s ls) q x (refused_at size y (pending_in s ls)) r) text h in
-      let fits = ap (λ (y : Item). refused sizes (opened_level (Some (plain_item y)) (seen t (pending_in s ls) b left file num))) text in
-      item_seen x r is hands.0 hands.1 hands.2 fits
+  item_reads size (Some x) r is h inside = handed size x (refused_at size x (pending_in s ls)) r is h
 
-  pub pull_reads : (size : ℕ) (r : Result Given Full) → Pulls size c b d (pending_in s ls) q r → IsLineIn (line_of (pending_in s ls).sources) (length b) → IsRead c d sizes (seen t (pending_in s ls) b left file num) (seen t q d left file num) r
+  pub pull_reads : (size : ℕ) (r : Result Given Full) → Pulls size c b d (pending_in s ls) q r → IsLineIn (line_of (pending_in s ls).sources) (length b) → IsPulled r
   pull_reads size r h inside = item_reads size (next_item (pending_in s ls).puts) r refl h inside
+
+  -- WHY NOTHING IS GIVEN
+
+  module _ (single : IsSingle (pending_in s ls).sources) (tied : line_levels (line_of (pending_in s ls).sources) ≡ file_levels file) where
+    -- an argument's level
+    refused_is : (size : ℕ) (x : Item) → size ≡ sizes.input_stack_size → refused_at size x (pending_in s ls) ≡ refused sizes (opened_level (Some (plain_item x)) (seen t (pending_in s ls) b left file num))
+    refused_is size (Text u) is = refl
+    refused_is size (First n u) is = levels_refused sizes (used_levels (pending_in s ls)) _ size (levels_used t (pending_in s ls) single ∙ ap (λ (k : ℕ). lists.put_levels (fronts t (pending_in s ls).puts) + k) tied) is
+    refused_is size (Later n u) is = refl
+    refused_is size Gap is = refl
+
+    abbrev pub IsRefused : Result Given Full → Type 0
+    IsRefused (Ok g) = refused sizes (step_demands (plain.pulled c (seen t (pending_in s ls) b left file num)) (seen t (pending_in s ls) b left file num)) ≡ None
+    IsRefused (Err f) = refused sizes (step_demands (plain.pulled c (seen t (pending_in s ls) b left file num)) (seen t (pending_in s ls) b left file num)) ≡ Some f
+
+    item_needs : (size : ℕ) (x : Item) → size ≡ sizes.input_stack_size → next_item (pending_in s ls).puts ≡ Some x → refused sizes (step_demands (plain.pulled c (seen t (pending_in s ls) b left file num)) (seen t (pending_in s ls) b left file num)) ≡ refused_at size x (pending_in s ls)
+    item_needs size x same is =
+        let pp = seen t (pending_in s ls) b left file num in
+        let k = next_some t (pending_in s ls).puts x is in
+        let pulls : step_demands (plain.pulled c pp) pp ≡ opened_level (lists.next_item pp.puts) pp =
+        ap (λ (ps : List lists.Put). step_demands (plain.from_front c pp ps) pp) k.first
+        ∙ ap (λ (xs : List lists.Item). step_demands (plain.from_list c pp k.put k.below xs) pp) k.has in
+        ap (refused sizes) (pulls ∙ ap (λ (o : Option lists.Item). opened_level o pp) (next_is _ _ _ k)) ∙ sym (refused_is size x same)
+
+    by_hands : (size : ℕ) (x : Item) (o : Option Full) (r : Result Given Full) → refused sizes (step_demands (plain.pulled c (seen t (pending_in s ls) b left file num)) (seen t (pending_in s ls) b left file num)) ≡ o → HandsOn b d (pending_in s ls) q x o r → IsRefused r
+    by_hands size x None r is h = subst IsRefused (sym h.0) is
+    by_hands size x (Some f) r is h = subst IsRefused (sym h.0) is
+
+    -- what a line gives needs nothing
+    line_needs : (g : Given) → IsRead c d sizes (seen t (pending_in s ls) b left file num) (seen t q d left file num) (Ok g) → lists.next_item (fronts t (pending_in s ls).puts) ≡ None → IsRefused (Ok g)
+    line_needs (given_as.Token u) is none =
+        let pp = seen t (pending_in s ls) b left file num in
+        ap (λ (k : plain.Pulled). refused sizes (step_demands k pp)) is.reads ∙ ap (λ (o : Option lists.Item). refused sizes (opened_level o pp)) none
+    line_needs (given_as.Lexed lexed_as.Invalid) is none = ap (λ (k : plain.Pulled). refused sizes (step_demands k (seen t (pending_in s ls) b left file num))) is.reads
+    line_needs (given_as.Lexed (lexed_as.Char category code)) is none = ap (λ (k : plain.Pulled). refused sizes (step_demands k (seen t (pending_in s ls) b left file num))) is.reads.pulls
+    line_needs (given_as.Lexed (lexed_as.Active code)) is none = ap (λ (k : plain.Pulled). refused sizes (step_demands k (seen t (pending_in s ls) b left file num))) is.reads.pulls
+    line_needs (given_as.Lexed (lexed_as.Single code)) is none = ap (λ (k : plain.Pulled). refused sizes (step_demands k (seen t (pending_in s ls) b left file num))) is.reads.pulls
+    line_needs (given_as.Lexed (lexed_as.Word from to)) is none = ap (λ (k : plain.Pulled). refused sizes (step_demands k (seen t (pending_in s ls) b left file num))) is.reads.pulls
+    line_needs (given_as.Lexed lexed_as.Empty) is none = ap (λ (k : plain.Pulled). refused sizes (step_demands k (seen t (pending_in s ls) b left file num))) is.reads.pulls
+    line_needs (given_as.Lexed lexed_as.Par) is none = ap (λ (k : plain.Pulled). refused sizes (step_demands k (seen t (pending_in s ls) b left file num))) is.reads.pulls
+    line_needs (given_as.Lexed lexed_as.End) is none = ap (λ (k : plain.Pulled). refused sizes (step_demands k (seen t (pending_in s ls) b left file num))) is.reads.pulls
+    line_needs given_as.LineEnd is none = absurd is.more
+    line_needs given_as.ReadEnd is none = absurd is.more
+    line_needs given_as.Bottom is none = absurd is.more
+
+    item_refused : (size : ℕ) (o : Option Item) (r : Result Given Full) → size ≡ sizes.input_stack_size → next_item (pending_in s ls).puts ≡ o → PullsItem size c b d (pending_in s ls) q o r → IsPulled r → IsRefused r
+    item_refused size None (Ok r) same is h k = line_needs r k (ap lists.top_item (next_none t (pending_in s ls).puts is))
+    item_refused size None (Err f) same is h k =
+        let e = h.1 in
+        cc
+    item_refused size (Some x) r same is h k = by_hands size x (refused_at size x (pending_in s ls)) r (item_needs size x same is) h
+
+    pub pull_refused : (size : ℕ) (r : Result Given Full) → size ≡ sizes.input_stack_size → Pulls size c b d (pending_in s ls) q r → IsLineIn (line_of (pending_in s ls).sources) (length b) → IsRefused r
+    pull_refused size r same h inside = item_refused size (next_item (pending_in s ls).puts) r same refl h (pull_reads size r h inside)
+
+-- WHAT IS TOLD
+
+-- the same, as the views say it
+same_gives : (c b d left : List ℕ) (file : plain.Progress) (num : ℕ) (old v now n : HeldLists) (a : answered.Pulled) → old ≡ v → n ≡ now → Gives (plain.pulled c (pending_of old b left file num)) a (pending_of old b left file num) (pending_of now d left file num) d →
+    Gives (plain.pulled c (pending_of v b left file num)) a (pending_of v b left file num) (pending_of n d left file num) d
+same_gives c b d left file num old v now n a is new_is gives =
+    subst (λ (w : HeldLists). Gives (plain.pulled c (pending_of v b left file num)) a (pending_of v b left file num) (pending_of w d left file num) d) (sym new_is)
+    (subst (λ (w : HeldLists). Gives (plain.pulled c (pending_of w b left file num)) a (pending_of w b left file num) (pending_of now d left file num) d) is gives)
+
+module _ (t s : List (Option Entry)) (c b d : List ℕ) (ls : List Level) (q : Pending) (sizes : Sizes) (left : List ℕ) (file : plain.Progress) (num : ℕ) (more : ahead_of c (seen t (pending_in s ls) b left file num) ≢ ahead.End) (same : length d ≡ length b) where
+  pub told_more : (r : Result Given Full) → IsPulled t s c b d ls q sizes left file num more same r → answers.GivesOrRefuses r
+  told_more (Ok g) is = is.more
+  told_more (Err f) is = tt
+
+  pub told_settles : (r : Result Given Full) → IsPulled t s c b d ls q sizes left file num more same r → OnErr (answers.told r) ((q ≡ settle (pending_in s ls)) × (d ≡ b))
+  told_settles (Ok g) is = tt
+  told_settles (Err f) is = is
+
+  module _ (old v now n : HeldLists) (is_old : old ≡ v) (is_new : n ≡ now) (seen_old : seen t (pending_in s ls) b left file num ≡ pending_of old b left file num) (seen_now : seen t q d left file num ≡ pending_of now d left file num) where
+    pub told_gives : (r : Result Given Full) → IsPulled t s c b d ls q sizes left file num more same r → GivesTo (plain.pulled c (pending_of v b left file num)) (answers.told r) (pending_of v b left file num) (pending_of n d left file num) d
+    told_gives (Ok g) is =
+        same_gives c b d left file num old v now n (answers.answer_of (Ok g)) is_old is_new
+        (subst (λ (z : plain.Pending). Gives (plain.pulled c (pending_of old b left file num)) (answers.answer_of (Ok g)) (pending_of old b left file num) z d) seen_now
+        (subst (λ (z : plain.Pending). Gives (plain.pulled c z) (answers.answer_of (Ok g)) z (seen t q d left file num) d) seen_old is.reads))
+    told_gives (Err f) is = tt
+
+  module _ (single : IsSingle (pending_in s ls).sources) (tied : line_levels (line_of (pending_in s ls).sources) ≡ file_levels file) (old v : HeldLists) (is_old : old ≡ v) (seen_old : seen t (pending_in s ls) b left file num ≡ pending_of old b left file num) (its : sizes ≡ old.sizes) where
+    refusal_at : (o : Option Full) → refused sizes (step_demands (plain.pulled c (seen t (pending_in s ls) b left file num)) (seen t (pending_in s ls) b left file num)) ≡ o → refused v.sizes (step_demands (plain.pulled c (pending_of v b left file num)) (pending_of v b left file num)) ≡ o
+    refusal_at o why =
+        subst (λ (w : HeldLists). refused w.sizes (step_demands (plain.pulled c (pending_of w b left file num)) (pending_of w b left file num)) ≡ o) is_old
+        (subst (λ (z : Sizes). refused z (step_demands (plain.pulled c (pending_of old b left file num)) (pending_of old b left file num)) ≡ o) its
+        (subst (λ (z : plain.Pending). refused sizes (step_demands (plain.pulled c z) z) ≡ o) seen_old why))
+
+    pub told_refused : (r : Result Given Full) → IsRefused t s c b d ls q sizes left file num more same single tied r → MatchResult (answers.told r) (λ a. refused v.sizes (step_demands (plain.pulled c (pending_of v b left file num)) (pending_of v b left file num)) ≡ None) (λ f. refused v.sizes (step_demands (plain.pulled c (pending_of v b left file num)) (pending_of v b left file num)) ≡ Some f)
+    told_refused (Ok g) why = refusal_at None why
+    told_refused (Err f) why = refusal_at (Some f) why
 
 -- THE SOURCES STAY
 
@@ -223,19 +304,19 @@ item_single size c b d p q None (Err f) h =
 pub pull_single : (size : ℕ) (c b d : List ℕ) (p q : Pending) (r : Result Given Full) → Pulls size c b d p q r → (IsSingle p.sources → IsSingle q.sources) × (line_levels (line_of q.sources) ≡ line_levels (line_of p.sources))
 pull_single size c b d p q r h = item_single size c b d p q (next_item p.puts) r h
 
-hands_plain : (b d : List ℕ) (p q : Pending) (x : Item) (o : Option Full) (r : Result Given Full) → ArePlain p.puts → HandsOn b d p q x o r → ArePlain q.puts
-hands_plain b d p q x None r a h = subst (λ (z : Pending). ArePlain z.puts) (sym h.1) (plain_pulled p.puts a)
-hands_plain b d p q x (Some f) r a h = subst (λ (z : Pending). ArePlain z.puts) (sym h.1) (plain_settled p.puts a)
+hands_fronts : (b d : List ℕ) (p q : Pending) (x : Item) (o : Option Full) (r : Result Given Full) → AreFronts p.puts → HandsOn b d p q x o r → AreFronts q.puts
+hands_fronts b d p q x None r a h = subst (λ (z : Pending). AreFronts z.puts) (sym h.1) (fronts_pull p.puts a)
+hands_fronts b d p q x (Some f) r a h = subst (λ (z : Pending). AreFronts z.puts) (sym h.1) (fronts_settle p.puts a)
 
-item_plain : (size : ℕ) (c b d : List ℕ) (p q : Pending) (o : Option Item) (r : Result Given Full) → ArePlain p.puts → PullsItem size c b d p q o r → ArePlain q.puts
-item_plain size c b d p q (Some x) r a h = hands_plain b d p q x (refused_at size x p) r a h
-item_plain size c b d p q None (Ok r) a h = subst ArePlain (sym h.0.1) tt
-item_plain size c b d p q None (Err f) a h =
+item_fronts : (size : ℕ) (c b d : List ℕ) (p q : Pending) (o : Option Item) (r : Result Given Full) → AreFronts p.puts → PullsItem size c b d p q o r → AreFronts q.puts
+item_fronts size c b d p q (Some x) r a h = hands_fronts b d p q x (refused_at size x p) r a h
+item_fronts size c b d p q None (Ok r) a h = subst AreFronts (sym h.0.1) tt
+item_fronts size c b d p q None (Err f) a h =
     let e = h.1 in
     cc
 
 pub pull_simple : (size : ℕ) (c b d : List ℕ) (p q : Pending) (r : Result Given Full) → Pulls size c b d p q r → IsSimple p → IsSimple q
-pull_simple size c b d p q r h a = record { single = (pull_single size c b d p q r h).0 a.single; plain = item_plain size c b d p q (next_item p.puts) r a.plain h }
+pull_simple size c b d p q r h a = record { single = (pull_single size c b d p q r h).0 a.single; fronts = item_fronts size c b d p q (next_item p.puts) r a.fronts h }
 
 hands_fewer : (b d : List ℕ) (p q : Pending) (x : Item) (o : Option Full) (r : Result Given Full) → HandsOn b d p q x o r → Fewer q.puts p.puts
 hands_fewer b d p q x None r h = subst (λ (z : Pending). Fewer z.puts p.puts) (sym h.1) (fewer_pulled p.puts)
@@ -251,10 +332,18 @@ item_fewer size c b d p q None (Err f) h =
 pub pull_fewer : (size : ℕ) (c b d : List ℕ) (p q : Pending) (r : Result Given Full) → Pulls size c b d p q r → Fewer q.puts p.puts
 pull_fewer size c b d p q r h = item_fewer size c b d p q (next_item p.puts) r h
 
--- the same, as the views say it
-pub same_reads : (c b d left : List ℕ) (file : plain.Progress) (num : ℕ) (old v now n : HeldLists) (a r : answered.Pulled) → old ≡ v → n ≡ now → a ≡ r → Reads (plain.pulled c (pending_of old b left file num)) r old.sizes (pending_of old b left file num) (pending_of now d left file num) d →
-    Reads (plain.pulled c (pending_of v b left file num)) a v.sizes (pending_of v b left file num) (pending_of n d left file num) d
-same_reads c b d left file num old v now n a r is new_is answer_is reads =
-    let k1 = subst (λ (w : HeldLists). Reads (plain.pulled c (pending_of w b left file num)) r w.sizes (pending_of w b left file num) (pending_of now d left file num) d) is reads in
-    let k2 = subst (λ (w : HeldLists). Reads (plain.pulled c (pending_of v b left file num)) r v.sizes (pending_of v b left file num) (pending_of w d left file num) d) (sym new_is) k1 in
-    subst (λ (x : answered.Pulled). Reads (plain.pulled c (pending_of v b left file num)) x v.sizes (pending_of v b left file num) (pending_of n d left file num) d) (sym answer_is) k2
+-- a file that has the levels of the line
+abbrev pub file_at : Option Line → plain.Progress
+file_at None = plain.Closed
+file_at (Some line) = plain.Begun
+
+pub file_tied : (o : Option Line) → line_levels o ≡ file_levels (file_at o)
+file_tied None = refl
+file_tied (Some line) = refl
+
+pub countable_item : (table : List (Option Entry)) (o : Option Item) → ((k : ℕ) → holders_at table k + 1 < 2 ^ 32) → IsCountable table o
+countable_item table None few = tt
+countable_item table (Some (Text t)) few = tt
+countable_item table (Some (First n t)) few = few n
+countable_item table (Some (Later n t)) few = tt
+countable_item table (Some Gap) few = tt

@@ -13,19 +13,19 @@ use Rattle.token_lists.specs.Accounts.{holds, Moves, Keeps}
 use Rattle.meanings.specs.Map.{Map}
 use Rattle.meanings.specs.Holding as meant
 use Rattle.input_stack.specs.Puts.{Text}
-use Rattle.input_stack.specs.Pending.{Pending, put, plain_put, refusal, room, used_levels}
+use Rattle.input_stack.specs.Pending.{Pending, times, put, plain_put, refusal, room, used_levels}
 use Rattle.input_stack.specs.View.{pending, held}
 use Rattle.input_stack.specs.Standing.{Stands}
 use Rattle.input_stack.specs.Lasting.{Lasts}
 use Rattle.input_stack.specs.declared.stack.InputStack.{InputStack}
 use Rattle.input_state.specs.HeldLists.{HeldLists, made, level_held}
 use Rattle.input_state.specs.Macros.{KeepsLists}
-use Rattle.input_state.specs.HeldViews.{Named, calling_of, fronts, text, texts, line_of, lists_of, all_builds, built, owns, IsSimple, IsApart, IsDefined, IsShared, IsSound}
+use Rattle.input_state.specs.HeldViews.{Named, calling_of, fronts, text, texts, line_of, lists_of, all_builds, built, owns, cells_of, IsSimple, IsApart, IsDefined, IsShared, IsSound}
 use Rattle.input_state.proofs.Counting.{times_cons}
 use Rattle.input_state.proofs.Shares.{apart_fewer, fewer_put}
 use Rattle.input_state.proofs.Sounds.{sized_now}
 use Rattle.input_state.proofs.Fronts.{token_front, fronts_put}
-use Rattle.input_state.proofs.Levels.{levels_used, simple_put}
+use Rattle.input_state.proofs.Levels.{levels_used, simple_put, flat_is}
 use Rattle.input_state.proofs.CallStays.{call_stays}
 use Rattle.input_state.proofs.Sharing.{Moved, moved, built_cons}
 use Rattle.input_state.proofs.ListViews.{held_lists, moved_view, macros_moved}
@@ -55,8 +55,9 @@ module _ (old new : List (Option Entry)) (s t : InputStack) (a : Build) (gathere
     moved_now : Moved old new t m (reverse gathered)
     moved_now =
         moved old new s t m m (a ∷ []) (reverse gathered) shared_now stands
-        (subst (λ (p : Pending). IsSimple p) (sym after) (simple_put false n (tokens_at old n) (pending old s) sound.shared.simple))
+        (subst (λ (p : Pending). IsSimple p) (sym after) (simple_put (plain_put n (tokens_at old n)) (pending old s) (flat_is false n (tokens_at old n)) sound.shared.simple))
         apart_now
+        (λ h some. sound.shared.listed h (omega (arith, (fewer_put (plain_put n (tokens_at old n)) (pending old s).puts).cells h, subst (λ (p : Pending). 0 < times h (cells_of p.puts)) after some)))
         (λ h. omega (arith, moves h, own_now h))
         (record { tokens = λ h l. keeps.tokens h (omega (arith, l, own_now h)); places = λ h l. keeps.places h (omega (arith, l, own_now h)) })
         lasts.tokens macros_now (λ h. refl)

@@ -38,7 +38,7 @@ use Rattle.input_state.specs.Macros.{KeepsLists}
 use Rattle.input_state.specs.Callings.{Calling, NotCalling}
 use Rattle.input_state.specs.declared.gathering.Gathering as code
 use Rattle.input_state.specs.declared.gathering.Gathering.TheVariants as call
-use Rattle.input_state.specs.HeldViews.{Named, named, call_holds, calling_of, IsCall, text, made_text, texts, fronts, line_of, lists_of, all_builds, built, owns, bodies, IsSimple, IsApart, IsDefined, IsShared, IsSound}
+use Rattle.input_state.specs.HeldViews.{Named, named, call_holds, calling_of, IsCall, text, made_text, texts, fronts, line_of, lists_of, all_builds, built, owns, bodies, cells_of, IsSimple, IsApart, IsDefined, IsShared, IsSound}
 use Rattle.input_state.proofs.Shares.{held_parts}
 use Rattle.input_state.proofs.Sharing.{Reheld, reheld, keeps_lists}
 use Rattle.input_state.proofs.ListViews.{held_lists, same_held}
@@ -77,6 +77,7 @@ module _ (old new : List (Option Entry)) (s : InputStack) (making : Option Build
       reheld old new s s (named m k) (named m l) [] (all_builds making gathered) sound.shared (λ h. omega (arith, moves h)) recalled_stand.0
       (subst (λ (p : Pending). IsSimple p) (sym recalled_stand.1) sound.shared.simple)
       (subst (λ (p : Pending). IsApart p.puts (all_builds making gathered) (named m l)) (sym recalled_stand.1) apart_now)
+      (λ h some. sound.shared.listed h (subst (λ (p : Pending). 0 < times h (cells_of p.puts)) recalled_stand.1 some))
       (record { tokens = λ h l. keeps.tokens h (omega (arith, l)); places = λ h l. keeps.places h (omega (arith, l)) })
       (λ h some. keeps.tokens h (shared_more h some))
       (λ h some. subst IsDefined (sym (keeps.tokens h (shared_more h (omega (arith, some))))) (sound.shared.macros h some))
@@ -186,6 +187,7 @@ enter_sound table s making gathered m n k sizes capacity sound after same few = 
       apart = λ h more. omega (arith, sound.shared.apart.apart h more, same h);
     };
     macros = λ h some. sound.shared.macros h (omega (arith, some, same h));
+    listed = sound.shared.listed;
   };
   sized = record {
     memory = sound.sized.memory;

@@ -18,7 +18,7 @@ use Rattle.input_stack.specs.declared.stack.InputStack.{InputStack}
 use Rattle.input_stack.proofs.Helds.{held_puts}
 use Rattle.token_lists.specs.declared.Build.{Build}
 use Rattle.input_state.specs.Macros.{is_macro}
-use Rattle.input_state.specs.HeldViews.{Named, front, fronts, whole_of, own_of, owns, body_of, bodies, opens, IsSingle, IsApart}
+use Rattle.input_state.specs.HeldViews.{Named, front, fronts, whole_of, own_of, owns, body_of, bodies, cells_of, opens, IsSingle, IsApart}
 use Rattle.input_state.proofs.Counting.{some, bit, or_some, times_cons, times_append}
 
 -- PARTS
@@ -55,6 +55,7 @@ held_parts table stack single h =
 pub record Fewer (ps qs : List Put) : Type 0 where
   pub owns : (h : ℕ) → times h (owns ps) ≤ times h (owns qs)
   pub bodies : (h : ℕ) → times h (bodies ps) ≤ times h (bodies qs)
+  pub cells : (h : ℕ) → times h (cells_of ps) ≤ times h (cells_of qs)
 
 pub apart_fewer : (ps qs : List Put) (bs : List Build) (m : Named) → Fewer ps qs → IsApart qs bs m → IsApart ps bs m
 apart_fewer ps qs bs m f a = record {
@@ -63,17 +64,18 @@ apart_fewer ps qs bs m f a = record {
 }
 
 pub fewer_none : (qs : List Put) → Fewer [] qs
-fewer_none qs = record { owns = λ h. omega arith; bodies = λ h. omega arith }
+fewer_none qs = record { owns = λ h. omega arith; bodies = λ h. omega arith; cells = λ h. omega arith }
 
 -- the first list goes, or stays with another reading and other items
 drops_first : (p : Put) (ps qs : List Put) → Fewer ps qs → Fewer ps (p ∷ qs)
 drops_first p ps qs f = record {
   owns = λ h. omega (arith, f.owns h, times_append h (own_of p.body p.list (numbers p.arguments)) (owns qs));
   bodies = λ h. omega (arith, f.bodies h, times_append h (body_of p.body p.list) (bodies qs));
+  cells = λ h. omega (arith, f.cells h, times_append h (numbers p.arguments) (cells_of qs));
 }
 
 same_first : (p : Put) (qs : List Put) (r : Option ℕ) (xs : List Item) → Fewer (record { list = p.list; body = p.body; arguments = p.arguments; reading = r; items = xs } ∷ qs) (p ∷ qs)
-same_first p qs r xs = record { owns = λ h. omega arith; bodies = λ h. omega arith }
+same_first p qs r xs = record { owns = λ h. omega arith; bodies = λ h. omega arith; cells = λ h. omega arith }
 
 settled_fewer : (p : Put) (xs : List Item) (ps qs : List Put) → Fewer ps qs → Fewer (settled_top p xs ps qs) (p ∷ qs)
 settled_fewer p [] ps qs f = drops_first p ps qs f
@@ -92,12 +94,13 @@ fewer_pulled [] = fewer_none []
 fewer_pulled (p ∷ ps) = pulled_fewer p (without_gaps p.items) (pulled ps) ps (fewer_pulled ps)
 
 put_fewer : (p : Put) (xs : List Item) (ps : List Put) → Fewer (put_top p xs ps) (p ∷ ps)
-put_fewer p [] ps = drops_first p ps ps (record { owns = λ h. omega arith; bodies = λ h. omega arith })
+put_fewer p [] ps = drops_first p ps ps (record { owns = λ h. omega arith; bodies = λ h. omega arith; cells = λ h. omega arith })
 put_fewer p (x ∷ xs) ps =
     let f = fewer_settled ps in
     record {
       owns = λ h. omega (arith, f.owns h, times_append h (own_of p.body p.list (numbers p.arguments)) (owns ps), times_append h (own_of p.body p.list (numbers p.arguments)) (owns (settled ps)));
       bodies = λ h. omega (arith, f.bodies h, times_append h (body_of p.body p.list) (bodies ps), times_append h (body_of p.body p.list) (bodies (settled ps)));
+      cells = λ h. omega (arith, f.cells h, times_append h (numbers p.arguments) (cells_of ps), times_append h (numbers p.arguments) (cells_of (settled ps)));
     }
 
 pub fewer_put : (p : Put) (ps : List Put) → Fewer (put_in_front p ps) (p ∷ ps)

@@ -1,5 +1,5 @@
 -- One list changes, or who holds some of them, and the others stay.
-use Rattle.std.proofs.Common.{◌≡◌, ℕ, zero, suc, ◌+◌, ◌<◌, ◌≤◌, List, [], ◌∷◌, ◌++◌, map, Option, None, inl, inr, refl, sym, ap, ap₂, ◌∙◌, subst, arith}
+use Rattle.std.proofs.Common.{◌≡◌, ℕ, zero, suc, ◌+◌, ◌<◌, ◌≤◌, List, [], ◌∷◌, ◌++◌, map, length, Option, None, inl, inr, refl, sym, ap, ap₂, ◌∙◌, subst, arith}
 use Rattle.std.specs.Prelude.{All, slice_set, Bool, true, cond}
 use Rattle.std.proofs.lemmas.Bool.{cases_eq}
 use Rattle.std.proofs.lemmas.List.{get_or-set_other}
@@ -21,10 +21,10 @@ use Rattle.input_stack.proofs.Helds.{others}
 use Rattle.input_stack.proofs.Kept.{holds_itself}
 use Rattle.input_state.specs.Changes.{IsOnly}
 use Rattle.input_state.specs.Macros.{list_at, is_macro, KeepsLists}
-use Rattle.input_state.specs.HeldViews.{Named, call_holds, names_hold, fronts, text, texts, built, owns, bodies, IsSingle, IsSimple, IsApart, IsDefined, IsShared}
+use Rattle.input_state.specs.HeldViews.{Named, call_holds, names_hold, fronts, text, texts, built, owns, bodies, cells_of, IsSingle, IsSimple, IsApart, IsDefined, IsShared}
 use Rattle.input_state.proofs.Counting.{some, one_some}
 use Rattle.input_state.proofs.Shares.{held_parts, meant_once, macro_once}
-use Rattle.input_state.proofs.Levels.{plain_opens, fronts_stay}
+use Rattle.input_state.proofs.Levels.{no_opens, cells_owned, fronts_stay}
 
 -- the lists that are held so often are as they were
 pub record Stay (old new : List (Option Entry)) (f : ℕ → ℕ) : Type 0 where
@@ -105,7 +105,7 @@ pub own_alone : (table : List (Option Entry)) (stack : InputStack) (bs : List Bu
 own_alone table stack bs m simple a h some =
     let ps = (pending table stack).puts in
     let none = a.apart h (omega (arith, some)) in
-    (omega (arith, a.sole h, some), omega (arith, held_parts table stack simple.single h, plain_opens ps simple.plain h, a.sole h, some, none), omega (arith, none))
+    (omega (arith, a.sole h, some), omega (arith, held_parts table stack simple.single h, no_opens ps simple.fronts h (omega (arith, a.sole h, some)), a.sole h, some, none), omega (arith, none))
 
 -- a macro that is meant or put is held
 pub macro_held : (table t : List (Option Entry)) (stack : InputStack) (m : Map) → IsSingle (pending table stack).sources → (id : ℕ) → is_macro id m.cells (fronts t (pending table stack).puts) ≡ true → 0 < held stack id + meant.held m id
@@ -207,6 +207,9 @@ module _ (old new : List (Option Entry)) (stack : InputStack) (m : Named) (xs zs
       counted = λ h. omega (arith, shared.counted h, moves h, parts zs h, parts us h);
       apart = subst (λ (p : Pending). IsApart p.puts (xs ++ (us ++ ys)) m) (sym stand.1) (record { sole = one_place; apart = no_macro });
       macros = λ h some. subst IsDefined (sym (held_stays.tokens h (omega (arith, some)))) (shared.macros h some);
+      listed = λ h some.
+          let here : 0 < times h (cells_of (pending old stack).puts) = subst (λ (p : Pending). 0 < times h (cells_of p.puts)) stand.1 some in
+          subst (λ (ts : List Token). 0 < length ts) (sym (held_stays.tokens h (omega (arith, here, cells_owned (pending old stack).puts h, held_parts old stack shared.simple.single h)))) (shared.listed h here);
     };
     still = stand.1;
     in_front = fronts_stay old new (pending old stack).puts (λ h some. held_stays.tokens h (omega (arith, some, held_parts old stack shared.simple.single h)));
@@ -248,7 +251,7 @@ module _ (old new : List (Option Entry)) (s t : InputStack) (m n : Named) (zs bs
         let now = own_alone new t bs n simple apart h (omega (arith, some)) in
         (omega (arith, was.0, was.1, was.2, shared.counted h), omega (arith, now.0, now.1, now.2, counted_now h), omega (arith, was.0, was.1, was.2, some, same, built_append zs bs h))
 
-    module _ (keeps : Keeps old new (λ h. built zs h + (held s h + names_hold m h))) (lasts : (h : ℕ) → 0 < held t h + meant.held n.map h → tokens_at new h ≡ tokens_at old h) (macros : (h : ℕ) → 0 < meant.held n.map h → IsDefined (tokens_at new h)) where
+    module _ (listed : (h : ℕ) → 0 < times h (cells_of (pending new t).puts) → 0 < length (tokens_at old h)) (keeps : Keeps old new (λ h. built zs h + (held s h + names_hold m h))) (lasts : (h : ℕ) → 0 < held t h + meant.held n.map h → tokens_at new h ≡ tokens_at old h) (macros : (h : ℕ) → 0 < meant.held n.map h → IsDefined (tokens_at new h)) where
       built_stay : Stay old new (built bs)
       built_stay = record {
         tokens = λ h some. keeps.tokens h (omega (arith, (alone h some).0, (alone h some).2));
@@ -265,20 +268,21 @@ module _ (old new : List (Option Entry)) (s t : InputStack) (m n : Named) (zs bs
           counted = counted_now;
           apart = apart;
           macros = macros;
+          listed = λ h some. subst (λ (ts : List Token). 0 < length ts) (sym (lasts h (omega (arith, some, cells_owned (pending new t).puts h, held_parts new t simple.single h)))) (listed h some);
         };
         in_front = fronts_stay old new (pending new t).puts (λ h some. lasts h (omega (arith, some, held_parts new t simple.single h)));
         texts = texts_stay old new bs built_stay;
         kept = lasts;
       }
 
-module _ (old new : List (Option Entry)) (s t : InputStack) (m n : Named) (zs bs : List Build) (shared : IsShared old s (zs ++ bs) m) (stands : Stands new t) (simple : IsSimple (pending new t)) (apart : IsApart (pending new t).puts bs n) (moves : (h : ℕ) → holders_at new h + (built zs h + (held s h + meant.held m.map h)) ≡ holders_at old h + (held t h + meant.held n.map h)) (keeps : Keeps old new (λ h. built zs h + (held s h + meant.held m.map h))) (lasts : (h : ℕ) → 0 < holders_at new h → tokens_at new h ≡ tokens_at old h) (macros : (h : ℕ) → 0 < meant.held n.map h → IsDefined (tokens_at new h)) (same : (h : ℕ) → call_holds n.call h ≡ call_holds m.call h) where
+module _ (old new : List (Option Entry)) (s t : InputStack) (m n : Named) (zs bs : List Build) (shared : IsShared old s (zs ++ bs) m) (stands : Stands new t) (simple : IsSimple (pending new t)) (apart : IsApart (pending new t).puts bs n) (listed : (h : ℕ) → 0 < times h (cells_of (pending new t).puts) → 0 < length (tokens_at old h)) (moves : (h : ℕ) → holders_at new h + (built zs h + (held s h + meant.held m.map h)) ≡ holders_at old h + (held t h + meant.held n.map h)) (keeps : Keeps old new (λ h. built zs h + (held s h + meant.held m.map h))) (lasts : (h : ℕ) → 0 < holders_at new h → tokens_at new h ≡ tokens_at old h) (macros : (h : ℕ) → 0 < meant.held n.map h → IsDefined (tokens_at new h)) (same : (h : ℕ) → call_holds n.call h ≡ call_holds m.call h) where
   moves_all : (h : ℕ) → holders_at new h + (built zs h + (held s h + names_hold m h)) ≡ holders_at old h + (held t h + names_hold n h)
   moves_all h = omega (arith, moves h, same h)
 
   pub moved : Moved old new t n bs
   moved = record {
     reheld =
-        reheld old new s t m n zs bs shared moves_all stands simple apart
+        reheld old new s t m n zs bs shared moves_all stands simple apart listed
         (record { tokens = λ h l. keeps.tokens h (omega (arith, l)); places = λ h l. keeps.places h (omega (arith, l)) })
         (λ h some. lasts h (omega (arith, some, counted_now old new s t m n zs bs shared moves_all h))) macros;
     called =

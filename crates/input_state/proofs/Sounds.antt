@@ -21,17 +21,17 @@ use Rattle.world_io.specs.declared.traits.InId.{InId}
 use Rattle.meanings.specs.Map.{Map, first_map}
 use Rattle.meanings.specs.Holding as meant
 use Rattle.input_stack.specs.Puts.{Put}
-use Rattle.input_stack.specs.Pending.{Pending, Below, settle, sources_at, at_line, Ends, EndsIn}
+use Rattle.input_stack.specs.Pending.{Pending, Below, times, settle, sources_at, at_line, Ends, EndsIn}
 use Rattle.input_stack.specs.View.{pending, pending_in, held, held_in, innermost}
 use Rattle.input_stack.specs.Standing.{Stands}
-use Rattle.input_stack.specs.Lasting.{Lasts}
+use Rattle.input_stack.specs.Lasting.{Lasts, LastsBut}
 use Rattle.input_stack.specs.declared.stack.InputStack.{InputStack}
 use Rattle.input_stack.specs.declared.level.Level.{Level}
 use Rattle.input_stack.proofs.Kept.{holds_itself}
 use Rattle.input_state.specs.Changes.{IsOnly}
 use Rattle.input_state.specs.HeldLists.{HeldLists, words_held}
 use Rattle.input_state.specs.Macros.{KeepsLists}
-use Rattle.input_state.specs.HeldViews.{Named, named, names_hold, call_holds, calling_of, IsCall, text, made_text, fronts, line_of, texts, lists_of, all_builds, built, IsSingle, IsSimple, ArePlain, IsApart, IsDefined, IsShared, IsSized, IsSound}
+use Rattle.input_state.specs.HeldViews.{Named, named, names_hold, call_holds, calling_of, IsCall, text, made_text, fronts, line_of, texts, lists_of, all_builds, built, IsSingle, IsSimple, AreFronts, cells_of, IsApart, IsDefined, IsShared, IsSized, IsSound}
 use Rattle.input_state.proofs.Shares.{Fewer, apart_fewer, fewer_none, fewer_settled}
 use Rattle.input_state.proofs.Fronts.{fronts_settled}
 use Rattle.input_state.proofs.Levels.{simple_settled}
@@ -122,7 +122,7 @@ ok_of (Err e) A P a f = tt
 
 -- THE LEVELS
 
-module _ (old new : List (Option Entry)) (s t : InputStack) (making : Option Build) (gathered : List Build) (m : Named) (sizes : Sizes) (capacity : ℕ) (sound : IsSound old s making gathered m sizes capacity) (stands : Stands new t) (moves : Moves old new (held s) (held t)) (keeps : Keeps old new (held s)) (lasts : Lasts old new) (size : t.size ≡ s.size) (parameters : t.parameter_size ≡ s.parameter_size) where
+module _ (old new : List (Option Entry)) (s t : InputStack) (making : Option Build) (gathered : List Build) (m : Named) (sizes : Sizes) (capacity : ℕ) (more : ℕ → ℕ) (sound : IsSound old s making gathered m sizes capacity) (stands : Stands new t) (moves : Moves old new (held s) (held t)) (keeps : Keeps old new (held s)) (lasts : LastsBut old new more) (size : t.size ≡ s.size) (parameters : t.parameter_size ≡ s.parameter_size) (simple : IsSimple (pending new t)) (fewer : Fewer (pending new t).puts (pending old s).puts) where
   keeps_none : Keeps old new (λ h. built [] h + (held s h + meant.held m.map h))
   keeps_none = record { tokens = λ h l. keeps.tokens h (omega (arith, l)); places = λ h l. keeps.places h (omega (arith, l)) }
 
@@ -130,32 +130,41 @@ module _ (old new : List (Option Entry)) (s t : InputStack) (making : Option Bui
   macros_stay : (h : ℕ) → 0 < meant.held m.map h → IsDefined (tokens_at new h)
   macros_stay h some = subst IsDefined (sym (lasts.tokens h (omega (arith, some, moves h, sound.shared.counted h)))) (sound.shared.macros h some)
 
-  pub levels_moved : IsSimple (pending new t) → IsApart (pending new t).puts (all_builds making gathered) m → Moved old new t m (all_builds making gathered)
-  levels_moved simple apart = moved old new s t m m [] (all_builds making gathered) sound.shared stands simple apart (λ h. omega (arith, moves h)) keeps_none lasts.tokens macros_stay (λ h. refl)
+  pub levels_moved : Moved old new t m (all_builds making gathered)
+  levels_moved =
+      moved old new s t m m [] (all_builds making gathered) sound.shared stands simple
+      (apart_fewer (pending new t).puts (pending old s).puts (all_builds making gathered) m fewer sound.shared.apart)
+      (λ h some. sound.shared.listed h (omega (arith, some, fewer.cells h)))
+      (λ h. omega (arith, moves h)) keeps_none lasts.tokens macros_stay (λ h. refl)
 
-  pub levels_sound : IsSimple (pending new t) → IsApart (pending new t).puts (all_builds making gathered) m → IsSound new t making gathered m sizes capacity
-  levels_sound simple apart = record {
-    shared = (levels_moved simple apart).reheld.shared;
+  pub levels_sound : IsSound new t making gathered m sizes capacity
+  levels_sound = record {
+    shared = levels_moved.reheld.shared;
     sized = sized_now old new s t m sizes capacity capacity sound.sized lasts.size size parameters refl;
     call =
-        let now = (levels_moved simple apart).reheld.shared.counted in
-        call_stays old new m.map m.call (levels_moved simple apart).called
+        let now = levels_moved.reheld.shared.counted in
+        call_stays old new m.map m.call levels_moved.called
         (record { tokens = λ h some. keeps.tokens h (omega (arith, some, sound.shared.counted h)); places = λ h some. keeps.places h (omega (arith, some, sound.shared.counted h)) })
         (record { covers = λ h. omega (arith, now h); outside = λ h some. omega (arith, now h, some) }) sound.call;
   }
 
+-- no list has more holders
+pub lasts_none : (old new : List (Option Entry)) → Lasts old new → LastsBut old new none
+lasts_none old new lasts = record { size = lasts.size; fewer = λ h. omega (arith, lasts.fewer h); tokens = lasts.tokens }
+
+module _ (old new : List (Option Entry)) (s t : InputStack) (making : Option Build) (gathered : List Build) (m : Named) (sizes : Sizes) (capacity : ℕ) (sound : IsSound old s making gathered m sizes capacity) (stands : Stands new t) (moves : Moves old new (held s) (held t)) (keeps : Keeps old new (held s)) (lasts : Lasts old new) (size : t.size ≡ s.size) (parameters : t.parameter_size ≡ s.parameter_size) where
   module _ (after : pending new t ≡ settle (pending old s)) where
     settled_simple : IsSimple (pending new t)
     settled_simple = subst (λ (p : Pending). IsSimple p) (sym after) (simple_settled (pending old s) sound.shared.simple)
 
-    settled_apart : IsApart (pending new t).puts (all_builds making gathered) m
-    settled_apart = subst (λ (p : Pending). IsApart p.puts (all_builds making gathered) m) (sym after) (apart_fewer (settle (pending old s)).puts (pending old s).puts (all_builds making gathered) m (fewer_settled (pending old s).puts) sound.shared.apart)
+    settled_few : Fewer (pending new t).puts (pending old s).puts
+    settled_few = subst (λ (p : Pending). Fewer p.puts (pending old s).puts) (sym after) (fewer_settled (pending old s).puts)
 
     settled_moved : Moved old new t m (all_builds making gathered)
-    settled_moved = levels_moved settled_simple settled_apart
+    settled_moved = levels_moved old new s t making gathered m sizes capacity none sound stands moves keeps (lasts_none old new lasts) size parameters settled_simple settled_few
 
     pub settled_sound : IsSound new t making gathered m sizes capacity
-    settled_sound = levels_sound settled_simple settled_apart
+    settled_sound = levels_sound old new s t making gathered m sizes capacity none sound stands moves keeps (lasts_none old new lasts) size parameters settled_simple settled_few
 
     pub settled_view : (v : HeldLists) → lists_of old (pending old s) making gathered m sizes ≡ v → lists_of new (pending new t) making gathered m sizes ≡ record v { puts = plain.settled v.puts; lists = texts new }
     settled_view v is =
@@ -179,6 +188,7 @@ module _ (table : List (Option Entry)) (s t : InputStack) (making : Option Build
       counted = λ h. omega (arith, sound.shared.counted h, held_same h);
       apart = apart_fewer (pending table t).puts (pending table s).puts (all_builds making gathered) m fewer sound.shared.apart;
       macros = sound.shared.macros;
+      listed = λ h some. sound.shared.listed h (omega (arith, some, fewer.cells h));
     };
     sized = sized_now table table s t m sizes capacity capacity sound.sized refl size parameters refl;
     call = sound.call;
@@ -190,18 +200,18 @@ single_at line (b ∷ []) single = single
 single_at line (b ∷ c ∷ bs) single = absurd single
 
 pub line_simple : (p q : Pending) (line : Line) → IsSimple p → q ≡ at_line line p → IsSimple q
-line_simple p q line simple is = subst (λ (r : Pending). IsSimple r) (sym is) (record { single = single_at line p.sources simple.single; plain = simple.plain })
+line_simple p q line simple is = subst (λ (r : Pending). IsSimple r) (sym is) (record { single = single_at line p.sources simple.single; fronts = simple.fronts })
 
 ends_single : (bs : List Below) (q : Pending) (id : Option InId) → IsSingle bs → EndsIn bs q id → IsSimple q
 ends_single [] q id single ends = absurd ends
-ends_single (b ∷ []) q id single ends = subst (λ (r : Pending). IsSimple r) (sym ends.1) (record { single = tt; plain = subst ArePlain (sym single) tt })
+ends_single (b ∷ []) q id single ends = subst (λ (r : Pending). IsSimple r) (sym ends.1) (record { single = tt; fronts = subst AreFronts (sym single) tt })
 ends_single (b ∷ c ∷ bs) q id single ends = absurd single
 
 pub end_simple : (p q : Pending) (id : Option InId) → IsSimple p → Ends p q id → IsSimple q
 end_simple p q id simple ends = ends_single p.sources q id simple.single ends
 
 pub line_fewer : (p q : Pending) (line : Line) → q ≡ at_line line p → Fewer q.puts p.puts
-line_fewer p q line is = subst (λ (r : Pending). Fewer r.puts p.puts) (sym is) (record { owns = λ h. omega arith; bodies = λ h. omega arith })
+line_fewer p q line is = subst (λ (r : Pending). Fewer r.puts p.puts) (sym is) (record { owns = λ h. omega arith; bodies = λ h. omega arith; cells = λ h. omega arith })
 
 ends_fewer : (bs : List Below) (q : Pending) (id : Option InId) (ps : List Put) → IsSingle bs → EndsIn bs q id → Fewer q.puts ps
 ends_fewer [] q id ps single ends = absurd ends
@@ -231,11 +241,14 @@ new_sound table stack items m sizes capacity is empty stands size parameters non
     let zero_at : (h : ℕ) → holders_at table h ≡ 0 = λ h. ap (λ (t : List (Option Entry)). holders_at t h) is ∙ ap holders_of (none_at sizes.main_memory_size h) in
     let s : IsShared table stack [] (named m call.None) = record {
       stands = stands;
-      simple = subst (λ (ls : List Level). IsSimple (pending_in table ls)) (sym empty) (record { single = tt; plain = tt });
+      simple = subst (λ (ls : List Level). IsSimple (pending_in table ls)) (sym empty) (record { single = tt; fronts = tt });
       building = All-nil (IsBuilding table);
       counted = λ h. omega (arith, zero_at h, ap (λ (ls : List Level). held_in ls h) empty, free h);
       apart = subst (λ (ls : List Level). IsApart (pending_in table ls).puts [] (named m call.None)) (sym empty) (record { sole = λ h. omega arith; apart = λ h some. omega (arith, some) });
       macros = λ h some. absurd (omega (arith, some, free h));
+      listed = λ h some.
+          let here : 0 < times h (cells_of (pending_in table []).puts) = subst (λ (ls : List Level). 0 < times h (cells_of (pending_in table ls).puts)) empty some in
+          absurd (omega (arith, here));
     } in
     record {
       shared = subst (λ (bs : List Build). IsShared table stack (reverse bs) (named m call.None)) (sym none) s;

@@ -1,7 +1,7 @@
 -- The words that the lists take in main memory are those of the plain lists.
-use Rattle.std.proofs.Common.{◌≡◌, ℕ, zero, suc, ◌+◌, ◌<◌, ◌≤◌, List, [], ◌∷◌, ◌++◌, length, map, take, reverse, Option, None, Some, inl, inr, refl, sym, ap, ◌∙◌, arith}
+use Rattle.std.proofs.Common.{◌≡◌, ℕ, zero, suc, ◌+◌, ◌<◌, ◌≤◌, List, [], ◌∷◌, ◌++◌, length, map, take, reverse, Option, None, Some, inl, inr, refl, sym, ap, ◌∙◌, subst, arith}
 use Rattle.std.specs.Prelude.{sum_by, option_to_list, slice_index_or}
-use Rattle.std.proofs.lemmas.Bool.{cases_lt}
+use Rattle.std.proofs.lemmas.Bool.{cases_lt, cases_eq}
 use Rattle.std.proofs.lemmas.List.{length-reverse}
 use Rattle.std.proofs.lemmas.List.Sums.{sum_by-cons, sum_by-append}
 use Rattle.tex_defs.specs.declared.Token.{Token}
@@ -29,10 +29,10 @@ use Rattle.input_stack.specs.Pending.{times}
 use Rattle.input_stack.specs.View.{pending}
 use Rattle.input_stack.specs.declared.stack.InputStack.{InputStack}
 use Rattle.input_state.specs.HeldLists.{words_held}
-use Rattle.input_state.specs.HeldViews.{Named, call_holds, calling_of, IsCall, text, made_text, fronts, lists_of, all_builds, built, owns, bodies, IsShared}
-use Rattle.input_state.proofs.Counting.{some, some_one, some_none, mark, words_at, times_cons, times_append, words_counted}
+use Rattle.input_state.specs.HeldViews.{Named, call_holds, calling_of, IsCall, text, made_text, fronts, lists_of, all_builds, built, owns, bodies, opens, IsShared}
+use Rattle.input_state.proofs.Counting.{holds_other, some, some_one, some_none, mark, words_at, times_cons, times_append, words_counted}
 use Rattle.input_state.proofs.Shares.{held_parts, macro_once}
-use Rattle.input_state.proofs.Levels.{plain_opens, front_words}
+use Rattle.input_state.proofs.Levels.{no_opens, front_words}
 use Rattle.input_state.proofs.Sharing.{built_cons}
 
 build_times : (bs : List Build) (h : ℕ) → times h (map build_id bs) ≡ built bs h
@@ -77,10 +77,20 @@ cell_words table (Some r ∷ cells) others have =
     let ts = tokens_at table (id_of r) in
     omega (arith, cell_words table cells (list_of_tokens ts ++ others) have.1, some_words ts others (have.0 r refl), sum_by-cons (words_at table) (id_of r) (cell_ids cells))
 
-have_tokens : (table : List (Option Entry)) (cells : List (Option ListRef)) → ((i : ℕ) (r : ListRef) → slice_index_or cells i None ≡ Some r → 0 < length (tokens_at table (id_of r))) → HaveTokens table cells
+pub have_tokens : (table : List (Option Entry)) (cells : List (Option ListRef)) → ((i : ℕ) (r : ListRef) → slice_index_or cells i None ≡ Some r → 0 < length (tokens_at table (id_of r))) → HaveTokens table cells
 unfolding HaveTokens
 have_tokens table [] listed = tt
 have_tokens table (c ∷ cells) listed = (λ r is. listed 0 r is, have_tokens table cells (λ i r is. listed (suc i) r is))
+
+-- so has each list that they hold
+pub token_at : (table : List (Option Entry)) (cells : List (Option ListRef)) → HaveTokens table cells → (h : ℕ) → 0 < cells_hold cells h → 0 < length (tokens_at table h)
+unfolding HaveTokens
+token_at table [] have h some = absurd (omega (arith, some))
+token_at table (None ∷ cells) have h some = token_at table cells have.1 h (omega (arith, some, sum_by-cons (λ (c : Option ListRef). cell_holds c h) None cells))
+token_at table (Some r ∷ cells) have h some = elim (cases_eq (id_of r) h) [
+  | inl is ↦ subst (λ (k : ℕ). 0 < length (tokens_at table k)) is (have.0 r refl)
+  | inr other ↦ token_at table cells have.1 h (omega (arith, some, holds_other (id_of r) h other, sum_by-cons (λ (c : Option ListRef). cell_holds c h) (Some r) cells))
+]
 
 taken_tokens : (table : List (Option Entry)) (n : ℕ) (cells : List (Option ListRef)) → HaveTokens table cells → HaveTokens table (take n cells)
 unfolding HaveTokens
@@ -138,13 +148,13 @@ call_words table m (call.Stopped name scan) is =
 call_words table m (call.Gathered name args) is = args_words table args is.listed
 
 -- each list is a macro's, or is held for itself in one place
-held_once : (a b c d : ℕ) → a + d ≤ 1 → (0 < a + d → b + c ≡ 0) → some (a + b + (d + c)) ≡ some (c + b) + (a + d)
-held_once a b c d sole apart = elim (cases_lt 0 (a + d)) [
+held_once : (a b o c d : ℕ) → a + d ≤ 1 → (0 < a + d → b + c ≡ 0) → (a ≡ 0 → o ≡ 0) → some (a + (b + o) + (d + c)) ≡ some (c + b) + (a + d)
+held_once a b o c d sole apart opens = elim (cases_lt 0 (a + d)) [
   | inl lt ↦
       let none = apart lt in
-      omega (arith, some_one (a + b + (d + c)) (omega (arith, lt)), some_none (c + b) (omega (arith, none)), sole, lt)
+      omega (arith, some_one (a + (b + o) + (d + c)) (omega (arith, lt)), some_none (c + b) (omega (arith, none)), sole, lt)
   | inr ge ↦
-      let same : a + b + (d + c) ≡ c + b = omega (arith, ge) in
+      let same : a + (b + o) + (d + c) ≡ c + b = omega (arith, ge, opens (omega (arith, ge))) in
       omega (arith, ap some same, ge)
 ]
 
@@ -159,12 +169,12 @@ words_are table stack making gathered m sizes shared is =
     let counted : (h : ℕ) → some (holders_at table h) ≡ mark m.map.cells (fronts table ps) h + times h (ns ++ ks) =
     λ h.
     let d = built bs h + call_holds m.call h in
-    let all : holders_at table h ≡ times h ns + times h (bodies ps) + (d + meant.held m.map h) = omega (arith, shared.counted h, held_parts table stack shared.simple.single h, plain_opens ps shared.simple.plain h) in
-    let once = held_once (times h ns) (times h (bodies ps)) (meant.held m.map h) d (shared.apart.sole h) (shared.apart.apart h) in
+    let all : holders_at table h ≡ times h ns + (times h (bodies ps) + times h (opens ps)) + (d + meant.held m.map h) = omega (arith, shared.counted h, held_parts table stack shared.simple.single h) in
+    let once = held_once (times h ns) (times h (bodies ps)) (times h (opens ps)) (meant.held m.map h) d (shared.apart.sole h) (shared.apart.apart h) (no_opens ps shared.simple.fronts h) in
     omega (arith, ap some all, once, macro_once table m.map ps h, others h, times_append h ns ks) in
     let words = words_counted m.map.cells (fronts table ps) table (ns ++ ks) counted in
     let calls = sum_by-append list_words (call_lists (calling_of table m.call)) (map (text table) (reverse gathered)) in
-    omega (arith, words, sum_by-append (words_at table) ns ks, sum_by-append (words_at table) (call_ids m.call) (map build_id bs), front_words table ps shared.simple.plain, build_words table bs, all_words table making (reverse gathered), call_words table m.map m.call is, calls)
+    omega (arith, words, sum_by-append (words_at table) ns ks, sum_by-append (words_at table) (call_ids m.call) (map build_id bs), front_words table ps shared.listed, build_words table bs, all_words table making (reverse gathered), call_words table m.map m.call is, calls)
 
 -- a list takes a word
 few : (us : List (List Token)) → length us ≤ lists_words us

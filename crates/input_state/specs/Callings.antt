@@ -13,6 +13,13 @@ pub data Calling : Type 0 where
   Stopped : Name → Scan → Calling
   Gathered : Name → (args : List (List Token)) → Calling
 
+-- all arguments are there
+abbrev pub IsComplete : Calling → Type 0
+IsComplete NotCalling = ⊥
+IsComplete (Gathering name scan) = ⊥
+IsComplete (Stopped name scan) = ⊥
+IsComplete (Gathered name args) = Unit {0}
+
 -- the lists of arguments, the last first, in front of others: an argument without tokens has none
 abbrev pub last_first : (args others : List (List Token)) → List (List Token)
 last_first [] others = others

@@ -13,6 +13,7 @@ use Rattle.plain_state.specs.Tables.{Demand}
 use Rattle.input_state.specs.declared.answer.CallKind.{CallKind}
 use Rattle.input_state.specs.declared.answer.CallKind.TheVariants as kind
 use Rattle.input_state.specs.Macros.{list_at, is_macro}
+use Rattle.input_state.specs.Callings.{Calling, NotCalling, Gathering, Stopped, Gathered}
 
 -- the mark between a macro's parameter text and its body
 abbrev pub is_end_mark : Token → Bool
@@ -57,6 +58,25 @@ after_call p q = with_puts (called p q.puts) q
 abbrev pub when_called : List Item → Demand → List Demand
 when_called [] d = []
 when_called (x ∷ xs) d = d ∷ []
+
+-- A CALL WITH ARGUMENTS
+
+-- what is put of the macro that a name means
+abbrev pub macro_put : List (List Token) → Meaning (Option ℕ) → (args : List (List Token)) → Put
+macro_put lists (means.Macro long outer (Some id)) args = call_put id (list_at lists id) args
+macro_put lists m args = token_put []
+
+-- what the call puts once all arguments are there
+abbrev pub put_of : List (List Token) → List (Meaning (Option ℕ)) → Calling → Put
+put_of lists meanings NotCalling = token_put []
+put_of lists meanings (Gathering name scan) = token_put []
+put_of lists meanings (Stopped name scan) = token_put []
+put_of lists meanings (Gathered name args) = macro_put lists (name_meaning meanings name) args
+
+-- a list without items asks for nothing
+abbrev pub when_put : List Item → List Demand → List Demand
+when_put [] ds = []
+when_put (x ∷ xs) ds = ds
 
 -- A DEFINITION
 

@@ -1,5 +1,5 @@
 -- What the levels of input give.
-use Rattle.std.specs.Prelude.{Result, Ok}
+use Rattle.std.specs.Prelude.{Result, Ok, Err}
 use Rattle.tex_defs.specs.declared.Full.{Full}
 use Rattle.line_lexer.specs.declared.Lexed.TheVariants.{Invalid}
 use Rattle.input_stack.specs.declared.level.Pulled.{Pulled}
@@ -18,3 +18,12 @@ answer_of (Ok (Token t)) = answer.Token t
 answer_of (Ok (Lexed Invalid)) = answer.Invalid
 answer_of (Ok (Lexed l)) = answer.Lexeme l
 answer_of r = answer.Nothing
+
+-- the same, or a refusal
+abbrev pub GivesOrRefuses : Result Pulled Full → Type 0
+GivesOrRefuses (Ok g) = GivesMore (Ok g)
+GivesOrRefuses (Err f) = Unit {0}
+
+abbrev pub told : Result Pulled Full → Result answers.Pulled Full
+told (Ok g) = Ok (answer_of (Ok g))
+told (Err f) = Err f

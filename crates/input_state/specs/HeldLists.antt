@@ -1,16 +1,16 @@
 -- The lists that are held, and the line of the file beneath those in front.
-use Rattle.std.specs.Prelude.{ℕ, ◌+◌, ◌≤◌, List, [], ◌∷◌, ◌++◌, Option, None, Some, Bool, true, false}
+use Rattle.std.specs.Prelude.{ℕ, ◌+◌, ◌≤◌, List, [], ◌∷◌, ◌++◌, length, Option, None, Some, Bool, true, false}
 use Rattle.tex_defs.specs.declared.Token.{Token}
 use Rattle.tex_defs.specs.declared.Meaning.{Meaning}
 use Rattle.tex_defs.specs.declared.Full.{Full}
 use Rattle.tex_defs.specs.declared.Sizes.{Sizes}
-use Rattle.tex_defs.specs.declared.Table.TheVariants.{InputStackSize}
+use Rattle.tex_defs.specs.declared.Table.TheVariants.{InputStackSize, ParameterStackSize}
 use Rattle.plain_state.specs.Lex as plain
-use Rattle.plain_state.specs.Puts.{Put, put_levels, settled, passed}
+use Rattle.plain_state.specs.Puts.{Put, put_levels, put_parameters, settled, passed}
 use Rattle.plain_state.specs.Pending.{Pending, Progress, NotBegun}
 use Rattle.plain_state.specs.Tables.{Demand, refused, held_words, macro_words}
 use Rattle.input_state.specs.Macros.{KeepsLists}
-use Rattle.input_state.specs.Calls.{when_called}
+use Rattle.input_state.specs.Calls.{when_called, when_put}
 use Rattle.input_state.specs.Callings.{Calling, call_lists}
 use Rattle.line_lexer.specs.declared.Line.{Line}
 use Rattle.line_lexer.specs.declared.Ahead.{Ahead}
@@ -71,6 +71,14 @@ level_held s = record { table = InputStackSize; used = put_levels s.puts + line_
 -- why the body of a macro isn't put, once the finished lists in front have gone
 abbrev pub call_refusal : Put → HeldLists → Option Full
 call_refusal p s = refused s.sizes (when_called p.items (level_held (record s { puts = settled s.puts })))
+
+-- the arguments of a call
+abbrev pub parameters_held : Put → HeldLists → Demand
+parameters_held p s = record { table = ParameterStackSize; used = put_parameters s.puts; need = length p.arguments }
+
+-- why a call with arguments isn't put, once the finished lists in front have gone: the arguments are asked for before the level
+abbrev pub put_refusal : Put → HeldLists → Option Full
+put_refusal p s = refused s.sizes (when_put p.items (parameters_held p (record s { puts = settled s.puts }) ∷ level_held (record s { puts = settled s.puts }) ∷ []))
 
 -- what the file's first line needs of the levels
 abbrev pub file_demands : Progress → HeldLists → List Demand

@@ -11,9 +11,8 @@ use Rattle.token_lists.specs.declared.Build.{Build}
 use Rattle.token_lists.specs.Ids.{build_id, IsBuilding}
 use Rattle.token_lists.specs.Table.{Entry, tokens_at, tokens_of, holders_at}
 use Rattle.token_lists.specs.Accounts.{holds}
-use Rattle.input_stack.specs.Puts.{Put, Item, Text, First, Later, Gap, numbers}
+use Rattle.input_stack.specs.Puts.{Put, Item, Text, First, Later, Gap, argument_of, numbers}
 use Rattle.input_stack.specs.Pending.{Pending, Below, times}
-use Rattle.input_stack.specs.Pulls.{token_in}
 use Rattle.input_stack.specs.View.{pending, held}
 use Rattle.input_stack.specs.Standing.{Stands}
 use Rattle.input_stack.specs.declared.stack.InputStack.{InputStack}
@@ -101,20 +100,33 @@ IsSingle [] = Unit {0}
 IsSingle (b ∷ []) = b.puts ≡ []
 IsSingle (b ∷ c ∷ bs) = ⊥
 
--- a list without arguments
-pub record IsPlain (p : Put) : Type 0 where
-  pub arguments : p.arguments ≡ []
-  pub reading : p.reading ≡ None
-  pub texts : p.items ≡ map Text (map token_in p.items)
+-- an argument of a call, by the number of its list
+abbrev pub IsOf : List (Option ℕ) → Option ℕ → Type 0
+IsOf cells None = Unit {0}
+IsOf cells (Some n) = 0 < times n (numbers cells)
 
-abbrev pub ArePlain : List Put → Type 0
-ArePlain [] = Unit {0}
-ArePlain (p ∷ ps) = IsPlain p × ArePlain ps
+abbrev pub AreOf : List (Option ℕ) → List Item → Type 0
+AreOf cells [] = Unit {0}
+AreOf cells (x ∷ xs) = IsOf cells (argument_of x) × AreOf cells xs
 
--- lists without arguments, in front of one file at most
+-- of arguments a list in front reads those of its call alone
+pub record IsFront (p : Put) : Type 0 where
+  pub reading : IsOf p.arguments p.reading
+  pub items : AreOf p.arguments p.items
+
+abbrev pub AreFronts : List Put → Type 0
+AreFronts [] = Unit {0}
+AreFronts (p ∷ ps) = IsFront p × AreFronts ps
+
+-- the lists of the arguments in front
+abbrev pub cells_of : List Put → List ℕ
+cells_of [] = []
+cells_of (p ∷ ps) = numbers p.arguments ++ cells_of ps
+
+-- lists in front of one file at most
 pub record IsSimple (p : Pending) : Type 0 where
   pub single : IsSingle p.sources
-  pub plain : ArePlain p.puts
+  pub fronts : AreFronts p.puts
 
 -- all lists that are being built
 abbrev pub all_builds : Option Build → List Build → List Build
@@ -156,6 +168,13 @@ IsScanning (call.Gathers name scan) = Unit {0}
 IsScanning (call.Stopped name scan) = ⊥
 IsScanning (call.Gathered name args) = ⊥
 
+-- all arguments are there
+abbrev pub HasArguments : code.Gathering → Type 0
+HasArguments call.None = ⊥
+HasArguments (call.Gathers name scan) = ⊥
+HasArguments (call.Stopped name scan) = ⊥
+HasArguments (call.Gathered name args) = Unit {0}
+
 -- how often a call holds the list of a number
 abbrev pub call_holds : code.Gathering → ℕ → ℕ
 call_holds call.None h = 0
@@ -184,6 +203,8 @@ pub record IsShared (table : List (Option Entry)) (stack : InputStack) (bs : Lis
   pub counted : (h : ℕ) → holders_at table h ≡ held stack h + (built bs h + names_hold m h)
   pub apart : IsApart (pending table stack).puts bs m
   pub macros : (h : ℕ) → 0 < meant.held m.map h → IsDefined (tokens_at table h)
+  -- an argument without tokens has no list
+  pub listed : (h : ℕ) → 0 < times h (cells_of (pending table stack).puts) → 0 < length (tokens_at table h)
 
 -- THE CALL
 

@@ -1,5 +1,5 @@
 -- What a reading answers, and what is pending then.
-use Rattle.std.specs.Prelude.{◌≡◌, ℕ, ◌<◌, ◌≤◌, List, [], length, Option, None, Some, Bool, true, false}
+use Rattle.std.specs.Prelude.{◌≡◌, ℕ, ◌<◌, ◌≤◌, List, [], length, Option, None, Some, Bool, true, false, Result, Ok, Err}
 use Rattle.tex_defs.specs.declared.Full.{Full}
 use Rattle.tex_defs.specs.declared.Sizes.{Sizes}
 use Rattle.plain_state.specs.Lex as plain
@@ -29,7 +29,21 @@ pub record ReadsLexeme (p : Pulled) (lexed : Lexed) (next : Pending) (buffer : L
   pub is : IsLexeme buffer lexed lexeme
   pub pulls : p ≡ LexemeFrom lexeme next
 
--- The answer on a reading from what is pending, before and after it. The step of a list's token or of a line fits.
+-- The answer on a reading from what is pending, before and after it.
+abbrev pub Gives : Pulled → answers.Pulled → Pending → Pending → List ℕ → Type 0
+Gives p (answer.Token t) old new buffer = p ≡ TokenFrom t new
+Gives p (answer.Lexeme l) old new buffer = ReadsLexeme p l new buffer
+Gives p answer.Taken old new buffer = p ≡ LineTaken (taken_line old.rest) new
+Gives p answer.Invalid old new buffer = p ≡ InvalidMet new
+Gives p answer.FileOver old new buffer = p ≡ FileOver new
+Gives p answer.Nothing old new buffer = (p ≡ NothingLeft) × (new ≡ settle old)
+
+-- the same, where it isn't refused
+abbrev pub GivesTo : Pulled → Result answers.Pulled Full → Pending → Pending → List ℕ → Type 0
+GivesTo p (Ok a) old new buffer = Gives p a old new buffer
+GivesTo p (Err f) old new buffer = Unit {0}
+
+-- The same, where the step of a list's token or of a line fits.
 abbrev pub Reads : Pulled → answers.Pulled → Sizes → Pending → Pending → List ℕ → Type 0
 Reads p (answer.Token t) sizes old new buffer = (p ≡ TokenFrom t new) × (refused sizes (opened_level (next_item old.puts) old) ≡ None)
 Reads p (answer.Lexeme l) sizes old new buffer = ReadsLexeme p l new buffer

@@ -1,5 +1,5 @@
 -- All lists of a run, and all that is still to be read.
-use Rattle.std.specs.Prelude.{ℕ, ◌+◌, List, [], ◌++◌, Option, None, Some}
+use Rattle.std.specs.Prelude.{ℕ, ◌+◌, List, [], ◌∷◌, ◌++◌, Option, None, Some}
 use Rattle.tex_defs.specs.declared.Token.{Token}
 use Rattle.tex_defs.specs.declared.Meaning.{Meaning}
 use Rattle.tex_defs.specs.declared.Full.{Full}
@@ -7,9 +7,9 @@ use Rattle.tex_defs.specs.declared.Sizes.{Sizes}
 use Rattle.plain_state.specs.Puts.{Put}
 use Rattle.plain_state.specs.Lex.{NewLine}
 use Rattle.plain_state.specs.Pending.{Pending, NotBegun, Closed, settle}
-use Rattle.plain_state.specs.Tables.{held_words, macro_words, level, refused}
+use Rattle.plain_state.specs.Tables.{held_words, macro_words, level, parameters, refused}
 use Rattle.input_state.specs.Macros.{KeepsLists}
-use Rattle.input_state.specs.Calls.{when_called}
+use Rattle.input_state.specs.Calls.{when_called, when_put}
 use Rattle.input_state.specs.Callings.{Calling, call_lists}
 
 pub record Stored : Type 0 where
@@ -45,6 +45,10 @@ KeepsMacros old new = KeepsLists new.meanings new.pending.puts old.lists new.lis
 -- why the body of a macro isn't put, once the finished lists in front have gone
 abbrev pub call_refusal : Put → Stored → Option Full
 call_refusal p s = refused s.sizes (when_called p.items (level (settle s.pending)))
+
+-- why a call with arguments isn't put, once the finished lists in front have gone: the arguments are asked for before the level
+abbrev pub put_refusal : Put → Stored → Option Full
+put_refusal p s = refused s.sizes (when_put p.items (parameters p (settle s.pending) ∷ level (settle s.pending) ∷ []))
 
 -- no file, and nothing in front
 abbrev pub closed : Pending

@@ -12,7 +12,7 @@ ghost use Rattle.meanings.specs.Map.{Map};
 ghost use Rattle.meanings.specs.Holding.{list_of};
 ghost use Rattle.macro_call.specs.Scans.{IsSound, scan_of};
 ghost use Rattle.input_state.specs.declared.gathering.Gathering.TheVariants as gathering;
-ghost use Rattle.input_state.specs.HeldViews.{calling_of, IsScanning};
+ghost use Rattle.input_state.specs.HeldViews.{calling_of, IsScanning, HasArguments};
 ghost use Rattle.input_state.specs.CallFeeds.{Comes, CutTo};
 ghost use Rattle.input_state.specs.Recalls.{Recalls};
 
@@ -46,6 +46,19 @@ impl Gathering {
             Gathering::None => unreachable!(),
             Gathering::Stopped(_name, _scan) => unreachable!(),
             Gathering::Gathered(_name, _args) => unreachable!(),
+        }
+    }
+
+    /// The name and the arguments of a call that has all of them.
+    pub fn into_args(self) -> (Name, Args)
+        requires { HasArguments self }
+        ensures { self ≡ gathering.Gathered result.0 result.1 }
+    {
+        match self {
+            Gathering::Gathered(name, args) => (name, args),
+            Gathering::None => unreachable!(),
+            Gathering::Gathers(_name, _scan) => unreachable!(),
+            Gathering::Stopped(_name, _scan) => unreachable!(),
         }
     }
 

@@ -41,8 +41,8 @@ pub fn share(lists: &mut Lists, list: &ListRef) -> ListRef
     lists.share(list)
 }
 
-// Lets a holder go.
-fn let_go(lists: &mut Lists, list: ListRef)
+/// Lets a holder go.
+pub fn let_go(lists: &mut Lists, list: ListRef)
     requires { IsHeld lists.old (id_of list) }
     ensures account { Moves lists.old lists.new (holds (id_of list)) none }
     ensures kept { Keeps lists.old lists.new (holds (id_of list)) }

@@ -1,36 +1,36 @@
 // The lists in front, those that are being made and gathered, the line of the file beneath them, and what the names mean.
-ghost use Rattle.std.specs.Prelude.{◌≡◌, ◌≢◌, ℕ, ◌≤◌, ◌<◌, ◌+◌, ◌++◌, ◌↔◌, true, List, [], ◌∷◌, Option, None, Some, IsSome, IfSome, IsTrue, IfOk, OnOk, OnErr, IfErr, MatchResult, MatchBool, length, drop, replicate};
+ghost use Rattle.std.specs.Prelude.{◌≡◌, ◌≢◌, ℕ, ◌≤◌, ◌<◌, ◌+◌, ◌++◌, ◌↔◌, true, List, [], ◌∷◌, Option, None, Some, Ok, IsSome, IfSome, IsTrue, IfOk, OnOk, OnErr, IfErr, MatchResult, MatchBool, length, drop, replicate};
 ghost use Rattle.tex_defs.specs.Sizes.{first_out_of_range};
 ghost use Rattle.plain_state.specs.Names.{is_primitive};
 ghost use Rattle.tex_defs.specs.declared.Meaning.TheVariants.{Undefined};
 ghost use Rattle.plain_state.specs.Meanings.{first_meanings, fixed_locations, location, name_meaning, seen};
-ghost use Rattle.plain_state.specs.Puts.{settled, with_put, token_put};
+ghost use Rattle.plain_state.specs.Puts.{settled, passed, with_put, token_put};
 ghost use Rattle.plain_state.specs.Pending.{Progress, pulled};
 ghost use Rattle.plain_state.specs.States.{grow_first, grown_by};
-ghost use Rattle.plain_state.specs.Tables.{is_meant, lists_words, memory, refused};
+ghost use Rattle.plain_state.specs.Tables.{is_meant, lists_words, memory, refused, file_levels};
 ghost use Rattle.line_lexer.specs.declared.Ahead.TheVariants as ahead;
 ghost use Rattle.token_lists.specs.Table.{words, tokens_at, holders_at, IsHeld};
 ghost use Rattle.token_lists.specs.Ids.{build_id, IsBuilding};
 ghost use Rattle.token_lists.specs.Accounts.{Moves, none, holds};
 ghost use Rattle.token_lists.specs.Refusals.{IsFull};
-ghost use Rattle.input_state.specs.HeldLists.{HeldLists, KeepsHeld, call_refusal, first_list, is_empty, made, words_held, level_held, pending_of, ahead_of, line_levels, IsLineIn};
+ghost use Rattle.input_state.specs.HeldLists.{HeldLists, KeepsHeld, call_refusal, put_refusal, first_list, is_empty, made, words_held, level_held, pending_of, ahead_of, line_levels, IsLineIn};
 ghost use Rattle.meanings.specs.Map.{IsPlaced};
 ghost use Rattle.input_state.specs.HeldViews.{IsDefined};
 ghost use Rattle.input_state.specs.Macros.{HasNameRoom, list_at};
-ghost use Rattle.input_state.specs.Calls.{call_kind, called_put, called, text_of, begun_lists, Defines};
+ghost use Rattle.input_state.specs.Calls.{call_kind, called_put, called, put_of, text_of, begun_lists, Defines};
 ghost use Rattle.input_state.specs.declared.answer.CallKind.TheVariants.{AtOnce, Gathers};
-ghost use Rattle.input_state.specs.Callings.{NotCalling};
+ghost use Rattle.input_state.specs.Callings.{NotCalling, IsComplete};
 ghost use Rattle.input_state.specs.Callings as calls;
 ghost use Rattle.input_state.specs.CallFeeds.{IsTaking, Feeds, CutShort, growth, with_scan, call_work};
 ghost use Rattle.macro_call.specs.PlainScans.{first_scan, cut_scan, settled_scan};
 ghost use Rattle.macro_call.specs.Modes.{mode_of};
 ghost use Rattle.std.specs.Option.{option_map};
 ghost use Rattle.input_state.specs.Changes.{IsOnly};
-ghost use Rattle.input_state.specs.Reads.{Reads};
-ghost use Rattle.input_state.specs.Given.{GivesMore, answer_of};
+ghost use Rattle.input_state.specs.Reads.{GivesTo, step_demands};
+ghost use Rattle.input_state.specs.Given.{GivesMore, GivesOrRefuses, answer_of, told};
 
 use crate::gathering::{Gathering, begin as begin_call, feed};
-use crate::holders::{give_back, has_parameters, share};
+use crate::holders::{give_back, has_parameters, let_go, share};
 use crate::{CallKind, CallTold, Pulled};
 use input_stack::{InputStack, Pulled as Given};
 use line_lexer::{Ahead, Lexed, Line};
@@ -131,15 +131,26 @@ fn abandon(lists: &mut Lists, build: Build)
 }
 
 // What a pull gives, where it gives something.
-fn answer(given: Result<Given, Full>) -> Pulled
-    requires { GivesMore given }
-    ensures { result ≡ answer_of given }
+fn answer(given: Given) -> Pulled
+    requires { GivesMore (Ok given) }
+    ensures { result ≡ answer_of (Ok given) }
 {
     match given {
-        Ok(Given::Token(token)) => Pulled::Token(token),
-        Ok(Given::Lexed(Lexed::Invalid)) => Pulled::Invalid,
-        Ok(Given::Lexed(lexed)) => Pulled::Lexeme(lexed),
-        Ok(Given::LineEnd | Given::ReadEnd | Given::Bottom) | Err(_) => unreachable!(),
+        Given::Token(token) => Pulled::Token(token),
+        Given::Lexed(Lexed::Invalid) => Pulled::Invalid,
+        Given::Lexed(lexed) => Pulled::Lexeme(lexed),
+        Given::LineEnd | Given::ReadEnd | Given::Bottom => unreachable!(),
+    }
+}
+
+// The same, or a refusal.
+fn answered(given: Result<Given, Full>) -> Result<Pulled, Full>
+    requires { GivesOrRefuses given }
+    ensures { result ≡ told given }
+{
+    match given {
+        Ok(given) => Ok(answer(given)),
+        Err(full) => Err(full),
     }
 }
 
@@ -358,22 +369,41 @@ impl Held {
     pub fn looks(&self, bytes: &[u8], categories: &[u8; 256]) -> Ahead
         requires { IsLineIn self.now.line (length bytes.now) }
         ensures ahead { (rest : List ℕ) (file : Progress) (number : ℕ) → result ≡ ahead_of categories.now (pending_of self.now bytes.now rest file number) }
-        ensures finished { result ≡ ahead.End → settled self.now.puts ≡ [] }
+        ensures passed { result ≡ ahead.End → passed self.now.puts ≡ [] }
     {
         self.stack.looks(&self.lists, bytes, categories)
     }
 
     /// The next token of a list in front, or what the line gives, where it isn't used up.
-    pub fn pull(&mut self, bytes: &mut [u8], categories: &[u8; 256]) -> Pulled
+    ///
+    /// # Errors
+    /// The level of an argument passes the size of the input stack. Nothing has changed but that the finished lists in
+    /// front have gone.
+    pub fn pull(&mut self, bytes: &mut [u8], categories: &[u8; 256]) -> Result<Pulled, Full>
         requires in_buffer { IsLineIn self.old.line (length bytes.old) }
         requires more { (rest : List ℕ) (file : Progress) (number : ℕ) → ahead_of categories.now (pending_of self.old bytes.old rest file number) ≢ ahead.End }
         ensures in_buffer { IsLineIn self.new.line (length bytes.new) }
-        ensures pulls { (rest : List ℕ) (file : Progress) (number : ℕ) → Reads (pulled categories.now (pending_of self.old bytes.old rest file number)) result self.old.sizes (pending_of self.old bytes.old rest file number) (pending_of self.new bytes.new rest file number) bytes.new }
+        ensures gives { (rest : List ℕ) (file : Progress) (number : ℕ) → GivesTo (pulled categories.now (pending_of self.old bytes.old rest file number)) result (pending_of self.old bytes.old rest file number) (pending_of self.new bytes.new rest file number) bytes.new }
+        ensures refused { (rest : List ℕ) (file : Progress) (number : ℕ) → line_levels self.old.line ≡ file_levels file → MatchResult result (λ _. refused self.old.sizes (step_demands (pulled categories.now (pending_of self.old bytes.old rest file number)) (pending_of self.old bytes.old rest file number)) ≡ None) (λ full. refused self.old.sizes (step_demands (pulled categories.now (pending_of self.old bytes.old rest file number)) (pending_of self.old bytes.old rest file number)) ≡ Some full) }
+        ensures err { OnErr result (self.new ≡ record self.old { puts = settled self.old.puts; lists = self.new.lists }) }
+        ensures bytes { OnErr result (bytes.new ≡ bytes.old) }
         ensures others { self.new ≡ record self.old { puts = self.new.puts; line = self.new.line; lists = self.new.lists } }
         ensures macros { KeepsHeld self.old self.new }
         ensures levels { line_levels self.new.line ≡ line_levels self.old.line }
     {
-        answer(self.stack.pull(&mut self.lists, bytes, categories))
+        answered(self.stack.pull(&mut self.lists, bytes, categories))
+    }
+
+    /// Where nothing is left but gaps and a line that is used up, all lists in front go.
+    pub fn drop_front(&mut self, bytes: &mut [u8], categories: &[u8; 256])
+        requires in_buffer { IsLineIn self.old.line (length bytes.old) }
+        requires end { (rest : List ℕ) (file : Progress) (number : ℕ) → ahead_of categories.now (pending_of self.old bytes.old rest file number) ≡ ahead.End }
+        ensures in_buffer { IsLineIn self.new.line (length bytes.new) }
+        ensures after { self.new ≡ record self.old { puts = []; line = self.new.line; lists = self.new.lists } }
+        ensures macros { KeepsHeld self.old self.new }
+        ensures levels { line_levels self.new.line ≡ line_levels self.old.line }
+    {
+        let _given = self.stack.pull(&mut self.lists, bytes, categories);
     }
 
     /// The file gets a level, at this line.
@@ -522,6 +552,30 @@ impl Held {
         }
     }
 
+    /// Whether a call takes tokens.
+    pub fn is_taking(&self) -> bool
+        ensures { MatchBool result (IsTaking self.now.call) (IsTaking self.now.call → ⊥) }
+    {
+        match &self.call {
+            Gathering::Gathers(_name, _scan) => true,
+            Gathering::None => false,
+            Gathering::Stopped(_name, _scan) => false,
+            Gathering::Gathered(_name, _args) => false,
+        }
+    }
+
+    /// Whether all arguments of a call are there.
+    pub fn is_complete(&self) -> bool
+        ensures { MatchBool result (IsComplete self.now.call) (IsComplete self.now.call → ⊥) }
+    {
+        match &self.call {
+            Gathering::Gathered(_name, _args) => true,
+            Gathering::None => false,
+            Gathering::Gathers(_name, _scan) => false,
+            Gathering::Stopped(_name, _scan) => false,
+        }
+    }
+
     /// Feeds a token to the call. What is told is what the definition of arguments asks for behind all that was fed.
     ///
     /// # Errors
@@ -584,6 +638,34 @@ impl Held {
         match scan.built() {
             Some(build) => Some((&self.lists, build)),
             None => None,
+        }
+    }
+
+    /// Puts the call in front of all that is pending: the macro's body, each parameter number replaced by its argument.
+    /// The list is shared, not copied, and the arguments pass to it; one without a body lets them go and changes nothing
+    /// else. *TeX: The Program*, part 25 (`macro_call`).
+    ///
+    /// # Errors
+    /// The arguments or the level have no room, once the finished lists in front have gone; nothing else has changed.
+    pub fn put_call(&mut self) -> Result<(), Full>
+        requires { IsComplete self.old.call }
+        ensures refused { MatchResult result (λ _. put_refusal (put_of self.old.lists self.old.meanings self.old.call) self.old ≡ None) (λ full. put_refusal (put_of self.old.lists self.old.meanings self.old.call) self.old ≡ Some full) }
+        ensures ok { OnOk result (self.new ≡ record self.old { puts = called (put_of self.old.lists self.old.meanings self.old.call) self.old.puts; call = NotCalling; lists = self.new.lists }) }
+        ensures err { OnErr result (self.new ≡ record self.old { puts = settled self.old.puts; lists = self.new.lists }) }
+        ensures macros { KeepsHeld self.old self.new }
+    {
+        let (name, args) = mem::replace(&mut self.call, Gathering::None).into_args();
+        let Some(list) = self.meanings.list(name) else {
+            unreachable!()
+        };
+        let body = share(&mut self.lists, list);
+        match self.stack.push_macro(&mut self.lists, body, args) {
+            Ok(()) => Ok(()),
+            Err((refusal, body, args)) => {
+                let_go(&mut self.lists, body);
+                mem::replace(&mut self.call, Gathering::Gathered(name, args)).end();
+                Err(refusal)
+            }
         }
     }
 

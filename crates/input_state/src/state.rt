@@ -5,10 +5,10 @@ ghost use Rattle.tex_defs.specs.Sizes.{first_out_of_range};
 ghost use Rattle.plain_state.specs.Names.{is_primitive};
 ghost use Rattle.tex_defs.specs.declared.Meaning.TheVariants.{Undefined};
 ghost use Rattle.plain_state.specs.Meanings.{first_meanings, fixed_locations, location, name_meaning, seen};
-ghost use Rattle.plain_state.specs.Puts.{settled, token_put};
+ghost use Rattle.plain_state.specs.Puts.{settled, passed, token_put};
 ghost use Rattle.plain_state.specs.Pending.{NotBegun, Begun, Closed, LineTaken, pulled, settle, put_front, line_taken, taken_line, from_file};
 ghost use Rattle.plain_state.specs.States.{grow_first, grown_by};
-ghost use Rattle.plain_state.specs.Tables.{is_meant, lists_words, memory, level, file_levels, next_line, refused};
+ghost use Rattle.plain_state.specs.Tables.{is_meant, is_put, lists_words, memory, level, file_levels, next_line, refused};
 ghost use Rattle.line_lexer.specs.declared.Ahead.TheVariants as ahead;
 ghost use Rattle.line_lexer.specs.declared.LineState.TheVariants.{NewLine};
 ghost use Rattle.tex_defs.specs.declared.Table.TheVariants.{BufferSize};
@@ -20,15 +20,15 @@ ghost use Rattle.meanings.specs.Map.{IsPlaced};
 ghost use Rattle.input_state.specs.declared.answer.CallKind.TheVariants.{AtOnce, Gathers};
 ghost use Rattle.input_state.specs.HeldViews.{IsDefined};
 ghost use Rattle.input_state.specs.Macros.{HasNameRoom, list_at};
-ghost use Rattle.input_state.specs.Calls.{call_kind, called_put, after_call, text_of, begun_lists, Defines};
-ghost use Rattle.input_state.specs.Callings.{NotCalling};
+ghost use Rattle.input_state.specs.Calls.{call_kind, called_put, after_call, put_of, text_of, begun_lists, Defines};
+ghost use Rattle.input_state.specs.Callings.{NotCalling, IsComplete};
 ghost use Rattle.input_state.specs.Callings as calls;
 ghost use Rattle.input_state.specs.CallFeeds.{IsTaking, Feeds, CutShort, growth, with_scan, call_work};
 ghost use Rattle.macro_call.specs.PlainScans.{first_scan, cut_scan, settled_scan};
 ghost use Rattle.macro_call.specs.Modes.{mode_of};
 ghost use Rattle.input_state.specs.FileViews.{progress_of};
-ghost use Rattle.input_state.specs.Stored.{KeepsMacros, call_refusal, words, unread, closed};
-ghost use Rattle.input_state.specs.Reads.{Pulls, pull_refusal, RefusesLine, gives_step};
+ghost use Rattle.input_state.specs.Stored.{KeepsMacros, call_refusal, put_refusal, words, unread, closed};
+ghost use Rattle.input_state.specs.Reads.{GivesTo, Pulls, pull_refusal, RefusesLine, gives_step};
 
 use crate::file::{JobFile, Progress};
 use crate::lines::{first_line, put_line};
@@ -88,21 +88,38 @@ fn buffer_full(sizes: &Sizes) -> Full
     }
 }
 
-// The file goes on at this line, and gets its level with the first.
-fn open_line(held: &mut Held, progress: Progress, line: Line) -> Result<(), Full>
-    requires front { held.old.puts ≡ [] }
-    requires tied { line_levels held.old.line ≡ file_levels (progress_of progress) }
-    requires open { progress_of progress ≢ Closed }
+// Whether the level of the first line has room.
+fn line_room(held: &mut Held, progress: Progress) -> Result<(), Full>
+    requires { settled held.old.puts ≡ held.old.puts }
     ensures refused { MatchResult result (λ _. refused held.old.sizes (file_demands (progress_of progress) held.old) ≡ None) (λ full. refused held.old.sizes (file_demands (progress_of progress) held.old) ≡ Some full) }
-    ensures ok { OnOk result (held.new ≡ record held.old { line = Some line; lists = held.new.lists }) }
-    ensures err { OnErr result (held.new ≡ record held.old { lists = held.new.lists }) }
+    ensures after { held.new ≡ record held.old { lists = held.new.lists } }
     ensures macros { KeepsHeld held.old held.new }
 {
     if progress == Progress::NotBegun {
-        return held.open_file(line);
+        return match held.room() {
+            Some(full) => Err(full),
+            None => Ok(()),
+        };
+    }
+    Ok(())
+}
+
+// The file goes on at this line, and gets its level with the first.
+fn open_line(held: &mut Held, progress: Progress, line: Line)
+    requires front { held.old.puts ≡ [] }
+    requires tied { line_levels held.old.line ≡ file_levels (progress_of progress) }
+    requires open { progress_of progress ≢ Closed }
+    requires room { refused held.old.sizes (file_demands (progress_of progress) held.old) ≡ None }
+    ensures after { held.new ≡ record held.old { line = Some line; lists = held.new.lists } }
+    ensures macros { KeepsHeld held.old held.new }
+{
+    if progress == Progress::NotBegun {
+        match held.open_file(line) {
+            Ok(()) => return,
+            Err(_full) => unreachable!(),
+        }
     }
     held.begin_line(line);
-    Ok(())
 }
 
 impl Input {
@@ -271,24 +288,40 @@ impl Input {
     // What the next reading gives, but for what the file gives.
     fn looks(&self, categories: &[u8; 256]) -> Ahead
         ensures ahead { result ≡ ahead_of categories.now self.now.pending }
-        ensures finished { result ≡ ahead.End → settled self.now.pending.puts ≡ [] }
+        ensures passed { result ≡ ahead.End → passed self.now.pending.puts ≡ [] }
     {
         self.held.looks(&self.buffer, categories)
     }
 
     // The next token of a list in front, or what the line gives, where it isn't used up.
-    fn pull_front(&mut self, categories: &[u8; 256]) -> Pulled
+    fn read_front(&mut self, categories: &[u8; 256]) -> Result<Pulled, Full>
         requires { ahead_of categories.now self.old.pending ≢ ahead.End }
-        ensures pulls { Pulls (pulled categories.now self.old.pending) result self.old self.new }
+        ensures gives { GivesTo (pulled categories.now self.old.pending) result self.old.pending self.new.pending self.new.buffer }
         ensures others { self.new ≡ record self.old { pending = self.new.pending; buffer = self.new.buffer; lists = self.new.lists } }
         ensures macros { KeepsMacros self.old self.new }
+        ensures refused { MatchResult result (λ _. pull_refusal categories.now self.old ≡ None) (λ full. pull_refusal categories.now self.old ≡ Some full) }
+        ensures err { OnErr result (self.new.pending ≡ settle self.old.pending) }
     {
         self.held.pull(&mut self.buffer, categories)
     }
 
+    // Where nothing is left in front of the file but gaps, all lists in front go.
+    fn drop_front(&mut self, categories: &[u8; 256])
+        requires { ahead_of categories.now self.old.pending ≡ ahead.End }
+        ensures front { self.new.pending.puts ≡ [] }
+        ensures file { self.new.pending.file ≡ self.old.pending.file }
+        ensures rest { self.new.pending.rest ≡ self.old.pending.rest }
+        ensures number { self.new.pending.number ≡ self.old.pending.number }
+        ensures others { self.new ≡ record self.old { pending = self.new.pending; buffer = self.new.buffer; lists = self.new.lists } }
+        ensures macros { KeepsMacros self.old self.new }
+    {
+        self.held.drop_front(&mut self.buffer, categories);
+    }
+
     // Takes the next line of the file.
-    fn take_line(&mut self) -> Result<(), Full>
-        requires front { self.old.pending.puts ≡ [] }
+    fn take_line(&mut self, categories: &[u8; 256]) -> Result<(), Full>
+        requires end { ahead_of categories.now self.old.pending ≡ ahead.End }
+        requires settled { settle self.old.pending ≡ self.old.pending }
         requires open { self.old.pending.file ≢ Closed }
         requires some { self.old.pending.file ≡ Begun → 0 < length self.old.pending.rest }
         ensures ok { OnOk result (line_taken self.old.pending.number self.old.pending.rest ≡ LineTaken (taken_line self.old.pending.rest) self.new.pending) }
@@ -301,12 +334,11 @@ impl Input {
         if cut.whole >= self.buffer.len() {
             return Err(buffer_full(self.held.sizes()));
         }
+        let progress = self.file.progress();
+        line_room(&mut self.held, progress)?;
+        self.held.drop_front(&mut self.buffer, categories);
         put_line(&mut self.buffer, &self.file.rest()[..cut.kept]);
-        open_line(
-            &mut self.held,
-            self.file.progress(),
-            line_start(cut.kept + 1),
-        )?;
+        open_line(&mut self.held, progress, line_start(cut.kept + 1));
         self.file.go_on(cut.used);
         Ok(())
     }
@@ -322,21 +354,24 @@ impl Input {
     }
 
     // The next line of the file, or its end, where nothing is left of a line.
-    fn pull_file(&mut self) -> Result<Pulled, Full>
-        requires { self.old.pending.puts ≡ [] }
+    fn pull_file(&mut self, categories: &[u8; 256]) -> Result<Pulled, Full>
+        requires end { ahead_of categories.now self.old.pending ≡ ahead.End }
+        requires settled { settle self.old.pending ≡ self.old.pending }
         ensures ok { IfOk result (λ r. Pulls (from_file self.old.pending.file self.old.pending.number self.old.pending.rest) r self.old self.new) }
         ensures others { self.new ≡ record self.old { pending = self.new.pending; buffer = self.new.buffer; lists = self.new.lists } }
         ensures macros { KeepsMacros self.old self.new }
+        ensures puts { (id : ℕ) → is_put id self.new.pending.puts ≡ true → is_put id self.old.pending.puts ≡ true }
         ensures err { IfErr result (λ full. RefusesLine full self.old self.new) }
     {
         match self.file.progress() {
             Progress::Closed => Ok(Pulled::Nothing),
             Progress::Begun if self.file.rest().is_empty() => {
+                self.drop_front(categories);
                 self.end_file();
                 Ok(Pulled::FileOver)
             }
             _ => {
-                self.take_line()?;
+                self.take_line(categories)?;
                 Ok(Pulled::Taken)
             }
         }
@@ -356,10 +391,10 @@ impl Input {
         ensures err { OnErr result (self.new.pending ≡ settle self.old.pending) }
     {
         match self.looks(categories) {
-            Ahead::Token | Ahead::Invalid => Ok(self.pull_front(categories)),
+            Ahead::Token | Ahead::Invalid => self.read_front(categories),
             Ahead::End => {
                 self.settle();
-                self.pull_file()
+                self.pull_file(categories)
             }
         }
     }
@@ -457,6 +492,20 @@ impl Input {
         self.held.begin_call(name, long)
     }
 
+    /// Whether a call takes tokens.
+    pub fn is_taking(&self) -> bool
+        ensures { MatchBool result (IsTaking self.now.call) (IsTaking self.now.call → ⊥) }
+    {
+        self.held.is_taking()
+    }
+
+    /// Whether all arguments of a call are there.
+    pub fn is_complete(&self) -> bool
+        ensures { MatchBool result (IsComplete self.now.call) (IsComplete self.now.call → ⊥) }
+    {
+        self.held.is_complete()
+    }
+
     /// Feeds a token to the call. What is told is what the definition of arguments asks for behind all that was fed.
     ///
     /// # Errors
@@ -498,6 +547,22 @@ impl Input {
         ensures tokens { call_work self.now.call ≡ option_map (λ r. tokens_at r.0.now (build_id r.1.now)) result }
     {
         self.held.call_list()
+    }
+
+    /// Puts the call in front of all that is pending: the macro's body, each parameter number replaced by its argument.
+    /// The list is shared, not copied, and the arguments pass to it; one without a body lets them go and changes nothing
+    /// else. *TeX: The Program*, part 25 (`macro_call`).
+    ///
+    /// # Errors
+    /// The arguments or the level have no room, once the finished lists in front have gone; nothing else has changed.
+    pub fn put_call(&mut self) -> Result<(), Full>
+        requires { IsComplete self.old.call }
+        ensures refused { MatchResult result (λ _. put_refusal (put_of self.old.lists self.old.meanings self.old.call) self.old ≡ None) (λ full. put_refusal (put_of self.old.lists self.old.meanings self.old.call) self.old ≡ Some full) }
+        ensures ok { OnOk result (self.new ≡ record self.old { pending = after_call (put_of self.old.lists self.old.meanings self.old.call) self.old.pending; call = NotCalling; lists = self.new.lists }) }
+        ensures err { OnErr result (self.new ≡ record self.old { pending = settle self.old.pending; lists = self.new.lists }) }
+        ensures macros { KeepsMacros self.old self.new }
+    {
+        self.held.put_call()
     }
 
     /// The call's lists go, and none is gathered.

@@ -2,8 +2,9 @@
 
 ghost use Rattle.std.specs.Prelude.{◌≡◌, ◌<◌, [], None, length};
 ghost use Rattle.tex_defs.specs.Sizes.{first_out_of_range};
+ghost use Rattle.input_state.specs.Callings.{NotCalling};
 
-use crate::{CallKind, Input, Pulled};
+use crate::{CallKind, CallTold, Input, Pulled};
 use line_lexer::Lexed;
 use std::test::Fail;
 use tex_defs::{Full, Meaning, Name, Seen, Sizes, Table, Token};
@@ -129,8 +130,10 @@ const NAME: Name = Name::Single(b'a');
 
 // The name becomes a macro without a parameter text, whose body is these two tokens.
 fn define_two(input: &mut Input, first: Token, second: Token) -> Result<(), Full>
-    requires { 353 < length input.old.meanings }
-    ensures { length input.new.meanings ≡ length input.old.meanings }
+    requires some { 353 < length input.old.meanings }
+    requires none { input.old.call ≡ NotCalling }
+    ensures same { length input.new.meanings ≡ length input.old.meanings }
+    ensures none { input.new.call ≡ NotCalling }
 {
     input.begin_list()?;
     input.grow_list(Token::EndPlaces)?;
@@ -142,7 +145,8 @@ fn define_two(input: &mut Input, first: Token, second: Token) -> Result<(), Full
 
 // Calls it, where nothing is to be gathered.
 fn call(input: &mut Input) -> Option<Result<(), Full>>
-    ensures { length input.new.meanings ≡ length input.old.meanings }
+    ensures same { length input.new.meanings ≡ length input.old.meanings }
+    ensures still { input.new.call ≡ input.old.call }
 {
     match input.call_kind(NAME) {
         CallKind::AtOnce => Some(input.call_macro(NAME)),
@@ -268,5 +272,157 @@ fn tables_are_full(rt: HostRuntime) -> Result<(), Fail> {
     );
     assert_eq!(&rt; put, Ok(()));
     assert_eq!(&rt; gathered, (97, Some(full(Table::MainMemorySize, 100, 100))));
+    Ok(())
+}
+
+const DOT: Token = Token::Char {
+    cat: 12,
+    code: b'.',
+};
+
+const OPEN: Token = Token::Char {
+    cat: 12,
+    code: b'(',
+};
+
+const CLOSE: Token = Token::Char {
+    cat: 12,
+    code: b')',
+};
+
+// `\def\a#1.{(#1)}`.
+fn define_call(input: &mut Input) -> Result<(), Full>
+    requires some { 353 < length input.old.meanings }
+    requires none { input.old.call ≡ NotCalling }
+    ensures none { input.new.call ≡ NotCalling }
+{
+    input.begin_list()?;
+    input.grow_list(Token::Place(b'#'))?;
+    input.grow_list(DOT)?;
+    input.grow_list(Token::EndPlaces)?;
+    input.grow_list(OPEN)?;
+    input.grow_list(Token::Number(1))?;
+    input.grow_list(CLOSE)?;
+    input.define(NAME, false, false);
+    Ok(())
+}
+
+// `\def\a#1aab{}`.
+fn define_delimited(input: &mut Input) -> Result<(), Full>
+    requires some { 353 < length input.old.meanings }
+    requires none { input.old.call ≡ NotCalling }
+    ensures none { input.new.call ≡ NotCalling }
+{
+    input.begin_list()?;
+    input.grow_list(Token::Place(b'#'))?;
+    input.grow_list(A)?;
+    input.grow_list(A)?;
+    input.grow_list(B)?;
+    input.grow_list(Token::EndPlaces)?;
+    input.define(NAME, false, false);
+    Ok(())
+}
+
+// The call begins, if the name has a parameter text.
+fn begin(input: &mut Input) -> Option<Result<(), Full>>
+    requires { input.old.call ≡ NotCalling }
+{
+    match input.call_kind(NAME) {
+        CallKind::Gathers => Some(input.begin_call(NAME, false)),
+        CallKind::None | CallKind::AtOnce => None,
+    }
+}
+
+// What the call tells on a token, if it takes one, and how many words are used then.
+fn fed(input: &mut Input, token: Token) -> (Option<Result<CallTold, Full>>, u32) {
+    let told = if input.is_taking() {
+        Some(input.feed_call(token))
+    } else {
+        None
+    };
+    (told, input.words())
+}
+
+// How many tokens the call's list in work has, if there is one, up to three.
+fn work(input: &Input) -> Option<usize> {
+    let (lists, build) = input.call_list()?;
+    let mut count = 0;
+    let mut at = lists.first_built(build);
+    while let Some(place) = at {
+        if count == 3 {
+            break;
+        }
+        count += 1;
+        at = lists.next(place);
+    }
+    Some(count)
+}
+
+#[test]
+fn call_is_gathered(rt: HostRuntime) -> Result<(), Fail> {
+    let mut input = Input::new(rt.alloc(), &Sizes::DEFAULT, None)?;
+    let defined = define_call(&mut input);
+    let begun = (begin(&mut input), input.words());
+    let told = [fed(&mut input, A), fed(&mut input, B), fed(&mut input, DOT)];
+    let put = if input.is_complete() {
+        Some(input.put_call())
+    } else {
+        None
+    };
+    let full = input.words();
+    let read = (three(&mut input), three(&mut input));
+    let behind = input.words();
+    input.close();
+    let token = |token| Some(Pulled::Token(token));
+    assert_eq!(&rt; (defined, begun), (Ok(()), (Some(Ok(())), 8)));
+    assert_eq!(&rt;
+        told,
+        [
+            (Some(Ok(CallTold::More)), 9),
+            (Some(Ok(CallTold::More)), 10),
+            (Some(Ok(CallTold::Gathered)), 10)
+        ]
+    );
+    assert_eq!(&rt; (put, full, behind), (Some(Ok(())), 10, 7));
+    assert_eq!(&rt; read.0, [token(OPEN), token(A), token(B)]);
+    assert_eq!(&rt;
+        read.1,
+        [token(CLOSE), Some(Pulled::Nothing), Some(Pulled::Nothing)]
+    );
+    Ok(())
+}
+
+#[test]
+fn growth_is_cut(rt: HostRuntime) -> Result<(), Fail> {
+    let least = Sizes {
+        main_memory_size: 100,
+        ..Sizes::DEFAULT
+    };
+    let mut input = Input::new(rt.alloc(), &least, None)?;
+    let defined = define_delimited(&mut input);
+    let begun = (begin(&mut input), input.words());
+    for _list in 0..91 {
+        let _begun = input.begin_list();
+    }
+    let told = [fed(&mut input, A), fed(&mut input, A), fed(&mut input, DOT)];
+    let left = (work(&input), input.is_taking());
+    input.drop_call();
+    let dropped = input.words();
+    input.close();
+    let full = Full {
+        table: Table::MainMemorySize,
+        used: 100,
+        size: 100,
+    };
+    assert_eq!(&rt; (defined, begun), (Ok(()), (Some(Ok(())), 7)));
+    assert_eq!(&rt;
+        told,
+        [
+            (Some(Ok(CallTold::More)), 98),
+            (Some(Ok(CallTold::More)), 98),
+            (Some(Err(full)), 100)
+        ]
+    );
+    assert_eq!(&rt; (left, dropped), ((Some(2), false), 97));
     Ok(())
 }

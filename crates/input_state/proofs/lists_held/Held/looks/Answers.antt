@@ -1,9 +1,9 @@
 use Rattle.std.proofs.Common.{◌∙◌, ap, refl, sym}
-use Rattle.plain_state.specs.Puts.{settled}
+use Rattle.plain_state.specs.Puts.{passed}
 use Rattle.input_stack.specs.View.{innermost, pending}
 use Rattle.input_state.specs.HeldLists.{HeldLists, pending_of, ahead_of}
 use Rattle.input_state.specs.HeldViews.{named, lists_of}
-use Rattle.input_state.proofs.Pulling.{looks_are, all_finished}
+use Rattle.input_state.proofs.Pulling.{looks_are, all_passed}
 use Rattle.input_state.proofs.lists_held.Held.looks.Goals as goal
 
 pub returns-clause-ahead : goal.returns-clause-ahead
@@ -14,7 +14,7 @@ returns-clause-ahead c = λ rest file number.
     ∙ looks_are i.lists i.lists c.args.categories.now c.args.bytes.now (innermost i.stack) (pending_of v c.args.bytes.now rest file number) refl refl refl
     ∙ ap (λ (w : HeldLists). ahead_of c.args.categories.now (pending_of w c.args.bytes.now rest file number)) c.self.view_is
 
-pub returns-clause-finished : goal.returns-clause-finished
-returns-clause-finished c = λ end.
+pub returns-clause-passed : goal.returns-clause-passed
+returns-clause-passed c = λ end.
     let i = c.self.inside in
-    sym (ap (λ (w : HeldLists). settled w.puts) c.self.view_is) ∙ all_finished i.lists c.args.categories.now c.args.bytes.now (pending i.lists i.stack) c.self.invariant.shared.simple.plain (sym c.looks.ensures ∙ end)
+    sym (ap (λ (w : HeldLists). passed w.puts) c.self.view_is) ∙ all_passed i.lists c.args.categories.now c.args.bytes.now (pending i.lists i.stack) (sym c.looks.ensures ∙ end)

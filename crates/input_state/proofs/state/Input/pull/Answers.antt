@@ -1,12 +1,28 @@
-use Rattle.std.proofs.Common.{◌∙◌, sym}
-use Rattle.input_state.proofs.Files.{pull_ok, pull_refused, pull_err}
+use Rattle.std.proofs.Common.{◌≡◌, ◌∙◌, List, ap, sym, subst}
+use Rattle.tex_defs.specs.declared.Meaning.{Meaning}
+use Rattle.plain_state.specs.Pending.{Pending, settle}
+use Rattle.input_state.specs.Stored.{Stored}
+use Rattle.input_state.specs.HeldLists.{ahead_of}
+use Rattle.input_state.proofs.Files.{keeps_twice, front_ok, settled_twice, ahead_settled, pull_ok, pull_refused, pull_err}
 use Rattle.input_state.proofs.state.Input.pull.Goals as goal
 
 pub returns-in-End-clause-ok : goal.returns-in-End-clause-ok
-returns-in-End-clause-ok c = pull_ok c.args.categories.now c.settle.new.self.lists c.args.self.now c.pull_file.new.self (sym c.looks.ensures.ahead ∙ c.in-End.is) (c.looks.ensures.finished c.in-End.is) c.settle.new.self c.pull_file.result c.settle.ensures.after c.pull_file.ensures.ok
+returns-in-End-clause-ok c = pull_ok c.args.categories.now c.settle.new.self.lists c.args.self.now c.pull_file.new.self (sym c.looks.ensures.ahead ∙ c.in-End.is) c.settle.new.self c.pull_file.result c.settle.ensures.after c.pull_file.ensures.ok
 
 pub returns-in-End-clause-refused : goal.returns-in-End-clause-refused
-returns-in-End-clause-refused c = pull_refused c.args.categories.now c.settle.new.self.lists c.args.self.now c.pull_file.new.self (sym c.looks.ensures.ahead ∙ c.in-End.is) (c.looks.ensures.finished c.in-End.is) c.settle.new.self c.pull_file.result c.settle.ensures.after c.pull_file.ensures.ok c.pull_file.ensures.err
+returns-in-End-clause-refused c = pull_refused c.args.categories.now c.settle.new.self.lists c.args.self.now c.pull_file.new.self (sym c.looks.ensures.ahead ∙ c.in-End.is) c.settle.new.self c.pull_file.result c.settle.ensures.after c.pull_file.ensures.ok c.pull_file.ensures.err
 
 pub returns-in-End-clause-err : goal.returns-in-End-clause-err
-returns-in-End-clause-err c = pull_err c.args.categories.now c.settle.new.self.lists c.args.self.now c.pull_file.new.self (sym c.looks.ensures.ahead ∙ c.in-End.is) (c.looks.ensures.finished c.in-End.is) c.settle.new.self c.pull_file.result c.settle.ensures.after c.pull_file.ensures.err
+returns-in-End-clause-err c = pull_err c.args.categories.now c.settle.new.self.lists c.args.self.now c.pull_file.new.self (sym c.looks.ensures.ahead ∙ c.in-End.is) c.settle.new.self c.pull_file.result c.settle.ensures.after c.pull_file.ensures.err
+
+pub pull_file-requires-clause-end : goal.pull_file-requires-clause-end
+pull_file-requires-clause-end c =
+    ap (λ (s : Stored). ahead_of c.args.categories.now s.pending) c.settle.ensures.after ∙ ahead_settled c.args.categories.now c.args.self.now.pending ∙ sym c.looks.ensures.ahead ∙ c.in-End.is
+
+pub pull_file-requires-clause-settled : goal.pull_file-requires-clause-settled
+pull_file-requires-clause-settled c =
+    ap (λ (s : Stored). settle s.pending) c.settle.ensures.after ∙ settled_twice c.args.self.now.pending ∙ sym (ap (λ (s : Stored). s.pending) c.settle.ensures.after)
+
+pub returns-in-End-clause-macros : goal.returns-in-End-clause-macros
+returns-in-End-clause-macros c =
+    keeps_twice c.args.self.now c.settle.new.self c.pull_file.new.self c.settle.ensures.macros c.pull_file.ensures.macros (ap (λ (s : Stored). s.meanings) c.pull_file.ensures.others) c.pull_file.ensures.puts
