@@ -61,12 +61,12 @@ use Rattle.tex_program.specs.declared.engine.Ruled.TheVariants.{Step, Free, Halt
 use Rattle.tex_program.specs.declared.reactions.Outcome.{Outcome}
 use Rattle.tex_program.specs.declared.reactions.Last.TheVariants as last
 use Rattle.tex_program.specs.Begins.{away_moves, last_moves}
-use Rattle.tex_program.specs.Steps.{IsFree, StepsIf, freed, pending_weight, weight}
+use Rattle.tex_program.specs.Steps.{IsFree, StepsIf, freed, pending_weight, call_weight, weight}
 use Rattle.tex_program.specs.Book.{Book}
 use Rattle.tex_program.specs.Entering.{joined, located, with_names, EntryFits, EntryRefused}
 use Rattle.tex_program.specs.Stands.{Counts, IsSized, IsSound, SameStore, Stands, WorkStands, OuterStand, FrameStands, SameFrames, OnlyColumn, state_of, page_of, frames}
 use Rattle.tex_program.specs.Rules.{world_of, onward_of, enters_of, scanning_of, token_moves, name_moves, Takes, Wants, Cuts, Went, DoesRule, DoesOnward, away_text}
-use Rattle.tex_program.proofs.Bare.{bare}
+use Rattle.tex_program.proofs.Bare.{bare, all_of}
 use Rattle.tex_program.proofs.Cutting.{cuts_by, later_cuts, full_cuts}
 use Rattle.tex_program.proofs.Reporting.{stands_still}
 use Rattle.tex_program.proofs.Storing.{store_with, sound_still}
@@ -705,7 +705,7 @@ module _ (sizes : Sizes) (e : Engine) (i : Stored) (others : i ≡ record e.inpu
       taken_rule line is fits sized stands =
           went_by sizes _ now w w (Settled ∷ Taken line ∷ []) plan 1 (taken_plan line i.pending is) (record {
             book' = book;
-            stands = stands;
+            stands = all_of sizes now book stands;
             did = did_pull (Taken line) (LineTaken line next) (pulled_as book.number e.input.pending e.categories (LineTaken line i.pending) is) refl tt (line_demands None fits sized) refl;
             count = refl;
           })
@@ -816,7 +816,7 @@ pub rule_as : (sizes : Sizes) (s : State) (e' : Engine) (book : Book) (w w' : Wo
 rule_as sizes s e' book w w' ms r q is h = subst (λ (x : Ruled). DoesRule sizes s e' book w w' ms x) (sym is) h
 
 pub lighter_after : (e e' : Engine) → SameFrames e e' → pending_weight e'.input.pending < pending_weight e.input.pending → weight e' < weight e
-lighter_after e e' h less = let asked : ask_weight e'.ask ≡ ask_weight e.ask = ap ask_weight h.ask in omega (arith, same_frames e e' h, asked, less)
+lighter_after e e' h less = let asked : ask_weight e'.ask ≡ ask_weight e.ask = ap ask_weight h.ask in omega (arith, same_frames e e' h, asked, less, ap call_weight h.call)
 
 pub not_free : (r : Ruled) (o : Outcome) → r ≡ Halted o → IsFree r → ⊥
 not_free r o is h = subst IsFree is h

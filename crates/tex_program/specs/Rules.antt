@@ -31,6 +31,7 @@ use Rattle.frames.specs.Sees.{want_of, kind_of, first_list}
 use Rattle.frames.specs.Resumes.{TakesTokens}
 use Rattle.input_state.specs.Stored.{gathered}
 use Rattle.tex_program.specs.Book.{Book}
+use Rattle.tex_program.specs.Calls.{AllStand}
 use Rattle.tex_program.specs.Stands.{Stands, FeedsHere, state_of, page_of}
 
 -- the world of these files and this sink, whose column the engine keeps
@@ -44,7 +45,7 @@ plan_of e book = planned (state_of e book) book.work
 -- The engine goes on, at the machine's state after the moves.
 pub record Went (sizes : Sizes) (s : State) (e' : Engine) (w w' : World) (moves : List Move) (k : ℕ) : Type 0 where
   pub book' : Book
-  pub stands : Stands sizes e' book'
+  pub stands : AllStand sizes e' book'
   pub did : Did sizes s (state_of e' book') w w' moves
   pub count : steps moves ≡ k
 

@@ -3,7 +3,7 @@ use Rattle.std.specs.Prelude.{None}
 use Rattle.tex_program.specs.Stands.{state_of}
 use Rattle.tex_program.specs.Rules.{world_of}
 use Rattle.tex_program.proofs.Joining.{same_err}
-use Rattle.tex_program.proofs.Stepping.{plan_one, stepping_needs}
+use Rattle.tex_program.proofs.CallSteps.{plan_one, stepping_needs}
 use Rattle.tex_program.proofs.Running.{came_none, came_on, came_halts, came_join, came_whole, cut_by_join, rule_cut, stops_join, stops_whole, as_step, as_none, as_some, as_halted, same_count, no_some, when_halted}
 use Rattle.tex_program.proofs.engine.Engine.run_steps.Goals as goal
 

@@ -3,7 +3,7 @@ use Rattle.std.proofs.lemmas.Grind.{common_steps}
 use Rattle.tex_program.specs.Stands.{state_of}
 use Rattle.tex_program.specs.Steps.{stepping}
 use Rattle.tex_program.proofs.Joining.{same_err}
-use Rattle.tex_program.proofs.Stepping.{plan_silent}
+use Rattle.tex_program.proofs.CallSteps.{plan_silent}
 use Rattle.tex_program.proofs.Running.{came_none, came_on, came_halts, cut_by_join, rule_cut, as_free, as_halted, same_count, same_stops, when_halted}
 use Rattle.tex_program.proofs.engine.Engine.settle.Goals as goal
 
