@@ -33,7 +33,7 @@ use Rattle.tex_program.specs.Stands.{Stands, WorkStands, WaitStands, Waits, Wait
 use Rattle.tex_program.specs.Rules.{world_of, plan_of, onward_of, enters_of, scanning_of, Takes, Cuts, Went}
 use Rattle.input_state.specs.Callings.{NotCalling}
 use Rattle.input_state.specs.Stored.{gathered}
-use Rattle.tex_program.proofs.Bare.{bare_after}
+use Rattle.tex_program.proofs.Bare.{bare_after, all_of, framed}
 use Rattle.tex_program.proofs.Cutting.{full_cuts, cuts_by}
 use Rattle.tex_program.proofs.Joining.{IsQuiet, quiet_wrote, went_by}
 use Rattle.tex_program.proofs.Reporting.{reads_now}
@@ -136,7 +136,7 @@ module _ (sizes : Sizes) (e e' : Engine) (book : Book) (f : FilesTold) (s : Sink
       gathered e'.input ≡ lists → Stands sizes e' (with_work work book) → Went sizes (state_of e book) e' (world_of f s e) (world_of f s e') (m ∷ []) 0
   quiet_went m work lists q n fits makes is stands = record {
     book' = with_work work book;
-    stands = stands;
+    stands = all_of sizes e' (with_work work book) stands;
     did = did_one sizes m (state_of e book) (state_of e' (with_work work book)) (world_of f s e) (world_of f s e') fits
         (makes ∙ ap (λ (l : List (List Token)). record (state_of e book) { work = work; gathered = l }) (sym is) ∙ reads_now e e' book work same) (quiet_wrote m f s e.in_line e'.in_line q same.others.in_line);
     count = omega (arith, n);

@@ -30,7 +30,7 @@ outer_depth (f ∷ fs) (r ∷ rs) h = omega (arith, outer_depth fs rs h.1)
 top_depth : (r : Reading) (outer : List Waiting) (rs : List Reading) → OuterStand (reverse outer) rs → length (r ∷ rs) ≡ length outer + 1
 top_depth r outer rs o = omega (arith, outer_depth (reverse outer) rs o, length-reverse outer)
 
-work_depth : (a : Ask) (t : Option Frame) (outer : List Waiting) (lists : List (List Token)) (work : List Reading) → WorkStands a t outer lists work → length work ≡ length outer + top_count t
+pub work_depth : (a : Ask) (t : Option Frame) (outer : List Waiting) (lists : List (List Token)) (work : List Reading) → WorkStands a t outer lists work → length work ≡ length outer + top_count t
 work_depth a None outer lists [] h = omega (arith, ap (length {A = Waiting}) h.0)
 work_depth a None outer lists (r ∷ rs) h = absurd h
 work_depth a (Some f) outer lists [] h = absurd h

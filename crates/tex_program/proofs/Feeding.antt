@@ -1,5 +1,5 @@
 -- A reading that is fed goes on.
-use Rattle.std.proofs.Common.{◌≡◌, ℕ, ◌+◌, Bool, true, false, List, [], ◌∷◌, ◌++◌, length, drop, refl, sym, ap, ◌∙◌, append_assoc, subst, reverse, arith}
+use Rattle.std.proofs.Common.{◌≡◌, ℕ, ◌+◌, ◌≤◌, Bool, true, false, List, [], ◌∷◌, ◌++◌, length, drop, refl, sym, ap, ◌∙◌, append_assoc, subst, reverse, arith}
 use Rattle.std.specs.Prelude.{Option, Some, None, option_to_list}
 use Rattle.std.proofs.lemmas.List.{append-nil, reverse-append}
 use Rattle.tex_defs.specs.declared.Seen.{Seen}
@@ -23,6 +23,7 @@ use Rattle.frames.specs.Sees.{ask_of, value_of, first_list}
 use Rattle.frames.specs.Texts.{text_list}
 use Rattle.frames.specs.Resumes.{resume, resume_waiting, frame_list, frame_kind, frame_grows, lists_after, IsOpen, IsUntold, IsBack, GivesBack, IsNone, GivesNone, InnerWaits, Builds, IsShallow, Owns, MayFeed, waiting_kind, is_built}
 use Rattle.frames.specs.Stack.{Stack}
+use Rattle.name_table.specs.Strings.{Strings}
 use Rattle.tex_program.specs.declared.engine.Engine.{Engine}
 use Rattle.tex_program.specs.Book.{Book, with_work}
 use Rattle.tex_program.specs.Stands.{Stands, WaitsFirst, WaitsWith, Waits as WaitsFor, WaitStands, WorkStands, OuterStand, WaitingStands, EndsHere, FrameStands, Innermost, FedFrame, IsSound, IsUncalled, SameState, IsLone, IsTaken, IsLast, GivesLast, TellsOnce, BeginsBuilt, AtMostOne, kept_lists, other_lists}

@@ -1,5 +1,5 @@
 -- A token that goes onto the list that a reading builds.
-use Rattle.std.proofs.Common.{◌≡◌, ℕ, ◌+◌, ◌*◌, ◌<◌, ◌≤◌, Bool, true, false, List, [], ◌∷◌, ◌++◌, length, drop, map, refl, sym, ap, ◌∙◌, subst, reverse, true≢false, arith}
+use Rattle.std.proofs.Common.{◌≡◌, ℕ, ◌+◌, ◌-◌, ◌*◌, ◌<◌, ◌≤◌, Bool, true, false, List, [], ◌∷◌, ◌++◌, length, drop, map, refl, sym, ap, ◌∙◌, subst, reverse, true≢false, arith}
 use Rattle.std.specs.Prelude.{Option, Some, None, IsSome, if◌then◌else◌, not, ◌&&◌, ◌==◌}
 use Rattle.std.proofs.lemmas.List.{append-nil}
 use Rattle.std.proofs.lemmas.List.Sums.{sum_by-cons, sum_by-append}
@@ -39,7 +39,7 @@ use Rattle.frames.specs.Resumes.{resume, frame_grows, grow_first, lists_after, f
 use Rattle.tex_program.specs.declared.engine.Engine.{Engine}
 use Rattle.tex_program.specs.Book.{Book, with_work}
 use Rattle.tex_program.specs.Stands.{WaitsFirst, IsSound, IsUncalled, Stands, WorkStands, OuterStand, FrameStands, Innermost, FedFrame, FeedsHere, Waits as WaitsFor, WaitStands, WaitsWith, IsLone, SameState, state_of, top_grows, frames}
-use Rattle.tex_program.specs.Steps.{weight, pending_weight}
+use Rattle.tex_program.specs.Steps.{frame_weight, pending_weight}
 use Rattle.frames.specs.Weights.{frame_rank}
 use Rattle.tex_program.specs.Rules.{TopTakes, feeds_of, Cuts}
 use Rattle.tex_program.specs.declared.broken.Broken.TheVariants as broken
@@ -102,7 +102,7 @@ behind_all : (ts : List Token) (t : Token) → drop (length ts) (ts ++ t ∷ [])
 behind_all [] t = refl
 behind_all (u ∷ ts) t = behind_all ts t
 
-nothing_behind : (ts : List Token) → drop (length ts) ts ≡ []
+pub nothing_behind : (ts : List Token) → drop (length ts) ts ≡ []
 nothing_behind [] = refl
 nothing_behind (t ∷ ts) = nothing_behind ts
 
@@ -343,12 +343,12 @@ begun_stands sizes e e2 k x book is_open takes opened keeps built some h = by_to
   by_top (Some f) top = begun_frame sizes e e2 k x book f top opened (takes_top e.top f top takes) (keeps f x top) built some h
 
 with_at : (e e1 e2 : Engine) (k : Kind) (t : Option Frame) → e1.top ≡ t → IsSome t → frames e1 ≤ frames e + 1 → e1.input.pending ≡ e.input.pending → ((f : Frame) → e1.top ≡ Some f → frame_rank f ≡ reading.rank (kind_of k)) →
-    ((f : Frame) → e1.top ≡ Some f → weight e2 ≤ 2 * frames e1 + (7 + 3 * frame_rank f) + pending_weight e1.input.pending) → weight e2 < 2 * frames e + (10 + 3 * reading.rank (kind_of k)) + pending_weight e.input.pending
+    ((f : Frame) → e1.top ≡ Some f → frame_weight e2 ≤ 2 * frames e1 + (7 + 3 * frame_rank f) + pending_weight e1.input.pending) → frame_weight e2 < 2 * frames e + (10 + 3 * reading.rank (kind_of k)) + pending_weight e.input.pending
 with_at e e1 e2 k None is some one input rank light = absurd (none_open some)
 with_at e e1 e2 k (Some f) is some one input rank light = omega (arith, one, ap pending_weight input, rank f is, light f is)
 
 pub with_light : (e e1 e2 : Engine) (k : Kind) → frames e1 ≤ frames e + 1 → IsSome e1.top → ((f : Frame) → e1.top ≡ Some f → frame_rank f ≡ reading.rank (kind_of k)) → e1.input.pending ≡ e.input.pending →
-    ((f : Frame) → e1.top ≡ Some f → weight e2 ≤ 2 * frames e1 + (7 + 3 * frame_rank f) + pending_weight e1.input.pending) → weight e2 < 2 * frames e + (10 + 3 * reading.rank (kind_of k)) + pending_weight e.input.pending
+    ((f : Frame) → e1.top ≡ Some f → frame_weight e2 ≤ 2 * frames e1 + (7 + 3 * frame_rank f) + pending_weight e1.input.pending) → frame_weight e2 < 2 * frames e + (10 + 3 * reading.rank (kind_of k)) + pending_weight e.input.pending
 with_light e e1 e2 k one some rank input light = with_at e e1 e2 k e1.top refl some one input rank light
 
 -- a command waits beneath it

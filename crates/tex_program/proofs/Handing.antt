@@ -1,5 +1,5 @@
 -- What becomes of a token that was handed on, and of a space in place of the name of an \outer macro.
-use Rattle.std.proofs.Common.{◌≡◌, ◌≤◌, List, [], ◌∷◌, ◌++◌, refl, sym, ap, ◌∙◌, subst, Bool, true}
+use Rattle.std.proofs.Common.{◌≡◌, ℕ, ◌≤◌, List, [], ◌∷◌, ◌++◌, refl, sym, ap, ◌∙◌, subst, Bool, true, false, arith}
 use Rattle.std.specs.Prelude.{Option, Some, None, IsSome}
 use Rattle.tex_defs.specs.declared.Seen.{Seen}
 use Rattle.tex_defs.specs.declared.Name.{Name}
@@ -10,7 +10,7 @@ use Rattle.plain_state.specs.Reports as reports
 use Rattle.plain_state.specs.Reports.{runaway_bytes, report_bytes}
 use Rattle.plain_state.specs.Tokens.{space_token, is_outer}
 use Rattle.plain_state.specs.Meanings.{seen}
-use Rattle.plain_state.specs.States.{Move, Written, Reported}
+use Rattle.plain_state.specs.States.{State, Reading, Move, Written, Reported}
 use Rattle.plain_machine.specs.Plan.{Page, stomach, wanted, called, reported, reports_room, put_one}
 use Rattle.plain_machine.specs.Does.{Did}
 use Rattle.plain_machine.proofs.Renumbering.{seen_of}
@@ -26,7 +26,7 @@ use Rattle.tex_program.specs.declared.reactions.Onward.{Onward}
 use Rattle.tex_program.specs.declared.broken.Broken.{Broken}
 use Rattle.tex_program.specs.Begins.{onward_moves, away_moves}
 use Rattle.tex_program.specs.Book.{Book}
-use Rattle.tex_program.specs.Stands.{Stands, IsSound, ArePlain, SameFrames, state_of, page_of}
+use Rattle.tex_program.specs.Stands.{Stands, Counts, IsSound, ArePlain, SameFrames, state_of, page_of}
 use Rattle.tex_program.specs.Rules.{world_of, feeds_of, onward_of, scanning_of, token_moves, space_moves, away_text, Takes, SpaceFits, Cuts, Reports, DoesOnward}
 use Rattle.tex_program.proofs.Cells.{seen_built, seen_calls}
 use Rattle.tex_program.proofs.Cutting.{cuts_by, later_cuts}

@@ -18,6 +18,7 @@ use Rattle.tex_program.specs.Begins.{outcome_of}
 use Rattle.tex_program.specs.Book.{Book}
 use Rattle.tex_program.specs.Stands.{Stands, state_of}
 use Rattle.tex_program.specs.Steps.{IsFree, freed}
+use Rattle.tex_program.proofs.Bare.{all_of}
 use Rattle.tex_program.specs.Rules.{Went, Halts, DoesRule, DoesOnward}
 
 -- a move that writes nothing
@@ -45,7 +46,7 @@ went_by sizes s e' w w' ms ns k e h = subst (λ (x : List Move). Went sizes s e'
 
 -- nothing is done
 pub skip_onward : (sizes : Sizes) (e : Engine) (book : Book) (w : World) (ms : List Move) → ms ≡ [] → Stands sizes e book → Went sizes (state_of e book) e w w ms 0
-skip_onward sizes e book w ms is stands = went_by sizes _ e w w [] ms 0 is (record { book' = book; stands = stands; did = did_none sizes (state_of e book) w; count = refl })
+skip_onward sizes e book w ms is stands = went_by sizes _ e w w [] ms 0 is (record { book' = book; stands = all_of sizes e book stands; did = did_none sizes (state_of e book) w; count = refl })
 
 -- an error that `?` hands on
 pub same_err : {T E : Type 0} → (r : Result T E) (x : E) (P : E → Type 0) → IsErrAnd r (λ e. e ≡ x) → P x → IfErr r P

@@ -1,5 +1,12 @@
 pub mod Asking
 pub mod Bare
+pub mod CallAway
+pub mod CallBraces
+pub mod CallEnding
+pub mod CallKept
+pub mod CallPutting
+pub mod CallRules
+pub mod CallSteps
 pub mod Cells
 pub mod Commands
 pub mod Counting

@@ -33,6 +33,7 @@ use Rattle.tex_program.specs.Stands.{Stands, FramesStand, SameFrames, state_of}
 use Rattle.tex_program.specs.Rules.{world_of, Halts, Cuts}
 use Rattle.tex_program.specs.Ran.{Came, Ran, CutBy}
 use Rattle.tex_program.specs.Says.{SaysSo, end_status}
+use Rattle.tex_program.proofs.Bare.{all_of, frames_none}
 use Rattle.tex_program.proofs.Cutting.{later_cuts}
 use Rattle.tex_program.proofs.Reporting.{frames_still}
 use Rattle.tex_program.proofs.Running.{same_moment}
@@ -116,11 +117,11 @@ cut_due sizes s s' w w' ms x why c = record {
   written = c.written;
 }
 
-due_cuts : (sizes : Sizes) (s : State) (e' : Engine) (book : Book) (w w' : World) (ms : List Move) (n : ℕ) (b : Broken) → steps ms ≤ n → FramesStand e' book.work → Cuts sizes s e' book w w' ms b → CutBy sizes (record s { due = ms }) n e' w w' b
-due_cuts sizes s e' book w w' ms n b le frames h =
+due_cuts : (sizes : Sizes) (s : State) (e' : Engine) (book : Book) (w w' : World) (ms : List Move) (n : ℕ) (b : Broken) → steps ms ≤ n → e'.call ≡ None → FramesStand e' book.work → Cuts sizes s e' book w w' ms b → CutBy sizes (record s { due = ms }) n e' w w' b
+due_cuts sizes s e' book w w' ms n b le none frames h =
     let off : CutOff sizes (record s { due = ms }) (record h.at { due = ms }) n w w' (why_of b) =
     due_cut sizes (record s { due = ms }) (record h.at { due = ms }) n w w' ms (why_of b) (cut_due sizes s h.at w w' ms ms (why_of b) h.cut) le refl in
-    record { t = off.t; cut = off.cut; book' = book; frames = frames; same = same_moment (why_of b) off.t h.at (state_of e' book) off.same h.same }
+    record { t = off.t; cut = off.cut; book' = book; frames = frames_none e' book.work none frames; same = same_moment (why_of b) off.t h.at (state_of e' book) off.same h.same }
 
 -- THE JOB BEGINS
 
@@ -138,11 +139,11 @@ module _ (sizes : Sizes) (e e' : Engine) (quiet : Bool) (file name : List ℕ) (
   kept_cut None n b column none begins same h =
       subst (λ (x : Bool). CutBy sizes (First quiet file None) n e' before (world f a x) b) (sym none)
       (subst (λ (s : State). CutBy sizes s n e' before before b) (begins.state file)
-      (due_cuts sizes (state_of e first_book) e' first_book before before (job_due file None) n b (omega arith) (frames_still e e' [] same begins.stands.readings) (subst (λ (x : List ℕ). Cuts sizes (state_of e first_book) e' first_book before before (Kept x ∷ no_file file) b) is (h (no_file file)))))
+      (due_cuts sizes (state_of e first_book) e' first_book before before (job_due file None) n b (omega arith) (same.call ∙ begins.stands.uncalled.none) (frames_still e e' [] same begins.stands.readings) (subst (λ (x : List ℕ). Cuts sizes (state_of e first_book) e' first_book before before (Kept x ∷ no_file file) b) is (h (no_file file)))))
   kept_cut (Some bytes) n b column none begins same h =
       subst (λ (x : Bool). CutBy sizes (First quiet file (Some bytes)) n e' before (world f a x) b) (sym none)
       (subst (λ (s : State). CutBy sizes s n e' before before b) (begins.state file)
-      (due_cuts sizes (state_of e first_book) e' first_book before before (job_due file (Some bytes)) n b (omega arith) (frames_still e e' [] same begins.stands.readings) (subst (λ (x : List ℕ). Cuts sizes (state_of e first_book) e' first_book before before (Kept x ∷ []) b) is (h []))))
+      (due_cuts sizes (state_of e first_book) e' first_book before before (job_due file (Some bytes)) n b (omega arith) (same.call ∙ begins.stands.uncalled.none) (frames_still e e' [] same begins.stands.readings) (subst (λ (x : List ℕ). Cuts sizes (state_of e first_book) e' first_book before before (Kept x ∷ []) b) is (h []))))
 
   -- the file is held, and the run goes on
   pub kept_came : (bytes : List ℕ) → Begins sizes e quiet (Some bytes) → e'.in_line ≡ false → Stands sizes e' first_book → Did sizes (state_of e first_book) (state_of e' first_book) before before (Kept name ∷ []) →
@@ -151,7 +152,7 @@ module _ (sizes : Sizes) (e e' : Engine) (quiet : Bool) (file name : List ℕ) (
       subst (λ (x : Bool). Came sizes (First quiet file (Some bytes)) e' before (world f a x) 0) (sym column) (record {
         ms = Kept (job_name file) ∷ [];
         book' = first_book;
-        stands = stands;
+        stands = all_of sizes e' first_book stands;
         moves = subst (λ (s : State). FitMoves sizes s (Kept (job_name file) ∷ []) (state_of e' first_book)) (begins.state file) (due_moves sizes (state_of e first_book) (state_of e' first_book) before before (Kept (job_name file) ∷ []) refl (kept_did d));
         count = refl;
         written = (kept_did d).written;
@@ -194,7 +195,7 @@ module _ (sizes : Sizes) (e e' : Engine) (quiet : Bool) (file name : List ℕ) (
     refused_cut k first second cuts =
         let h : Cuts sizes (state_of e' first_book) e2 first_book before (world_of f b e2) (no_file file) k = subst (λ (x : Bool). Cuts sizes (state_of e' first_book) e2 first_book (world f a x) (world_of f b e2) (no_file file) k) column cuts in
         subst (λ (s : State). CutBy sizes s n e2 before (world_of f b e2) k) (begins.state file)
-        (due_cuts sizes (state_of e first_book) e2 first_book before (world_of f b e2) (job_due file None) n k (omega arith) (frames_still e' e2 [] second (frames_still e e' [] first begins.stands.readings))
+        (due_cuts sizes (state_of e first_book) e2 first_book before (world_of f b e2) (job_due file None) n k (omega arith) (second.call ∙ first.call ∙ begins.stands.uncalled.none) (frames_still e' e2 [] second (frames_still e e' [] first begins.stands.readings))
         (later_cuts sizes (state_of e first_book) (state_of e' first_book) e2 first_book before before (world_of f b e2) (Kept (job_name file) ∷ []) (no_file file) k (kept_did d) h))
 
 -- the job's file is held, or it isn't

@@ -1,7 +1,8 @@
 -- What becomes of what was pulled, and the check where the file has ended.
 use Rattle.std.proofs.Common.{◌≡◌, ℕ, ◌+◌, ◌<◌, ◌≤◌, List, [], ◌∷◌, ◌++◌, length, drop, map, reverse, refl, sym, ap, ◌∙◌, subst, Bool, true, false, arith}
-use Rattle.std.specs.Prelude.{Option, Some, None, IsSome, codes, ◌||◌, if◌then◌else◌}
+use Rattle.std.specs.Prelude.{Option, Some, None, IsSome, codes, nat_le, ◌||◌, if◌then◌else◌}
 use Rattle.std.proofs.lemmas.List.{append-nil, length-append, length-map}
+use Rattle.std.proofs.lemmas.Bool.Decides.{nat_tests}
 use Rattle.std.proofs.lemmas.List.Sums.{sum_by-cons}
 use Rattle.tex_defs.specs.declared.Token.{Token}
 use Rattle.tex_defs.specs.declared.Name.{Name}
@@ -9,6 +10,7 @@ use Rattle.tex_defs.specs.declared.Seen.{Seen}
 use Rattle.tex_defs.specs.declared.Sizes.{Sizes}
 use Rattle.tex_defs.specs.declared.Full.{Full}
 use Rattle.tex_defs.specs.declared.Table.TheVariants.{InputStackSize}
+use Rattle.tex_defs.specs.Sizes.{size_of}
 use Rattle.tex_defs.specs.Places.{World, Transcript}
 use Rattle.plain_state.specs.Puts.{Item, Text, First, Later, Gap, Put as PutList, settled, settled_top, passed, next_item, top_item, first_item, put_levels, levels_of}
 use Rattle.plain_state.specs.Pending.{Pending, Progress, NotBegun, Begun as BegunFile, Closed, Pulled, TokenFrom, LexemeFrom, LineTaken, InvalidMet, FileOver, NothingLeft, settle, pulled, after_pull, taken_line, from_front, from_list, from_line, from_file}
@@ -22,7 +24,7 @@ use Rattle.plain_state.specs.Readings as reading
 use Rattle.plain_state.specs.Reports as reports
 use Rattle.plain_state.specs.States as machine
 use Rattle.plain_state.specs.States.{State, Reading, Move, Handed, Taken, Settled, Skipped, FileClosed, Entered, Written, made}
-use Rattle.plain_state.specs.Tables.{means_macro, is_meant, is_put, Demand, level, opened_level, file_levels, file_level, buffer, next_line, refused, refusal, new_name as name_demands}
+use Rattle.plain_state.specs.Tables.{means_macro, is_meant, is_put, Demand, level, opened_level, file_levels, file_level, buffer, next_line, refused, refusal, full, string, hash, new_name as name_demands}
 use Rattle.plain_machine.specs.Plan.{Page, handed, met, met_outer, entered, without_file, Scanning, scanning, scanning_kind, first_of, checked, page_behind, put_one, reported, right_brace}
 use Rattle.plain_machine.specs.Numbers.{pending_of, pulled_of}
 use Rattle.plain_machine.specs.Runs.{steps}
@@ -59,12 +61,12 @@ use Rattle.tex_program.specs.declared.engine.Ruled.TheVariants.{Step, Free, Halt
 use Rattle.tex_program.specs.declared.reactions.Outcome.{Outcome}
 use Rattle.tex_program.specs.declared.reactions.Last.TheVariants as last
 use Rattle.tex_program.specs.Begins.{away_moves, last_moves}
-use Rattle.tex_program.specs.Steps.{IsFree, StepsIf, freed, pending_weight, weight}
+use Rattle.tex_program.specs.Steps.{IsFree, StepsIf, freed, pending_weight, call_weight, weight}
 use Rattle.tex_program.specs.Book.{Book}
-use Rattle.tex_program.specs.Entering.{located, with_names, EntryFits, EntryRefused}
+use Rattle.tex_program.specs.Entering.{joined, located, with_names, EntryFits, EntryRefused}
 use Rattle.tex_program.specs.Stands.{Counts, IsSized, IsSound, SameStore, Stands, WorkStands, OuterStand, FrameStands, SameFrames, OnlyColumn, state_of, page_of, frames}
 use Rattle.tex_program.specs.Rules.{world_of, onward_of, enters_of, scanning_of, token_moves, name_moves, Takes, Wants, Cuts, Went, DoesRule, DoesOnward, away_text}
-use Rattle.tex_program.proofs.Bare.{bare}
+use Rattle.tex_program.proofs.Bare.{bare, all_of}
 use Rattle.tex_program.proofs.Cutting.{cuts_by, later_cuts, full_cuts}
 use Rattle.tex_program.proofs.Reporting.{stands_still}
 use Rattle.tex_program.proofs.Storing.{store_with, sound_still}
@@ -244,7 +246,7 @@ rule_by sizes s e' book w w' ms ns ruled e h = subst (λ (x : List Move). DoesRu
 
 -- NAMES: at most one joins them, and none where the reading enters none
 
-abbrev FewNames : List (List ℕ) → Type 0
+abbrev pub FewNames : List (List ℕ) → Type 0
 FewNames [] = Unit {0}
 FewNames (n ∷ []) = Unit {0}
 FewNames (n ∷ m ∷ ns) = ⊥
@@ -257,7 +259,7 @@ few_among : (enters : Bool) (names : List (List ℕ)) (bytes : List ℕ) → Few
 few_among true names bytes = few_joins bytes (number_of names bytes)
 few_among false names bytes = tt
 
-few_names : (enters : Bool) (names : List (List ℕ)) (x : Lexeme) → FewNames (new_name enters names x)
+pub few_names : (enters : Bool) (names : List (List ℕ)) (x : Lexeme) → FewNames (new_name enters names x)
 few_names enters names (WordName bytes) = few_among enters names bytes
 few_names enters names ParName = few_among enters names (codes "par")
 few_names enters names x = tt
@@ -288,6 +290,42 @@ meant_more n (m ∷ cells) new = ap (λ (b : Bool). means_macro n m || b) (meant
 entered_none : (new : List (List ℕ)) → steps (entered new) ≡ 0
 entered_none [] = refl
 entered_none (n ∷ ns) = refl
+
+-- The input has a location for each name: so there is room for one where it is entered.
+fits_if : (b : Bool) (x : Option Full) (y : Full) → (if b then x else Some y) ≡ None → (b ≡ true) × (x ≡ None)
+fits_if true x y h = (refl, h)
+fits_if false x y h = absurd cc
+
+last_fits : (sizes : Sizes) (ds : List Demand) (d : Demand) → refused sizes (ds ++ d ∷ []) ≡ None → nat_le (d.used + d.need) (size_of sizes d.table) ≡ true
+last_fits sizes [] d h = (fits_if (nat_le (d.used + d.need) (size_of sizes d.table)) None (full sizes d) h).0
+last_fits sizes (x ∷ ds) d h = last_fits sizes ds d (fits_if (nat_le (x.used + x.need) (size_of sizes x.table)) (refused sizes (ds ++ d ∷ [])) (full sizes x) h).1
+
+module _ (sizes : Sizes) (e : Engine) (sized : IsSized sizes e) where
+  room_of : (n : List ℕ) (new : List (List ℕ)) → EntryFits e.names (n ∷ new) → HasNameRoom e.input.meanings e.input.hash_size
+  room_of n new fits =
+      let le : nat_le (length e.names.names + 1) e.names.sizes.hash_size ≡ true = last_fits e.names.sizes (string n e.names.names e.names.others) (hash e.names.names) fits in
+      let below : length e.names.names + 1 ≤ e.names.sizes.hash_size = grind (arith, nat_tests, le) in
+      let same : e.names.sizes.hash_size ≡ e.input.hash_size = ap (λ (s : Sizes). s.hash_size) sized.names ∙ sym sized.hash in
+      omega (arith, below, same, sized.located)
+
+  module _ (names : Strings) (new : List (List ℕ)) (few : FewNames new) (after : names ≡ joined e.names new) where
+    longer : length names.names ≡ length e.names.names + length new
+    longer = ap (λ (n : Strings). length n.names) after ∙ length-append e.names.names new
+
+    -- one has joined the others
+    pub one_entered : (e' : Engine) → length e.names.names < length names.names → e' ≡ record e { names = names; input = record e.input { meanings = e.input.meanings ++ means.Undefined ∷ [] } } → e' ≡ with_names new e
+    one_entered e' more is = is ∙ by_new new few after (omega (arith, more, longer)) where
+      by_new : (new : List (List ℕ)) → FewNames new → names ≡ joined e.names new → 0 < length new → record e { names = names; input = record e.input { meanings = e.input.meanings ++ means.Undefined ∷ [] } } ≡ with_names new e
+      by_new [] few after some = absurd (omega (arith, some))
+      by_new (n ∷ []) few after some = ap (λ (ns : Strings). record e { names = ns; input = located (n ∷ []) e.input }) after
+      by_new (n ∷ m ∷ ns) few after some = absurd few
+
+    -- none has
+    pub none_entered : (e' : Engine) → EntryFits e.names new → (length e.names.names < length names.names → HasNameRoom e.input.meanings e.input.hash_size → ⊥) → e' ≡ record e { names = names } → e' ≡ with_names new e
+    none_entered e' fits nowhere is = is ∙ by_new new after fits longer where
+      by_new : (new : List (List ℕ)) → names ≡ joined e.names new → EntryFits e.names new → length names.names ≡ length e.names.names + length new → record e { names = names } ≡ with_names new e
+      by_new [] after fits count = ap (λ (ns : Strings). record e { names = ns }) after ∙ ap (λ (cells : List (Meaning (Option ℕ))). record e { names = joined e.names []; input = record e.input { meanings = cells } }) (sym (append-nil e.input.meanings))
+      by_new (n ∷ ns) after fits count = absurd (nowhere (omega (arith, count)) (room_of n ns fits))
 
 module _ (sizes : Sizes) (e : Engine) (book : Book) where
   did_entered : (new : List (List ℕ)) (w : World) → FewNames new → IsSized sizes e → EntryFits e.names new → Did sizes (state_of e book) (state_of (with_names new e) book) w w (entered new)
@@ -667,7 +705,7 @@ module _ (sizes : Sizes) (e : Engine) (i : Stored) (others : i ≡ record e.inpu
       taken_rule line is fits sized stands =
           went_by sizes _ now w w (Settled ∷ Taken line ∷ []) plan 1 (taken_plan line i.pending is) (record {
             book' = book;
-            stands = stands;
+            stands = all_of sizes now book stands;
             did = did_pull (Taken line) (LineTaken line next) (pulled_as book.number e.input.pending e.categories (LineTaken line i.pending) is) refl tt (line_demands None fits sized) refl;
             count = refl;
           })
@@ -778,7 +816,7 @@ pub rule_as : (sizes : Sizes) (s : State) (e' : Engine) (book : Book) (w w' : Wo
 rule_as sizes s e' book w w' ms r q is h = subst (λ (x : Ruled). DoesRule sizes s e' book w w' ms x) (sym is) h
 
 pub lighter_after : (e e' : Engine) → SameFrames e e' → pending_weight e'.input.pending < pending_weight e.input.pending → weight e' < weight e
-lighter_after e e' h less = let asked : ask_weight e'.ask ≡ ask_weight e.ask = ap ask_weight h.ask in omega (arith, same_frames e e' h, asked, less)
+lighter_after e e' h less = let asked : ask_weight e'.ask ≡ ask_weight e.ask = ap ask_weight h.ask in omega (arith, same_frames e e' h, asked, less, ap call_weight h.call)
 
 pub not_free : (r : Ruled) (o : Outcome) → r ≡ Halted o → IsFree r → ⊥
 not_free r o is h = subst IsFree is h

@@ -29,6 +29,7 @@ use Rattle.tex_program.specs.declared.engine.Engine.{Engine}
 use Rattle.tex_program.specs.Book.{Book, with_work}
 use Rattle.tex_program.specs.Stands.{Counts, IsSized, IsSound, IsLast, Stands, SameStore, SameState, state_of, page_of}
 use Rattle.tex_program.specs.Rules.{world_of, Cuts, Went, Reports, Halts}
+use Rattle.tex_program.proofs.Bare.{all_of}
 use Rattle.tex_program.proofs.Cutting.{cuts_by, later_cuts, full_cuts}
 use Rattle.tex_program.proofs.Counting.{words_more}
 use Rattle.tex_program.proofs.Reporting.{reads_now, ended_state}
@@ -180,7 +181,7 @@ module _ (sizes : Sizes) (e e1 e2 : Engine) (book : Book) (r : Reading) (rs : Li
       Went sizes (state_of e (with_work (r ∷ rs) book)) e2 w w2 (ms ++ Ended v ∷ []) 0
   ended_went d n same wrote lists stands = record {
     book' = with_work (ended_with v (r ∷ rs)) book;
-    stands = stands;
+    stands = all_of sizes e2 (with_work (ended_with v (r ∷ rs)) book) stands;
     did = did_join sizes _ _ _ w w1 w2 ms (Ended v ∷ []) d (did_one sizes (Ended v) _ _ w1 w2 refl (ended_state e1 e2 book r rs v same lists) wrote);
     count = steps_join ms (Ended v ∷ []) ∙ omega (arith, n);
   }
@@ -203,7 +204,7 @@ module _ (sizes : Sizes) (e e1 e2 : Engine) (f : FilesTold) (s0 s2 : SinkTold) (
       let whole : told (page_of e book) report None back r ≡ given_back back r.fed ++ (written ++ Noted ∷ []) = told_is (page_of e book) report back r once notes ∙ ap (λ (x : List Move). given_back back r.fed ++ x) h.moves in
       went_by sizes _ e3 _ _ (given_back back r.fed ++ (written ++ Noted ∷ [])) _ 0 whole (record {
         book' = with_work (fed_with Told (r ∷ rs)) book;
-        stands = stands;
+        stands = all_of sizes e3 (with_work (fed_with Told (r ∷ rs)) book) stands;
         did = did_join sizes _ _ _ _ _ _ (given_back back r.fed) (written ++ Noted ∷ []) given (did_join sizes _ _ _ _ _ _ written (Noted ∷ []) h.did noted);
         count = steps_join (given_back back r.fed) (written ++ Noted ∷ []) ∙ omega (arith, back_none back r.fed);
       })

@@ -51,6 +51,7 @@ use Rattle.tex_program.specs.Begins.{outcome_of, outcome_of_last, last_moves, la
 use Rattle.tex_program.specs.Book.{Book, with_work}
 use Rattle.tex_program.specs.Stands.{Stands, FramesStand, WorkStands, Waits, WaitStands, EndsHere, OuterStand, AtMostOne, IsSized, IsSound, IsLone, IsUncalled, SameFrames, SameStore, SameState, SameOthers, OnlyColumn, state_of, page_of}
 use Rattle.tex_program.specs.Rules.{world_of, Takes, FitsOnward, Cuts, CountsReports, Went, Halts, Reports}
+use Rattle.tex_program.proofs.Bare.{all_of}
 use Rattle.tex_program.proofs.Cutting.{cuts_by, full_cuts, later_cuts, did_out, cut_out}
 use Rattle.tex_program.proofs.Joining.{IsQuiet, quiet_here, quiet_wrote}
 use Rattle.tex_program.proofs.Storing.{store_is, sound_sized, sound_still}
@@ -286,7 +287,7 @@ pub reports_went : (sizes : Sizes) (e e' : Engine) (book : Book) (w w' : World) 
     Went sizes (state_of e book) e' w w' (reported (page_of e book) report []) 0
 reports_went sizes e e' book w w' report st h = record {
   book' = book;
-  stands = st;
+  stands = all_of sizes e' book st;
   did = subst (λ (ms : List Move). Did sizes (state_of e book) (state_of e' book) w w' ms) (sym h.moves) h.did;
   count = ap steps h.moves;
 }
@@ -307,7 +308,7 @@ pub ends_behind_moves : (sizes : Sizes) (e e1 e2 : Engine) (book : Book) (r : Re
     Went sizes (state_of e (with_work (r ∷ rs) book)) e2 w (world_of f s e2) (ms ++ Ended v ∷ []) 0
 ends_behind_moves sizes e e1 e2 book r rs f w s ms v d n same lists stands = record {
   book' = with_work (ended_with v (r ∷ rs)) book;
-  stands = stands;
+  stands = all_of sizes e2 (with_work (ended_with v (r ∷ rs)) book) stands;
   did = did_join sizes _ _ _ w _ _ ms (Ended v ∷ []) d
       (did_one sizes (Ended v) _ _ _ _ refl (ended_state e1 e2 book r rs v same lists) (quiet_wrote (Ended v) f s e1.in_line e2.in_line tt same.others.in_line));
   count = steps_join ms (Ended v ∷ []) ∙ omega (arith, n);
@@ -327,7 +328,7 @@ pub reading_went : (sizes : Sizes) (e e' : Engine) (book : Book) (work : List Re
     made m (state_of e book) ≡ record (state_of e book) { work = work; gathered = gathered e'.input } → SameState e e' → Stands sizes e' (with_work work book) → Went sizes (state_of e book) e' (world_of f s e) (world_of f s e') (m ∷ []) 0
 reading_went sizes e e' book work f s m quiet silent fits is same stands = record {
   book' = with_work work book;
-  stands = stands;
+  stands = all_of sizes e' (with_work work book) stands;
   did = did_one sizes m _ _ _ _ fits (is ∙ reads_now e e' book work same) (quiet_wrote m f s e.in_line e'.in_line quiet same.others.in_line);
   count = omega (arith, silent);
 }
@@ -358,7 +359,7 @@ line_silent page m = silent page.quiet where
 
 pub line_went : (sizes : Sizes) (e e' : Engine) (book : Book) (w w' : World) (m : Meaning Unit) → OnlyColumn e e' → Stands sizes e book → Did sizes (state_of e book) (state_of e' book) w w' (token_line (page_of e book) m) →
     Went sizes (state_of e book) e' w w' (token_line (page_of e book) m) 0
-line_went sizes e e' book w w' m only st did = record { book' = book; stands = column_still sizes e e' book only st; did = did; count = line_silent (page_of e book) m }
+line_went sizes e e' book w w' m only st did = record { book' = book; stands = all_of sizes e' book (column_still sizes e e' book only st); did = did; count = line_silent (page_of e book) m }
 
 -- what is made of a token fits where it is wanted
 pub fits_none : (sizes : Sizes) (e : Engine) (book : Book) (x : Seen) (o : Onward) → IsNoFeed o → Takes sizes None e book → FitsOnward sizes x o e book

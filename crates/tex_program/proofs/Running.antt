@@ -4,7 +4,7 @@ use Rattle.std.specs.Prelude.{Option, Some, None}
 use Rattle.tex_defs.specs.Places.{World}
 use Rattle.tex_defs.specs.declared.Sizes.{Sizes}
 use Rattle.plain_state.specs.Pending.{Pending, settle}
-use Rattle.plain_state.specs.States.{State, Move, Settled}
+use Rattle.plain_state.specs.States.{State, Move, Reading, Settled}
 use Rattle.plain_machine.specs.Runs.{steps}
 use Rattle.plain_machine.specs.Bounded.{Comes, End}
 use Rattle.plain_machine.specs.Does.{CutAt, Why, IsFull, IsFault, IsWant, but_due}
@@ -22,19 +22,31 @@ use Rattle.tex_program.specs.declared.broken.Broken.{Broken}
 use Rattle.tex_program.specs.Begins.{outcome_of}
 use Rattle.tex_program.specs.Faults.{why_of}
 use Rattle.tex_program.specs.Book.{Book}
-use Rattle.tex_program.specs.Stands.{Stands, SameFrames, state_of}
+use Rattle.tex_program.specs.Calls.{AllStand, FramesOf}
+use Rattle.tex_program.specs.Stands.{SameFrames, state_of}
 use Rattle.tex_program.specs.Steps.{IsHalted, StepsIf}
 use Rattle.tex_program.specs.Rules.{DoesRule, Went, Halts, Cuts, IsMoment, plan_of}
 use Rattle.tex_program.specs.Ran.{Came, Stops, Settles, Ran, IsAt, CutBy, end_of}
-use Rattle.tex_program.proofs.Reporting.{frames_still, stands_still}
+use Rattle.tex_program.specs.declared.call.Call.{Call}
+use Rattle.tex_program.proofs.Bare.{frames_all}
+use Rattle.tex_program.proofs.CallKept.{all_still}
+use Rattle.tex_program.proofs.Reporting.{frames_still}
 use Rattle.tex_program.proofs.Storing.{store_settled, sound_still}
 
-pub came_none : (sizes : Sizes) (e : Engine) (book : Book) (w : World) → Stands sizes e book → Came sizes (state_of e book) e w w 0
+pub came_none : (sizes : Sizes) (e : Engine) (book : Book) (w : World) → AllStand sizes e book → Came sizes (state_of e book) e w w 0
 came_none sizes e book w stands = record { ms = []; book' = book; stands = stands; moves = refl; count = refl; written = wrote_none w }
+
+-- the frames are as they were
+frames_after : (sizes : Sizes) (e e' : Engine) (book : Book) → SameFrames e e' → AllStand sizes e book → FramesOf e'.call e' book.work
+frames_after sizes e e' book same st = subst (λ (c : Option Call). FramesOf c e' book.work) (sym same.call) (at e.call book.work (frames_all sizes e book st)) where
+  at : (c : Option Call) (work : List Reading) → FramesOf c e work → FramesOf c e' work
+  at None work h = frames_still e e' work same h
+  at (Some c) [] h = h
+  at (Some c) (r ∷ rs) h = frames_still e e' rs same h
 
 -- behind this much of a run
 module _ (sizes : Sizes) (s : State) (e e' : Engine) (w w' w'' : World) (k : ℕ) (came : Came sizes s e w w' k) where
-  pub came_on : (n : ℕ) → ((book : Book) → Stands sizes e book → Went sizes (state_of e book) e' w' w'' (plan_of e book) n) → Came sizes s e' w w'' (k + n)
+  pub came_on : (n : ℕ) → ((book : Book) → AllStand sizes e book → Went sizes (state_of e book) e' w' w'' (plan_of e book) n) → Came sizes s e' w w'' (k + n)
   came_on n does =
       let went = does came.book' came.stands in
       let plan : List Move = plan_of e came.book' in
@@ -47,8 +59,8 @@ module _ (sizes : Sizes) (s : State) (e e' : Engine) (w w' w'' : World) (k : ℕ
         written = wrote_join w w' w'' came.ms plan came.written went.did.written;
       }
 
-  pub came_halts : (j : ℕ) (o : Outcome) → ((book : Book) → Stands sizes e book → Halts sizes (state_of e book) e' book w' w'' (plan_of e book) (outcome_of o) 1) → SameFrames e e' →
-      ((book : Book) → Stands sizes e book → steps (plan_of e book) ≡ j) → Stops sizes s e' w w'' (k + j) o
+  pub came_halts : (j : ℕ) (o : Outcome) → ((book : Book) → AllStand sizes e book → Halts sizes (state_of e book) e' book w' w'' (plan_of e book) (outcome_of o) 1) → SameFrames e e' →
+      ((book : Book) → AllStand sizes e book → steps (plan_of e book) ≡ j) → Stops sizes s e' w w'' (k + j) o
   came_halts j o does same count =
       let halts = does came.book' came.stands in
       let plan : List Move = plan_of e came.book' in
@@ -60,12 +72,12 @@ module _ (sizes : Sizes) (s : State) (e e' : Engine) (w w' w'' : World) (k : ℕ
         ends = stopped_ends halts.t (outcome_of o) halts.due halts.stopped;
         stopped = halts.stopped;
         reports = halts.reports;
-        stands = record { book' = came.book'; frames = frames_still e e' came.book'.work same came.stands.readings; same = halts.same came.stands.sound.sized.few_reports };
+        stands = record { book' = came.book'; frames = frames_after sizes e e' came.book' same came.stands; same = halts.same came.stands.sound.sized.few_reports };
         written = wrote_join w w' w'' came.ms plan came.written halts.did.written;
       }
 
   -- one part of a run behind another
-  pub came_join : (j : ℕ) → ((book : Book) → Stands sizes e book → Came sizes (state_of e book) e' w' w'' j) → Came sizes s e' w w'' (k + j)
+  pub came_join : (j : ℕ) → ((book : Book) → AllStand sizes e book → Came sizes (state_of e book) e' w' w'' j) → Came sizes s e' w w'' (k + j)
   came_join j on =
       let h = on came.book' came.stands in
       record {
@@ -77,7 +89,7 @@ module _ (sizes : Sizes) (s : State) (e e' : Engine) (w w' w'' : World) (k : ℕ
         written = wrote_join w w' w'' came.ms h.ms came.written h.written;
       }
 
-  pub stops_join : (j : ℕ) (o : Outcome) → ((book : Book) → Stands sizes e book → Stops sizes (state_of e book) e' w' w'' j o) → Stops sizes s e' w w'' (k + j) o
+  pub stops_join : (j : ℕ) (o : Outcome) → ((book : Book) → AllStand sizes e book → Stops sizes (state_of e book) e' w' w'' j o) → Stops sizes s e' w w'' (k + j) o
   stops_join j o on =
       let h = on came.book' came.stands in
       record {
@@ -97,7 +109,7 @@ module _ (sizes : Sizes) (s : State) (e e' : Engine) (w w' w'' : World) (k : ℕ
   cut_on j n t why le cut =
       cut_within sizes s t (k + j) n w w'' why le (cut_behind sizes s (state_of e came.book') t k j w w' w'' came.ms why came.moves (omega (arith, came.count)) came.written cut)
 
-  pub cut_by_join : (j n : ℕ) (b : Broken) → k + j ≤ n → ((book : Book) → Stands sizes e book → CutBy sizes (state_of e book) j e' w' w'' b) → CutBy sizes s n e' w w'' b
+  pub cut_by_join : (j n : ℕ) (b : Broken) → k + j ≤ n → ((book : Book) → AllStand sizes e book → CutBy sizes (state_of e book) j e' w' w'' b) → CutBy sizes s n e' w w'' b
   cut_by_join j n b le on =
       let h = on came.book' came.stands in
       record { t = h.t; cut = cut_on j n h.t (why_of b) le h.cut; book' = h.book'; frames = h.frames; same = h.same }
@@ -106,7 +118,7 @@ module _ (sizes : Sizes) (s : State) (e e' : Engine) (w w' w'' : World) (k : ℕ
   comes_on : (i j n : ℕ) (t : State) (end : End) → j ≡ i → Comes sizes i n t end → Comes sizes j n t end
   comes_on i j n t end is h = subst (λ (x : ℕ). Comes sizes x n t end) (sym is) h
 
-  pub ran_join : (n : ℕ) (ended : Ended) → k ≡ 0 → ((book : Book) → Stands sizes e book → Ran sizes (state_of e book) n e' w' w'' ended) → Ran sizes s n e' w w'' ended
+  pub ran_join : (n : ℕ) (ended : Ended) → k ≡ 0 → ((book : Book) → AllStand sizes e book → Ran sizes (state_of e book) n e' w' w'' ended) → Ran sizes s n e' w w'' ended
   ran_join n ended none on =
       let h = on came.book' came.stands in
       let same : steps (came.ms ++ h.ms) ≡ steps h.ms = steps_join came.ms h.ms ∙ omega (arith, came.count, none) in
@@ -129,11 +141,11 @@ same_moment IsFault t at s e h = ap (λ (x : State). record x { in_line = s.in_l
 same_moment IsWant t at s e h = ap (λ (x : State). record x { in_line = s.in_line }) e ∙ ap but_due h
 
 -- a rule that is cut off
-pub rule_cut : (sizes : Sizes) (e e' : Engine) (book : Book) (w w' : World) (n : ℕ) (b : Broken) → steps (plan_of e book) ≤ n → SameFrames e e' → Stands sizes e book →
+pub rule_cut : (sizes : Sizes) (e e' : Engine) (book : Book) (w w' : World) (n : ℕ) (b : Broken) → steps (plan_of e book) ≤ n → SameFrames e e' → AllStand sizes e book →
     Cuts sizes (state_of e book) e' book w w' (plan_of e book) b → CutBy sizes (state_of e book) n e' w w' b
 rule_cut sizes e e' book w w' n b le same stands h =
     let off : CutOff sizes (state_of e book) h.at n w w' (why_of b) = plan_cut sizes (state_of e book) h.at n w w' (plan_of e book) (why_of b) h.cut le refl refl in
-    record { t = off.t; cut = off.cut; book' = book; frames = frames_still e e' book.work same stands.readings; same = same_moment (why_of b) off.t h.at (state_of e' book) off.same h.same }
+    record { t = off.t; cut = off.cut; book' = book; frames = frames_after sizes e e' book same stands; same = same_moment (why_of b) off.t h.at (state_of e' book) off.same h.same }
 
 -- THE END OF A RUN
 
@@ -155,11 +167,11 @@ module _ (sizes : Sizes) (e : Engine) (i : Stored) (is : i ≡ record e.input { 
   settled_frames : SameFrames e settled_engine
   settled_frames = record { outer = refl; top = refl; ask = refl; lists = ap (λ (x : Stored). x.builds) is; call = refl; calling = ap (λ (x : Stored). x.call) is }
 
-  settled_stands : (book : Book) → Stands sizes e book → Stands sizes settled_engine book
-  settled_stands book h = stands_still sizes e settled_engine book settled_frames
+  settled_stands : (book : Book) → AllStand sizes e book → AllStand sizes settled_engine book
+  settled_stands book h = all_still sizes e settled_engine book settled_frames (store_settled e.input i is kept)
       (sound_still sizes e settled_engine book.number book.macros refl refl refl refl (store_settled e.input i is kept) h.sound) (ap (λ (x : Stored). x.making) is ∙ h.idle) h
 
-  settled_at : (book : Book) (c : StepComes sizes (state_of e book)) → Stands sizes e book → IsAt sizes settled_engine c.t
+  settled_at : (book : Book) (c : StepComes sizes (state_of e book)) → AllStand sizes e book → IsAt sizes settled_engine c.t
   settled_at book c stands = record {
     book' = book;
     stands = settled_stands book stands;
@@ -167,7 +179,7 @@ module _ (sizes : Sizes) (e : Engine) (i : Stored) (is : i ≡ record e.input { 
   }
 
   -- the steps were taken, and one more is needed
-  pub came_whole : (s : State) (w w' : World) (n : ℕ) → Came sizes s e w w' n → ((book : Book) → Stands sizes e book → StepComes sizes (state_of e book)) → Ran sizes s n settled_engine w w' ended.Steps
+  pub came_whole : (s : State) (w w' : World) (n : ℕ) → Came sizes s e w w' n → ((book : Book) → AllStand sizes e book → StepComes sizes (state_of e book)) → Ran sizes s n settled_engine w w' ended.Steps
   came_whole s w w' n came needs =
       let c : StepComes sizes (state_of e came.book') = needs came.book' came.stands in
       record {

@@ -34,20 +34,20 @@ use Rattle.input_state.specs.Reads.{gives_step}
 use Rattle.input_state.specs.Stored.{gathered}
 use Rattle.tex_program.specs.declared.engine.Engine.{Engine}
 use Rattle.tex_program.specs.Book.{Book, with_work}
-use Rattle.tex_program.specs.Stands.{Stands, WorkStands, state_of}
-use Rattle.tex_program.specs.Steps.{stepping, wants_token}
+use Rattle.tex_program.specs.Stands.{FramesStand, WorkStands, state_of}
+use Rattle.tex_program.specs.Steps.{wants_token}
 use Rattle.tex_program.specs.Rules.{plan_of, feeds_of}
 
 -- MOVES WITHOUT A STEP
 
-abbrev one_if : Bool → ℕ
+abbrev pub one_if : Bool → ℕ
 one_if b = if b then 1 else 0
 
 none_if : (b : Bool) (x y : List Move) → steps x ≡ 0 → steps y ≡ 0 → steps (if b then x else y) ≡ 0
 none_if true x y h i = h
 none_if false x y h i = i
 
-back_none : (back : Bool) (fed : List reading.Fed) → steps (given_back back fed) ≡ 0
+pub back_none : (back : Bool) (fed : List reading.Fed) → steps (given_back back fed) ≡ 0
 back_none false fed = refl
 back_none true fed = all_none (last_seen fed) where
   all_none : (xs : List Seen) → steps (put_all xs) ≡ 0
@@ -63,7 +63,7 @@ entered_none : (names : List (List ℕ)) → steps (entered names) ≡ 0
 entered_none [] = refl
 entered_none (name ∷ names) = refl
 
-reported_none : (page : Page) (report : reports.Report) (rest : List Move) → steps rest ≡ 0 → steps (reported page report rest) ≡ 0
+pub reported_none : (page : Page) (report : reports.Report) (rest : List Move) → steps rest ≡ 0 → steps (reported page report rest) ≡ 0
 reported_none page report rest h =
     let last : steps (if nat_lt page.reports reports_room then rest else Written Transcript hundred_line ∷ Stopped (AtFatal HundredErrors) ∷ []) ≡ 0 =
     none_if (nat_lt page.reports reports_room) rest (Written Transcript hundred_line ∷ Stopped (AtFatal HundredErrors) ∷ []) h refl in
@@ -93,7 +93,7 @@ argument_none : (x : Seen) (o : Option (List Token)) (complete : List (List Toke
 argument_none x None complete next = omega (arith, opened_none next)
 argument_none x (Some work) complete next = place_none x work complete next
 
-kind_none : (k : reading.Kind) (fed : List reading.Fed) (x : Seen) → steps (feeding_kind k fed x) ≡ 0
+pub kind_none : (k : reading.Kind) (fed : List reading.Fed) (x : Seen) → steps (feeding_kind k fed x) ≡ 0
 kind_none (reading.Arguments name long number ts) fed x = argument_none x (work_in (reading.gathered_by long ts fed)) (drop (length (arguments_in (reading.gathered_by long ts fed))) (arguments_in (reading.gathered_by long ts (fed ++ reading.Tok x ∷ [])))) (work_in (reading.gathered_by long ts (fed ++ reading.Tok x ∷ [])))
 kind_none k fed x = one_more (drop (length (reading.so_far k fed)) (reading.so_far k (fed ++ reading.Tok x ∷ []))) (Feeds x) refl
 
@@ -101,11 +101,11 @@ pub feeds_none : (work : List Reading) (x : Seen) → steps (feeds_of work x) �
 feeds_none [] x = refl
 feeds_none (r ∷ rs) x = kind_none r.kind r.fed x
 
-noting_none : (r : Reading) → steps (noting r) ≡ 0
+pub noting_none : (r : Reading) → steps (noting r) ≡ 0
 noting_none r = one_more (drop (length (reading.so_far r.kind r.fed)) (reading.so_far r.kind (r.fed ++ reading.Told ∷ []))) Noted refl
 
 -- a macro's name
-body_none : (p : PutList) (items : List Item) → steps (body_put p items) ≡ 0
+pub body_none : (p : PutList) (items : List Item) → steps (body_put p items) ≡ 0
 body_none p [] = refl
 body_none p (x ∷ xs) = refl
 
@@ -158,7 +158,7 @@ expanded_none page t means.Undefined feeds h = reported_none page reports.Undefi
 expanded_none page t (means.Macro long outer list) feeds h = called_none page t
 expanded_none page t m feeds h = h
 
-wanted_none : (page : Page) (w : Want) (feeds : List Move) (x : Seen) → steps feeds ≡ 0 → steps (wanted page w feeds x) ≡ 0
+pub wanted_none : (page : Page) (w : Want) (feeds : List Move) (x : Seen) → steps feeds ≡ 0 → steps (wanted page w feeds x) ≡ 0
 wanted_none page Raw feeds x h = h
 wanted_none page Expanded feeds x h = expanded_none page x.token x.meaning feeds h
 wanted_none page Copied feeds x h = expanded_none page x.token x.meaning feeds h
@@ -224,7 +224,7 @@ step_same number NothingLeft = refl
 pub gives_same : (number : ℕ → ℕ) (categories : List ℕ) (p : Pending) → gives_step (pulled categories (pending_of number p)) ≡ gives_step (pulled categories p)
 gives_same number categories p = ap gives_step (pulled_same number categories p) ∙ step_same number (pulled categories p)
 
-handed_now : (e : Engine) (book : Book) (page : Page) (enters : Bool) (o : Option Scanning) (onward : Seen → List Move) → ((x : Seen) → steps (onward x) ≡ 0) →
+pub handed_now : (e : Engine) (book : Book) (page : Page) (enters : Bool) (o : Option Scanning) (onward : Seen → List Move) → ((x : Seen) → steps (onward x) ≡ 0) →
     steps (handed page enters o onward (pulled e.categories (pending_of book.number e.input.pending))) ≡ one_if (gives_step (pulled e.categories e.input.pending))
 handed_now e book page enters o onward h = handed_steps page enters o onward (pulled e.categories (pending_of book.number e.input.pending)) h ∙ ap one_if (gives_same book.number e.categories e.input.pending)
 
@@ -244,16 +244,8 @@ steps_at e None book (r ∷ rs) h = absurd h
 steps_at e (Some f) book [] h = absurd h
 steps_at e (Some f) book (r ∷ rs) h = rw (← h.0.asked) (answer_steps e (with_work (r ∷ rs) book) r f e.ask)
 
-plan_steps : (sizes : Sizes) (e : Engine) (book : Book) → Stands sizes e book → steps (plan_of e book) ≡ one_if (stepping e)
-plan_steps sizes e book h = steps_at e e.top book book.work h.readings
-
--- a rule that begins with no step has none
-pub plan_silent : (sizes : Sizes) (e : Engine) → stepping e ≡ false → (book : Book) → Stands sizes e book → steps (plan_of e book) ≡ 0
-plan_silent sizes e g book h = plan_steps sizes e book h ∙ ap one_if g
-
--- and one that does has one
-pub plan_one : (sizes : Sizes) (e : Engine) → stepping e ≡ true → (book : Book) → Stands sizes e book → steps (plan_of e book) ≡ 1
-plan_one sizes e g book h = plan_steps sizes e book h ∙ ap one_if g
+pub frame_steps : (e : Engine) (book : Book) → FramesStand e book.work → steps (plan_of e book) ≡ one_if (wants_token e.top e.ask && gives_step (pulled e.categories e.input.pending))
+frame_steps e book h = steps_at e e.top book book.work h
 
 -- A STEP COMES
 
@@ -266,7 +258,7 @@ module _ (sizes : Sizes) where
   needs_of s page enters o onward (FileOver q) e f g = cc
   needs_of s page enters o onward NothingLeft e f g = cc
 
-  pulled_needs : (e : Engine) (book : Book) (page : Page) (enters : Bool) (o : Option Scanning) (onward : Seen → List Move) → plan_of e book ≡ handed page enters o onward (pulled e.categories (pending_of book.number e.input.pending)) →
+  pub pulled_needs : (e : Engine) (book : Book) (page : Page) (enters : Bool) (o : Option Scanning) (onward : Seen → List Move) → plan_of e book ≡ handed page enters o onward (pulled e.categories (pending_of book.number e.input.pending)) →
       gives_step (pulled e.categories e.input.pending) ≡ true → StepComes sizes (state_of e book)
   pulled_needs e book page enters o onward h g =
       needs_of (state_of e book) page enters o onward (pulled e.categories (pending_of book.number e.input.pending)) refl h (gives_same book.number e.categories e.input.pending ∙ g)
@@ -286,5 +278,5 @@ module _ (sizes : Sizes) where
   needs_at e (Some f) book [] h g = absurd h
   needs_at e (Some f) book (r ∷ rs) h g = answer_needs e (with_work (r ∷ rs) book) r f e.ask (ap (answered (state_of e (with_work (r ∷ rs) book)) (r ∷ rs) r) (sym h.0.asked)) g
 
-  pub stepping_needs : (e : Engine) → stepping e ≡ true → (book : Book) → Stands sizes e book → StepComes sizes (state_of e book)
-  stepping_needs e g book h = needs_at e e.top book book.work h.readings g
+  pub frame_needs : (e : Engine) (book : Book) → FramesStand e book.work → (wants_token e.top e.ask && gives_step (pulled e.categories e.input.pending)) ≡ true → StepComes sizes (state_of e book)
+  frame_needs e book h g = needs_at e e.top book book.work h g

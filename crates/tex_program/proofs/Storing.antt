@@ -1,18 +1,20 @@
 -- The macros that the input holds keep their numbers.
-use Rattle.std.proofs.Common.{◌≡◌, ℕ, zero, suc, ◌+◌, ◌<◌, List, [], ◌∷◌, length, Option, None, inl, inr, refl, sym, ap, ◌∙◌, subst, true, arith}
+use Rattle.std.proofs.Common.{◌≡◌, ℕ, zero, suc, ◌+◌, ◌<◌, List, [], ◌∷◌, ◌++◌, length, map, Option, Some, None, inl, inr, refl, sym, ap, ◌∙◌, subst, Bool, true, false, arith}
 use Rattle.std.specs.Prelude.{slice_index_or}
 use Rattle.std.proofs.lemmas.Bool.{cases_lt}
 use Rattle.std.proofs.lemmas.List.{get_or_past}
 use Rattle.tex_defs.specs.declared.Token.{Token}
 use Rattle.tex_defs.specs.declared.Meaning.{Meaning}
 use Rattle.tex_defs.specs.declared.Sizes.{Sizes}
-use Rattle.plain_state.specs.Puts.{token_put}
+use Rattle.plain_state.specs.Puts.{Put, token_put}
 use Rattle.plain_state.specs.Pending.{Pending, settle, put_front}
 use Rattle.plain_state.specs.Tables.{is_meant, is_put, words}
+use Rattle.plain_machine.specs.Plan.{reports_room}
 use Rattle.plain_machine.specs.Numbers.{IsHeld, Tied}
 use Rattle.plain_machine.proofs.MacroWords.{all_words_tied}
 use Rattle.plain_machine.proofs.Ties.{put_settled, put_with_put, held_more}
 use Rattle.name_table.specs.Strings.{Strings}
+use Rattle.input_state.specs.Callings.{Calling}
 use Rattle.input_state.specs.Stored.{Stored, KeepsMacros, gathered, words as stored_words}
 use Rattle.tex_program.specs.declared.engine.Engine.{Engine}
 use Rattle.tex_program.specs.Book.{Book, AreBodies}
@@ -52,6 +54,20 @@ store_with i j p making gathered buffer is fewer macros = record {
 
 pub store_gathered : (i j : Stored) (gathered : List (List Token)) → j ≡ record i { builds = gathered; lists = j.lists } → KeepsMacros i j → SameStore i j
 store_gathered i j gathered is macros = store_with i j i.pending i.making gathered i.buffer is (λ n h. h) macros
+
+-- the call is another one
+pub store_call : (i j : Stored) (k : Calling) → j ≡ record i { call = k; lists = j.lists } → KeepsMacros i j → SameStore i j
+store_call i j k is macros = record {
+  sizes = ap (λ (x : Stored). x.sizes) is;
+  hash = ap (λ (x : Stored). x.hash_size) is;
+  meanings = ap (λ (x : Stored). x.meanings) is;
+  puts = λ n h. subst (λ (x : Stored). is_put n x.pending.puts ≡ true) is h;
+  lists = macros;
+}
+
+-- its scanner alone
+pub store_scan : (i j : Stored) (k : Calling) → j ≡ record i { call = k } → SameStore i j
+store_scan i j k is = subst (λ (x : Stored). SameStore i x) (sym is) (record { sizes = refl; hash = refl; meanings = refl; puts = λ n h. h; lists = record { tokens = λ n h. refl } })
 
 pub store_making : (i j : Stored) (making : Option (List Token)) → j ≡ record i { making = making; lists = j.lists } → KeepsMacros i j → SameStore i j
 store_making i j making is macros = store_with i j i.pending making i.builds i.buffer is (λ n h. h) macros

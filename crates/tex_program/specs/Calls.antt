@@ -1,5 +1,6 @@
 -- A call that gathers its arguments: the innermost reading of all.
 use Rattle.std.specs.Prelude.{◌≡◌, ℕ, Bool, true, false, List, [], ◌∷◌, ◌++◌, length, Option, Some, None}
+use Rattle.tex_defs.specs.Places.{Transcript}
 use Rattle.tex_defs.specs.declared.Seen.{Seen}
 use Rattle.tex_defs.specs.declared.Sizes.{Sizes}
 use Rattle.tex_defs.specs.declared.Token.{Token}
@@ -8,12 +9,13 @@ use Rattle.tex_defs.specs.declared.Meaning.TheVariants.{Macro}
 use Rattle.plain_state.specs.Arguments.{arguments_in, work_in}
 use Rattle.plain_state.specs.Meanings.{name_meaning}
 use Rattle.plain_state.specs.Readings as reading
-use Rattle.plain_state.specs.Readings.{Fed, gathered_by, call_fed, par_token}
+use Rattle.plain_state.specs.Readings.{Fed, gathered_by, call_fed, par_token, list_or_none}
 use Rattle.plain_state.specs.Reports as reports
-use Rattle.plain_state.specs.States.{Reading}
+use Rattle.plain_state.specs.States.{Reading, Move, Written}
 use Rattle.plain_state.specs.Tokens.{Raw}
-use Rattle.plain_machine.specs.Plan.{is_told, last_seen}
+use Rattle.plain_machine.specs.Plan.{Page, is_told, last_seen, put_one, failed, page_behind}
 use Rattle.macro_call.specs.PlainScans.{Scan, resume_scan, scan_work}
+use Rattle.input_state.specs.CallFeeds.{call_work}
 use Rattle.input_state.specs.Callings.{Calling, NotCalling, Gathering, Stopped, Gathered, call_lists}
 use Rattle.input_state.specs.Macros.{list_at}
 use Rattle.frames.specs.declared.scan.Ask.{Ask}
@@ -24,7 +26,7 @@ use Rattle.tex_program.specs.declared.call.CallAsk.{CallAsk}
 use Rattle.tex_program.specs.declared.call.CallAsk.TheVariants as call
 use Rattle.tex_program.specs.declared.engine.Engine.{Engine}
 use Rattle.tex_program.specs.Book.{Book}
-use Rattle.tex_program.specs.Stands.{Stands, FramesStand, IsLone, IsSound}
+use Rattle.tex_program.specs.Stands.{FramesStand, IsLone, IsSound}
 
 -- the arguments, where all of them are there
 abbrev pub args_of : Calling → List (List Token)
@@ -109,22 +111,38 @@ WantsToken None a = Unit {0}
 WantsToken (Some f) (asks.More want) = Unit {0}
 WantsToken (Some f) a = ⊥
 
--- It is the innermost reading; the frames, with the lists that they hold, are those beneath it.
-abbrev pub CallReadings : Engine → (number : ℕ → ℕ) → Call → List Reading → Type 0
-CallReadings e number c [] = ⊥
-CallReadings e number c (r ∷ rs) = CallStands e number c r × (FramesStand e rs × IsLone rs)
-
-pub record Calls (sizes : Sizes) (e : Engine) (c : Call) (book : Book) : Type 0 where
-  pub sound : IsSound sizes e book.number book.macros
-  pub idle : e.input.making ≡ None
-  pub call : e.call ≡ Some c
-  pub readings : CallReadings e book.number c book.work
-  pub waits : WantsToken e.top e.ask
+-- A call is the innermost reading; the frames, with the lists that they hold, are those beneath it, or all of them.
+abbrev pub ReadingsStand : Option Call → Engine → (number : ℕ → ℕ) → List Reading → Type 0
+ReadingsStand None e number work = FramesStand e work × (IsLone work × (e.input.call ≡ NotCalling))
+ReadingsStand (Some c) e number [] = ⊥
+ReadingsStand (Some c) e number (r ∷ rs) = CallStands e number c r × (FramesStand e rs × (IsLone rs × WantsToken e.top e.ask))
 
 -- The engine's open readings and its macros are those of the book, and no list is being made; a call gathers its arguments or none does.
-abbrev pub StandsBy : Option Call → Sizes → Engine → Book → Type 0
-StandsBy None sizes e book = Stands sizes e book
-StandsBy (Some c) sizes e book = Calls sizes e c book
+pub record AllStand (sizes : Sizes) (e : Engine) (book : Book) : Type 0 where
+  pub sound : IsSound sizes e book.number book.macros
+  pub idle : e.input.making ≡ None
+  pub all : ReadingsStand e.call e book.number book.work
 
-abbrev pub AllStands : Sizes → Engine → Book → Type 0
-AllStands sizes e book = StandsBy e.call sizes e book
+-- the open readings, but for a call, are these
+abbrev pub FramesOf : Option Call → Engine → List Reading → Type 0
+FramesOf None e work = FramesStand e work
+FramesOf (Some c) e [] = ⊥
+FramesOf (Some c) e (r ∷ rs) = FramesStand e rs
+
+-- AN ARGUMENT THAT RUNS AWAY
+
+-- what is shown of it: the list in work, if a place is reached
+abbrev pub argument_bytes : Engine → List ℕ
+argument_bytes e = reports.runaway_bytes reports.OfUse e.categories e.names.names e.in_line (list_or_none (call_work e.input.call))
+
+-- it is shown, the token put back, and the call reports and ends
+abbrev pub call_away_moves : Page → (text : List ℕ) → Token → reports.Report → List Move
+call_away_moves page text t report = Written Transcript text ∷ (put_one t ++ failed (page_behind page text) report)
+
+-- the call that takes tokens
+abbrev pub open_call : Name → Call
+open_call name = record { name = name; ask = call.More }
+
+-- the call in which an extra right brace came
+abbrev pub brace_call : Name → Seen → Call
+brace_call name x = record { name = name; ask = call.ExtraBrace x }

@@ -15,14 +15,15 @@ use Rattle.tex_program.specs.declared.reactions.Outcome.{Outcome}
 use Rattle.tex_program.specs.Begins.{outcome_of}
 use Rattle.tex_program.specs.Faults.{why_of}
 use Rattle.tex_program.specs.Book.{Book}
-use Rattle.tex_program.specs.Stands.{Stands, FramesStand, state_of}
+use Rattle.tex_program.specs.Calls.{AllStand, FramesOf}
+use Rattle.tex_program.specs.Stands.{state_of}
 use Rattle.tex_program.specs.Rules.{CountsReports, IsMoment}
 
 -- The machine has come from s to where the engine is.
 pub record Came (sizes : Sizes) (s : State) (e' : Engine) (w w' : World) (k : ℕ) : Type 0 where
   pub ms : List Move
   pub book' : Book
-  pub stands : Stands sizes e' book'
+  pub stands : AllStand sizes e' book'
   pub moves : FitMoves sizes s ms (state_of e' book')
   pub count : steps ms ≡ k
   pub written : Wrote w w' ms
@@ -30,7 +31,7 @@ pub record Came (sizes : Sizes) (s : State) (e' : Engine) (w w' : World) (k : �
 -- A run has ended in this state: the engine stands for it, with its open readings, but for how it stopped.
 pub record IsEnd (e' : Engine) (t : State) : Type 0 where
   pub book' : Book
-  pub frames : FramesStand e' book'.work
+  pub frames : FramesOf e'.call e' book'.work
   pub same : record t { stopped = None } ≡ state_of e' book'
 
 -- The machine has come from s to its end, behind at most k steps.
@@ -53,7 +54,7 @@ Settles sizes s e' w w' (Some o) = Stops sizes s e' w w' 0 o
 -- The engine stands for this state, but for what is due.
 pub record IsAt (sizes : Sizes) (e' : Engine) (t : State) : Type 0 where
   pub book' : Book
-  pub stands : Stands sizes e' book'
+  pub stands : AllStand sizes e' book'
   pub same : but_due t ≡ state_of e' book'
 
 abbrev pub end_of : Ended → End
@@ -78,5 +79,5 @@ pub record CutBy (sizes : Sizes) (s : State) (n : ℕ) (e' : Engine) (w w' : Wor
   pub t : State
   pub cut : CutAt sizes s n t w w' (why_of b)
   pub book' : Book
-  pub frames : FramesStand e' book'.work
+  pub frames : FramesOf e'.call e' book'.work
   pub same : IsMoment (why_of b) (but_due t) (state_of e' book')

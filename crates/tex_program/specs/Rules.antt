@@ -12,7 +12,7 @@ use Rattle.plain_state.specs.Meanings.{seen}
 use Rattle.plain_state.specs.Tokens.{space_token}
 use Rattle.plain_state.specs.States.{Reading, State, Move, Written, Reported}
 use Rattle.plain_state.specs.States as machine
-use Rattle.plain_machine.specs.Plan.{Page, planned, stomach, wanted, feeding, scanning, Scanning, met, reported, entered, enters_names, reports_room}
+use Rattle.plain_machine.specs.Plan.{Page, planned, stomach, wanted, feeding, scanning, Scanning, met, checked, without_file, reported, entered, enters_names, reports_room}
 use Rattle.plain_machine.specs.Runs.{steps}
 use Rattle.plain_machine.specs.Does.{Did, Cut, Why, IsFull, IsFault, IsWant}
 use Rattle.world_io.specs.Told.{FilesTold, SinkTold, world}
@@ -31,7 +31,8 @@ use Rattle.frames.specs.Sees.{want_of, kind_of, first_list}
 use Rattle.frames.specs.Resumes.{TakesTokens}
 use Rattle.input_state.specs.Stored.{gathered}
 use Rattle.tex_program.specs.Book.{Book}
-use Rattle.tex_program.specs.Stands.{Stands, FeedsHere, state_of}
+use Rattle.tex_program.specs.Calls.{AllStand}
+use Rattle.tex_program.specs.Stands.{Stands, FeedsHere, state_of, page_of}
 
 -- the world of these files and this sink, whose column the engine keeps
 abbrev pub world_of : FilesTold → SinkTold → Engine → World
@@ -44,7 +45,7 @@ plan_of e book = planned (state_of e book) book.work
 -- The engine goes on, at the machine's state after the moves.
 pub record Went (sizes : Sizes) (s : State) (e' : Engine) (w w' : World) (moves : List Move) (k : ℕ) : Type 0 where
   pub book' : Book
-  pub stands : Stands sizes e' book'
+  pub stands : AllStand sizes e' book'
   pub did : Did sizes s (state_of e' book') w w' moves
   pub count : steps moves ≡ k
 

@@ -6,6 +6,9 @@ use Rattle.frames.specs.Weights.{ask_weight}
 use Rattle.frames.specs.declared.scan.Ask.{Ask}
 use Rattle.frames.specs.declared.scan.Ask.TheVariants.{More}
 use Rattle.frames.specs.declared.frame.Frame.{Frame}
+use Rattle.tex_program.specs.declared.call.Call.{Call}
+use Rattle.tex_program.specs.declared.call.CallAsk.{CallAsk}
+use Rattle.tex_program.specs.declared.call.CallAsk.TheVariants as call
 use Rattle.tex_program.specs.declared.engine.Engine.{Engine}
 use Rattle.tex_program.specs.declared.engine.Ruled.{Ruled}
 use Rattle.tex_program.specs.declared.engine.Ruled.TheVariants.{Step, Free, Halted}
@@ -19,9 +22,18 @@ abbrev pub wants_token : Option Frame → Ask → Bool
 wants_token None a = true
 wants_token (Some f) a = asks_more a
 
+abbrev pub call_asks_more : CallAsk → Bool
+call_asks_more call.More = true
+call_asks_more a = false
+
+-- a call, where there is one, and else the innermost frame
+abbrev pub all_want : Option Call → Option Frame → Ask → Bool
+all_want None t a = wants_token t a
+all_want (Some c) t a = call_asks_more c.ask
+
 -- the next rule has a step
 abbrev pub stepping : Engine → Bool
-stepping e = wants_token e.top e.ask && gives_step (pulled e.categories e.input.pending)
+stepping e = all_want e.call e.top e.ask && gives_step (pulled e.categories e.input.pending)
 
 abbrev pub IsStep : Ruled → Type 0
 IsStep Step = Unit {0}
@@ -36,9 +48,22 @@ file_weight p = 1
 abbrev pub pending_weight : Pending → ℕ
 pending_weight p = length p.line + file_weight p.file
 
+abbrev pub brace_weight : CallAsk → ℕ
+brace_weight (call.ExtraBrace x) = 1
+brace_weight a = 0
+
+-- a call goes on behind an extra brace
+abbrev pub call_weight : Option Call → ℕ
+call_weight None = 0
+call_weight (Some c) = brace_weight c.ask
+
+-- the frames, and what is pending
+abbrev pub frame_weight : Engine → ℕ
+frame_weight e = 2 * frames e + ask_weight e.ask + pending_weight e.input.pending
+
 -- a rule without a step makes the engine lighter
 abbrev pub weight : Engine → ℕ
-weight e = 2 * frames e + ask_weight e.ask + pending_weight e.input.pending
+weight e = frame_weight e + call_weight e.call
 
 abbrev pub IsFree : Ruled → Type 0
 IsFree Free = Unit {0}

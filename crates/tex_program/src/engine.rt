@@ -26,11 +26,12 @@ ghost use Rattle.input_state.specs.Stored.{KeepsMacros, gathered, words as store
 ghost use Rattle.plain_state.specs.Lookup.{token_of, new_name};
 ghost use Rattle.plain_machine.specs.Numbers.{pending_of};
 ghost use Rattle.tex_program.specs.Book.{Book, with_work};
+ghost use Rattle.tex_program.specs.Calls.{AllStand};
 ghost use Rattle.tex_program.specs.Entering.{with_names, EntryFits, EntryRefused};
 ghost use Rattle.tex_program.specs.Begins.{outcome_of, outcome_of_last, last_moves, last_bytes, away_moves, onward_moves};
 ghost use Rattle.tex_program.specs.Stands.{Stands, Waits, WaitsWith, EndsHere, FeedsHere, FedFrame, IsSized, IsSound, IsLone, IsLast, Counts, SameStore, SameState, SameOthers, SameFrames, OnlyColumn, state_of, page_of, frames, depth_full, top_grows, kept_lists, other_lists};
 ghost use Rattle.tex_program.specs.Rules.{world_of, plan_of, feeds_of, onward_of, enters_of, token_moves, name_moves, space_moves, scanning_of, away_text, Takes, Wants, SpaceFits, FitsOnward, TopTakes, Cuts, Went, Reports, Halts, DoesRule, DoesOnward};
-ghost use Rattle.tex_program.specs.Steps.{stepping, IsStep, IsFree, IsHalted, StepsIf, freed, pending_weight, weight};
+ghost use Rattle.tex_program.specs.Steps.{stepping, IsStep, IsFree, IsHalted, StepsIf, freed, pending_weight, frame_weight, weight};
 ghost use Rattle.tex_program.specs.First.{Begins};
 ghost use Rattle.tex_program.specs.Ran.{Ran, Settles, CutBy};
 ghost use Rattle.tex_program.specs.declared.reactions.Outcome.TheVariants as outcomes;
@@ -71,21 +72,21 @@ pub enum Ended {
 
 /// The machine's state, kept in tables that were reserved when the engine was made. An engine is closed at its end.
 pub struct Engine {
-    sizes: Sizes,
+    pub(crate) sizes: Sizes,
     /// What is pending, and all lists.
-    input: Input,
-    names: NameTable,
-    categories: [u8; 256],
+    pub(crate) input: Input,
+    pub(crate) names: NameTable,
+    pub(crate) categories: [u8; 256],
     /// The open readings but the innermost.
-    outer: Outer,
+    pub(crate) outer: Outer,
     /// The innermost open reading.
-    top: Option<Frame>,
+    pub(crate) top: Option<Frame>,
     /// What it asks for.
-    ask: Ask,
+    pub(crate) ask: Ask,
     /// The call that gathers its arguments, if one does.
-    call: Option<Call>,
+    pub(crate) call: Option<Call>,
     /// Whether the last byte that the transcript took isn't a line feed.
-    in_line: bool,
+    pub(crate) in_line: bool,
     /// The reports so far.
     reports: u32,
     /// Whether token lines are left out.
@@ -203,7 +204,7 @@ impl Engine {
     // WRITING
 
     /// Writes text to the transcript.
-    fn write_text<S: Sink>(&mut self, out: &mut S, text: &[u8]) -> Result<(), Broken>
+    pub(crate) fn write_text<S: Sink>(&mut self, out: &mut S, text: &[u8]) -> Result<(), Broken>
         ensures did { OnOk result ((sizes : Sizes) (f : FilesTold) (book : Book) → Did sizes (state_of self.old book) (state_of self.new book) (world_of f (S.told out.old) self.old) (world_of f (S.told out.new) self.new) (Written Transcript text.now ∷ [])) }
         ensures err { IfErr result (λ b. (sizes : Sizes) (f : FilesTold) (book : Book) (more : List Move) → Cuts sizes (state_of self.old book) self.new book (world_of f (S.told out.old) self.old) (world_of f (S.told out.new) self.new) (Written Transcript text.now ∷ more) b) }
         ensures only { OnlyColumn self.old self.new }
@@ -261,7 +262,7 @@ impl Engine {
     }
 
     /// Writes a report on a fresh line, and counts it. Answers whether the run goes on behind it.
-    fn report<S: Sink>(&mut self, out: &mut S, report: Report) -> Result<bool, Broken>
+    pub(crate) fn report<S: Sink>(&mut self, out: &mut S, report: Report) -> Result<bool, Broken>
         ensures on { IfOk result (λ on. on ≡ true → (sizes : Sizes) (f : FilesTold) (book : Book) (rest : List Move) →
             Reports sizes (state_of self.old book) (state_of self.new book) (world_of f (S.told out.old) self.old) (world_of f (S.told out.new) self.new) (page_of self.old book) (report_of report) rest) }
         ensures last { IfOk result (λ on. on ≡ false → (sizes : Sizes) (f : FilesTold) (book : Book) (rest : List Move) →
@@ -359,7 +360,7 @@ impl Engine {
     /// Begins a reading, while the command in front of it waits, if there is one.
     fn begin(&mut self, kind: Kind, waits: Option<Waiting>) -> Result<(), Full>
         requires { IsSome waits → IsSome self.old.top }
-        ensures light { OnOk result (weight self.new < 2 * frames self.old + 3 * (rank (kind_of kind) + 1) + pending_weight self.old.input.pending) }
+        ensures light { OnOk result (frame_weight self.new < 2 * frames self.old + 3 * (rank (kind_of kind) + 1) + pending_weight self.old.input.pending) }
         ensures one { OnOk result (frames self.new ≤ frames self.old + 1) }
         ensures same { OnOk result (SameState self.old self.new) }
         ensures top { OnOk result ((f : Frame) → self.new.top ≡ Some f → frame_rank f ≡ rank (kind_of kind)) }
@@ -413,8 +414,8 @@ impl Engine {
 
     /// Feeds the innermost reading: the token goes onto the list that it builds, unless it isn't of it.
     fn feed(&mut self, seen: Seen) -> Result<(), Full>
-        ensures light { OnOk result ((f : Frame) → self.old.top ≡ Some f → weight self.new ≤ 2 * frames self.old + (7 + 3 * frame_rank f) + pending_weight self.old.input.pending) }
-        ensures light_none { OnOk result (self.old.top ≡ None → weight self.new ≡ weight self.old) }
+        ensures light { OnOk result ((f : Frame) → self.old.top ≡ Some f → frame_weight self.new ≤ 2 * frames self.old + (7 + 3 * frame_rank f) + pending_weight self.old.input.pending) }
+        ensures light_none { OnOk result (self.old.top ≡ None → frame_weight self.new ≡ frame_weight self.old) }
         ensures same { OnOk result (SameState self.old self.new) }
         ensures stands { OnOk result ((sizes : Sizes) (book : Book) → FeedsHere sizes self.old seen book → Stands sizes self.new (with_work (fed_with (Tok seen) book.work) book)) }
         ensures did { OnOk result ((sizes : Sizes) (w : World) (book : Book) → FeedsHere sizes self.old seen book → Did sizes (state_of self.old book) (state_of self.new (with_work (fed_with (Tok seen) book.work) book)) w w (feeds_of book.work seen)) }
@@ -459,8 +460,8 @@ impl Engine {
 
     /// Feeds the innermost reading, whose list has the token already if it is of it.
     fn feed_frame(&mut self, seen: Seen)
-        ensures light { (f : Frame) → self.old.top ≡ Some f → weight self.new ≤ 2 * frames self.old + (7 + 3 * frame_rank f) + pending_weight self.old.input.pending }
-        ensures light_none { self.old.top ≡ None → weight self.new ≡ weight self.old }
+        ensures light { (f : Frame) → self.old.top ≡ Some f → frame_weight self.new ≤ 2 * frames self.old + (7 + 3 * frame_rank f) + pending_weight self.old.input.pending }
+        ensures light_none { self.old.top ≡ None → frame_weight self.new ≡ frame_weight self.old }
         ensures same { SameState self.old self.new }
         ensures lists { self.new.input ≡ self.old.input }
         ensures none { self.old.top ≡ None → self.new ≡ self.old }
@@ -496,7 +497,7 @@ impl Engine {
 
     /// Ends the innermost reading, whose value goes to the one beneath.
     fn end(&mut self, value: Value)
-        ensures light { (f : Frame) → self.old.top ≡ Some f → weight self.new < 2 * frames self.old + 6 + pending_weight self.old.input.pending }
+        ensures light { (f : Frame) → self.old.top ≡ Some f → frame_weight self.new < 2 * frames self.old + 6 + pending_weight self.old.input.pending }
         ensures same { SameState self.old self.new }
         ensures lists { (sizes : Sizes) (book : Book) (r : Reading) (rs : List Reading) → EndsHere sizes self.old (value_of self.old.input.builds value) r rs book → value_lists (value_of self.old.input.builds value) ++ beneath (r ∷ rs) (gathered self.old.input) ≡ gathered self.new.input }
         ensures stands { (sizes : Sizes) (book : Book) (r : Reading) (rs : List Reading) → EndsHere sizes self.old (value_of self.old.input.builds value) r rs book → Stands sizes self.new (with_work (ended_with (value_of self.old.input.builds value) (r ∷ rs)) book) }
@@ -519,7 +520,7 @@ impl Engine {
     /// Begins a reading with the token that the command in front of it looked at.
     fn begin_with(&mut self, kind: Kind, waits: Waiting, seen: Seen) -> Result<(), Full>
         requires { IsSome self.old.top }
-        ensures light { OnOk result (weight self.new < 2 * frames self.old + (10 + 3 * rank (kind_of kind)) + pending_weight self.old.input.pending) }
+        ensures light { OnOk result (frame_weight self.new < 2 * frames self.old + (10 + 3 * rank (kind_of kind)) + pending_weight self.old.input.pending) }
         ensures same { OnOk result (SameState self.old self.new) }
         ensures lists { OnOk result (self.new.input.builds ≡ own_lists (kind_of kind) ++ self.old.input.builds) }
         ensures stands { OnOk result ((sizes : Sizes) (book : Book) → is_built seen.meaning ≡ true → WaitsWith sizes self.old (Some waits) book → Stands sizes self.new (with_work (fed_with (Tok seen) (fresh (kind_of kind) ∷ book.work)) book)) }
@@ -534,7 +535,7 @@ impl Engine {
 
     /// The innermost reading is fed with the note that its report was written.
     fn note(&mut self)
-        ensures light { (f : Frame) → self.old.top ≡ Some f → weight self.new ≤ 2 * frames self.old + 6 + pending_weight self.old.input.pending }
+        ensures light { (f : Frame) → self.old.top ≡ Some f → frame_weight self.new ≤ 2 * frames self.old + 6 + pending_weight self.old.input.pending }
         ensures same { SameState self.old self.new }
         ensures input { self.new.input ≡ self.old.input }
         ensures stands { (sizes : Sizes) (book : Book) → Waits sizes self.old book → Stands sizes self.new (with_work (fed_with Told book.work) book) }
@@ -549,7 +550,7 @@ impl Engine {
     // LISTS IN FRONT
 
     /// Puts a token in front: a list of it is begun, grown and put, once the finished lists in front have gone.
-    fn put_one(&mut self, token: Token) -> Result<(), Broken>
+    pub(crate) fn put_one(&mut self, token: Token) -> Result<(), Broken>
         requires idle { self.old.input.making ≡ None }
         ensures did { OnOk result ((sizes : Sizes) (w : World) (book : Book) → Counts sizes self.old book → self.old.input.making ≡ None → Did sizes (state_of self.old book) (state_of self.new book) w w (put_one token)) }
         ensures err { IfErr result (λ b. (sizes : Sizes) (w : World) (book : Book) (more : List Move) → Counts sizes self.old book → self.old.input.making ≡ None → Cuts sizes (state_of self.old book) self.new book w w (put_one token ++ more) b) }
@@ -568,7 +569,7 @@ impl Engine {
     }
 
     /// Puts a token back, if there is one.
-    fn put_back(&mut self, back: Option<Seen>) -> Result<(), Broken>
+    pub(crate) fn put_back(&mut self, back: Option<Seen>) -> Result<(), Broken>
         requires idle { self.old.input.making ≡ None }
         ensures did { OnOk result ((sizes : Sizes) (w : World) (book : Book) (fed : List Fed) → Counts sizes self.old book → self.old.input.making ≡ None → IsLast back fed → Did sizes (state_of self.old book) (state_of self.new book) w w (given_back (is_some back) fed)) }
         ensures err { IfErr result (λ b. (sizes : Sizes) (w : World) (book : Book) (fed : List Fed) (more : List Move) → Counts sizes self.old book → self.old.input.making ≡ None → IsLast back fed → Cuts sizes (state_of self.old book) self.new book w w (given_back (is_some back) fed ++ more) b) }
@@ -590,7 +591,7 @@ impl Engine {
     /// The innermost reading is done.
     fn done(&mut self, value: Value, back: Option<Seen>) -> Result<(), Broken>
         requires idle { self.old.input.making ≡ None }
-        ensures light { OnOk result ((f : Frame) → self.old.top ≡ Some f → weight self.new < 2 * frames self.old + 6 + pending_weight self.old.input.pending) }
+        ensures light { OnOk result ((f : Frame) → self.old.top ≡ Some f → frame_weight self.new < 2 * frames self.old + 6 + pending_weight self.old.input.pending) }
         ensures rule { OnOk result ((sizes : Sizes) (w : World) (book : Book) (r : Reading) (rs : List Reading) → Counts sizes self.old (with_work (r ∷ rs) book) → EndsHere sizes self.old (value_of self.old.input.builds value) r rs book → IsLast back r.fed →
             Went sizes (state_of self.old (with_work (r ∷ rs) book)) self.new w w (given_back (is_some back) r.fed ++ EndedMove (value_of self.old.input.builds value) ∷ []) 0) }
         ensures err { IfErr result (λ b. (sizes : Sizes) (w : World) (book : Book) (r : Reading) (rs : List Reading) → Counts sizes self.old (with_work (r ∷ rs) book) → EndsHere sizes self.old (value_of self.old.input.builds value) r rs book → IsLast back r.fed →
@@ -598,6 +599,7 @@ impl Engine {
         ensures frames { OnErr result (SameFrames self.old self.new) }
         ensures column { self.new.in_line ≡ self.old.in_line }
         ensures idle { OnOk result (self.new.input.making ≡ None) }
+        ensures call { OnOk result (self.new.call ≡ self.old.call) }
     {
         self.put_back(back)?;
         self.end(value);
@@ -626,12 +628,13 @@ impl Engine {
     /// A command acts, and ends.
     fn act_and_end<S: Sink>(&mut self, out: &mut S, effect: Effect) -> Result<(), Broken>
         requires idle { self.old.input.making ≡ None }
-        ensures light { OnOk result ((f : Frame) → self.old.top ≡ Some f → weight self.new < 2 * frames self.old + 6 + pending_weight self.old.input.pending) }
+        ensures light { OnOk result ((f : Frame) → self.old.top ≡ Some f → frame_weight self.new < 2 * frames self.old + 6 + pending_weight self.old.input.pending) }
         ensures rule { OnOk result ((sizes : Sizes) (f : FilesTold) (book : Book) (r : Reading) (rs : List Reading) → EndsHere sizes self.old (FlagValue true) r rs book →
             Went sizes (state_of self.old (with_work (r ∷ rs) book)) self.new (world_of f (S.told out.old) self.old) (world_of f (S.told out.new) self.new) (effect_moves (state_of self.old (with_work (r ∷ rs) book)) (effect_of self.old.input.builds effect) ++ EndedMove (FlagValue true) ∷ []) 0) }
         ensures err { IfErr result (λ b. (sizes : Sizes) (f : FilesTold) (book : Book) → Cuts sizes (state_of self.old book) self.new book (world_of f (S.told out.old) self.old) (world_of f (S.told out.new) self.new) (effect_moves (state_of self.old book) (effect_of self.old.input.builds effect) ++ EndedMove (FlagValue true) ∷ []) b) }
         ensures frames { OnErr result (SameFrames self.old self.new) }
         ensures idle { OnOk result (self.new.input.making ≡ None) }
+        ensures call { OnOk result (self.new.call ≡ self.old.call) }
     {
         self.act(out, effect)?;
         self.end(Value::Flag(true));
@@ -871,7 +874,11 @@ impl Engine {
     }
 
     /// The next token or line.
-    fn next_token<S: Sink>(&mut self, out: &mut S, want: Option<Want>) -> Result<Ruled, Broken>
+    pub(crate) fn next_token<S: Sink>(
+        &mut self,
+        out: &mut S,
+        want: Option<Want>,
+    ) -> Result<Ruled, Broken>
         requires idle { self.old.input.making ≡ None }
         ensures light { IfOk result (λ ruled. IsFree ruled → weight self.new < weight self.old) }
         ensures step { IfOk result (λ ruled. StepsIf ruled (gives_step (pulled self.old.categories self.old.input.pending))) }
@@ -907,7 +914,7 @@ impl Engine {
         back: Option<Seen>,
     ) -> Result<Ruled, Broken>
         requires idle { self.old.input.making ≡ None }
-        ensures light { IfOk result (λ ruled. IsFree ruled → (f : Frame) → self.old.top ≡ Some f → weight self.new < 2 * frames self.old + 7 + pending_weight self.old.input.pending) }
+        ensures light { IfOk result (λ ruled. IsFree ruled → (f : Frame) → self.old.top ≡ Some f → frame_weight self.new < 2 * frames self.old + 7 + pending_weight self.old.input.pending) }
         ensures step { IfOk result (λ ruled. IsStep ruled → ⊥) }
         ensures rule { IfOk result (λ ruled. (sizes : Sizes) (f : FilesTold) (book : Book) (r : Reading) (rs : List Reading) → Waits sizes self.old (with_work (r ∷ rs) book) → Counts sizes self.old (with_work (r ∷ rs) book) → IsLast back r.fed → is_told r.fed ≡ false →
             DoesRule sizes (state_of self.old (with_work (r ∷ rs) book)) self.new (with_work (r ∷ rs) book) (world_of f (S.told out.old) self.old) (world_of f (S.told out.new) self.new) (told (page_of self.old book) (report_of report) None (is_some back) r) ruled) }
@@ -916,6 +923,7 @@ impl Engine {
         ensures frames { OnErr result (SameFrames self.old self.new) }
         ensures halts { IfOk result (λ ruled. IsHalted ruled → SameFrames self.old self.new) }
         ensures idle { OnOk result (self.new.input.making ≡ None) }
+        ensures call { OnOk result (self.new.call ≡ self.old.call) }
     {
         self.put_back(back)?;
         if self.report(out, report)? {
@@ -928,6 +936,26 @@ impl Engine {
     /// Does one rule of the machine, with at most one step.
     fn rule<S: Sink>(&mut self, out: &mut S) -> Result<Ruled, Broken>
         requires idle { self.old.input.making ≡ None }
+        ensures light { IfOk result (λ ruled. IsFree ruled → weight self.new < weight self.old) }
+        ensures step { IfOk result (λ ruled. StepsIf ruled (stepping self.old)) }
+        ensures rule { IfOk result (λ ruled. (sizes : Sizes) (f : FilesTold) (book : Book) → AllStand sizes self.old book →
+            DoesRule sizes (state_of self.old book) self.new book (world_of f (S.told out.old) self.old) (world_of f (S.told out.new) self.new) (plan_of self.old book) ruled) }
+        ensures err { IfErr result (λ b. (sizes : Sizes) (f : FilesTold) (book : Book) → AllStand sizes self.old book →
+            Cuts sizes (state_of self.old book) self.new book (world_of f (S.told out.old) self.old) (world_of f (S.told out.new) self.new) (plan_of self.old book) b) }
+        ensures frames { OnErr result (SameFrames self.old self.new) }
+        ensures halts { IfOk result (λ ruled. IsHalted ruled → SameFrames self.old self.new) }
+        ensures idle { OnOk result (self.new.input.making ≡ None) }
+    {
+        match self.call {
+            Some(call) => self.call_rule(out, call),
+            None => self.frame_rule(out),
+        }
+    }
+
+    /// The rule of the frames, where no call gathers its arguments.
+    fn frame_rule<S: Sink>(&mut self, out: &mut S) -> Result<Ruled, Broken>
+        requires idle { self.old.input.making ≡ None }
+        requires uncalled { self.old.call ≡ None }
         ensures light { IfOk result (λ ruled. IsFree ruled → weight self.new < weight self.old) }
         ensures step { IfOk result (λ ruled. StepsIf ruled (stepping self.old)) }
         ensures rule { IfOk result (λ ruled. (sizes : Sizes) (f : FilesTold) (book : Book) → Stands sizes self.old book →
@@ -968,10 +996,11 @@ impl Engine {
     fn needs_step(&self) -> bool
         ensures { result ≡ stepping self.now }
     {
-        match (&self.top, &self.ask) {
-            (None, _) => self.input.is_ready(&self.categories),
-            (Some(_), Ask::More(_)) => self.input.is_ready(&self.categories),
-            (Some(_), _) => false,
+        match (&self.call, &self.top, &self.ask) {
+            (Some(call), _, _) => call.asks_more() && self.input.is_ready(&self.categories),
+            (None, None, _) => self.input.is_ready(&self.categories),
+            (None, Some(_), Ask::More(_)) => self.input.is_ready(&self.categories),
+            (None, Some(_), _) => false,
         }
     }
 
@@ -979,9 +1008,9 @@ impl Engine {
     fn settle<S: Sink>(&mut self, out: &mut S) -> Result<Option<Outcome>, Broken>
         requires idle { self.old.input.making ≡ None }
         ensures waits { IfOk result (λ o. o ≡ None → stepping self.new ≡ true) }
-        ensures run { IfOk result (λ o. (sizes : Sizes) (f : FilesTold) (book : Book) → Stands sizes self.old book →
+        ensures run { IfOk result (λ o. (sizes : Sizes) (f : FilesTold) (book : Book) → AllStand sizes self.old book →
             Settles sizes (state_of self.old book) self.new (world_of f (S.told out.old) self.old) (world_of f (S.told out.new) self.new) o) }
-        ensures err { IfErr result (λ b. (sizes : Sizes) (f : FilesTold) (book : Book) → Stands sizes self.old book →
+        ensures err { IfErr result (λ b. (sizes : Sizes) (f : FilesTold) (book : Book) → AllStand sizes self.old book →
             CutBy sizes (state_of self.old book) 0 self.new (world_of f (S.told out.old) self.old) (world_of f (S.told out.new) self.new) b) }
         ensures idle { OnOk result (self.new.input.making ≡ None) }
     {
@@ -998,9 +1027,9 @@ impl Engine {
     /// Goes on for at most n steps.
     pub fn run_steps<S: Sink>(&mut self, out: &mut S, n: u64) -> Result<Ended, Broken>
         requires idle { self.old.input.making ≡ None }
-        ensures run { IfOk result (λ ended. (sizes : Sizes) (f : FilesTold) (book : Book) → Stands sizes self.old book →
+        ensures run { IfOk result (λ ended. (sizes : Sizes) (f : FilesTold) (book : Book) → AllStand sizes self.old book →
             Ran sizes (state_of self.old book) n self.new (world_of f (S.told out.old) self.old) (world_of f (S.told out.new) self.new) ended) }
-        ensures err { IfErr result (λ b. (sizes : Sizes) (f : FilesTold) (book : Book) → Stands sizes self.old book →
+        ensures err { IfErr result (λ b. (sizes : Sizes) (f : FilesTold) (book : Book) → AllStand sizes self.old book →
             CutBy sizes (state_of self.old book) n self.new (world_of f (S.told out.old) self.old) (world_of f (S.told out.new) self.new) b) }
         ensures idle { OnOk result (self.new.input.making ≡ None) }
     {

@@ -1,5 +1,5 @@
-use Rattle.std.proofs.Common.{ap, refl}
-use Rattle.std.specs.Prelude.{Option}
+use Rattle.std.proofs.Common.{◌≡◌, ap, ◌∙◌, refl, []}
+use Rattle.std.specs.Prelude.{Option, None}
 use Rattle.plain_machine.specs.Plan.{Scanning, checked}
 use Rattle.tex_program.specs.Stands.{page_of}
 use Rattle.tex_program.proofs.Cutting.{cuts_by}

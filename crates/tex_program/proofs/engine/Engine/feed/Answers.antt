@@ -1,4 +1,5 @@
 use Rattle.std.proofs.Common.{◌≡◌, ◌∙◌, ap, sym, subst, rules}
+use Rattle.plain_state.specs.States.{State}
 use Rattle.frames.specs.Resumes.{lists_after}
 use Rattle.tex_program.specs.declared.engine.Engine.{Engine}
 use Rattle.tex_program.specs.declared.broken.Broken.TheVariants as broken

@@ -1,3 +1,4 @@
+use Rattle.std.proofs.Common.{ap, ◌∙◌, subst}
 use Rattle.plain_state.specs.Reports.{Forbidden, OfText}
 use Rattle.tex_program.specs.Stands.{state_of, page_of}
 use Rattle.tex_program.specs.Rules.{world_of, space_moves, away_text}

@@ -9,7 +9,7 @@ use Rattle.tex_program.specs.Book.{with_work}
 use Rattle.tex_program.specs.Stands.{state_of}
 use Rattle.tex_program.specs.Rules.{feeds_of}
 use Rattle.tex_program.proofs.Asking.{same_column, same_column_cuts}
-use Rattle.tex_program.proofs.Bare.{bare_after}
+use Rattle.tex_program.proofs.Bare.{bare_after, all_of}
 use Rattle.tex_program.proofs.Stepping.{feeds_none}
 use Rattle.tex_program.proofs.Counting.{counts_of}
 use Rattle.tex_program.proofs.Joining.{same_err, ok_to, err_to}
@@ -34,7 +34,7 @@ pub returns-in_ok-feed-in-Feed-clause-rule : goal.returns-in_ok-feed-in-Feed-cla
 returns-in_ok-feed-in-Feed-clause-rule g c = let e = c.args.self.now in let i = c.in_ok-feed-in-Feed.ensures in
     rw c.in-Feed.is (λ sizes f book fits. same_column sizes (state_of e book) c.feed.new.self f _ e.in_line (feeds_of book.work c.args.seen) 0 i.same.others.in_line (record {
       book' = with_work (fed_with (Tok c.args.seen) book.work) book;
-      stands = i.stands sizes book fits;
+      stands = all_of sizes c.feed.new.self (with_work (fed_with (Tok c.args.seen) book.work) book) (i.stands sizes book fits);
       did = i.did sizes _ book fits;
       count = feeds_none book.work c.args.seen;
     }))

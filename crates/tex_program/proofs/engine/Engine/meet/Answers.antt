@@ -1,10 +1,16 @@
-use Rattle.std.proofs.Common.{◌≡◌, refl, true, false, arith}
+use Rattle.std.proofs.Common.{◌≡◌, ap, sym, ◌∙◌, ◌++◌, refl, true, false, arith}
 use Rattle.std.proofs.lemmas.Grind.{common_steps}
+use Rattle.tex_defs.specs.declared.Seen.{Seen}
+use Rattle.plain_state.specs.Tokens.{is_outer}
+use Rattle.plain_state.specs.States.{Move}
+use Rattle.plain_state.specs.Reports.{Forbidden, OfText}
+use Rattle.plain_machine.specs.Plan.{put_one}
+use Rattle.tex_program.specs.Begins.{away_moves}
 use Rattle.tex_program.specs.Stands.{state_of, page_of}
-use Rattle.tex_program.specs.Rules.{onward_of, scanning_of}
+use Rattle.tex_program.specs.Rules.{onward_of, scanning_of, away_text}
 use Rattle.tex_program.proofs.Cutting.{cuts_by}
 use Rattle.tex_program.proofs.Joining.{ok_to, err_to, onward_by}
-use Rattle.tex_program.proofs.Pulling.{inner_meets, none_meets, reads_text, reads_no_text}
+use Rattle.tex_program.proofs.Pulling.{inner_meets, none_meets, meets_away, reads_text, reads_no_text}
 use Rattle.tex_program.proofs.Handing.{seen_outer, text_wants, spaced_moves}
 use Rattle.tex_program.proofs.engine.Engine.meet.Goals as goal
 

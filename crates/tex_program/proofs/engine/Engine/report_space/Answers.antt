@@ -1,8 +1,10 @@
-use Rattle.std.proofs.Common.{◌≡◌, [], ◌∙◌, ap, true, false, arith}
+use Rattle.std.proofs.Common.{◌≡◌, [], ◌∙◌, sym, ap, true, false, arith}
 use Rattle.std.proofs.lemmas.Grind.{common_steps}
 use Rattle.std.specs.Prelude.{Some}
+use Rattle.plain_machine.specs.Plan.{reported}
 use Rattle.transcript.specs.Reported.{report_of}
 use Rattle.input_state.specs.Stored.{Stored}
+use Rattle.tex_program.specs.Stands.{Stands, state_of, page_of}
 use Rattle.tex_program.specs.Rules.{space_moves}
 use Rattle.tex_program.proofs.Joining.{same_err, ok_to, err_to}
 use Rattle.tex_program.proofs.Reporting.{stands_still, reports_went, input_sound}

@@ -3,7 +3,7 @@ use Rattle.std.specs.Prelude.{None}
 use Rattle.tex_program.specs.Stands.{state_of}
 use Rattle.tex_program.specs.Rules.{world_of}
 use Rattle.tex_program.proofs.Joining.{same_err}
-use Rattle.tex_program.proofs.Stepping.{plan_one, stepping_needs}
+use Rattle.tex_program.proofs.CallSteps.{plan_one, stepping_needs}
 use Rattle.tex_program.proofs.Running.{came_none, came_on, came_halts, came_join, came_whole, cut_by_join, rule_cut, stops_join, stops_whole, as_step, as_none, as_some, as_halted, same_count, no_some, when_halted}
 use Rattle.tex_program.proofs.engine.Engine.run_steps.Goals as goal
 
@@ -14,20 +14,20 @@ pub returns-in_err-outcome-clause-err : goal.returns-in_err-outcome-clause-err
 returns-in_err-outcome-clause-err g c =
     let l = c.loop-outcome in let i = c.in_err-outcome in
     same_err c.from_residual.result i.field-0.0 _ c.from_residual.ensures.1
-    (λ sizes f book stands. cut_by_join sizes (state_of c.args.self.now book) l.self c.settle.new.self _ _ _ l.taken (l.invariant.1.1 sizes f book stands) 0 c.args.n i.field-0.0 (omega (arith, l.invariant.0)) (λ book' h. i.ensures.err sizes f book' h))
+    (λ sizes f book stands. cut_by_join sizes (state_of c.args.self.now book) l.self c.settle.new.self _ _ _ l.taken (l.invariant.1.1 sizes f book stands) 0 c.args.n i.field-0.0 (omega (arith, l.invariant.0)) (λ w h. i.ensures.err sizes f w h))
 
 pub returns-in-Some-clause-run : goal.returns-in-Some-clause-run
 returns-in-Some-clause-run g c = λ sizes f book stands.
     let l = c.loop-outcome in let o = c.in-Some.outcome in
     stops_whole sizes (state_of c.args.self.now book) c.settle.new.self _ _ (l.taken + 0) c.args.n o (omega (arith, l.invariant.0))
-    (stops_join sizes (state_of c.args.self.now book) l.self c.settle.new.self _ _ _ l.taken (l.invariant.1.1 sizes f book stands) 0 o (λ book' h. as_some sizes (state_of l.self book') c.settle.new.self _ _ _ o c.in-Some.is (c.in_ok-outcome.ensures.run sizes f book' h)))
+    (stops_join sizes (state_of c.args.self.now book) l.self c.settle.new.self _ _ _ l.taken (l.invariant.1.1 sizes f book stands) 0 o (λ w h. as_some sizes (state_of l.self w) c.settle.new.self _ _ _ o c.in-Some.is (c.in_ok-outcome.ensures.run sizes f w h)))
 
 pub returns-then-taken-n-clause-run : goal.returns-then-taken-n-clause-run
 returns-then-taken-n-clause-run g c = λ sizes f book stands.
     let l = c.loop-outcome in let e = c.settle.new.self in
     let none : c.in_ok-outcome.field-0 ≡ None = no_some c.in_ok-outcome.field-0 c.in_default.not-Some in
     let at : l.taken ≡ c.args.n = omega (arith, c.if-taken-n.true) in
-    let came = same_count sizes _ _ _ _ _ (came_join sizes (state_of c.args.self.now book) l.self e _ _ _ l.taken (l.invariant.1.1 sizes f book stands) 0 (λ book' h. as_none sizes (state_of l.self book') e _ _ _ none (c.in_ok-outcome.ensures.run sizes f book' h))) in
+    let came = same_count sizes _ _ _ _ _ (came_join sizes (state_of c.args.self.now book) l.self e _ _ _ l.taken (l.invariant.1.1 sizes f book stands) 0 (λ w h. as_none sizes (state_of l.self w) e _ _ _ none (c.in_ok-outcome.ensures.run sizes f w h))) in
     came_whole sizes e c.settle-then-taken-n.new.self c.settle-then-taken-n.ensures.after c.settle-then-taken-n.ensures.macros (state_of c.args.self.now book) (world_of f (g.S.Sink.told c.args.out.now) c.args.self.now) (world_of f (g.S.Sink.told c.settle.new.out) e) c.args.n (rw at at came) (stepping_needs sizes e (c.in_ok-outcome.ensures.waits none))
 
 pub returns-in_err-outcome-2-clause-err : goal.returns-in_err-outcome-2-clause-err
@@ -37,9 +37,9 @@ returns-in_err-outcome-2-clause-err g c =
     let room : l.taken + 1 ≤ c.args.n = omega (arith, l.invariant.0, c.if-taken-n.false) in
     same_err c.from_residual-in_err-outcome-2.result i.field-0.0 _ c.from_residual-in_err-outcome-2.ensures.1
     (λ sizes f book stands. cut_by_join sizes (state_of c.args.self.now book) e c.rule.new.self _ _ _ (l.taken + 0)
-    (came_join sizes (state_of c.args.self.now book) l.self e _ _ _ l.taken (l.invariant.1.1 sizes f book stands) 0 (λ book' h. as_none sizes (state_of l.self book') e _ _ _ none (c.in_ok-outcome.ensures.run sizes f book' h)))
+    (came_join sizes (state_of c.args.self.now book) l.self e _ _ _ l.taken (l.invariant.1.1 sizes f book stands) 0 (λ w h. as_none sizes (state_of l.self w) e _ _ _ none (c.in_ok-outcome.ensures.run sizes f w h)))
     1 c.args.n i.field-0.0 (omega (arith, room))
-    (λ book' h. rule_cut sizes e c.rule.new.self book' _ _ 1 i.field-0.0 (omega (arith, plan_one sizes e (c.in_ok-outcome.ensures.waits none) book' h)) i.ensures.frames h (i.ensures.err sizes f book' h)))
+    (λ w h. rule_cut sizes e c.rule.new.self w _ _ 1 i.field-0.0 (omega (arith, plan_one sizes e (c.in_ok-outcome.ensures.waits none) w h)) i.ensures.frames h (i.ensures.err sizes f w h)))
 
 pub returns-in-Halted-clause-run : goal.returns-in-Halted-clause-run
 returns-in-Halted-clause-run g c = λ sizes f book stands.
@@ -48,8 +48,8 @@ returns-in-Halted-clause-run g c = λ sizes f book stands.
     let room : l.taken + 1 ≤ c.args.n = omega (arith, l.invariant.0, c.if-taken-n.false) in
     stops_whole sizes (state_of c.args.self.now book) c.rule.new.self _ _ (l.taken + 0 + 1) c.args.n o (omega (arith, room))
     (came_halts sizes (state_of c.args.self.now book) e c.rule.new.self _ _ _ (l.taken + 0)
-    (came_join sizes (state_of c.args.self.now book) l.self e _ _ _ l.taken (l.invariant.1.1 sizes f book stands) 0 (λ book' h. as_none sizes (state_of l.self book') e _ _ _ none (c.in_ok-outcome.ensures.run sizes f book' h)))
-    1 o (λ book' h. as_halted sizes _ c.rule.new.self book' _ _ _ _ o c.in-Halted.is (c.in_ok-outcome-2.ensures.rule sizes f book' h)) (c.in_ok-outcome-2.ensures.halts (when_halted _ o c.in-Halted.is)) (λ book' h. plan_one sizes e (c.in_ok-outcome.ensures.waits none) book' h))
+    (came_join sizes (state_of c.args.self.now book) l.self e _ _ _ l.taken (l.invariant.1.1 sizes f book stands) 0 (λ w h. as_none sizes (state_of l.self w) e _ _ _ none (c.in_ok-outcome.ensures.run sizes f w h)))
+    1 o (λ w h. as_halted sizes _ c.rule.new.self w _ _ _ _ o c.in-Halted.is (c.in_ok-outcome-2.ensures.rule sizes f w h)) (c.in_ok-outcome-2.ensures.halts (when_halted _ o c.in-Halted.is)) (λ w h. plan_one sizes e (c.in_ok-outcome.ensures.waits none) w h))
 
 pub loop-outcome-preserved : goal.loop-outcome-preserved
 loop-outcome-preserved g c =
@@ -59,7 +59,7 @@ loop-outcome-preserved g c =
       (
         c.in_ok-outcome-2.ensures.idle,
         (λ sizes f book stands. came_on sizes (state_of c.args.self.now book) e c.rule.new.self _ _ _ l.taken
-            (same_count sizes _ _ _ _ _ (came_join sizes (state_of c.args.self.now book) l.self e _ _ _ l.taken (l.invariant.1.1 sizes f book stands) 0 (λ book' h. as_none sizes (state_of l.self book') e _ _ _ none (c.in_ok-outcome.ensures.run sizes f book' h))))
-            1 (λ book' h. as_step sizes _ _ book' _ _ _ _ c.in-Step.is (c.in_ok-outcome-2.ensures.rule sizes f book' h))),
+            (same_count sizes _ _ _ _ _ (came_join sizes (state_of c.args.self.now book) l.self e _ _ _ l.taken (l.invariant.1.1 sizes f book stands) 0 (λ w h. as_none sizes (state_of l.self w) e _ _ _ none (c.in_ok-outcome.ensures.run sizes f w h))))
+            1 (λ w h. as_step sizes _ _ w _ _ _ _ c.in-Step.is (c.in_ok-outcome-2.ensures.rule sizes f w h))),
       ),
     )

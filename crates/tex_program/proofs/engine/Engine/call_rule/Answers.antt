@@ -1,0 +1,87 @@
+use Rattle.std.proofs.Common.{◌≡◌, ◌∷◌, [], refl, ap, sym, subst, ◌∙◌, List}
+use Rattle.std.specs.Prelude.{Some, None}
+use Rattle.plain_state.specs.Puts.{Put, call_put}
+use Rattle.plain_state.specs.Readings.{Kind}
+use Rattle.plain_state.specs.States.{Move}
+use Rattle.plain_machine.proofs.Doing.{did_none}
+use Rattle.input_state.specs.Macros.{list_at}
+use Rattle.input_state.specs.Stored.{put_refusal}
+use Rattle.tex_program.specs.declared.broken.Broken.TheVariants as broken
+use Rattle.tex_program.specs.declared.call.CallAsk.TheVariants as asked
+use Rattle.tex_program.specs.Book.{with_work}
+use Rattle.tex_program.specs.Calls.{brace_call, args_of}
+use Rattle.tex_program.specs.Stands.{state_of, page_of}
+use Rattle.tex_program.specs.Rules.{world_of, DoesRule, Cuts, Went}
+use Rattle.tex_program.proofs.Asking.{same_column_cuts}
+use Rattle.tex_program.proofs.CallBraces.{brace_moves}
+use Rattle.tex_program.proofs.CallEnding.{by_call, closed_went}
+use Rattle.tex_program.proofs.CallKept.{meant_by}
+use Rattle.tex_program.proofs.CallPutting.{put_rule, put_cut}
+use Rattle.tex_program.proofs.CallRules.{no_call, asks_this, away_is}
+use Rattle.tex_program.proofs.Cutting.{cuts_by}
+use Rattle.tex_program.proofs.Joining.{ok_to, err_to, same_err}
+use Rattle.tex_program.proofs.engine.Engine.call_rule.Goals as goal
+
+pub returns-in-More-clause-rule : goal.returns-in-More-clause-rule
+returns-in-More-clause-rule g c = ok_to c.next_token.result (λ ruled h sizes f book st. absurd (no_call sizes c.args.self.now c.args.call book c.requires.call st)) c.next_token.ensures.rule
+
+pub returns-in-More-clause-err : goal.returns-in-More-clause-err
+returns-in-More-clause-err g c = err_to c.next_token.result (λ b h sizes f book st. absurd (no_call sizes c.args.self.now c.args.call book c.requires.call st)) c.next_token.ensures.err
+
+pub returns-in-ExtraBrace-clause-rule : goal.returns-in-ExtraBrace-clause-rule
+returns-in-ExtraBrace-clause-rule g c = let e = c.args.self.now in let x = c.in-ExtraBrace.seen in let n = c.settle_brace in let name = c.args.call.name in
+    let is = asks_this e c.args.call (asked.ExtraBrace x) c.requires.call c.in-ExtraBrace.is in
+    ok_to n.result (λ ruled h sizes f. by_call sizes e (brace_call name x) (λ book plan. DoesRule sizes (state_of e book) n.new.self book (world_of f (g.S.Sink.told c.args.out.now) e) (world_of f (g.S.Sink.told n.new.out) n.new.self) plan ruled) is
+    (λ book r rs st k. subst (λ (ms : List Move). DoesRule sizes (state_of e (with_work (r ∷ rs) book)) n.new.self (with_work (r ∷ rs) book) (world_of f (g.S.Sink.told c.args.out.now) e) (world_of f (g.S.Sink.told n.new.out) n.new.self) ms ruled) (sym (brace_moves e book.number name x r (page_of e book) k))
+    (h sizes f book r rs is st))) n.ensures.rule
+
+pub returns-in-ExtraBrace-clause-err : goal.returns-in-ExtraBrace-clause-err
+returns-in-ExtraBrace-clause-err g c = let e = c.args.self.now in let x = c.in-ExtraBrace.seen in let n = c.settle_brace in let name = c.args.call.name in
+    let is = asks_this e c.args.call (asked.ExtraBrace x) c.requires.call c.in-ExtraBrace.is in
+    err_to n.result (λ b h sizes f. by_call sizes e (brace_call name x) (λ book plan. Cuts sizes (state_of e book) n.new.self book (world_of f (g.S.Sink.told c.args.out.now) e) (world_of f (g.S.Sink.told n.new.out) n.new.self) plan b) is
+    (λ book r rs st k. cuts_by sizes _ n.new.self (with_work (r ∷ rs) book) _ _ _ _ b (brace_moves e book.number name x r (page_of e book) k) (h sizes f book r rs st))) n.ensures.err
+
+pub returns-in-Mismatch-clause-rule : goal.returns-in-Mismatch-clause-rule
+returns-in-Mismatch-clause-rule g c = let e = c.args.self.now in let n = c.fail_call in
+    let is = asks_this e c.args.call asked.Mismatch c.requires.call c.in-Mismatch.is in
+    ok_to n.result (λ ruled h sizes f. by_call sizes e _ (λ book plan. DoesRule sizes (state_of e book) n.new.self book (world_of f (g.S.Sink.told c.args.out.now) e) (world_of f (g.S.Sink.told n.new.out) n.new.self) plan ruled) is
+    (λ book r rs st k. h sizes f book r rs _ is st)) n.ensures.rule
+
+pub returns-in-Mismatch-clause-err : goal.returns-in-Mismatch-clause-err
+returns-in-Mismatch-clause-err g c = let e = c.args.self.now in let n = c.fail_call in
+    let is = asks_this e c.args.call asked.Mismatch c.requires.call c.in-Mismatch.is in
+    err_to n.result (λ b h sizes f. by_call sizes e _ (λ book plan. Cuts sizes (state_of e book) n.new.self book (world_of f (g.S.Sink.told c.args.out.now) e) (world_of f (g.S.Sink.told n.new.out) n.new.self) plan b) is
+    (λ book r rs st k. h sizes f book r rs st)) n.ensures.err
+
+pub returns-in-Some-clause-rule : goal.returns-in-Some-clause-rule
+returns-in-Some-clause-rule g c = let e = c.args.self.now in let x = c.in-Some.seen in let n = c.run_away_call in let name = c.args.call.name in
+    let is = asks_this e c.args.call (asked.ParEnded (Some x)) c.requires.call (c.in-ParEnded.is ∙ ap asked.ParEnded c.in-Some.is) in
+    ok_to n.result (λ ruled h sizes f. by_call sizes e _ (λ book plan. DoesRule sizes (state_of e book) n.new.self book (world_of f (g.S.Sink.told c.args.out.now) e) (world_of f (g.S.Sink.told n.new.out) n.new.self) plan ruled) is
+    (λ book r rs st k. subst (λ (ms : List Move). DoesRule sizes (state_of e (with_work (r ∷ rs) book)) n.new.self (with_work (r ∷ rs) book) (world_of f (g.S.Sink.told c.args.out.now) e) (world_of f (g.S.Sink.told n.new.out) n.new.self) ms ruled) (sym (away_is e book book.number name x r rs k))
+    (h sizes f book r rs _ is st))) n.ensures.rule
+
+pub returns-in-Some-clause-err : goal.returns-in-Some-clause-err
+returns-in-Some-clause-err g c = let e = c.args.self.now in let x = c.in-Some.seen in let n = c.run_away_call in let name = c.args.call.name in
+    let is = asks_this e c.args.call (asked.ParEnded (Some x)) c.requires.call (c.in-ParEnded.is ∙ ap asked.ParEnded c.in-Some.is) in
+    err_to n.result (λ b h sizes f. by_call sizes e _ (λ book plan. Cuts sizes (state_of e book) n.new.self book (world_of f (g.S.Sink.told c.args.out.now) e) (world_of f (g.S.Sink.told n.new.out) n.new.self) plan b) is
+    (λ book r rs st k. cuts_by sizes _ n.new.self (with_work (r ∷ rs) book) _ _ _ _ b (away_is e book book.number name x r rs k) (h sizes f book r rs st))) n.ensures.err
+
+pub returns-in-None-clause-rule : goal.returns-in-None-clause-rule
+returns-in-None-clause-rule g c = let e = c.args.self.now in let n = c.close_call in let told = g.S.Sink.told c.args.out.now in
+    let is = asks_this e c.args.call (asked.ParEnded None) c.requires.call (c.in-ParEnded.is ∙ ap asked.ParEnded c.in-None.is) in
+    λ sizes f. by_call sizes e _ (λ book plan. Went sizes (state_of e book) n.new.self (world_of f told e) (world_of f told n.new.self) plan 0) is
+    (λ book r rs st k. closed_went sizes e n.new.self book r rs _ is st n.ensures.after n.ensures.macros (state_of e (with_work (r ∷ rs) book)) f told (world_of f told e) [] (did_none sizes (state_of e (with_work (r ∷ rs) book)) (world_of f told e)) refl)
+
+pub returns-in_ok-put_call-in-Gathered-clause-rule : goal.returns-in_ok-put_call-in-Gathered-clause-rule
+returns-in_ok-put_call-in-Gathered-clause-rule g c = let e = c.args.self.now in let n = c.put_call in let i = c.in_ok-put_call-in-Gathered.ensures in let told = g.S.Sink.told c.args.out.now in
+    let is = asks_this e c.args.call asked.Gathered c.requires.call c.in-Gathered.is in
+    λ sizes f. by_call sizes e _ (λ book plan. Went sizes (state_of e book) n.new.self (world_of f told e) (world_of f told n.new.self) plan 0) is
+    (λ book r rs st k. put_rule sizes e n.new.self book r rs c.args.call.name is st k i.ok n.ensures.macros i.fits f told)
+
+pub returns-in_err-put_call-in-Gathered-clause-err : goal.returns-in_err-put_call-in-Gathered-clause-err
+returns-in_err-put_call-in-Gathered-clause-err g c = let e = c.args.self.now in let n = c.put_call in let i = c.in_err-put_call-in-Gathered in let told = g.S.Sink.told c.args.out.now in
+    let is = asks_this e c.args.call asked.Gathered c.requires.call c.in-Gathered.is in
+    same_err c.from_residual.result (broken.Full i.field-0.0) _ c.from_residual.ensures.1
+    (λ sizes f. by_call sizes e _ (λ book plan. Cuts sizes (state_of e book) n.new.self book (world_of f told e) (world_of f told n.new.self) plan (broken.Full i.field-0.0)) is
+    (λ book r rs st k. same_column_cuts sizes (state_of e (with_work (r ∷ rs) book)) n.new.self (with_work (r ∷ rs) book) f told e.in_line _ (broken.Full i.field-0.0) n.ensures.column
+    (put_cut sizes e n.new.self book r rs c.args.call.name is st k i.ensures.err i.field-0.0 i.ensures.refused (world_of f told e))))
