@@ -8,7 +8,7 @@ use Rattle.tex_defs.specs.declared.Full.{Full}
 use Rattle.tex_defs.specs.declared.Token.{Token}
 use Rattle.tex_defs.specs.Sizes.{first_out_of_range}
 use Rattle.plain_state.specs.Meanings.{fixed_locations, primitive_count, first_meanings}
-use Rattle.plain_state.specs.Names.{is_primitive}
+use Rattle.plain_state.specs.Names.{is_known}
 use Rattle.plain_state.specs.Tables.{memory, refused, list_words}
 use Rattle.plain_state.specs.Puts as plain
 use Rattle.token_lists.specs.declared.Build.{Build}
@@ -266,7 +266,7 @@ new_sound table stack items m sizes capacity is empty stands size parameters non
 
 -- nothing is held, and the names mean what INITEX's mean
 abbrev pub first_lists : Sizes → HeldLists
-first_lists sizes = record { puts = []; making = None; call = NotCalling; builds = []; line = None; sizes = sizes; meanings = first_meanings is_primitive; hash_size = sizes.hash_size; lists = replicate sizes.main_memory_size [] }
+first_lists sizes = record { puts = []; making = None; call = NotCalling; builds = []; line = None; sizes = sizes; meanings = first_meanings is_known; hash_size = sizes.hash_size; lists = replicate sizes.main_memory_size [] }
 
 pub new_view : (table : List (Option Entry)) (stack : InputStack) (items : List Build) (m : Map) (sizes : Sizes) → table ≡ replicate sizes.main_memory_size None → innermost stack ≡ [] → items ≡ [] → m ≡ first_map sizes.hash_size → lists_of table (pending table stack) None items (named m call.None) sizes ≡ first_lists sizes
 new_view table stack items m sizes is empty none first =

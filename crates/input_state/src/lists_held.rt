@@ -1,7 +1,7 @@
 // The lists in front, those that are being made and gathered, the line of the file beneath them, and what the names mean.
 ghost use Rattle.std.specs.Prelude.{◌≡◌, ◌≢◌, ℕ, ◌≤◌, ◌<◌, ◌+◌, ◌++◌, ◌↔◌, true, List, [], ◌∷◌, Option, None, Some, Ok, IsSome, IfSome, IsTrue, IfOk, OnOk, OnErr, IfErr, MatchResult, MatchBool, length, drop, replicate};
 ghost use Rattle.tex_defs.specs.Sizes.{first_out_of_range};
-ghost use Rattle.plain_state.specs.Names.{is_primitive};
+ghost use Rattle.plain_state.specs.Names.{is_known};
 ghost use Rattle.tex_defs.specs.declared.Meaning.TheVariants.{Undefined};
 ghost use Rattle.plain_state.specs.Meanings.{first_meanings, fixed_locations, location, name_meaning, seen};
 ghost use Rattle.plain_state.specs.Puts.{settled, passed, with_put, token_put};
@@ -161,7 +161,7 @@ impl Held {
     /// There is no room for them. No other call takes memory.
     pub fn new(alloc: Global, sizes: &Sizes) -> Result<Held, AllocError>
         requires { first_out_of_range sizes.now ≡ None }
-        ensures { IfOk result (λ h. h ≡ record { puts = []; making = None; call = NotCalling; builds = []; line = None; sizes = sizes.now; meanings = first_meanings is_primitive; hash_size = sizes.now.hash_size; lists = replicate sizes.now.main_memory_size [] }) }
+        ensures { IfOk result (λ h. h ≡ record { puts = []; making = None; call = NotCalling; builds = []; line = None; sizes = sizes.now; meanings = first_meanings is_known; hash_size = sizes.now.hash_size; lists = replicate sizes.now.main_memory_size [] }) }
     {
         let mut lists = Lists::new(alloc, sizes.main_memory_size)?;
         let builds = Vec::with_capacity(alloc, sizes.main_memory_size as usize)?;
@@ -462,6 +462,13 @@ impl Held {
         self.meanings.enter();
     }
 
+    /// Whether a name may be assigned: it has a location, and if it has two or more characters, it was entered.
+    pub fn is_placed(&self, name: Name) -> bool
+        ensures { MatchBool result (IsPlaced (location name) (length self.now.meanings)) (IsPlaced (location name) (length self.now.meanings) → ⊥) }
+    {
+        self.meanings.is_placed(name)
+    }
+
     /// A name becomes a macro: the innermost reading's list is its parameter text, the end mark and its body.
     pub fn define(&mut self, name: Name, long: bool, outer: bool)
         requires some { self.old.builds ≢ [] }
@@ -549,6 +556,18 @@ impl Held {
                 Ok(())
             }
             Err(full) => Err(full),
+        }
+    }
+
+    /// Whether a call is gathered.
+    pub fn is_calling(&self) -> bool
+        ensures { MatchBool result (self.now.call ≢ NotCalling) (self.now.call ≡ NotCalling) }
+    {
+        match &self.call {
+            Gathering::None => false,
+            Gathering::Gathers(_name, _scan) => true,
+            Gathering::Stopped(_name, _scan) => true,
+            Gathering::Gathered(_name, _args) => true,
         }
     }
 

@@ -2,7 +2,7 @@
 ghost use Rattle.std.specs.Prelude.{◌≡◌, ◌≢◌, ℕ, true, ◌≤◌, ◌<◌, ◌+◌, ◌++◌, [], ◌∷◌, None, Some, IsSome, IfSome, IfOk, IfErr, OnOk, OnErr, MatchResult, MatchBool, length, drop, replicate};
 ghost use Rattle.std.specs.Option.{option_map};
 ghost use Rattle.tex_defs.specs.Sizes.{first_out_of_range};
-ghost use Rattle.plain_state.specs.Names.{is_primitive};
+ghost use Rattle.plain_state.specs.Names.{is_known};
 ghost use Rattle.tex_defs.specs.declared.Meaning.TheVariants.{Undefined};
 ghost use Rattle.plain_state.specs.Meanings.{first_meanings, fixed_locations, location, name_meaning, seen};
 ghost use Rattle.plain_state.specs.Puts.{settled, passed, token_put};
@@ -129,7 +129,7 @@ impl Input {
     /// There is no room for them. No other call takes memory.
     pub fn new(alloc: Global, sizes: &Sizes, bytes: Option<Vec<u8>>) -> Result<Input, AllocError>
         requires { first_out_of_range sizes.now ≡ None }
-        ensures { IfOk result (λ i. i ≡ record { pending = unread (option_map (λ v. v.items) bytes); making = None; call = NotCalling; builds = []; buffer = i.buffer; sizes = sizes.now; meanings = first_meanings is_primitive; hash_size = sizes.now.hash_size; lists = replicate sizes.now.main_memory_size [] }) }
+        ensures { IfOk result (λ i. i ≡ record { pending = unread (option_map (λ v. v.items) bytes); making = None; call = NotCalling; builds = []; buffer = i.buffer; sizes = sizes.now; meanings = first_meanings is_known; hash_size = sizes.now.hash_size; lists = replicate sizes.now.main_memory_size [] }) }
     {
         let buffer = vec![in alloc; 0; sizes.buffer_size as usize]?;
         let held = Held::new(alloc, sizes)?;
@@ -433,6 +433,13 @@ impl Input {
         self.held.enter_name();
     }
 
+    /// Whether a name may be assigned: it has a location, and if it has two or more characters, it was entered.
+    pub fn is_placed(&self, name: Name) -> bool
+        ensures { MatchBool result (IsPlaced (location name) (length self.now.meanings)) (IsPlaced (location name) (length self.now.meanings) → ⊥) }
+    {
+        self.held.is_placed(name)
+    }
+
     /// A name becomes a macro: the innermost reading's list is its parameter text, the end mark and its body. The list of
     /// what the name meant is let go. *The TeXbook*, chapter 20; *TeX: The Program*, part 49 (`define`).
     pub fn define(&mut self, name: Name, long: bool, outer: bool)
@@ -490,6 +497,13 @@ impl Input {
         ensures macros { KeepsMacros self.old self.new }
     {
         self.held.begin_call(name, long)
+    }
+
+    /// Whether a call is gathered.
+    pub fn is_calling(&self) -> bool
+        ensures { MatchBool result (self.now.call ≢ NotCalling) (self.now.call ≡ NotCalling) }
+    {
+        self.held.is_calling()
     }
 
     /// Whether a call takes tokens.

@@ -7,7 +7,7 @@ ghost use Rattle.input_state.specs.Callings.{NotCalling};
 use crate::{CallKind, CallTold, Input, Pulled};
 use line_lexer::Lexed;
 use std::test::Fail;
-use tex_defs::{Full, Meaning, Name, Seen, Sizes, Table, Token};
+use tex_defs::{Frozen, Full, Meaning, Name, Seen, Sizes, Table, Token};
 
 const A: Token = Token::Char {
     cat: 11,
@@ -362,18 +362,26 @@ fn work(input: &Input) -> Option<usize> {
 fn call_is_gathered(rt: HostRuntime) -> Result<(), Fail> {
     let mut input = Input::new(rt.alloc(), &Sizes::DEFAULT, None)?;
     let defined = define_call(&mut input);
+    let before = input.is_calling();
     let begun = (begin(&mut input), input.words());
+    let gathers = input.is_calling();
     let told = [fed(&mut input, A), fed(&mut input, B), fed(&mut input, DOT)];
+    let gathered = input.is_calling();
     let put = if input.is_complete() {
         Some(input.put_call())
     } else {
         None
     };
+    let over = input.is_calling();
     let full = input.words();
     let read = (three(&mut input), three(&mut input));
     let behind = input.words();
     input.close();
     let token = |token| Some(Pulled::Token(token));
+    assert_eq!(&rt;
+        (before, gathers, gathered, over),
+        (false, true, true, false)
+    );
     assert_eq!(&rt; (defined, begun), (Ok(()), (Some(Ok(())), 8)));
     assert_eq!(&rt;
         told,
@@ -406,8 +414,9 @@ fn growth_is_cut(rt: HostRuntime) -> Result<(), Fail> {
     }
     let told = [fed(&mut input, A), fed(&mut input, A), fed(&mut input, DOT)];
     let left = (work(&input), input.is_taking());
+    let stopped = input.is_calling();
     input.drop_call();
-    let dropped = input.words();
+    let dropped = (input.is_calling(), input.words());
     input.close();
     let full = Full {
         table: Table::MainMemorySize,
@@ -423,6 +432,32 @@ fn growth_is_cut(rt: HostRuntime) -> Result<(), Fail> {
             (Some(Err(full)), 100)
         ]
     );
-    assert_eq!(&rt; (left, dropped), ((Some(2), false), 97));
+    assert_eq!(&rt; (left, stopped), ((Some(2), false), true));
+    assert_eq!(&rt; dropped, (false, 97));
+    Ok(())
+}
+
+// A name is entered, if there is room: whether there is.
+fn enter(input: &mut Input) -> bool {
+    let room = input.has_name_room();
+    if room {
+        input.enter_name();
+    }
+    room
+}
+
+// Behind the 186 names of the primitives.
+#[test]
+fn name_is_entered(rt: HostRuntime) -> Result<(), Fail> {
+    let mut input = Input::new(rt.alloc(), &Sizes::DEFAULT, None)?;
+    let name = Name::Word(187);
+    let before = input.is_placed(name);
+    let room = enter(&mut input);
+    let behind = (input.is_placed(name), input.is_placed(Name::Word(188)));
+    let missing = input.is_placed(Name::Frozen(Frozen::Inaccessible));
+    let frozen = input.is_placed(Name::Frozen(Frozen::Relax));
+    input.close();
+    assert_eq!(&rt; (before, room, behind), (false, true, (true, false)));
+    assert_eq!(&rt; (missing, frozen), (true, false));
     Ok(())
 }

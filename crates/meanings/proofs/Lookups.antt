@@ -10,7 +10,7 @@ use Rattle.token_lists.specs.declared.ListRef.{ListRef}
 use Rattle.tex_defs.specs.declared.Name.TheVariants as name
 use Rattle.tex_defs.specs.declared.Meaning.{Meaning}
 use Rattle.tex_defs.specs.declared.Meaning.TheVariants as means
-use Rattle.plain_state.specs.Names.{is_primitive}
+use Rattle.plain_state.specs.Names.{is_known}
 use Rattle.plain_state.specs.Meanings.{fixed_locations, location, fixed_meaning, looked_up, set_at, first_meaning, first_meanings, primitive_count}
 use Rattle.meanings.specs.Map.{meaning_of, first_map, numbered, all_numbered, IsPlaced}
 use Rattle.meanings.specs.Laws.{LocationsDiffer, OneNameChanges, EnteringDefinesNothing, FirstMeanings}
@@ -46,30 +46,30 @@ changing = record {
   others = λ m n other v is_name is_other differ. others_stay m.cells (location n) (location other) v (fixed_meaning other) (λ k here there. differ (names_apart n other k is_name is_other here there));
 }
 
-first_undefined : (k : ℕ) → k < fixed_locations → get_or (first_meanings is_primitive) k means.Undefined ≡ means.Undefined
+first_undefined : (k : ℕ) → k < fixed_locations → get_or (first_meanings is_known) k means.Undefined ≡ means.Undefined
 first_undefined k below =
-    get_or_append_left (replicate fixed_locations means.Undefined) (map (first_meaning is_primitive) (range_with_len 1 primitive_count)) means.Undefined k (omega (arith, below, length-replicate {A = Meaning (Option ℕ)} fixed_locations means.Undefined))
+    get_or_append_left (replicate fixed_locations means.Undefined) (map (first_meaning is_known) (range_with_len 1 primitive_count)) means.Undefined k (omega (arith, below, length-replicate {A = Meaning (Option ℕ)} fixed_locations means.Undefined))
     ∙ get_or-replicate fixed_locations k means.Undefined means.Undefined below
 
-first_primitive : (i : ℕ) → i < primitive_count → get_or (first_meanings is_primitive) (fixed_locations + i) means.Undefined ≡ first_meaning is_primitive (1 + i)
+first_primitive : (i : ℕ) → i < primitive_count → get_or (first_meanings is_known) (fixed_locations + i) means.Undefined ≡ first_meaning is_known (1 + i)
 first_primitive i below =
     let long : length (replicate {A = Meaning (Option ℕ)} fixed_locations means.Undefined) ≡ fixed_locations = length-replicate {A = Meaning (Option ℕ)} fixed_locations means.Undefined in
-    subst (λ (x : ℕ). get_or (first_meanings is_primitive) (x + i) means.Undefined ≡ first_meaning is_primitive (1 + i)) long (
-    get_or-append-add (replicate fixed_locations means.Undefined) (map (first_meaning is_primitive) (range_with_len 1 primitive_count)) i means.Undefined
-    ∙ get_or-map-range_with_len (first_meaning is_primitive) 1 primitive_count i (1 + i) means.Undefined below refl)
+    subst (λ (x : ℕ). get_or (first_meanings is_known) (x + i) means.Undefined ≡ first_meaning is_known (1 + i)) long (
+    get_or-append-add (replicate fixed_locations means.Undefined) (map (first_meaning is_known) (range_with_len 1 primitive_count)) i means.Undefined
+    ∙ get_or-map-range_with_len (first_meaning is_known) 1 primitive_count i (1 + i) means.Undefined below refl)
 
-first_length : length (first_meanings is_primitive) ≡ fixed_locations + primitive_count
+first_length : length (first_meanings is_known) ≡ fixed_locations + primitive_count
 first_length = refl
 
-no_primitive : (n : ℕ) → primitive_count < n → is_primitive n ≡ false
+no_primitive : (n : ℕ) → primitive_count < n → is_known n ≡ false
 no_primitive n past = grind (arith, nat_tests)
 
-first_past : (i : ℕ) → primitive_count ≤ i → get_or (first_meanings is_primitive) (fixed_locations + i) means.Undefined ≡ first_meaning is_primitive (1 + i)
+first_past : (i : ℕ) → primitive_count ≤ i → get_or (first_meanings is_known) (fixed_locations + i) means.Undefined ≡ first_meaning is_known (1 + i)
 first_past i past =
-    let none : is_primitive (1 + i) ≡ false = no_primitive (1 + i) (omega (arith, past)) in
-    get_or_past (first_meanings is_primitive) (fixed_locations + i) means.Undefined (omega (arith, past, first_length)) ∙ rw none refl
+    let none : is_known (1 + i) ≡ false = no_primitive (1 + i) (omega (arith, past)) in
+    get_or_past (first_meanings is_known) (fixed_locations + i) means.Undefined (omega (arith, past, first_length)) ∙ rw none refl
 
-first_at : (i : ℕ) → get_or (first_meanings is_primitive) (fixed_locations + i) means.Undefined ≡ first_meaning is_primitive (1 + i)
+first_at : (i : ℕ) → get_or (first_meanings is_known) (fixed_locations + i) means.Undefined ≡ first_meaning is_known (1 + i)
 first_at i = elim (cases_lt i primitive_count) [
   | inl below ↦ first_primitive i below
   | inr past ↦ first_past i past
@@ -78,13 +78,13 @@ first_at i = elim (cases_lt i primitive_count) [
 word_location : (i : ℕ) → location (name.Word (suc i)) ≡ Some (fixed_locations + i)
 word_location i = grind arith
 
-first_word : (size n : ℕ) → meaning_of (first_map size) (name.Word n) ≡ first_meaning is_primitive n
+first_word : (size n : ℕ) → meaning_of (first_map size) (name.Word n) ≡ first_meaning is_known n
 first_word size zero = refl
 first_word size (suc i) =
     let same : 1 + i ≡ suc i = omega arith in
-    ap (λ (o : Option ℕ). looked_up (first_meanings is_primitive) o means.Undefined) (word_location i)
+    ap (λ (o : Option ℕ). looked_up (first_meanings is_known) o means.Undefined) (word_location i)
     ∙ first_at i
-    ∙ ap (first_meaning is_primitive) same
+    ∙ ap (first_meaning is_known) same
 
 pub first : FirstMeanings
 first = record {
@@ -96,12 +96,12 @@ first = record {
 }
 
 -- one primitive more
-pub primitive_more : (start items more : List (Meaning (Option ListRef))) (k : ℕ) (v : Meaning (Option ListRef)) → all_numbered items ≡ all_numbered start ++ map (first_meaning is_primitive) (range_with_len 1 k) → more ≡ items ++ v ∷ [] → numbered v ≡ first_meaning is_primitive (k + 1) → all_numbered more ≡ all_numbered start ++ map (first_meaning is_primitive) (range_with_len 1 (k + 1))
+pub primitive_more : (start items more : List (Meaning (Option ListRef))) (k : ℕ) (v : Meaning (Option ListRef)) → all_numbered items ≡ all_numbered start ++ map (first_meaning is_known) (range_with_len 1 k) → more ≡ items ++ v ∷ [] → numbered v ≡ first_meaning is_known (k + 1) → all_numbered more ≡ all_numbered start ++ map (first_meaning is_known) (range_with_len 1 (k + 1))
 primitive_more start items more k v before is means =
-    let done : List (Meaning (Option ℕ)) = map (first_meaning is_primitive) (range_with_len 1 k) in
+    let done : List (Meaning (Option ℕ)) = map (first_meaning is_known) (range_with_len 1 k) in
     ap all_numbered is
     ∙ map-append numbered items (v ∷ [])
     ∙ ap (λ (cs : List (Meaning (Option ℕ))). cs ++ numbered v ∷ []) before
     ∙ ap (λ (m : Meaning (Option ℕ)). (all_numbered start ++ done) ++ m ∷ []) means
-    ∙ append_assoc (all_numbered start) done (first_meaning is_primitive (k + 1) ∷ [])
-    ∙ ap (λ (cs : List (Meaning (Option ℕ))). all_numbered start ++ cs) (sym (map-range_with_len_more (first_meaning is_primitive) 1 k (k + 1) (omega arith)))
+    ∙ append_assoc (all_numbered start) done (first_meaning is_known (k + 1) ∷ [])
+    ∙ ap (λ (cs : List (Meaning (Option ℕ))). all_numbered start ++ cs) (sym (map-range_with_len_more (first_meaning is_known) 1 k (k + 1) (omega arith)))

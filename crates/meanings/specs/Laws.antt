@@ -8,7 +8,7 @@ use Rattle.token_lists.specs.Accounts.{Covers, Keeps, Moves}
 use Rattle.token_lists.specs.Codes.{IsName}
 use Rattle.token_lists.specs.Table.{Entry, tokens_at}
 use Rattle.prim_table.specs.Primitives.{primitive_name}
-use Rattle.plain_state.specs.Names.{relax_primitive, is_primitive}
+use Rattle.plain_state.specs.Names.{relax_primitive, is_known}
 use Rattle.plain_state.specs.Meanings.{location, end_group_primitive, fi_primitive, first_meaning, first_meanings}
 use Rattle.meanings.specs.Holding.{held, list_of}
 use Rattle.meanings.specs.Map.{Map, meaning_of, defined, entered, first_map, IsAssignable}
@@ -29,8 +29,8 @@ EnteringDefinesNothing = (m : Map) (n : Name) → meaning_of (entered m) n ≡ m
 -- INITEX's map is the plain machine's: a name of two or more characters means the primitive of its number, where that means
 -- something yet, and the other names are undefined
 pub record FirstMeanings : Type 0 where
-  pub cells : (size : ℕ) → (first_map size).cells ≡ first_meanings is_primitive
-  pub words : (size n : ℕ) → meaning_of (first_map size) (name.Word n) ≡ first_meaning is_primitive n
+  pub cells : (size : ℕ) → (first_map size).cells ≡ first_meanings is_known
+  pub words : (size n : ℕ) → meaning_of (first_map size) (name.Word n) ≡ first_meaning is_known n
   pub active : (size c : ℕ) → c < 256 → meaning_of (first_map size) (name.Active c) ≡ means.Undefined
   pub single : (size c : ℕ) → c < 256 → meaning_of (first_map size) (name.Single c) ≡ means.Undefined
   pub empty : (size : ℕ) → meaning_of (first_map size) name.Empty ≡ means.Undefined

@@ -6,7 +6,7 @@ use Rattle.tex_defs.specs.declared.Meaning.{Meaning}
 use Rattle.tex_defs.specs.declared.Meaning.TheVariants as means
 use Rattle.token_lists.specs.declared.ListRef.{ListRef}
 use Rattle.token_lists.specs.Ids.{id_of}
-use Rattle.plain_state.specs.Names.{is_primitive}
+use Rattle.plain_state.specs.Names.{is_known}
 use Rattle.plain_state.specs.Meanings.{fixed_locations, location, name_meaning, assigned, first_meanings}
 
 -- the meanings by their locations, and how many names of two or more characters may be entered
@@ -69,4 +69,4 @@ all_numbered cells = map numbered cells
 
 -- INITEX's first map: each name is undefined but those of the primitives that mean something
 abbrev pub first_map : ℕ → Map
-first_map hash_size = record { cells = first_meanings is_primitive; hash_size = hash_size }
+first_map hash_size = record { cells = first_meanings is_known; hash_size = hash_size }

@@ -3,7 +3,7 @@ ghost use Rattle.std.specs.Prelude.{◌≡◌, ◌+◌, ◌<◌, ◌^◌, IfSome
 ghost use Rattle.token_lists.specs.Table.{IsHeld, holders_at};
 ghost use Rattle.token_lists.specs.Accounts.{Moves, Keeps, none};
 ghost use Rattle.token_lists.specs.Ids.{id_of};
-ghost use Rattle.plain_state.specs.Names.{is_primitive};
+ghost use Rattle.plain_state.specs.Names.{is_known};
 ghost use Rattle.plain_state.specs.Meanings.{seen_as, first_meaning};
 ghost use Rattle.meanings.specs.Map.{numbered, numbered_list, without_list};
 ghost use Rattle.meanings.specs.Holding.{list_of, list_holds, meaning_holds, with_holder, without_holder, Lasts};
@@ -82,18 +82,18 @@ pub fn without_list(meaning: Meaning<()>) -> Kept
     }
 }
 
-// Whether a primitive means something already.
-fn is_primitive(number: u16) -> bool
-    ensures { result ≡ is_primitive number }
+// Whether a primitive means something.
+fn is_known(number: u16) -> bool
+    ensures { result ≡ is_known number }
 {
-    matches!(number, 1 | 5 | 6 | 9 | 23 | 24 | 25 | 35)
+    matches!(number, 1 | 5 | 6 | 9 | 23..=29 | 35)
 }
 
 // What the name of a primitive means at first.
 pub fn primitive(number: u16) -> Kept
-    ensures { numbered result ≡ first_meaning is_primitive number }
+    ensures { numbered result ≡ first_meaning is_known number }
 {
-    if is_primitive(number) {
+    if is_known(number) {
         Meaning::Prim(number)
     } else {
         Meaning::Undefined

@@ -5,7 +5,7 @@ ghost use Rattle.tex_defs.specs.declared.Meaning.TheVariants.{Undefined};
 ghost use Rattle.token_lists.specs.Table.{holders_at};
 ghost use Rattle.token_lists.specs.Accounts.{Moves, Covers, Keeps, none};
 ghost use Rattle.token_lists.specs.Ids.{id_of};
-ghost use Rattle.plain_state.specs.Names.{is_primitive};
+ghost use Rattle.plain_state.specs.Names.{is_known};
 ghost use Rattle.plain_state.specs.Meanings.{fixed_locations, fixed_meaning, seen_as, seen, first_meaning, primitive_count};
 ghost use Rattle.meanings.specs.Map.{first_map, meaning_of, defined, entered, HasRoom, IsAssignable, numbered, all_numbered};
 ghost use Rattle.meanings.specs.Holding.{held, cells_hold, list_of, meaning_holds, with_holder, without_holder, Lasts};
@@ -59,7 +59,7 @@ fn put_undefined(cells: &mut Vec<Kept>)
 // What the names of the primitives mean, by their numbers.
 fn put_primitives(cells: &mut Vec<Kept>)
     requires room { vec_len cells.old + primitive_count ≤ vec_capacity cells.old }
-    ensures after { all_numbered cells.new.items ≡ all_numbered cells.old.items ++ map (first_meaning is_primitive) (range_with_len 1 primitive_count) }
+    ensures after { all_numbered cells.new.items ≡ all_numbered cells.old.items ++ map (first_meaning is_known) (range_with_len 1 primitive_count) }
     ensures capacity { vec_capacity cells.new ≡ vec_capacity cells.old }
 {
     for k in 0..COUNT {
@@ -100,6 +100,16 @@ impl Meanings {
         ensures account { (h : ℕ) → held self.new h ≡ held self.old h }
     {
         self.cells.push_reserved(Meaning::Undefined);
+    }
+
+    /// Whether a name may be assigned: it has a location, and if it has two or more characters, it was entered.
+    pub fn is_placed(&self, name: Name) -> bool
+        ensures { MatchBool result (IsAssignable self.now name) (IsAssignable self.now name → ⊥) }
+    {
+        match location(name) {
+            Some(at) => at < self.cells.len(),
+            None => false,
+        }
     }
 
     // What stands at a name's location, if it has one and was entered.

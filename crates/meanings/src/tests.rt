@@ -101,6 +101,8 @@ fn names_share_a_list(rt: HostRuntime) -> Result<(), Fail> {
     let mut meanings = Meanings::new(rt.alloc(), &Sizes::DEFAULT)?;
     meanings.enter();
     let primitive = meanings.get(Name::Word(35));
+    let definition = meanings.get(Name::Word(29));
+    let unknown = meanings.get(Name::Word(30));
     let entered = meanings.get(Name::Word(187));
     let frozen = meanings.get(Name::Frozen(Frozen::EndWrite));
     let missing = meanings.get(Name::Frozen(Frozen::Inaccessible));
@@ -113,11 +115,49 @@ fn names_share_a_list(rt: HostRuntime) -> Result<(), Fail> {
     };
     let wanted = [(outer, 2), (outer, 2), (Meaning::Prim(5), 2), (outer, 2)];
     assert_eq!(rt;
-        (primitive, entered),
-        (Meaning::Prim(35), Meaning::Undefined)
+        (primitive, definition),
+        (Meaning::Prim(35), Meaning::Prim(29))
+    );
+    assert_eq!(rt;
+        (unknown, entered),
+        (Meaning::Undefined, Meaning::Undefined)
     );
     assert_eq!(rt; (frozen, missing), (outer, Meaning::Undefined));
     assert_eq!(rt; told, Some(wanted));
     assert_eq!(rt; lists.used(), 0);
+    Ok(())
+}
+
+// The 186 names of the primitives are entered at first, and behind them one more.
+#[test]
+fn names_are_placed(rt: HostRuntime) -> Result<(), Fail> {
+    let mut lists = Lists::new(rt.alloc(), 4)?;
+    let mut meanings = Meanings::new(rt.alloc(), &Sizes::DEFAULT)?;
+    let before = (
+        meanings.is_placed(Name::Word(186)),
+        meanings.is_placed(Name::Word(187)),
+    );
+    meanings.enter();
+    let behind = (
+        meanings.is_placed(Name::Word(187)),
+        meanings.is_placed(Name::Word(188)),
+        meanings.is_placed(Name::Word(0)),
+    );
+    let short = (
+        meanings.is_placed(Name::Active(0)),
+        meanings.is_placed(Name::Single(255)),
+        meanings.is_placed(Name::Empty),
+    );
+    let missing = meanings.is_placed(Name::Frozen(Frozen::Inaccessible));
+    let frozen = (
+        meanings.is_placed(Name::Frozen(Frozen::Relax)),
+        meanings.is_placed(Name::Frozen(Frozen::EndWrite)),
+        meanings.is_placed(Name::Frozen(Frozen::Unknown)),
+    );
+    meanings.close(&mut lists);
+    assert_eq!(rt; before, (true, false));
+    assert_eq!(rt; behind, (true, false, false));
+    assert_eq!(rt; short, (true, true, true));
+    assert_eq!(rt; (missing, frozen), (true, (false, false, false)));
     Ok(())
 }

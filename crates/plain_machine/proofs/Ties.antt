@@ -99,12 +99,12 @@ module _ (n : ℕ) where
   means_first true k = refl
   means_first false k = refl
 
-  meant_primitives : (is_primitive : ℕ → Bool) (ks : List ℕ) → is_meant n (map (first_meaning is_primitive) ks) ≡ false
-  meant_primitives is_primitive [] = refl
-  meant_primitives is_primitive (k ∷ ks) = rw (means_first (is_primitive k) k) (meant_primitives is_primitive ks)
+  meant_primitives : (is_known : ℕ → Bool) (ks : List ℕ) → is_meant n (map (first_meaning is_known) ks) ≡ false
+  meant_primitives is_known [] = refl
+  meant_primitives is_known (k ∷ ks) = rw (means_first (is_known k) k) (meant_primitives is_known ks)
 
-  pub meant_first : (is_primitive : ℕ → Bool) → is_meant n (first_meanings is_primitive) ≡ false
-  meant_first is_primitive = meant_replicate fixed_locations (map (first_meaning is_primitive) (range_with_len 1 primitive_count)) ∙ meant_primitives is_primitive (range_with_len 1 primitive_count)
+  pub meant_first : (is_known : ℕ → Bool) → is_meant n (first_meanings is_known) ≡ false
+  meant_first is_known = meant_replicate fixed_locations (map (first_meaning is_known) (range_with_len 1 primitive_count)) ∙ meant_primitives is_known (range_with_len 1 primitive_count)
 
 -- INITEX's meanings are the same under other numbers
 first_replicate : (number : ℕ → ℕ) (k : ℕ) (cells : List (Meaning (Option ℕ))) → meanings_of number cells ≡ cells → meanings_of number (replicate k means.Undefined ++ cells) ≡ replicate k means.Undefined ++ cells
@@ -115,12 +115,12 @@ first_cell : (number : ℕ → ℕ) (b : Bool) (k : ℕ) → meaning_of number (
 first_cell number true k = refl
 first_cell number false k = refl
 
-first_primitives : (number : ℕ → ℕ) (is_primitive : ℕ → Bool) (ks : List ℕ) → meanings_of number (map (first_meaning is_primitive) ks) ≡ map (first_meaning is_primitive) ks
-first_primitives number is_primitive [] = refl
-first_primitives number is_primitive (k ∷ ks) = rw (first_cell number (is_primitive k) k, first_primitives number is_primitive ks)
+first_primitives : (number : ℕ → ℕ) (is_known : ℕ → Bool) (ks : List ℕ) → meanings_of number (map (first_meaning is_known) ks) ≡ map (first_meaning is_known) ks
+first_primitives number is_known [] = refl
+first_primitives number is_known (k ∷ ks) = rw (first_cell number (is_known k) k, first_primitives number is_known ks)
 
-pub first_meanings_of : (number : ℕ → ℕ) (is_primitive : ℕ → Bool) → meanings_of number (first_meanings is_primitive) ≡ first_meanings is_primitive
-first_meanings_of number is_primitive = first_replicate number fixed_locations (map (first_meaning is_primitive) (range_with_len 1 primitive_count)) (first_primitives number is_primitive (range_with_len 1 primitive_count))
+pub first_meanings_of : (number : ℕ → ℕ) (is_known : ℕ → Bool) → meanings_of number (first_meanings is_known) ≡ first_meanings is_known
+first_meanings_of number is_known = first_replicate number fixed_locations (map (first_meaning is_known) (range_with_len 1 primitive_count)) (first_primitives number is_known (range_with_len 1 primitive_count))
 
 -- THE MACROS KEEP THEIR NUMBERS
 
@@ -131,8 +131,8 @@ module _ (number : ℕ → ℕ) (macros : List (List Token)) where
       let not_held : (n : ℕ) → IsHeld n meanings [] → ⊥ = λ n h. ⊎_elim (λ a. (let e : is_meant n meanings ≡ false = none n in cc)) (λ a. cc) (or_cases (is_meant n meanings) false h) in
       record { inside = λ n h. absurd (not_held n h); within = λ n h. absurd (not_held n h); tokens = λ n h. absurd (not_held n h); apart = λ n m h i e. absurd (not_held n h) }
 
-  pub tied_at_first : (is_primitive : ℕ → Bool) (lists : List (List Token)) → Tied number macros (first_meanings is_primitive) [] lists
-  tied_at_first is_primitive lists = tied_first (first_meanings is_primitive) lists (λ n. meant_first n is_primitive)
+  pub tied_at_first : (is_known : ℕ → Bool) (lists : List (List Token)) → Tied number macros (first_meanings is_known) [] lists
+  tied_at_first is_known lists = tied_first (first_meanings is_known) lists (λ n. meant_first n is_known)
 
   module _ (meanings meanings' : List (Meaning (Option ℕ))) (puts puts' : List Put) (lists lists' : List (List Token)) (t : Tied number macros meanings puts lists) where
     -- no more is held, and the lists of what is held stay

@@ -6,7 +6,7 @@ use Rattle.tex_defs.specs.declared.Sizes.{Sizes}
 use Rattle.tex_defs.specs.Sizes.{table_name, default_sizes}
 use Rattle.tex_defs.specs.Places.{World, Rose, Transcript, File, Untold, NotHeld, Holds}
 use Rattle.plain_state.specs.Categories.{initial_categories}
-use Rattle.plain_state.specs.Names.{is_primitive}
+use Rattle.plain_state.specs.Names.{is_known}
 use Rattle.plain_state.specs.States.{State, Move, Written, Outcome, Finished, AtFatal}
 use Rattle.plain_state.specs.Reports.{fresh_line}
 use Rattle.plain_machine.specs.Plan.{first_state}
@@ -45,7 +45,7 @@ full_line full = codes "! TeX capacity exceeded, sorry [" ++ (table_name full.ta
 
 -- INITEX's first state, with the job's file opened where it is held; token lines may be left out
 abbrev pub First : (quiet : Bool) → (file : List ℕ) → (job : Option (List ℕ)) → State
-First quiet file job = first_state is_primitive initial_categories quiet file job
+First quiet file job = first_state is_known initial_categories quiet file job
 
 -- The machine's whole run ended so within the sizes, and all that it writes is written.
 pub record Whole (sizes : Sizes) (s : State) (n : ℕ) (w w' : World) (o : Outcome) : Type 0 where

@@ -403,13 +403,13 @@ job_progress (Some bytes) = NotBegun
 
 -- where the job of a file begins, which has these bytes, if it is held: the primitives' names are entered, and these of
 -- them mean something
-abbrev pub first_state : (is_primitive : ℕ → Bool) → List ℕ → Bool → List ℕ → Option (List ℕ) → State
-first_state is_primitive categories quiet file job = record {
+abbrev pub first_state : (is_known : ℕ → Bool) → List ℕ → Bool → List ℕ → Option (List ℕ) → State
+first_state is_known categories quiet file job = record {
   pending = record { puts = []; line = []; lex = NewLine; rest = file_opened job; file = job_progress job; number = 0 };
   categories = categories;
   names = primitive_names;
   strings = [];
-  meanings = first_meanings is_primitive;
+  meanings = first_meanings is_known;
   macros = [];
   work = [];
   gathered = [];

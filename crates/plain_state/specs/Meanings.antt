@@ -89,11 +89,11 @@ seen cells t = record { token = t; meaning = token_meaning cells t }
 
 -- INITEX's meanings, where these primitives mean something: each other name is undefined
 abbrev pub first_meaning : (ℕ → Bool) → ℕ → Meaning (Option ℕ)
-first_meaning is_primitive number = if is_primitive number then means.Prim number else means.Undefined
+first_meaning is_known number = if is_known number then means.Prim number else means.Undefined
 
 -- how many primitives there are
 abbrev pub primitive_count : ℕ
 primitive_count = 186
 
 abbrev pub first_meanings : (ℕ → Bool) → List (Meaning (Option ℕ))
-first_meanings is_primitive = replicate fixed_locations means.Undefined ++ map (first_meaning is_primitive) (range_with_len 1 primitive_count)
+first_meanings is_known = replicate fixed_locations means.Undefined ++ map (first_meaning is_known) (range_with_len 1 primitive_count)

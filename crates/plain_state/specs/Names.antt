@@ -50,15 +50,12 @@ xdef_primitive = 29
 abbrev pub is_definition_primitive : ℕ → Bool
 is_definition_primitive number = (number == def_primitive) || (number == gdef_primitive) || (number == edef_primitive) || (number == xdef_primitive)
 
--- the primitives that mean something to the program already
-abbrev pub is_primitive : ℕ → Bool
-is_primitive number =
+-- the primitives that mean something
+abbrev pub is_known : ℕ → Bool
+is_known number =
     (number == relax_primitive) || (number == par_primitive) || (number == end_primitive) || (number == message_primitive)
     || (number == long_primitive) || (number == outer_primitive) || (number == global_primitive) || (number == catcode_primitive)
-
--- those that mean something to the plain machine
-abbrev pub is_known : ℕ → Bool
-is_known number = is_primitive number || is_definition_primitive number
+    || is_definition_primitive number
 
 -- a primitive's own meaning, under whatever name
 abbrev pub means_primitive : ℕ → Meaning Unit → Bool

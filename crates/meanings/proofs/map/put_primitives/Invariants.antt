@@ -1,10 +1,10 @@
 use Rattle.std.proofs.Common.{◌≡◌, ◌+◌, ◌++◌, length, map}
 use Rattle.std.specs.Prelude.{vec_capacity}
 use Rattle.std.specs.List.{range_with_len}
-use Rattle.plain_state.specs.Names.{is_primitive}
+use Rattle.plain_state.specs.Names.{is_known}
 use Rattle.plain_state.specs.Meanings.{first_meaning}
 use Rattle.meanings.specs.Map.{all_numbered}
 use Rattle.meanings.proofs.map.put_primitives.Given as goal
 
 abbrev pub invariant-loop-k : goal.invariant-loop-k
-invariant-loop-k l = record { cells : all_numbered l.cells.items ≡ all_numbered l.initial.cells.items ++ map (first_meaning is_primitive) (range_with_len 1 l.k); count : length l.cells.items ≡ length l.initial.cells.items + l.k; capacity : vec_capacity l.cells ≡ vec_capacity l.initial.cells }
+invariant-loop-k l = record { cells : all_numbered l.cells.items ≡ all_numbered l.initial.cells.items ++ map (first_meaning is_known) (range_with_len 1 l.k); count : length l.cells.items ≡ length l.initial.cells.items + l.k; capacity : vec_capacity l.cells ≡ vec_capacity l.initial.cells }
