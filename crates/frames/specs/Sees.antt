@@ -6,13 +6,13 @@ use Rattle.plain_state.specs.Tokens as tokens
 use Rattle.frames.specs.declared.scan.Value.{Value}
 use Rattle.frames.specs.declared.scan.Value.TheVariants.{Int, Toks, Flag}
 use Rattle.frames.specs.declared.scan.Want.{Want}
-use Rattle.frames.specs.declared.scan.Want.TheVariants.{Raw, Expanded, Nonblank, Command}
+use Rattle.frames.specs.declared.scan.Want.TheVariants.{Raw, Expanded, Nonblank, Command, Copied}
 use Rattle.frames.specs.declared.scan.Kind.{Kind}
-use Rattle.frames.specs.declared.scan.Kind.TheVariants.{Catcode, Message, Prefixed, Integer, Text}
+use Rattle.frames.specs.declared.scan.Kind.TheVariants.{Catcode, Message, Prefixed, Define, Integer, Text, Definition}
 use Rattle.frames.specs.declared.scan.Effect.{Effect}
-use Rattle.frames.specs.declared.scan.Effect.TheVariants.{SetCategory, Say}
+use Rattle.frames.specs.declared.scan.Effect.TheVariants.{SetCategory, Say, SetMacro}
 use Rattle.frames.specs.declared.scan.Ask.{Ask}
-use Rattle.frames.specs.declared.scan.Ask.TheVariants.{More, Inner, Done, Act, Tells}
+use Rattle.frames.specs.declared.scan.Ask.TheVariants.{More, Inner, Done, Act, Tells, Inserts}
 use Rattle.transcript.specs.Reported.{report_of}
 
 -- the first of the lists that the innermost reading holds
@@ -30,18 +30,22 @@ abbrev pub kind_of : Kind → reading.Kind
 kind_of Catcode = reading.Catcode
 kind_of (Message name) = reading.Message name
 kind_of (Prefixed long outer) = reading.Prefixed long outer
+kind_of (Define expanded) = reading.Define expanded
 kind_of Integer = reading.Integer
 kind_of (Text name) = reading.Text name
+kind_of (Definition name expanded) = reading.Definition name expanded
 
 abbrev pub want_of : Want → tokens.Want
 want_of Raw = tokens.Raw
 want_of Expanded = tokens.Expanded
 want_of Nonblank = tokens.Nonblank
 want_of Command = tokens.Command
+want_of Copied = tokens.Copied
 
 abbrev pub effect_of : List (List Token) → Effect → reading.Effect
 effect_of lists (SetCategory code category) = reading.SetCategory code category
 effect_of lists Say = reading.Say (first_list lists)
+effect_of lists (SetMacro name long outer) = reading.SetMacro name long outer (first_list lists)
 
 -- A token given back, and one with which an inner reading begins, is one that the reading was fed with last.
 abbrev pub ask_of : List (List Token) → Ask → reading.Ask
@@ -50,3 +54,4 @@ ask_of lists (Inner waits kind begins) = reading.Inner (kind_of kind) (is_some b
 ask_of lists (Done v back) = reading.Done (value_of lists v) (is_some back)
 ask_of lists (Act e) = reading.Act (effect_of lists e)
 ask_of lists (Tells report back) = reading.Tells (report_of report) (is_some back)
+ask_of lists (Inserts t report back) = reading.Inserts t (report_of report) (is_some back)

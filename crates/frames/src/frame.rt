@@ -1,19 +1,22 @@
 // The open readings, whatever their kind.
-ghost use Rattle.std.specs.Prelude.{◌≡◌, ◌≤◌, ◌<◌, ◌+◌, ◌*◌, List, [], ◌∷◌, MatchOption, true, false};
+ghost use Rattle.std.specs.Prelude.{◌≡◌, ◌≤◌, ◌<◌, ◌+◌, ◌*◌, List, [], ◌∷◌, MatchOption, None, true, false};
 ghost use Rattle.tex_defs.specs.declared.Token.{Token};
 ghost use Rattle.tex_defs.specs.declared.Seen.{Seen};
-ghost use Rattle.plain_state.specs.Readings.{Tok, Val, Told, Fed, Text as TextKind, ask, so_far, own_lists, value_lists, rank, is_at_most, natural};
+ghost use Rattle.plain_state.specs.Readings.{Tok, Val, Told, Fed, ask, so_far, own_lists, value_lists, rank, is_at_most, natural};
 ghost use Rattle.frames.specs.Sees.{value_of, kind_of, ask_of};
 ghost use Rattle.frames.specs.Weights.{ask_weight, frame_rank};
-ghost use Rattle.frames.specs.Resumes.{resume, resume_waiting, resume_code, first_frame, frame_list, frame_kind, waiting_kind, frame_grows, lists_after, IsNoText, IsOpen, IsUntold, GivesBack, GivesNone, InnerWaits, MayFeed, Builds, IsShallow, TakesTokens, is_built};
+ghost use Rattle.frames.specs.Resumes.{resume, resume_waiting, resume_code, first_frame, frame_list, frame_kind, waiting_kind, lists_behind, GrowsNone, IsNoDefinition, IsScanned, IsUnscanned, IsOpen, IsUntold, GivesBack, GivesNone, InnerWaits, BeginsBare, MayFeed, Builds, IsShallow, TakesTokens};
 ghost use Rattle.frames.specs.declared.frame.Waiting.TheVariants.{Catcode};
 ghost use Rattle.frames.specs.declared.frame.Frame.TheVariants.{Waits};
 
+use crate::define::DefineScan;
+use crate::definition;
 use crate::prefix::{First, PrefixScan};
-use crate::scan::{Ask, Effect, Kind, NumberScan, Value, Want, is_other, senseless};
+use crate::scan::{Answer, Ask, Effect, Kind, NumberScan, Value, Want, is_other, senseless};
 use crate::text::TextScan;
+use list_builder::{Manner, Stage};
 use tex_defs::{Name, Seen};
-use transcript::Report;
+use transcript::{Report, Scanned};
 
 /// Where the reading of `\catcode` stands.
 #[derive(Clone, Copy, Debug, PartialEq, Eq)]
@@ -38,6 +41,8 @@ pub enum Waiting {
     Message(Name),
     /// A command with prefixes: whether the first was `\long`, whether it was `\outer`, and where its reading stands.
     Prefixed(bool, bool, PrefixScan),
+    /// A definition without prefixes: whether it is expanded, and where it stands.
+    Define(bool, DefineScan),
 }
 
 /// An open reading.
@@ -47,6 +52,8 @@ pub enum Frame {
     Integer(NumberScan),
     /// The text of a command, whose name is as it was written.
     Text(Name, TextScan),
+    /// The list of the macro of this name: whether its body is expanded, and where its scanner stands.
+    Definition(Name, bool, Stage),
 }
 
 /// What a reading of this kind asks for at first.
@@ -61,9 +68,9 @@ pub fn first_ask(kind: Kind) -> Ask
     match kind {
         Kind::Catcode => Ask::Inner(Waiting::Catcode(CodeScan::Start), Kind::Integer, None),
         Kind::Message(name) => Ask::Inner(Waiting::Message(name), Kind::Text(name), None),
-        Kind::Prefixed(_, _) => Ask::More(Want::Command),
+        Kind::Prefixed(_, _) | Kind::Text(_) => Ask::More(Want::Command),
+        Kind::Define(_) | Kind::Definition(_, _) => Ask::More(Want::Raw),
         Kind::Integer => Ask::More(Want::Nonblank),
-        Kind::Text(_) => Ask::More(Want::Command),
     }
 }
 
@@ -83,6 +90,13 @@ fn first(long: bool, outer: bool) -> First
     ensures { result ≡ record { long = long; outer = outer } }
 {
     First { long, outer }
+}
+
+// How a definition's list is read.
+fn manner(name: Name, expanded: bool) -> Manner
+    ensures { result ≡ record { name = name; expanded = expanded } }
+{
+    Manner { name, expanded }
 }
 
 impl CodeScan {
@@ -146,6 +160,7 @@ impl CodeScan {
         ensures back { GivesBack result x }
         ensures waits { InnerWaits result (Waits (Catcode self.new)) }
         ensures light { ask_weight result ≤ 10 }
+        ensures begins { BeginsBare result }
     {
         let CodeScan::Equals(code) = *self else {
             return senseless();
@@ -175,6 +190,7 @@ impl Waiting {
                 _ => senseless(),
             },
             Waiting::Prefixed(long, outer, scan) => scan.feed_value(first(*long, *outer), value),
+            Waiting::Define(_, scan) => scan.feed_value(false, false, value),
         }
     }
 
@@ -192,22 +208,25 @@ impl Waiting {
             Waiting::Catcode(scan) => scan.feed_told(),
             Waiting::Message(_) => senseless(),
             Waiting::Prefixed(long, outer, scan) => scan.feed_told(first(*long, *outer)),
+            Waiting::Define(_, scan) => scan.feed_told(),
         }
     }
 
     /// Takes one token.
     fn feed(&mut self, x: Seen) -> Ask
-        ensures answer { is_built x.meaning ≡ true → (lists : List (List Token)) → ask_of lists result ≡ resume_waiting self.old (Tok x ∷ []) }
-        ensures goes_on { is_built x.meaning ≡ true → IsOpen result → (fed : List Fed) → resume_waiting self.old (Tok x ∷ fed) ≡ resume_waiting self.new fed }
+        ensures answer { (lists : List (List Token)) → ask_of lists result ≡ resume_waiting self.old (Tok x ∷ []) }
+        ensures goes_on { IsOpen result → (fed : List Fed) → resume_waiting self.old (Tok x ∷ fed) ≡ resume_waiting self.new fed }
         ensures kind { waiting_kind self.new ≡ waiting_kind self.old }
         ensures back { GivesBack result x }
         ensures waits { InnerWaits result (Waits self.new) }
         ensures light { ask_weight result ≤ 10 }
+        ensures begins { BeginsBare result }
     {
         match self {
             Waiting::Catcode(scan) => scan.feed(x),
             Waiting::Message(_) => senseless(),
             Waiting::Prefixed(long, outer, scan) => scan.feed(first(*long, *outer), x),
+            Waiting::Define(expanded, scan) => scan.feed(*expanded, x),
         }
     }
 }
@@ -216,14 +235,13 @@ impl Frame {
     /// A reading of this kind begins.
     pub fn new(kind: Kind) -> Frame
         ensures is { result ≡ first_frame kind }
-        ensures stands { (lists : List (List Token)) (fed : List Fed) → ask (kind_of kind) fed ≡ resume result lists fed }
-        ensures list { (lists : List (List Token)) (fed : List Fed) → so_far (kind_of kind) fed ≡ frame_list result lists fed }
+        ensures stands { (fed : List Fed) → ask (kind_of kind) fed ≡ resume result (own_lists (kind_of kind)) fed }
+        ensures list { (fed : List Fed) → so_far (kind_of kind) fed ≡ frame_list result (own_lists (kind_of kind)) fed }
         ensures kind { frame_kind result ≡ kind_of kind }
         ensures rank { frame_rank result ≡ rank (kind_of kind) }
         ensures shallow { IsShallow result (own_lists (kind_of kind)) }
         ensures builds { Builds result (own_lists (kind_of kind)) (own_lists (kind_of kind)) [] }
         ensures takes { TakesTokens result }
-        ensures fresh { (x : Seen) → frame_grows result x ≡ false }
     {
         match kind {
             Kind::Catcode => Frame::Waits(Waiting::Catcode(CodeScan::Start)),
@@ -232,66 +250,73 @@ impl Frame {
                 let scan = PrefixScan::Prefixes(long, outer);
                 Frame::Waits(Waiting::Prefixed(long, outer, scan))
             }
+            Kind::Define(expanded) => Frame::Waits(Waiting::Define(expanded, DefineScan::Start)),
             Kind::Integer => Frame::Integer(NumberScan::Signs(false)),
             Kind::Text(name) => Frame::Text(name, TextScan::First),
-        }
-    }
-
-    /// Whether a token goes onto the list that the reading builds.
-    pub fn grows(&self, x: Seen) -> bool
-        ensures { result ≡ frame_grows self.now x }
-    {
-        match self {
-            Frame::Text(_, scan) => scan.grows(x),
-            _ => false,
+            Kind::Definition(name, expanded) => {
+                Frame::Definition(name, expanded, Stage::Parameters(0))
+            }
         }
     }
 
     /// Takes one token.
-    pub fn feed(&mut self, x: Seen) -> Ask
-        ensures answer { is_built x.meaning ≡ true → (lists : List (List Token)) → MayFeed self.old x lists → ask_of (lists_after (frame_grows self.old x) x lists) result ≡ resume self.old lists (Tok x ∷ []) }
-        ensures goes_on { is_built x.meaning ≡ true → IsOpen result → (lists : List (List Token)) (fed : List Fed) → MayFeed self.old x lists → resume self.old lists (Tok x ∷ fed) ≡ resume self.new (lists_after (frame_grows self.old x) x lists) fed }
-        ensures list { IsOpen result → (lists : List (List Token)) (fed : List Fed) → MayFeed self.old x lists → frame_list self.old lists (Tok x ∷ fed) ≡ frame_list self.new (lists_after (frame_grows self.old x) x lists) fed }
-        ensures builds { (lists : List (List Token)) → MayFeed self.old x lists → Builds self.old lists (lists_after (frame_grows self.old x) x lists) (Tok x ∷ []) }
-        ensures shallow { (lists : List (List Token)) → MayFeed self.old x lists → IsShallow self.old lists → IsShallow self.new (lists_after (frame_grows self.old x) x lists) }
+    pub fn feed(&mut self, x: Seen) -> Answer
+        ensures answer { (lists : List (List Token)) → MayFeed self.old x lists → ask_of (lists_behind result lists) result.ask ≡ resume self.old lists (Tok x ∷ []) }
+        ensures goes_on { IsOpen result.ask → (lists : List (List Token)) (fed : List Fed) → MayFeed self.old x lists → resume self.old lists (Tok x ∷ fed) ≡ resume self.new (lists_behind result lists) fed }
+        ensures list { IsOpen result.ask → (lists : List (List Token)) (fed : List Fed) → MayFeed self.old x lists → frame_list self.old lists (Tok x ∷ fed) ≡ frame_list self.new (lists_behind result lists) fed }
+        ensures builds { (lists : List (List Token)) → MayFeed self.old x lists → Builds self.old lists (lists_behind result lists) (Tok x ∷ []) }
+        ensures shallow { (lists : List (List Token)) → MayFeed self.old x lists → IsShallow self.old lists → IsShallow self.new (lists_behind result lists) }
+        ensures bare { own_lists (frame_kind self.old) ≡ [] → GrowsNone result }
+        ensures one { IsNoDefinition (frame_kind self.old) → result.second ≡ None }
         ensures kind { frame_kind self.new ≡ frame_kind self.old }
-        ensures back { GivesBack result x }
-        ensures waits { InnerWaits result self.new }
-        ensures light { ask_weight result ≤ 7 + 3 * frame_rank self.old }
+        ensures back { GivesBack result.ask x }
+        ensures waits { InnerWaits result.ask self.new }
+        ensures begins { BeginsBare result.ask }
+        ensures light { ask_weight result.ask ≤ 7 + 3 * frame_rank self.old }
     {
         match self {
-            Frame::Waits(waits) => waits.feed(x),
-            Frame::Integer(scan) => scan.feed(x),
+            Frame::Waits(waits) => Answer::bare(waits.feed(x)),
+            Frame::Integer(scan) => Answer::bare(scan.feed(x)),
             Frame::Text(_, scan) => scan.feed(x),
+            Frame::Definition(name, expanded, stage) => {
+                definition::feed(stage, manner(*name, *expanded), x)
+            }
         }
     }
 
     /// Goes on behind its report.
-    pub fn feed_told(&mut self) -> Ask
-        ensures answer { (lists : List (List Token)) → Builds self.old lists lists [] → ask_of lists result ≡ resume self.old lists (Told ∷ []) }
-        ensures goes_on { IsOpen result → (lists : List (List Token)) (fed : List Fed) → Builds self.old lists lists [] → resume self.old lists (Told ∷ fed) ≡ resume self.new lists fed }
-        ensures list { IsOpen result → (lists : List (List Token)) (fed : List Fed) → Builds self.old lists lists [] → frame_list self.old lists (Told ∷ fed) ≡ frame_list self.new lists fed }
-        ensures builds { (lists : List (List Token)) → Builds self.old lists lists [] → Builds self.old lists lists (Told ∷ []) }
-        ensures shallow { (lists : List (List Token)) → IsShallow self.old lists → IsShallow self.new lists }
+    pub fn feed_told(&mut self) -> Answer
+        ensures answer { (lists : List (List Token)) → Builds self.old lists lists [] → ask_of (lists_behind result lists) result.ask ≡ resume self.old lists (Told ∷ []) }
+        ensures goes_on { IsOpen result.ask → (lists : List (List Token)) (fed : List Fed) → Builds self.old lists lists [] → resume self.old lists (Told ∷ fed) ≡ resume self.new (lists_behind result lists) fed }
+        ensures list { IsOpen result.ask → (lists : List (List Token)) (fed : List Fed) → Builds self.old lists lists [] → frame_list self.old lists (Told ∷ fed) ≡ frame_list self.new (lists_behind result lists) fed }
+        ensures builds { (lists : List (List Token)) → Builds self.old lists lists [] → Builds self.old lists (lists_behind result lists) (Told ∷ []) }
+        ensures shallow { (lists : List (List Token)) → Builds self.old lists lists [] → IsShallow self.old lists → IsShallow self.new (lists_behind result lists) }
+        ensures bare { IsNoDefinition (frame_kind self.old) → GrowsNone result }
+        ensures one { result.second ≡ None }
         ensures kind { frame_kind self.new ≡ frame_kind self.old }
-        ensures none { GivesNone result }
-        ensures waits { InnerWaits result self.new }
-        ensures light { ask_weight result ≤ 6 }
-        ensures untold { IsUntold result }
+        ensures none { GivesNone result.ask }
+        ensures waits { InnerWaits result.ask self.new }
+        ensures begins { BeginsBare result.ask }
+        ensures light { ask_weight result.ask ≤ 6 }
+        ensures untold { IsUntold result.ask }
     {
         match self {
-            Frame::Waits(waits) => waits.feed_told(),
-            Frame::Integer(scan) => scan.feed_told(),
-            Frame::Text(_, scan) => scan.feed_told(),
+            Frame::Waits(waits) => Answer::bare(waits.feed_told()),
+            Frame::Integer(scan) => Answer::bare(scan.feed_told()),
+            Frame::Text(_, scan) => Answer::bare(scan.feed_told()),
+            Frame::Definition(name, expanded, stage) => {
+                definition::feed_told(stage, manner(*name, *expanded))
+            }
         }
     }
 
-    /// The command whose text is read.
-    pub fn text(&self) -> Option<Name>
-        ensures { MatchOption result (IsNoText (frame_kind self.now)) (λ name. frame_kind self.now ≡ TextKind name) }
+    /// What is scanned, for the checks: a text or a definition, with the name of the command or the macro.
+    pub fn scanned(&self) -> Option<(Scanned, Name)>
+        ensures { MatchOption result (IsUnscanned (frame_kind self.now)) (λ s. IsScanned s.0 s.1 (frame_kind self.now)) }
     {
         match self {
-            Frame::Text(name, _) => Some(*name),
+            Frame::Text(name, _) => Some((Scanned::Text, *name)),
+            Frame::Definition(name, _, _) => Some((Scanned::Definition, *name)),
             _ => None,
         }
     }

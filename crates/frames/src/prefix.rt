@@ -6,12 +6,14 @@ ghost use Rattle.plain_state.specs.Names.{means_primitive};
 ghost use Rattle.plain_state.specs.Readings.{Fed, Tok, Val, Told, value_lists, prefixed, behind_prefixes};
 ghost use Rattle.frames.specs.Sees.{value_of, ask_of};
 ghost use Rattle.frames.specs.Weights.{ask_weight};
-ghost use Rattle.frames.specs.Resumes.{resume_prefixed, is_built, IsOpen, IsUntold, GivesBack, GivesNone, InnerWaits};
+ghost use Rattle.frames.specs.Resumes.{resume_prefixed, IsOpen, IsUntold, GivesBack, GivesNone, InnerWaits, BeginsBare};
 ghost use Rattle.frames.specs.declared.frame.Waiting.TheVariants.{Prefixed};
 ghost use Rattle.frames.specs.declared.frame.Frame.TheVariants.{Waits};
 ghost use Rattle.frames.specs.declared.frame.CodeScan.TheVariants.{Start};
-ghost use Rattle.frames.specs.declared.prefix.PrefixScan.TheVariants.{Code};
+ghost use Rattle.frames.specs.declared.prefix.PrefixScan.TheVariants.{Code, Defines};
+ghost use Rattle.frames.specs.declared.define.DefineScan.TheVariants as defines;
 
+use crate::define::DefineScan;
 use crate::frame::{CodeScan, Waiting};
 use crate::scan::{Ask, Kind, Value, Want, senseless};
 use tex_defs::{Meaning, Seen};
@@ -25,6 +27,18 @@ pub const OUTER: u16 = 24;
 
 /// The number of `\global`.
 pub const GLOBAL: u16 = 25;
+
+/// The number of `\def`.
+pub const DEF: u16 = 26;
+
+/// The number of `\gdef`.
+pub const GDEF: u16 = 27;
+
+/// The number of `\edef`.
+pub const EDEF: u16 = 28;
+
+/// The number of `\xdef`.
+pub const XDEF: u16 = 29;
 
 /// The number of `\catcode`.
 pub const CATCODE: u16 = 35;
@@ -56,6 +70,8 @@ pub enum PrefixScan {
     LimitRefused(Meaning<()>),
     /// In the assignment.
     Code(CodeScan),
+    /// In a definition: whether it is expanded, whether it is `\long`, whether it is `\outer`, and where it stands.
+    Defines(bool, bool, bool, DefineScan),
 }
 
 /// Whether it means this primitive.
@@ -77,6 +93,7 @@ fn waiting_as(ask: Ask, waits: Waiting) -> Ask
     ensures waits { InnerWaits result (Waits waits) }
     ensures light { ask_weight result ≡ ask_weight ask }
     ensures untold { IsUntold ask → IsUntold result }
+    ensures begins { BeginsBare ask → BeginsBare result }
 {
     match ask {
         Ask::Inner(_, kind, begins) => Ask::Inner(waits, kind, begins),
@@ -87,19 +104,26 @@ fn waiting_as(ask: Ask, waits: Waiting) -> Ask
 impl PrefixScan {
     /// Takes the value of an inner reading; `first` is the first prefix.
     pub fn feed_value(&mut self, first: First, value: Value) -> Ask
-        ensures answer { (lists now : List (List Token)) → ask_of now result ≡ resume_prefixed self.old (Val (value_of lists value) ∷ []) }
+        ensures answer { (lists now : List (List Token)) → value_of now value ≡ value_of lists value → ask_of now result ≡ resume_prefixed self.old (Val (value_of lists value) ∷ []) }
         ensures goes_on { IsOpen result → (lists : List (List Token)) (fed : List Fed) → resume_prefixed self.old (Val (value_of lists value) ∷ fed) ≡ resume_prefixed self.new fed }
         ensures none { GivesNone result }
         ensures waits { InnerWaits result (Waits (Prefixed first.long first.outer self.new)) }
         ensures bare { IsOpen result → (lists : List (List Token)) → value_lists (value_of lists value) ≡ [] }
         ensures light { ask_weight result ≤ 7 }
     {
-        let PrefixScan::Code(mut scan) = *self else {
-            return senseless();
-        };
-        let ask = scan.feed_value(value);
-        *self = PrefixScan::Code(scan);
-        waiting_as(ask, first.waiting(*self))
+        match *self {
+            PrefixScan::Code(scan) => {
+                let mut scan = scan;
+                let ask = scan.feed_value(value);
+                *self = PrefixScan::Code(scan);
+                waiting_as(ask, first.waiting(*self))
+            }
+            PrefixScan::Defines(_, long, outer, scan) => {
+                let mut scan = scan;
+                scan.feed_value(long, outer, value)
+            }
+            _ => senseless(),
+        }
     }
 
     /// Goes on behind its report: an assignment begins as if `\long` and `\outer` weren't there.
@@ -121,16 +145,23 @@ impl PrefixScan {
                 *self = PrefixScan::Code(scan);
                 waiting_as(ask, first.waiting(*self))
             }
+            PrefixScan::Defines(expanded, long, outer, scan) => {
+                let mut scan = scan;
+                let ask = scan.feed_told();
+                *self = PrefixScan::Defines(expanded, long, outer, scan);
+                waiting_as(ask, first.waiting(*self))
+            }
         }
     }
 
     /// Takes one token.
     pub fn feed(&mut self, first: First, x: Seen) -> Ask
-        ensures answer { is_built x.meaning ≡ true → (lists : List (List Token)) → ask_of lists result ≡ resume_prefixed self.old (Tok x ∷ []) }
-        ensures goes_on { is_built x.meaning ≡ true → IsOpen result → (fed : List Fed) → resume_prefixed self.old (Tok x ∷ fed) ≡ resume_prefixed self.new fed }
+        ensures answer { (lists : List (List Token)) → ask_of lists result ≡ resume_prefixed self.old (Tok x ∷ []) }
+        ensures goes_on { IsOpen result → (fed : List Fed) → resume_prefixed self.old (Tok x ∷ fed) ≡ resume_prefixed self.new fed }
         ensures back { GivesBack result x }
         ensures waits { InnerWaits result (Waits (Prefixed first.long first.outer self.new)) }
         ensures light { ask_weight result ≤ 10 }
+        ensures begins { BeginsBare result }
     {
         match *self {
             PrefixScan::Prefixes(long, outer) => self.feed_prefix(first, long, outer, x),
@@ -141,16 +172,23 @@ impl PrefixScan {
                 *self = PrefixScan::Code(scan);
                 waiting_as(ask, first.waiting(*self))
             }
+            PrefixScan::Defines(expanded, long, outer, scan) => {
+                let mut scan = scan;
+                let ask = scan.feed(expanded, x);
+                *self = PrefixScan::Defines(expanded, long, outer, scan);
+                waiting_as(ask, first.waiting(*self))
+            }
         }
     }
 
     /// Takes a prefix, or the command behind the prefixes.
     fn feed_prefix(&mut self, first: First, long: bool, outer: bool, x: Seen) -> Ask
-        ensures answer { is_built x.meaning ≡ true → (lists : List (List Token)) → ask_of lists result ≡ prefixed long outer (Tok x ∷ []) }
-        ensures goes_on { is_built x.meaning ≡ true → (fed : List Fed) → prefixed long outer (Tok x ∷ fed) ≡ resume_prefixed self.new fed }
+        ensures answer { (lists : List (List Token)) → ask_of lists result ≡ prefixed long outer (Tok x ∷ []) }
+        ensures goes_on { (fed : List Fed) → prefixed long outer (Tok x ∷ fed) ≡ resume_prefixed self.new fed }
         ensures back { GivesBack result x }
         ensures waits { InnerWaits result (Waits (Prefixed first.long first.outer self.new)) }
         ensures light { ask_weight result ≤ 10 }
+        ensures begins { BeginsBare result }
     {
         if means_primitive(x, LONG) {
             *self = PrefixScan::Prefixes(true, outer);
@@ -169,12 +207,21 @@ impl PrefixScan {
 
     /// Takes the command behind the prefixes.
     fn feed_command(&mut self, first: First, long: bool, outer: bool, x: Seen) -> Ask
-        ensures answer { is_built x.meaning ≡ true → (lists : List (List Token)) → ask_of lists result ≡ behind_prefixes long outer x.meaning [] }
-        ensures goes_on { is_built x.meaning ≡ true → (fed : List Fed) → behind_prefixes long outer x.meaning fed ≡ resume_prefixed self.new fed }
+        ensures answer { (lists : List (List Token)) → ask_of lists result ≡ behind_prefixes long outer x.meaning [] }
+        ensures goes_on { (fed : List Fed) → behind_prefixes long outer x.meaning fed ≡ resume_prefixed self.new fed }
         ensures back { GivesBack result x }
         ensures waits { InnerWaits result (Waits (Prefixed first.long first.outer self.new)) }
         ensures light { ask_weight result ≤ 10 }
+        ensures begins { BeginsBare result }
     {
+        if means_primitive(x, DEF) || means_primitive(x, GDEF) {
+            *self = PrefixScan::Defines(false, long, outer, DefineScan::Start);
+            return Ask::More(Want::Raw);
+        }
+        if means_primitive(x, EDEF) || means_primitive(x, XDEF) {
+            *self = PrefixScan::Defines(true, long, outer, DefineScan::Start);
+            return Ask::More(Want::Raw);
+        }
         if !means_primitive(x, CATCODE) {
             *self = PrefixScan::Refused(x.meaning);
             return Ask::Tells(Report::PrefixWith(x.meaning), Some(x));
@@ -195,6 +242,7 @@ impl PrefixScan {
         ensures waits { InnerWaits result (Waits (Prefixed first.long first.outer self.new)) }
         ensures light { ask_weight result ≤ 6 }
         ensures untold { IsUntold result }
+        ensures begins { BeginsBare result }
     {
         *self = PrefixScan::Code(CodeScan::Start);
         Ask::Inner(first.waiting(*self), Kind::Integer, None)

@@ -1,6 +1,6 @@
 // What the readings ask for, and the scanner of an integer.
 // *The TeXbook*, chapter 24; *TeX: The Program*, part 26.
-ghost use Rattle.std.specs.Prelude.{◌≡◌, ◌≤◌, ◌+◌, ◌*◌, List, [], ◌∷◌, MatchOption, true, false, nat_le, if◌then◌else◌};
+ghost use Rattle.std.specs.Prelude.{◌≡◌, ◌≤◌, ◌+◌, ◌*◌, List, [], ◌∷◌, MatchOption, None, Some, true, false, nat_le, if◌then◌else◌};
 ghost use Rattle.tex_defs.specs.declared.Seen.{Seen};
 ghost use Rattle.tex_defs.specs.declared.Token.{Token};
 ghost use Rattle.plain_state.specs.Tokens.{has_category, is_other, means_category};
@@ -25,17 +25,23 @@ pub enum Kind {
     Message(Name),
     /// A command behind its first prefix: whether that is `\long`, and whether it is `\outer`.
     Prefixed(bool, bool),
+    /// A definition without prefixes, and whether it is expanded.
+    Define(bool),
     Integer,
     Text(Name),
+    /// The list of the macro of this name, and whether its body is expanded.
+    Definition(Name, bool),
 }
 
-/// How a token is read: as it stands, by expansion, by expansion with spaces skipped, or with spaces and `\relax` skipped.
+/// How a token is read: as it stands, by expansion, by expansion with spaces skipped, or with spaces and `\relax` skipped,
+/// or by expansion where the tokens of a token list come as they are.
 #[derive(Clone, Copy, Debug, PartialEq, Eq)]
 pub enum Want {
     Raw,
     Expanded,
     Nonblank,
     Command,
+    Copied,
 }
 
 /// The value of a reading.
@@ -55,6 +61,8 @@ pub enum Effect {
     SetCategory(u8, u8),
     /// The list that the reading holds is written as a message.
     Say,
+    /// The list that the reading holds becomes that of this macro: whether it is `\long`, and whether it is `\outer`.
+    SetMacro(Name, bool, bool),
 }
 
 /// What a reading asks for.
@@ -68,6 +76,41 @@ pub enum Ask {
     Act(Effect),
     /// A report, and the token that is given back before it.
     Tells(Report, Option<Seen>),
+    /// A token that is inserted, the report behind it, and the token that is given back before.
+    Inserts(Token, Report, Option<Seen>),
+}
+
+/// What a reading answers, and the tokens that go onto its list, in this order.
+#[must_use]
+#[derive(Clone, Copy, Debug, PartialEq, Eq)]
+pub struct Answer {
+    pub ask: Ask,
+    pub first: Option<Token>,
+    pub second: Option<Token>,
+}
+
+impl Answer {
+    /// No token goes onto the list.
+    pub(crate) fn bare(ask: Ask) -> Answer
+        ensures { result ≡ record { ask = ask; first = None; second = None } }
+    {
+        Answer {
+            ask,
+            first: None,
+            second: None,
+        }
+    }
+
+    /// This token goes onto the list.
+    pub(crate) fn with(token: Token, ask: Ask) -> Answer
+        ensures { result ≡ record { ask = ask; first = Some token; second = None } }
+    {
+        Answer {
+            ask,
+            first: Some(token),
+            second: None,
+        }
+    }
 }
 
 /// The base of a number's digits.

@@ -1,13 +1,13 @@
 // A balanced text, token by token. *The TeXbook*, chapter 20; *TeX: The Program*, part 26.
-ghost use Rattle.std.specs.Prelude.{◌≡◌, ◌≤◌, ◌<◌, ◌+◌, ◌++◌, List, [], ◌∷◌, true, false, length};
+ghost use Rattle.std.specs.Prelude.{◌≡◌, ◌≤◌, ◌<◌, ◌+◌, ◌++◌, List, [], ◌∷◌, None, true, false, length};
 ghost use Rattle.tex_defs.specs.declared.Token.{Token};
 ghost use Rattle.plain_state.specs.Readings.{Fed, Tok, Told, text, text_so_far};
 ghost use Rattle.frames.specs.Sees.{ask_of, first_list};
-ghost use Rattle.frames.specs.Texts.{depth_of, resume_text, text_list, text_grows, IsReady};
+ghost use Rattle.frames.specs.Texts.{depth_of, resume_text, text_list, IsReady};
 ghost use Rattle.frames.specs.Weights.{ask_weight};
-ghost use Rattle.frames.specs.Resumes.{IsOpen, IsUntold, IsNoInner, GivesBack, GivesNone, lists_after};
+ghost use Rattle.frames.specs.Resumes.{IsOpen, IsUntold, IsNoInner, GivesBack, GivesNone, lists_behind};
 
-use crate::scan::{Ask, Value, Want, has_category, means_category, senseless};
+use crate::scan::{Answer, Ask, Value, Want, has_category, means_category, senseless};
 use tex_defs::Seen;
 use transcript::Report;
 
@@ -23,16 +23,6 @@ pub enum TextScan {
 }
 
 impl TextScan {
-    /// Whether a token goes onto the list: inside the text, unless it is the brace that closes it.
-    pub fn grows(&self, x: Seen) -> bool
-        ensures { result ≡ text_grows self.now x }
-    {
-        match *self {
-            TextScan::Inside(depth) => !(has_category(x, 2) && depth == 0),
-            _ => false,
-        }
-    }
-
     /// Goes on behind its report, with a brace that is taken.
     pub fn feed_told(&mut self) -> Ask
         ensures answer { (ts : List Token) (lists : List (List Token)) → ask_of lists result ≡ resume_text self.old ts (Told ∷ []) }
@@ -73,30 +63,31 @@ impl TextScan {
         Ask::Tells(Report::MissingBrace, Some(x))
     }
 
-    /// Takes one token.
-    pub fn feed(&mut self, x: Seen) -> Ask
-        ensures answer { (ts : List Token) → IsReady self.old x ts → ask_of (lists_after (text_grows self.old x) x (ts ∷ [])) result ≡ resume_text self.old ts (Tok x ∷ []) }
-        ensures goes_on { IsOpen result → (ts : List Token) (fed : List Fed) → IsReady self.old x ts → resume_text self.old ts (Tok x ∷ fed) ≡ resume_text self.new (first_list (lists_after (text_grows self.old x) x (ts ∷ []))) fed }
-        ensures list { IsOpen result → (ts : List Token) (fed : List Fed) → IsReady self.old x ts → text_list self.old ts (Tok x ∷ fed) ≡ text_list self.new (first_list (lists_after (text_grows self.old x) x (ts ∷ []))) fed }
-        ensures builds { (ts : List Token) → IsReady self.old x ts → text_list self.old ts (Tok x ∷ []) ≡ first_list (lists_after (text_grows self.old x) x (ts ∷ [])) }
-        ensures shallow { (ts : List Token) → depth_of self.old ≤ length ts → depth_of self.new ≤ length (first_list (lists_after (text_grows self.old x) x (ts ∷ []))) }
-        ensures back { GivesBack result x }
-        ensures light { ask_weight result ≤ 7 }
-        ensures no_inner { IsNoInner result }
+    /// Takes one token: inside the text it goes onto the list, unless it is the brace that closes the text.
+    pub fn feed(&mut self, x: Seen) -> Answer
+        ensures answer { (ts : List Token) → IsReady self.old x ts → ask_of (lists_behind result (ts ∷ [])) result.ask ≡ resume_text self.old ts (Tok x ∷ []) }
+        ensures goes_on { IsOpen result.ask → (ts : List Token) (fed : List Fed) → IsReady self.old x ts → resume_text self.old ts (Tok x ∷ fed) ≡ resume_text self.new (first_list (lists_behind result (ts ∷ []))) fed }
+        ensures list { IsOpen result.ask → (ts : List Token) (fed : List Fed) → IsReady self.old x ts → text_list self.old ts (Tok x ∷ fed) ≡ text_list self.new (first_list (lists_behind result (ts ∷ []))) fed }
+        ensures builds { (ts : List Token) → IsReady self.old x ts → text_list self.old ts (Tok x ∷ []) ≡ first_list (lists_behind result (ts ∷ [])) }
+        ensures shallow { (ts : List Token) → depth_of self.old ≤ length ts → depth_of self.new ≤ length (first_list (lists_behind result (ts ∷ []))) }
+        ensures one { result.second ≡ None }
+        ensures back { GivesBack result.ask x }
+        ensures light { ask_weight result.ask ≤ 7 }
+        ensures no_inner { IsNoInner result.ask }
     {
         let depth = match *self {
-            TextScan::First => return self.feed_first(x),
-            TextScan::BraceMissing => return senseless(),
+            TextScan::First => return Answer::bare(self.feed_first(x)),
+            TextScan::BraceMissing => return Answer::bare(senseless()),
             TextScan::Inside(depth) => depth,
         };
         if has_category(x, 1) {
             *self = TextScan::Inside(depth.saturating_add(1));
         } else if has_category(x, 2) {
             if depth == 0 {
-                return Ask::Done(Value::Toks, None);
+                return Answer::bare(Ask::Done(Value::Toks, None));
             }
             *self = TextScan::Inside(depth - 1);
         }
-        Ask::More(Want::Expanded)
+        Answer::with(x.token, Ask::More(Want::Expanded))
     }
 }

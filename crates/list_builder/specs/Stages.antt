@@ -1,13 +1,15 @@
 -- What a stage of the scanner stands for.
 use Rattle.std.specs.Prelude.{ℕ, ◌+◌, List, Option, Some, None}
 use Rattle.tex_defs.specs.declared.Token.{Token}
-use Rattle.list_builder.specs.Plain.{body_of}
+use Rattle.list_builder.specs.Plain.{body_of, want_of, report_of}
+use Rattle.list_builder.specs.declared.ask.Due.{Due}
+use Rattle.list_builder.specs.declared.ask.Due.TheVariants as due
 use Rattle.list_builder.specs.declared.stage.Stage.{Stage}
 use Rattle.list_builder.specs.declared.stage.Stage.TheVariants as stage
 use Rattle.list_builder.specs.declared.stage.Next.{Next}
 use Rattle.list_builder.specs.declared.stage.Next.TheVariants.{On, Finished}
 use Rattle.list_builder.specs.declared.stage.Step.{Step}
-use Rattle.plain_state.specs.Definitions.{Manner, Fed, Answer, Done, with_cell, body, reference, illegal, no_body, parameters, place, tenth, misnumbered, missing, first}
+use Rattle.plain_state.specs.Definitions.{Manner, Fed, Answer, More, Tells, Done, with_cell, body, reference, illegal, no_body, parameters, place, tenth, misnumbered, missing, first}
 
 -- what is answered on what is still to come, where this list has been built
 abbrev pub resume : Manner → Stage → List Token → List Fed → Answer
@@ -21,6 +23,11 @@ resume m stage.BodyMissing list fed = no_body list fed
 resume m (stage.InBody b depth) list fed = body m (body_of b) depth list fed
 resume m (stage.Reference b depth character) list fed = reference m (body_of b) depth character list fed
 resume m (stage.Illegal b depth character) list fed = illegal m (body_of b) depth character list fed
+
+-- what is due says, where this list has been built
+abbrev pub due_of : Due → List Token → Answer
+due_of (due.More want) list = More (want_of want) list
+due_of (due.Tells report give_back) list = Tells (report_of report) give_back list
 
 -- the groups that are open
 abbrev pub depth_of : Stage → ℕ
@@ -38,6 +45,11 @@ IsTelling stage.BodyMissing = Unit {0}
 IsTelling (stage.Illegal b depth character) = Unit {0}
 IsTelling s = ⊥
 
+-- it is a report
+abbrev pub IsReport : Due → Type 0
+IsReport (due.More want) = ⊥
+IsReport (due.Tells report give_back) = Unit {0}
+
 -- a token list may be handed over: the body is being read
 abbrev pub IsInBody : Stage → Type 0
 IsInBody (stage.InBody b depth) = Unit {0}
@@ -53,6 +65,11 @@ goes_by Finished m list fed = Done list
 
 abbrev pub goes : Step → Manner → List Token → List Fed → Answer
 goes s m list fed = goes_by s.next m (grown s list) fed
+
+-- a report is due then
+abbrev pub TellsNext : Next → Type 0
+TellsNext (On s) = IsTelling s
+TellsNext Finished = ⊥
 
 abbrev pub depth_after : Next → ℕ
 depth_after (On s) = depth_of s

@@ -28,6 +28,15 @@ pub enum Report {
     MissingBrace,
 }
 
+/// What is due where a scanner stands: a token, or a report.
+#[derive(Clone, Copy, Debug, PartialEq, Eq)]
+pub enum Due {
+    /// One more token is needed.
+    More(Want),
+    /// A report; where this is true the last token is put back before it.
+    Tells(Report, bool),
+}
+
 /// What a scanner answers.
 #[must_use]
 #[derive(Debug)]

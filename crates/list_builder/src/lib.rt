@@ -14,7 +14,7 @@ mod stage;
 mod tests;
 mod text;
 
-pub use ask::{Ask, Report, Want};
+pub use ask::{Ask, Due, Report, Want};
 pub use def::DefScan;
 pub use laws::{lists_are_formed, lists_end_at_once, plain_lists_are_themselves, worked_lists};
 pub use stage::{Body, Manner, Next, Stage, Step};

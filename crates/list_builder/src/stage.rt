@@ -7,10 +7,10 @@ ghost use Rattle.plain_state.specs.Tokens.{has_category, is_other, means_categor
 ghost use Rattle.plain_state.specs.Definitions as plain;
 ghost use Rattle.plain_state.specs.Definitions.{Fed, Tok, Told, body_want, number_want, is_parameter, character_of, is_number, number_of, is_reference, first, parameters, place, body, reference};
 ghost use Rattle.list_builder.specs.Plain.{manner_of, body_of};
-ghost use Rattle.list_builder.specs.Stages.{resume, depth_of, IsTelling, goes, depth_after, growth};
+ghost use Rattle.list_builder.specs.Stages.{resume, depth_of, due_of, IsReport, IsTelling, TellsNext, goes, depth_after, growth};
 ghost use Rattle.list_builder.specs.Scans.{answer_of, IsOpen};
 
-use crate::ask::{Ask, Report, Want};
+use crate::ask::{Ask, Due, Report, Want};
 use tex_defs::{Meaning, Name, Seen, Token};
 
 /// How a list is read, from its first token to its last.
@@ -34,7 +34,7 @@ pub struct Body {
 /// Where a scanner stands: what it remembers of all that it was fed with, apart from the list that it builds.
 ///
 /// A definition begins at `Parameters(0)`, behind the name that is defined, and a balanced text at `First`. Whoever has
-/// the list elsewhere goes on from stage to stage by [`Stage::took`] and [`Stage::told`], and asks by [`Stage::ask`].
+/// the list elsewhere goes on from stage to stage by [`Stage::took`] and [`Stage::told`], and asks by [`Stage::due`].
 /// *The TeXbook*, chapters 20 and 24; *TeX: The Program*, part 27 (`scan_toks`).
 #[derive(Clone, Copy, Debug, PartialEq, Eq)]
 pub enum Stage {
@@ -173,23 +173,45 @@ impl Step {
 }
 
 impl Stage {
+    /// How many groups are open in the body.
+    pub fn depth(self) -> usize
+        ensures { result ≡ depth_of self }
+    {
+        match self {
+            Stage::InBody(_, depth) | Stage::Reference(_, depth, _) | Stage::Illegal(_, depth, _) =>
+                depth,
+            _ => 0,
+        }
+    }
+
+    /// What is due: a token, or a report.
+    pub fn due(self, manner: Manner) -> Due
+        ensures answer { (list : List Token) → due_of result list ≡ resume (manner_of manner) self list [] }
+        ensures tells { IsReport result → IsTelling self }
+    {
+        match self {
+            Stage::First => Due::More(Want::Command),
+            Stage::FirstMissing => Due::Tells(Report::MissingBrace, true),
+            Stage::Parameters(_) | Stage::Place(_, _) => Due::More(Want::Raw),
+            Stage::Misnumbered(_, _) => Due::Tells(Report::NotConsecutive, true),
+            Stage::Tenth(_) => Due::Tells(Report::AlreadyNine, false),
+            Stage::BodyMissing => Due::Tells(Report::MissingBrace, false),
+            Stage::InBody(_, _) if manner.expanded => Due::More(Want::Copied),
+            Stage::InBody(_, _) => Due::More(Want::Raw),
+            Stage::Reference(_, _, _) if manner.expanded => Due::More(Want::Expanded),
+            Stage::Reference(_, _, _) => Due::More(Want::Raw),
+            Stage::Illegal(_, _, _) => Due::Tells(Report::IllegalNumber(manner.name), true),
+        }
+    }
+
     /// What it asks for: a token, or a report.
     pub fn ask(self, manner: Manner) -> Ask
         ensures answer { (table : List (Option Entry)) (list : List Token) → answer_of table result list ≡ resume (manner_of manner) self list [] }
         ensures goes_on { IsOpen result }
     {
-        match self {
-            Stage::First => Ask::More(Want::Command),
-            Stage::FirstMissing => Ask::Tells(Report::MissingBrace, true),
-            Stage::Parameters(_) | Stage::Place(_, _) => Ask::More(Want::Raw),
-            Stage::Misnumbered(_, _) => Ask::Tells(Report::NotConsecutive, true),
-            Stage::Tenth(_) => Ask::Tells(Report::AlreadyNine, false),
-            Stage::BodyMissing => Ask::Tells(Report::MissingBrace, false),
-            Stage::InBody(_, _) if manner.expanded => Ask::More(Want::Copied),
-            Stage::InBody(_, _) => Ask::More(Want::Raw),
-            Stage::Reference(_, _, _) if manner.expanded => Ask::More(Want::Expanded),
-            Stage::Reference(_, _, _) => Ask::More(Want::Raw),
-            Stage::Illegal(_, _, _) => Ask::Tells(Report::IllegalNumber(manner.name), true),
+        match self.due(manner) {
+            Due::More(want) => Ask::More(want),
+            Due::Tells(report, give_back) => Ask::Tells(report, give_back),
         }
     }
 
@@ -323,6 +345,9 @@ impl Stage {
     pub fn told(self) -> Step
         ensures takes { (m : plain.Manner) (list : List Token) (fed : List Fed) → resume m self list (Told ∷ fed) ≡ goes result m list fed }
         ensures shallow { depth_after result.next ≤ depth_of self + growth result }
+        ensures no_deeper { depth_after result.next ≤ depth_of self }
+        ensures one { result.second ≡ None }
+        ensures quiet { TellsNext result.next → ⊥ }
     {
         match self {
             Stage::FirstMissing => {

@@ -5,7 +5,7 @@ ghost use Rattle.token_lists.specs.Accounts.{Moves, none, cell_holds};
 ghost use Rattle.token_lists.specs.Ids.{id_of};
 ghost use Rattle.list_builder.specs.Scans.{IsSound, IsOpen, IsSpent, Owns, handed, scan_holds};
 
-use crate::{Ask, DefScan, Report, TextScan, Want};
+use crate::{Ask, Body, DefScan, Due, Manner, Next, Report, Stage, TextScan, Want};
 use std::test::Fail;
 use tex_defs::{Full, Meaning, Name, Seen, Table, Token};
 use token_lists::{ListRef, Lists};
@@ -328,5 +328,58 @@ fn list_in_work_is_lent(rt: HostRuntime) -> Result<(), Fail> {
     scan.abandon(&mut lists);
     assert_eq!(rt; (begun, used, wants), (true, 1, Some(Want::Command)));
     assert_eq!(rt; lists.used(), 0);
+    Ok(())
+}
+
+// In front of a definition, and in a body and two groups of it, a stage tells what is due.
+#[test]
+fn stages_tell_what_is_due(rt: HostRuntime) -> Result<(), Fail> {
+    let manner = Manner {
+        name: Name::Single(97),
+        expanded: true,
+    };
+    let raw = Manner {
+        expanded: false,
+        ..manner
+    };
+    let body = Body {
+        places: Some(1),
+        brace: None,
+    };
+    let first = Stage::Parameters(0);
+    let inside = Stage::InBody(body, 1);
+    let deeper = inside.took(read(1, 123)).next;
+    let character = Token::Char { cat: 6, code: 35 };
+    let behind = Stage::Reference(body, 2, character);
+    let illegal = Stage::Illegal(body, 2, character);
+    assert_eq!(rt; deeper, Next::On(Stage::InBody(body, 2)));
+    assert_eq!(rt;
+        (
+            first.depth(),
+            inside.depth(),
+            behind.depth(),
+            illegal.depth()
+        ),
+        (0, 1, 2, 2)
+    );
+    assert_eq!(rt;
+        (first.due(manner), Stage::First.due(raw)),
+        (Due::More(Want::Raw), Due::More(Want::Command))
+    );
+    assert_eq!(rt;
+        (inside.due(manner), inside.due(raw)),
+        (Due::More(Want::Copied), Due::More(Want::Raw))
+    );
+    assert_eq!(rt;
+        (behind.due(manner), behind.due(raw)),
+        (Due::More(Want::Expanded), Due::More(Want::Raw))
+    );
+    assert_eq!(rt;
+        (Stage::Tenth(9).due(manner), illegal.due(raw)),
+        (
+            Due::Tells(Report::AlreadyNine, false),
+            Due::Tells(Report::IllegalNumber(Name::Single(97)), true)
+        )
+    );
     Ok(())
 }
