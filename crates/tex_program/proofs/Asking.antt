@@ -8,7 +8,7 @@ use Rattle.tex_defs.specs.declared.Sizes.{Sizes}
 use Rattle.plain_state.specs.Readings as reading
 use Rattle.plain_state.specs.Readings.{Tok, own_lists}
 use Rattle.plain_state.specs.Pending.{pulled}
-use Rattle.plain_state.specs.States.{State, Reading, Move, Begun, BegunWith, made, fresh, fed_with, lending}
+use Rattle.plain_state.specs.States.{State, Reading, Move, Begun, BegunWith, made, fresh, fed_with, ended_with, lending}
 use Rattle.plain_state.specs.Tables.{refusal}
 use Rattle.plain_machine.specs.Plan.{answered, handed, begun, last_seen}
 use Rattle.plain_machine.specs.Numbers.{pending_of}
@@ -16,35 +16,47 @@ use Rattle.plain_machine.specs.Runs.{step_of}
 use Rattle.plain_machine.proofs.Doing.{did_one}
 use Rattle.world_io.specs.Told.{FilesTold, SinkTold, world}
 use Rattle.frames.specs.declared.scan.Ask.{Ask}
-use Rattle.frames.specs.declared.scan.Ask.TheVariants.{Inner, Done, Act}
+use Rattle.frames.specs.declared.scan.Ask.TheVariants.{More, Inner, Done, Act}
+use Rattle.frames.specs.declared.scan.Want.{Want as ScanWant}
 use Rattle.frames.specs.declared.scan.Value.{Value}
 use Rattle.frames.specs.declared.scan.Effect.{Effect}
+use Rattle.frames.specs.declared.scan.Effect.TheVariants as effects
 use Rattle.frames.specs.declared.scan.Kind.{Kind}
 use Rattle.frames.specs.declared.frame.Frame.{Frame}
 use Rattle.frames.specs.declared.frame.Frame.TheVariants as frame
 use Rattle.frames.specs.declared.frame.Waiting.{Waiting}
-use Rattle.frames.specs.Sees.{ask_of, kind_of, value_of}
-use Rattle.frames.specs.Resumes.{is_built}
+use Rattle.frames.specs.Sees.{ask_of, kind_of, value_of, effect_of, first_list}
 use Rattle.tex_program.specs.declared.broken.Broken.{Broken}
 use Rattle.tex_program.specs.declared.broken.Broken.TheVariants as broken
+use Rattle.tex_program.specs.declared.call.Call.{Call}
 use Rattle.tex_program.specs.declared.engine.Engine.{Engine}
 use Rattle.tex_program.specs.Book.{Book, with_work}
-use Rattle.tex_program.specs.Stands.{Stands, WorkStands, WaitStands, Waits, WaitsWith, EndsHere, IsTaken, OuterStand, FrameStands, Innermost, SameState, state_of, page_of}
-use Rattle.tex_program.specs.Rules.{world_of, plan_of, onward_of, enters_of, scanning_of, Takes, Cuts, Went}
+use Rattle.tex_program.specs.Chained.{AreChained}
+use Rattle.tex_program.specs.Feeding.{Defines}
+use Rattle.tex_program.specs.Stands.{Stands, AreOrderly, WorkStands, WaitStands, Waits, WaitsWith, EndsHere, IsTaken, AtMostOne, OuterStand, FrameStands, Innermost, SameState, state_of, page_of}
+use Rattle.tex_program.specs.Rules.{world_of, plan_of, onward_of, enters_of, scanning_of, WantsHere, Takes, Cuts, Went}
 use Rattle.input_state.specs.Callings.{NotCalling}
 use Rattle.input_state.specs.Stored.{gathered}
-use Rattle.tex_program.proofs.Bare.{bare_after, all_of, framed}
+use Rattle.tex_program.proofs.Bare.{bare_after, all_of}
 use Rattle.tex_program.proofs.Cutting.{full_cuts, cuts_by}
 use Rattle.tex_program.proofs.Joining.{IsQuiet, quiet_wrote, went_by}
 use Rattle.tex_program.proofs.Reporting.{reads_now}
+use Rattle.tex_program.proofs.Chained.{chained_begun, chained_noted, chained_ended, chained_acted, chained_acts}
 use Rattle.tex_program.proofs.Commands.{done_taken}
+
+-- a token is wanted
+none_taken : (sizes : Sizes) (e : Engine) (book : Book) → e.top ≡ None → Stands sizes e book → Takes sizes None e book
+none_taken sizes e book top st = (subst (λ (c : Option Call). WantsHere c None e) (sym st.uncalled.none) top, all_of sizes e book st)
+
+pub some_taken : (sizes : Sizes) (e : Engine) (want : ScanWant) (book : Book) → e.ask ≡ More want → Stands sizes e book → Takes sizes (Some want) e book
+some_taken sizes e want book asks st = (subst (λ (c : Option Call). WantsHere c (Some want) e) (sym st.uncalled.none) asks, all_of sizes e book st)
 
 pub by_none : (sizes : Sizes) (e : Engine) (P : Book → List Move → Type 0) → e.top ≡ None →
     ((book : Book) → Takes sizes None e book → P book (handed (page_of e book) (enters_of None) (scanning_of e book.work) (onward_of (page_of e book) None book.work) (pulled e.categories (pending_of book.number e.input.pending)))) →
     (book : Book) → Stands sizes e book → P book (plan_of e book)
 by_none sizes e P top h book st = at book.work st where
   at : (work : List Reading) → Stands sizes e (with_work work book) → P (with_work work book) (plan_of e (with_work work book))
-  at [] st = h (with_work [] book) (top, st)
+  at [] st = h (with_work [] book) (none_taken sizes e (with_work [] book) top st)
   at (r ∷ rs) st = absurd (subst (λ (x : Option Frame). WorkStands e.ask x e.outer.items e.input.builds (r ∷ rs)) top st.readings)
 
 -- the innermost reading, which asks for this, and those beneath it
@@ -71,18 +83,34 @@ module _ (sizes : Sizes) (e : Engine) (P : Book → List Move → Type 0) where
   by_ask a some is h book st = by_top e.top a refl some is h book book.work st (subst (λ (x : Ask). WorkStands x e.top e.outer.items e.input.builds book.work) is st.readings)
 
 -- a reading that ends
-ends_here : (sizes : Sizes) (e : Engine) (a : Ask) (v : reading.Value) (book : Book) (r : Reading) (rs : List Reading) → Asks sizes e a book r rs → IsTaken v rs → EndsHere sizes e v r rs book
-ends_here sizes e a v book r rs h taken = record { sound = h.stands.sound; idle = h.stands.idle; few = h.innermost.few; holds = h.innermost.holds; taken = taken; outer = h.outer; uncalled = h.stands.uncalled }
+ends_here : (sizes : Sizes) (e : Engine) (a : Ask) (v : reading.Value) (book : Book) (r : Reading) (rs : List Reading) → Asks sizes e a book r rs → IsTaken v rs → AreChained (ended_with v (r ∷ rs)) → EndsHere sizes e v r rs book
+ends_here sizes e a v book r rs h taken chained = record { sound = h.stands.sound; idle = h.stands.idle; few = h.innermost.few; holds = h.innermost.holds; taken = taken; chained = chained; outer = h.outer; uncalled = h.stands.uncalled }
 
 pub done_here : (sizes : Sizes) (e : Engine) (value : Value) (back : Option Seen) (book : Book) (r : Reading) (rs : List Reading) → Asks sizes e (Done value back) book r rs → EndsHere sizes e (value_of e.input.builds value) r rs book
-done_here sizes e value back book r rs h = ends_here sizes e (Done value back) (value_of e.input.builds value) book r rs h (done_taken (value_of e.input.builds value) (is_some back) r rs h.innermost.asked h.stands.lone)
+done_here sizes e value back book r rs h =
+    ends_here sizes e (Done value back) (value_of e.input.builds value) book r rs h (done_taken (value_of e.input.builds value) (is_some back) r rs h.innermost.asked h.stands.orderly.lone)
+    (chained_ended (value_of e.input.builds value) (is_some back) r rs h.stands.orderly.chained (sym h.innermost.asked))
 
 flag_taken : (b : Bool) (rs : List Reading) → IsTaken (reading.Flag b) rs
 flag_taken b [] = refl
 flag_taken b (r ∷ rs) = tt
 
 pub act_here : (sizes : Sizes) (e : Engine) (effect : Effect) (book : Book) (r : Reading) (rs : List Reading) → Asks sizes e (Act effect) book r rs → EndsHere sizes e (reading.Flag true) r rs book
-act_here sizes e effect book r rs h = ends_here sizes e (Act effect) (reading.Flag true) book r rs h (flag_taken true rs)
+act_here sizes e effect book r rs h =
+    ends_here sizes e (Act effect) (reading.Flag true) book r rs h (flag_taken true rs) (chained_acted (effect_of e.input.builds effect) r rs h.stands.orderly.chained (sym h.innermost.asked))
+
+-- what becomes a macro has a token
+one_list : (lists : List (List Token)) → AtMostOne lists → (first_list lists ≡ [] → ⊥) → length lists ≡ 1
+one_list [] few some = absurd (some refl)
+one_list (ts ∷ []) few some = refl
+one_list (ts ∷ us ∷ lists) few some = absurd few
+
+pub defines_here : (sizes : Sizes) (e : Engine) (effect : Effect) (book : Book) (r : Reading) (rs : List Reading) → Asks sizes e (Act effect) book r rs → Defines effect e.input.builds
+defines_here sizes e (effects.SetCategory code category) book r rs h = tt
+defines_here sizes e effects.Say book r rs h = tt
+defines_here sizes e (effects.SetMacro name long outer) book r rs h =
+    let some : first_list e.input.builds ≡ [] → ⊥ = chained_acts r rs name long outer (first_list e.input.builds) h.stands.orderly.chained (sym h.innermost.asked) in
+    (one_list e.input.builds h.innermost.few some, some)
 
 -- a reading that goes on
 pub waits_here : (sizes : Sizes) (e : Engine) (a : Ask) (book : Book) (r : Reading) (rs : List Reading) (h : Asks sizes e a book r rs) → FrameStands h.frame e.input.builds r → Waits sizes e (with_work (r ∷ rs) book)
@@ -90,7 +118,8 @@ waits_here sizes e a book r rs h stands = record {
   sound = h.stands.sound;
   idle = h.stands.idle;
   readings = subst (λ (x : Option Frame). WaitStands x e.outer.items e.input.builds (r ∷ rs)) (sym h.top) (stands, (h.innermost.holds, h.outer));
-  lone = h.stands.lone;
+  lone = h.stands.orderly.lone;
+  chained = chained_noted (r ∷ rs) h.stands.orderly.chained;
   uncalled = h.stands.uncalled;
 }
 
@@ -117,13 +146,20 @@ module _ (sizes : Sizes) (e : Engine) (waits : Waiting) (kind : Kind) (begins : 
     uncalled = h.stands.uncalled;
   }
 
+  -- and gives its list to the command that defines
+  pub begins_orderly : AreOrderly (fresh (kind_of kind) ∷ r ∷ rs)
+  begins_orderly = record { lone = tt; chained = chained_begun (kind_of kind) (is_some begins) r rs h.stands.orderly.chained (sym h.innermost.asked) }
+
+  pub lends_orderly : AreOrderly (fresh (kind_of kind) ∷ lending (r ∷ rs))
+  lends_orderly = record { lone = tt; chained = chained_begun (kind_of kind) (is_some begins) (record { kind = r.kind; fed = r.fed; lent = true; holds = r.holds }) rs h.stands.orderly.chained (sym h.innermost.asked) }
+
 -- the moves of a reading that begins with the token looked at
 with_is : (k : reading.Kind) (r : Reading) (x : Seen) → r.lent ≡ false → last_seen r.fed ≡ x ∷ [] → begun k true r ≡ BegunWith k x ∷ []
 with_is k r x a b = rw b (rw a refl)
 
--- which is no definition
-pub with_built : (sizes : Sizes) (e : Engine) (waits : Waiting) (kind : Kind) (x : Seen) (book : Book) (r : Reading) (rs : List Reading) → Asks sizes e (Inner waits kind (Some x)) book r rs → is_built x.meaning ≡ true
-with_built sizes e waits kind x book r rs h = h.innermost.built
+-- it builds no list
+pub with_bare : (sizes : Sizes) (e : Engine) (waits : Waiting) (kind : Kind) (x : Seen) (book : Book) (r : Reading) (rs : List Reading) → Asks sizes e (Inner waits kind (Some x)) book r rs → own_lists (kind_of kind) ≡ []
+with_bare sizes e waits kind x book r rs h = h.innermost.bare
 
 pub with_plan : (sizes : Sizes) (e : Engine) (waits : Waiting) (kind : Kind) (x : Seen) (book : Book) (r : Reading) (rs : List Reading) → Asks sizes e (Inner waits kind (Some x)) book r rs → begun (kind_of kind) true r ≡ BegunWith (kind_of kind) x ∷ []
 with_plan sizes e waits kind x book r rs h = with_is (kind_of kind) r x h.innermost.not_lent h.innermost.last

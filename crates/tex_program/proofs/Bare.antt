@@ -1,5 +1,5 @@
 -- Where no call gathers its arguments.
-use Rattle.std.proofs.Common.{◌≡◌, ℕ, List, [], ◌∷◌, ◌++◌, refl, sym, ap, subst, ◌∙◌}
+use Rattle.std.proofs.Common.{◌≡◌, ℕ, List, [], ◌∷◌, ◌++◌, sym, ap, subst, ◌∙◌}
 use Rattle.std.specs.Prelude.{Option, None, Some}
 use Rattle.tex_defs.specs.declared.Sizes.{Sizes}
 use Rattle.tex_defs.specs.declared.Token.{Token}
@@ -10,7 +10,7 @@ use Rattle.tex_program.specs.declared.call.Call.{Call}
 use Rattle.tex_program.specs.declared.engine.Engine.{Engine}
 use Rattle.tex_program.specs.Book.{Book}
 use Rattle.tex_program.specs.Calls.{AllStand, ReadingsStand, FramesOf}
-use Rattle.tex_program.specs.Stands.{Stands, FramesStand}
+use Rattle.tex_program.specs.Stands.{Stands}
 
 -- the lists that are gathered
 
@@ -27,13 +27,13 @@ pub all_of : (sizes : Sizes) (e : Engine) (book : Book) → Stands sizes e book 
 all_of sizes e book st = record {
   sound = st.sound;
   idle = st.idle;
-  all = subst (λ (c : Option Call). ReadingsStand c e book.number book.work) (sym st.uncalled.none) (st.readings, (st.lone, st.uncalled.input));
+  all = subst (λ (c : Option Call). ReadingsStand c e book.number book.work) (sym st.uncalled.none) (st.readings, (st.orderly, st.uncalled.input));
 }
 
 pub framed : (sizes : Sizes) (e : Engine) (book : Book) → e.call ≡ None → AllStand sizes e book → Stands sizes e book
 framed sizes e book none st =
     let all : ReadingsStand None e book.number book.work = subst (λ (c : Option Call). ReadingsStand c e book.number book.work) none st.all in
-    record { sound = st.sound; idle = st.idle; readings = all.0; lone = all.1.0; uncalled = record { none = none; input = all.1.1 } }
+    record { sound = st.sound; idle = st.idle; readings = all.0; orderly = all.1.0; uncalled = record { none = none; input = all.1.1 } }
 
 frames_by : (e : Engine) (number : ℕ → ℕ) (c : Option Call) (work : List Reading) → ReadingsStand c e number work → FramesOf c e work
 frames_by e number None work h = h.0
@@ -42,6 +42,3 @@ frames_by e number (Some c) (r ∷ rs) h = h.1.0
 
 pub frames_all : (sizes : Sizes) (e : Engine) (book : Book) → AllStand sizes e book → FramesOf e.call e book.work
 frames_all sizes e book st = frames_by e book.number e.call book.work st.all
-
-pub frames_none : (e : Engine) (work : List Reading) → e.call ≡ None → FramesStand e work → FramesOf e.call e work
-frames_none e work none h = subst (λ (c : Option Call). FramesOf c e work) (sym none) h

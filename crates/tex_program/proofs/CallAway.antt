@@ -1,5 +1,5 @@
 -- An argument that runs away: it is shown, a token put in front, and a report comes.
-use Rattle.std.proofs.Common.{◌≡◌, ℕ, List, [], ◌∷◌, ◌++◌, refl, sym, ap, subst, ◌∙◌, Bool, arith}
+use Rattle.std.proofs.Common.{◌≡◌, ℕ, List, [], ◌∷◌, ◌++◌, refl, sym, ap, subst, ◌∙◌, Bool}
 use Rattle.std.specs.Prelude.{Option, Some, None}
 use Rattle.tex_defs.specs.declared.Sizes.{Sizes}
 use Rattle.tex_defs.specs.declared.Token.{Token}
@@ -9,11 +9,10 @@ use Rattle.plain_state.specs.Readings.{list_or_none}
 use Rattle.token_lists.specs.Table.{Entry, tokens_at}
 use Rattle.plain_state.specs.States as machine
 use Rattle.plain_state.specs.States.{State, Move, Written, Closed}
-use Rattle.plain_machine.specs.Plan.{Page, page_behind, put_one, reported, failed}
+use Rattle.plain_machine.specs.Plan.{Page, page_behind, put_one, failed}
 use Rattle.plain_machine.specs.Does.{Did}
 use Rattle.plain_machine.specs.Runs.{steps}
 use Rattle.plain_machine.proofs.Doing.{did_join}
-use Rattle.plain_machine.proofs.Joins.{steps_join}
 use Rattle.world_io.specs.Told.{FilesTold, SinkTold, world}
 use Rattle.name_table.specs.Strings.{Strings}
 use Rattle.input_state.specs.Stored.{Stored}

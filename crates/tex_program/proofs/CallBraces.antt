@@ -13,13 +13,11 @@ use Rattle.plain_state.specs.Readings as reading
 use Rattle.plain_state.specs.Readings.{Fed, Told, gathered_by, call_fed, call_ask, list_or_none, par_token}
 use Rattle.plain_state.specs.Reports as reports
 use Rattle.plain_state.specs.Reports.{report_bytes}
-use Rattle.plain_state.specs.States.{State, Reading, Move, Outcome, Grows, Noted, Written, Reported, fed_with, made}
+use Rattle.plain_state.specs.States.{Reading, Move, Outcome, Grows, Noted, Written, Reported, fed_with, made}
 use Rattle.plain_state.specs.Tokens.{Raw}
-use Rattle.plain_machine.specs.Plan.{Page, told, is_told, last_seen, noting, grown_to, given_back, put_all, put_one, reported}
+use Rattle.plain_machine.specs.Plan.{Page, told, noting, grown_to, given_back, put_all, put_one, reported}
 use Rattle.plain_machine.specs.Does.{Did}
-use Rattle.plain_machine.specs.Runs.{steps}
 use Rattle.plain_machine.proofs.Doing.{did_join, did_one}
-use Rattle.plain_machine.proofs.Joins.{steps_join}
 use Rattle.world_io.specs.Told.{FilesTold, SinkTold, world}
 use Rattle.macro_call.specs.PlainScans.{Scan, resume_scan, scan_work, settled_scan}
 use Rattle.macro_call.specs.Stages.{Stage, kept_in, read_in}
@@ -28,13 +26,11 @@ use Rattle.input_state.specs.CallFeeds.{with_scan}
 use Rattle.input_state.specs.Callings as calls
 use Rattle.input_state.specs.Callings.{Calling, call_lists}
 use Rattle.input_state.specs.Macros.{list_at}
-use Rattle.input_state.specs.Stored.{Stored, gathered}
-use Rattle.tex_program.specs.declared.call.Call.{Call}
-use Rattle.tex_program.specs.declared.call.CallAsk.TheVariants as asked
+use Rattle.input_state.specs.Stored.{Stored}
 use Rattle.tex_program.specs.declared.broken.Broken.{Broken}
 use Rattle.tex_program.specs.declared.engine.Engine.{Engine}
 use Rattle.tex_program.specs.Book.{Book, with_work}
-use Rattle.tex_program.specs.Calls.{AllStand, ReadingsStand, CallStands, Gathers, IsTaking, HasWork, brace_call, open_call}
+use Rattle.tex_program.specs.Calls.{AllStand, ReadingsStand, CallStands, Gathers, IsTaking, brace_call, open_call}
 use Rattle.tex_program.specs.Stands.{state_of, page_of, call_count}
 use Rattle.tex_program.specs.Steps.{weight, call_weight, pending_weight}
 use Rattle.tex_program.specs.Rules.{world_of, Cuts, Halts, Reports, Went}
@@ -42,9 +38,12 @@ use Rattle.tex_program.proofs.CallEnding.{here as here_call}
 use Rattle.tex_program.proofs.Cutting.{later_cuts}
 use Rattle.tex_program.proofs.Joining.{quiet_wrote, went_by, halts_least, halts_on}
 use Rattle.tex_program.proofs.Storing.{sound_still, store_scan}
-use Rattle.tex_program.proofs.Growing.{nothing_behind}
 
 -- WHERE AN EXTRA BRACE CAME, a list is in work
+
+nothing_behind : (ts : List Token) → drop (length ts) ts ≡ []
+nothing_behind [] = refl
+nothing_behind (t ∷ ts) = nothing_behind ts
 
 call_is : (name : Name) (a : call.Answer) → reading.Inserts par_token (reports.ExtraBrace name) true ≡ call_ask name a → (work_in a ≡ None → ⊥)
 call_is name (call.More args work) is none = cc
@@ -139,6 +138,7 @@ braced e number name x r h = by_calling e.input.call h.at h.asked h.holds where
           id = h.id;
           meaning = h.meaning;
           kind = h.kind;
+          places = h.places;
           asked = settled_ask name h.long ts scan r.fed here_ask g ∙ ap (λ (k : reading.Kind). reading.ask k (r.fed ++ Told ∷ [])) (sym h.kind);
           at = (where_it.0, (where_it.1.0, settled_gathers name h.long ts scan r.fed here_ask g));
           holds = holds;

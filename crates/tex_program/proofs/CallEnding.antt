@@ -13,20 +13,19 @@ use Rattle.plain_machine.specs.Runs.{steps}
 use Rattle.plain_machine.proofs.Doing.{did_join, did_one}
 use Rattle.plain_machine.proofs.Joins.{steps_join}
 use Rattle.world_io.specs.Told.{FilesTold, SinkTold}
-use Rattle.input_state.specs.Callings.{Calling, NotCalling, call_lists}
+use Rattle.input_state.specs.Callings.{NotCalling, call_lists}
 use Rattle.input_state.specs.Stored.{Stored, KeepsMacros, gathered}
 use Rattle.tex_program.specs.declared.call.Call.{Call}
 use Rattle.tex_program.specs.declared.engine.Engine.{Engine}
 use Rattle.tex_program.specs.Book.{Book, with_work}
 use Rattle.tex_program.specs.Calls.{AllStand, ReadingsStand, CallStands, asks_of}
-use Rattle.tex_program.specs.Stands.{IsSized, Counts, SameFrames, SameOthers, SameStore, OnlyColumn, top_count, state_of, page_of, call_count, frames}
-use Rattle.tex_program.specs.Steps.{weight, call_weight, pending_weight}
-use Rattle.frames.specs.Weights.{ask_weight}
+use Rattle.tex_program.specs.Stands.{IsSized, Counts, SameFrames, SameOthers, SameStore, OnlyColumn, top_count, state_of, page_of, call_count}
+use Rattle.tex_program.specs.Steps.{weight, pending_weight}
 use Rattle.tex_program.specs.Rules.{world_of, plan_of, Went, Halts, Reports}
 use Rattle.tex_program.proofs.CallKept.{all_still}
 use Rattle.tex_program.proofs.Joining.{quiet_wrote, went_by, halts_least}
 use Rattle.tex_program.proofs.Counting.{work_depth}
-use Rattle.tex_program.proofs.Pulling.{column_frames}
+use Rattle.tex_program.proofs.Standing.{only_frames}
 use Rattle.tex_program.proofs.Reporting.{input_sound, column_sound, others_sound}
 use Rattle.tex_program.proofs.Storing.{sound_still, store_call, store_is}
 
@@ -115,7 +114,7 @@ failed_halts sizes e e1 book w w' report o h = halts_least sizes _ e1 book w w' 
 -- it has written
 pub written_stands : (sizes : Sizes) (e e1 : Engine) (book : Book) → OnlyColumn e e1 → AllStand sizes e book → AllStand sizes e1 book
 written_stands sizes e e1 book only st =
-    all_still sizes e e1 book (column_frames e e1 only) (store_is e.input e1.input only.input) (column_sound sizes e e1 book.number book.macros only st.sound) (ap (λ (i : Stored). i.making) only.input ∙ st.idle) st
+    all_still sizes e e1 book (only_frames e e1 only) (store_is e.input e1.input only.input) (column_sound sizes e e1 book.number book.macros only st.sound) (ap (λ (i : Stored). i.making) only.input ∙ st.idle) st
 
 -- it has put a token in front
 pub put_stands : (sizes : Sizes) (e e1 : Engine) (book : Book) → SameFrames e e1 → SameOthers e e1 → SameStore e.input e1.input → e1.input.making ≡ None → AllStand sizes e book → AllStand sizes e1 book

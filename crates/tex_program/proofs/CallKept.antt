@@ -7,20 +7,18 @@ use Rattle.tex_defs.specs.declared.Sizes.{Sizes}
 use Rattle.tex_defs.specs.declared.Token.{Token}
 use Rattle.tex_defs.specs.declared.Name.{Name}
 use Rattle.tex_defs.specs.declared.Name.TheVariants as name
-use Rattle.tex_defs.specs.declared.Frozen.{Frozen}
 use Rattle.tex_defs.specs.declared.Frozen.TheVariants as frozen
 use Rattle.tex_defs.specs.declared.Meaning.{Meaning}
 use Rattle.tex_defs.specs.declared.Meaning.TheVariants as means
-use Rattle.plain_state.specs.Meanings.{name_meaning, looked_up, location, fixed_meaning, frozen_meaning}
+use Rattle.plain_state.specs.Arguments.{has_parameters}
+use Rattle.plain_state.specs.Meanings.{name_meaning, looked_up, location, fixed_meaning}
 use Rattle.plain_state.specs.Readings as reading
 use Rattle.plain_state.specs.Readings.{Fed}
 use Rattle.plain_state.specs.States.{Reading}
-use Rattle.plain_state.specs.Puts.{Put}
 use Rattle.plain_state.specs.Tables.{is_meant, is_put, means_macro}
 use Rattle.input_state.specs.Callings.{Calling, call_lists}
 use Rattle.input_state.specs.Macros.{list_at, is_macro}
 use Rattle.input_state.specs.Stored.{Stored}
-use Rattle.frames.specs.declared.scan.Ask.{Ask}
 use Rattle.frames.specs.declared.frame.Frame.{Frame}
 use Rattle.tex_program.specs.declared.call.Call.{Call}
 use Rattle.tex_program.specs.declared.engine.Engine.{Engine}
@@ -81,6 +79,7 @@ call_still e e' number c r same store h =
       id = h.id;
       meaning = ap (λ (cells : List (Meaning (Option ℕ))). name_meaning cells c.name) store.meanings ∙ h.meaning;
       kind = h.kind ∙ ap (reading.Arguments c.name h.long (number h.id)) (sym list);
+      places = ap has_parameters list ∙ h.places;
       asked = ap (asks_of c) same ∙ h.asked;
       at = subst (λ (k : Calling). CallAt c.ask c.name h.long (list_at e'.input.lists h.id) k r.fed) (sym same)
           (subst (λ (ts : List Token). CallAt c.ask c.name h.long ts e.input.call r.fed) (sym list) h.at);

@@ -1,25 +1,24 @@
 -- The arguments of a call pass to the macro's body, which is put.
-use Rattle.std.proofs.Common.{◌≡◌, ℕ, ◌+◌, ◌<◌, List, [], ◌∷◌, ◌++◌, drop, refl, sym, ap, subst, ◌∙◌, Bool, true, arith}
+use Rattle.std.proofs.Common.{◌≡◌, ℕ, List, [], ◌∷◌, drop, refl, sym, ap, subst, ◌∙◌, Bool, true}
 use Rattle.std.specs.Prelude.{Option, Some, None, ◌||◌}
 use Rattle.tex_defs.specs.declared.Full.{Full}
 use Rattle.tex_defs.specs.declared.Meaning.{Meaning}
-use Rattle.tex_defs.specs.declared.Meaning.TheVariants as means
 use Rattle.tex_defs.specs.declared.Name.{Name}
 use Rattle.tex_defs.specs.declared.Sizes.{Sizes}
 use Rattle.tex_defs.specs.declared.Token.{Token}
 use Rattle.tex_defs.specs.Places.{World}
 use Rattle.plain_state.specs.Meanings.{name_meaning}
 use Rattle.plain_state.specs.Pending.{Pending, put_front, settle, with_puts}
-use Rattle.plain_state.specs.Puts.{Item, Put, Macro, call_put, put_top, settled, with_put}
+use Rattle.plain_state.specs.Puts.{Item, Put, call_put, put_top, settled}
 use Rattle.plain_state.specs.Readings as reading
-use Rattle.plain_state.specs.States.{State, Reading, Move, Settled, CalledWith, Closed, made}
+use Rattle.plain_state.specs.States.{State, Reading, Settled, CalledWith, made}
 use Rattle.plain_state.specs.Tables.{Demand, level, parameters, refused, refusal, is_meant, is_put}
-use Rattle.plain_machine.specs.Numbers.{Tied, IsHeld, pending_of, put_of as numbered}
-use Rattle.plain_machine.specs.Plan.{arguments_put, called_with, put_with}
+use Rattle.plain_machine.specs.Numbers.{pending_of, put_of as numbered}
+use Rattle.plain_machine.specs.Plan.{arguments_put, called_with}
 use Rattle.plain_machine.specs.Does.{Did}
 use Rattle.plain_machine.proofs.Doing.{did_join, did_one, did_none}
 use Rattle.plain_machine.proofs.Renumbering.{settle_of, put_front_of, level_of, parameters_of}
-use Rattle.plain_machine.proofs.Ties.{tied_settled, tied_put, put_settled, held_more}
+use Rattle.plain_machine.proofs.Ties.{tied_settled, tied_put}
 use Rattle.world_io.specs.Told.{FilesTold, SinkTold}
 use Rattle.input_state.specs.Callings as calls
 use Rattle.input_state.specs.Callings.{Calling, NotCalling, IsComplete}
@@ -111,7 +110,6 @@ module _ (sizes : Sizes) (e : Engine) (book : Book) (r : Reading) (rs : List Rea
       sized = record { few_reports = st.sound.sized.few_reports; small = st.sound.sized.small; own = st.sound.sized.own; outer = st.sound.sized.outer; input = st.sound.sized.input; names = st.sound.sized.names; hash = st.sound.sized.hash; located = st.sound.sized.located };
       tied = tied_put book.number book.macros e.input.meanings (settled e.input.pending.puts) e.input.lists (tied_settled book.number book.macros e.input.meanings e.input.pending.puts e.input.lists st.sound.tied) id p refl (ap (λ (b : Bool). b || is_put id (settled e.input.pending.puts)) meant);
       bodies = st.sound.bodies;
-      plain = st.sound.plain;
     }
 
     module _ (x : Item) (xs : List Item) (some : p.items ≡ x ∷ xs) where

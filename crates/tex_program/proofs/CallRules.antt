@@ -1,18 +1,14 @@
 -- The rule of a call, by what it asks for.
-use Rattle.std.proofs.Common.{◌≡◌, ℕ, List, [], ◌∷◌, ◌++◌, length, drop, refl, sym, ap, subst, ◌∙◌, Bool, true}
+use Rattle.std.proofs.Common.{◌≡◌, ℕ, List, [], ◌∷◌, ◌++◌, length, drop, refl, sym, ap, subst, ◌∙◌, Bool}
 use Rattle.std.specs.Prelude.{Option, Some, None, option_to_list}
-use Rattle.tex_defs.specs.declared.Meaning.{Meaning}
-use Rattle.tex_defs.specs.declared.Meaning.TheVariants as means
 use Rattle.tex_defs.specs.declared.Name.{Name}
 use Rattle.tex_defs.specs.declared.Seen.{Seen}
-use Rattle.tex_defs.specs.declared.Sizes.{Sizes}
 use Rattle.tex_defs.specs.declared.Token.{Token}
 use Rattle.tex_defs.specs.Places.{Transcript}
 use Rattle.plain_state.specs.Readings as reading
 use Rattle.plain_state.specs.Readings.{Fed, list_or_none}
 use Rattle.plain_state.specs.Reports as reports
 use Rattle.plain_state.specs.States.{Reading, Written}
-use Rattle.plain_state.specs.Tables.{is_meant}
 use Rattle.plain_machine.specs.Plan.{Scanning, scanning, scanning_kind, first_of, failed, failed_away, page_behind, put_all}
 use Rattle.input_state.specs.CallFeeds.{call_work}
 use Rattle.input_state.specs.Callings as calls
@@ -23,26 +19,19 @@ use Rattle.tex_program.specs.declared.call.Call.{Call}
 use Rattle.tex_program.specs.declared.call.CallAsk.{CallAsk}
 use Rattle.tex_program.specs.declared.call.CallAsk.TheVariants as asked
 use Rattle.tex_program.specs.declared.engine.Engine.{Engine}
-use Rattle.tex_program.specs.Book.{Book, with_work}
-use Rattle.tex_program.specs.Calls.{AllStand, ReadingsStand, CallStands, IsStopped, HasWork, argument_bytes, call_away_moves}
-use Rattle.tex_program.specs.Stands.{ArePlain, page_of}
-use Rattle.tex_program.proofs.CallKept.{meant_by}
-
--- where no name means a macro, none is called
-none_meant : (id : ℕ) (cells : List (Meaning (Option ℕ))) → ArePlain cells → is_meant id cells ≡ true → ⊥
-none_meant id [] h is = cc
-none_meant id (means.Macro long outer list ∷ cells) h is = absurd h.0
-none_meant id (m ∷ cells) h is = none_meant id cells h.1 is
-
-pub no_call : (sizes : Sizes) (e : Engine) (c : Call) (book : Book) → e.call ≡ Some c → AllStand sizes e book → ⊥
-no_call sizes e c book is st = at book.work (subst (λ (x : Option Call). ReadingsStand x e book.number book.work) is st.all) where
-  at : (work : List Reading) → ReadingsStand (Some c) e book.number work → ⊥
-  at [] k = k
-  at (r ∷ rs) k = none_meant k.0.id e.input.meanings st.sound.plain (meant_by e.input.meanings c.name k.0.long k.0.outer k.0.id k.0.meaning)
+use Rattle.tex_program.specs.Book.{Book}
+use Rattle.tex_program.specs.Calls.{CallStands, IsStopped, HasWork, open_call, argument_bytes, call_away_moves}
+use Rattle.tex_program.specs.Rules.{WantsHere}
+use Rattle.frames.specs.declared.scan.Want.TheVariants.{Raw}
+use Rattle.tex_program.specs.Stands.{page_of}
 
 -- what the call is, where it asks for this
 pub asks_this : (e : Engine) (c : Call) (a : CallAsk) → e.call ≡ Some c → c.ask ≡ a → e.call ≡ Some (record { name = c.name; ask = a })
 asks_this e c a is same = is ∙ ap (λ (x : CallAsk). Some (record { name = c.name; ask = x })) same
+
+-- it takes a token as it stands
+pub call_wants : (e : Engine) (name : Name) → e.call ≡ Some (open_call name) → WantsHere e.call (Some Raw) e
+call_wants e name is = subst (λ (c : Option Call). WantsHere c (Some Raw) e) (sym is) (refl, refl)
 
 -- AN ARGUMENT THAT RUNS AWAY
 

@@ -1,21 +1,18 @@
 -- The next rule has a step exactly where the engine says so: of a call that gathers its arguments, or of a frame.
-use Rattle.std.proofs.Common.{◌≡◌, ℕ, List, [], ◌∷◌, ◌++◌, refl, sym, ap, ◌∙◌, arith, Bool, true, false}
-use Rattle.std.specs.Prelude.{Option, Some, None, if◌then◌else◌, ◌&&◌}
-use Rattle.tex_defs.specs.declared.Seen.{Seen}
+use Rattle.std.proofs.Common.{◌≡◌, List, [], ◌∷◌, refl, sym, ap, ◌∙◌, arith, true, false}
+use Rattle.std.specs.Prelude.{Option, Some, None, ◌&&◌}
 use Rattle.tex_defs.specs.declared.Sizes.{Sizes}
 use Rattle.tex_defs.specs.declared.Token.{Token}
 use Rattle.tex_defs.specs.declared.Name.{Name}
-use Rattle.tex_defs.specs.Places.{Transcript}
 use Rattle.plain_state.specs.Puts.{Put as PutList, Item, call_put}
 use Rattle.plain_state.specs.Pending.{pulled}
 use Rattle.plain_state.specs.Readings as reading
 use Rattle.plain_state.specs.Reports as reports
-use Rattle.plain_state.specs.States.{Reading, Move, Ended, Closed}
+use Rattle.plain_state.specs.States.{Reading, Closed}
 use Rattle.plain_state.specs.Tokens.{Raw}
-use Rattle.plain_machine.specs.Plan.{Page, page_of, answered, told, is_told, noting, reported, given_back, put_one, failed, failed_away, called_with, put_with, arguments_put, Scanning, scanning, away_text, page_behind, wanted, feeding, handed}
+use Rattle.plain_machine.specs.Plan.{Page, page_of, answered, given_back, failed, failed_away, called_with, arguments_put, Scanning, scanning, away_text, page_behind, wanted, feeding}
 use Rattle.plain_machine.specs.Runs.{steps}
 use Rattle.plain_machine.proofs.Joins.{StepComes, steps_join}
-use Rattle.input_state.specs.Callings.{Calling}
 use Rattle.input_state.specs.Reads.{gives_step}
 use Rattle.input_state.specs.Stored.{gathered}
 use Rattle.tex_program.specs.declared.call.Call.{Call}
@@ -27,18 +24,9 @@ use Rattle.tex_program.specs.Calls.{AllStand, ReadingsStand, asks_by, args_of}
 use Rattle.tex_program.specs.Stands.{state_of}
 use Rattle.tex_program.specs.Steps.{stepping, all_want, call_asks_more}
 use Rattle.tex_program.specs.Rules.{plan_of}
-use Rattle.tex_program.proofs.Stepping.{one_if, kind_none, handed_now, back_none, reported_none, noting_none, wanted_none, pulled_needs, frame_steps, frame_needs}
+use Rattle.tex_program.proofs.Stepping.{one_if, kind_none, handed_now, back_none, reported_none, told_none, wanted_none, pulled_needs, frame_steps, frame_needs}
 
 -- MOVES WITHOUT A STEP
-
-brace_none : (page : Page) (report : reports.Report) (t : Token) (r : Reading) → steps (told page report (Some t) true r) ≡ 0
-brace_none page report t r = by_told (is_told r.fed) where
-  whole : steps (given_back true r.fed ++ (put_one t ++ reported page report (noting r))) ≡ 0
-  whole = steps_join (given_back true r.fed) (put_one t ++ reported page report (noting r)) ∙ omega (arith, back_none true r.fed, reported_none page report (noting r) (noting_none r))
-
-  by_told : (b : Bool) → steps (if b then Ended (reading.Flag false) ∷ [] else given_back true r.fed ++ (put_one t ++ reported page report (noting r))) ≡ 0
-  by_told true = refl
-  by_told false = whole
 
 put_none : (p : PutList) (items : List Item) → steps (arguments_put p items) ≡ 0
 put_none p [] = refl
@@ -62,7 +50,7 @@ away_none page report (Some s) fed =
 call_steps : (e : Engine) (book : Book) (r : Reading) (name : Name) (a : CallAsk) → steps (answered (state_of e book) book.work r (asks_by name a e.input.call)) ≡ one_if (call_asks_more a && gives_step (pulled e.categories e.input.pending))
 call_steps e book r name call.More = let page = page_of (state_of e book) in
     handed_now e book page true (scanning book.work (gathered e.input)) (λ x. wanted page Raw (feeding r x) x) (λ x. wanted_none page Raw (feeding r x) x (kind_none r.kind r.fed x))
-call_steps e book r name (call.ExtraBrace x) = brace_none (page_of (state_of e book)) (reports.ExtraBrace name) reading.par_token r
+call_steps e book r name (call.ExtraBrace x) = told_none (page_of (state_of e book)) (reports.ExtraBrace name) (Some reading.par_token) true r
 call_steps e book r name call.Gathered = called_none r.kind (args_of e.input.call)
 call_steps e book r name call.Mismatch = failed_none (page_of (state_of e book)) (reports.UseMismatch name)
 call_steps e book r name (call.ParEnded (Some x)) = away_none (page_of (state_of e book)) (reports.ParagraphEnded name) (scanning book.work (gathered e.input)) r.fed

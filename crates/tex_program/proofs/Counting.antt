@@ -69,6 +69,10 @@ inner_count sizes e waiting book o h = record { sound = h.sound; depth = uncount
   at [] w = absurd w
   at (r ∷ rs) w = top_depth r e.outer.items rs w.1 ∙ ap (λ (n : ℕ). length e.outer.items + n) (sym (open_count e.top o))
 
+pub none_of : {A : Type 0} → (o : Option A) → ((x : A) → o ≡ Some x → ⊥) → o ≡ None
+none_of None h = refl
+none_of (Some x) h = absurd (h x refl)
+
 -- so many words more, by the machine and by the input
 pub words_more : (sizes : Sizes) (e : Engine) (book : Book) (need : ℕ) (o : Option Full) → IsSound sizes e book.number book.macros →
     refused e.input.sizes (memory need (stored_words e.input) ∷ []) ≡ o → refused sizes (memory need (words (state_of e book)) ∷ []) ≡ o

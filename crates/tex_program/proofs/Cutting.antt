@@ -4,7 +4,7 @@ use Rattle.std.specs.Prelude.{Bool, Some}
 use Rattle.tex_defs.specs.declared.Sizes.{Sizes}
 use Rattle.tex_defs.specs.declared.Full.{Full}
 use Rattle.tex_defs.specs.Places.{World, Place, Transcript, OfFile, grown}
-use Rattle.plain_state.specs.States.{State, Reading, Move, Written}
+use Rattle.plain_state.specs.States.{State, Move, Written}
 use Rattle.plain_state.specs.Tables.{refusal}
 use Rattle.plain_machine.specs.Runs.{Wrote, after}
 use Rattle.plain_machine.specs.Does.{Did, IsFault, IsWant}

@@ -1,36 +1,40 @@
 -- A reading that is fed goes on.
-use Rattle.std.proofs.Common.{◌≡◌, ℕ, ◌+◌, ◌≤◌, Bool, true, false, List, [], ◌∷◌, ◌++◌, length, drop, refl, sym, ap, ◌∙◌, append_assoc, subst, reverse, arith}
+use Rattle.std.proofs.Common.{◌≡◌, ℕ, ◌+◌, Bool, false, List, [], ◌∷◌, ◌++◌, length, drop, refl, sym, ap, ◌∙◌, append_assoc, subst, reverse, arith}
 use Rattle.std.specs.Prelude.{Option, Some, None, option_to_list}
 use Rattle.std.proofs.lemmas.List.{append-nil, reverse-append}
 use Rattle.tex_defs.specs.declared.Seen.{Seen}
 use Rattle.tex_defs.specs.declared.Token.{Token}
 use Rattle.tex_defs.specs.declared.Name.{Name}
 use Rattle.tex_defs.specs.declared.Sizes.{Sizes}
-use Rattle.plain_state.specs.Readings.{Fed, Tok, Val, Told, Cut, Value, own_lists}
+use Rattle.list_builder.specs.declared.stage.Stage.{Stage}
+use Rattle.plain_state.specs.Readings.{Fed, Tok, Val, Told, Cut, Value, own_lists, manner}
 use Rattle.plain_state.specs.Readings as reading
 use Rattle.plain_state.specs.States.{Reading, fed_with, ended_with, beneath, fresh}
 use Rattle.plain_machine.specs.Plan.{last_seen, is_told}
 use Rattle.frames.specs.declared.scan.Ask.{Ask}
-use Rattle.frames.specs.declared.scan.Ask.TheVariants.{More, Inner, Done, Act, Tells}
+use Rattle.frames.specs.declared.scan.Ask.TheVariants.{More, Inner, Done, Act, Tells, Inserts}
+use Rattle.frames.specs.declared.scan.Answer.{Answer}
 use Rattle.frames.specs.declared.frame.Frame.{Frame}
-use Rattle.frames.specs.declared.frame.Frame.TheVariants.{Waits, Integer, Text}
+use Rattle.frames.specs.declared.frame.Frame.TheVariants.{Waits, Integer, Text, Definition}
 use Rattle.frames.specs.declared.frame.Waiting.{Waiting}
-use Rattle.frames.specs.declared.frame.Waiting.TheVariants.{Catcode, Message, Prefixed}
+use Rattle.frames.specs.declared.frame.Waiting.TheVariants.{Catcode, Message, Prefixed, Define}
 use Rattle.frames.specs.declared.scan.Value.TheVariants as values
 use Rattle.frames.specs.declared.scan.Value.{Value as EngineValue}
 use Rattle.frames.specs.declared.text.TextScan.{TextScan}
 use Rattle.frames.specs.Sees.{ask_of, value_of, first_list}
 use Rattle.frames.specs.Texts.{text_list}
-use Rattle.frames.specs.Resumes.{resume, resume_waiting, frame_list, frame_kind, frame_grows, lists_after, IsOpen, IsUntold, IsBack, GivesBack, IsNone, GivesNone, InnerWaits, Builds, IsShallow, Owns, MayFeed, waiting_kind, is_built}
+use Rattle.frames.specs.Definitions.{stage_list}
+use Rattle.frames.specs.Resumes.{resume, resume_waiting, frame_list, frame_kind, grow_first, grown_by, lists_behind, IsOpen, IsUntold, IsBack, GivesBack, IsNone, GivesNone, InnerWaits, BeginsBare, Builds, IsShallow, Owns, waiting_kind}
 use Rattle.frames.specs.Stack.{Stack}
-use Rattle.name_table.specs.Strings.{Strings}
 use Rattle.tex_program.specs.declared.engine.Engine.{Engine}
 use Rattle.tex_program.specs.Book.{Book, with_work}
-use Rattle.tex_program.specs.Stands.{Stands, WaitsFirst, WaitsWith, Waits as WaitsFor, WaitStands, WorkStands, OuterStand, WaitingStands, EndsHere, FrameStands, Innermost, FedFrame, IsSound, IsUncalled, SameState, IsLone, IsTaken, IsLast, GivesLast, TellsOnce, BeginsBuilt, AtMostOne, kept_lists, other_lists}
+use Rattle.tex_program.specs.Chained.{AreChained}
+use Rattle.tex_program.specs.Stands.{Stands, WaitsFirst, WaitsWith, WorkStands, OuterStand, WaitingStands, EndsHere, FrameStands, Innermost, IsSound, IsUncalled, SameState, IsLone, AreOrderly, IsTaken, IsLast, GivesLast, TellsOnce, AtMostOne, kept_lists, other_lists}
 use Rattle.input_state.specs.Callings.{NotCalling}
 use Rattle.input_state.specs.Stored.{Stored, gathered}
 use Rattle.tex_program.specs.Begins.{IsCommand}
 use Rattle.tex_program.proofs.Bare.{bare}
+use Rattle.tex_program.proofs.Chained.{chained_fed}
 use Rattle.tex_program.proofs.Storing.{sound_still}
 
 -- THE LAST OF WHAT IT WAS FED WITH
@@ -53,6 +57,7 @@ gives_last (Inner waits kind begins) fed x h = back_last begins fed x h
 gives_last (Done v back) fed x h = back_last back fed x h
 gives_last (Act e) fed x h = tt
 gives_last (Tells report back) fed x h = back_last back fed x h
+gives_last (Inserts t report back) fed x h = back_last back fed x h
 
 none_last : (b : Option Seen) (fed : List Fed) → IsNone b → IsLast b fed
 none_last None fed h = tt
@@ -64,6 +69,7 @@ gives_none (Inner waits kind begins) fed h = none_last begins fed h
 gives_none (Done v back) fed h = none_last back fed h
 gives_none (Act e) fed h = tt
 gives_none (Tells report back) fed h = none_last back fed h
+gives_none (Inserts t report back) fed h = none_last back fed h
 
 untold_tok : (fed : List Fed) (x : Seen) → is_told (fed ++ Tok x ∷ []) ≡ false
 untold_tok [] x = refl
@@ -87,6 +93,7 @@ once_at (Inner waits kind begins) fed h = tt
 once_at (Done v back) fed h = tt
 once_at (Act e) fed h = tt
 once_at (Tells report back) fed h = h
+once_at (Inserts t report back) fed h = h
 
 pub once_tok : (a : Ask) (fed : List Fed) (x : Seen) → TellsOnce a (fed ++ Tok x ∷ [])
 once_tok a fed x = once_at a (fed ++ Tok x ∷ []) (untold_tok fed x)
@@ -100,23 +107,27 @@ once_untold (Inner waits kind begins) fed h = tt
 once_untold (Done v back) fed h = tt
 once_untold (Act e) fed h = tt
 once_untold (Tells report back) fed h = absurd h
+once_untold (Inserts t report back) fed h = absurd h
 
 -- THE LISTS THAT IT HOLDS
 
 -- a reading of this kind holds the list that it builds, and else none
 abbrev pub OwnedBy : reading.Kind → List (List Token) → Type 0
 OwnedBy (reading.Text name) lists = lists ≡ first_list lists ∷ []
+OwnedBy (reading.Definition name expanded) lists = lists ≡ first_list lists ∷ []
 OwnedBy k lists = lists ≡ []
 
-text_owned : (lists : List (List Token)) (ts : List Token) → lists ≡ ts ∷ [] → lists ≡ first_list lists ∷ []
-text_owned lists ts h = h ∙ ap (λ (x : List Token). x ∷ []) (sym (ap first_list h))
+one_owned : (lists : List (List Token)) (ts : List Token) → lists ≡ ts ∷ [] → lists ≡ first_list lists ∷ []
+one_owned lists ts h = h ∙ ap (λ (x : List Token). x ∷ []) (sym (ap first_list h))
 
 pub owned_of : (f : Frame) (lists : List (List Token)) → Owns f lists → OwnedBy (frame_kind f) lists
 owned_of (Waits (Catcode scan)) lists h = h
 owned_of (Waits (Message name)) lists h = h
 owned_of (Waits (Prefixed long outer scan)) lists h = h
+owned_of (Waits (Define expanded scan)) lists h = h
 owned_of (Integer scan) lists h = h
-owned_of (Text name scan) lists h = text_owned lists _ h
+owned_of (Text name scan) lists h = one_owned lists _ h
+owned_of (Definition name expanded scan) lists h = one_owned lists _ h
 
 few_none : (lists : List (List Token)) → lists ≡ [] → AtMostOne lists
 few_none lists h = subst AtMostOne (sym h) tt
@@ -126,59 +137,72 @@ few_one lists ts h = subst AtMostOne (sym h) tt
 
 pub few_owned : (k : reading.Kind) (lists : List (List Token)) → OwnedBy k lists → AtMostOne lists
 few_owned (reading.Text name) lists h = few_one lists _ h
+few_owned (reading.Definition name expanded) lists h = few_one lists _ h
 few_owned k lists h = few_none lists h
 
 -- the list gets a token, or doesn't
-one_after : (grows : Bool) (x : Seen) (lists : List (List Token)) → lists ≡ first_list lists ∷ [] → lists_after grows x lists ≡ first_list (lists_after grows x lists) ∷ []
-one_after grows x [] h = absurd cc
-one_after true x (ts ∷ lists) h = let k : lists ≡ [] = cc in ap (λ (l : List (List Token)). (ts ++ x.token ∷ []) ∷ l) k
-one_after false x (ts ∷ lists) h = h
+pub grown_none : (o : Option Token) (lists : List (List Token)) → lists ≡ [] → grown_by o lists ≡ []
+grown_none None lists h = h
+grown_none (Some t) lists h = ap (grow_first t) h
 
-pub owned_after : (f : Frame) (x : Seen) (lists : List (List Token)) → OwnedBy (frame_kind f) lists → OwnedBy (frame_kind f) (lists_after (frame_grows f x) x lists)
-owned_after (Waits (Catcode scan)) x lists h = h
-owned_after (Waits (Message name)) x lists h = h
-owned_after (Waits (Prefixed long outer scan)) x lists h = h
-owned_after (Integer scan) x lists h = h
-owned_after (Text name scan) x lists h = one_after (frame_grows (Text name scan) x) x lists h
+grown_one : (o : Option Token) (lists : List (List Token)) (ts : List Token) → lists ≡ ts ∷ [] → grown_by o lists ≡ first_list (grown_by o lists) ∷ []
+grown_one None lists ts h = one_owned lists ts h
+grown_one (Some t) lists ts h = one_owned (grow_first t lists) (ts ++ t ∷ []) (ap (grow_first t) h)
+
+owned_grown : (k : reading.Kind) (o : Option Token) (lists : List (List Token)) → OwnedBy k lists → OwnedBy k (grown_by o lists)
+owned_grown (reading.Text name) o lists h = grown_one o lists _ h
+owned_grown (reading.Definition name expanded) o lists h = grown_one o lists _ h
+owned_grown k o lists h = grown_none o lists h
+
+pub owned_behind : (k : reading.Kind) (a : Answer) (lists : List (List Token)) → OwnedBy k lists → OwnedBy k (lists_behind a lists)
+owned_behind k a lists h = owned_grown k a.second (grown_by a.first lists) (owned_grown k a.first lists h)
 
 -- it has as many lists then
-pub after_length : (grows : Bool) (x : Seen) (lists : List (List Token)) → length (lists_after grows x lists) ≡ length lists
-after_length true x [] = refl
-after_length true x (ts ∷ lists) = refl
-after_length false x lists = refl
+grown_length : (o : Option Token) (lists : List (List Token)) → length (grown_by o lists) ≡ length lists
+grown_length None lists = refl
+grown_length (Some t) [] = refl
+grown_length (Some t) (ts ∷ lists) = refl
 
--- A TOKEN WITH WHICH AN INNER READING BEGINS
+pub behind_length : (a : Answer) (lists : List (List Token)) → length (lists_behind a lists) ≡ length lists
+behind_length a lists = grown_length a.second (grown_by a.first lists) ∙ grown_length a.first lists
 
-begins_built : (a : Ask) (x : Seen) → GivesBack a x → is_built x.meaning ≡ true → BeginsBuilt a
-begins_built (More want) x h is = tt
-begins_built (Inner waits kind None) x h is = tt
-begins_built (Inner waits kind (Some back)) x h is = ap (λ (y : Seen). is_built y.meaning) h ∙ is
-begins_built (Done v back) x h is = tt
-begins_built (Act e) x h is = tt
-begins_built (Tells report back) x h is = tt
-
-none_built : (a : Ask) → GivesNone a → BeginsBuilt a
-none_built (More want) h = tt
-none_built (Inner waits kind None) h = tt
-none_built (Inner waits kind (Some back)) h = absurd h
-none_built (Done v back) h = tt
-none_built (Act e) h = tt
-none_built (Tells report back) h = tt
+-- where no token is read again, no inner reading begins with one
+none_bare : (a : Ask) → GivesNone a → BeginsBare a
+none_bare (More want) h = tt
+none_bare (Inner waits kind None) h = tt
+none_bare (Inner waits kind (Some back)) h = absurd h
+none_bare (Done v back) h = tt
+none_bare (Act e) h = tt
+none_bare (Tells report back) h = tt
+none_bare (Inserts t report back) h = tt
 
 -- the list that it builds, as its reading holds it
 owns_text : (f : Frame) (scan : TextScan) (name : Name) (lists now : List (List Token)) (fed : List Fed) → frame_kind f ≡ reading.Text name → Builds f lists now fed → frame_list f lists fed ≡ text_list scan (first_list now) [] → text_list scan (first_list now) [] ≡ first_list now
 owns_text (Waits (Catcode s)) scan name lists now fed k b h = absurd cc
 owns_text (Waits (Message n)) scan name lists now fed k b h = absurd cc
 owns_text (Waits (Prefixed long outer s)) scan name lists now fed k b h = absurd cc
+owns_text (Waits (Define expanded s)) scan name lists now fed k b h = absurd cc
 owns_text (Integer s) scan name lists now fed k b h = absurd cc
 owns_text (Text n s) scan name lists now fed k b h = sym h ∙ b
+owns_text (Definition n expanded s) scan name lists now fed k b h = absurd cc
+
+owns_stage : (f : Frame) (scan : Stage) (name : Name) (expanded : Bool) (lists now : List (List Token)) (fed : List Fed) → frame_kind f ≡ reading.Definition name expanded → Builds f lists now fed → frame_list f lists fed ≡ stage_list (manner name expanded) scan (first_list now) [] → now ≡ stage_list (manner name expanded) scan (first_list now) [] ∷ []
+owns_stage (Waits (Catcode s)) scan name expanded lists now fed k b h = absurd cc
+owns_stage (Waits (Message n)) scan name expanded lists now fed k b h = absurd cc
+owns_stage (Waits (Prefixed long outer s)) scan name expanded lists now fed k b h = absurd cc
+owns_stage (Waits (Define e s)) scan name expanded lists now fed k b h = absurd cc
+owns_stage (Integer s) scan name expanded lists now fed k b h = absurd cc
+owns_stage (Text n s) scan name expanded lists now fed k b h = absurd cc
+owns_stage (Definition n e s) scan name expanded lists now fed k b h = b ∙ ap (λ (ts : List Token). ts ∷ []) h
 
 owns_now : (f f' : Frame) (lists now : List (List Token)) (fed : List Fed) → OwnedBy (frame_kind f') now → frame_kind f' ≡ frame_kind f → Builds f lists now fed → frame_list f lists fed ≡ frame_list f' now [] → Owns f' now
 owns_now f (Waits (Catcode s)) lists now fed o k b h = o
 owns_now f (Waits (Message n)) lists now fed o k b h = o
 owns_now f (Waits (Prefixed long outer s)) lists now fed o k b h = o
+owns_now f (Waits (Define expanded s)) lists now fed o k b h = o
 owns_now f (Integer s) lists now fed o k b h = o
 owns_now f (Text name scan) lists now fed o k b h = o ∙ ap (λ (ts : List Token). ts ∷ []) (sym (owns_text f scan name lists now fed (sym k) b h))
+owns_now f (Definition name expanded scan) lists now fed o k b h = owns_stage f scan name expanded lists now fed (sym k) b h
 
 -- WHAT IT ANSWERS
 
@@ -193,10 +217,10 @@ pub record GoesOn (a : Ask) (frame frame' : Frame) (lists now : List (List Token
   pub shallow : IsShallow frame' now
   pub waits : InnerWaits a frame'
 
-inner_on : (a' : Ask) (frame frame' : Frame) (lists now : List (List Token)) (x : Fed) (r : Reading) → FrameStands frame lists r → r.holds ≡ length lists → length now ≡ length lists → BeginsBuilt a' →
+inner_on : (a' : Ask) (frame frame' : Frame) (lists now : List (List Token)) (x : Fed) (r : Reading) → FrameStands frame lists r → r.holds ≡ length lists → length now ≡ length lists → BeginsBare a' →
     GoesOn a' frame frame' lists now x → GivesLast a' (r.fed ++ x ∷ []) → TellsOnce a' (r.fed ++ x ∷ []) →
     Innermost a' frame' now (record { kind = r.kind; fed = r.fed ++ x ∷ []; lent = false; holds = r.holds })
-inner_on a' frame frame' lists now x r below holds long built g last once =
+inner_on a' frame frame' lists now x r below holds long bare g last once =
     let owned' : OwnedBy (frame_kind frame') now = subst (λ (k : reading.Kind). OwnedBy k now) (sym g.kind) g.owned in
     record {
       asked = g.answer ∙ sym (below.goes_on (x ∷ []));
@@ -211,20 +235,20 @@ inner_on a' frame frame' lists now x r below holds long built g last once =
       holds = holds ∙ sym long;
       few = few_owned (frame_kind frame) now g.owned;
       last = last;
-      built = built;
+      bare = bare;
       once = once;
       not_lent = refl;
     }
 
-pub fed_on : (a' : Ask) (frame frame' : Frame) (lists now : List (List Token)) (x : Seen) (r : Reading) → FrameStands frame lists r → r.holds ≡ length lists → length now ≡ length lists → is_built x.meaning ≡ true →
+pub fed_on : (a' : Ask) (frame frame' : Frame) (lists now : List (List Token)) (x : Seen) (r : Reading) → FrameStands frame lists r → r.holds ≡ length lists → length now ≡ length lists → BeginsBare a' →
     GoesOn a' frame frame' lists now (Tok x) → GivesBack a' x → Innermost a' frame' now (record { kind = r.kind; fed = r.fed ++ Tok x ∷ []; lent = false; holds = r.holds })
-fed_on a' frame frame' lists now x r below holds long built g back =
-    inner_on a' frame frame' lists now (Tok x) r below holds long (begins_built a' x back built) g (gives_last a' r.fed x back) (once_tok a' r.fed x)
+fed_on a' frame frame' lists now x r below holds long bare g back =
+    inner_on a' frame frame' lists now (Tok x) r below holds long bare g (gives_last a' r.fed x back) (once_tok a' r.fed x)
 
-pub told_on : (a' : Ask) (frame frame' : Frame) (lists : List (List Token)) (r : Reading) → FrameStands frame lists r → r.holds ≡ length lists →
-    GoesOn a' frame frame' lists lists Told → GivesNone a' → IsUntold a' → Innermost a' frame' lists (record { kind = r.kind; fed = r.fed ++ Told ∷ []; lent = false; holds = r.holds })
-told_on a' frame frame' lists r below holds g none untold =
-    inner_on a' frame frame' lists lists Told r below holds refl (none_built a' none) g (gives_none a' (r.fed ++ Told ∷ []) none) (once_untold a' (r.fed ++ Told ∷ []) untold)
+pub told_on : (a' : Ask) (frame frame' : Frame) (lists now : List (List Token)) (r : Reading) → FrameStands frame lists r → r.holds ≡ length lists → length now ≡ length lists →
+    GoesOn a' frame frame' lists now Told → GivesNone a' → IsUntold a' → Innermost a' frame' now (record { kind = r.kind; fed = r.fed ++ Told ∷ []; lent = false; holds = r.holds })
+told_on a' frame frame' lists now r below holds long g none untold =
+    inner_on a' frame frame' lists now Told r below holds long (none_bare a' none) g (gives_none a' (r.fed ++ Told ∷ []) none) (once_untold a' (r.fed ++ Told ∷ []) untold)
 
 -- THE ENGINE
 
@@ -237,12 +261,12 @@ uncalled_on e e' same h = record { none = same.others.call ∙ h.none; input = s
 
 -- with this innermost reading
 pub stands_now : (sizes : Sizes) (e e' : Engine) (frame : Frame) (r : Reading) (rs : List Reading) (book : Book) → SameState e e' → IsSound sizes e book.number book.macros → e.input.making ≡ None → IsUncalled e →
-    e'.top ≡ Some frame → Innermost e'.ask frame e'.input.builds r → OuterStand (reverse e'.outer.items) rs → IsLone (r ∷ rs) → Stands sizes e' (with_work (r ∷ rs) book)
-stands_now sizes e e' frame r rs book same sound idle uncalled top inner outer lone = record {
+    e'.top ≡ Some frame → Innermost e'.ask frame e'.input.builds r → OuterStand (reverse e'.outer.items) rs → AreOrderly (r ∷ rs) → Stands sizes e' (with_work (r ∷ rs) book)
+stands_now sizes e e' frame r rs book same sound idle uncalled top inner outer orderly = record {
   sound = sound_on sizes e e' book.number book.macros same sound;
   idle = same.making ∙ idle;
   readings = subst (λ (t : Option Frame). WorkStands e'.ask t e'.outer.items e'.input.builds (r ∷ rs)) (sym top) (inner, outer);
-  lone = lone;
+  orderly = orderly;
   uncalled = uncalled_on e e' same uncalled;
 }
 
@@ -251,39 +275,32 @@ lone_fed : (x : Fed) (r : Reading) (rs : List Reading) → IsLone (r ∷ rs) →
 lone_fed x r [] h = h
 lone_fed x r (s ∷ rs) h = tt
 
--- behind a token that its frame was fed with
-pub feeds_on : (sizes : Sizes) (e e' : Engine) (f frame frame' : Frame) (x : Seen) (lists : List (List Token)) (r : Reading) (rs : List Reading) (book : Book) → SameState e e' → f ≡ frame →
-    FedFrame sizes e f x lists r rs book → e'.top ≡ Some frame' → GivesBack e'.ask x → e'.outer ≡ e.outer → length e'.input.builds ≡ length lists →
-    (MayFeed frame x lists → IsShallow frame lists → OwnedBy (frame_kind frame) (lists_after (frame_grows frame x) x lists) → GoesOn e'.ask frame frame' lists e'.input.builds (Tok x)) →
-    Stands sizes e' (with_work (fed_with (Tok x) (r ∷ rs)) book)
-feeds_on sizes e e' f frame frame' x lists r rs book same is h top back outer long g =
-    let below : FrameStands frame lists r = subst (λ (y : Frame). FrameStands y lists r) is h.frame in
-    let may : MayFeed frame x lists = subst (λ (y : Frame). MayFeed y x lists) is h.may_feed in
-    let on = g may below.shallow (owned_after frame x lists (owned_of frame lists below.owns)) in
-    stands_now sizes e e' frame' (record { kind = r.kind; fed = r.fed ++ Tok x ∷ []; lent = false; holds = r.holds }) rs book same h.sound h.idle h.uncalled top (fed_on e'.ask frame frame' lists e'.input.builds x r below h.holds long h.built on back)
-    (subst (λ (o : Stack). OuterStand (reverse o.items) rs) (sym outer) h.outer) (lone_fed (Tok x) r rs h.lone)
+pub orderly_fed : (x : Seen) (r : Reading) (rs : List Reading) → AreOrderly (r ∷ rs) → AreOrderly (fed_with (Tok x) (r ∷ rs))
+orderly_fed x r rs h = record { lone = lone_fed (Tok x) r rs h.lone; chained = chained_fed x (r ∷ rs) h.chained }
 
--- a note changes no list
-told_builds : (f : Frame) (lists : List (List Token)) → Owns f lists → Builds f lists lists []
+module _ (sizes : Sizes) (e e' : Engine) (f frame' : Frame) (r : Reading) (rs : List Reading) (book : Book) (same : SameState e e') (sound : IsSound sizes e book.number book.macros) (idle : e.input.making ≡ None) (uncalled : IsUncalled e)
+    (below : FrameStands f e.input.builds r) (holds : r.holds ≡ length e.input.builds) (outer : OuterStand (reverse e.outer.items) rs) (top : e'.top ≡ Some frame') (keeps : e'.outer ≡ e.outer) (long : length e'.input.builds ≡ length e.input.builds) where
+  outer_now : OuterStand (reverse e'.outer.items) rs
+  outer_now = subst (λ (o : Stack). OuterStand (reverse o.items) rs) (sym keeps) outer
+
+  -- behind a token that its frame was fed with
+  pub feeds_on : (x : Seen) → AreOrderly (r ∷ rs) → GivesBack e'.ask x → BeginsBare e'.ask → GoesOn e'.ask f frame' e.input.builds e'.input.builds (Tok x) → Stands sizes e' (with_work (fed_with (Tok x) (r ∷ rs)) book)
+  feeds_on x orderly back bare g =
+      stands_now sizes e e' frame' (record { kind = r.kind; fed = r.fed ++ Tok x ∷ []; lent = false; holds = r.holds }) rs book same sound idle uncalled top
+      (fed_on e'.ask f frame' e.input.builds e'.input.builds x r below holds long bare g back) outer_now (orderly_fed x r rs orderly)
+
+  -- behind the note that its report was written
+  pub notes_on : IsLone (r ∷ rs) → AreChained (fed_with Told (r ∷ rs)) → GivesNone e'.ask → IsUntold e'.ask → GoesOn e'.ask f frame' e.input.builds e'.input.builds Told → Stands sizes e' (with_work (fed_with Told (r ∷ rs)) book)
+  notes_on lone chained none untold g =
+      stands_now sizes e e' frame' (record { kind = r.kind; fed = r.fed ++ Told ∷ []; lent = false; holds = r.holds }) rs book same sound idle uncalled top
+      (told_on e'.ask f frame' e.input.builds e'.input.builds r below holds long g none untold) outer_now (record { lone = lone_fed Told r rs lone; chained = chained })
+
+-- a note that comes changes the list that is built from what its reading holds
+pub told_builds : (f : Frame) (lists : List (List Token)) → Owns f lists → Builds f lists lists []
 told_builds (Waits w) lists h = tt
 told_builds (Integer scan) lists h = tt
 told_builds (Text name scan) lists h = sym (ap first_list h)
-
--- behind the note that its report was written
-pub notes_on : (sizes : Sizes) (e e' : Engine) (f frame' : Frame) (book : Book) → SameState e e' → e.top ≡ Some f → WaitsFor sizes e book → e'.top ≡ Some frame' → GivesNone e'.ask → IsUntold e'.ask → e'.outer ≡ e.outer →
-    e'.input.builds ≡ e.input.builds →
-    ((lists : List (List Token)) → Builds f lists lists [] → IsShallow f lists → OwnedBy (frame_kind f) lists → GoesOn e'.ask f frame' lists lists Told) →
-    Stands sizes e' (with_work (fed_with Told book.work) book)
-notes_on sizes e e' f frame' book same is h top none untold outer lists g = at book.work (subst (λ (t : Option Frame). WaitStands t e.outer.items e.input.builds book.work) is h.readings) h.lone where
-  at : (work : List Reading) → WaitStands (Some f) e.outer.items e.input.builds work → IsLone work → Stands sizes e' (with_work (fed_with Told work) book)
-  at [] w lone = absurd w
-  at (r ∷ rs) w lone =
-      let below : FrameStands f e.input.builds r = w.0 in
-      let on = g e.input.builds (told_builds f e.input.builds below.owns) below.shallow (owned_of f e.input.builds below.owns) in
-      let inner = told_on e'.ask f frame' e.input.builds r below w.1.0 on none untold in
-      stands_now sizes e e' frame' (record { kind = r.kind; fed = r.fed ++ Told ∷ []; lent = false; holds = r.holds }) rs book same h.sound h.idle h.uncalled top
-      (subst (λ (l : List (List Token)). Innermost e'.ask frame' l (record { kind = r.kind; fed = r.fed ++ Told ∷ []; lent = false; holds = r.holds })) (sym lists) inner)
-      (subst (λ (o : Stack). OuterStand (reverse o.items) rs) (sym outer) w.1.1) (lone_fed Told r rs lone)
+told_builds (Definition name expanded scan) lists h = h
 
 -- THE READING BENEATH
 
@@ -345,6 +362,7 @@ no_text : (w : Waiting) (fed : List Fed) → reading.so_far (waiting_kind w) fed
 no_text (Catcode scan) fed = refl
 no_text (Message name) fed = refl
 no_text (Prefixed long outer scan) fed = refl
+no_text (Define expanded scan) fed = refl
 
 -- a command that is fed with a value goes on as this one
 pub record GoesBy (a : Ask) (waiting waiting' : Waiting) (lists : List (List Token)) (value : EngineValue) : Type 0 where
@@ -373,7 +391,7 @@ value_on a w w' lists value r few below g =
       holds = omega (arith, below.none, ap (length {A = List Token}) kept);
       few = subst AtMostOne (sym kept) (few_value v);
       last = gives_none a (r.fed ++ Val v ∷ []) g.none;
-      built = none_built a g.none;
+      bare = none_bare a g.none;
       once = once_val a r.fed v;
       not_lent = refl;
     }
@@ -383,6 +401,7 @@ waits_command : (w : Waiting) → IsCommand (waiting_kind w)
 waits_command (Catcode scan) = tt
 waits_command (Message name) = tt
 waits_command (Prefixed long outer scan) = tt
+waits_command (Define expanded scan) = tt
 
 lone_command : (w : Waiting) (v : Value) (r0 r : Reading) (rs : List Reading) → r.kind ≡ waiting_kind w → IsLone (ended_with v (r0 ∷ r ∷ rs))
 lone_command w v r0 r [] is = subst IsCommand (sym is) (waits_command w)
@@ -392,12 +411,12 @@ lone_command w v r0 r (s ∷ rs) is = tt
 pub ends_on : (sizes : Sizes) (e e' : Engine) (w w' : Waiting) (value : EngineValue) (r0 : Reading) (rs : List Reading) (book : Book) → SameState e e' → EndsHere sizes e (value_of e.input.builds value) r0 rs book → e.outer.items ≡ e'.outer.items ++ w ∷ [] →
     e'.top ≡ Some (Waits w') → e'.input.builds ≡ kept_lists value e.input.builds → GoesBy e'.ask w w' e.input.builds value → Stands sizes e' (with_work (ended_with (value_of e.input.builds value) (r0 ∷ rs)) book)
 ends_on sizes e e' w w' value r0 rs book same h items top lists g =
-    at rs (subst (λ (l : List Waiting). OuterStand l rs) (ap (λ (l : List Waiting). reverse l) items ∙ reverse-append e'.outer.items (w ∷ [])) h.outer) where
-      at : (rs : List Reading) → OuterStand (w ∷ reverse e'.outer.items) rs → Stands sizes e' (with_work (ended_with (value_of e.input.builds value) (r0 ∷ rs)) book)
-      at [] o = absurd o
-      at (r ∷ rs) o = stands_now sizes e e' (Waits w') (record { kind = r.kind; fed = r.fed ++ Val (value_of e.input.builds value) ∷ []; lent = false; holds = r.holds + length (reading.value_lists (value_of e.input.builds value)) }) rs book same h.sound h.idle h.uncalled top
+    at rs (subst (λ (l : List Waiting). OuterStand l rs) (ap (λ (l : List Waiting). reverse l) items ∙ reverse-append e'.outer.items (w ∷ [])) h.outer) h.chained where
+      at : (rs : List Reading) → OuterStand (w ∷ reverse e'.outer.items) rs → AreChained (ended_with (value_of e.input.builds value) (r0 ∷ rs)) → Stands sizes e' (with_work (ended_with (value_of e.input.builds value) (r0 ∷ rs)) book)
+      at [] o chained = absurd o
+      at (r ∷ rs) o chained = stands_now sizes e e' (Waits w') (record { kind = r.kind; fed = r.fed ++ Val (value_of e.input.builds value) ∷ []; lent = false; holds = r.holds + length (reading.value_lists (value_of e.input.builds value)) }) rs book same h.sound h.idle h.uncalled top
           (subst (λ (l : List (List Token)). Innermost e'.ask (Waits w') l (record { kind = r.kind; fed = r.fed ++ Val (value_of e.input.builds value) ∷ []; lent = false; holds = r.holds + length (reading.value_lists (value_of e.input.builds value)) })) (sym lists) (value_on e'.ask w w' e.input.builds value r h.few o.0 g)) o.1
-          (lone_command w (value_of e.input.builds value) r0 r rs o.0.kind)
+          (record { lone = lone_command w (value_of e.input.builds value) r0 r rs o.0.kind; chained = chained })
 
 -- no reading is beneath
 pub ends_last : (sizes : Sizes) (e e' : Engine) (value : EngineValue) (r : Reading) (rs : List Reading) (book : Book) → SameState e e' → EndsHere sizes e (value_of e.input.builds value) r rs book → e.outer.items ≡ [] → e'.outer.items ≡ [] →
@@ -408,7 +427,7 @@ ends_last sizes e e' value r rs book same h none outer top lists = at rs (subst 
     sound = sound_on sizes e e' book.number book.macros same h.sound;
     idle = same.making ∙ h.idle;
     readings = subst (λ (t : Option Frame). WorkStands e'.ask t e'.outer.items e'.input.builds []) (sym top) (outer, lists ∙ few_others e.input.builds h.few);
-    lone = tt;
+    orderly = record { lone = tt; chained = tt };
     uncalled = uncalled_on e e' same h.uncalled;
   }
   at (s ∷ rs) o = absurd o
@@ -420,8 +439,8 @@ pub record StartsAs (a : Ask) (frame : Frame) (k : reading.Kind) : Type 0 where
   pub none : GivesNone a
   pub untold : IsUntold a
   pub waits : InnerWaits a frame
-  pub stands : (lists : List (List Token)) (fed : List Fed) → reading.ask k fed ≡ resume frame lists fed
-  pub list : (lists : List (List Token)) (fed : List Fed) → reading.so_far k fed ≡ frame_list frame lists fed
+  pub stands : (fed : List Fed) → reading.ask k fed ≡ resume frame (own_lists k) fed
+  pub list : (fed : List Fed) → reading.so_far k fed ≡ frame_list frame (own_lists k) fed
   pub kind : frame_kind frame ≡ k
   pub builds : Builds frame (own_lists k) (own_lists k) []
   pub shallow : IsShallow frame (own_lists k)
@@ -431,7 +450,9 @@ first_owned (Waits (Catcode scan)) = refl
 first_owned (Waits (Message name)) = refl
 first_owned (Waits (Prefixed long outer scan)) = refl
 first_owned (Integer scan) = refl
+first_owned (Waits (Define expanded scan)) = refl
 first_owned (Text name scan) = refl
+first_owned (Definition name expanded scan) = refl
 
 first_inner : (a : Ask) (frame : Frame) (k : reading.Kind) → StartsAs a frame k → Innermost a frame (own_lists k) (fresh k)
 first_inner a frame k b =
@@ -439,8 +460,8 @@ first_inner a frame k b =
     record {
       asked = b.answer (own_lists k);
       open_frame = λ o. record {
-        goes_on = b.stands (own_lists k);
-        list = b.list (own_lists k);
+        goes_on = b.stands;
+        list = b.list;
         kind = sym b.kind;
         owns = owns_now frame frame (own_lists k) (own_lists k) [] owned refl b.builds refl;
         shallow = b.shallow;
@@ -449,7 +470,7 @@ first_inner a frame k b =
       holds = refl;
       few = few_owned (frame_kind frame) (own_lists k) owned;
       last = gives_none a [] b.none;
-      built = none_built a b.none;
+      bare = none_bare a b.none;
       once = once_untold a [] b.untold;
       not_lent = refl;
     }
@@ -477,10 +498,10 @@ below_it sizes e None book h = record { sound = h.1.sound; idle = h.1.idle; bare
   at (r ∷ rs) w = absurd w
 
 pub begins_on : (sizes : Sizes) (e e' : Engine) (waits : Option Waiting) (frame : Frame) (k : reading.Kind) (book : Book) → SameState e e' → WaitsWith sizes e waits book → e'.outer.items ≡ e.outer.items ++ option_to_list waits →
-    e'.top ≡ Some frame → e'.input.builds ≡ own_lists k ++ e.input.builds → StartsAs e'.ask frame k → IsLone (fresh k ∷ book.work) → Stands sizes e' (with_work (fresh k ∷ book.work) book)
-begins_on sizes e e' waits frame k book same h items top lists b lone =
+    e'.top ≡ Some frame → e'.input.builds ≡ own_lists k ++ e.input.builds → StartsAs e'.ask frame k → AreOrderly (fresh k ∷ book.work) → Stands sizes e' (with_work (fresh k ∷ book.work) book)
+begins_on sizes e e' waits frame k book same h items top lists b orderly =
     let under = below_it sizes e waits book h in
     let own : e'.input.builds ≡ own_lists k = lists ∙ (ap (λ (l : List (List Token)). own_lists k ++ l) under.bare ∙ append-nil (own_lists k)) in
     stands_now sizes e e' frame (fresh k) book.work book same under.sound under.idle under.uncalled top
     (subst (λ (l : List (List Token)). Innermost e'.ask frame l (fresh k)) (sym own) (first_inner e'.ask frame k b))
-    (subst (λ (l : List Waiting). OuterStand (reverse l) book.work) (sym items) under.outer) lone
+    (subst (λ (l : List Waiting). OuterStand (reverse l) book.work) (sym items) under.outer) orderly

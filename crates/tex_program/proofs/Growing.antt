@@ -1,346 +1,334 @@
--- A token that goes onto the list that a reading builds.
-use Rattle.std.proofs.Common.{◌≡◌, ℕ, ◌+◌, ◌-◌, ◌*◌, ◌<◌, ◌≤◌, Bool, true, false, List, [], ◌∷◌, ◌++◌, length, drop, map, refl, sym, ap, ◌∙◌, subst, reverse, true≢false, arith}
-use Rattle.std.specs.Prelude.{Option, Some, None, IsSome, if◌then◌else◌, not, ◌&&◌, ◌==◌}
+-- How a frame builds its list, as the machine feeds its reading.
+use Rattle.std.proofs.Common.{◌≡◌, ◌+◌, ◌*◌, ◌<◌, ◌≤◌, Bool, List, [], ◌∷◌, ◌++◌, length, drop, map, refl, sym, ap, ◌∙◌, append_assoc, subst, true≢false, arith}
+use Rattle.std.specs.Prelude.{Option, Some, None, IsSome, option_to_list}
 use Rattle.std.proofs.lemmas.List.{append-nil}
 use Rattle.std.proofs.lemmas.List.Sums.{sum_by-cons, sum_by-append}
-use Rattle.std.proofs.lemmas.Bool.Decides.{nat_tests}
 use Rattle.tex_defs.specs.declared.Seen.{Seen}
 use Rattle.tex_defs.specs.declared.Sizes.{Sizes}
 use Rattle.tex_defs.specs.declared.Full.{Full}
 use Rattle.tex_defs.specs.Places.{World}
 use Rattle.tex_defs.specs.declared.Token.{Token}
-use Rattle.tex_defs.specs.declared.Token.TheVariants.{Char}
 use Rattle.tex_defs.specs.declared.Name.{Name}
-use Rattle.plain_state.specs.Categories.{begin_group, end_group}
-use Rattle.plain_state.specs.Readings.{Tok, Told, closed_or}
-use Rattle.plain_state.specs.Tokens.{has_category}
+use Rattle.list_builder.specs.Stages as stages
+use Rattle.list_builder.specs.declared.stage.Stage.{Stage}
+use Rattle.list_builder.specs.declared.stage.Stage.TheVariants as stage
+use Rattle.plain_state.specs.Definitions.{Manner}
+use Rattle.plain_state.specs.Readings.{Fed, Tok, Told, own_lists}
 use Rattle.plain_state.specs.Readings as reading
-use Rattle.plain_state.specs.States.{State, Move, Reading, Grows, Feeds, Noted, fed_with, fresh, made}
-use Rattle.plain_state.specs.States as machine
-use Rattle.plain_state.specs.Tables.{list_words, lists_words, memory, refused, refusal}
+use Rattle.plain_state.specs.States.{Move, Reading, Grows, Feeds, Noted, fed_with}
+use Rattle.plain_state.specs.Tables.{list_words, lists_words}
 use Rattle.plain_machine.specs.Plan.{feeding, feeding_kind, noting, grown_to}
 use Rattle.plain_machine.specs.Does.{Did}
-use Rattle.plain_machine.proofs.Doing.{did_join, did_one, wrote_none}
-use Rattle.input_state.specs.Callings.{NotCalling, call_lists}
-use Rattle.input_state.specs.Stored.{KeepsMacros, gathered, words as stored_words}
-use Rattle.frames.specs.declared.scan.Ask.{Ask}
+use Rattle.input_state.specs.Callings.{call_lists}
+use Rattle.input_state.specs.Stored.{KeepsMacros, words as stored_words}
 use Rattle.frames.specs.declared.scan.Ask.TheVariants.{More}
+use Rattle.frames.specs.declared.scan.Answer.{Answer}
 use Rattle.frames.specs.declared.scan.Want.{Want}
-use Rattle.frames.specs.declared.frame.Frame.{Frame}
-use Rattle.frames.specs.declared.frame.Frame.TheVariants.{Waits, Integer, Text}
-use Rattle.frames.specs.declared.frame.Waiting.{Waiting}
 use Rattle.frames.specs.declared.scan.Kind.{Kind}
+use Rattle.frames.specs.declared.frame.Frame.{Frame}
+use Rattle.frames.specs.declared.frame.Frame.TheVariants.{Waits, Integer, Text, Definition}
+use Rattle.frames.specs.declared.frame.Waiting.TheVariants as waiting
 use Rattle.frames.specs.declared.text.TextScan.{TextScan}
 use Rattle.frames.specs.declared.text.TextScan.TheVariants.{First, BraceMissing, Inside}
 use Rattle.frames.specs.Sees.{ask_of, first_list, want_of, kind_of}
-use Rattle.frames.specs.Texts.{text_list, text_grows, depth_of, IsTaking}
-use Rattle.frames.specs.declared.frame.Waiting.TheVariants as waiting
-use Rattle.frames.specs.Resumes.{resume, frame_grows, grow_first, lists_after, frame_kind, frame_list, IsOpen, Builds, IsShallow, Owns, MayFeed, HasList, TakesTokens, is_built}
-use Rattle.tex_program.specs.declared.engine.Engine.{Engine}
-use Rattle.tex_program.specs.Book.{Book, with_work}
-use Rattle.tex_program.specs.Stands.{WaitsFirst, IsSound, IsUncalled, Stands, WorkStands, OuterStand, FrameStands, Innermost, FedFrame, FeedsHere, Waits as WaitsFor, WaitStands, WaitsWith, IsLone, SameState, state_of, top_grows, frames}
-use Rattle.tex_program.specs.Steps.{frame_weight, pending_weight}
+use Rattle.frames.specs.Texts.{depth_of, IsTaking}
+use Rattle.frames.specs.Definitions.{resume_stage, HasMacro}
+use Rattle.frames.specs.Resumes.{resume, grown_by, lists_behind, frame_kind, frame_list, IsOpen, IsUntold, GivesBack, GivesNone, BeginsBare, GrowsNone, Builds, IsShallow, Owns, MayFeed, HasList, TakesTokens}
 use Rattle.frames.specs.Weights.{frame_rank}
-use Rattle.tex_program.specs.Rules.{TopTakes, feeds_of, Cuts}
+use Rattle.tex_program.specs.declared.engine.Engine.{Engine}
 use Rattle.tex_program.specs.declared.broken.Broken.TheVariants as broken
-use Rattle.tex_program.proofs.Counting.{words_more}
-use Rattle.tex_program.proofs.Bare.{bare_after}
-use Rattle.tex_program.proofs.Cutting.{cuts_by, full_cuts}
-use Rattle.tex_program.proofs.Joining.{quiet_here}
-use Rattle.tex_program.proofs.Reporting.{reads_now}
-use Rattle.tex_program.proofs.Feeding.{owned_of}
-use Rattle.tex_program.proofs.Storing.{store_gathered, sound_still}
+use Rattle.tex_program.specs.declared.call.Call.{Call}
+use Rattle.tex_program.specs.Book.{Book, with_work}
+use Rattle.tex_program.specs.Chained.{AreChained}
+use Rattle.tex_program.specs.Feeding.{tokens_of, AnswerFits, AnswerCut}
+use Rattle.tex_program.specs.Near.{FramesIn, CutsIn, with_token}
+use Rattle.tex_program.specs.Stands.{Stands, WorkStands, FrameStands, FeedsHere, Waits as WaitsFor, WaitStands, IsLone, AreOrderly, SameState, state_of, frames}
+use Rattle.tex_program.specs.Steps.{frame_weight, pending_weight}
+use Rattle.tex_program.specs.Rules.{feeds_of, Cuts}
+use Rattle.tex_program.proofs.Answering.{grown_moves, listed, same_growth, answer_did, answer_cuts}
+use Rattle.tex_program.proofs.Cutting.{cuts_by}
+use Rattle.tex_program.proofs.Feeding.{OwnedBy, GoesOn, owned_of, owned_behind, behind_length, grown_none, told_builds, feeds_on, notes_on}
+use Rattle.tex_program.proofs.Storing.{store_gathered}
 
--- THE LIST THAT A TEXT BUILDS
+-- THE LIST THAT IT HAS BUILT
 
-not_both : (t : Token) → has_category begin_group t ≡ true → has_category end_group t ≡ false
-not_both (Char category code) h = grind (arith, nat_tests, h)
-not_both t h = absurd cc
+module _ (f : Frame) (lists : List (List Token)) (r : Reading) (below : FrameStands f lists r) where
+  built_at : (fed : List Fed) → reading.so_far (frame_kind f) (r.fed ++ fed) ≡ frame_list f lists fed
+  built_at fed = subst (λ (k : reading.Kind). reading.so_far k (r.fed ++ fed) ≡ frame_list f lists fed) below.kind (below.list fed)
 
-one_closed : (b e z : Bool) (t : Token) (list : List Token) → (b ≡ true → e ≡ false) →
-    list ++ closed_or (if b then None else if e then (if z then Some [] else None) else None) (t ∷ []) ≡ (if not (e && z) then list ++ t ∷ [] else list)
-one_closed true true z t list h = cc (h refl)
-one_closed true false z t list h = refl
-one_closed false true true t list h = append-nil list
-one_closed false true false t list h = refl
-one_closed false false z t list h = refl
+  built_now : reading.so_far (frame_kind f) r.fed ≡ frame_list f lists []
+  built_now = ap (reading.so_far (frame_kind f)) (sym (append-nil r.fed)) ∙ built_at []
 
-first_after : (grows : Bool) (x : Seen) (lists : List (List Token)) → lists ≡ first_list lists ∷ [] → first_list (lists_after grows x lists) ≡ (if grows then first_list lists ++ x.token ∷ [] else first_list lists)
-first_after grows x [] h = absurd cc
-first_after true x (ts ∷ lists) h = refl
-first_after false x (ts ∷ lists) h = refl
+-- it is the one that its reading holds
+held_list : (f : Frame) (lists : List (List Token)) → Owns f lists → frame_list f lists [] ≡ first_list lists
+held_list (Waits w) lists h = sym (ap first_list h)
+held_list (Integer scan) lists h = sym (ap first_list h)
+held_list (Text name scan) lists h = sym (ap first_list h)
+held_list (Definition name expanded scan) lists h = sym (ap first_list h)
 
-text_builds : (scan : TextScan) (name : Name) (x : Seen) (lists : List (List Token)) → Owns (Text name scan) lists → IsTaking scan → text_list scan (first_list lists) (Tok x ∷ []) ≡ first_list (lists_after (text_grows scan x) x lists)
-text_builds First name x lists h takes = sym (ap first_list h)
-text_builds BraceMissing name x lists h takes = absurd takes
-text_builds (Inside depth) name x lists h takes =
-    one_closed (has_category begin_group x.token) (has_category end_group x.token) (depth == 0) x.token (first_list lists) (not_both x.token) ∙
-    sym (first_after (text_grows (Inside depth) x) x lists (owned_of (Text name (Inside depth)) lists h))
+behind_list : (f : Frame) (lists now : List (List Token)) (fed : List Fed) → OwnedBy (frame_kind f) now → Builds f lists now fed → frame_list f lists fed ≡ first_list now
+behind_list (Waits (waiting.Catcode scan)) lists now fed o b = sym (ap first_list o)
+behind_list (Waits (waiting.Message name)) lists now fed o b = sym (ap first_list o)
+behind_list (Waits (waiting.Prefixed long outer scan)) lists now fed o b = sym (ap first_list o)
+behind_list (Waits (waiting.Define expanded scan)) lists now fed o b = sym (ap first_list o)
+behind_list (Integer scan) lists now fed o b = sym (ap first_list o)
+behind_list (Text name scan) lists now fed o b = b
+behind_list (Definition name expanded scan) lists now fed o b = sym (ap first_list b)
 
-token_builds : (f : Frame) (x : Seen) (lists : List (List Token)) → Owns f lists → TakesTokens f → Builds f lists (lists_after (frame_grows f x) x lists) (Tok x ∷ [])
-token_builds (Waits w) x lists h takes = tt
-token_builds (Integer scan) x lists h takes = tt
-token_builds (Text name scan) x lists h takes = text_builds scan name x lists h takes
+-- HOW THE MACHINE FEEDS IT: the list gets the tokens of the answer
+
+behind_all : (ts us : List Token) → drop (length ts) (ts ++ us) ≡ us
+behind_all [] us = refl
+behind_all (t ∷ ts) us = behind_all ts us
+
+nothing_behind : (ts : List Token) → drop (length ts) ts ≡ []
+nothing_behind [] = refl
+nothing_behind (t ∷ ts) = nothing_behind ts
+
+grown_two : (o p : Option Token) (ts : List Token) (lists : List (List Token)) → drop (length ts) (first_list (grown_by p (grown_by o (ts ∷ lists)))) ≡ option_to_list o ++ option_to_list p
+grown_two None None ts lists = nothing_behind ts
+grown_two None (Some u) ts lists = behind_all ts (u ∷ [])
+grown_two (Some t) None ts lists = behind_all ts (t ∷ [])
+grown_two (Some t) (Some u) ts lists = ap (drop (length ts)) (append_assoc ts (t ∷ []) (u ∷ [])) ∙ behind_all ts (t ∷ u ∷ [])
+
+grown_is : (a : Answer) (lists : List (List Token)) → grown_to (first_list lists) (first_list (lists_behind a lists)) ≡ grown_moves (tokens_of a) lists
+grown_is a [] = ap (λ (l : List (List Token)). grown_to [] (first_list l)) (grown_none a.second (grown_by a.first []) (grown_none a.first [] refl))
+grown_is a (ts ∷ lists) = ap (map Grows) (grown_two a.first a.second ts lists)
+
+module _ (f : Frame) (a : Answer) (lists : List (List Token)) (r : Reading) (below : FrameStands f lists r) where
+  moves_of : (x : Fed) → Builds f lists (lists_behind a lists) (x ∷ []) →
+      grown_to (reading.so_far (frame_kind f) r.fed) (reading.so_far (frame_kind f) (r.fed ++ x ∷ [])) ≡ grown_moves (tokens_of a) lists
+  moves_of x b =
+      let before : reading.so_far (frame_kind f) r.fed ≡ first_list lists = built_now f lists r below ∙ held_list f lists below.owns in
+      let behind : reading.so_far (frame_kind f) (r.fed ++ x ∷ []) ≡ first_list (lists_behind a lists) =
+      built_at f lists r below (x ∷ []) ∙ behind_list f lists (lists_behind a lists) (x ∷ []) (owned_behind (frame_kind f) a lists (owned_of f lists below.owns)) b in
+      ap (λ (ts : List Token). grown_to ts (reading.so_far (frame_kind f) (r.fed ++ x ∷ []))) before ∙ ap (grown_to (first_list lists)) behind ∙ grown_is a lists
+
+  kind_feeding : (g : Frame) (x : Seen) → feeding_kind (frame_kind g) r.fed x ≡ grown_to (reading.so_far (frame_kind g) r.fed) (reading.so_far (frame_kind g) (r.fed ++ Tok x ∷ [])) ++ Feeds x ∷ []
+  kind_feeding (Waits (waiting.Catcode scan)) x = refl
+  kind_feeding (Waits (waiting.Message name)) x = refl
+  kind_feeding (Waits (waiting.Prefixed long outer scan)) x = refl
+  kind_feeding (Waits (waiting.Define expanded scan)) x = refl
+  kind_feeding (Integer scan) x = refl
+  kind_feeding (Text name scan) x = refl
+  kind_feeding (Definition name expanded scan) x = refl
+
+  feeding_is : (x : Seen) → Builds f lists (lists_behind a lists) (Tok x ∷ []) → feeding r x ≡ grown_moves (tokens_of a) lists ++ Feeds x ∷ []
+  feeding_is x b = ap (λ (k : reading.Kind). feeding_kind k r.fed x) below.kind ∙ kind_feeding f x ∙ ap (λ (ms : List Move). ms ++ Feeds x ∷ []) (moves_of (Tok x) b)
+
+  noting_is : Builds f lists (lists_behind a lists) (Told ∷ []) → noting r ≡ grown_moves (tokens_of a) lists ++ Noted ∷ []
+  noting_is b = ap (λ (k : reading.Kind). grown_to (reading.so_far k r.fed) (reading.so_far k (r.fed ++ Told ∷ [])) ++ Noted ∷ []) below.kind ∙ ap (λ (ms : List Move). ms ++ Noted ∷ []) (moves_of Told b)
+
+-- THE FRAME THAT IS FED
 
 -- a frame that asks for a token takes it
+takes_stage : (m : Manner) (scan : Stage) (list : List Token) (want : Want) → reading.More (want_of want) ≡ resume_stage m scan list [] → stages.IsTelling scan → ⊥
+takes_stage m stage.First list want h t = t
+takes_stage m stage.FirstMissing list want h t = cc
+takes_stage m (stage.Parameters count) list want h t = t
+takes_stage m (stage.Place count character) list want h t = t
+takes_stage m (stage.Misnumbered count character) list want h t = cc
+takes_stage m (stage.Tenth count) list want h t = cc
+takes_stage m stage.BodyMissing list want h t = cc
+takes_stage m (stage.InBody b depth) list want h t = t
+takes_stage m (stage.Reference b depth character) list want h t = t
+takes_stage m (stage.Illegal b depth character) list want h t = cc
+
 takes_at : (f : Frame) (lists : List (List Token)) (want : Want) → reading.More (want_of want) ≡ resume f lists [] → TakesTokens f
 takes_at (Waits w) lists want h = tt
 takes_at (Integer scan) lists want h = tt
 takes_at (Text name First) lists want h = tt
 takes_at (Text name BraceMissing) lists want h = absurd cc
 takes_at (Text name (Inside depth)) lists want h = tt
+takes_at (Definition name expanded scan) lists want h = takes_stage (reading.manner name expanded) scan (first_list lists) want h
 
 takes_of : (f : Frame) (lists : List (List Token)) (r : Reading) (want : Want) → FrameStands f lists r → ask_of lists (More want) ≡ reading.ask r.kind r.fed → TakesTokens f
 takes_of f lists r want below asked = takes_at f lists want (asked ∙ (ap (reading.ask r.kind) (sym (append-nil r.fed)) ∙ below.goes_on []))
 
--- HOW THE MACHINE FEEDS IT: the list gets the token, if it is of it
-
-abbrev grown_moves : Bool → Seen → List Move
-grown_moves grows x = (if grows then Grows x.token ∷ [] else []) ++ Feeds x ∷ []
-
-behind_all : (ts : List Token) (t : Token) → drop (length ts) (ts ++ t ∷ []) ≡ t ∷ []
-behind_all [] t = refl
-behind_all (u ∷ ts) t = behind_all ts t
-
-pub nothing_behind : (ts : List Token) → drop (length ts) ts ≡ []
-nothing_behind [] = refl
-nothing_behind (t ∷ ts) = nothing_behind ts
-
-grown_one : (grows : Bool) (ts : List Token) (t : Token) → grown_to ts (if grows then ts ++ t ∷ [] else ts) ≡ (if grows then Grows t ∷ [] else [])
-grown_one true ts t = ap (map Grows) (behind_all ts t)
-grown_one false ts t = ap (map Grows) (nothing_behind ts)
-
--- the list that is built before a token and behind it
-module _ (f : Frame) (lists : List (List Token)) (r : Reading) (below : FrameStands f lists r) where
-  built_at : (fed : List reading.Fed) → reading.so_far (frame_kind f) (r.fed ++ fed) ≡ frame_list f lists fed
-  built_at fed = subst (λ (k : reading.Kind). reading.so_far k (r.fed ++ fed) ≡ frame_list f lists fed) below.kind (below.list fed)
-
-  built_now : reading.so_far (frame_kind f) r.fed ≡ frame_list f lists []
-  built_now = ap (reading.so_far (frame_kind f)) (sym (append-nil r.fed)) ∙ built_at []
-
-text_feeding : (name : Name) (scan : TextScan) (lists : List (List Token)) (r : Reading) (x : Seen) → FrameStands (Text name scan) lists r → IsTaking scan →
-    grown_to (reading.so_far (reading.Text name) r.fed) (reading.so_far (reading.Text name) (r.fed ++ Tok x ∷ [])) ≡ (if text_grows scan x then Grows x.token ∷ [] else [])
-text_feeding name scan lists r x below takes =
-    let before : reading.so_far (reading.Text name) r.fed ≡ first_list lists = built_now (Text name scan) lists r below ∙ sym (ap first_list below.owns) in
-    let behind : reading.so_far (reading.Text name) (r.fed ++ Tok x ∷ []) ≡ (if text_grows scan x then first_list lists ++ x.token ∷ [] else first_list lists) =
-    built_at (Text name scan) lists r below (Tok x ∷ []) ∙ text_builds scan name x lists below.owns takes ∙ first_after (text_grows scan x) x lists (owned_of (Text name scan) lists below.owns) in
-    ap (λ (ts : List Token). grown_to ts (reading.so_far (reading.Text name) (r.fed ++ Tok x ∷ []))) before ∙ ap (grown_to (first_list lists)) behind ∙ grown_one (text_grows scan x) (first_list lists) x.token
-
-kind_feeding : (f : Frame) (lists : List (List Token)) (r : Reading) (x : Seen) → FrameStands f lists r → TakesTokens f → feeding_kind (frame_kind f) r.fed x ≡ grown_moves (frame_grows f x) x
-kind_feeding (Waits (waiting.Catcode scan)) lists r x below takes = refl
-kind_feeding (Waits (waiting.Message name)) lists r x below takes = refl
-kind_feeding (Waits (waiting.Prefixed long outer scan)) lists r x below takes = refl
-kind_feeding (Integer scan) lists r x below takes = refl
-kind_feeding (Text name scan) lists r x below takes = ap (λ (ms : List Move). ms ++ Feeds x ∷ []) (text_feeding name scan lists r x below takes)
-
-feeding_is : (f : Frame) (lists : List (List Token)) (r : Reading) (x : Seen) → FrameStands f lists r → TakesTokens f → feeding r x ≡ grown_moves (frame_grows f x) x
-feeding_is f lists r x below takes = ap (λ (k : reading.Kind). feeding_kind k r.fed x) below.kind ∙ kind_feeding f lists r x below takes
-
--- the note that its report was written changes no list
-told_list : (scan : TextScan) (ts : List Token) → text_list scan ts [] ≡ ts → text_list scan ts (Told ∷ []) ≡ ts
-told_list First ts h = h
-told_list BraceMissing ts h = h
-told_list (Inside depth) ts h = h
-
-text_noting : (name : Name) (scan : TextScan) (lists : List (List Token)) (r : Reading) → FrameStands (Text name scan) lists r → grown_to (reading.so_far (reading.Text name) r.fed) (reading.so_far (reading.Text name) (r.fed ++ Told ∷ [])) ≡ []
-text_noting name scan lists r below =
-    let own : text_list scan (first_list lists) [] ≡ first_list lists = sym (ap first_list below.owns) in
-    let before : reading.so_far (reading.Text name) r.fed ≡ first_list lists = built_now (Text name scan) lists r below ∙ own in
-    let behind : reading.so_far (reading.Text name) (r.fed ++ Told ∷ []) ≡ first_list lists = built_at (Text name scan) lists r below (Told ∷ []) ∙ told_list scan (first_list lists) own in
-    ap (λ (ts : List Token). grown_to ts (reading.so_far (reading.Text name) (r.fed ++ Told ∷ []))) before ∙ ap (grown_to (first_list lists)) behind ∙ ap (map Grows) (nothing_behind (first_list lists))
-
-kind_noting : (f : Frame) (lists : List (List Token)) (r : Reading) → FrameStands f lists r → grown_to (reading.so_far (frame_kind f) r.fed) (reading.so_far (frame_kind f) (r.fed ++ Told ∷ [])) ≡ []
-kind_noting (Waits (waiting.Catcode scan)) lists r below = refl
-kind_noting (Waits (waiting.Message name)) lists r below = refl
-kind_noting (Waits (waiting.Prefixed long outer scan)) lists r below = refl
-kind_noting (Integer scan) lists r below = refl
-kind_noting (Text name scan) lists r below = text_noting name scan lists r below
-
-pub noting_is : (f : Frame) (lists : List (List Token)) (r : Reading) → FrameStands f lists r → noting r ≡ Noted ∷ []
-noting_is f lists r below =
-    ap (λ (k : reading.Kind). grown_to (reading.so_far k r.fed) (reading.so_far k (r.fed ++ Told ∷ [])) ++ Noted ∷ []) below.kind ∙ ap (λ (ms : List Move). ms ++ Noted ∷ []) (kind_noting f lists r below)
-
-pub waits_note : (sizes : Sizes) (e : Engine) (book : Book) (r : Reading) (rs : List Reading) → WaitsFor sizes e (with_work (r ∷ rs) book) → noting r ≡ Noted ∷ []
-waits_note sizes e book r rs h = at e.top h.readings where
-  at : (t : Option Frame) → WaitStands t e.outer.items e.input.builds (r ∷ rs) → noting r ≡ Noted ∷ []
-  at None w = absurd w
-  at (Some f) w = noting_is f e.input.builds r w.0
-
--- a list that grows is there
-grows_list : (f : Frame) (x : Seen) (lists : List (List Token)) → Owns f lists → frame_grows f x ≡ true → lists ≡ [] → ⊥
-grows_list (Waits w) x lists h grows none = cc
-grows_list (Integer scan) x lists h grows none = cc
-grows_list (Text name scan) x lists h grows none = cc
-
-same_growth : (t : Token) (lists : List (List Token)) → machine.grow_first t lists ≡ grow_first t lists
-same_growth t [] = refl
-same_growth t (ts ∷ lists) = refl
-
--- THE FRAME THAT IS FED
-
+-- its braces can be counted
 first_small : (lists : List (List Token)) → lists_words lists < 4294967296 → length (first_list lists) < 4294967295
 first_small [] h = omega arith
 first_small (ts ∷ lists) h = omega (arith, h, sum_by-cons list_words ts lists)
 
-has_list : (scan : TextScan) (name : Name) (x : Seen) (lists : List (List Token)) → Owns (Text name scan) lists → IsTaking scan → (text_grows scan x ≡ true → depth_of scan < 4294967295) → HasList scan x lists
+has_list : (scan : TextScan) (name : Name) (x : Seen) (lists : List (List Token)) → Owns (Text name scan) lists → IsTaking scan → depth_of scan < 4294967295 → HasList scan x lists
 has_list scan name x [] h takes small = absurd cc
-has_list scan name x (ts ∷ []) h takes small = record { now = cc; few = small; takes = takes }
+has_list scan name x (ts ∷ []) h takes small = record { now = cc; few = λ g. small; takes = takes }
 has_list scan name x (ts ∷ us ∷ lists) h takes small = absurd cc
 
-may_feed : (f : Frame) (x : Seen) (lists : List (List Token)) → Owns f lists → TakesTokens f → IsShallow f lists → (frame_grows f x ≡ true → lists_words lists < 4294967296) → MayFeed f x lists
+has_macro : (scan : Stage) (name : Name) (expanded : Bool) (lists : List (List Token)) → Owns (Definition name expanded scan) lists → (stages.IsTelling scan → ⊥) → stages.depth_of scan < 4294967295 → HasMacro scan lists
+has_macro scan name expanded [] h takes small = absurd cc
+has_macro scan name expanded (ts ∷ []) h takes small = record { takes = takes; few = omega (arith, small) }
+has_macro scan name expanded (ts ∷ us ∷ lists) h takes small = absurd cc
+
+may_feed : (f : Frame) (x : Seen) (lists : List (List Token)) → Owns f lists → TakesTokens f → IsShallow f lists → lists_words lists < 4294967296 → MayFeed f x lists
 may_feed (Waits w) x lists h takes shallow small = tt
 may_feed (Integer scan) x lists h takes shallow small = tt
-may_feed (Text name scan) x lists h takes shallow small = has_list scan name x lists h takes (λ g. omega (arith, shallow, first_small lists (small g)))
+may_feed (Text name scan) x lists h takes shallow small = has_list scan name x lists h takes (omega (arith, shallow, first_small lists small))
+may_feed (Definition name expanded scan) x lists h takes shallow small = has_macro scan name expanded lists h takes (omega (arith, shallow, first_small lists small))
 
--- the engine behind a token that went onto the list, or didn't
-abbrev pub grown_engine : Engine → Seen → (lists : List (List Token)) → Engine
-grown_engine e x lists = record e { input = record e.input { builds = lists_after (top_grows e.top x) x e.input.builds; lists = lists } }
-
--- its words can be counted, and its lists then
+-- the words of the lists that readings hold can be counted
 few_words : (e : Engine) → stored_words e.input < 4294967296 → lists_words e.input.builds < 4294967296
 few_words e h = omega (arith, h, sum_by-append list_words (call_lists e.input.call) e.input.builds)
 
--- its macros are as they were
-grown_sound : (sizes : Sizes) (e : Engine) (x : Seen) (lists : List (List Token)) (number : ℕ → ℕ) (macros : List (List Token)) → KeepsMacros e.input (grown_engine e x lists).input → IsSound sizes e number macros → IsSound sizes (grown_engine e x lists) number macros
-grown_sound sizes e x lists number macros kept h =
-    sound_still sizes e (grown_engine e x lists) number macros refl refl refl refl (store_gathered e.input (grown_engine e x lists).input (lists_after (top_grows e.top x) x e.input.builds) refl kept) h
+-- what is known of a frame that was fed with a token
+pub record FrameFed (f f' : Frame) (a : Answer) (x : Seen) : Type 0 where
+  pub goes : (lists : List (List Token)) → MayFeed f x lists → IsShallow f lists → OwnedBy (frame_kind f) (lists_behind a lists) → GoesOn a.ask f f' lists (lists_behind a lists) (Tok x)
+  pub back : GivesBack a.ask x
+  pub bare : BeginsBare a.ask
 
-frame_fed : (sizes : Sizes) (e : Engine) (f : Frame) (x : Seen) (lists : List (List Token)) (r : Reading) (rs : List Reading) (book : Book) → KeepsMacros e.input (grown_engine e x lists).input → e.top ≡ Some f → IsSound sizes e book.number book.macros → e.input.making ≡ None →
-    (want : Want) → e.ask ≡ More want → is_built x.meaning ≡ true → stored_words e.input < 4294967296 → Innermost e.ask f e.input.builds r → OuterStand (reverse e.outer.items) rs → IsLone (r ∷ rs) → IsUncalled e → FedFrame sizes (grown_engine e x lists) f x e.input.builds r rs book
-frame_fed sizes e f x lists r rs book kept top sound idle want asks built small inner outer lone uncalled =
-    let below : FrameStands f e.input.builds r = inner.open_frame (subst IsOpen (sym asks) tt) in
-    let takes : TakesTokens f = takes_of f e.input.builds r want below (ap (ask_of e.input.builds) (sym asks) ∙ inner.asked) in
-    record {
-      sound = grown_sound sizes e x lists book.number book.macros kept sound;
-      idle = idle;
-      frame = below;
-      holds = inner.holds;
-      built = built;
-      may_feed = may_feed f x e.input.builds below.owns takes below.shallow (λ g. few_words e small);
-      grown = ap (λ (t : Option Frame). lists_after (top_grows t x) x e.input.builds) top;
-      outer = outer;
-      lone = lone;
-      uncalled = record { none = uncalled.none; input = uncalled.input };
-    }
+-- and with the note that its report was written
+pub record FrameTold (f f' : Frame) (a : Answer) : Type 0 where
+  pub goes : (lists : List (List Token)) → Builds f lists lists [] → IsShallow f lists → OwnedBy (frame_kind f) (lists_behind a lists) → GoesOn a.ask f f' lists (lists_behind a lists) Told
+  pub none : GivesNone a.ask
+  pub untold : IsUntold a.ask
 
--- behind a token that the innermost reading was fed with
-pub token_stands : (sizes : Sizes) (e e1 e2 : Engine) (x : Seen) (book : Book) → FeedsHere sizes e x book → stored_words e.input < 4294967296 → e1 ≡ grown_engine e x e1.input.lists → KeepsMacros e.input e1.input → (e1.top ≡ None → e2 ≡ e1) →
-    ((f : Frame) (lists : List (List Token)) (r : Reading) (rs : List Reading) → e1.top ≡ Some f → FedFrame sizes e1 f x lists r rs book → Stands sizes e2 (with_work (fed_with (Tok x) (r ∷ rs)) book)) → Stands sizes e2 (with_work (fed_with (Tok x) book.work) book)
-token_stands sizes e e1 e2 x book h small is kept none some = by_top e.top refl book.work h.stands.readings h.stands.lone where
-  top_is : e1.top ≡ e.top
-  top_is = ap (λ (y : Engine). y.top) is
+-- THE ENGINE BEHIND AN ANSWER
 
-  keeps : KeepsMacros e.input (grown_engine e x e1.input.lists).input
-  keeps = subst (λ (y : Engine). KeepsMacros e.input y.input) is kept
+-- the list of the innermost frame has got the tokens of the answer, and the frame stands so behind them
+abbrev pub accepted : Engine → Frame → Answer → (lists : List (List Token)) → Engine
+accepted e f a lists = record (listed e (lists_behind a e.input.builds) lists) { top = Some f; ask = a.ask }
 
-  by_top : (t : Option Frame) → e.top ≡ t → (work : List Reading) → WorkStands e.ask t e.outer.items e.input.builds work → IsLone work → Stands sizes e2 (with_work (fed_with (Tok x) work) book)
-  by_top None top [] w lone = subst (λ (y : Engine). Stands sizes y (with_work [] book)) (sym (none (top_is ∙ top) ∙ is)) (record {
-    sound = grown_sound sizes e x e1.input.lists book.number book.macros keeps h.stands.sound;
-    idle = h.stands.idle;
-    readings = subst (λ (t : Option Frame). WorkStands e.ask t e.outer.items (lists_after (top_grows t x) x e.input.builds) []) (sym top) w;
-    lone = tt;
-    uncalled = record { none = h.stands.uncalled.none; input = h.stands.uncalled.input };
-  })
-  by_top None top (r ∷ rs) w lone = absurd w
-  by_top (Some f) top [] w lone = absurd w
-  by_top (Some f) top (r ∷ rs) w lone = some f e.input.builds r rs (top_is ∙ top) (subst (λ (y : Engine). FedFrame sizes y f x e.input.builds r rs book) (sym is)
-      (frame_fed sizes e f x e1.input.lists r rs book keeps top h.stands.sound h.stands.idle h.want h.asks h.built small w.0 w.1 lone h.stands.uncalled))
+pub accepted_same : (e e' : Engine) (f : Frame) (a : Answer) → e' ≡ accepted e f a e'.input.lists → KeepsMacros e.input e'.input → SameState e e'
+accepted_same e e' f a is kept = record {
+  others = record {
+    depth = ap (λ (y : Engine). y.outer.size) is;
+    call = ap (λ (y : Engine). y.call) is;
+    names = ap (λ (y : Engine). y.names) is;
+    categories = ap (λ (y : Engine). y.categories) is;
+    in_line = ap (λ (y : Engine). y.in_line) is;
+    reports = ap (λ (y : Engine). y.reports) is;
+    quiet = ap (λ (y : Engine). y.quiet) is;
+    sizes = ap (λ (y : Engine). y.sizes) is;
+  };
+  pending = ap (λ (y : Engine). y.input.pending) is;
+  making = ap (λ (y : Engine). y.input.making) is;
+  calling = ap (λ (y : Engine). y.input.call) is;
+  store = store_gathered e.input e'.input (lists_behind a e.input.builds) (ap (λ (y : Engine). y.input) is) kept;
+}
 
--- WHAT IS DONE THEN
+-- A TOKEN
 
--- where the innermost reading stands
-record Fed1 (e : Engine) (x : Seen) (r : Reading) (f : Frame) : Type 0 where
-  top : e.top ≡ Some f
-  moves : feeding r x ≡ grown_moves (frame_grows f x) x
-  owns : Owns f e.input.builds
+module _ (sizes : Sizes) (e : Engine) (f f' : Frame) (a : Answer) (x : Seen) (book : Book) (top : e.top ≡ Some f) (small : stored_words e.input < 4294967296) (fed : FrameFed f f' a x) (h : FeedsHere sizes e x book) where
+  work_is : WorkStands e.ask (Some f) e.outer.items e.input.builds book.work
+  work_is = subst (λ (t : Option Frame). WorkStands e.ask t e.outer.items e.input.builds book.work) top h.stands.readings
 
-fed_one : (sizes : Sizes) (e : Engine) (x : Seen) (book : Book) (r : Reading) (rs : List Reading) (f : Frame) → e.top ≡ Some f → FeedsHere sizes e x (with_work (r ∷ rs) book) → WorkStands e.ask (Some f) e.outer.items e.input.builds (r ∷ rs) → Fed1 e x r f
-fed_one sizes e x book r rs f top h w =
-    let below : FrameStands f e.input.builds r = w.0.open_frame (subst IsOpen (sym h.asks) tt) in
-    let takes : TakesTokens f = takes_of f e.input.builds r h.want below (ap (ask_of e.input.builds) (sym h.asks) ∙ w.0.asked) in
-    record { top = top; moves = feeding_is f e.input.builds r x below takes; owns = below.owns }
+  frame_is : (r : Reading) (rs : List Reading) → WorkStands e.ask (Some f) e.outer.items e.input.builds (r ∷ rs) → FrameStands f e.input.builds r
+  frame_is r rs w = w.0.open_frame (subst IsOpen (sym h.asks) tt)
 
-module _ (sizes : Sizes) (e e2 : Engine) (x : Seen) (book : Book) (same : SameState e e2) (lists : e2.input.builds ≡ lists_after (top_grows e.top x) x e.input.builds) where
-  grown_did : (b : Bool) (r : Reading) (rs : List Reading) (w : World) → e.input.call ≡ NotCalling → top_grows e.top x ≡ b → (b ≡ true → refusal sizes (Grows x.token) (state_of e (with_work (r ∷ rs) book)) ≡ None) →
-      Did sizes (state_of e (with_work (r ∷ rs) book)) (state_of e2 (with_work (fed_with (Tok x) (r ∷ rs)) book)) w w (grown_moves b x)
-  grown_did true r rs w none is fits =
-      let own : e2.input.builds ≡ machine.grow_first x.token e.input.builds = lists ∙ ap (λ (b : Bool). lists_after b x e.input.builds) is ∙ sym (same_growth x.token e.input.builds) in
-      let now : machine.grow_first x.token (gathered e.input) ≡ gathered e2.input = sym (bare_after e.input e2.input none same.calling (machine.grow_first x.token) own) in
-      did_join sizes _ _ _ w w w (Grows x.token ∷ []) (Feeds x ∷ []) (did_one sizes (Grows x.token) _ (made (Grows x.token) (state_of e (with_work (r ∷ rs) book))) w w (fits refl) refl (quiet_here (Grows x.token) w tt))
-      (did_one sizes (Feeds x) _ _ w w refl (ap (λ (l : List (List Token)). record (state_of e (with_work (r ∷ rs) book)) { work = fed_with (Tok x) (r ∷ rs); gathered = l }) now ∙ reads_now e e2 (with_work (r ∷ rs) book) (fed_with (Tok x) (r ∷ rs)) same) (quiet_here (Feeds x) w tt))
-  grown_did false r rs w none is fits =
-      let now : gathered e.input ≡ gathered e2.input = sym (bare_after e.input e2.input none same.calling (λ l. l) (lists ∙ ap (λ (b : Bool). lists_after b x e.input.builds) is)) in
-      did_one sizes (Feeds x) _ _ w w refl (ap (λ (l : List (List Token)). record (state_of e (with_work (r ∷ rs) book)) { work = fed_with (Tok x) (r ∷ rs); gathered = l }) now ∙ reads_now e e2 (with_work (r ∷ rs) book) (fed_with (Tok x) (r ∷ rs)) same) (quiet_here (Feeds x) w tt)
+  goes_is : (r : Reading) (rs : List Reading) → WorkStands e.ask (Some f) e.outer.items e.input.builds (r ∷ rs) → GoesOn a.ask f f' e.input.builds (lists_behind a e.input.builds) (Tok x)
+  goes_is r rs w =
+      let below : FrameStands f e.input.builds r = frame_is r rs w in
+      let takes : TakesTokens f = takes_of f e.input.builds r h.want below (ap (ask_of e.input.builds) (sym h.asks) ∙ w.0.asked) in
+      fed.goes e.input.builds (may_feed f x e.input.builds below.owns takes below.shallow (few_words e small)) below.shallow (owned_behind (frame_kind f) a e.input.builds (owned_of f e.input.builds below.owns))
 
-  pub token_did : (w : World) → FeedsHere sizes e x book → (top_grows e.top x ≡ true → (e.input.builds ≡ [] → ⊥) → refused e.input.sizes (memory 1 (stored_words e.input) ∷ []) ≡ None) →
-      Did sizes (state_of e book) (state_of e2 (with_work (fed_with (Tok x) book.work) book)) w w (feeds_of book.work x)
-  token_did w h fits = by_top e.top refl book.work h h.stands.readings where
-    by_top : (t : Option Frame) → e.top ≡ t → (work : List Reading) → FeedsHere sizes e x (with_work work book) → WorkStands e.ask t e.outer.items e.input.builds work →
-        Did sizes (state_of e (with_work work book)) (state_of e2 (with_work (fed_with (Tok x) work) book)) w w (feeds_of work x)
-    by_top None top [] h ws =
-        let now : gathered e2.input ≡ gathered e.input = bare_after e.input e2.input h.stands.uncalled.input same.calling (λ l. l) (lists ∙ ap (λ (t : Option Frame). lists_after (top_grows t x) x e.input.builds) top) in
-        record { state = ap (λ (l : List (List Token)). record (state_of e (with_work [] book)) { gathered = l }) (sym now) ∙ reads_now e e2 (with_work [] book) [] same; fits = tt; written = wrote_none w }
-    by_top None top (r ∷ rs) h ws = absurd ws
-    by_top (Some f) top [] h ws = absurd ws
-    by_top (Some f) top (r ∷ rs) h ws =
-        let one : Fed1 e x r f = fed_one sizes e x book r rs f top h ws in
-        let grows : top_grows e.top x ≡ frame_grows f x = ap (λ (t : Option Frame). top_grows t x) top in
-        subst (λ (ms : List Move). Did sizes (state_of e (with_work (r ∷ rs) book)) (state_of e2 (with_work (fed_with (Tok x) (r ∷ rs)) book)) w w ms) (sym one.moves)
-        (grown_did (frame_grows f x) r rs w h.stands.uncalled.input grows (λ g. words_more sizes e (with_work (r ∷ rs) book) 1 None h.stands.sound (fits (grows ∙ g) (grows_list f x e.input.builds one.owns g))))
+  feeds_is : (r : Reading) (rs : List Reading) → WorkStands e.ask (Some f) e.outer.items e.input.builds (r ∷ rs) → feeding r x ≡ grown_moves (tokens_of a) e.input.builds ++ Feeds x ∷ []
+  feeds_is r rs w = feeding_is f a e.input.builds r (frame_is r rs w) x (goes_is r rs w).builds
 
--- the list has no room for it
-pub token_cuts : (sizes : Sizes) (e : Engine) (x : Seen) (book : Book) (w : World) (full : Full) → FeedsHere sizes e x book → top_grows e.top x ≡ true → refused e.input.sizes (memory 1 (stored_words e.input) ∷ []) ≡ Some full →
-    Cuts sizes (state_of e book) e book w w (feeds_of book.work x) (broken.Full full)
-token_cuts sizes e x book w full h grows refuses = by_top e.top refl book.work h h.stands.readings where
-  by_top : (t : Option Frame) → e.top ≡ t → (work : List Reading) → FeedsHere sizes e x (with_work work book) → WorkStands e.ask t e.outer.items e.input.builds work → Cuts sizes (state_of e (with_work work book)) e (with_work work book) w w (feeds_of work x) (broken.Full full)
-  by_top None top work h ws = absurd (true≢false (sym grows ∙ ap (λ (t : Option Frame). top_grows t x) top))
-  by_top (Some f) top [] h ws = absurd ws
-  by_top (Some f) top (r ∷ rs) h ws =
-      let one : Fed1 e x r f = fed_one sizes e x book r rs f top h ws in
-      let is : frame_grows f x ≡ true = sym (ap (λ (t : Option Frame). top_grows t x) top) ∙ grows in
-      cuts_by sizes (state_of e (with_work (r ∷ rs) book)) e (with_work (r ∷ rs) book) w w (Grows x.token ∷ Feeds x ∷ []) (feeding r x) (broken.Full full) (one.moves ∙ ap (λ (b : Bool). grown_moves b x) is)
-      (full_cuts sizes (state_of e (with_work (r ∷ rs) book)) e (with_work (r ∷ rs) book) w (Grows x.token) (Feeds x ∷ []) full (broken.Full full) refl
-      (words_more sizes e (with_work (r ∷ rs) book) 1 (Some full) h.stands.sound refuses) refl)
+  module _ (e' : Engine) (is : e' ≡ accepted e f' a e'.input.lists) (kept : KeepsMacros e.input e'.input) where
+    pub token_stands : Stands sizes e' (with_work (fed_with (Tok x) book.work) book)
+    token_stands = at book.work work_is h.stands.orderly where
+      at : (work : List Reading) → WorkStands e.ask (Some f) e.outer.items e.input.builds work → AreOrderly work → Stands sizes e' (with_work (fed_with (Tok x) work) book)
+      at [] w orderly = absurd w
+      at (r ∷ rs) w orderly =
+          feeds_on sizes e e' f f' r rs book (accepted_same e e' f' a is kept) h.stands.sound h.stands.idle h.stands.uncalled (frame_is r rs w) w.0.holds w.1
+          (ap (λ (y : Engine). y.top) is) (ap (λ (y : Engine). y.outer) is) (ap (λ (y : Engine). length y.input.builds) is ∙ behind_length a e.input.builds) x orderly
+          (subst (λ (y : Engine). GivesBack y.ask x) (sym is) fed.back) (subst (λ (y : Engine). BeginsBare y.ask) (sym is) fed.bare)
+          (subst (λ (y : Engine). GoesOn y.ask f f' e.input.builds y.input.builds (Tok x)) (sym is) (goes_is r rs w))
+
+    pub token_did : (w : World) → AnswerFits a e.input → Did sizes (state_of e book) (state_of e' (with_work (fed_with (Tok x) book.work) book)) w w (feeds_of book.work x)
+    token_did w room = at book.work work_is where
+      at : (work : List Reading) → WorkStands e.ask (Some f) e.outer.items e.input.builds work → Did sizes (state_of e (with_work work book)) (state_of e' (with_work (fed_with (Tok x) work) book)) w w (feeds_of work x)
+      at [] ws = absurd ws
+      at (r ∷ rs) ws =
+          subst (λ (ms : List Move). Did sizes (state_of e (with_work (r ∷ rs) book)) (state_of e' (with_work (fed_with (Tok x) (r ∷ rs)) book)) w w ms) (sym (feeds_is r rs ws))
+          (answer_did sizes book w e e' a (Some f') (Feeds x) (Tok x) (r ∷ rs) is h.stands.uncalled.input h.stands.sound tt (λ s. refl) (λ s. refl) room)
+
+  token_same : (o : Option Token) (lists : List (List Token)) → grown_by o lists ≡ with_token o lists
+  token_same None lists = refl
+  token_same (Some t) lists = sym (same_growth t lists)
+
+  -- the list has no room for one of the answer's tokens
+  pub token_cuts : (e' : Engine) (w : World) (full : Full) → KeepsMacros e.input e'.input → AnswerCut a full e e' → CutsIn sizes (state_of e book) e' w w (feeds_of book.work x) (broken.Full full)
+  token_cuts e' w full kept cut = record {
+    book' = book;
+    cuts = at book.work work_is;
+    frames = record {
+      lists = e.input.builds;
+      front = cut.front;
+      grown = ap (λ (y : Engine). y.input.builds) cut.after ∙ token_same cut.front e.input.builds;
+      stand = subst (λ (y : Engine). FramesIn y.call y e.input.builds book.work) (sym cut.after)
+          (subst (λ (c : Option Call). FramesIn c (listed e (grown_by cut.front e.input.builds) e'.input.lists) e.input.builds book.work) (sym h.stands.uncalled.none) h.stands.readings);
+    };
+  } where
+    at : (work : List Reading) → WorkStands e.ask (Some f) e.outer.items e.input.builds work → Cuts sizes (state_of e (with_work work book)) e' (with_work work book) w w (feeds_of work x) (broken.Full full)
+    at [] ws = absurd ws
+    at (r ∷ rs) ws =
+        cuts_by sizes (state_of e (with_work (r ∷ rs) book)) e' (with_work (r ∷ rs) book) w w (grown_moves (tokens_of a) e.input.builds ++ Feeds x ∷ []) (feeding r x) (broken.Full full) (feeds_is r rs ws)
+        (answer_cuts sizes (with_work (r ∷ rs) book) w e e' a full (Feeds x) h.stands.uncalled.input h.stands.sound kept cut)
+
+-- A NOTE
+
+module _ (sizes : Sizes) (e : Engine) (f f' : Frame) (a : Answer) (book : Book) (top : e.top ≡ Some f) (told : FrameTold f f' a) (h : WaitsFor sizes e book) where
+  waits_is : WaitStands (Some f) e.outer.items e.input.builds book.work
+  waits_is = subst (λ (t : Option Frame). WaitStands t e.outer.items e.input.builds book.work) top h.readings
+
+  noted_is : (r : Reading) (rs : List Reading) → WaitStands (Some f) e.outer.items e.input.builds (r ∷ rs) → GoesOn a.ask f f' e.input.builds (lists_behind a e.input.builds) Told
+  noted_is r rs w = told.goes e.input.builds (told_builds f e.input.builds w.0.owns) w.0.shallow (owned_behind (frame_kind f) a e.input.builds (owned_of f e.input.builds w.0.owns))
+
+  notes_is : (r : Reading) (rs : List Reading) → WaitStands (Some f) e.outer.items e.input.builds (r ∷ rs) → noting r ≡ grown_moves (tokens_of a) e.input.builds ++ Noted ∷ []
+  notes_is r rs w = noting_is f a e.input.builds r w.0 (noted_is r rs w).builds
+
+  module _ (e' : Engine) (is : e' ≡ accepted e f' a e'.input.lists) (kept : KeepsMacros e.input e'.input) where
+    pub note_stands : Stands sizes e' (with_work (fed_with Told book.work) book)
+    note_stands = at book.work waits_is h.lone h.chained where
+      at : (work : List Reading) → WaitStands (Some f) e.outer.items e.input.builds work → IsLone work → AreChained (fed_with Told work) → Stands sizes e' (with_work (fed_with Told work) book)
+      at [] w lone chained = absurd w
+      at (r ∷ rs) w lone chained =
+          notes_on sizes e e' f f' r rs book (accepted_same e e' f' a is kept) h.sound h.idle h.uncalled w.0 w.1.0 w.1.1
+          (ap (λ (y : Engine). y.top) is) (ap (λ (y : Engine). y.outer) is) (ap (λ (y : Engine). length y.input.builds) is ∙ behind_length a e.input.builds) lone chained
+          (subst (λ (y : Engine). GivesNone y.ask) (sym is) told.none) (subst (λ (y : Engine). IsUntold y.ask) (sym is) told.untold)
+          (subst (λ (y : Engine). GoesOn y.ask f f' e.input.builds y.input.builds Told) (sym is) (noted_is r rs w))
+
+    pub note_did : (w : World) (r : Reading) (rs : List Reading) → book.work ≡ r ∷ rs → AnswerFits a e.input → Did sizes (state_of e (with_work (r ∷ rs) book)) (state_of e' (with_work (fed_with Told (r ∷ rs)) book)) w w (noting r)
+    note_did w r rs work room =
+        subst (λ (ms : List Move). Did sizes (state_of e (with_work (r ∷ rs) book)) (state_of e' (with_work (fed_with Told (r ∷ rs)) book)) w w ms) (sym (notes_is r rs (subst (WaitStands (Some f) e.outer.items e.input.builds) work waits_is)))
+        (answer_did sizes book w e e' a (Some f') Noted Told (r ∷ rs) is h.uncalled.input h.sound tt (λ s. refl) (λ s. refl) room)
+
+  -- the list has no room for one of the answer's tokens
+  pub note_cuts : (e' : Engine) (w : World) (full : Full) (r : Reading) (rs : List Reading) → book.work ≡ r ∷ rs → KeepsMacros e.input e'.input → AnswerCut a full e e' → Cuts sizes (state_of e (with_work (r ∷ rs) book)) e' (with_work (r ∷ rs) book) w w (noting r) (broken.Full full)
+  note_cuts e' w full r rs work kept cut =
+      cuts_by sizes (state_of e (with_work (r ∷ rs) book)) e' (with_work (r ∷ rs) book) w w (grown_moves (tokens_of a) e.input.builds ++ Noted ∷ []) (noting r) (broken.Full full)
+      (notes_is r rs (subst (WaitStands (Some f) e.outer.items e.input.builds) work waits_is))
+      (answer_cuts sizes (with_work (r ∷ rs) book) w e e' a full Noted h.uncalled.input h.sound kept cut)
 
 -- BEGUN WITH A TOKEN
 
-apart : {b : Bool} → b ≡ true → b ≡ false → ⊥
-apart h k = true≢false (sym h ∙ k)
+-- a frame that builds no list
+bare_behind : (a : Answer) (lists : List (List Token)) → GrowsNone a → lists_behind a lists ≡ lists
+bare_behind a lists g = ap (λ (o : Option Token). grown_by o (grown_by a.first lists)) g.second ∙ ap (λ (o : Option Token). grown_by o lists) g.first
 
--- behind the token with which a reading begins
-begun_frame : (sizes : Sizes) (e e2 : Engine) (k : reading.Kind) (x : Seen) (book : Book) (f : Frame) → e.top ≡ Some f → IsOpen e.ask → TakesTokens f → frame_grows f x ≡ false → is_built x.meaning ≡ true →
-    ((f : Frame) (lists : List (List Token)) (r : Reading) (rs : List Reading) → e.top ≡ Some f → FedFrame sizes e f x lists r rs book → Stands sizes e2 (with_work (fed_with (Tok x) (r ∷ rs)) book)) →
-    Stands sizes e (with_work (fresh k ∷ book.work) book) → Stands sizes e2 (with_work (fed_with (Tok x) (fresh k ∷ book.work)) book)
-begun_frame sizes e e2 k x book f top opened takes keeps built some h = at (subst (λ (t : Option Frame). WorkStands e.ask t e.outer.items e.input.builds (fresh k ∷ book.work)) top h.readings) where
-  at : WorkStands e.ask (Some f) e.outer.items e.input.builds (fresh k ∷ book.work) → Stands sizes e2 (with_work (fed_with (Tok x) (fresh k ∷ book.work)) book)
+may_bare : (f : Frame) (x : Seen) (lists : List (List Token)) → own_lists (frame_kind f) ≡ [] → MayFeed f x lists
+may_bare (Waits w) x lists h = tt
+may_bare (Integer scan) x lists h = tt
+may_bare (Text name scan) x lists h = absurd cc
+may_bare (Definition name expanded scan) x lists h = absurd cc
+
+pub first_stands : (sizes : Sizes) (e : Engine) (f f' : Frame) (a : Answer) (x : Seen) (book : Book) (r : Reading) (rs : List Reading) → e.top ≡ Some f → FrameFed f f' a x → (own_lists (frame_kind f) ≡ [] → GrowsNone a) → own_lists r.kind ≡ [] → IsOpen e.ask →
+    Stands sizes e (with_work (r ∷ rs) book) → Stands sizes (record e { top = Some f'; ask = a.ask }) (with_work (fed_with (Tok x) (r ∷ rs)) book)
+first_stands sizes e f f' a x book r rs top fed grows none opened h = at (subst (λ (t : Option Frame). WorkStands e.ask t e.outer.items e.input.builds (r ∷ rs)) top h.readings) where
+  at : WorkStands e.ask (Some f) e.outer.items e.input.builds (r ∷ rs) → Stands sizes (record e { top = Some f'; ask = a.ask }) (with_work (fed_with (Tok x) (r ∷ rs)) book)
   at w =
-      let below : FrameStands f e.input.builds (fresh k) = w.0.open_frame opened in
-      some f e.input.builds (fresh k) book.work top (record {
-        sound = h.sound;
-        idle = h.idle;
-        frame = below;
-        holds = w.0.holds;
-        built = built;
-        may_feed = may_feed f x e.input.builds below.owns takes below.shallow (λ g. absurd (apart g keeps));
-        grown = ap (λ (g : Bool). lists_after g x e.input.builds) (sym keeps);
-        outer = w.1;
-        lone = h.lone;
-        uncalled = h.uncalled;
-      })
-
-takes_top : (t : Option Frame) (f : Frame) → t ≡ Some f → TopTakes t → TakesTokens f
-takes_top t f is h = subst TopTakes is h
+      let below : FrameStands f e.input.builds r = w.0.open_frame opened in
+      let own : own_lists (frame_kind f) ≡ [] = ap own_lists (sym below.kind) ∙ none in
+      let still : lists_behind a e.input.builds ≡ e.input.builds = bare_behind a e.input.builds (grows own) in
+      let goes : GoesOn a.ask f f' e.input.builds (lists_behind a e.input.builds) (Tok x) =
+      fed.goes e.input.builds (may_bare f x e.input.builds own) below.shallow (owned_behind (frame_kind f) a e.input.builds (owned_of f e.input.builds below.owns)) in
+      feeds_on sizes e (record e { top = Some f'; ask = a.ask }) f f' r rs book
+      (record { others = record { depth = refl; call = refl; names = refl; categories = refl; in_line = refl; reports = refl; quiet = refl; sizes = refl }; pending = refl; making = refl; calling = refl; store = store_gathered e.input e.input e.input.builds refl (record { tokens = λ n h. refl }) })
+      h.sound h.idle h.uncalled below w.0.holds w.1 refl refl refl x h.orderly fed.back fed.bare (subst (λ (l : List (List Token)). GoesOn a.ask f f' e.input.builds l (Tok x)) still goes)
 
 none_open : IsSome {T = Frame} None → ⊥
 none_open h = true≢false (sym h)
-
-pub begun_stands : (sizes : Sizes) (e e2 : Engine) (k : reading.Kind) (x : Seen) (book : Book) → IsSome e.top → TopTakes e.top → IsOpen e.ask → ((f : Frame) (y : Seen) → e.top ≡ Some f → frame_grows f y ≡ false) → is_built x.meaning ≡ true →
-    ((f : Frame) (lists : List (List Token)) (r : Reading) (rs : List Reading) → e.top ≡ Some f → FedFrame sizes e f x lists r rs book → Stands sizes e2 (with_work (fed_with (Tok x) (r ∷ rs)) book)) →
-    Stands sizes e (with_work (fresh k ∷ book.work) book) → Stands sizes e2 (with_work (fed_with (Tok x) (fresh k ∷ book.work)) book)
-begun_stands sizes e e2 k x book is_open takes opened keeps built some h = by_top e.top refl where
-  by_top : (t : Option Frame) → e.top ≡ t → Stands sizes e2 (with_work (fed_with (Tok x) (fresh k ∷ book.work)) book)
-  by_top None top = absurd (none_open (subst IsSome top is_open))
-  by_top (Some f) top = begun_frame sizes e e2 k x book f top opened (takes_top e.top f top takes) (keeps f x top) built some h
 
 with_at : (e e1 e2 : Engine) (k : Kind) (t : Option Frame) → e1.top ≡ t → IsSome t → frames e1 ≤ frames e + 1 → e1.input.pending ≡ e.input.pending → ((f : Frame) → e1.top ≡ Some f → frame_rank f ≡ reading.rank (kind_of k)) →
     ((f : Frame) → e1.top ≡ Some f → frame_weight e2 ≤ 2 * frames e1 + (7 + 3 * frame_rank f) + pending_weight e1.input.pending) → frame_weight e2 < 2 * frames e + (10 + 3 * reading.rank (kind_of k)) + pending_weight e.input.pending
@@ -350,10 +338,3 @@ with_at e e1 e2 k (Some f) is some one input rank light = omega (arith, one, ap 
 pub with_light : (e e1 e2 : Engine) (k : Kind) → frames e1 ≤ frames e + 1 → IsSome e1.top → ((f : Frame) → e1.top ≡ Some f → frame_rank f ≡ reading.rank (kind_of k)) → e1.input.pending ≡ e.input.pending →
     ((f : Frame) → e1.top ≡ Some f → frame_weight e2 ≤ 2 * frames e1 + (7 + 3 * frame_rank f) + pending_weight e1.input.pending) → frame_weight e2 < 2 * frames e + (10 + 3 * reading.rank (kind_of k)) + pending_weight e.input.pending
 with_light e e1 e2 k one some rank input light = with_at e e1 e2 k e1.top refl some one input rank light
-
--- a command waits beneath it
-pub lone_behind : (sizes : Sizes) (e : Engine) (waits : Waiting) (r : Reading) (book : Book) → WaitsWith sizes e (Some waits) book → IsLone (r ∷ book.work)
-lone_behind sizes e waits r book h = at book.work h.readings where
-  at : (work : List Reading) → WaitsFirst e waits work → IsLone (r ∷ work)
-  at [] w = absurd w
-  at (s ∷ rs) w = tt

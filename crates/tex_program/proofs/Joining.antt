@@ -1,6 +1,6 @@
 -- What the engine does, one thing after another.
 use Rattle.std.proofs.Common.{◌≡◌, ℕ, ◌+◌, ◌≤◌, List, [], ◌∷◌, ◌++◌, refl, sym, ◌∙◌, subst, Bool, arith}
-use Rattle.std.specs.Prelude.{Result, Ok, Err, IfOk, IfErr, OnOk, IsErrAnd}
+use Rattle.std.specs.Prelude.{Result, Ok, Err, IfOk, IfErr, OnOk, OnErr, IsErrAnd}
 use Rattle.tex_defs.specs.declared.Sizes.{Sizes}
 use Rattle.tex_defs.specs.Places.{World}
 use Rattle.plain_state.specs.States as machine
@@ -16,10 +16,10 @@ use Rattle.tex_program.specs.declared.engine.Ruled.{Ruled}
 use Rattle.tex_program.specs.declared.engine.Ruled.TheVariants.{Step, Free, Halted}
 use Rattle.tex_program.specs.Begins.{outcome_of}
 use Rattle.tex_program.specs.Book.{Book}
-use Rattle.tex_program.specs.Stands.{Stands, state_of}
+use Rattle.tex_program.specs.Calls.{AllStand}
+use Rattle.tex_program.specs.Stands.{state_of}
 use Rattle.tex_program.specs.Steps.{IsFree, freed}
-use Rattle.tex_program.proofs.Bare.{all_of}
-use Rattle.tex_program.specs.Rules.{Went, Halts, DoesRule, DoesOnward}
+use Rattle.tex_program.specs.Rules.{world_of, Went, Halts, DoesRule, DoesOnward}
 
 -- a move that writes nothing
 abbrev pub IsQuiet : Move → Type 0
@@ -45,8 +45,12 @@ pub went_by : (sizes : Sizes) (s : State) (e' : Engine) (w w' : World) (ms ns : 
 went_by sizes s e' w w' ms ns k e h = subst (λ (x : List Move). Went sizes s e' w w' x k) (sym e) h
 
 -- nothing is done
-pub skip_onward : (sizes : Sizes) (e : Engine) (book : Book) (w : World) (ms : List Move) → ms ≡ [] → Stands sizes e book → Went sizes (state_of e book) e w w ms 0
-skip_onward sizes e book w ms is stands = went_by sizes _ e w w [] ms 0 is (record { book' = book; stands = all_of sizes e book stands; did = did_none sizes (state_of e book) w; count = refl })
+pub skip_onward : (sizes : Sizes) (e : Engine) (book : Book) (w : World) → AllStand sizes e book → Went sizes (state_of e book) e w w [] 0
+skip_onward sizes e book w stands = record { book' = book; stands = stands; did = did_none sizes (state_of e book) w; count = refl }
+
+-- the world that is told when the column stays
+pub column_went : (sizes : Sizes) (st : State) (e' : Engine) (f : FilesTold) (s : SinkTold) (b : Bool) (ms : List Move) (k : ℕ) → e'.in_line ≡ b → Went sizes st e' (world f s b) (world f s b) ms k → Went sizes st e' (world f s b) (world_of f s e') ms k
+column_went sizes st e' f s b ms k is h = subst (λ (x : Bool). Went sizes st e' (world f s b) (world f s x) ms k) (sym is) h
 
 -- an error that `?` hands on
 pub same_err : {T E : Type 0} → (r : Result T E) (x : E) (P : E → Type 0) → IsErrAnd r (λ e. e ≡ x) → P x → IfErr r P
@@ -65,9 +69,17 @@ pub err_to : {T E : Type 0} {P Q : E → Type 0} → (r : Result T E) → ((x : 
 err_to (Ok x) f h = tt
 err_to (Err e) f h = f e h
 
+pub err_both : {T E R : Type 0} {P Q : E → Type 0} → (r : Result T E) → ((x : E) → P x → R → Q x) → IfErr r P → OnErr r R → IfErr r Q
+err_both (Ok x) f h k = tt
+err_both (Err e) f h k = f e h k
+
 pub on_ok : {T E : Type 0} {P Q : Type 0} → (r : Result T E) → (P → Q) → OnOk r P → OnOk r Q
 on_ok (Ok x) f h = f h
 on_ok (Err x) f h = tt
+
+pub on_both : {T E : Type 0} {P Q R : Type 0} → (r : Result T E) → (P → Q → R) → OnOk r P → OnOk r Q → OnOk r R
+on_both (Ok x) f h k = f h k
+on_both (Err x) f h k = tt
 
 -- MOVES ONE AFTER ANOTHER
 

@@ -8,7 +8,7 @@ use Rattle.tex_defs.specs.declared.Full.{Full as FullTable}
 use Rattle.tex_defs.specs.declared.Fatal.TheVariants.{NoFile}
 use Rattle.tex_defs.specs.declared.Sizes.{Sizes}
 use Rattle.plain_state.specs.States as machine
-use Rattle.plain_state.specs.States.{State, Move, Reading, Kept, AtFatal, Outcome as MachineOutcome}
+use Rattle.plain_state.specs.States.{State, Move, Kept, AtFatal, Outcome as MachineOutcome}
 use Rattle.plain_machine.specs.Plan.{no_file, job_due}
 use Rattle.plain_machine.specs.Runs.{Wrote, steps}
 use Rattle.plain_machine.specs.Bounded.{FitMoves}
@@ -33,7 +33,8 @@ use Rattle.tex_program.specs.Stands.{Stands, FramesStand, SameFrames, state_of}
 use Rattle.tex_program.specs.Rules.{world_of, Halts, Cuts}
 use Rattle.tex_program.specs.Ran.{Came, Ran, CutBy}
 use Rattle.tex_program.specs.Says.{SaysSo, end_status}
-use Rattle.tex_program.proofs.Bare.{all_of, frames_none}
+use Rattle.tex_program.proofs.Bare.{all_of}
+use Rattle.tex_program.proofs.Nearing.{near_none}
 use Rattle.tex_program.proofs.Cutting.{later_cuts}
 use Rattle.tex_program.proofs.Reporting.{frames_still}
 use Rattle.tex_program.proofs.Running.{same_moment}
@@ -121,7 +122,7 @@ due_cuts : (sizes : Sizes) (s : State) (e' : Engine) (book : Book) (w w' : World
 due_cuts sizes s e' book w w' ms n b le none frames h =
     let off : CutOff sizes (record s { due = ms }) (record h.at { due = ms }) n w w' (why_of b) =
     due_cut sizes (record s { due = ms }) (record h.at { due = ms }) n w w' ms (why_of b) (cut_due sizes s h.at w w' ms ms (why_of b) h.cut) le refl in
-    record { t = off.t; cut = off.cut; book' = book; frames = frames_none e' book.work none frames; same = same_moment (why_of b) off.t h.at (state_of e' book) off.same h.same }
+    record { t = off.t; cut = off.cut; book' = book; frames = near_none e' book.work none frames; same = same_moment (why_of b) off.t h.at (state_of e' book) off.same h.same }
 
 -- THE JOB BEGINS
 

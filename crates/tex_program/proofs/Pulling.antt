@@ -1,31 +1,28 @@
--- What becomes of what was pulled, and the check where the file has ended.
-use Rattle.std.proofs.Common.{◌≡◌, ℕ, ◌+◌, ◌<◌, ◌≤◌, List, [], ◌∷◌, ◌++◌, length, drop, map, reverse, refl, sym, ap, ◌∙◌, subst, Bool, true, false, arith}
-use Rattle.std.specs.Prelude.{Option, Some, None, IsSome, codes, nat_le, ◌||◌, if◌then◌else◌}
+-- What becomes of what was pulled.
+use Rattle.std.proofs.Common.{◌≡◌, ℕ, ◌+◌, ◌<◌, ◌≤◌, List, [], ◌∷◌, ◌++◌, length, map, refl, sym, ap, ◌∙◌, subst, Bool, true, false, arith}
+use Rattle.std.specs.Prelude.{Option, Some, None, codes, nat_le, ◌||◌, if◌then◌else◌}
 use Rattle.std.proofs.lemmas.List.{append-nil, length-append, length-map}
 use Rattle.std.proofs.lemmas.Bool.Decides.{nat_tests}
 use Rattle.std.proofs.lemmas.List.Sums.{sum_by-cons}
 use Rattle.tex_defs.specs.declared.Token.{Token}
-use Rattle.tex_defs.specs.declared.Name.{Name}
 use Rattle.tex_defs.specs.declared.Seen.{Seen}
 use Rattle.tex_defs.specs.declared.Sizes.{Sizes}
 use Rattle.tex_defs.specs.declared.Full.{Full}
 use Rattle.tex_defs.specs.declared.Table.TheVariants.{InputStackSize}
 use Rattle.tex_defs.specs.Sizes.{size_of}
-use Rattle.tex_defs.specs.Places.{World, Transcript}
+use Rattle.tex_defs.specs.Places.{World}
 use Rattle.plain_state.specs.Puts.{Item, Text, First, Later, Gap, Put as PutList, settled, settled_top, passed, next_item, top_item, first_item, put_levels, levels_of}
 use Rattle.plain_state.specs.Pending.{Pending, Progress, NotBegun, Begun as BegunFile, Closed, Pulled, TokenFrom, LexemeFrom, LineTaken, InvalidMet, FileOver, NothingLeft, settle, pulled, after_pull, taken_line, from_front, from_list, from_line, from_file}
 use Rattle.plain_state.specs.Lex.{Lexeme, WordName, ParName, Lexed, Gives, Invalid, UsedUp, lexed}
 use Rattle.plain_state.specs.Lookup.{number_of, token_of, joins, new_among, new_name}
 use Rattle.tex_defs.specs.declared.Meaning.{Meaning}
 use Rattle.tex_defs.specs.declared.Meaning.TheVariants as means
-use Rattle.plain_state.specs.Tokens.{is_outer, space_token}
+use Rattle.plain_state.specs.Tokens.{is_outer}
 use Rattle.plain_state.specs.Meanings.{seen}
-use Rattle.plain_state.specs.Readings as reading
 use Rattle.plain_state.specs.Reports as reports
-use Rattle.plain_state.specs.States as machine
-use Rattle.plain_state.specs.States.{State, Reading, Move, Handed, Taken, Settled, Skipped, FileClosed, Entered, Written, made}
+use Rattle.plain_state.specs.States.{State, Reading, Move, Handed, Taken, Settled, Skipped, FileClosed, Entered, made}
 use Rattle.plain_state.specs.Tables.{means_macro, is_meant, is_put, Demand, level, opened_level, file_levels, file_level, buffer, next_line, refused, refusal, full, string, hash, new_name as name_demands}
-use Rattle.plain_machine.specs.Plan.{Page, handed, met, met_outer, entered, without_file, Scanning, scanning, scanning_kind, first_of, checked, page_behind, put_one, reported, right_brace}
+use Rattle.plain_machine.specs.Plan.{Page, handed, met, entered, without_file, Scanning, scanning, checked, reported}
 use Rattle.plain_machine.specs.Numbers.{pending_of, pulled_of}
 use Rattle.plain_machine.specs.Runs.{steps}
 use Rattle.plain_machine.specs.Does.{Did}
@@ -42,35 +39,30 @@ use Rattle.input_state.specs.Reads.{Pulls, ReadsLexeme, step_demands, pull_refus
 use Rattle.input_state.specs.declared.answer.Pulled as answers
 use Rattle.input_state.specs.declared.answer.Pulled.TheVariants as answer
 use Rattle.line_lexer.specs.declared.Lexed as answered
-use Rattle.frames.specs.Sees.{first_list}
-use Rattle.frames.specs.Resumes.{frame_kind, waiting_kind, IsNoText, Owns}
 use Rattle.frames.specs.Weights.{ask_weight}
-use Rattle.frames.specs.declared.scan.Ask.{Ask}
-use Rattle.frames.specs.declared.scan.Ask.TheVariants.{More}
 use Rattle.frames.specs.declared.scan.Want.{Want as ScanWant}
 use Rattle.frames.specs.declared.scan.Want.TheVariants as asks
-use Rattle.frames.specs.declared.frame.Frame.{Frame}
-use Rattle.frames.specs.declared.frame.Frame.TheVariants as frame
-use Rattle.frames.specs.declared.frame.Waiting.{Waiting}
-use Rattle.frames.specs.declared.frame.Waiting.TheVariants as waiting
 use Rattle.tex_program.specs.declared.broken.Broken.{Broken}
 use Rattle.tex_program.specs.declared.broken.Broken.TheVariants as broken
+use Rattle.tex_program.specs.declared.call.Call.{Call}
 use Rattle.tex_program.specs.declared.engine.Engine.{Engine}
 use Rattle.tex_program.specs.declared.engine.Ruled.{Ruled}
 use Rattle.tex_program.specs.declared.engine.Ruled.TheVariants.{Step, Free, Halted}
 use Rattle.tex_program.specs.declared.reactions.Outcome.{Outcome}
 use Rattle.tex_program.specs.declared.reactions.Last.TheVariants as last
-use Rattle.tex_program.specs.Begins.{away_moves, last_moves}
+use Rattle.tex_program.specs.Begins.{last_moves}
 use Rattle.tex_program.specs.Steps.{IsFree, StepsIf, freed, pending_weight, call_weight, weight}
 use Rattle.tex_program.specs.Book.{Book}
+use Rattle.tex_program.specs.Calls.{AllStand, ReadingsStand, CallStands}
 use Rattle.tex_program.specs.Entering.{joined, located, with_names, EntryFits, EntryRefused}
-use Rattle.tex_program.specs.Stands.{Counts, IsSized, IsSound, SameStore, Stands, WorkStands, OuterStand, FrameStands, SameFrames, OnlyColumn, state_of, page_of, frames}
-use Rattle.tex_program.specs.Rules.{world_of, onward_of, enters_of, scanning_of, token_moves, name_moves, Takes, Wants, Cuts, Went, DoesRule, DoesOnward, away_text}
-use Rattle.tex_program.proofs.Bare.{bare, all_of}
+use Rattle.tex_program.specs.Stands.{Counts, IsSized, IsSound, SameStore, SameFrames, OnlyColumn, state_of, page_of, frames}
+use Rattle.tex_program.specs.Near.{CutsIn}
+use Rattle.tex_program.specs.Rules.{world_of, onward_of, enters_of, scanning_of, token_moves, name_moves, WantsHere, Takes, Cuts, Went, DoesRule, DoesOnward}
+use Rattle.tex_program.proofs.CallKept.{all_still}
 use Rattle.tex_program.proofs.Cutting.{cuts_by, later_cuts, full_cuts}
-use Rattle.tex_program.proofs.Reporting.{stands_still}
+use Rattle.tex_program.proofs.Nearing.{in_by, later_in}
 use Rattle.tex_program.proofs.Storing.{store_with, sound_still}
-use Rattle.tex_program.proofs.Cells.{entered_plain, inner_at, seen_more}
+use Rattle.tex_program.proofs.Cells.{meaning_more, seen_more, inner_new}
 use Rattle.tex_program.proofs.Joining.{IsQuiet, quiet_here, went_by, onward_by, onward_join, step_join, free_rule, none_rule}
 
 -- AN ENGINE THAT HAS WRITTEN
@@ -84,161 +76,16 @@ same_frames e e' h = rw (h.outer, h.top, h.call) refl
 pub counts_still : (sizes : Sizes) (e e' : Engine) (book : Book) → SameFrames e e' → IsSound sizes e' book.number book.macros → Counts sizes e book → Counts sizes e' book
 counts_still sizes e e' book same sound h = record { sound = sound; depth = h.depth ∙ sym (same_frames e e' same) }
 
--- A TEXT THAT RUNS AWAY: it is shown, a brace inserted, and the report comes
+-- a token is wanted where it was
+wants_by : (e e' : Engine) (c : Option Call) (want : Option ScanWant) → e'.top ≡ e.top → e'.ask ≡ e.ask → WantsHere c want e → WantsHere c want e'
+wants_by e e' None None top ask h = top ∙ h
+wants_by e e' None (Some want) top ask h = ask ∙ h
+wants_by e e' (Some c) None top ask h = h
+wants_by e e' (Some c) (Some want) top ask h = h
 
-module _ (sizes : Sizes) (e e1 e2 : Engine) (f : FilesTold) (s0 s1 : SinkTold) (text : List ℕ) (report : reports.Report) (rest : List Move) (book : Book) (only : OnlyColumn e e1) (page : page_of e2 book ≡ page_of e1 book)
-    (shown : Did sizes (state_of e book) (state_of e1 book) (world_of f s0 e) (world_of f s1 e1) (Written Transcript text ∷ [])) where
-  away_page : page_of e2 book ≡ page_behind (page_of e book) text
-  away_page =
-      let column : e1.in_line ≡ machine.in_line_after e.in_line text = shown.written.column in
-      let number : e1.input.pending.number ≡ e.input.pending.number = ap (λ (i : Stored). i.pending.number) only.input in
-      let names : e1.names.names ≡ e.names.names = ap (λ (x : Strings). x.names) only.names in
-      page ∙ cc (column, number, names, only.categories, only.reports, only.quiet)
-
-  column : e2.in_line ≡ e1.in_line
-  column = ap (λ (p : Page). p.in_line) page
-
-  -- the brace has no room
-  pub away_full : (b : Broken) → ((more : List Move) → Cuts sizes (state_of e1 book) e2 book (world_of f s1 e1) (world_of f s1 e1) (put_one right_brace ++ more) b) →
-      Cuts sizes (state_of e book) e2 book (world_of f s0 e) (world_of f s1 e2) (away_moves (page_of e book) text report rest) b
-  away_full b h =
-      subst (λ (x : Bool). Cuts sizes (state_of e book) e2 book (world_of f s0 e) (world f s1 x) (away_moves (page_of e book) text report rest) b) (sym column)
-      (later_cuts sizes _ (state_of e1 book) e2 book (world_of f s0 e) (world_of f s1 e1) (world_of f s1 e1) (Written Transcript text ∷ []) (put_one right_brace ++ reported (page_behind (page_of e book) text) report rest) b shown
-      (h (reported (page_behind (page_of e book) text) report rest)))
-
-  module _ (s3 : SinkTold) (e3 : Engine) (put : (w : World) → Did sizes (state_of e1 book) (state_of e2 book) w w (put_one right_brace)) where
-    both : Did sizes (state_of e book) (state_of e2 book) (world_of f s0 e) (world_of f s1 e2) (Written Transcript text ∷ put_one right_brace)
-    both = subst (λ (x : Bool). Did sizes (state_of e book) (state_of e2 book) (world_of f s0 e) (world f s1 x) (Written Transcript text ∷ put_one right_brace)) (sym column)
-        (did_join sizes _ _ _ _ _ _ (Written Transcript text ∷ []) (put_one right_brace) shown (put (world_of f s1 e1)))
-
-    pub away_rule : (ruled : Ruled) → DoesOnward sizes (state_of e2 book) e3 book (world_of f s1 e2) (world_of f s3 e3) (reported (page_of e2 book) report rest) ruled →
-        DoesOnward sizes (state_of e book) e3 book (world_of f s0 e) (world_of f s3 e3) (away_moves (page_of e book) text report rest) ruled
-    away_rule ruled on =
-        onward_join sizes (state_of e book) (state_of e2 book) e3 book (world_of f s0 e) (world_of f s1 e2) (world_of f s3 e3) (Written Transcript text ∷ put_one right_brace) (reported (page_behind (page_of e book) text) report rest) ruled (ap (λ (p : Page). p.reports) page ∙ only.reports) both refl
-        (subst (λ (p : Page). DoesOnward sizes (state_of e2 book) e3 book (world_of f s1 e2) (world_of f s3 e3) (reported p report rest) ruled) away_page on)
-
-    pub away_cuts : (b : Broken) → Cuts sizes (state_of e2 book) e3 book (world_of f s1 e2) (world_of f s3 e3) (reported (page_of e2 book) report rest) b →
-        Cuts sizes (state_of e book) e3 book (world_of f s0 e) (world_of f s3 e3) (away_moves (page_of e book) text report rest) b
-    away_cuts b h =
-        later_cuts sizes (state_of e book) (state_of e2 book) e3 book (world_of f s0 e) (world_of f s1 e2) (world_of f s3 e3) (Written Transcript text ∷ put_one right_brace) (reported (page_behind (page_of e book) text) report rest) b both
-        (subst (λ (p : Page). Cuts sizes (state_of e2 book) e3 book (world_of f s1 e2) (world_of f s3 e3) (reported p report rest) b) away_page h)
-
--- THE CHECK
-
-pub wants_stands : (sizes : Sizes) (e : Engine) (book : Book) → Wants sizes e book → Stands sizes e book
-wants_stands sizes e book t = by_want t.0 t.1 where
-  by_want : (want : Option ScanWant) → Takes sizes want e book → Stands sizes e book
-  by_want None h = h.1
-  by_want (Some want) h = h.1
-
-pub takes_stands : (sizes : Sizes) (want : Option ScanWant) (e : Engine) (book : Book) → Takes sizes want e book → Stands sizes e book
-takes_stands sizes None e book h = h.1
-takes_stands sizes (Some want) e book h = h.1
-
--- the name of an \outer macro is met, and another token
-outer_meets : (page : Page) (o : Option Scanning) (onward : Seen → List Move) (x : Seen) → is_outer x.meaning ≡ true → met page o onward x ≡ met_outer page o x.token onward
-outer_meets page o onward x is = rw is refl
-
-pub inner_meets : (page : Page) (o : Option Scanning) (onward : Seen → List Move) (x : Seen) → is_outer x.meaning ≡ false → met page o onward x ≡ onward x
+-- a token that isn't the name of an \outer macro goes on
+inner_meets : (page : Page) (o : Option Scanning) (onward : Seen → List Move) (x : Seen) → is_outer x.meaning ≡ false → met page o onward x ≡ onward x
 inner_meets page o onward x is = rw is refl
-
--- where no text is read, it goes on
-pub none_meets : (page : Page) (o : Option Scanning) (onward : Seen → List Move) (t : Token) → o ≡ None → token_moves page o onward t ≡ onward (seen page.meanings t)
-none_meets page o onward t is = ap (λ (x : Option Scanning). token_moves page x onward t) is ∙ by_outer (is_outer (seen page.meanings t).meaning) where
-  by_outer : (b : Bool) → (if b then onward (seen page.meanings t) else onward (seen page.meanings t)) ≡ onward (seen page.meanings t)
-  by_outer true = refl
-  by_outer false = refl
-
--- commands that wait build no list
-kind_beneath : (w : Waiting) (list : List Token) (o : Option Scanning) → scanning_kind (waiting_kind w) list o ≡ o
-kind_beneath (waiting.Catcode scan) list o = refl
-kind_beneath (waiting.Message name) list o = refl
-kind_beneath (waiting.Prefixed long outer scan) list o = refl
-
-none_waits : (fs : List Waiting) (rs : List Reading) (lists : List (List Token)) → OuterStand fs rs → scanning rs lists ≡ None
-none_waits [] [] lists h = refl
-none_waits [] (r ∷ rs) lists h = absurd h
-none_waits (f ∷ fs) [] lists h = absurd h
-none_waits (f ∷ fs) (r ∷ rs) lists h =
-    ap (λ (k : reading.Kind). scanning_kind k (first_of r.holds lists) (scanning rs (drop r.holds lists))) h.0.kind ∙ kind_beneath f (first_of r.holds lists) (scanning rs (drop r.holds lists)) ∙ none_waits fs rs (drop r.holds lists) h.1
-
--- the list of a text is the one that its reading holds
-first_held : (lists : List (List Token)) → first_of (length lists) lists ≡ first_list lists
-first_held [] = refl
-first_held (ts ∷ lists) = refl
-
-abbrev pub text_of : Name → List (List Token) → Scanning
-text_of name lists = record { what = reports.OfText; name = name; list = first_list lists }
-
-text_scanned : (r : Reading) (rs : List Reading) (name : Name) (lists : List (List Token)) → r.kind ≡ reading.Text name → r.holds ≡ length lists → scanning (r ∷ rs) lists ≡ Some (text_of name lists)
-text_scanned r rs name lists k h =
-    ap (λ (x : reading.Kind). scanning_kind x (first_of r.holds lists) (scanning rs (drop r.holds lists))) k
-    ∙ ap (λ (ts : List Token). Some (record { what = reports.OfText; name = name; list = ts })) (ap (λ (n : ℕ). first_of n lists) h ∙ first_held lists)
-
-other_scanned : (g : Frame) (list : List Token) (o : Option Scanning) → IsNoText (frame_kind g) → scanning_kind (frame_kind g) list o ≡ o
-other_scanned (frame.Waits w) list o h = kind_beneath w list o
-other_scanned (frame.Integer scan) list o h = refl
-other_scanned (frame.Text name scan) list o h = absurd h
-
-none_scanned : (g : Frame) (fs : List Waiting) (r : Reading) (rs : List Reading) (lists : List (List Token)) → r.kind ≡ frame_kind g → IsNoText (frame_kind g) → OuterStand fs rs → scanning (r ∷ rs) lists ≡ None
-none_scanned g fs r rs lists k h o =
-    ap (λ (x : reading.Kind). scanning_kind x (first_of r.holds lists) (scanning rs (drop r.holds lists))) k ∙ other_scanned g (first_of r.holds lists) (scanning rs (drop r.holds lists)) h ∙ none_waits fs rs (drop r.holds lists) o
-
-module _ (sizes : Sizes) (e : Engine) (book : Book) where
-  text_at : (t : Option Frame) (rs : List Reading) (name : Name) (want : ScanWant) → IsSome t → ((g : Frame) → t ≡ Some g → frame_kind g ≡ reading.Text name) → WorkStands (More want) t e.outer.items e.input.builds rs →
-      scanning rs e.input.builds ≡ Some (text_of name e.input.builds)
-  text_at None rs name want some kind st = cc
-  text_at (Some g) [] name want some kind st = absurd st
-  text_at (Some g) (r ∷ rs) name want some kind st =
-      let below : FrameStands g e.input.builds r = st.0.open_frame tt in text_scanned r rs name e.input.builds (below.kind ∙ kind g refl) st.0.holds
-
-  -- a text is read
-  pub reads_text : (name : Name) → IsSome e.top → ((g : Frame) → e.top ≡ Some g → frame_kind g ≡ reading.Text name) → Wants sizes e book → scanning_of e book.work ≡ Some (text_of name e.input.builds)
-  reads_text name some kind t = by_want t.0 t.1 where
-    by_want : (want : Option ScanWant) → Takes sizes want e book → scanning_of e book.work ≡ Some (text_of name e.input.builds)
-    by_want None h = let open_top : IsSome {T = Frame} None = subst IsSome h.0 some in cc
-    by_want (Some want) h = ap (scanning book.work) (bare e.input h.1.uncalled.input) ∙ text_at e.top book.work name want some kind (subst (λ (a : Ask). WorkStands a e.top e.outer.items e.input.builds book.work) h.0 h.1.readings)
-
-  text_holds : (g : Frame) (lists : List (List Token)) → Owns g lists → lists ≡ [] → IsNoText (frame_kind g)
-  text_holds (frame.Waits (waiting.Catcode scan)) lists h is = tt
-  text_holds (frame.Waits (waiting.Message name)) lists h is = tt
-  text_holds (frame.Waits (waiting.Prefixed long outer scan)) lists h is = tt
-  text_holds (frame.Integer scan) lists h is = tt
-  text_holds (frame.Text name scan) lists h is = cc
-
-  none_at : (g : Frame) (lists : List (List Token)) → Owns g lists → ((lists ≡ [] → ⊥) → IsNoText (frame_kind g)) → IsNoText (frame_kind g)
-  none_at g [] h free = text_holds g [] h refl
-  none_at g (ts ∷ lists) h free = free (λ (is : ts ∷ lists ≡ []). cc)
-
-  on_at : (t : Option Frame) (rs : List Reading) (want : ScanWant) → ((g : Frame) → t ≡ Some g → (e.input.builds ≡ [] → ⊥) → IsNoText (frame_kind g)) → WorkStands (More want) t e.outer.items e.input.builds rs →
-      scanning rs e.input.builds ≡ None
-  on_at None [] want none st = refl
-  on_at None (r ∷ rs) want none st = absurd st
-  on_at (Some g) [] want none st = absurd st
-  on_at (Some g) (r ∷ rs) want none st =
-      let below : FrameStands g e.input.builds r = st.0.open_frame tt in
-      none_scanned g (reverse e.outer.items) r rs e.input.builds below.kind (none_at g e.input.builds below.owns (none g refl)) st.1
-
-  nothing_at : (a : Ask) (t : Option Frame) (rs : List Reading) → t ≡ None → WorkStands a t e.outer.items e.input.builds rs → scanning rs e.input.builds ≡ None
-  nothing_at a None [] is st = refl
-  nothing_at a None (r ∷ rs) is st = absurd st
-  nothing_at a (Some g) rs is st = cc
-
-  -- or none is
-  pub reads_no_text : ((g : Frame) → e.top ≡ Some g → (e.input.builds ≡ [] → ⊥) → IsNoText (frame_kind g)) → Wants sizes e book → scanning_of e book.work ≡ None
-  reads_no_text none t = by_want t.0 t.1 where
-    by_want : (want : Option ScanWant) → Takes sizes want e book → scanning_of e book.work ≡ None
-    by_want None h = ap (scanning book.work) (bare e.input h.1.uncalled.input) ∙ nothing_at e.ask e.top book.work h.0 h.1.readings
-    by_want (Some want) h = ap (scanning book.work) (bare e.input h.1.uncalled.input) ∙ on_at e.top book.work want none (subst (λ (a : Ask). WorkStands a e.top e.outer.items e.input.builds book.work) h.0 h.1.readings)
-
-  -- a text runs away where the file has ended
-  pub runs_away : (name : Name) → scanning_of e book.work ≡ Some (text_of name e.input.builds) → checked (page_of e book) (scanning_of e book.work) ≡ away_moves (page_of e book) (away_text e) (reports.FileEnded reports.OfText name) []
-  runs_away name is = ap (checked (page_of e book)) is
-
-  -- and where the name of an \outer macro comes
-  pub meets_away : (name : Name) (onward : Seen → List Move) (t : Token) → is_outer (seen (page_of e book).meanings t).meaning ≡ true → scanning_of e book.work ≡ Some (text_of name e.input.builds) →
-      token_moves (page_of e book) (scanning_of e book.work) onward t ≡ put_one t ++ away_moves (page_of e book) (away_text e) (reports.Forbidden reports.OfText name) (onward (seen (page_of e book).meanings space_token))
-  meets_away name onward t outer is = ap (λ (o : Option Scanning). token_moves (page_of e book) o onward t) is ∙ outer_meets (page_of e book) (Some (text_of name e.input.builds)) onward (seen (page_of e book).meanings t) outer
 
 -- other moves, the same
 rule_by : (sizes : Sizes) (s : State) (e' : Engine) (book : Book) (w w' : World) (ms ns : List Move) (ruled : Ruled) → ns ≡ ms → DoesRule sizes s e' book w w' ms ruled → DoesRule sizes s e' book w w' ns ruled
@@ -361,71 +208,99 @@ module _ (sizes : Sizes) (e : Engine) (book : Book) where
     tied = tied_fewer book.number book.macros e.input.meanings e.input.pending.puts e.input.lists h.tied (with_names new e).input.meanings e.input.pending.puts
         (λ n held. held_more n (with_names new e).input.meanings e.input.meanings e.input.pending.puts e.input.pending.puts (λ a. sym (meant_more n e.input.meanings new) ∙ a) (λ a. a) held);
     bodies = h.bodies;
-    plain = entered_plain e.input.meanings new h.plain;
   }
 
-  stands_names : (new : List (List ℕ)) → Stands sizes e book → Stands sizes (with_names new e) book
-  stands_names new st = record { sound = sound_names new st.sound; idle = st.idle; readings = st.readings; lone = st.lone; uncalled = record { none = st.uncalled.none; input = st.uncalled.input } }
+  call_names : (new : List (List ℕ)) (c : Call) (r : Reading) → CallStands e book.number c r → CallStands (with_names new e) book.number c r
+  call_names new c r h = record {
+    long = h.long;
+    outer = h.outer;
+    id = h.id;
+    meaning = meaning_more e.input.meanings new c.name ∙ h.meaning;
+    kind = h.kind;
+    places = h.places;
+    asked = h.asked;
+    at = h.at;
+    holds = h.holds;
+    last = h.last;
+    not_lent = h.not_lent;
+  }
+
+  readings_names : (new : List (List ℕ)) (c : Option Call) (work : List Reading) → ReadingsStand c e book.number work → ReadingsStand c (with_names new e) book.number work
+  readings_names new None work h = h
+  readings_names new (Some c) [] h = h
+  readings_names new (Some c) (r ∷ rs) h = (call_names new c r h.0, h.1)
 
   pub takes_names : (want : Option ScanWant) (new : List (List ℕ)) → Takes sizes want e book → Takes sizes want (with_names new e) book
-  takes_names None new h = (h.0, stands_names new h.1)
-  takes_names (Some want) new h = (h.0, stands_names new h.1)
+  takes_names want new h = (wants_by e (with_names new e) e.call want refl refl h.0, record { sound = sound_names new h.1.sound; idle = h.1.idle; all = readings_names new e.call book.work h.1.all })
 
-  module _ (want : Option ScanWant) (scanned : Option Scanning) (x : Lexeme) (t : Token) (is : t ≡ token_of (enters_of want) e.names.names x) (sound : IsSound sizes e book.number book.macros) where
+  module _ (want : Option ScanWant) (x : Lexeme) (t : Token) (is : t ≡ token_of (enters_of want) e.names.names x) (sound : IsSound sizes e book.number book.macros) where
     abbrev new : List (List ℕ)
     new = new_name (enters_of want) e.names.names x
 
     abbrev named : Engine
     named = with_names new e
 
-    -- what becomes of it doesn't hang on the name that joins the others
-    page_still : enters_of want ≡ false → page_of named book ≡ page_of e book
-    page_still none =
-        let empty : new ≡ [] = subst (λ (b : Bool). new_name b e.names.names x ≡ []) (sym none) (none_new e.names.names x) in
-        ap (λ (y : Engine). page_of y book) (none_names new e empty)
-
-    inner_here : is_outer (seen (page_of e book).meanings (token_of (enters_of want) e.names.names x)).meaning ≡ false
-    inner_here = ap (λ (y : Seen). is_outer y.meaning) (seen_of book.number e.input.meanings (token_of (enters_of want) e.names.names x)) ∙ inner_at e.input.meanings sound.plain e.names.names (enters_of want) x
+    -- what becomes of a token there
+    abbrev moves_in : Engine → Token → List Move
+    moves_in y u = token_moves (page_of y book) (scanning_of y book.work) (onward_of (page_of y book) want book.work) u
 
     seen_now : seen (page_of e book).meanings t ≡ seen (page_of named book).meanings t
     seen_now = seen_of book.number e.input.meanings t ∙ sym (seen_more e.input.meanings new t) ∙ sym (seen_of book.number named.input.meanings t)
 
-    onward_now : token_moves (page_of e book) scanned (onward_of (page_of e book) want book.work) (token_of (enters_of want) e.names.names x) ≡ onward_of (page_of named book) want book.work (seen (page_of named book).meanings t)
-    onward_now =
-        inner_meets (page_of e book) scanned (onward_of (page_of e book) want book.work) (seen (page_of e book).meanings (token_of (enters_of want) e.names.names x)) inner_here
-        ∙ ap (λ (y : Token). onward_of (page_of e book) want book.work (seen (page_of e book).meanings y)) (sym is)
-        ∙ ap (onward_of (page_of e book) want book.work) seen_now
-        ∙ by_want want (seen (page_of named book).meanings t) page_still where
-          by_page : (w : Option ScanWant) (y : Seen) → page_of named book ≡ page_of e book → onward_of (page_of e book) w book.work y ≡ onward_of (page_of named book) w book.work y
-          by_page w y same = ap (λ (p : Page). onward_of p w book.work y) (sym same)
+    entering : (new ≡ [] → ⊥) → enters_of want ≡ true
+    entering some = by_enters (enters_of want) some where
+      by_enters : (b : Bool) → (new_name b e.names.names x ≡ [] → ⊥) → b ≡ true
+      by_enters true some = refl
+      by_enters false some = absurd (some (none_new e.names.names x))
 
-          by_want : (w : Option ScanWant) (y : Seen) → (enters_of w ≡ false → page_of named book ≡ page_of e book) → onward_of (page_of e book) w book.work y ≡ onward_of (page_of named book) w book.work y
-          by_want None y h = by_page None y (h refl)
-          by_want (Some asks.Raw) y h = refl
-          by_want (Some asks.Expanded) y h = by_page (Some asks.Expanded) y (h refl)
-          by_want (Some asks.Nonblank) y h = by_page (Some asks.Nonblank) y (h refl)
-          by_want (Some asks.Command) y h = by_page (Some asks.Command) y (h refl)
+    raw_onward : (p q : Page) (w : Option ScanWant) (y : Seen) → enters_of w ≡ true → onward_of p w book.work y ≡ onward_of q w book.work y
+    raw_onward p q None y h = cc
+    raw_onward p q (Some asks.Raw) y h = refl
+    raw_onward p q (Some asks.Expanded) y h = cc
+    raw_onward p q (Some asks.Copied) y h = cc
+    raw_onward p q (Some asks.Nonblank) y h = cc
+    raw_onward p q (Some asks.Command) y h = cc
+
+    inner_here : (new ≡ [] → ⊥) → is_outer (seen (page_of e book).meanings t).meaning ≡ false
+    inner_here some =
+        ap (λ (y : Seen). is_outer y.meaning) (seen_of book.number e.input.meanings t) ∙ ap (λ (u : Token). is_outer (seen e.input.meanings u).meaning) is
+        ∙ inner_new e.input.meanings e.names.names sound.sized.located (enters_of want) x some
+
+    -- the name is new, or none is
+    some_now : (new ≡ [] → ⊥) → moves_in e t ≡ moves_in named t
+    some_now some =
+        inner_meets (page_of e book) (scanning_of e book.work) (onward_of (page_of e book) want book.work) (seen (page_of e book).meanings t) (inner_here some)
+        ∙ raw_onward (page_of e book) (page_of named book) want (seen (page_of e book).meanings t) (entering some)
+        ∙ ap (onward_of (page_of named book) want book.work) seen_now
+        ∙ sym (inner_meets (page_of named book) (scanning_of named book.work) (onward_of (page_of named book) want book.work) (seen (page_of named book).meanings t) (ap (λ (y : Seen). is_outer y.meaning) (sym seen_now) ∙ inner_here some))
+
+    by_new : (ns : List (List ℕ)) → new ≡ ns → moves_in e t ≡ moves_in named t
+    by_new [] none = ap (λ (y : Engine). moves_in y t) (sym (none_names new e none))
+    by_new (n ∷ ns) one = some_now (λ none. cc (sym one ∙ none))
+
+    -- what becomes of it doesn't hang on the name that joins the others
+    moves_now : (e1 : Engine) → e1 ≡ named → moves_in e (token_of (enters_of want) e.names.names x) ≡ moves_in e1 t
+    moves_now e1 after = ap (moves_in e) (sym is) ∙ by_new new refl ∙ ap (λ (y : Engine). moves_in y t) (sym after)
 
     pub takes_named : (e1 : Engine) → e1 ≡ named → Takes sizes want e book → Takes sizes want e1 book
     takes_named e1 after h = subst (λ (y : Engine). Takes sizes want y book) (sym after) (takes_names want new h)
 
-    pub name_rule : (e1 e2 : Engine) (f : FilesTold) (s : SinkTold) (w' : World) (ruled : Ruled) → e1 ≡ named → EntryFits e.names new →
-        DoesOnward sizes (state_of e1 book) e2 book (world_of f s e1) w' (onward_of (page_of e1 book) want book.work (seen (page_of e1 book).meanings t)) ruled →
-        DoesOnward sizes (state_of e book) e2 book (world_of f s e) w' (name_moves (page_of e book) scanned (enters_of want) (onward_of (page_of e book) want book.work) x) ruled
-    name_rule e1 e2 f s w' ruled after fits h =
-        let here : DoesOnward sizes (state_of named book) e2 book (world_of f s e) w' (onward_of (page_of named book) want book.work (seen (page_of named book).meanings t)) ruled =
-        subst (λ (y : Engine). DoesOnward sizes (state_of y book) e2 book (world_of f s y) w' (onward_of (page_of y book) want book.work (seen (page_of y book).meanings t)) ruled) after h in
-        onward_join sizes (state_of e book) (state_of named book) e2 book (world_of f s e) (world_of f s e) w' (entered new) _ ruled refl (did_entered new (world_of f s e) (few_names (enters_of want) e.names.names x) sound.sized fits) (entered_none new)
-        (onward_by sizes _ e2 book (world_of f s e) w' _ _ ruled onward_now here)
+    named_did : (e1 : Engine) (w : World) → e1 ≡ named → EntryFits e.names new → Did sizes (state_of e book) (state_of e1 book) w w (entered new)
+    named_did e1 w after fits = subst (λ (y : Engine). Did sizes (state_of e book) (state_of y book) w w (entered new)) (sym after) (did_entered new w (few_names (enters_of want) e.names.names x) sound.sized fits)
 
-    pub name_cuts : (e1 e2 : Engine) (f : FilesTold) (s : SinkTold) (w' : World) (b : Broken) → e1 ≡ named → EntryFits e.names new →
-        Cuts sizes (state_of e1 book) e2 book (world_of f s e1) w' (onward_of (page_of e1 book) want book.work (seen (page_of e1 book).meanings t)) b →
-        Cuts sizes (state_of e book) e2 book (world_of f s e) w' (name_moves (page_of e book) scanned (enters_of want) (onward_of (page_of e book) want book.work) x) b
+    pub name_rule : (e1 e2 : Engine) (f : FilesTold) (s : SinkTold) (w' : World) (ruled : Ruled) → e1 ≡ named → EntryFits e.names new → DoesOnward sizes (state_of e1 book) e2 book (world_of f s e1) w' (moves_in e1 t) ruled →
+        DoesOnward sizes (state_of e book) e2 book (world_of f s e) w' (name_moves (page_of e book) (scanning_of e book.work) (enters_of want) (onward_of (page_of e book) want book.work) x) ruled
+    name_rule e1 e2 f s w' ruled after fits h =
+        let here : DoesOnward sizes (state_of e1 book) e2 book (world_of f s e) w' (moves_in e1 t) ruled = subst (λ (b : Bool). DoesOnward sizes (state_of e1 book) e2 book (world f s b) w' (moves_in e1 t) ruled) (ap (λ (y : Engine). y.in_line) after) h in
+        onward_join sizes (state_of e book) (state_of e1 book) e2 book (world_of f s e) (world_of f s e) w' (entered new) _ ruled (ap (λ (y : Engine). y.reports) after) (named_did e1 (world_of f s e) after fits) (entered_none new)
+        (onward_by sizes _ e2 book (world_of f s e) w' _ _ ruled (moves_now e1 after) here)
+
+    pub name_cuts : (e1 e2 : Engine) (f : FilesTold) (s : SinkTold) (w' : World) (b : Broken) → e1 ≡ named → EntryFits e.names new → CutsIn sizes (state_of e1 book) e2 (world_of f s e1) w' (moves_in e1 t) b →
+        CutsIn sizes (state_of e book) e2 (world_of f s e) w' (name_moves (page_of e book) (scanning_of e book.work) (enters_of want) (onward_of (page_of e book) want book.work) x) b
     name_cuts e1 e2 f s w' b after fits h =
-        let here : Cuts sizes (state_of named book) e2 book (world_of f s e) w' (onward_of (page_of named book) want book.work (seen (page_of named book).meanings t)) b =
-        subst (λ (y : Engine). Cuts sizes (state_of y book) e2 book (world_of f s y) w' (onward_of (page_of y book) want book.work (seen (page_of y book).meanings t)) b) after h in
-        later_cuts sizes _ (state_of named book) e2 book (world_of f s e) (world_of f s e) w' (entered new) _ b (did_entered new (world_of f s e) (few_names (enters_of want) e.names.names x) sound.sized fits)
-        (cuts_by sizes _ e2 book (world_of f s e) w' _ _ b onward_now here)
+        let here : CutsIn sizes (state_of e1 book) e2 (world_of f s e) w' (moves_in e1 t) b = subst (λ (c : Bool). CutsIn sizes (state_of e1 book) e2 (world f s c) w' (moves_in e1 t) b) (ap (λ (y : Engine). y.in_line) after) h in
+        later_in sizes _ (state_of e1 book) e2 (world_of f s e) (world_of f s e) w' (entered new) _ b (named_did e1 (world_of f s e) after fits)
+        (in_by sizes _ e2 (world_of f s e) w' _ _ b (moves_now e1 after) here)
 
   -- the name has no room
   pub name_full : (want : Option ScanWant) (scanned : Option Scanning) (x : Lexeme) (e1 : Engine) (f : FilesTold) (s : SinkTold) (full : Full) → IsSized sizes e → e1 ≡ e → EntryRefused e.names (new_name (enters_of want) e.names.names x) full →
@@ -564,6 +439,9 @@ module _ (e : Engine) (i : Stored) where
   pub lighter_close : pulled e.categories e.input.pending ≡ FileOver i.pending → pending_weight i.pending < pending_weight e.input.pending
   lighter_close is = subst (Lighter e.input.pending) is (lighter e.categories e.input.pending)
 
+pub frames_now : (e : Engine) (i : Stored) → i ≡ record e.input { pending = i.pending; buffer = i.buffer; lists = i.lists } → SameFrames e (record e { input = i })
+frames_now e i others = record { outer = refl; top = refl; ask = refl; lists = ap (λ (x : Stored). x.builds) others; call = refl; calling = ap (λ (x : Stored). x.call) others }
+
 module _ (sizes : Sizes) (e : Engine) (i : Stored) (others : i ≡ record e.input { pending = i.pending; buffer = i.buffer; lists = i.lists }) where
   abbrev now : Engine
   now = record e { input = i }
@@ -579,15 +457,11 @@ module _ (sizes : Sizes) (e : Engine) (i : Stored) (others : i ≡ record e.inpu
     fewer answer.FileOver h = fewer_by e.categories e.input.pending i.pending (FileOver i.pending) h refl
     fewer answer.Nothing h = λ n put. put_settled n e.input.pending.puts (subst (λ (x : Pending). is_put n x.puts ≡ true) h.1 put)
 
-  frames_now : SameFrames e now
-  frames_now = record { outer = refl; top = refl; ask = refl; lists = ap (λ (x : Stored). x.builds) others; call = refl; calling = ap (λ (x : Stored). x.call) others }
-
-  stands_now : (book : Book) → SameStore e.input i → Stands sizes e book → Stands sizes now book
-  stands_now book store st = stands_still sizes e now book frames_now (sound_still sizes e now book.number book.macros refl refl refl refl store st.sound) (ap (λ (x : Stored). x.making) others ∙ st.idle) st
+  pub stands_now : (book : Book) → SameStore e.input i → AllStand sizes e book → AllStand sizes now book
+  stands_now book store st = all_still sizes e now book (frames_now e i others) store (sound_still sizes e now book.number book.macros refl refl refl refl store st.sound) (ap (λ (x : Stored). x.making) others ∙ st.idle) st
 
   pub takes_still : (want : Option ScanWant) (book : Book) → SameStore e.input i → Takes sizes want e book → Takes sizes want now book
-  takes_still None book store h = (h.0, stands_now book store h.1)
-  takes_still (Some want) book store h = (h.0, stands_now book store h.1)
+  takes_still want book store h = (wants_by e now e.call want refl refl h.0, stands_now book store h.1)
 
   -- the text that is read is the same
   pub scanning_still : (work : List Reading) → scanning_of now work ≡ scanning_of e work
@@ -667,8 +541,8 @@ module _ (sizes : Sizes) (e : Engine) (i : Stored) (others : i ≡ record e.inpu
         pub token_rule : (w' : World) (e2 : Engine) (ruled : Ruled) → DoesOnward sizes (state_of now book) e2 book w w' (token_moves page scanned onward t) ruled → DoesRule sizes (state_of e book) e2 book w w' plan ruled
         token_rule w' e2 ruled h = rule_by sizes _ e2 book w w' _ _ ruled token_plan (step_join sizes (state_of e book) (state_of now book) e2 book w w w' (Settled ∷ Handed t ∷ []) (token_moves page scanned onward t) ruled refl token_did refl h)
 
-        pub token_cuts : (w' : World) (e2 : Engine) (b : Broken) → Cuts sizes (state_of now book) e2 book w w' (token_moves page scanned onward t) b → Cuts sizes (state_of e book) e2 book w w' plan b
-        token_cuts w' e2 b h = cuts_by sizes _ e2 book w w' _ _ b token_plan (later_cuts sizes _ (state_of now book) e2 book w w w' (Settled ∷ Handed t ∷ []) (token_moves page scanned onward t) b token_did h)
+        pub token_cuts : (w' : World) (e2 : Engine) (b : Broken) → CutsIn sizes (state_of now book) e2 w w' (token_moves page scanned onward t) b → CutsIn sizes (state_of e book) e2 w w' plan b
+        token_cuts w' e2 b h = in_by sizes _ e2 w w' _ _ b token_plan (later_in sizes _ (state_of now book) e2 w w w' (Settled ∷ Handed t ∷ []) (token_moves page scanned onward t) b token_did h)
 
       -- a character or a name of the line
       module _ (x : Lexeme) (is : pulled e.categories e.input.pending ≡ LexemeFrom x i.pending) where
@@ -690,8 +564,8 @@ module _ (sizes : Sizes) (e : Engine) (i : Stored) (others : i ≡ record e.inpu
         pub lexeme_rule : (w' : World) (e2 : Engine) (ruled : Ruled) → DoesOnward sizes (state_of now book) e2 book w w' then_moves ruled → DoesRule sizes (state_of e book) e2 book w w' plan ruled
         lexeme_rule w' e2 ruled h = rule_by sizes _ e2 book w w' _ _ ruled lexeme_plan (step_join sizes (state_of e book) (state_of now book) e2 book w w w' (Settled ∷ Handed handed_token ∷ []) then_moves ruled refl lexeme_did refl h)
 
-        pub lexeme_cuts : (w' : World) (e2 : Engine) (b : Broken) → Cuts sizes (state_of now book) e2 book w w' then_moves b → Cuts sizes (state_of e book) e2 book w w' plan b
-        lexeme_cuts w' e2 b h = cuts_by sizes _ e2 book w w' _ _ b lexeme_plan (later_cuts sizes _ (state_of now book) e2 book w w w' (Settled ∷ Handed handed_token ∷ []) then_moves b lexeme_did h)
+        pub lexeme_cuts : (w' : World) (e2 : Engine) (b : Broken) → CutsIn sizes (state_of now book) e2 w w' then_moves b → CutsIn sizes (state_of e book) e2 w w' plan b
+        lexeme_cuts w' e2 b h = in_by sizes _ e2 w w' _ _ b lexeme_plan (later_in sizes _ (state_of now book) e2 w w w' (Settled ∷ Handed handed_token ∷ []) then_moves b lexeme_did h)
 
       -- a line is taken
       line_demands : (o : Option Full) → refused e.input.sizes (next_line e.input.pending) ≡ o → e.input.sizes ≡ sizes → refused sizes (next_line (settle here)) ≡ o
@@ -700,12 +574,12 @@ module _ (sizes : Sizes) (e : Engine) (i : Stored) (others : i ≡ record e.inpu
       taken_plan : (line : List ℕ) (q : Pending) → pulled e.categories e.input.pending ≡ LineTaken line q → plan ≡ Settled ∷ Taken line ∷ []
       taken_plan line q is = rw (pulled_as book.number e.input.pending e.categories (LineTaken line q) is) refl
 
-      pub taken_rule : (line : List ℕ) → pulled e.categories e.input.pending ≡ LineTaken line i.pending → refused e.input.sizes (next_line e.input.pending) ≡ None → e.input.sizes ≡ sizes → Stands sizes now book →
+      pub taken_rule : (line : List ℕ) → pulled e.categories e.input.pending ≡ LineTaken line i.pending → refused e.input.sizes (next_line e.input.pending) ≡ None → e.input.sizes ≡ sizes → AllStand sizes now book →
           Went sizes (state_of e book) now w w plan 1
       taken_rule line is fits sized stands =
           went_by sizes _ now w w (Settled ∷ Taken line ∷ []) plan 1 (taken_plan line i.pending is) (record {
             book' = book;
-            stands = all_of sizes now book stands;
+            stands = stands;
             did = did_pull (Taken line) (LineTaken line next) (pulled_as book.number e.input.pending e.categories (LineTaken line i.pending) is) refl tt (line_demands None fits sized) refl;
             count = refl;
           })
@@ -752,8 +626,8 @@ module _ (sizes : Sizes) (e : Engine) (i : Stored) (others : i ≡ record e.inpu
         skipped_rule w' e2 ruled h =
             rule_by sizes _ e2 book w w' _ _ (freed ruled) skipped_plan (free_rule sizes _ e2 book w w' _ ruled (onward_join sizes (state_of e book) (state_of now book) e2 book w w w' (Settled ∷ Skipped ∷ []) _ ruled refl skipped_did refl h))
 
-        pub skipped_cuts : (w' : World) (e2 : Engine) (b : Broken) → Cuts sizes (state_of now book) e2 book w w' (reported page reports.InvalidCharacter []) b → Cuts sizes (state_of e book) e2 book w w' plan b
-        skipped_cuts w' e2 b h = cuts_by sizes _ e2 book w w' _ _ b skipped_plan (later_cuts sizes _ (state_of now book) e2 book w w w' (Settled ∷ Skipped ∷ []) _ b skipped_did h)
+        pub skipped_cuts : (w' : World) (e2 : Engine) (b : Broken) → CutsIn sizes (state_of now book) e2 w w' (reported page reports.InvalidCharacter []) b → CutsIn sizes (state_of e book) e2 w w' plan b
+        skipped_cuts w' e2 b h = in_by sizes _ e2 w w' _ _ b skipped_plan (later_in sizes _ (state_of now book) e2 w w w' (Settled ∷ Skipped ∷ []) _ b skipped_did h)
 
       -- the file has ended
       module _ (is : pulled e.categories e.input.pending ≡ FileOver i.pending) where
@@ -770,8 +644,8 @@ module _ (sizes : Sizes) (e : Engine) (i : Stored) (others : i ≡ record e.inpu
         closed_rule w' e2 ruled h =
             rule_by sizes _ e2 book w w' _ _ (freed ruled) closed_plan (free_rule sizes _ e2 book w w' _ ruled (onward_join sizes (state_of e book) (state_of now book) e2 book w w w' (Settled ∷ FileClosed ∷ []) (checked (without_file page) scanned) ruled refl closed_did refl h))
 
-        pub closed_cuts : (w' : World) (e2 : Engine) (b : Broken) → Cuts sizes (state_of now book) e2 book w w' (checked (without_file page) scanned) b → Cuts sizes (state_of e book) e2 book w w' plan b
-        closed_cuts w' e2 b h = cuts_by sizes _ e2 book w w' _ _ b closed_plan (later_cuts sizes _ (state_of now book) e2 book w w w' (Settled ∷ FileClosed ∷ []) (checked (without_file page) scanned) b closed_did h)
+        pub closed_cuts : (w' : World) (e2 : Engine) (b : Broken) → CutsIn sizes (state_of now book) e2 w w' (checked (without_file page) scanned) b → CutsIn sizes (state_of e book) e2 w w' plan b
+        closed_cuts w' e2 b h = in_by sizes _ e2 w w' _ _ b closed_plan (later_in sizes _ (state_of now book) e2 w w w' (Settled ∷ FileClosed ∷ []) (checked (without_file page) scanned) b closed_did h)
 
       -- nothing is left
       module _ (is : pulled e.categories e.input.pending ≡ NothingLeft) (stays : i.pending ≡ settle e.input.pending) where
@@ -786,8 +660,8 @@ module _ (sizes : Sizes) (e : Engine) (i : Stored) (others : i ≡ record e.inpu
             let all : DoesOnward sizes (state_of e book) e2 book w w' (Settled ∷ last_moves page.in_line last.NoEnd) ruled = onward_join sizes (state_of e book) (state_of now book) e2 book w w w' (Settled ∷ []) (last_moves page.in_line last.NoEnd) ruled refl nothing_did refl h in
             rule_by sizes _ e2 book w w' _ _ ruled nothing_plan (none_rule sizes _ e2 book w w' _ ruled (λ (free : IsFree ruled). subst IsFree ends free) (λ (step : ruled ≡ Step). absurd (cc (sym step ∙ ends))) all)
 
-        pub no_end_cuts : (w' : World) (e2 : Engine) (b : Broken) → Cuts sizes (state_of now book) e2 book w w' (last_moves page.in_line last.NoEnd) b → Cuts sizes (state_of e book) e2 book w w' plan b
-        no_end_cuts w' e2 b h = cuts_by sizes _ e2 book w w' _ _ b nothing_plan (later_cuts sizes _ (state_of now book) e2 book w w w' (Settled ∷ []) (last_moves page.in_line last.NoEnd) b nothing_did h)
+        pub no_end_cuts : (w' : World) (e2 : Engine) (b : Broken) → CutsIn sizes (state_of now book) e2 w w' (last_moves page.in_line last.NoEnd) b → CutsIn sizes (state_of e book) e2 w w' plan b
+        no_end_cuts w' e2 b h = in_by sizes _ e2 w w' _ _ b nothing_plan (later_in sizes _ (state_of now book) e2 w w w' (Settled ∷ []) (last_moves page.in_line last.NoEnd) b nothing_did h)
 
 -- WHAT WAS PULLED, by the answer
 
@@ -817,6 +691,11 @@ rule_as sizes s e' book w w' ms r q is h = subst (λ (x : Ruled). DoesRule sizes
 
 pub lighter_after : (e e' : Engine) → SameFrames e e' → pending_weight e'.input.pending < pending_weight e.input.pending → weight e' < weight e
 lighter_after e e' h less = let asked : ask_weight e'.ask ≡ ask_weight e.ask = ap ask_weight h.ask in omega (arith, same_frames e e' h, asked, less, ap call_weight h.call)
+
+pub skipped_light : (e : Engine) (i : Stored) (e' : Engine) → SameFrames e (record e { input = i }) → SameFrames (record e { input = i }) e' → e'.input ≡ i → pending_weight i.pending < pending_weight e.input.pending → weight e' < weight e
+skipped_light e i e' first second input less =
+    let pending : pending_weight e'.input.pending ≡ pending_weight i.pending = ap (λ (x : Stored). pending_weight x.pending) input in
+    lighter_after e e' (record { outer = second.outer; top = second.top; ask = second.ask; lists = second.lists ∙ first.lists; call = second.call; calling = second.calling ∙ first.calling }) (omega (arith, pending, less))
 
 pub not_free : (r : Ruled) (o : Outcome) → r ≡ Halted o → IsFree r → ⊥
 not_free r o is h = subst IsFree is h

@@ -1,5 +1,5 @@
 -- A token that is put in front, and a string that is kept; where a reading ends or reports.
-use Rattle.std.proofs.Common.{◌≡◌, ℕ, List, [], ◌∷◌, ◌++◌, refl, sym, ap, ◌∙◌, subst, arith}
+use Rattle.std.proofs.Common.{◌≡◌, ℕ, List, [], ◌∷◌, ◌++◌, length, drop, map, refl, sym, ap, ◌∙◌, append_assoc, subst, arith}
 use Rattle.std.specs.Prelude.{Option, Some, None, Bool, true, false, is_some}
 use Rattle.tex_defs.specs.declared.Token.{Token}
 use Rattle.tex_defs.specs.declared.Seen.{Seen}
@@ -9,10 +9,10 @@ use Rattle.tex_defs.specs.Places.{World, Transcript}
 use Rattle.plain_state.specs.Puts.{Item, Put as PutList, token_put, settled, settled_top}
 use Rattle.plain_state.specs.Pending.{Pending, settle, put_front}
 use Rattle.plain_state.specs.Reports.{Report, report_bytes}
-use Rattle.plain_state.specs.Readings.{Fed, Told, Value, value_lists}
-use Rattle.plain_state.specs.States.{State, Reading, Move, Settled, Kept, Noted, ListBegun, ListGrown, Put, Written, Ended, Reported, Outcome, grown_by, made, fed_with, ended_with, beneath}
+use Rattle.plain_state.specs.Readings.{Fed, Told, Value, value_lists, so_far}
+use Rattle.plain_state.specs.States.{State, Reading, Move, Settled, Kept, Grows, Noted, ListBegun, ListGrown, Put, Written, Ended, Reported, Outcome, grown_by, made, fed_with, ended_with, beneath}
 use Rattle.plain_state.specs.Tables.{Demand, refusal, refused, memory, level, string}
-use Rattle.plain_machine.specs.Plan.{Page, put_one, put_all, given_back, last_seen, reported, told, is_told, noting}
+use Rattle.plain_machine.specs.Plan.{Page, put_one, put_all, put_inserted, given_back, last_seen, reported, told, is_told, noting}
 use Rattle.plain_machine.specs.Numbers.{pending_of}
 use Rattle.plain_machine.specs.Runs.{Wrote, steps}
 use Rattle.plain_machine.specs.Does.{Did}
@@ -27,14 +27,15 @@ use Rattle.tex_program.specs.declared.broken.Broken.{Broken}
 use Rattle.tex_program.specs.declared.broken.Broken.TheVariants as broken
 use Rattle.tex_program.specs.declared.engine.Engine.{Engine}
 use Rattle.tex_program.specs.Book.{Book, with_work}
-use Rattle.tex_program.specs.Stands.{Counts, IsSized, IsSound, IsLast, Stands, SameStore, SameState, state_of, page_of}
+use Rattle.frames.specs.Stack.{Stack}
+use Rattle.tex_program.specs.Stands.{SameFrames, top_count, call_count, Counts, IsSized, IsSound, IsLast, Stands, SameStore, SameState, state_of, page_of}
 use Rattle.tex_program.specs.Rules.{world_of, Cuts, Went, Reports, Halts}
 use Rattle.tex_program.proofs.Bare.{all_of}
 use Rattle.tex_program.proofs.Cutting.{cuts_by, later_cuts, full_cuts}
 use Rattle.tex_program.proofs.Counting.{words_more}
-use Rattle.tex_program.proofs.Reporting.{reads_now, ended_state}
+use Rattle.tex_program.proofs.Reporting.{ended_state}
 use Rattle.tex_program.proofs.Storing.{store_join, store_making, store_settled, store_put, sound_still}
-use Rattle.tex_program.proofs.Joining.{IsQuiet, quiet_here, quiet_wrote, went_by, halts_on, halts_least}
+use Rattle.tex_program.proofs.Joining.{IsQuiet, quiet_here, went_by, halts_on, halts_least}
 
 -- a string for which there is no room
 pub kept_cuts : (sizes : Sizes) (e : Engine) (names : Strings) (book : Book) (w : World) (bytes : List ℕ) (more : List Move) (full : Full) →
@@ -151,6 +152,13 @@ module _ (i i1 i2 i3 : Stored) (a1 : i1 ≡ record i { pending = settle i.pendin
       pub put_store : (new : Stored) → new ≡ record i3 { pending = put_front (token_put (made_list i3.making)) i3.pending; making = None; lists = new.lists } → KeepsMacros i3 new → SameStore i new
       put_store new same k4 = store_join i i3 new made_store (store_put i3 new (made_list i3.making) same k4)
 
+-- the readings are counted as before
+pub counts_still : (sizes : Sizes) (e e1 : Engine) (book : Book) → SameFrames e e1 → IsSound sizes e1 book.number book.macros → Counts sizes e book → Counts sizes e1 book
+counts_still sizes e e1 book same sound h = record {
+  sound = sound;
+  depth = omega (arith, h.depth, ap (λ (o : Stack). length o.items) same.outer, ap top_count same.top, ap call_count same.call);
+}
+
 -- BACK
 
 -- the token looked at, where it is put back
@@ -188,47 +196,101 @@ module _ (sizes : Sizes) (e e1 e2 : Engine) (book : Book) (r : Reading) (rs : Li
 
 -- THE INNERMOST READING REPORTS
 
-told_is : (page : Page) (report : Report) (back : Bool) (r : Reading) → is_told r.fed ≡ false → noting r ≡ Noted ∷ [] → told page report None back r ≡ given_back back r.fed ++ reported page report (Noted ∷ [])
-told_is page report back r once notes = rw once (ap (λ (ms : List Move). given_back back r.fed ++ reported page report ms) notes)
+-- no step
+grows_none : (ts : List Token) → steps (map Grows ts) ≡ 0
+grows_none [] = refl
+grows_none (t ∷ ts) = omega (arith, grows_none ts)
 
-module _ (sizes : Sizes) (e e1 e2 : Engine) (f : FilesTold) (s0 s2 : SinkTold) (book : Book) (r : Reading) (rs : List Reading) (report : Report) (back : Bool) (once : is_told r.fed ≡ false) (notes : noting r ≡ Noted ∷ []) (page : page_of e1 book ≡ page_of e book)
-    (given : Did sizes (state_of e (with_work (r ∷ rs) book)) (state_of e1 (with_work (r ∷ rs) book)) (world_of f s0 e) (world_of f s0 e) (given_back back r.fed)) where
-  pub told_went : (e3 : Engine) → Reports sizes (state_of e1 (with_work (r ∷ rs) book)) (state_of e2 (with_work (r ∷ rs) book)) (world_of f s0 e1) (world_of f s2 e2) (page_of e1 book) report (Noted ∷ []) → SameState e2 e3 → gathered e3.input ≡ gathered e2.input → Stands sizes e3 (with_work (fed_with Told (r ∷ rs)) book) →
-      Went sizes (state_of e (with_work (r ∷ rs) book)) e3 (world_of f s0 e) (world_of f s2 e3) (told (page_of e book) report None back r) 0
-  told_went e3 rep same lists stands =
-      let h : Reports sizes (state_of e1 (with_work (r ∷ rs) book)) (state_of e2 (with_work (r ∷ rs) book)) (world_of f s0 e) (world_of f s2 e2) (page_of e book) report (Noted ∷ []) =
-      subst (λ (p : Page). Reports sizes (state_of e1 (with_work (r ∷ rs) book)) (state_of e2 (with_work (r ∷ rs) book)) (world f s0 p.in_line) (world_of f s2 e2) p report (Noted ∷ [])) page rep in
-      let written : List Move = Written Transcript (report_bytes e.names.names e.in_line e.input.pending.number report) ∷ Reported ∷ [] in
-      let noted : Did sizes (state_of e2 (with_work (r ∷ rs) book)) (state_of e3 (with_work (fed_with Told (r ∷ rs)) book)) (world_of f s2 e2) (world_of f s2 e3) (Noted ∷ []) =
-      did_one sizes Noted _ _ _ _ refl (ap (λ (l : List (List Token)). record (state_of e2 (with_work (r ∷ rs) book)) { work = fed_with Told (r ∷ rs); gathered = l }) (sym lists) ∙ reads_now e2 e3 (with_work (r ∷ rs) book) (fed_with Told (r ∷ rs)) same) (quiet_wrote Noted f s2 e2.in_line e3.in_line tt same.others.in_line) in
-      let whole : told (page_of e book) report None back r ≡ given_back back r.fed ++ (written ++ Noted ∷ []) = told_is (page_of e book) report back r once notes ∙ ap (λ (x : List Move). given_back back r.fed ++ x) h.moves in
-      went_by sizes _ e3 _ _ (given_back back r.fed ++ (written ++ Noted ∷ [])) _ 0 whole (record {
-        book' = with_work (fed_with Told (r ∷ rs)) book;
-        stands = all_of sizes e3 (with_work (fed_with Told (r ∷ rs)) book) stands;
-        did = did_join sizes _ _ _ _ _ _ (given_back back r.fed) (written ++ Noted ∷ []) given (did_join sizes _ _ _ _ _ _ written (Noted ∷ []) h.did noted);
-        count = steps_join (given_back back r.fed) (written ++ Noted ∷ []) ∙ omega (arith, back_none back r.fed);
-      })
+noting_none : (r : Reading) → steps (noting r) ≡ 0
+noting_none r = let ts = drop (length (so_far r.kind r.fed)) (so_far r.kind (r.fed ++ Told ∷ [])) in steps_join (map Grows ts) (Noted ∷ []) ∙ omega (arith, grows_none ts)
 
-  pub told_halts : (o : Outcome) → e1.reports ≡ e.reports → Halts sizes (state_of e1 (with_work (r ∷ rs) book)) e2 (with_work (r ∷ rs) book) (world_of f s0 e1) (world_of f s2 e2) (reported (page_of e1 book) report (Noted ∷ [])) o 0 →
-      Halts sizes (state_of e (with_work (r ∷ rs) book)) e2 (with_work (r ∷ rs) book) (world_of f s0 e) (world_of f s2 e2) (told (page_of e book) report None back r) o 1
-  told_halts o counted halts =
-      let h : Halts sizes (state_of e1 (with_work (r ∷ rs) book)) e2 (with_work (r ∷ rs) book) (world_of f s0 e) (world_of f s2 e2) (reported (page_of e book) report (Noted ∷ [])) o 0 =
-      subst (λ (p : Page). Halts sizes (state_of e1 (with_work (r ∷ rs) book)) e2 (with_work (r ∷ rs) book) (world f s0 p.in_line) (world_of f s2 e2) (reported p report (Noted ∷ [])) o 0) page halts in
-      subst (λ (ms : List Move). Halts sizes (state_of e (with_work (r ∷ rs) book)) e2 (with_work (r ∷ rs) book) (world_of f s0 e) (world_of f s2 e2) ms o 1) (sym (told_is (page_of e book) report back r once notes))
-      (halts_least sizes _ e2 (with_work (r ∷ rs) book) _ _ _ o 0 1 (omega arith)
-      (halts_on sizes (state_of e (with_work (r ∷ rs) book)) (state_of e1 (with_work (r ∷ rs) book)) e2 (with_work (r ∷ rs) book) _ _ _ (given_back back r.fed) (reported (page_of e book) report (Noted ∷ [])) o 0 0 counted given (back_none back r.fed) h))
+inserted_none : (o : Option Token) → steps (put_inserted o) ≡ 0
+inserted_none None = refl
+inserted_none (Some t) = refl
 
-  pub told_cuts : (b : Broken) → Cuts sizes (state_of e1 (with_work (r ∷ rs) book)) e2 (with_work (r ∷ rs) book) (world_of f s0 e1) (world_of f s2 e2) (reported (page_of e1 book) report (Noted ∷ [])) b →
-      Cuts sizes (state_of e (with_work (r ∷ rs) book)) e2 (with_work (r ∷ rs) book) (world_of f s0 e) (world_of f s2 e2) (told (page_of e book) report None back r) b
-  told_cuts b cuts =
-      let h : Cuts sizes (state_of e1 (with_work (r ∷ rs) book)) e2 (with_work (r ∷ rs) book) (world_of f s0 e) (world_of f s2 e2) (reported (page_of e book) report (Noted ∷ [])) b =
-      subst (λ (p : Page). Cuts sizes (state_of e1 (with_work (r ∷ rs) book)) e2 (with_work (r ∷ rs) book) (world f s0 p.in_line) (world_of f s2 e2) (reported p report (Noted ∷ [])) b) page cuts in
-      cuts_by sizes _ e2 (with_work (r ∷ rs) book) _ _ _ _ b (told_is (page_of e book) report back r once notes) (later_cuts sizes _ _ e2 (with_work (r ∷ rs) book) _ _ _ (given_back back r.fed) (reported (page_of e book) report (Noted ∷ [])) b given h)
+pub inserted_is : (o : Option Token) (t : Token) → o ≡ Some t → put_inserted o ≡ put_one t
+inserted_is None t is = cc
+inserted_is (Some u) t is = ap put_inserted is
 
--- already the token that is put back has no room
-pub told_first : (sizes : Sizes) (e e1 : Engine) (f : FilesTold) (s0 : SinkTold) (book : Book) (r : Reading) (rs : List Reading) (report : Report) (back : Bool) (b : Broken) → is_told r.fed ≡ false → noting r ≡ Noted ∷ [] → e1.in_line ≡ e.in_line →
-    Cuts sizes (state_of e (with_work (r ∷ rs) book)) e1 (with_work (r ∷ rs) book) (world_of f s0 e) (world_of f s0 e) (given_back back r.fed ++ reported (page_of e book) report (Noted ∷ [])) b →
-    Cuts sizes (state_of e (with_work (r ∷ rs) book)) e1 (with_work (r ∷ rs) book) (world_of f s0 e) (world_of f s0 e1) (told (page_of e book) report None back r) b
-told_first sizes e e1 f s0 book r rs report back b once notes column h =
-    cuts_by sizes _ e1 (with_work (r ∷ rs) book) _ _ _ _ b (told_is (page_of e book) report back r once notes)
-    (subst (λ (x : Bool). Cuts sizes (state_of e (with_work (r ∷ rs) book)) e1 (with_work (r ∷ rs) book) (world_of f s0 e) (world f s0 x) (given_back back r.fed ++ reported (page_of e book) report (Noted ∷ [])) b) (sym column) h)
+-- a token is given back, and another inserted
+abbrev pub fronts : Option Token → Bool → Reading → List Move
+fronts inserted back r = given_back back r.fed ++ put_inserted inserted
+
+fronts_none : (inserted : Option Token) (back : Bool) (r : Reading) → steps (fronts inserted back r) ≡ 0
+fronts_none inserted back r = steps_join (given_back back r.fed) (put_inserted inserted) ∙ omega (arith, back_none back r.fed, inserted_none inserted)
+
+told_flat : (page : Page) (report : Report) (inserted : Option Token) (back : Bool) (r : Reading) → is_told r.fed ≡ false → told page report inserted back r ≡ given_back back r.fed ++ (put_inserted inserted ++ reported page report (noting r))
+told_flat page report inserted back r once = rw once refl
+
+told_is : (page : Page) (report : Report) (inserted : Option Token) (back : Bool) (r : Reading) → is_told r.fed ≡ false → told page report inserted back r ≡ fronts inserted back r ++ reported page report (noting r)
+told_is page report inserted back r once = told_flat page report inserted back r once ∙ sym (append_assoc (given_back back r.fed) (put_inserted inserted) (reported page report (noting r)))
+
+module _ (sizes : Sizes) (e : Engine) (f : FilesTold) (s0 : SinkTold) (book : Book) (r : Reading) (rs : List Reading) (report : Report) (inserted : Option Token) (back : Bool) (once : is_told r.fed ≡ false) where
+  -- already the token that is given back has no room
+  pub told_first : (e1 : Engine) (b : Broken) → e1.in_line ≡ e.in_line →
+      Cuts sizes (state_of e (with_work (r ∷ rs) book)) e1 (with_work (r ∷ rs) book) (world_of f s0 e) (world_of f s0 e) (given_back back r.fed ++ (put_inserted inserted ++ reported (page_of e book) report (noting r))) b →
+      Cuts sizes (state_of e (with_work (r ∷ rs) book)) e1 (with_work (r ∷ rs) book) (world_of f s0 e) (world_of f s0 e1) (told (page_of e book) report inserted back r) b
+  told_first e1 b column h =
+      cuts_by sizes _ e1 (with_work (r ∷ rs) book) _ _ _ _ b (told_flat (page_of e book) report inserted back r once)
+      (subst (λ (x : Bool). Cuts sizes (state_of e (with_work (r ∷ rs) book)) e1 (with_work (r ∷ rs) book) (world_of f s0 e) (world f s0 x) (given_back back r.fed ++ (put_inserted inserted ++ reported (page_of e book) report (noting r))) b) (sym column) h)
+
+  -- or the one that is inserted
+  pub told_second : (e1 e2 : Engine) (b : Broken) → e2.in_line ≡ e.in_line → Did sizes (state_of e (with_work (r ∷ rs) book)) (state_of e1 (with_work (r ∷ rs) book)) (world_of f s0 e) (world_of f s0 e) (given_back back r.fed) →
+      Cuts sizes (state_of e1 (with_work (r ∷ rs) book)) e2 (with_work (r ∷ rs) book) (world_of f s0 e) (world_of f s0 e) (put_inserted inserted ++ reported (page_of e book) report (noting r)) b →
+      Cuts sizes (state_of e (with_work (r ∷ rs) book)) e2 (with_work (r ∷ rs) book) (world_of f s0 e) (world_of f s0 e2) (told (page_of e book) report inserted back r) b
+  told_second e1 e2 b column given h =
+      told_first e2 b column (later_cuts sizes _ (state_of e1 (with_work (r ∷ rs) book)) e2 (with_work (r ∷ rs) book) _ _ _ (given_back back r.fed) (put_inserted inserted ++ reported (page_of e book) report (noting r)) b given h)
+
+  -- behind both
+  module _ (e1 e2 : Engine) (s2 : SinkTold) (page : page_of e1 book ≡ page_of e book) (front : Did sizes (state_of e (with_work (r ∷ rs) book)) (state_of e1 (with_work (r ∷ rs) book)) (world_of f s0 e) (world_of f s0 e) (fronts inserted back r)) where
+    on_page : Reports sizes (state_of e1 (with_work (r ∷ rs) book)) (state_of e2 (with_work (r ∷ rs) book)) (world_of f s0 e1) (world_of f s2 e2) (page_of e1 book) report (noting r) →
+        Reports sizes (state_of e1 (with_work (r ∷ rs) book)) (state_of e2 (with_work (r ∷ rs) book)) (world_of f s0 e) (world_of f s2 e2) (page_of e book) report (noting r)
+    on_page rep = subst (λ (p : Page). Reports sizes (state_of e1 (with_work (r ∷ rs) book)) (state_of e2 (with_work (r ∷ rs) book)) (world f s0 p.in_line) (world_of f s2 e2) p report (noting r)) page rep
+
+    abbrev written : List Move
+    written = Written Transcript (report_bytes e.names.names e.in_line e.input.pending.number report) ∷ Reported ∷ []
+
+    whole_is : Reports sizes (state_of e1 (with_work (r ∷ rs) book)) (state_of e2 (with_work (r ∷ rs) book)) (world_of f s0 e) (world_of f s2 e2) (page_of e book) report (noting r) → told (page_of e book) report inserted back r ≡ fronts inserted back r ++ (written ++ noting r)
+    whole_is h = told_is (page_of e book) report inserted back r once ∙ ap (λ (x : List Move). fronts inserted back r ++ x) h.moves
+
+    pub told_went : (e3 : Engine) → Reports sizes (state_of e1 (with_work (r ∷ rs) book)) (state_of e2 (with_work (r ∷ rs) book)) (world_of f s0 e1) (world_of f s2 e2) (page_of e1 book) report (noting r) → e3.in_line ≡ e2.in_line →
+        Did sizes (state_of e2 (with_work (r ∷ rs) book)) (state_of e3 (with_work (fed_with Told (r ∷ rs)) book)) (world_of f s2 e2) (world_of f s2 e2) (noting r) → Stands sizes e3 (with_work (fed_with Told (r ∷ rs)) book) →
+        Went sizes (state_of e (with_work (r ∷ rs) book)) e3 (world_of f s0 e) (world_of f s2 e3) (told (page_of e book) report inserted back r) 0
+    told_went e3 rep column noted stands =
+        let h = on_page rep in
+        let noted' : Did sizes (state_of e2 (with_work (r ∷ rs) book)) (state_of e3 (with_work (fed_with Told (r ∷ rs)) book)) (world_of f s2 e2) (world_of f s2 e3) (noting r) =
+        subst (λ (x : Bool). Did sizes (state_of e2 (with_work (r ∷ rs) book)) (state_of e3 (with_work (fed_with Told (r ∷ rs)) book)) (world_of f s2 e2) (world f s2 x) (noting r)) (sym column) noted in
+        went_by sizes _ e3 _ _ (fronts inserted back r ++ (written ++ noting r)) _ 0 (whole_is h) (record {
+          book' = with_work (fed_with Told (r ∷ rs)) book;
+          stands = all_of sizes e3 (with_work (fed_with Told (r ∷ rs)) book) stands;
+          did = did_join sizes _ _ _ _ _ _ (fronts inserted back r) (written ++ noting r) front (did_join sizes _ _ _ _ _ _ written (noting r) h.did noted');
+          count = steps_join (fronts inserted back r) (written ++ noting r) ∙ omega (arith, fronts_none inserted back r, steps_join written (noting r), noting_none r);
+        })
+
+    -- the list has no room for what comes behind the report
+    pub told_full : (e3 : Engine) (b : Broken) → Reports sizes (state_of e1 (with_work (r ∷ rs) book)) (state_of e2 (with_work (r ∷ rs) book)) (world_of f s0 e1) (world_of f s2 e2) (page_of e1 book) report (noting r) → e3 ≡ e2 →
+        Cuts sizes (state_of e2 (with_work (r ∷ rs) book)) e3 (with_work (r ∷ rs) book) (world_of f s2 e2) (world_of f s2 e2) (noting r) b →
+        Cuts sizes (state_of e (with_work (r ∷ rs) book)) e3 (with_work (r ∷ rs) book) (world_of f s0 e) (world_of f s2 e3) (told (page_of e book) report inserted back r) b
+    told_full e3 b rep is cuts =
+        let h = on_page rep in
+        let cuts' : Cuts sizes (state_of e2 (with_work (r ∷ rs) book)) e3 (with_work (r ∷ rs) book) (world_of f s2 e2) (world_of f s2 e3) (noting r) b =
+        subst (λ (x : Bool). Cuts sizes (state_of e2 (with_work (r ∷ rs) book)) e3 (with_work (r ∷ rs) book) (world_of f s2 e2) (world f s2 x) (noting r) b) (sym (ap (λ (y : Engine). y.in_line) is)) cuts in
+        cuts_by sizes _ e3 (with_work (r ∷ rs) book) _ _ _ _ b (whole_is h)
+        (later_cuts sizes _ _ e3 (with_work (r ∷ rs) book) _ _ _ (fronts inserted back r) (written ++ noting r) b front
+        (later_cuts sizes _ _ e3 (with_work (r ∷ rs) book) _ _ _ written (noting r) b h.did cuts'))
+
+    pub told_halts : (o : Outcome) → e1.reports ≡ e.reports → Halts sizes (state_of e1 (with_work (r ∷ rs) book)) e2 (with_work (r ∷ rs) book) (world_of f s0 e1) (world_of f s2 e2) (reported (page_of e1 book) report (noting r)) o 0 →
+        Halts sizes (state_of e (with_work (r ∷ rs) book)) e2 (with_work (r ∷ rs) book) (world_of f s0 e) (world_of f s2 e2) (told (page_of e book) report inserted back r) o 1
+    told_halts o counted halts =
+        let h : Halts sizes (state_of e1 (with_work (r ∷ rs) book)) e2 (with_work (r ∷ rs) book) (world_of f s0 e) (world_of f s2 e2) (reported (page_of e book) report (noting r)) o 0 =
+        subst (λ (p : Page). Halts sizes (state_of e1 (with_work (r ∷ rs) book)) e2 (with_work (r ∷ rs) book) (world f s0 p.in_line) (world_of f s2 e2) (reported p report (noting r)) o 0) page halts in
+        subst (λ (ms : List Move). Halts sizes (state_of e (with_work (r ∷ rs) book)) e2 (with_work (r ∷ rs) book) (world_of f s0 e) (world_of f s2 e2) ms o 1) (sym (told_is (page_of e book) report inserted back r once))
+        (halts_least sizes _ e2 (with_work (r ∷ rs) book) _ _ _ o 0 1 (omega arith)
+        (halts_on sizes (state_of e (with_work (r ∷ rs) book)) (state_of e1 (with_work (r ∷ rs) book)) e2 (with_work (r ∷ rs) book) _ _ _ (fronts inserted back r) (reported (page_of e book) report (noting r)) o 0 0 counted front (fronts_none inserted back r) h))
+
+    pub told_cuts : (b : Broken) → Cuts sizes (state_of e1 (with_work (r ∷ rs) book)) e2 (with_work (r ∷ rs) book) (world_of f s0 e1) (world_of f s2 e2) (reported (page_of e1 book) report (noting r)) b →
+        Cuts sizes (state_of e (with_work (r ∷ rs) book)) e2 (with_work (r ∷ rs) book) (world_of f s0 e) (world_of f s2 e2) (told (page_of e book) report inserted back r) b
+    told_cuts b cuts =
+        let h : Cuts sizes (state_of e1 (with_work (r ∷ rs) book)) e2 (with_work (r ∷ rs) book) (world_of f s0 e) (world_of f s2 e2) (reported (page_of e book) report (noting r)) b =
+        subst (λ (p : Page). Cuts sizes (state_of e1 (with_work (r ∷ rs) book)) e2 (with_work (r ∷ rs) book) (world f s0 p.in_line) (world_of f s2 e2) (reported p report (noting r)) b) page cuts in
+        cuts_by sizes _ e2 (with_work (r ∷ rs) book) _ _ _ _ b (told_is (page_of e book) report inserted back r once) (later_cuts sizes _ _ e2 (with_work (r ∷ rs) book) _ _ _ (fronts inserted back r) (reported (page_of e book) report (noting r)) b front h)

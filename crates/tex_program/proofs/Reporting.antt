@@ -14,7 +14,7 @@ use Rattle.plain_state.specs.Readings as reading
 use Rattle.plain_state.specs.Reports as reports
 use Rattle.plain_state.specs.Reports.{report_bytes, hundred_line, token_line_bytes}
 use Rattle.plain_state.specs.States as machine
-use Rattle.plain_state.specs.States.{State, Reading, Move, Written, Ended, Reported, Stopped, AtFatal, made, ended_with, beneath}
+use Rattle.plain_state.specs.States.{State, Reading, Move, Written, Ended, Reported, Stopped, AtFatal, made, ended_with, beneath, fresh}
 use Rattle.plain_state.specs.Tables.{refusal}
 use Rattle.plain_machine.specs.Plan.{Page, reported, reports_room, token_line, no_file, effect}
 use Rattle.plain_machine.specs.Numbers.{pending_of, meanings_of}
@@ -34,12 +34,14 @@ use Rattle.input_state.specs.HeldLists.{first_list as first_held}
 use Rattle.input_state.specs.Stored.{gathered}
 use Rattle.frames.specs.Stack.{Stack}
 use Rattle.frames.specs.Sees.{first_list}
-use Rattle.frames.specs.Resumes.{is_built}
 use Rattle.frames.specs.declared.scan.Ask.{Ask}
+use Rattle.frames.specs.declared.scan.Ask.TheVariants.{More}
 use Rattle.frames.specs.declared.scan.Want.{Want as ScanWant}
+use Rattle.frames.specs.declared.scan.Want.TheVariants.{Raw}
 use Rattle.frames.specs.declared.frame.Frame.{Frame}
 use Rattle.frames.specs.declared.frame.Waiting.{Waiting}
 use Rattle.tex_program.specs.declared.broken.Broken.{Broken}
+use Rattle.tex_program.specs.declared.call.Call.{Call}
 use Rattle.tex_program.specs.declared.engine.Engine.{Engine}
 use Rattle.tex_program.specs.declared.broken.Broken.TheVariants as broken
 use Rattle.tex_program.specs.declared.reactions.Onward.{Onward}
@@ -49,9 +51,11 @@ use Rattle.tex_program.specs.declared.reactions.Last.TheVariants as last
 use Rattle.tex_program.specs.Faults.{broken_by}
 use Rattle.tex_program.specs.Begins.{outcome_of, outcome_of_last, last_moves, last_bytes, IsNoFeed, IsNoBegin, IsCommand}
 use Rattle.tex_program.specs.Book.{Book, with_work}
-use Rattle.tex_program.specs.Stands.{Stands, FramesStand, WorkStands, Waits, WaitStands, EndsHere, OuterStand, AtMostOne, IsSized, IsSound, IsLone, IsUncalled, SameFrames, SameStore, SameState, SameOthers, OnlyColumn, state_of, page_of}
-use Rattle.tex_program.specs.Rules.{world_of, Takes, FitsOnward, Cuts, CountsReports, Went, Halts, Reports}
-use Rattle.tex_program.proofs.Bare.{all_of}
+use Rattle.tex_program.specs.Calls.{AllStand, WantsToken}
+use Rattle.tex_program.specs.Chained.{HasBody}
+use Rattle.tex_program.specs.Stands.{Stands, FramesStand, WorkStands, Waits, WaitStands, EndsHere, OuterStand, AtMostOne, IsSized, IsSound, AreOrderly, IsUncalled, SameFrames, SameStore, SameState, SameOthers, OnlyColumn, state_of, page_of}
+use Rattle.tex_program.specs.Rules.{world_of, Takes, WantsHere, FitsOnward, Cuts, CountsReports, Went, Halts, Reports}
+use Rattle.tex_program.proofs.Bare.{all_of, framed}
 use Rattle.tex_program.proofs.Cutting.{cuts_by, full_cuts, later_cuts, did_out, cut_out}
 use Rattle.tex_program.proofs.Joining.{IsQuiet, quiet_here, quiet_wrote}
 use Rattle.tex_program.proofs.Storing.{store_is, sound_sized, sound_still}
@@ -249,7 +253,7 @@ uncalled_still e e' same h = record { none = same.call ∙ h.none; input = same.
 
 -- the engine whose readings are as they were
 pub stands_still : (sizes : Sizes) (e e' : Engine) (book : Book) → SameFrames e e' → IsSound sizes e' book.number book.macros → e'.input.making ≡ None → Stands sizes e book → Stands sizes e' book
-stands_still sizes e e' book same sound idle st = record { sound = sound; idle = idle; readings = frames_still e e' book.work same st.readings; lone = st.lone; uncalled = uncalled_still e e' same st.uncalled }
+stands_still sizes e e' book same sound idle st = record { sound = sound; idle = idle; readings = frames_still e e' book.work same st.readings; orderly = st.orderly; uncalled = uncalled_still e e' same st.uncalled }
 
 -- or waits, as it did
 pub waits_still : (sizes : Sizes) (e e' : Engine) (book : Book) → SameFrames e e' → IsSound sizes e' book.number book.macros → e'.input.making ≡ None → Waits sizes e book → Waits sizes e' book
@@ -261,6 +265,7 @@ waits_still sizes e e' book same sound idle st = record {
       (subst (λ (x : List Waiting). WaitStands e'.top x e.input.builds book.work) (sym (ap (λ (o : _). o.items) same.outer))
       (subst (λ (x : Option Frame). WaitStands x e.outer.items e.input.builds book.work) (sym same.top) st.readings));
   lone = st.lone;
+  chained = st.chained;
   uncalled = uncalled_still e e' same st.uncalled;
 }
 
@@ -271,6 +276,7 @@ ends_still sizes e e' v r rs book same sound idle h = record {
   few = subst AtMostOne (sym same.lists) h.few;
   holds = h.holds ∙ sym (ap (length {A = List Token}) same.lists);
   taken = h.taken;
+  chained = h.chained;
   outer = subst (λ (x : List Waiting). OuterStand (reverse x) rs) (sym (ap (λ (o : _). o.items) same.outer)) h.outer;
   uncalled = uncalled_still e e' same h.uncalled;
 }
@@ -283,11 +289,11 @@ reads_now e e' book work same = let h = same.others in
     cc (pending, meanings, same.making, h.names, h.categories, h.in_line, h.reports, h.quiet)
 
 -- a report alone
-pub reports_went : (sizes : Sizes) (e e' : Engine) (book : Book) (w w' : World) (report : reports.Report) → Stands sizes e' book → Reports sizes (state_of e book) (state_of e' book) w w' (page_of e book) report [] →
+pub reports_went : (sizes : Sizes) (e e' : Engine) (book : Book) (w w' : World) (report : reports.Report) → AllStand sizes e' book → Reports sizes (state_of e book) (state_of e' book) w w' (page_of e book) report [] →
     Went sizes (state_of e book) e' w w' (reported (page_of e book) report []) 0
 reports_went sizes e e' book w w' report st h = record {
   book' = book;
-  stands = all_of sizes e' book st;
+  stands = st;
   did = subst (λ (ms : List Move). Did sizes (state_of e book) (state_of e' book) w w' ms) (sym h.moves) h.did;
   count = ap steps h.moves;
 }
@@ -346,41 +352,66 @@ pub column_sound : (sizes : Sizes) (e e' : Engine) (number : ℕ → ℕ) (macro
 column_sound sizes e e' number macros only h = sound_still sizes e e' number macros only.sizes (ap (λ (o : Stack). o.size) only.outer) only.names only.reports (store_is e.input e'.input only.input) h
 
 -- a token's line alone
-column_still : (sizes : Sizes) (e e' : Engine) (book : Book) → OnlyColumn e e' → Stands sizes e book → Stands sizes e' book
-column_still sizes e e' book only st =
-    stands_still sizes e e' book (record { outer = only.outer; top = only.top; ask = only.ask; lists = ap (λ (i : _). i.builds) only.input; call = only.call; calling = ap (λ (i : _). i.call) only.input })
-    (column_sound sizes e e' book.number book.macros only st.sound) (ap (λ (i : _). i.making) only.input ∙ st.idle) st
-
 line_silent : (page : Page) (m : Meaning Unit) → steps (token_line page m) ≡ 0
 line_silent page m = silent page.quiet where
   silent : (b : Bool) → steps (if b then [] else Written Transcript (token_line_bytes page.names page.in_line m) ∷ []) ≡ 0
   silent true = refl
   silent false = refl
 
-pub line_went : (sizes : Sizes) (e e' : Engine) (book : Book) (w w' : World) (m : Meaning Unit) → OnlyColumn e e' → Stands sizes e book → Did sizes (state_of e book) (state_of e' book) w w' (token_line (page_of e book) m) →
+pub line_went : (sizes : Sizes) (e e' : Engine) (book : Book) (w w' : World) (m : Meaning Unit) → AllStand sizes e' book → Did sizes (state_of e book) (state_of e' book) w w' (token_line (page_of e book) m) →
     Went sizes (state_of e book) e' w w' (token_line (page_of e book) m) 0
-line_went sizes e e' book w w' m only st did = record { book' = book; stands = all_of sizes e' book (column_still sizes e e' book only st); did = did; count = line_silent (page_of e book) m }
+line_went sizes e e' book w w' m st did = record { book' = book; stands = st; did = did; count = line_silent (page_of e book) m }
+
+-- where no reading is open
+none_wanted : (e : Engine) (c : Option Call) → WantsHere c None e → (c ≡ None) × (e.top ≡ None)
+none_wanted e None h = (refl, h)
+none_wanted e (Some c) h = absurd h
+
+token_first : (e : Engine) → e.top ≡ None → WantsToken e.top e.ask
+token_first e top = subst (λ (t : Option Frame). WantsToken t e.ask) (sym top) tt
+
+-- a frame that wants a token
+token_more : (t : Option Frame) (want : ScanWant) → WantsToken t (More want)
+token_more None want = tt
+token_more (Some f) want = tt
+
+token_wanted : (e : Engine) (want : ScanWant) → e.ask ≡ More want → WantsToken e.top e.ask
+token_wanted e want asks = subst (WantsToken e.top) (sym asks) (token_more e.top want)
 
 -- what is made of a token fits where it is wanted
 pub fits_none : (sizes : Sizes) (e : Engine) (book : Book) (x : Seen) (o : Onward) → IsNoFeed o → Takes sizes None e book → FitsOnward sizes x o e book
 fits_none sizes e book x onward.Skip h t = t.1
 fits_none sizes e book x onward.Feed h t = absurd h
-fits_none sizes e book x (onward.Begin k) h t = (t.0, (h, t.1))
+fits_none sizes e book x onward.Call h t = let here = none_wanted e e.call t.0 in (token_first e here.1, framed sizes e book here.0 t.1)
+fits_none sizes e book x (onward.Begin k) h t = let here = none_wanted e e.call t.0 in (here.1, (h, framed sizes e book here.0 t.1))
 fits_none sizes e book x (onward.Report r) h t = t.1
 fits_none sizes e book x onward.Line h t = t.1
 fits_none sizes e book x onward.Finish h t = t.1
 
-pub fits_some : (sizes : Sizes) (e : Engine) (want : ScanWant) (book : Book) (x : Seen) (o : Onward) → is_built x.meaning ≡ true → IsNoBegin o → Takes sizes (Some want) e book → FitsOnward sizes x o e book
-fits_some sizes e want book x onward.Skip built h t = t.1
-fits_some sizes e want book x onward.Feed built h t = record { want = want; asks = t.0; built = built; stands = t.1 }
-fits_some sizes e want book x (onward.Begin k) built h t = absurd h
-fits_some sizes e want book x (onward.Report r) built h t = t.1
-fits_some sizes e want book x onward.Line built h t = t.1
-fits_some sizes e want book x onward.Finish built h t = t.1
+-- a call takes tokens as they stand
+called_some : (sizes : Sizes) (e : Engine) (want : ScanWant) (book : Book) (c : Option Call) → e.call ≡ c → (want ≡ Raw → ⊥) → WantsHere c (Some want) e → AllStand sizes e book → WantsToken e.top e.ask × Stands sizes e book
+called_some sizes e want book None none raw h st = (token_wanted e want h, framed sizes e book none st)
+called_some sizes e want book (Some c) is raw h st = absurd (raw h.1)
+
+pub fits_some : (sizes : Sizes) (e : Engine) (want : ScanWant) (book : Book) (x : Seen) (o : Onward) → IsNoBegin o → (want ≡ Raw → o ≡ onward.Feed) → Takes sizes (Some want) e book → FitsOnward sizes x o e book
+fits_some sizes e want book x onward.Skip h raw t = t.1
+fits_some sizes e want book x onward.Feed h raw t = (want, t)
+fits_some sizes e want book x onward.Call h raw t = called_some sizes e want book e.call refl (λ (is : want ≡ Raw). absurd (cc (raw is))) t.0 t.1
+fits_some sizes e want book x (onward.Begin k) h raw t = absurd h
+fits_some sizes e want book x (onward.Report r) h raw t = t.1
+fits_some sizes e want book x onward.Line h raw t = t.1
+fits_some sizes e want book x onward.Finish h raw t = t.1
 
 -- where no reading is open, a command begins
-pub lone_first : (sizes : Sizes) (e : Engine) (r : Reading) (book : Book) → e.top ≡ None → IsCommand r.kind → Stands sizes e book → IsLone (r ∷ book.work)
-lone_first sizes e r book top is st = at book.work (subst (λ (t : Option Frame). WorkStands e.ask t e.outer.items e.input.builds book.work) top st.readings) where
-  at : (work : List Reading) → WorkStands e.ask None e.outer.items e.input.builds work → IsLone (r ∷ work)
-  at [] w = is
+bodiless : (k : reading.Kind) → IsCommand k → HasBody (reading.ask k [])
+bodiless reading.Catcode h = tt
+bodiless (reading.Message name) h = tt
+bodiless (reading.Prefixed long outer) h = tt
+bodiless (reading.Define expanded) h = tt
+bodiless k h = absurd h
+
+pub orderly_first : (sizes : Sizes) (e : Engine) (k : reading.Kind) (book : Book) → e.top ≡ None → IsCommand k → Stands sizes e book → AreOrderly (fresh k ∷ book.work)
+orderly_first sizes e k book top is st = at book.work (subst (λ (t : Option Frame). WorkStands e.ask t e.outer.items e.input.builds book.work) top st.readings) where
+  at : (work : List Reading) → WorkStands e.ask None e.outer.items e.input.builds work → AreOrderly (fresh k ∷ work)
+  at [] w = record { lone = is; chained = (bodiless k is, tt) }
   at (s ∷ rs) w = absurd w

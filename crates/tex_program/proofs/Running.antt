@@ -25,7 +25,8 @@ use Rattle.tex_program.specs.Book.{Book}
 use Rattle.tex_program.specs.Calls.{AllStand, FramesOf}
 use Rattle.tex_program.specs.Stands.{SameFrames, state_of}
 use Rattle.tex_program.specs.Steps.{IsHalted, StepsIf}
-use Rattle.tex_program.specs.Rules.{DoesRule, Went, Halts, Cuts, IsMoment, plan_of}
+use Rattle.tex_program.specs.Near.{CutsIn}
+use Rattle.tex_program.specs.Rules.{DoesRule, Went, Halts, IsMoment, plan_of}
 use Rattle.tex_program.specs.Ran.{Came, Stops, Settles, Ran, IsAt, CutBy, end_of}
 use Rattle.tex_program.specs.declared.call.Call.{Call}
 use Rattle.tex_program.proofs.Bare.{frames_all}
@@ -141,11 +142,11 @@ same_moment IsFault t at s e h = ap (λ (x : State). record x { in_line = s.in_l
 same_moment IsWant t at s e h = ap (λ (x : State). record x { in_line = s.in_line }) e ∙ ap but_due h
 
 -- a rule that is cut off
-pub rule_cut : (sizes : Sizes) (e e' : Engine) (book : Book) (w w' : World) (n : ℕ) (b : Broken) → steps (plan_of e book) ≤ n → SameFrames e e' → AllStand sizes e book →
-    Cuts sizes (state_of e book) e' book w w' (plan_of e book) b → CutBy sizes (state_of e book) n e' w w' b
-rule_cut sizes e e' book w w' n b le same stands h =
-    let off : CutOff sizes (state_of e book) h.at n w w' (why_of b) = plan_cut sizes (state_of e book) h.at n w w' (plan_of e book) (why_of b) h.cut le refl refl in
-    record { t = off.t; cut = off.cut; book' = book; frames = frames_after sizes e e' book same stands; same = same_moment (why_of b) off.t h.at (state_of e' book) off.same h.same }
+pub rule_cut : (sizes : Sizes) (e e' : Engine) (book : Book) (w w' : World) (n : ℕ) (b : Broken) → steps (plan_of e book) ≤ n →
+    CutsIn sizes (state_of e book) e' w w' (plan_of e book) b → CutBy sizes (state_of e book) n e' w w' b
+rule_cut sizes e e' book w w' n b le h =
+    let off : CutOff sizes (state_of e book) h.cuts.at n w w' (why_of b) = plan_cut sizes (state_of e book) h.cuts.at n w w' (plan_of e book) (why_of b) h.cuts.cut le refl refl in
+    record { t = off.t; cut = off.cut; book' = h.book'; frames = h.frames; same = same_moment (why_of b) off.t h.cuts.at (state_of e' h.book') off.same h.cuts.same }
 
 -- THE END OF A RUN
 

@@ -20,13 +20,13 @@ use Rattle.plain_state.specs.Pending.{Pending, Pulled, TokenFrom, LexemeFrom, Li
 use Rattle.plain_state.specs.States.{State, Move, Reading, Handed, Taken, Grows, Feeds, Noted, Completed, Begun, Ended, Written, Stopped, AtFatal}
 use Rattle.plain_state.specs.Reports as reports
 use Rattle.plain_state.specs.Reports.{Scanned, hundred_line}
-use Rattle.plain_machine.specs.Plan.{Page, page_of, plan, handed, met, met_outer, entered, enters_names, Scanning, scanning, checked, check_noted, ran_away, away_text, without_file, page_behind, reported, reports_room, told, is_told, noting, token_line, finish, stomach, command, primitive, called, called_meaning, called_list, put_body, body_put, wanted, expanded, expanded_as, feeding, feeding_kind, grown_to, opened, in_place, argument_fed, answered, begun, begun_with, last_seen, given_back, put_all, effect}
+use Rattle.plain_machine.specs.Plan.{Page, page_of, plan, handed, met, met_outer, entered, enters_names, Scanning, scanning, checked, check_noted, ran_away, away_text, without_file, page_behind, reported, reports_room, told, put_inserted, is_told, noting, token_line, finish, stomach, command, primitive, called, called_meaning, called_list, put_body, body_put, wanted, expanded, expanded_as, feeding, feeding_kind, grown_to, opened, in_place, argument_fed, answered, begun, begun_with, last_seen, given_back, put_all, effect}
 use Rattle.plain_machine.specs.Numbers.{pending_of, pulled_of}
 use Rattle.plain_machine.specs.Runs.{steps}
 use Rattle.plain_machine.proofs.Joins.{StepComes, plan_needs, steps_join}
 use Rattle.plain_machine.proofs.Renumbering.{pulled_same}
 use Rattle.frames.specs.declared.scan.Ask.{Ask}
-use Rattle.frames.specs.declared.scan.Ask.TheVariants.{More, Inner, Done, Act, Tells}
+use Rattle.frames.specs.declared.scan.Ask.TheVariants.{More, Inner, Done, Act, Tells, Inserts}
 use Rattle.frames.specs.declared.frame.Frame.{Frame}
 use Rattle.frames.specs.Sees.{ask_of, want_of, effect_of, value_of, kind_of}
 use Rattle.transcript.specs.Reported.{report_of}
@@ -185,10 +185,15 @@ met_outer_none page (Some s) t onward h = omega (arith, away_none page (reports.
 met_none : (page : Page) (o : Option Scanning) (onward : Seen → List Move) (x : Seen) → ((x : Seen) → steps (onward x) ≡ 0) → steps (met page o onward x) ≡ 0
 met_none page o onward x h = none_if (is_outer x.meaning) (met_outer page o x.token onward) (onward x) (met_outer_none page o x.token onward h) (h x)
 
-told_none : (page : Page) (report : reports.Report) (back : Bool) (r : Reading) → steps (told page report None back r) ≡ 0
-told_none page report back r =
-    none_if (is_told r.fed) (Ended (reading.Flag false) ∷ []) (given_back back r.fed ++ reported page report (noting r)) refl
-    (steps_join (given_back back r.fed) (reported page report (noting r)) ∙ omega (arith, back_none back r.fed, reported_none page report (noting r) (noting_none r)))
+inserted_none : (o : Option Token) → steps (put_inserted o) ≡ 0
+inserted_none None = refl
+inserted_none (Some t) = refl
+
+pub told_none : (page : Page) (report : reports.Report) (inserted : Option Token) (back : Bool) (r : Reading) → steps (told page report inserted back r) ≡ 0
+told_none page report inserted back r =
+    none_if (is_told r.fed) (Ended (reading.Flag false) ∷ []) (given_back back r.fed ++ (put_inserted inserted ++ reported page report (noting r))) refl
+    (steps_join (given_back back r.fed) (put_inserted inserted ++ reported page report (noting r))
+    ∙ omega (arith, back_none back r.fed, steps_join (put_inserted inserted) (reported page report (noting r)), inserted_none inserted, reported_none page report (noting r) (noting_none r)))
 
 with_none : (k : reading.Kind) (lent : Bool) (xs : List Seen) → steps (begun_with k lent xs) ≡ 0
 with_none k lent [] = refl
@@ -236,7 +241,8 @@ answer_steps e book r f (Inner waits k begins) = begun_none (kind_of k) (is_some
 answer_steps e book r f (Done v back) = steps_join (given_back (is_some back) r.fed) (Ended (value_of e.input.builds v) ∷ []) ∙ omega (arith, back_none (is_some back) r.fed)
 answer_steps e book r f (Act ef) =
     steps_join (effect (state_of e book) (effect_of e.input.builds ef)) (Ended (reading.Flag true) ∷ []) ∙ omega (arith, effect_none (state_of e book) (effect_of e.input.builds ef))
-answer_steps e book r f (Tells report back) = told_none (page_of (state_of e book)) (report_of report) (is_some back) r
+answer_steps e book r f (Tells report back) = told_none (page_of (state_of e book)) (report_of report) None (is_some back) r
+answer_steps e book r f (Inserts t report back) = told_none (page_of (state_of e book)) (report_of report) (Some t) (is_some back) r
 
 steps_at : (e : Engine) (x : Option Frame) (book : Book) (work : List Reading) → WorkStands e.ask x e.outer.items e.input.builds work → steps (plan_of e (with_work work book)) ≡ one_if (wants_token x e.ask && gives_step (pulled e.categories e.input.pending))
 steps_at e None book [] h = let page = page_of (state_of e (with_work [] book)) in handed_now e book page false None (stomach page) (λ x. command_none page x.token x.meaning)
@@ -271,6 +277,7 @@ module _ (sizes : Sizes) where
   answer_needs e book r f (Done v back) h g = cc
   answer_needs e book r f (Act ef) h g = cc
   answer_needs e book r f (Tells report back) h g = cc
+  answer_needs e book r f (Inserts t report back) h g = cc
 
   needs_at : (e : Engine) (x : Option Frame) (book : Book) (work : List Reading) → WorkStands e.ask x e.outer.items e.input.builds work → (wants_token x e.ask && gives_step (pulled e.categories e.input.pending)) ≡ true → StepComes sizes (state_of e (with_work work book))
   needs_at e None book [] h g = let page = page_of (state_of e (with_work [] book)) in pulled_needs e (with_work [] book) page false None (stomach page) refl g

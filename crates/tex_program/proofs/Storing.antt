@@ -1,15 +1,14 @@
 -- The macros that the input holds keep their numbers.
-use Rattle.std.proofs.Common.{◌≡◌, ℕ, zero, suc, ◌+◌, ◌<◌, List, [], ◌∷◌, ◌++◌, length, map, Option, Some, None, inl, inr, refl, sym, ap, ◌∙◌, subst, Bool, true, false, arith}
+use Rattle.std.proofs.Common.{◌≡◌, ℕ, zero, suc, ◌+◌, ◌<◌, List, [], ◌∷◌, length, Option, None, inl, inr, refl, sym, ap, ◌∙◌, subst, true, arith}
 use Rattle.std.specs.Prelude.{slice_index_or}
 use Rattle.std.proofs.lemmas.Bool.{cases_lt}
 use Rattle.std.proofs.lemmas.List.{get_or_past}
 use Rattle.tex_defs.specs.declared.Token.{Token}
 use Rattle.tex_defs.specs.declared.Meaning.{Meaning}
 use Rattle.tex_defs.specs.declared.Sizes.{Sizes}
-use Rattle.plain_state.specs.Puts.{Put, token_put}
+use Rattle.plain_state.specs.Puts.{token_put}
 use Rattle.plain_state.specs.Pending.{Pending, settle, put_front}
 use Rattle.plain_state.specs.Tables.{is_meant, is_put, words}
-use Rattle.plain_machine.specs.Plan.{reports_room}
 use Rattle.plain_machine.specs.Numbers.{IsHeld, Tied}
 use Rattle.plain_machine.proofs.MacroWords.{all_words_tied}
 use Rattle.plain_machine.proofs.Ties.{put_settled, put_with_put, held_more}
@@ -18,7 +17,7 @@ use Rattle.input_state.specs.Callings.{Calling}
 use Rattle.input_state.specs.Stored.{Stored, KeepsMacros, gathered, words as stored_words}
 use Rattle.tex_program.specs.declared.engine.Engine.{Engine}
 use Rattle.tex_program.specs.Book.{Book, AreBodies}
-use Rattle.tex_program.specs.Stands.{IsSized, IsSound, ArePlain, SameStore, SameState, SameOthers, state_of}
+use Rattle.tex_program.specs.Stands.{IsSized, IsSound, SameStore, SameState, SameOthers, state_of}
 
 -- WHAT STAYS OF THE INPUT
 
@@ -86,13 +85,13 @@ store_put i j ts is macros = store_with i j (put_front (token_put ts) i.pending)
 
 -- THE MACROS
 
-body_at : (macros : List (List Token)) (k : ℕ) → AreBodies macros → k < length macros → slice_index_or macros k [] ≡ [] → ⊥
+pub body_at : (macros : List (List Token)) (k : ℕ) → AreBodies macros → k < length macros → slice_index_or macros k [] ≡ [] → ⊥
 body_at [] k h below none = omega (arith, below)
 body_at (ts ∷ macros) zero h below none = h.0 none
 body_at (ts ∷ macros) (suc k) h below none = body_at macros k h.1 (omega (arith, below)) none
 
 -- a list that has a token is there
-inside_by : (lists : List (List Token)) (n : ℕ) → (slice_index_or lists n [] ≡ [] → ⊥) → n < length lists
+pub inside_by : (lists : List (List Token)) (n : ℕ) → (slice_index_or lists n [] ≡ [] → ⊥) → n < length lists
 inside_by lists n some = elim (cases_lt n (length lists)) [
   | inl below ↦ below
   | inr past ↦ absurd (some (get_or_past lists n [] past))
@@ -129,7 +128,6 @@ module _ (sizes : Sizes) (e e' : Engine) (number : ℕ → ℕ) (macros : List (
     sized = sized;
     tied = tied_store number macros e.input e'.input h.bodies store h.tied;
     bodies = h.bodies;
-    plain = subst ArePlain (sym store.meanings) h.plain;
   }
 
   pub sound_still : e'.sizes ≡ e.sizes → e'.outer.size ≡ e.outer.size → e'.names ≡ e.names → e'.reports ≡ e.reports → SameStore e.input e'.input → IsSound sizes e number macros → IsSound sizes e' number macros

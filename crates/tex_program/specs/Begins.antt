@@ -6,7 +6,7 @@ use Rattle.plain_state.specs.States.{Move, Begun, Written}
 use Rattle.plain_state.specs.States as machine
 use Rattle.tex_defs.specs.declared.Fatal.TheVariants.{NoEnd as FatalNoEnd}
 use Rattle.plain_state.specs.Reports.{fresh_line, emergency, no_end_line}
-use Rattle.plain_machine.specs.Plan.{Page, reported, token_line, finish, no_end, page_behind, put_one, right_brace}
+use Rattle.plain_machine.specs.Plan.{Page, reported, token_line, finish, no_end, page_behind, put_one, inserted_at, check_noted, called}
 use Rattle.plain_state.specs.Reports as reports
 use Rattle.plain_state.specs.Readings as reading
 use Rattle.tex_program.specs.declared.reactions.Outcome.{Outcome}
@@ -35,14 +35,15 @@ abbrev pub last_bytes : Bool → Last → List ℕ
 last_bytes in_line End = fresh_line in_line
 last_bytes in_line NoEnd = fresh_line in_line ++ (emergency ++ no_end_line)
 
--- a text runs away, of which this is shown: a brace is inserted, and the report comes
-abbrev pub away_moves : Page → List ℕ → reports.Report → (rest : List Move) → List Move
-away_moves page text report rest = Written Transcript text ∷ (put_one right_brace ++ reported (page_behind page text) report rest)
+-- what is scanned runs away, and this is shown of it: `}` or `\par` is inserted, the report comes, and a call notes the check
+abbrev pub away_moves : Page → reports.Scanned → List ℕ → reports.Report → (rest : List Move) → List Move
+away_moves page what text report rest = Written Transcript text ∷ (put_one (inserted_at what) ++ reported (page_behind page text) report (check_noted what rest))
 
 -- the moves behind a token that was handed on, where it is fed by these
 abbrev pub onward_moves : Page → (feeds : List Move) → Seen → Onward → List Move
 onward_moves page feeds x onward.Skip = []
 onward_moves page feeds x onward.Feed = feeds
+onward_moves page feeds x onward.Call = called page x.token
 onward_moves page feeds x (onward.Begin k) = Begun (kind_of k) ∷ []
 onward_moves page feeds x (onward.Report r) = reported page (report_of r) []
 onward_moves page feeds x onward.Line = token_line page x.meaning
@@ -61,6 +62,11 @@ abbrev pub IsNoFeed : Onward → Type 0
 IsNoFeed onward.Feed = ⊥
 IsNoFeed (onward.Begin k) = IsCommand (kind_of k)
 IsNoFeed o = Unit {0}
+
+-- no macro is called
+abbrev pub IsNoCall : Onward → Type 0
+IsNoCall onward.Call = ⊥
+IsNoCall o = Unit {0}
 
 abbrev pub IsNoBegin : Onward → Type 0
 IsNoBegin (onward.Begin k) = ⊥

@@ -6,7 +6,7 @@ use Rattle.tex_defs.specs.declared.Sizes.{Sizes}
 use Rattle.tex_defs.specs.declared.Token.{Token}
 use Rattle.tex_defs.specs.declared.Name.{Name}
 use Rattle.tex_defs.specs.declared.Meaning.TheVariants.{Macro}
-use Rattle.plain_state.specs.Arguments.{arguments_in, work_in}
+use Rattle.plain_state.specs.Arguments.{arguments_in, work_in, has_parameters}
 use Rattle.plain_state.specs.Meanings.{name_meaning}
 use Rattle.plain_state.specs.Readings as reading
 use Rattle.plain_state.specs.Readings.{Fed, gathered_by, call_fed, par_token, list_or_none}
@@ -26,7 +26,7 @@ use Rattle.tex_program.specs.declared.call.CallAsk.{CallAsk}
 use Rattle.tex_program.specs.declared.call.CallAsk.TheVariants as call
 use Rattle.tex_program.specs.declared.engine.Engine.{Engine}
 use Rattle.tex_program.specs.Book.{Book}
-use Rattle.tex_program.specs.Stands.{FramesStand, IsLone, IsSound}
+use Rattle.tex_program.specs.Stands.{FramesStand, AreOrderly, IsSound}
 
 -- the arguments, where all of them are there
 abbrev pub args_of : Calling → List (List Token)
@@ -92,13 +92,14 @@ GivesLast (call.ExtraBrace x) fed = (last_seen fed ≡ x ∷ []) × (is_told fed
 GivesLast (call.ParEnded (Some x)) fed = last_seen fed ≡ x ∷ []
 GivesLast a fed = Unit {0}
 
--- The call is this reading: that of a macro with a list.
+-- The call is this reading: that of a macro with a list that has a parameter text.
 pub record CallStands (e : Engine) (number : ℕ → ℕ) (c : Call) (r : Reading) : Type 0 where
   pub long : Bool
   pub outer : Bool
   pub id : ℕ
   pub meaning : name_meaning e.input.meanings c.name ≡ Macro long outer (Some id)
   pub kind : r.kind ≡ reading.Arguments c.name long (number id) (list_at e.input.lists id)
+  pub places : has_parameters (list_at e.input.lists id) ≡ true
   pub asked : asks_of c e.input.call ≡ reading.ask r.kind r.fed
   pub at : CallAt c.ask c.name long (list_at e.input.lists id) e.input.call r.fed
   pub holds : r.holds ≡ length (call_lists e.input.call)
@@ -113,9 +114,9 @@ WantsToken (Some f) a = ⊥
 
 -- A call is the innermost reading; the frames, with the lists that they hold, are those beneath it, or all of them.
 abbrev pub ReadingsStand : Option Call → Engine → (number : ℕ → ℕ) → List Reading → Type 0
-ReadingsStand None e number work = FramesStand e work × (IsLone work × (e.input.call ≡ NotCalling))
+ReadingsStand None e number work = FramesStand e work × (AreOrderly work × (e.input.call ≡ NotCalling))
 ReadingsStand (Some c) e number [] = ⊥
-ReadingsStand (Some c) e number (r ∷ rs) = CallStands e number c r × (FramesStand e rs × (IsLone rs × WantsToken e.top e.ask))
+ReadingsStand (Some c) e number (r ∷ rs) = CallStands e number c r × (FramesStand e rs × (AreOrderly rs × WantsToken e.top e.ask))
 
 -- The engine's open readings and its macros are those of the book, and no list is being made; a call gathers its arguments or none does.
 pub record AllStand (sizes : Sizes) (e : Engine) (book : Book) : Type 0 where

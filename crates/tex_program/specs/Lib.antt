@@ -1,5 +1,6 @@
 pub mod Begins
 pub mod Book
+pub mod CallAsks
 pub mod Calls
 pub mod Entering
 pub mod Stands
@@ -10,3 +11,7 @@ pub mod Ran
 pub mod Faults
 pub mod Tells
 pub mod Says
+pub mod Near
+pub mod Chained
+pub mod Sets
+pub mod Feeding

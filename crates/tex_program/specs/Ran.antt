@@ -16,6 +16,7 @@ use Rattle.tex_program.specs.Begins.{outcome_of}
 use Rattle.tex_program.specs.Faults.{why_of}
 use Rattle.tex_program.specs.Book.{Book}
 use Rattle.tex_program.specs.Calls.{AllStand, FramesOf}
+use Rattle.tex_program.specs.Near.{FramesNear}
 use Rattle.tex_program.specs.Stands.{state_of}
 use Rattle.tex_program.specs.Rules.{CountsReports, IsMoment}
 
@@ -74,10 +75,11 @@ pub record Ran (sizes : Sizes) (s : State) (n : ℕ) (e' : Engine) (w w' : World
   pub written : Wrote w w' ms
 
 -- The run was cut off at a moment t: at a move that a table has no room for, or that calls the outside. The engine stands for it, with
--- its open readings, but for what is due; at a failed write its column is that of the bytes really written.
+-- its open readings, of whose innermost list one token may have come that the reading isn't fed with yet, but for what is due; at a
+-- failed write its column is that of the bytes really written.
 pub record CutBy (sizes : Sizes) (s : State) (n : ℕ) (e' : Engine) (w w' : World) (b : Broken) : Type 0 where
   pub t : State
   pub cut : CutAt sizes s n t w w' (why_of b)
   pub book' : Book
-  pub frames : FramesOf e'.call e' book'.work
+  pub frames : FramesNear e' book'.work
   pub same : IsMoment (why_of b) (but_due t) (state_of e' book')

@@ -5,14 +5,16 @@ use Rattle.tex_defs.specs.declared.Seen.{Seen}
 use Rattle.tex_defs.specs.declared.Token.{Token}
 use Rattle.tex_defs.specs.declared.Sizes.{Sizes}
 use Rattle.plain_state.specs.Reports as reports
-use Rattle.plain_state.specs.Reports.{report_bytes, runaway_bytes}
+use Rattle.plain_state.specs.Reports.{Scanned, report_bytes, runaway_bytes}
+use Rattle.plain_state.specs.Readings.{list_or_none}
+use Rattle.tex_defs.specs.declared.Name.{Name}
 use Rattle.plain_state.specs.Lex.{Lexeme}
 use Rattle.plain_state.specs.Lookup.{new_name, token_of}
 use Rattle.plain_state.specs.Meanings.{seen}
 use Rattle.plain_state.specs.Tokens.{space_token}
 use Rattle.plain_state.specs.States.{Reading, State, Move, Written, Reported}
 use Rattle.plain_state.specs.States as machine
-use Rattle.plain_machine.specs.Plan.{Page, planned, stomach, wanted, feeding, scanning, Scanning, met, checked, without_file, reported, entered, enters_names, reports_room}
+use Rattle.plain_machine.specs.Plan.{Page, planned, stomach, wanted, feeding, scanning, Scanning, met, reported, entered, enters_names, reports_room}
 use Rattle.plain_machine.specs.Runs.{steps}
 use Rattle.plain_machine.specs.Does.{Did, Cut, Why, IsFull, IsFault, IsWant}
 use Rattle.world_io.specs.Told.{FilesTold, SinkTold, world}
@@ -24,15 +26,17 @@ use Rattle.tex_program.specs.declared.reactions.Onward.{Onward}
 use Rattle.tex_program.specs.declared.reactions.Onward.TheVariants as onward
 use Rattle.tex_program.specs.Begins.{outcome_of, IsCommand}
 use Rattle.tex_program.specs.Faults.{why_of}
-use Rattle.frames.specs.declared.frame.Frame.{Frame}
 use Rattle.frames.specs.declared.scan.Ask.TheVariants.{More}
 use Rattle.frames.specs.declared.scan.Want.{Want as ScanWant}
+use Rattle.frames.specs.declared.scan.Want.TheVariants.{Raw}
 use Rattle.frames.specs.Sees.{want_of, kind_of, first_list}
-use Rattle.frames.specs.Resumes.{TakesTokens}
 use Rattle.input_state.specs.Stored.{gathered}
 use Rattle.tex_program.specs.Book.{Book}
-use Rattle.tex_program.specs.Calls.{AllStand}
-use Rattle.tex_program.specs.Stands.{Stands, FeedsHere, state_of, page_of}
+use Rattle.tex_program.specs.Calls.{AllStand, WantsToken}
+use Rattle.tex_program.specs.declared.call.Call.{Call}
+use Rattle.tex_program.specs.declared.call.CallAsk.TheVariants as call
+use Rattle.input_state.specs.CallFeeds.{IsTaking, call_work}
+use Rattle.tex_program.specs.Stands.{Stands, state_of}
 
 -- the world of these files and this sink, whose column the engine keeps
 abbrev pub world_of : FilesTold → SinkTold → Engine → World
@@ -96,23 +100,42 @@ token_moves page scanned onward t = met page scanned onward (seen page.meanings 
 abbrev pub name_moves : Page → Option Scanning → (enters : Bool) → (onward : Seen → List Move) → Lexeme → List Move
 name_moves page scanned enters onward x = entered (new_name enters page.names x) ++ token_moves page scanned onward (token_of enters page.names x)
 
--- what is shown of a text that runs away
-abbrev pub away_text : Engine → List ℕ
-away_text e = runaway_bytes reports.OfText e.categories e.names.names e.in_line (first_list e.input.builds)
+-- the list of what is scanned: of a call the present argument, if a place is reached, and else the list of the innermost frame
+abbrev pub scanned_list : Scanned → Engine → List Token
+scanned_list reports.OfUse e = list_or_none (call_work e.input.call)
+scanned_list what e = first_list e.input.builds
+
+-- what is shown of it where it runs away
+abbrev pub away_text : Scanned → Engine → List ℕ
+away_text what e = runaway_bytes what e.categories e.names.names e.in_line (scanned_list what e)
+
+-- a call takes tokens, or a list is held
+abbrev pub IsScanned : Scanned → Engine → Type 0
+IsScanned reports.OfUse e = IsTaking e.input.call
+IsScanned what e = e.input.builds ≡ [] → ⊥
+
+-- such a thing is scanned, under this name
+abbrev pub Scans : (Scanned × Name) → Engine → Book → Type 0
+Scans s e book = scanning_of e book.work ≡ Some (record { what = s.0; name = s.1; list = scanned_list s.0 e })
+
+-- such a token is wanted: by a call that takes tokens, as it stands, by the innermost frame, or where no reading is open
+abbrev pub WantsHere : Option Call → Option ScanWant → Engine → Type 0
+WantsHere None None e = e.top ≡ None
+WantsHere None (Some want) e = e.ask ≡ More want
+WantsHere (Some c) None e = ⊥
+WantsHere (Some c) (Some want) e = (c.ask ≡ call.More) × (want ≡ Raw)
 
 -- the engine is where such a token is wanted
 abbrev pub Takes : Sizes → Option ScanWant → Engine → Book → Type 0
-Takes sizes None e book = (e.top ≡ None) × Stands sizes e book
-Takes sizes (Some want) e book = (e.ask ≡ More want) × Stands sizes e book
+Takes sizes want e book = WantsHere e.call want e × AllStand sizes e book
 
 -- the engine is where some token is wanted
 abbrev pub Wants : Sizes → Engine → Book → Type 0
 Wants sizes e book = (want : Option ScanWant) × Takes sizes want e book
 
--- no report is due where a token is fed
-abbrev pub TopTakes : Option Frame → Type 0
-TopTakes None = Unit {0}
-TopTakes (Some f) = TakesTokens f
+-- some reading wants it
+abbrev pub FeedsOn : Sizes → Engine → Book → Type 0
+FeedsOn sizes e book = (want : ScanWant) × Takes sizes (Some want) e book
 
 -- a space is handed on to where it is wanted, if it is
 abbrev pub space_moves : Page → Option ScanWant → List Reading → List Move
@@ -120,14 +143,15 @@ space_moves page None work = []
 space_moves page (Some want) work = onward_of page (Some want) work (seen page.meanings space_token)
 
 abbrev pub SpaceFits : Sizes → Option ScanWant → Engine → Book → Type 0
-SpaceFits sizes None e book = Stands sizes e book
-SpaceFits sizes (Some want) e book = (e.ask ≡ More want) × Stands sizes e book
+SpaceFits sizes None e book = Wants sizes e book
+SpaceFits sizes (Some want) e book = Takes sizes (Some want) e book
 
 -- What is made of a token fits the engine.
 abbrev pub FitsOnward : Sizes → Seen → Onward → Engine → Book → Type 0
-FitsOnward sizes x onward.Feed e book = FeedsHere sizes e x book
+FitsOnward sizes x onward.Feed e book = FeedsOn sizes e book
+FitsOnward sizes x onward.Call e book = WantsToken e.top e.ask × Stands sizes e book
 FitsOnward sizes x (onward.Begin k) e book = (e.top ≡ None) × (IsCommand (kind_of k) × Stands sizes e book)
-FitsOnward sizes x o e book = Stands sizes e book
+FitsOnward sizes x o e book = AllStand sizes e book
 
 -- the machine's state at the moment, and that of the engine: the engine's column is that of the bytes really written
 abbrev pub IsMoment : Why → State → State → Type 0

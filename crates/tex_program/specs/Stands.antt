@@ -1,5 +1,5 @@
 -- What an engine stands for: a state of the machine, once its open readings are named.
-use Rattle.std.specs.Prelude.{◌≡◌, ℕ, ◌+◌, ◌<◌, ◌≤◌, Bool, true, false, List, [], ◌∷◌, ◌++◌, length, reverse, nat_lt, if◌then◌else◌, Option, Some, None}
+use Rattle.std.specs.Prelude.{◌≡◌, ℕ, ◌+◌, ◌<◌, ◌≤◌, true, false, List, [], ◌∷◌, ◌++◌, length, reverse, nat_lt, if◌then◌else◌, Option, Some, None}
 use Rattle.tex_defs.specs.declared.Seen.{Seen}
 use Rattle.tex_defs.specs.declared.Token.{Token}
 use Rattle.tex_defs.specs.declared.Sizes.{Sizes}
@@ -8,27 +8,26 @@ use Rattle.tex_defs.specs.declared.Table.TheVariants.{ExpansionDepth}
 use Rattle.plain_state.specs.Readings as reading
 use Rattle.plain_state.specs.Readings.{Fed}
 use Rattle.plain_state.specs.Meanings.{fixed_locations}
-use Rattle.plain_state.specs.States.{Reading, State}
+use Rattle.plain_state.specs.States.{Reading, State, fed_with, ended_with}
 use Rattle.plain_machine.specs.Plan.{Page, last_seen, is_told, reports_room}
 use Rattle.plain_machine.specs.Numbers.{Tied, pending_of, meanings_of}
 use Rattle.input_state.specs.Stored.{Stored, KeepsMacros, gathered}
 use Rattle.input_state.specs.Callings.{NotCalling}
 use Rattle.plain_state.specs.Tables.{is_put}
-use Rattle.tex_defs.specs.declared.Meaning.{Meaning}
-use Rattle.tex_defs.specs.declared.Meaning.TheVariants as means
 use Rattle.frames.specs.declared.scan.Want.{Want}
 use Rattle.frames.specs.declared.scan.Value.{Value}
 use Rattle.frames.specs.declared.scan.Value.TheVariants.{Toks}
 use Rattle.frames.specs.declared.scan.Ask.{Ask}
-use Rattle.frames.specs.declared.scan.Ask.TheVariants.{More, Inner, Done, Act, Tells}
+use Rattle.frames.specs.declared.scan.Ask.TheVariants.{More, Inner, Done, Act, Tells, Inserts}
 use Rattle.frames.specs.declared.frame.Frame.{Frame}
 use Rattle.frames.specs.declared.frame.Waiting.{Waiting}
 use Rattle.frames.specs.Sees.{ask_of}
-use Rattle.frames.specs.Resumes.{resume, resume_waiting, waiting_kind, frame_list, frame_kind, IsOpen, frame_grows, lists_after, InnerWaits, MayFeed, Owns, IsShallow, is_built}
+use Rattle.frames.specs.Resumes.{resume, resume_waiting, waiting_kind, frame_list, frame_kind, IsOpen, BeginsBare, InnerWaits, Owns, IsShallow}
 use Rattle.tex_program.specs.declared.engine.Engine.{Engine}
 use Rattle.tex_program.specs.declared.call.Call.{Call}
 use Rattle.tex_program.specs.Begins.{IsCommand}
 use Rattle.tex_program.specs.Book.{Book, AreBodies}
+use Rattle.tex_program.specs.Chained.{AreChained}
 
 -- The frame stands behind all that the reading was fed with, which holds these lists.
 pub record FrameStands (frame : Frame) (lists : List (List Token)) (r : Reading) : Type 0 where
@@ -62,21 +61,18 @@ GivesLast (Inner waits kind begins) fed = IsLast begins fed
 GivesLast (Done v back) fed = IsLast back fed
 GivesLast (Act e) fed = Unit {0}
 GivesLast (Tells report back) fed = IsLast back fed
+GivesLast (Inserts t report back) fed = IsLast back fed
 
 -- a report comes only where none was the last
 abbrev pub TellsOnce : Ask → List Fed → Type 0
 TellsOnce (Tells report back) fed = is_told fed ≡ false
+TellsOnce (Inserts t report back) fed = is_told fed ≡ false
 TellsOnce a fed = Unit {0}
 
 abbrev pub AtMostOne : List (List Token) → Type 0
 AtMostOne [] = Unit {0}
 AtMostOne (ts ∷ []) = Unit {0}
 AtMostOne (ts ∷ us ∷ lists) = ⊥
-
--- a token with which an inner reading begins is no definition
-abbrev pub BeginsBuilt : Ask → Type 0
-BeginsBuilt (Inner waits kind (Some x)) = is_built x.meaning ≡ true
-BeginsBuilt a = Unit {0}
 
 pub record Innermost (a : Ask) (frame : Frame) (lists : List (List Token)) (r : Reading) : Type 0 where
   pub asked : ask_of lists a ≡ reading.ask r.kind r.fed
@@ -85,7 +81,7 @@ pub record Innermost (a : Ask) (frame : Frame) (lists : List (List Token)) (r : 
   pub holds : r.holds ≡ length lists
   pub few : AtMostOne lists
   pub last : GivesLast a r.fed
-  pub built : BeginsBuilt a
+  pub bare : BeginsBare a
   pub once : TellsOnce a r.fed
   pub not_lent : r.lent ≡ false
 
@@ -104,6 +100,11 @@ abbrev pub IsLone : List Reading → Type 0
 IsLone (r ∷ []) = IsCommand r.kind
 IsLone rs = Unit {0}
 
+-- and a definition gives its list to the command that defines
+pub record AreOrderly (work : List Reading) : Type 0 where
+  pub lone : IsLone work
+  pub chained : AreChained work
+
 -- the tables' sizes are these, two readings more than may be open can be counted, the last report that a run may have hasn't come,
 -- and each name that is entered has a location
 pub record IsSized (sizes : Sizes) (e : Engine) : Type 0 where
@@ -116,22 +117,11 @@ pub record IsSized (sizes : Sizes) (e : Engine) : Type 0 where
   pub hash : e.input.hash_size ≡ sizes.hash_size
   pub located : length e.input.meanings ≡ fixed_locations + length e.names.names
 
--- no name means a macro or a definition
-abbrev pub IsPlain : Meaning (Option ℕ) → Type 0
-IsPlain (means.Macro long outer list) = ⊥
-IsPlain (means.Prim n) = is_built (means.Prim n) ≡ true
-IsPlain m = Unit {0}
-
-abbrev pub ArePlain : List (Meaning (Option ℕ)) → Type 0
-ArePlain [] = Unit {0}
-ArePlain (m ∷ ms) = IsPlain m × ArePlain ms
-
 -- The macros that the input holds are these, under these numbers.
 pub record IsSound (sizes : Sizes) (e : Engine) (number : ℕ → ℕ) (macros : List (List Token)) : Type 0 where
   pub sized : IsSized sizes e
   pub tied : Tied number macros e.input.meanings e.input.pending.puts e.input.lists
   pub bodies : AreBodies macros
-  pub plain : ArePlain e.input.meanings
 
 -- no call gathers its arguments
 pub record IsUncalled (e : Engine) : Type 0 where
@@ -143,7 +133,7 @@ pub record Stands (sizes : Sizes) (e : Engine) (book : Book) : Type 0 where
   pub sound : IsSound sizes e book.number book.macros
   pub idle : e.input.making ≡ None
   pub readings : FramesStand e book.work
-  pub lone : IsLone book.work
+  pub orderly : AreOrderly book.work
   pub uncalled : IsUncalled e
 
 -- The innermost reading waits for what comes.
@@ -158,6 +148,7 @@ pub record Waits (sizes : Sizes) (e : Engine) (book : Book) : Type 0 where
   pub idle : e.input.making ≡ None
   pub readings : WaitStands e.top e.outer.items e.input.builds book.work
   pub lone : IsLone book.work
+  pub chained : AreChained (fed_with reading.Told book.work)
   pub uncalled : IsUncalled e
 
 -- A command waits in front of the reading that begins.
@@ -188,6 +179,7 @@ pub record EndsHere (sizes : Sizes) (e : Engine) (v : reading.Value) (r : Readin
   pub few : AtMostOne e.input.builds
   pub holds : r.holds ≡ length e.input.builds
   pub taken : IsTaken v rs
+  pub chained : AreChained (ended_with v (r ∷ rs))
   pub outer : OuterStand (reverse e.outer.items) rs
   pub uncalled : IsUncalled e
 
@@ -195,26 +187,7 @@ pub record EndsHere (sizes : Sizes) (e : Engine) (v : reading.Value) (r : Readin
 pub record FeedsHere (sizes : Sizes) (e : Engine) (x : Seen) (book : Book) : Type 0 where
   pub want : Want
   pub asks : e.ask ≡ More want
-  pub built : is_built x.meaning ≡ true
   pub stands : Stands sizes e book
-
--- A frame behind a reading that held these lists, whose list has the token already if it is of it.
-pub record FedFrame (sizes : Sizes) (e : Engine) (f : Frame) (x : Seen) (lists : List (List Token)) (r : Reading) (rs : List Reading) (book : Book) : Type 0 where
-  pub sound : IsSound sizes e book.number book.macros
-  pub idle : e.input.making ≡ None
-  pub frame : FrameStands f lists r
-  pub holds : r.holds ≡ length lists
-  pub built : is_built x.meaning ≡ true
-  pub may_feed : MayFeed f x lists
-  pub grown : e.input.builds ≡ lists_after (frame_grows f x) x lists
-  pub outer : OuterStand (reverse e.outer.items) rs
-  pub lone : IsLone (r ∷ rs)
-  pub uncalled : IsUncalled e
-
--- whether a token goes onto the list that the innermost reading builds, if one is open
-abbrev pub top_grows : Option Frame → Seen → Bool
-top_grows None x = false
-top_grows (Some f) x = frame_grows f x
 
 -- a value's list stays where it has a token; another list goes
 abbrev pub kept_lists : Value → List (List Token) → List (List Token)

@@ -17,6 +17,7 @@ ghost use Rattle.input_state.specs.Calls.{after_call, put_of};
 ghost use Rattle.input_state.specs.Stored.{KeepsMacros, put_refusal};
 ghost use Rattle.tex_program.specs.Book.{Book, with_work};
 ghost use Rattle.tex_program.specs.Calls.{AllStand, argument_bytes, brace_call, open_call, call_away_moves};
+ghost use Rattle.tex_program.specs.Near.{CutsIn};
 ghost use Rattle.tex_program.specs.Stands.{OnlyColumn, SameFrames, state_of, page_of};
 ghost use Rattle.tex_program.specs.Rules.{world_of, plan_of, Cuts, DoesRule};
 ghost use Rattle.tex_program.specs.Steps.{stepping, call_asks_more, IsStep, IsFree, IsHalted, StepsIf, weight};
@@ -71,8 +72,7 @@ impl Engine {
         ensures rule { IfOk result (λ ruled. (sizes : Sizes) (f : FilesTold) (book : Book) → AllStand sizes self.old book →
             DoesRule sizes (state_of self.old book) self.new book (world_of f (S.told out.old) self.old) (world_of f (S.told out.new) self.new) (plan_of self.old book) ruled) }
         ensures err { IfErr result (λ b. (sizes : Sizes) (f : FilesTold) (book : Book) → AllStand sizes self.old book →
-            Cuts sizes (state_of self.old book) self.new book (world_of f (S.told out.old) self.old) (world_of f (S.told out.new) self.new) (plan_of self.old book) b) }
-        ensures frames { OnErr result (SameFrames self.old self.new) }
+            CutsIn sizes (state_of self.old book) self.new (world_of f (S.told out.old) self.old) (world_of f (S.told out.new) self.new) (plan_of self.old book) b) }
         ensures halts { IfOk result (λ ruled. IsHalted ruled → SameFrames self.old self.new) }
         ensures idle { OnOk result (self.new.input.making ≡ None) }
     {
@@ -133,7 +133,7 @@ impl Engine {
     }
 
     /// Writes what is shown of an argument that runs away: the list in work, if a place is reached.
-    fn write_argument<S: Sink>(&mut self, out: &mut S) -> Result<(), Broken>
+    pub(crate) fn write_argument<S: Sink>(&mut self, out: &mut S) -> Result<(), Broken>
         ensures did { OnOk result ((sizes : Sizes) (f : FilesTold) (book : Book) → Did sizes (state_of self.old book) (state_of self.new book) (world_of f (S.told out.old) self.old) (world_of f (S.told out.new) self.new) (Written Transcript (argument_bytes self.old) ∷ [])) }
         ensures err { IfErr result (λ b. (sizes : Sizes) (f : FilesTold) (book : Book) (more : List Move) → Cuts sizes (state_of self.old book) self.new book (world_of f (S.told out.old) self.old) (world_of f (S.told out.new) self.new) (Written Transcript (argument_bytes self.old) ∷ more) b) }
         ensures only { OnlyColumn self.old self.new }

@@ -9,17 +9,17 @@ ghost use Rattle.plain_state.specs.Pending.{pulled};
 ghost use Rattle.plain_state.specs.Names as names;
 ghost use Rattle.prim_table.specs.Primitives.{primitive_names};
 ghost use Rattle.plain_state.specs.Lex.{Lexeme};
-ghost use Rattle.plain_state.specs.Reports.{NoSuchFile, Forbidden, report_bytes, message_bytes, OfText, runaway_bytes};
+ghost use Rattle.plain_state.specs.Reports.{NoSuchFile, report_bytes, message_bytes, runaway_bytes};
 ghost use Rattle.plain_state.specs.Tables.{refusal, refused, memory, lists_words, words};
 ghost use Rattle.plain_state.specs.Meanings as meanings;
 ghost use Rattle.plain_state.specs.Readings.{Fed, Tok, Told, rank, own_lists, value_lists, Text as TextKind, Flag as FlagValue};
 ghost use Rattle.plain_state.specs.States.{State, Reading, Move, Kept, Begun, BegunWith, Written, Ended as EndedMove, AtFatal, fresh, fed_with, ended_with, beneath};
-ghost use Rattle.plain_machine.specs.Plan.{Page, handed, effect as effect_moves, given_back, put_one, reported, token_line, checked, told, is_told, no_file, reports_room};
+ghost use Rattle.plain_machine.specs.Plan.{Page, handed, effect as effect_moves, given_back, put_inserted, noting, put_one, reported, token_line, told, is_told, no_file, reports_room};
 ghost use Rattle.plain_machine.specs.Does.{Did};
 ghost use Rattle.world_io.specs.Told.{FilesTold};
 ghost use Rattle.frames.specs.Sees.{value_of, kind_of, want_of, effect_of, first_list};
-ghost use Rattle.transcript.specs.Reported.{report_of};
-ghost use Rattle.frames.specs.Resumes.{IsNoText, IsOpen, is_built, frame_kind, frame_grows, lists_after};
+ghost use Rattle.transcript.specs.Reported.{report_of, scanned_of};
+ghost use Rattle.frames.specs.Resumes.{IsOpen, lists_behind, grown_by};
 ghost use Rattle.frames.specs.Weights.{frame_rank};
 ghost use Rattle.input_state.specs.Reads.{gives_step, IsLexeme};
 ghost use Rattle.input_state.specs.Stored.{KeepsMacros, gathered, words as stored_words};
@@ -27,10 +27,12 @@ ghost use Rattle.plain_state.specs.Lookup.{token_of, new_name};
 ghost use Rattle.plain_machine.specs.Numbers.{pending_of};
 ghost use Rattle.tex_program.specs.Book.{Book, with_work};
 ghost use Rattle.tex_program.specs.Calls.{AllStand};
+ghost use Rattle.tex_program.specs.Feeding.{AnswerFits, AnswerCut, IsNoMacro, Defines};
+ghost use Rattle.tex_program.specs.Near.{CutsIn};
 ghost use Rattle.tex_program.specs.Entering.{with_names, EntryFits, EntryRefused};
-ghost use Rattle.tex_program.specs.Begins.{outcome_of, outcome_of_last, last_moves, last_bytes, away_moves, onward_moves};
-ghost use Rattle.tex_program.specs.Stands.{Stands, Waits, WaitsWith, EndsHere, FeedsHere, FedFrame, IsSized, IsSound, IsLone, IsLast, Counts, SameStore, SameState, SameOthers, SameFrames, OnlyColumn, state_of, page_of, frames, depth_full, top_grows, kept_lists, other_lists};
-ghost use Rattle.tex_program.specs.Rules.{world_of, plan_of, feeds_of, onward_of, enters_of, token_moves, name_moves, space_moves, scanning_of, away_text, Takes, Wants, SpaceFits, FitsOnward, TopTakes, Cuts, Went, Reports, Halts, DoesRule, DoesOnward};
+ghost use Rattle.tex_program.specs.Begins.{outcome_of, outcome_of_last, last_moves, last_bytes, onward_moves};
+ghost use Rattle.tex_program.specs.Stands.{Stands, Waits, WaitsWith, EndsHere, FeedsHere, IsSized, IsSound, AreOrderly, IsLast, Counts, SameStore, SameState, SameOthers, SameFrames, OnlyColumn, state_of, page_of, frames, depth_full, kept_lists, other_lists};
+ghost use Rattle.tex_program.specs.Rules.{world_of, plan_of, feeds_of, onward_of, enters_of, token_moves, name_moves, space_moves, scanning_of, Takes, FeedsOn, FitsOnward, Cuts, Went, Reports, Halts, DoesRule, DoesOnward};
 ghost use Rattle.tex_program.specs.Steps.{stepping, IsStep, IsFree, IsHalted, StepsIf, freed, pending_weight, frame_weight, weight};
 ghost use Rattle.tex_program.specs.First.{Begins};
 ghost use Rattle.tex_program.specs.Ran.{Ran, Settles, CutBy};
@@ -40,10 +42,9 @@ ghost use Rattle.tex_program.specs.declared.engine.Ruled.TheVariants.{Halted};
 
 use crate::broken::Broken;
 use crate::call::Call;
-use crate::meaning::is_outer;
 use crate::names::resolve;
 use crate::reactions::{Last, Onward, Outcome, obey, react};
-use frames::{Ask, Effect, Frame, Kind, Outer, Value, Waiting, Want, first_ask};
+use frames::{Answer, Ask, Effect, Frame, Kind, Outer, Value, Waiting, Want, first_ask};
 use input_state::{Input, Pulled};
 use line_lexer::Lexed;
 use name_table::NameTable;
@@ -231,17 +232,21 @@ impl Engine {
         Ok(())
     }
 
-    /// Writes what is shown of a text that runs away: the list that the innermost reading holds.
-    fn write_runaway<S: Sink>(&mut self, out: &mut S) -> Result<(), Broken>
+    /// Writes what is shown of a text or a definition that runs away: the list that the innermost reading holds.
+    pub(crate) fn write_runaway<S: Sink>(
+        &mut self,
+        out: &mut S,
+        what: Scanned,
+    ) -> Result<(), Broken>
         requires { self.old.input.builds ≡ [] → ⊥ }
-        ensures did { OnOk result ((sizes : Sizes) (f : FilesTold) (book : Book) → Did sizes (state_of self.old book) (state_of self.new book) (world_of f (S.told out.old) self.old) (world_of f (S.told out.new) self.new) (Written Transcript (runaway_bytes OfText self.old.categories self.old.names.names self.old.in_line (first_list self.old.input.builds)) ∷ [])) }
-        ensures err { IfErr result (λ b. (sizes : Sizes) (f : FilesTold) (book : Book) (more : List Move) → Cuts sizes (state_of self.old book) self.new book (world_of f (S.told out.old) self.old) (world_of f (S.told out.new) self.new) (Written Transcript (runaway_bytes OfText self.old.categories self.old.names.names self.old.in_line (first_list self.old.input.builds)) ∷ more) b) }
+        ensures did { OnOk result ((sizes : Sizes) (f : FilesTold) (book : Book) → Did sizes (state_of self.old book) (state_of self.new book) (world_of f (S.told out.old) self.old) (world_of f (S.told out.new) self.new) (Written Transcript (runaway_bytes (scanned_of what) self.old.categories self.old.names.names self.old.in_line (first_list self.old.input.builds)) ∷ [])) }
+        ensures err { IfErr result (λ b. (sizes : Sizes) (f : FilesTold) (book : Book) (more : List Move) → Cuts sizes (state_of self.old book) self.new book (world_of f (S.told out.old) self.old) (world_of f (S.told out.new) self.new) (Written Transcript (runaway_bytes (scanned_of what) self.old.categories self.old.names.names self.old.in_line (first_list self.old.input.builds)) ∷ more) b) }
         ensures only { OnlyColumn self.old self.new }
     {
         let (hash, pool) = self.names.parts();
         let (lists, list) = self.input.list();
         let view = initial_view(lists, hash, pool, &self.categories);
-        write_runaway(out, &mut self.in_line, view, Scanned::Text, list)?;
+        write_runaway(out, &mut self.in_line, view, what, list)?;
         Ok(())
     }
 
@@ -297,9 +302,13 @@ impl Engine {
     }
 
     /// A report, behind which the rule ends.
-    fn report_only<S: Sink>(&mut self, out: &mut S, report: Report) -> Result<Ruled, Broken>
+    pub(crate) fn report_only<S: Sink>(
+        &mut self,
+        out: &mut S,
+        report: Report,
+    ) -> Result<Ruled, Broken>
         requires idle { self.old.input.making ≡ None }
-        ensures rule { IfOk result (λ ruled. (sizes : Sizes) (f : FilesTold) (book : Book) → Stands sizes self.old book →
+        ensures rule { IfOk result (λ ruled. (sizes : Sizes) (f : FilesTold) (book : Book) → AllStand sizes self.old book →
             DoesOnward sizes (state_of self.old book) self.new book (world_of f (S.told out.old) self.old) (world_of f (S.told out.new) self.new) (reported (page_of self.old book) (report_of report) []) ruled) }
         ensures err { IfErr result (λ b. (sizes : Sizes) (f : FilesTold) (book : Book) → self.old.reports ≤ reports_room →
             Cuts sizes (state_of self.old book) self.new book (world_of f (S.told out.old) self.old) (world_of f (S.told out.new) self.new) (reported (page_of self.old book) (report_of report) []) b) }
@@ -341,7 +350,7 @@ impl Engine {
     }
 
     /// Why there is no room for one more reading.
-    fn depth_refusal(&self) -> Option<Full>
+    pub(crate) fn depth_refusal(&self) -> Option<Full>
         ensures room { result ≡ None → frames self.now < self.now.outer.size }
         ensures is { self.now.outer.size < 4294967294 → result ≡ depth_full (frames self.now) self.now.outer.size }
     {
@@ -365,11 +374,9 @@ impl Engine {
         ensures same { OnOk result (SameState self.old self.new) }
         ensures top { OnOk result ((f : Frame) → self.new.top ≡ Some f → frame_rank f ≡ rank (kind_of kind)) }
         ensures is_open { OnOk result (IsSome self.new.top) }
-        ensures takes { OnOk result (TopTakes self.new.top) }
         ensures asks { OnOk result (IsOpen self.new.ask) }
-        ensures fresh { OnOk result ((f : Frame) (x : Seen) → self.new.top ≡ Some f → frame_grows f x ≡ false) }
         ensures lists { OnOk result (self.new.input.builds ≡ own_lists (kind_of kind) ++ self.old.input.builds) }
-        ensures stands { OnOk result ((sizes : Sizes) (book : Book) → WaitsWith sizes self.old waits book → IsLone (fresh (kind_of kind) ∷ book.work) → Stands sizes self.new (with_work (fresh (kind_of kind) ∷ book.work) book)) }
+        ensures stands { OnOk result ((sizes : Sizes) (book : Book) → WaitsWith sizes self.old waits book → AreOrderly (fresh (kind_of kind) ∷ book.work) → Stands sizes self.new (with_work (fresh (kind_of kind) ∷ book.work) book)) }
         ensures fits { OnOk result ((sizes : Sizes) (book : Book) → Counts sizes self.old book → refusal sizes (Begun (kind_of kind)) (state_of self.old book) ≡ None) }
         ensures refused { IfErr result (λ full. (sizes : Sizes) (book : Book) → Counts sizes self.old book → refusal sizes (Begun (kind_of kind)) (state_of self.old book) ≡ Some full) }
         ensures err { OnErr result (self.new ≡ self.old) }
@@ -403,7 +410,7 @@ impl Engine {
         ensures err { OnErr result (self.new ≡ self.old) }
     {
         match kind {
-            Kind::Text(_) => self.input.begin_list(),
+            Kind::Text(_) | Kind::Definition(_, _) => self.input.begin_list(),
             _ => {
                 // What is used of the main memory is at most its size.
                 let _used = self.input.words();
@@ -412,66 +419,70 @@ impl Engine {
         }
     }
 
-    /// Feeds the innermost reading: the token goes onto the list that it builds, unless it isn't of it.
-    fn feed(&mut self, seen: Seen) -> Result<(), Full>
-        ensures light { OnOk result ((f : Frame) → self.old.top ≡ Some f → frame_weight self.new ≤ 2 * frames self.old + (7 + 3 * frame_rank f) + pending_weight self.old.input.pending) }
-        ensures light_none { OnOk result (self.old.top ≡ None → frame_weight self.new ≡ frame_weight self.old) }
+    /// Feeds the innermost reading, a call or a frame, with a token.
+    ///
+    /// # Errors
+    /// The main memory is full: the engine stands for the moment before the token or the list that has no room.
+    pub(crate) fn feed(&mut self, seen: Seen) -> Result<(), Full>
+        requires idle { self.old.input.making ≡ None }
+        ensures ok { OnOk result ((sizes : Sizes) (w : World) (book : Book) → FeedsOn sizes self.old book → Went sizes (state_of self.old book) self.new w w (feeds_of book.work seen) 0) }
+        ensures refused { IfErr result (λ full. (sizes : Sizes) (w : World) (book : Book) → FeedsOn sizes self.old book → CutsIn sizes (state_of self.old book) self.new w w (feeds_of book.work seen) (broken.Full full)) }
+        ensures column { self.new.in_line ≡ self.old.in_line }
+        ensures idle { self.new.input.making ≡ None }
+    {
+        match self.call {
+            Some(call) => self.feed_call(call, seen),
+            None => self.feed_top(seen),
+        }
+    }
+
+    /// Feeds the innermost frame with a token.
+    fn feed_top(&mut self, seen: Seen) -> Result<(), Full>
         ensures same { OnOk result (SameState self.old self.new) }
         ensures stands { OnOk result ((sizes : Sizes) (book : Book) → FeedsHere sizes self.old seen book → Stands sizes self.new (with_work (fed_with (Tok seen) book.work) book)) }
         ensures did { OnOk result ((sizes : Sizes) (w : World) (book : Book) → FeedsHere sizes self.old seen book → Did sizes (state_of self.old book) (state_of self.new (with_work (fed_with (Tok seen) book.work) book)) w w (feeds_of book.work seen)) }
-        ensures refused { IfErr result (λ full. (sizes : Sizes) (w : World) (book : Book) → FeedsHere sizes self.old seen book → Cuts sizes (state_of self.old book) self.new book w w (feeds_of book.work seen) (broken.Full full)) }
-        ensures err { OnErr result (self.new ≡ self.old) }
+        ensures refused { IfErr result (λ full. (sizes : Sizes) (w : World) (book : Book) → FeedsHere sizes self.old seen book → CutsIn sizes (state_of self.old book) self.new w w (feeds_of book.work seen) (broken.Full full)) }
+        ensures column { self.new.in_line ≡ self.old.in_line }
+        ensures idle { self.new.input.making ≡ self.old.input.making }
     {
-        self.grow(seen)?;
-        self.feed_frame(seen);
+        let Some(mut frame) = self.top else {
+            return Ok(());
+        };
+        let answer = frame.feed(seen);
+        self.accept(frame, answer)
+    }
+
+    /// The list of the innermost frame gets the tokens of the answer, and the frame stands so behind them.
+    fn accept(&mut self, frame: Frame, answer: Answer) -> Result<(), Full>
+        ensures ok { OnOk result (self.new ≡ record self.old { top = Some frame; ask = answer.ask; input = record self.old.input { builds = lists_behind answer self.old.input.builds; lists = self.new.input.lists } }) }
+        ensures macros { KeepsMacros self.old.input self.new.input }
+        ensures fits { OnOk result (AnswerFits answer self.old.input) }
+        ensures err { IfErr result (λ full. AnswerCut answer full self.old self.new) }
+        ensures small { stored_words self.old.input < 4294967296 }
+    {
+        self.grow(answer.first)?;
+        self.grow(answer.second)?;
+        self.top = Some(frame);
+        self.ask = answer.ask;
         Ok(())
     }
 
-    /// A token goes onto the list that the innermost reading builds, unless it isn't of it.
-    fn grow(&mut self, seen: Seen) -> Result<(), Full>
-        ensures ok { OnOk result (self.new ≡ record self.old { input = record self.old.input { builds = lists_after (top_grows self.old.top seen) seen self.old.input.builds; lists = self.new.input.lists } }) }
+    /// A token, if there is one, goes onto the list of the innermost frame, if it has one.
+    fn grow(&mut self, token: Option<Token>) -> Result<(), Full>
+        ensures ok { OnOk result (self.new ≡ record self.old { input = record self.old.input { builds = grown_by token self.old.input.builds; lists = self.new.input.lists } }) }
         ensures macros { KeepsMacros self.old.input self.new.input }
-        ensures fits { OnOk result (top_grows self.old.top seen ≡ true → (self.old.input.builds ≡ [] → ⊥) → refused self.old.input.sizes (memory 1 (stored_words self.old.input) ∷ []) ≡ None) }
-        ensures grows { OnErr result (top_grows self.old.top seen ≡ true) }
+        ensures fits { OnOk result (IsSome token → (self.old.input.builds ≡ [] → ⊥) → refused self.old.input.sizes (memory 1 (stored_words self.old.input) ∷ []) ≡ None) }
+        ensures grows { OnErr result (IsSome token × (self.old.input.builds ≡ [] → ⊥)) }
         ensures refused { IfErr result (λ full. refused self.old.input.sizes (memory 1 (stored_words self.old.input) ∷ []) ≡ Some full) }
         ensures small { stored_words self.old.input < 4294967296 }
         ensures err { OnErr result (self.new ≡ self.old) }
     {
         // What is used of the main memory is at most its size.
         let _used = self.input.words();
-        if self.grows(seen) {
-            self.input.grow_list(seen.token)?;
+        match token {
+            Some(token) if self.input.has_list() => self.input.grow_list(token),
+            _ => Ok(()),
         }
-        Ok(())
-    }
-
-    /// Whether a token goes onto the list that the innermost reading builds.
-    fn grows(&self, seen: Seen) -> bool
-        ensures grows { result ≡ true → (f : Frame) → self.now.top ≡ Some f → frame_grows f seen ≡ true }
-        ensures list { result ≡ true → self.now.input.builds ≡ [] → ⊥ }
-        ensures top { result ≡ true → IsSome self.now.top }
-        ensures none { result ≡ false → (f : Frame) → self.now.top ≡ Some f → (self.now.input.builds ≡ [] → ⊥) → frame_grows f seen ≡ false }
-    {
-        match &self.top {
-            Some(frame) => frame.grows(seen) && self.input.has_list(),
-            None => false,
-        }
-    }
-
-    /// Feeds the innermost reading, whose list has the token already if it is of it.
-    fn feed_frame(&mut self, seen: Seen)
-        ensures light { (f : Frame) → self.old.top ≡ Some f → frame_weight self.new ≤ 2 * frames self.old + (7 + 3 * frame_rank f) + pending_weight self.old.input.pending }
-        ensures light_none { self.old.top ≡ None → frame_weight self.new ≡ frame_weight self.old }
-        ensures same { SameState self.old self.new }
-        ensures lists { self.new.input ≡ self.old.input }
-        ensures none { self.old.top ≡ None → self.new ≡ self.old }
-        ensures stands { (sizes : Sizes) (f : Frame) (lists : List (List Token)) (book : Book) (r : Reading) (rs : List Reading) → self.old.top ≡ Some f → FedFrame sizes self.old f seen lists r rs book → Stands sizes self.new (with_work (fed_with (Tok seen) (r ∷ rs)) book) }
-    {
-        let Some(mut frame) = self.top else {
-            return;
-        };
-        self.ask = frame.feed(seen);
-        self.top = Some(frame);
     }
 
     /// The list that the innermost reading holds goes, if there is one.
@@ -517,34 +528,55 @@ impl Engine {
         }
     }
 
-    /// Begins a reading with the token that the command in front of it looked at.
+    /// Begins a reading with the token that the command in front of it looked at: one that builds no list.
     fn begin_with(&mut self, kind: Kind, waits: Waiting, seen: Seen) -> Result<(), Full>
         requires { IsSome self.old.top }
         ensures light { OnOk result (frame_weight self.new < 2 * frames self.old + (10 + 3 * rank (kind_of kind)) + pending_weight self.old.input.pending) }
         ensures same { OnOk result (SameState self.old self.new) }
         ensures lists { OnOk result (self.new.input.builds ≡ own_lists (kind_of kind) ++ self.old.input.builds) }
-        ensures stands { OnOk result ((sizes : Sizes) (book : Book) → is_built seen.meaning ≡ true → WaitsWith sizes self.old (Some waits) book → Stands sizes self.new (with_work (fed_with (Tok seen) (fresh (kind_of kind) ∷ book.work)) book)) }
+        ensures stands { OnOk result ((sizes : Sizes) (book : Book) → own_lists (kind_of kind) ≡ [] → AreOrderly (fresh (kind_of kind) ∷ book.work) → WaitsWith sizes self.old (Some waits) book → Stands sizes self.new (with_work (fed_with (Tok seen) (fresh (kind_of kind) ∷ book.work)) book)) }
         ensures fits { OnOk result ((sizes : Sizes) (book : Book) → Counts sizes self.old book → refusal sizes (BegunWith (kind_of kind) seen) (state_of self.old book) ≡ None) }
         ensures refused { IfErr result (λ full. (sizes : Sizes) (book : Book) → Counts sizes self.old book → refusal sizes (BegunWith (kind_of kind) seen) (state_of self.old book) ≡ Some full) }
         ensures err { OnErr result (self.new ≡ self.old) }
     {
         self.begin(kind, Some(waits))?;
-        self.feed_frame(seen);
+        self.feed_first(seen);
         Ok(())
     }
 
-    /// The innermost reading is fed with the note that its report was written.
-    fn note(&mut self)
-        ensures light { (f : Frame) → self.old.top ≡ Some f → frame_weight self.new ≤ 2 * frames self.old + 6 + pending_weight self.old.input.pending }
+    /// Feeds a frame that builds no list.
+    fn feed_first(&mut self, seen: Seen)
         ensures same { SameState self.old self.new }
-        ensures input { self.new.input ≡ self.old.input }
-        ensures stands { (sizes : Sizes) (book : Book) → Waits sizes self.old book → Stands sizes self.new (with_work (fed_with Told book.work) book) }
+        ensures lists { self.new.input ≡ self.old.input }
+        ensures none { self.old.top ≡ None → self.new ≡ self.old }
+        ensures light { (f : Frame) → self.old.top ≡ Some f → frame_weight self.new ≤ 2 * frames self.old + (7 + 3 * frame_rank f) + pending_weight self.old.input.pending }
+        ensures stands { (sizes : Sizes) (book : Book) (r : Reading) (rs : List Reading) → own_lists r.kind ≡ [] → IsOpen self.old.ask → Stands sizes self.old (with_work (r ∷ rs) book) → Stands sizes self.new (with_work (fed_with (Tok seen) (r ∷ rs)) book) }
     {
         let Some(mut frame) = self.top else {
             return;
         };
-        self.ask = frame.feed_told();
+        let answer = frame.feed(seen);
+        self.ask = answer.ask;
         self.top = Some(frame);
+    }
+
+    /// The innermost reading is fed with the note that its report was written.
+    ///
+    /// # Errors
+    /// The main memory is full; nothing has changed.
+    fn note(&mut self) -> Result<(), Full>
+        ensures light { OnOk result ((f : Frame) → self.old.top ≡ Some f → frame_weight self.new ≤ 2 * frames self.old + 6 + pending_weight self.old.input.pending) }
+        ensures same { OnOk result (SameState self.old self.new) }
+        ensures stands { OnOk result ((sizes : Sizes) (book : Book) → Waits sizes self.old book → Stands sizes self.new (with_work (fed_with Told book.work) book)) }
+        ensures did { OnOk result ((sizes : Sizes) (w : World) (book : Book) (r : Reading) (rs : List Reading) → Waits sizes self.old (with_work (r ∷ rs) book) → Did sizes (state_of self.old (with_work (r ∷ rs) book)) (state_of self.new (with_work (fed_with Told (r ∷ rs)) book)) w w (noting r)) }
+        ensures refused { IfErr result (λ full. (sizes : Sizes) (w : World) (book : Book) (r : Reading) (rs : List Reading) → Waits sizes self.old (with_work (r ∷ rs) book) → Cuts sizes (state_of self.old (with_work (r ∷ rs) book)) self.new (with_work (r ∷ rs) book) w w (noting r) (broken.Full full)) }
+        ensures err { OnErr result (self.new ≡ self.old) }
+    {
+        let Some(mut frame) = self.top else {
+            return Ok(());
+        };
+        let answer = frame.feed_told();
+        self.accept(frame, answer)
     }
 
     // LISTS IN FRONT
@@ -606,9 +638,9 @@ impl Engine {
         Ok(())
     }
 
-    /// Does what a command says.
+    /// Does what a command says that defines no macro.
     fn act<S: Sink>(&mut self, out: &mut S, effect: Effect) -> Result<(), Broken>
-        ensures did { OnOk result ((sizes : Sizes) (f : FilesTold) (book : Book) → Did sizes (state_of self.old book) (state_of self.new book) (world_of f (S.told out.old) self.old) (world_of f (S.told out.new) self.new) (effect_moves (state_of self.old book) (effect_of self.old.input.builds effect))) }
+        ensures did { OnOk result (IsNoMacro effect → (sizes : Sizes) (f : FilesTold) (book : Book) → Did sizes (state_of self.old book) (state_of self.new book) (world_of f (S.told out.old) self.old) (world_of f (S.told out.new) self.new) (effect_moves (state_of self.old book) (effect_of self.old.input.builds effect))) }
         ensures err { IfErr result (λ b. (sizes : Sizes) (f : FilesTold) (book : Book) (more : List Move) → Cuts sizes (state_of self.old book) self.new book (world_of f (S.told out.old) self.old) (world_of f (S.told out.new) self.new) (effect_moves (state_of self.old book) (effect_of self.old.input.builds effect) ++ more) b) }
         ensures frames { SameFrames self.old self.new }
         ensures input { self.new.input ≡ self.old.input }
@@ -622,6 +654,7 @@ impl Engine {
                 Ok(())
             }
             Effect::Say => self.write_message(out),
+            Effect::SetMacro(_, _, _) => Ok(()),
         }
     }
 
@@ -629,14 +662,17 @@ impl Engine {
     fn act_and_end<S: Sink>(&mut self, out: &mut S, effect: Effect) -> Result<(), Broken>
         requires idle { self.old.input.making ≡ None }
         ensures light { OnOk result ((f : Frame) → self.old.top ≡ Some f → frame_weight self.new < 2 * frames self.old + 6 + pending_weight self.old.input.pending) }
-        ensures rule { OnOk result ((sizes : Sizes) (f : FilesTold) (book : Book) (r : Reading) (rs : List Reading) → EndsHere sizes self.old (FlagValue true) r rs book →
+        ensures rule { OnOk result ((sizes : Sizes) (f : FilesTold) (book : Book) (r : Reading) (rs : List Reading) → EndsHere sizes self.old (FlagValue true) r rs book → Defines effect self.old.input.builds →
             Went sizes (state_of self.old (with_work (r ∷ rs) book)) self.new (world_of f (S.told out.old) self.old) (world_of f (S.told out.new) self.new) (effect_moves (state_of self.old (with_work (r ∷ rs) book)) (effect_of self.old.input.builds effect) ++ EndedMove (FlagValue true) ∷ []) 0) }
         ensures err { IfErr result (λ b. (sizes : Sizes) (f : FilesTold) (book : Book) → Cuts sizes (state_of self.old book) self.new book (world_of f (S.told out.old) self.old) (world_of f (S.told out.new) self.new) (effect_moves (state_of self.old book) (effect_of self.old.input.builds effect) ++ EndedMove (FlagValue true) ∷ []) b) }
         ensures frames { OnErr result (SameFrames self.old self.new) }
         ensures idle { OnOk result (self.new.input.making ≡ None) }
         ensures call { OnOk result (self.new.call ≡ self.old.call) }
     {
-        self.act(out, effect)?;
+        match effect {
+            Effect::SetMacro(name, long, outer) => self.set_macro(name, long, outer),
+            _ => self.act(out, effect)?,
+        }
         self.end(Value::Flag(true));
         Ok(())
     }
@@ -647,8 +683,7 @@ impl Engine {
         ensures rule { IfOk result (λ ruled. (sizes : Sizes) (f : FilesTold) (book : Book) → FitsOnward sizes seen onward self.old book →
             DoesOnward sizes (state_of self.old book) self.new book (world_of f (S.told out.old) self.old) (world_of f (S.told out.new) self.new) (onward_moves (page_of self.old book) (feeds_of book.work seen) seen onward) ruled) }
         ensures err { IfErr result (λ b. (sizes : Sizes) (f : FilesTold) (book : Book) → FitsOnward sizes seen onward self.old book →
-            Cuts sizes (state_of self.old book) self.new book (world_of f (S.told out.old) self.old) (world_of f (S.told out.new) self.new) (onward_moves (page_of self.old book) (feeds_of book.work seen) seen onward) b) }
-        ensures frames { OnErr result (SameFrames self.old self.new) }
+            CutsIn sizes (state_of self.old book) self.new (world_of f (S.told out.old) self.old) (world_of f (S.told out.new) self.new) (onward_moves (page_of self.old book) (feeds_of book.work seen) seen onward) b) }
         ensures halts { IfOk result (λ ruled. IsHalted ruled → SameFrames self.old self.new) }
         ensures on { IfOk result (λ ruled. IsFree ruled → ⊥) }
         ensures idle { OnOk result (self.new.input.making ≡ None) }
@@ -657,6 +692,10 @@ impl Engine {
             Onward::Skip => Ok(Ruled::Step),
             Onward::Feed => {
                 self.feed(seen)?;
+                Ok(Ruled::Step)
+            }
+            Onward::Call => {
+                self.call_name(seen.token)?;
                 Ok(Ruled::Step)
             }
             Onward::Begin(kind) => {
@@ -673,7 +712,7 @@ impl Engine {
     }
 
     /// What becomes of a token that was handed on to where it is wanted.
-    fn hand_on<S: Sink>(
+    pub(crate) fn hand_on<S: Sink>(
         &mut self,
         out: &mut S,
         want: Option<Want>,
@@ -683,8 +722,7 @@ impl Engine {
         ensures rule { IfOk result (λ ruled. (sizes : Sizes) (f : FilesTold) (book : Book) → Takes sizes want self.old book →
             DoesOnward sizes (state_of self.old book) self.new book (world_of f (S.told out.old) self.old) (world_of f (S.told out.new) self.new) (onward_of (page_of self.old book) want book.work (meanings.seen (page_of self.old book).meanings token)) ruled) }
         ensures err { IfErr result (λ b. (sizes : Sizes) (f : FilesTold) (book : Book) → Takes sizes want self.old book →
-            Cuts sizes (state_of self.old book) self.new book (world_of f (S.told out.old) self.old) (world_of f (S.told out.new) self.new) (onward_of (page_of self.old book) want book.work (meanings.seen (page_of self.old book).meanings token)) b) }
-        ensures frames { OnErr result (SameFrames self.old self.new) }
+            CutsIn sizes (state_of self.old book) self.new (world_of f (S.told out.old) self.old) (world_of f (S.told out.new) self.new) (onward_of (page_of self.old book) want book.work (meanings.seen (page_of self.old book).meanings token)) b) }
         ensures halts { IfOk result (λ ruled. IsHalted ruled → SameFrames self.old self.new) }
         ensures on { IfOk result (λ ruled. IsFree ruled → ⊥) }
         ensures idle { OnOk result (self.new.input.making ≡ None) }
@@ -726,151 +764,14 @@ impl Engine {
         ensures rule { IfOk result (λ ruled. (sizes : Sizes) (f : FilesTold) (book : Book) (x : Lexeme) → IsLexeme self.old.input.buffer lexed x → Takes sizes want self.old book →
             DoesOnward sizes (state_of self.old book) self.new book (world_of f (S.told out.old) self.old) (world_of f (S.told out.new) self.new) (name_moves (page_of self.old book) (scanning_of self.old book.work) (enters_of want) (onward_of (page_of self.old book) want book.work) x) ruled) }
         ensures err { IfErr result (λ b. (sizes : Sizes) (f : FilesTold) (book : Book) (x : Lexeme) → IsLexeme self.old.input.buffer lexed x → Takes sizes want self.old book →
-            Cuts sizes (state_of self.old book) self.new book (world_of f (S.told out.old) self.old) (world_of f (S.told out.new) self.new) (name_moves (page_of self.old book) (scanning_of self.old book.work) (enters_of want) (onward_of (page_of self.old book) want book.work) x) b) }
-        ensures frames { OnErr result (SameFrames self.old self.new) }
+            CutsIn sizes (state_of self.old book) self.new (world_of f (S.told out.old) self.old) (world_of f (S.told out.new) self.new) (name_moves (page_of self.old book) (scanning_of self.old book.work) (enters_of want) (onward_of (page_of self.old book) want book.work) x) b) }
         ensures halts { IfOk result (λ ruled. IsHalted ruled → SameFrames self.old self.new) }
         ensures on { IfOk result (λ ruled. IsFree ruled → ⊥) }
         ensures idle { OnOk result (self.new.input.making ≡ None) }
     {
         let enters = enters_names(want);
         let token = self.resolve(lexed, enters)?;
-        self.hand_on(out, want, token)
-    }
-
-    /// Where a text is read that has a list, its command.
-    fn text_name(&self) -> Option<Name>
-        ensures some { IfSome result (λ name. (f : Frame) → self.now.top ≡ Some f → frame_kind f ≡ TextKind name) }
-        ensures top { IsSome result → IsSome self.now.top }
-        ensures list { IsSome result → self.now.input.builds ≡ [] → ⊥ }
-        ensures none { result ≡ None → (f : Frame) → self.now.top ≡ Some f → (self.now.input.builds ≡ [] → ⊥) → IsNoText (frame_kind f) }
-    {
-        let Some(frame) = &self.top else {
-            return None;
-        };
-        if !self.input.has_list() {
-            return None;
-        }
-        frame.text()
-    }
-
-    /// A report, behind which a space is handed on to where it is wanted, if it is.
-    fn report_space<S: Sink>(
-        &mut self,
-        out: &mut S,
-        report: Report,
-        then: Option<Want>,
-    ) -> Result<Ruled, Broken>
-        requires idle { self.old.input.making ≡ None }
-        ensures rule { IfOk result (λ ruled. (sizes : Sizes) (f : FilesTold) (book : Book) (page : Page) → SpaceFits sizes then self.old book →
-            DoesOnward sizes (state_of self.old book) self.new book (world_of f (S.told out.old) self.old) (world_of f (S.told out.new) self.new) (reported (page_of self.old book) (report_of report) (space_moves page then book.work)) ruled) }
-        ensures err { IfErr result (λ b. (sizes : Sizes) (f : FilesTold) (book : Book) (page : Page) → SpaceFits sizes then self.old book →
-            Cuts sizes (state_of self.old book) self.new book (world_of f (S.told out.old) self.old) (world_of f (S.told out.new) self.new) (reported (page_of self.old book) (report_of report) (space_moves page then book.work)) b) }
-        ensures frames { OnErr result (SameFrames self.old self.new) }
-        ensures halts { IfOk result (λ ruled. IsHalted ruled → SameFrames self.old self.new) }
-        ensures still { then ≡ None → SameFrames self.old self.new }
-        ensures pending { then ≡ None → self.new.input ≡ self.old.input }
-        ensures on { IfOk result (λ ruled. IsFree ruled → ⊥) }
-        ensures idle { OnOk result (self.new.input.making ≡ None) }
-    {
-        if !self.report(out, report)? {
-            return Ok(Ruled::Halted(Outcome::Fatal(Fatal::HundredErrors)));
-        }
-        match then {
-            None => Ok(Ruled::Step),
-            Some(want) => self.hand_on(out, Some(want), SPACE),
-        }
-    }
-
-    /// A text runs away, behind which a space is handed on to where it is wanted, if it is.
-    fn run_away<S: Sink>(
-        &mut self,
-        out: &mut S,
-        report: Report,
-        then: Option<Want>,
-    ) -> Result<Ruled, Broken>
-        requires idle { self.old.input.making ≡ None }
-        requires asked { self.old.input.builds ≡ [] → ⊥ }
-        ensures rule { IfOk result (λ ruled. (sizes : Sizes) (f : FilesTold) (book : Book) (page : Page) → SpaceFits sizes then self.old book →
-            DoesOnward sizes (state_of self.old book) self.new book (world_of f (S.told out.old) self.old) (world_of f (S.told out.new) self.new) (away_moves (page_of self.old book) (away_text self.old) (report_of report) (space_moves page then book.work)) ruled) }
-        ensures err { IfErr result (λ b. (sizes : Sizes) (f : FilesTold) (book : Book) (page : Page) → SpaceFits sizes then self.old book →
-            Cuts sizes (state_of self.old book) self.new book (world_of f (S.told out.old) self.old) (world_of f (S.told out.new) self.new) (away_moves (page_of self.old book) (away_text self.old) (report_of report) (space_moves page then book.work)) b) }
-        ensures frames { OnErr result (SameFrames self.old self.new) }
-        ensures halts { IfOk result (λ ruled. IsHalted ruled → SameFrames self.old self.new) }
-        ensures still { then ≡ None → SameFrames self.old self.new }
-        ensures light { then ≡ None → pending_weight self.new.input.pending ≡ pending_weight self.old.input.pending }
-        ensures on { IfOk result (λ ruled. IsFree ruled → ⊥) }
-        ensures idle { OnOk result (self.new.input.making ≡ None) }
-    {
-        self.write_runaway(out)?;
-        self.put_one(RIGHT_BRACE)?;
-        self.report_space(out, report, then)
-    }
-
-    /// The name of an `\outer` macro comes into a text: it is put back, the text runs away, and a space takes its place.
-    fn forbid<S: Sink>(
-        &mut self,
-        out: &mut S,
-        want: Option<Want>,
-        token: Token,
-        name: Name,
-    ) -> Result<Ruled, Broken>
-        requires idle { self.old.input.making ≡ None }
-        requires asked { self.old.input.builds ≡ [] → ⊥ }
-        ensures rule { IfOk result (λ ruled. (sizes : Sizes) (f : FilesTold) (book : Book) → SpaceFits sizes want self.old book →
-            DoesOnward sizes (state_of self.old book) self.new book (world_of f (S.told out.old) self.old) (world_of f (S.told out.new) self.new) (put_one token ++ away_moves (page_of self.old book) (away_text self.old) (Forbidden OfText name) (space_moves (page_of self.old book) want book.work)) ruled) }
-        ensures err { IfErr result (λ b. (sizes : Sizes) (f : FilesTold) (book : Book) → SpaceFits sizes want self.old book →
-            Cuts sizes (state_of self.old book) self.new book (world_of f (S.told out.old) self.old) (world_of f (S.told out.new) self.new) (put_one token ++ away_moves (page_of self.old book) (away_text self.old) (Forbidden OfText name) (space_moves (page_of self.old book) want book.work)) b) }
-        ensures frames { OnErr result (SameFrames self.old self.new) }
-        ensures halts { IfOk result (λ ruled. IsHalted ruled → SameFrames self.old self.new) }
-        ensures on { IfOk result (λ ruled. IsFree ruled → ⊥) }
-        ensures idle { OnOk result (self.new.input.making ≡ None) }
-    {
-        self.put_one(token)?;
-        self.run_away(out, Report::Forbidden(Scanned::Text, name), want)
-    }
-
-    /// What becomes of a token of a list. The name of an `\outer` macro doesn't come into a text.
-    fn meet<S: Sink>(
-        &mut self,
-        out: &mut S,
-        want: Option<Want>,
-        token: Token,
-    ) -> Result<Ruled, Broken>
-        requires idle { self.old.input.making ≡ None }
-        ensures rule { IfOk result (λ ruled. (sizes : Sizes) (f : FilesTold) (book : Book) → Takes sizes want self.old book →
-            DoesOnward sizes (state_of self.old book) self.new book (world_of f (S.told out.old) self.old) (world_of f (S.told out.new) self.new) (token_moves (page_of self.old book) (scanning_of self.old book.work) (onward_of (page_of self.old book) want book.work) token) ruled) }
-        ensures err { IfErr result (λ b. (sizes : Sizes) (f : FilesTold) (book : Book) → Takes sizes want self.old book →
-            Cuts sizes (state_of self.old book) self.new book (world_of f (S.told out.old) self.old) (world_of f (S.told out.new) self.new) (token_moves (page_of self.old book) (scanning_of self.old book.work) (onward_of (page_of self.old book) want book.work) token) b) }
-        ensures frames { OnErr result (SameFrames self.old self.new) }
-        ensures halts { IfOk result (λ ruled. IsHalted ruled → SameFrames self.old self.new) }
-        ensures on { IfOk result (λ ruled. IsFree ruled → ⊥) }
-        ensures idle { OnOk result (self.new.input.making ≡ None) }
-    {
-        if !is_outer(self.input.seen(token)) {
-            return self.hand_on(out, want, token);
-        }
-        match self.text_name() {
-            Some(name) => self.forbid(out, want, token, name),
-            None => self.hand_on(out, want, token),
-        }
-    }
-
-    /// The check where the file has ended.
-    fn check<S: Sink>(&mut self, out: &mut S) -> Result<Ruled, Broken>
-        requires idle { self.old.input.making ≡ None }
-        ensures rule { IfOk result (λ ruled. (sizes : Sizes) (f : FilesTold) (book : Book) → Wants sizes self.old book →
-            DoesOnward sizes (state_of self.old book) self.new book (world_of f (S.told out.old) self.old) (world_of f (S.told out.new) self.new) (checked (page_of self.old book) (scanning_of self.old book.work)) ruled) }
-        ensures err { IfErr result (λ b. (sizes : Sizes) (f : FilesTold) (book : Book) → Wants sizes self.old book →
-            Cuts sizes (state_of self.old book) self.new book (world_of f (S.told out.old) self.old) (world_of f (S.told out.new) self.new) (checked (page_of self.old book) (scanning_of self.old book.work)) b) }
-        ensures frames { SameFrames self.old self.new }
-        ensures light { pending_weight self.new.input.pending ≡ pending_weight self.old.input.pending }
-        ensures on { IfOk result (λ ruled. IsFree ruled → ⊥) }
-        ensures idle { OnOk result (self.new.input.making ≡ None) }
-    {
-        match self.text_name() {
-            Some(name) => self.run_away(out, Report::FileEnded(Scanned::Text, name), None),
-            None => Ok(Ruled::Step),
-        }
+        self.meet(out, want, token)
     }
 
     /// The next token or line.
@@ -885,8 +786,7 @@ impl Engine {
         ensures rule { IfOk result (λ ruled. (sizes : Sizes) (f : FilesTold) (book : Book) → Takes sizes want self.old book →
             DoesRule sizes (state_of self.old book) self.new book (world_of f (S.told out.old) self.old) (world_of f (S.told out.new) self.new) (handed (page_of self.old book) (enters_of want) (scanning_of self.old book.work) (onward_of (page_of self.old book) want book.work) (pulled self.old.categories (pending_of book.number self.old.input.pending))) ruled) }
         ensures err { IfErr result (λ b. (sizes : Sizes) (f : FilesTold) (book : Book) → Takes sizes want self.old book →
-            Cuts sizes (state_of self.old book) self.new book (world_of f (S.told out.old) self.old) (world_of f (S.told out.new) self.new) (handed (page_of self.old book) (enters_of want) (scanning_of self.old book.work) (onward_of (page_of self.old book) want book.work) (pulled self.old.categories (pending_of book.number self.old.input.pending))) b) }
-        ensures frames { OnErr result (SameFrames self.old self.new) }
+            CutsIn sizes (state_of self.old book) self.new (world_of f (S.told out.old) self.old) (world_of f (S.told out.new) self.new) (handed (page_of self.old book) (enters_of want) (scanning_of self.old book.work) (onward_of (page_of self.old book) want book.work) (pulled self.old.categories (pending_of book.number self.old.input.pending))) b) }
         ensures halts { IfOk result (λ ruled. IsHalted ruled → SameFrames self.old self.new) }
         ensures idle { OnOk result (self.new.input.making ≡ None) }
     {
@@ -906,31 +806,51 @@ impl Engine {
         }
     }
 
-    /// The innermost reading reports, and goes on.
+    /// The innermost reading reports, and goes on: a token is given back, and then another inserted, where there is one.
     fn tell<S: Sink>(
         &mut self,
         out: &mut S,
         report: Report,
+        inserted: Option<Token>,
         back: Option<Seen>,
     ) -> Result<Ruled, Broken>
         requires idle { self.old.input.making ≡ None }
         ensures light { IfOk result (λ ruled. IsFree ruled → (f : Frame) → self.old.top ≡ Some f → frame_weight self.new < 2 * frames self.old + 7 + pending_weight self.old.input.pending) }
         ensures step { IfOk result (λ ruled. IsStep ruled → ⊥) }
         ensures rule { IfOk result (λ ruled. (sizes : Sizes) (f : FilesTold) (book : Book) (r : Reading) (rs : List Reading) → Waits sizes self.old (with_work (r ∷ rs) book) → Counts sizes self.old (with_work (r ∷ rs) book) → IsLast back r.fed → is_told r.fed ≡ false →
-            DoesRule sizes (state_of self.old (with_work (r ∷ rs) book)) self.new (with_work (r ∷ rs) book) (world_of f (S.told out.old) self.old) (world_of f (S.told out.new) self.new) (told (page_of self.old book) (report_of report) None (is_some back) r) ruled) }
+            DoesRule sizes (state_of self.old (with_work (r ∷ rs) book)) self.new (with_work (r ∷ rs) book) (world_of f (S.told out.old) self.old) (world_of f (S.told out.new) self.new) (told (page_of self.old book) (report_of report) inserted (is_some back) r) ruled) }
         ensures err { IfErr result (λ b. (sizes : Sizes) (f : FilesTold) (book : Book) (r : Reading) (rs : List Reading) → Waits sizes self.old (with_work (r ∷ rs) book) → Counts sizes self.old (with_work (r ∷ rs) book) → IsLast back r.fed → is_told r.fed ≡ false →
-            Cuts sizes (state_of self.old (with_work (r ∷ rs) book)) self.new (with_work (r ∷ rs) book) (world_of f (S.told out.old) self.old) (world_of f (S.told out.new) self.new) (told (page_of self.old book) (report_of report) None (is_some back) r) b) }
+            Cuts sizes (state_of self.old (with_work (r ∷ rs) book)) self.new (with_work (r ∷ rs) book) (world_of f (S.told out.old) self.old) (world_of f (S.told out.new) self.new) (told (page_of self.old book) (report_of report) inserted (is_some back) r) b) }
         ensures frames { OnErr result (SameFrames self.old self.new) }
         ensures halts { IfOk result (λ ruled. IsHalted ruled → SameFrames self.old self.new) }
         ensures idle { OnOk result (self.new.input.making ≡ None) }
         ensures call { OnOk result (self.new.call ≡ self.old.call) }
     {
         self.put_back(back)?;
+        self.insert(inserted)?;
         if self.report(out, report)? {
-            self.note();
+            self.note()?;
             return Ok(Ruled::Free);
         }
         Ok(Ruled::Halted(Outcome::Fatal(Fatal::HundredErrors)))
+    }
+
+    /// Inserts a token, if there is one.
+    fn insert(&mut self, inserted: Option<Token>) -> Result<(), Broken>
+        requires idle { self.old.input.making ≡ None }
+        ensures did { OnOk result ((sizes : Sizes) (w : World) (book : Book) → Counts sizes self.old book → self.old.input.making ≡ None → Did sizes (state_of self.old book) (state_of self.new book) w w (put_inserted inserted)) }
+        ensures err { IfErr result (λ b. (sizes : Sizes) (w : World) (book : Book) (more : List Move) → Counts sizes self.old book → self.old.input.making ≡ None → Cuts sizes (state_of self.old book) self.new book w w (put_inserted inserted ++ more) b) }
+        ensures frames { SameFrames self.old self.new }
+        ensures others { SameOthers self.old self.new }
+        ensures store { SameStore self.old.input self.new.input }
+        ensures light { pending_weight self.new.input.pending ≡ pending_weight self.old.input.pending }
+        ensures page { (book : Book) → page_of self.new book ≡ page_of self.old book }
+        ensures idle { OnOk result (self.new.input.making ≡ None) }
+    {
+        if let Some(token) = inserted {
+            self.put_one(token)?;
+        }
+        Ok(())
     }
 
     /// Does one rule of the machine, with at most one step.
@@ -941,8 +861,7 @@ impl Engine {
         ensures rule { IfOk result (λ ruled. (sizes : Sizes) (f : FilesTold) (book : Book) → AllStand sizes self.old book →
             DoesRule sizes (state_of self.old book) self.new book (world_of f (S.told out.old) self.old) (world_of f (S.told out.new) self.new) (plan_of self.old book) ruled) }
         ensures err { IfErr result (λ b. (sizes : Sizes) (f : FilesTold) (book : Book) → AllStand sizes self.old book →
-            Cuts sizes (state_of self.old book) self.new book (world_of f (S.told out.old) self.old) (world_of f (S.told out.new) self.new) (plan_of self.old book) b) }
-        ensures frames { OnErr result (SameFrames self.old self.new) }
+            CutsIn sizes (state_of self.old book) self.new (world_of f (S.told out.old) self.old) (world_of f (S.told out.new) self.new) (plan_of self.old book) b) }
         ensures halts { IfOk result (λ ruled. IsHalted ruled → SameFrames self.old self.new) }
         ensures idle { OnOk result (self.new.input.making ≡ None) }
     {
@@ -961,8 +880,7 @@ impl Engine {
         ensures rule { IfOk result (λ ruled. (sizes : Sizes) (f : FilesTold) (book : Book) → Stands sizes self.old book →
             DoesRule sizes (state_of self.old book) self.new book (world_of f (S.told out.old) self.old) (world_of f (S.told out.new) self.new) (plan_of self.old book) ruled) }
         ensures err { IfErr result (λ b. (sizes : Sizes) (f : FilesTold) (book : Book) → Stands sizes self.old book →
-            Cuts sizes (state_of self.old book) self.new book (world_of f (S.told out.old) self.old) (world_of f (S.told out.new) self.new) (plan_of self.old book) b) }
-        ensures frames { OnErr result (SameFrames self.old self.new) }
+            CutsIn sizes (state_of self.old book) self.new (world_of f (S.told out.old) self.old) (world_of f (S.told out.new) self.new) (plan_of self.old book) b) }
         ensures halts { IfOk result (λ ruled. IsHalted ruled → SameFrames self.old self.new) }
         ensures idle { OnOk result (self.new.input.making ≡ None) }
     {
@@ -986,7 +904,8 @@ impl Engine {
                 self.act_and_end(out, effect)?;
                 Ok(Ruled::Free)
             }
-            Ask::Tells(report, back) => self.tell(out, report, back),
+            Ask::Tells(report, back) => self.tell(out, report, None, back),
+            Ask::Inserts(token, report, back) => self.tell(out, report, Some(token), back),
         }
     }
 
@@ -1099,12 +1018,6 @@ fn enters_names(want: Option<Want>) -> bool
 {
     matches!(want, Some(Want::Raw))
 }
-
-/// A `}`, as it is inserted.
-const RIGHT_BRACE: Token = Token::Char { cat: 2, code: 125 };
-
-/// A space token.
-const SPACE: Token = Token::Char { cat: 10, code: 32 };
 
 /// What comes behind the hundredth report.
 const HUNDRED_LINE: &[u8] = b"(That makes 100 errors; please try again.)\n";

@@ -3,7 +3,11 @@
 
 mod broken;
 mod call;
+mod call_name;
+mod check;
+mod define;
 mod engine;
+mod feed_call;
 mod meaning;
 mod names;
 mod program;

@@ -1,4 +1,4 @@
-use Rattle.std.proofs.Common.{◌∙◌, sym, subst, Bool, [], None, false}
+use Rattle.std.proofs.Common.{◌∙◌, sym, subst, Bool, None, false}
 use Rattle.plain_machine.specs.Plan.{no_file}
 use Rattle.plain_machine.specs.Meaning.{First}
 use Rattle.world_io.specs.Told.{world}

@@ -1,4 +1,4 @@
-use Rattle.std.proofs.Common.{◌∙◌, sym, subst, ap, Bool, [], refl, Some, false, arith}
+use Rattle.std.proofs.Common.{◌∙◌, sym, subst, ap, Bool, refl, Some, false, arith}
 use Rattle.plain_machine.specs.Meaning.{First, Line, steps_line}
 use Rattle.world_io.specs.Told.{world}
 use Rattle.tex_program.specs.Book.{first_book}

@@ -6,9 +6,8 @@ use Rattle.frames.specs.Sees.{kind_of}
 use Rattle.frames.specs.Resumes.{InnerWaits}
 use Rattle.tex_program.specs.declared.engine.Engine.{Engine}
 use Rattle.tex_program.proofs.Feeding.{begins_on}
-use Rattle.tex_program.proofs.Counting.{begun_refusal}
+use Rattle.tex_program.proofs.Counting.{begun_refusal, none_of}
 use Rattle.tex_program.proofs.Joining.{same_err}
-use Rattle.tex_program.proofs.Running.{no_some}
 use Rattle.tex_program.proofs.Storing.{same_lists}
 use Rattle.tex_program.proofs.engine.Engine.begin.Goals as goal
 
@@ -29,8 +28,8 @@ returns-clause-stands c = λ sizes book h lone.
 pub returns-in_err-begin_list-clause-refused : goal.returns-in_err-begin_list-clause-refused
 returns-in_err-begin_list-clause-refused c = let e = c.args.self.now in let i = c.in_err-begin_list in
     same_err c.from_residual.result i.field-0.0 _ c.from_residual.ensures.1
-    (λ sizes book counts. begun_refusal sizes e book (kind_of c.args.kind) (Some i.field-0.0) counts (c.depth_refusal.ensures.room (no_some c.depth_refusal.result c.in_default.not-Some)) i.ensures.refused)
+    (λ sizes book counts. begun_refusal sizes e book (kind_of c.args.kind) (Some i.field-0.0) counts (c.depth_refusal.ensures.room (none_of c.depth_refusal.result c.in_default.not-Some)) i.ensures.refused)
 
 pub returns-clause-fits : goal.returns-clause-fits
 returns-clause-fits c = let e = c.args.self.now in
-    λ sizes book counts. begun_refusal sizes e book (kind_of c.args.kind) None counts (c.depth_refusal.ensures.room (no_some c.depth_refusal.result c.in_default.not-Some)) c.in_ok-begin_list.ensures.fits
+    λ sizes book counts. begun_refusal sizes e book (kind_of c.args.kind) None counts (c.depth_refusal.ensures.room (none_of c.depth_refusal.result c.in_default.not-Some)) c.in_ok-begin_list.ensures.fits

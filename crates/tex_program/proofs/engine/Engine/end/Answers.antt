@@ -1,4 +1,4 @@
-use Rattle.std.proofs.Common.{◌≡◌, ap, [], ◌∷◌, ◌++◌, refl, sym, ◌∙◌, rules}
+use Rattle.std.proofs.Common.{◌≡◌, ap, [], ◌∷◌, ◌++◌, refl, rules}
 use Rattle.tex_program.specs.declared.engine.Engine.{Engine}
 use Rattle.tex_program.specs.Stands.{kept_lists, other_lists}
 use Rattle.tex_program.proofs.Feeding.{ends_on, ends_last, ended_gathered}

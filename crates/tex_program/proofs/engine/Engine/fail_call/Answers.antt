@@ -1,12 +1,9 @@
-use Rattle.std.proofs.Common.{◌≡◌, ◌∷◌, [], ap, ◌∙◌, arith, false, true}
+use Rattle.std.proofs.Common.{◌≡◌, ◌∷◌, [], arith, false, true}
 use Rattle.std.proofs.lemmas.Grind.{common_steps}
 use Rattle.plain_state.specs.States.{Closed, AtFatal}
-use Rattle.plain_machine.specs.Plan.{reported}
 use Rattle.tex_defs.specs.declared.Fatal.TheVariants as fatal
-use Rattle.input_state.specs.Stored.{Stored}
 use Rattle.transcript.specs.Reported.{report_of}
 use Rattle.tex_program.specs.Book.{with_work}
-use Rattle.tex_program.specs.Stands.{state_of, page_of}
 use Rattle.tex_program.proofs.CallEnding.{failed_went, failed_halts}
 use Rattle.tex_program.proofs.Joining.{same_err}
 use Rattle.tex_program.proofs.engine.Engine.fail_call.Goals as goal

@@ -1,30 +1,23 @@
-use Rattle.std.proofs.Common.{◌≡◌, ◌∙◌, ap, sym, subst, rules}
-use Rattle.plain_state.specs.States.{State}
-use Rattle.frames.specs.Resumes.{lists_after}
-use Rattle.tex_program.specs.declared.engine.Engine.{Engine}
 use Rattle.tex_program.specs.declared.broken.Broken.TheVariants as broken
-use Rattle.tex_program.specs.Stands.{SameState, state_of, top_grows}
-use Rattle.tex_program.specs.Rules.{feeds_of, Cuts}
-use Rattle.tex_program.proofs.Growing.{token_stands, token_did, token_cuts}
-use Rattle.tex_program.proofs.Joining.{same_err}
-use Rattle.tex_program.proofs.Storing.{same_lists}
+use Rattle.tex_program.specs.Near.{CutsIn}
+use Rattle.tex_program.specs.Stands.{state_of}
+use Rattle.tex_program.specs.Rules.{Went}
+use Rattle.tex_program.proofs.Joining.{on_ok, on_both, err_to}
+use Rattle.tex_program.proofs.Handing.{feeds_call, feeds_here, top_went}
 use Rattle.tex_program.proofs.engine.Engine.feed.Goals as goal
 
-pub returns-clause-same : goal.returns-clause-same
-returns-clause-same c = let e = c.args.self.now in
-    same_lists e c.feed_frame.new.self c.grow.new.self.input (lists_after (top_grows e.top c.args.seen) c.args.seen e.input.builds) (search rules) (ap (λ (x : Engine). x.input) c.in_ok-grow.ensures.ok) c.grow.ensures.macros c.feed_frame.ensures.lists
+pub returns-in-Some-clause-ok : goal.returns-in-Some-clause-ok
+returns-in-Some-clause-ok c = let e = c.args.self.now in let n = c.feed_call in
+    on_ok n.result (λ h sizes w. feeds_call sizes e c.in-Some.call c.args.seen (λ book moves. Went sizes (state_of e book) n.new.self w w moves 0) c.in-Some.is (λ book r rs asks st. h sizes w book r rs asks st)) n.ensures.ok
 
-pub returns-clause-stands : goal.returns-clause-stands
-returns-clause-stands c = λ sizes book h.
-    token_stands sizes c.args.self.now c.grow.new.self c.feed_frame.new.self c.args.seen book h c.grow.ensures.small c.in_ok-grow.ensures.ok c.grow.ensures.macros c.feed_frame.ensures.none (λ f lists r rs. c.feed_frame.ensures.stands sizes f lists book r rs)
+pub returns-in-Some-clause-refused : goal.returns-in-Some-clause-refused
+returns-in-Some-clause-refused c = let e = c.args.self.now in let n = c.feed_call in
+    err_to n.result (λ full h sizes w. feeds_call sizes e c.in-Some.call c.args.seen (λ book moves. CutsIn sizes (state_of e book) n.new.self w w moves (broken.Full full)) c.in-Some.is (λ book r rs asks st. h sizes w book r rs asks st)) n.ensures.err
 
-pub returns-clause-did : goal.returns-clause-did
-returns-clause-did c = λ sizes w book h. let e = c.args.self.now in let e2 = c.feed_frame.new.self in
-    let same : SameState e e2 = returns-clause-same c in
-    let lists : e2.input.builds ≡ lists_after (top_grows e.top c.args.seen) c.args.seen e.input.builds = ap (λ (i : _). i.builds) c.feed_frame.ensures.lists ∙ ap (λ (y : Engine). y.input.builds) c.in_ok-grow.ensures.ok in
-    token_did sizes e e2 c.args.seen book same lists w h c.in_ok-grow.ensures.fits
+pub returns-in-None-clause-ok : goal.returns-in-None-clause-ok
+returns-in-None-clause-ok c = let e = c.args.self.now in let n = c.feed_top in
+    on_both n.result (λ stands did sizes w book t. let h = feeds_here sizes e c.args.seen book c.in-None.is t in top_went sizes e n.new.self c.args.seen book w (stands sizes book h) (did sizes w book h)) n.ensures.stands n.ensures.did
 
-pub returns-in_err-grow-clause-refused : goal.returns-in_err-grow-clause-refused
-returns-in_err-grow-clause-refused c = let e = c.args.self.now in let i = c.in_err-grow in
-    same_err c.from_residual.result _ _ c.from_residual.ensures.1
-    (λ sizes w book h. subst (λ (y : Engine). Cuts sizes (state_of e book) y book w w (feeds_of book.work c.args.seen) (broken.Full i.field-0.0)) (sym i.ensures.err) (token_cuts sizes e c.args.seen book w i.field-0.0 h i.ensures.grows i.ensures.refused))
+pub returns-in-None-clause-refused : goal.returns-in-None-clause-refused
+returns-in-None-clause-refused c = let e = c.args.self.now in let n = c.feed_top in
+    err_to n.result (λ full h sizes w book t. h sizes w book (feeds_here sizes e c.args.seen book c.in-None.is t)) n.ensures.refused

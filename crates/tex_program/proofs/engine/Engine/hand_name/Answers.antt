@@ -4,29 +4,30 @@ use Rattle.tex_program.specs.Entering.{with_names, EntryFits, EntryRefused}
 use Rattle.tex_program.specs.declared.broken.Broken.TheVariants as broken
 use Rattle.tex_program.specs.Rules.{scanning_of}
 use Rattle.tex_program.proofs.Joining.{same_err, ok_to, err_to}
-use Rattle.tex_program.proofs.Pulling.{name_rule, name_cuts, name_full, takes_named, takes_stands}
+use Rattle.tex_program.proofs.Nearing.{cuts_in}
+use Rattle.tex_program.proofs.Pulling.{name_rule, name_cuts, name_full, takes_named}
 use Rattle.tex_program.proofs.engine.Engine.hand_name.Goals as goal
 
 pub returns-in_err-token-clause-err : goal.returns-in_err-token-clause-err
 returns-in_err-token-clause-err g c = let e = c.args.self.now in let i = c.in_err-token in
     same_err c.from_residual.result (broken.Full i.field-0.0) _ c.from_residual.ensures.1
-    (λ sizes f book x is t. name_full sizes e book c.args.want (scanning_of e book.work) x c.resolve.new.self f (g.S.Sink.told c.args.out.now) i.field-0.0 (takes_stands sizes c.args.want e book t).sound.sized i.ensures.err
-    (subst (λ (b : Bool). EntryRefused e.names (new_name b e.names.names x) i.field-0.0) c.enters_names-enters.ensures (i.ensures.refused x is)))
+    (λ sizes f book x is t. cuts_in sizes e c.resolve.new.self book _ _ _ _ (name_full sizes e book c.args.want (scanning_of e book.work) x c.resolve.new.self f (g.S.Sink.told c.args.out.now) i.field-0.0 t.1.sound.sized i.ensures.err
+    (subst (λ (b : Bool). EntryRefused e.names (new_name b e.names.names x) i.field-0.0) c.enters_names-enters.ensures (i.ensures.refused x is))) c.resolve.ensures.frames t.1)
 
 pub returns-clause-rule : goal.returns-clause-rule
 returns-clause-rule g c = let e = c.args.self.now in let i = c.in_ok-token in let e1 = c.resolve.new.self in let enters = c.enters_names-enters.ensures in
-    ok_to c.hand_on.result (λ ruled h sizes f book x is t. let st = takes_stands sizes c.args.want e book t in
+    ok_to c.meet.result (λ ruled h sizes f book x is t.
     let token = subst (λ (b : Bool). i.token ≡ token_of b e.names.names x) enters (i.ensures.token x is) in
-    let after = subst (λ (b : Bool). e1 ≡ with_names (new_name b e.names.names x) e) enters (i.ensures.after sizes x st.sound.sized is) in
+    let after = subst (λ (b : Bool). e1 ≡ with_names (new_name b e.names.names x) e) enters (i.ensures.after sizes x t.1.sound.sized is) in
     let fits = subst (λ (b : Bool). EntryFits e.names (new_name b e.names.names x)) enters (i.ensures.fits x is) in
-    name_rule sizes e book c.args.want (scanning_of e book.work) x i.token token st.sound e1 c.hand_on.new.self f (g.S.Sink.told c.args.out.now) _ ruled after fits
-    (h sizes f book (takes_named sizes e book c.args.want (scanning_of e book.work) x i.token token st.sound e1 after t))) c.hand_on.ensures.rule
+    name_rule sizes e book c.args.want x i.token token t.1.sound e1 c.meet.new.self f (g.S.Sink.told c.args.out.now) _ ruled after fits
+    (h sizes f book (takes_named sizes e book c.args.want x i.token token t.1.sound e1 after t))) c.meet.ensures.rule
 
 pub returns-clause-err : goal.returns-clause-err
 returns-clause-err g c = let e = c.args.self.now in let i = c.in_ok-token in let e1 = c.resolve.new.self in let enters = c.enters_names-enters.ensures in
-    err_to c.hand_on.result (λ b h sizes f book x is t. let st = takes_stands sizes c.args.want e book t in
-    let token = subst (λ (b : Bool). i.token ≡ token_of b e.names.names x) enters (i.ensures.token x is) in
-    let after = subst (λ (b : Bool). e1 ≡ with_names (new_name b e.names.names x) e) enters (i.ensures.after sizes x st.sound.sized is) in
-    let fits = subst (λ (b : Bool). EntryFits e.names (new_name b e.names.names x)) enters (i.ensures.fits x is) in
-    name_cuts sizes e book c.args.want (scanning_of e book.work) x i.token token st.sound e1 c.hand_on.new.self f (g.S.Sink.told c.args.out.now) _ b after fits
-    (h sizes f book (takes_named sizes e book c.args.want (scanning_of e book.work) x i.token token st.sound e1 after t))) c.hand_on.ensures.err
+    err_to c.meet.result (λ b h sizes f book x is t.
+    let token = subst (λ (y : Bool). i.token ≡ token_of y e.names.names x) enters (i.ensures.token x is) in
+    let after = subst (λ (y : Bool). e1 ≡ with_names (new_name y e.names.names x) e) enters (i.ensures.after sizes x t.1.sound.sized is) in
+    let fits = subst (λ (y : Bool). EntryFits e.names (new_name y e.names.names x)) enters (i.ensures.fits x is) in
+    name_cuts sizes e book c.args.want x i.token token t.1.sound e1 c.meet.new.self f (g.S.Sink.told c.args.out.now) _ b after fits
+    (h sizes f book (takes_named sizes e book c.args.want x i.token token t.1.sound e1 after t))) c.meet.ensures.err

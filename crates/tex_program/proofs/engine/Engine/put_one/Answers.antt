@@ -1,4 +1,4 @@
-use Rattle.std.proofs.Common.{◌∷◌, [], ap, ◌∙◌, subst}
+use Rattle.std.proofs.Common.{◌∷◌, [], ap, ◌∙◌}
 use Rattle.plain_state.specs.States.{ListGrown, Put}
 use Rattle.input_state.specs.Stored.{Stored}
 use Rattle.tex_program.specs.declared.broken.Broken.TheVariants as broken

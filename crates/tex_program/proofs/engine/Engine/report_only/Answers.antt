@@ -1,7 +1,8 @@
-use Rattle.std.proofs.Common.{[], ap, ◌∙◌}
+use Rattle.std.proofs.Common.{[]}
 use Rattle.transcript.specs.Reported.{report_of}
 use Rattle.tex_program.proofs.Joining.{same_err}
-use Rattle.tex_program.proofs.Reporting.{reports_went, stands_still, input_sound}
+use Rattle.tex_program.proofs.Reporting.{reports_went}
+use Rattle.tex_program.proofs.Standing.{all_input}
 use Rattle.tex_program.proofs.engine.Engine.report_only.Goals as goal
 
 pub returns-in_err-report-clause-err : goal.returns-in_err-report-clause-err
@@ -11,7 +12,7 @@ returns-in_err-report-clause-err g c = let i = c.in_err-report in
 pub returns-then-branch-clause-rule : goal.returns-then-branch-clause-rule
 returns-then-branch-clause-rule g c = λ sizes f book st. let e = c.args.self.now in let e' = c.report.new.self in
     reports_went sizes e e' book _ _ (report_of c.args.report)
-    (stands_still sizes e e' book c.report.ensures.frames (input_sound sizes e e' book c.report.ensures.input (c.in_ok-report.ensures.sized c.if-branch.true sizes) st.sound) (ap (λ (i : _). i.making) c.report.ensures.input ∙ st.idle) st)
+    (all_input sizes e e' book c.report.ensures.frames c.report.ensures.input (c.in_ok-report.ensures.sized c.if-branch.true sizes) st)
     (c.in_ok-report.ensures.on c.if-branch.true sizes f book [])
 
 pub returns-else-branch-clause-rule : goal.returns-else-branch-clause-rule

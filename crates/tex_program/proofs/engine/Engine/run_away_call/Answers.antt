@@ -1,14 +1,10 @@
-use Rattle.std.proofs.Common.{◌∷◌, ap, ◌∙◌}
+use Rattle.std.proofs.Common.{◌∷◌, ◌∙◌}
 use Rattle.plain_state.specs.Reports.{ParagraphEnded}
-use Rattle.plain_machine.specs.Plan.{failed}
-use Rattle.input_state.specs.Stored.{Stored}
 use Rattle.tex_program.specs.Book.{with_work}
-use Rattle.tex_program.specs.Calls.{AllStand, argument_bytes}
-use Rattle.tex_program.specs.Stands.{state_of, page_of}
-use Rattle.tex_program.specs.Rules.{world_of}
+use Rattle.tex_program.specs.Calls.{argument_bytes}
 use Rattle.tex_program.proofs.CallAway.{call_away_full, call_away_rule, call_away_cuts}
 use Rattle.tex_program.proofs.CallEnding.{written_stands, put_stands, call_counts}
-use Rattle.tex_program.proofs.Joining.{same_err, ok_to, err_to, ok_both}
+use Rattle.tex_program.proofs.Joining.{same_err, err_to, ok_both}
 use Rattle.tex_program.proofs.engine.Engine.run_away_call.Goals as goal
 
 pub returns-in_err-write_argument-clause-err : goal.returns-in_err-write_argument-clause-err

@@ -39,7 +39,7 @@ returns-in_err-outcome-2-clause-err g c =
     (λ sizes f book stands. cut_by_join sizes (state_of c.args.self.now book) e c.rule.new.self _ _ _ (l.taken + 0)
     (came_join sizes (state_of c.args.self.now book) l.self e _ _ _ l.taken (l.invariant.1.1 sizes f book stands) 0 (λ w h. as_none sizes (state_of l.self w) e _ _ _ none (c.in_ok-outcome.ensures.run sizes f w h)))
     1 c.args.n i.field-0.0 (omega (arith, room))
-    (λ w h. rule_cut sizes e c.rule.new.self w _ _ 1 i.field-0.0 (omega (arith, plan_one sizes e (c.in_ok-outcome.ensures.waits none) w h)) i.ensures.frames h (i.ensures.err sizes f w h)))
+    (λ w h. rule_cut sizes e c.rule.new.self w _ _ 1 i.field-0.0 (omega (arith, plan_one sizes e (c.in_ok-outcome.ensures.waits none) w h)) (i.ensures.err sizes f w h)))
 
 pub returns-in-Halted-clause-run : goal.returns-in-Halted-clause-run
 returns-in-Halted-clause-run g c = λ sizes f book stands.

@@ -16,7 +16,7 @@ returns-in_err-outcome-clause-err g c =
     let silent : stepping e ≡ false = sym c.needs_step.ensures ∙ grind (arith, common_steps, c.loop-self-test.true) in
     same_err c.from_residual.result i.field-0.0 _ c.from_residual.ensures.1
     (λ sizes f book stands. cut_by_join sizes (state_of c.args.self.now book) e c.rule.new.self _ _ _ 0 (c.loop-self.invariant.1 sizes f book stands) 0 0 i.field-0.0 (omega arith)
-    (λ w h. rule_cut sizes e c.rule.new.self w _ _ 0 i.field-0.0 (omega (arith, plan_silent sizes e silent w h)) i.ensures.frames h (i.ensures.err sizes f w h)))
+    (λ w h. rule_cut sizes e c.rule.new.self w _ _ 0 i.field-0.0 (omega (arith, plan_silent sizes e silent w h)) (i.ensures.err sizes f w h)))
 
 pub returns-in-Halted-clause-run : goal.returns-in-Halted-clause-run
 returns-in-Halted-clause-run g c = λ sizes f book stands.

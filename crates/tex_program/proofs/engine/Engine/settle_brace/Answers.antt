@@ -1,9 +1,8 @@
-use Rattle.std.proofs.Common.{◌≡◌, ◌∷◌, [], refl, ap, ◌∙◌, arith, true, false}
+use Rattle.std.proofs.Common.{◌≡◌, ◌∷◌, [], refl, ◌∙◌, arith, true, false}
 use Rattle.std.proofs.lemmas.Grind.{common_steps}
 use Rattle.tex_defs.specs.declared.Fatal.TheVariants as fatal
 use Rattle.plain_state.specs.States.{Noted, AtFatal}
 use Rattle.tex_program.specs.Book.{with_work}
-use Rattle.tex_program.specs.Stands.{state_of, page_of}
 use Rattle.tex_program.proofs.CallBraces.{first_full, second_full, brace_cuts, brace_halts, brace_went}
 use Rattle.tex_program.proofs.CallEnding.{put_stands, call_counts, reported_stands}
 use Rattle.tex_program.proofs.Joining.{same_err}

@@ -1,15 +1,12 @@
-use Rattle.std.proofs.Common.{◌≡◌, ◌∷◌, [], ap, sym, ◌∙◌, List, ℕ, subst}
-use Rattle.std.specs.Prelude.{Option, None}
+use Rattle.std.proofs.Common.{◌≡◌, ◌∷◌, [], ap, ◌∙◌, List, ℕ, subst}
+use Rattle.std.specs.Prelude.{None}
 use Rattle.std.specs.Option.{option_map}
-use Rattle.tex_defs.specs.declared.Token.{Token}
 use Rattle.tex_defs.specs.Places.{Transcript}
 use Rattle.plain_state.specs.States.{Written}
-use Rattle.plain_state.specs.Readings.{list_or_none}
 use Rattle.plain_state.specs.Reports.{OfUse, runaway_bytes}
 use Rattle.plain_machine.specs.Does.{Did}
 use Rattle.input_state.specs.CallFeeds.{call_work}
 use Rattle.transcript.specs.Initial.{names_of}
-use Rattle.tex_program.specs.Calls.{argument_bytes}
 use Rattle.tex_program.specs.Stands.{state_of}
 use Rattle.tex_program.specs.Rules.{world_of, Cuts}
 use Rattle.tex_program.proofs.Reporting.{names_is, shown_is, took_out, err_out}
