@@ -5,6 +5,8 @@
 #![tactic(auto)]
 
 #[cfg(test)]
+mod macro_tests;
+#[cfg(test)]
 mod tests;
 
 use std::env;

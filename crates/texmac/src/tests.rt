@@ -36,12 +36,12 @@ fn does(
 
 /// Whether `init job` does so, where job.tex has this text behind a line that gives `{`, `}`, `#` and `^` their usual
 /// categories.
-fn job(alloc: Global, text: &[u8], written: &[u8], status: u8) -> Result<bool, AllocError> {
+pub fn job(alloc: Global, text: &[u8], written: &[u8], status: u8) -> Result<bool, AllocError> {
     job_with(alloc, &["init", "job"], text, written, status)
 }
 
 /// The same for these words.
-fn job_with(
+pub fn job_with(
     alloc: Global,
     words: &[&str],
     text: &[u8],
