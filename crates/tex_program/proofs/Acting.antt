@@ -1,6 +1,5 @@
 -- A command acts, and ends.
 use Rattle.std.proofs.Common.{◌≡◌, ℕ, ◌-◌, Bool, true, List, [], ◌∷◌, ◌++◌, length, drop, reverse, refl, sym, ap, ◌∙◌, subst}
-use Rattle.std.specs.Prelude.{◌≢◌}
 use Rattle.tex_defs.specs.declared.Name.{Name}
 use Rattle.tex_defs.specs.declared.Sizes.{Sizes}
 use Rattle.tex_defs.specs.declared.Token.{Token}
@@ -9,38 +8,21 @@ use Rattle.plain_state.specs.States.{Reading, Defined, Ended, beneath, ended_wit
 use Rattle.plain_machine.proofs.Doing.{did_join, did_one}
 use Rattle.world_io.specs.Told.{FilesTold, SinkTold}
 use Rattle.input_state.specs.Stored.{gathered}
-use Rattle.frames.specs.declared.frame.Frame.{Frame}
 use Rattle.frames.specs.declared.frame.Waiting.{Waiting}
-use Rattle.frames.specs.declared.scan.Ask.TheVariants.{Act}
 use Rattle.frames.specs.declared.scan.Effect.{Effect}
 use Rattle.frames.specs.declared.scan.Effect.TheVariants.{SetCategory, Say, SetMacro}
 use Rattle.frames.specs.Sees.{first_list}
 use Rattle.tex_program.specs.declared.engine.Engine.{Engine}
 use Rattle.tex_program.specs.Book.{Book, with_work}
-use Rattle.tex_program.specs.Feeding.{IsNoMacro, Defines}
+use Rattle.tex_program.specs.Feeding.{IsNoMacro}
 use Rattle.tex_program.specs.Rules.{world_of, Went}
 use Rattle.tex_program.specs.Sets.{Sets, with_macro}
-use Rattle.tex_program.specs.Stands.{Stands, Innermost, EndsHere, OuterStand, AtMostOne, SameState, state_of}
+use Rattle.tex_program.specs.Stands.{Stands, EndsHere, OuterStand, AtMostOne, SameState, state_of}
 use Rattle.tex_program.proofs.Bare.{all_of}
-use Rattle.tex_program.proofs.Chained.{chained_acts}
 use Rattle.tex_program.proofs.Joining.{quiet_wrote}
 use Rattle.tex_program.proofs.Reporting.{ended_state}
 
--- WHAT A MACRO GETS
-
-one_list : (lists : List (List Token)) → AtMostOne lists → first_list lists ≢ [] → length lists ≡ 1
-one_list [] few some = absurd (some refl)
-one_list (ts ∷ []) few some = refl
-one_list (ts ∷ us ∷ lists) few some = absurd few
-
--- a command that defines a macro holds one list, which has a token
-pub defines_here : (sizes : Sizes) (e : Engine) (effect : Effect) (book : Book) (frame : Frame) (r : Reading) (rs : List Reading) → Stands sizes e (with_work (r ∷ rs) book) → Innermost (Act effect) frame e.input.builds r → Defines effect e.input.builds
-defines_here sizes e (SetCategory code category) book frame r rs st h = tt
-defines_here sizes e Say book frame r rs st h = tt
-defines_here sizes e (SetMacro name long outer) book frame r rs st h =
-    let some = chained_acts r rs name long outer (first_list e.input.builds) st.orderly.chained (sym h.asked) in
-    (one_list e.input.builds h.few some, some)
-
+-- a command that defines no macro
 pub no_macro : (x : Effect) → ((name : Name) (long outer : Bool) → x ≡ SetMacro name long outer → ⊥) → IsNoMacro x
 no_macro (SetCategory code category) h = tt
 no_macro Say h = tt

@@ -7,8 +7,7 @@ use Rattle.tex_defs.specs.declared.Token.{Token}
 use Rattle.tex_defs.specs.declared.Name.{Name}
 use Rattle.plain_state.specs.Arguments as call
 use Rattle.plain_state.specs.Arguments.{Answer, arguments_in, work_in}
-use Rattle.plain_state.specs.Readings.{Fed, Tok, Val, Told, Cut, gathered_by, call_fed, call_ask, arguments_ask}
-use Rattle.plain_machine.specs.Plan.{last_seen, is_told}
+use Rattle.plain_state.specs.Readings.{Fed, Tok, gathered_by, call_fed, call_ask, arguments_ask}
 use Rattle.macro_call.specs.PlainScans.{Scan, resume_scan, scan_work}
 use Rattle.macro_call.specs.Scans.{args_left}
 use Rattle.input_state.specs.CallFeeds.{Says, Stands, GoesOn, Ends, Comes}
@@ -20,6 +19,7 @@ use Rattle.tex_program.specs.CallAsks.{ask_behind}
 use Rattle.tex_program.specs.Calls.{Gathers, HasWork, IsTaking, CallAt, GivesLast, asks_by}
 use Rattle.tex_program.proofs.CallFeedingMoves.{lists_by}
 use Rattle.tex_program.proofs.CallFeedingTurns.{Turn, Waits, Enters, Grown, Last, Next, turn}
+use Rattle.tex_program.proofs.Feeding.{last_is, untold_tok}
 
 -- THE SCANNER THAT TAKES TOKENS
 
@@ -37,25 +37,9 @@ taking name long text fed (calls.Gathered n args) h = absurd h
 
 -- THE LAST TOKEN
 
-last_is : (fed : List Fed) (x : Seen) → last_seen (fed ++ Tok x ∷ []) ≡ x ∷ []
-last_is [] x = refl
-last_is (Tok y ∷ []) x = refl
-last_is (Val v ∷ []) x = refl
-last_is (Told ∷ []) x = refl
-last_is (Cut ∷ []) x = refl
-last_is (y ∷ z ∷ fed) x = last_is (z ∷ fed) x
-
-untold : (fed : List Fed) (x : Seen) → is_told (fed ++ Tok x ∷ []) ≡ false
-untold [] x = refl
-untold (Tok y ∷ []) x = refl
-untold (Val v ∷ []) x = refl
-untold (Told ∷ []) x = refl
-untold (Cut ∷ []) x = refl
-untold (y ∷ z ∷ fed) x = untold (z ∷ fed) x
-
 pub last_given : (answer : CallTold) (fed : List Fed) (x : Seen) → GivesLast (ask_behind answer x) (fed ++ Tok x ∷ [])
 last_given told.More fed x = tt
-last_given told.ExtraBrace fed x = (last_is fed x, untold fed x)
+last_given told.ExtraBrace fed x = (last_is fed x, untold_tok fed x)
 last_given told.Gathered fed x = tt
 last_given told.Mismatch fed x = tt
 last_given (told.ParEnded false) fed x = last_is fed x

@@ -39,7 +39,7 @@ use Rattle.tex_program.proofs.Storing.{sound_still}
 
 -- THE LAST OF WHAT IT WAS FED WITH
 
-last_is : (fed : List Fed) (x : Seen) → last_seen (fed ++ Tok x ∷ []) ≡ x ∷ []
+pub last_is : (fed : List Fed) (x : Seen) → last_seen (fed ++ Tok x ∷ []) ≡ x ∷ []
 last_is [] x = refl
 last_is (Tok y ∷ []) x = refl
 last_is (Val v ∷ []) x = refl
@@ -71,7 +71,7 @@ gives_none (Act e) fed h = tt
 gives_none (Tells report back) fed h = none_last back fed h
 gives_none (Inserts t report back) fed h = none_last back fed h
 
-untold_tok : (fed : List Fed) (x : Seen) → is_told (fed ++ Tok x ∷ []) ≡ false
+pub untold_tok : (fed : List Fed) (x : Seen) → is_told (fed ++ Tok x ∷ []) ≡ false
 untold_tok [] x = refl
 untold_tok (Tok y ∷ []) x = refl
 untold_tok (Val v ∷ []) x = refl

@@ -226,7 +226,3 @@ module _ {P : Type 0} (r : Ruled) (b : Bool) where
 
 pub same_stops : (sizes : Sizes) (s : State) (e' : Engine) (w w' : World) (k j : ℕ) (o : Outcome) → k ≡ j → Stops sizes s e' w w' k o → Stops sizes s e' w w' j o
 same_stops sizes s e' w w' k j o is h = subst (λ (x : ℕ). Stops sizes s e' w w' x o) is h
-
-pub no_some : {A : Type 0} → (o : Option A) → ((x : A) → o ≡ Some x → ⊥) → o ≡ None
-no_some None h = refl
-no_some (Some x) h = absurd (h x refl)

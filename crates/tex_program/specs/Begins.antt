@@ -63,11 +63,6 @@ IsNoFeed onward.Feed = ⊥
 IsNoFeed (onward.Begin k) = IsCommand (kind_of k)
 IsNoFeed o = Unit {0}
 
--- no macro is called
-abbrev pub IsNoCall : Onward → Type 0
-IsNoCall onward.Call = ⊥
-IsNoCall o = Unit {0}
-
 abbrev pub IsNoBegin : Onward → Type 0
 IsNoBegin (onward.Begin k) = ⊥
 IsNoBegin o = Unit {0}

@@ -2,9 +2,10 @@ use Rattle.std.proofs.Common.{◌≡◌, ◌+◌, ◌≤◌, arith}
 use Rattle.std.specs.Prelude.{None}
 use Rattle.tex_program.specs.Stands.{state_of}
 use Rattle.tex_program.specs.Rules.{world_of}
+use Rattle.tex_program.proofs.Counting.{none_of}
 use Rattle.tex_program.proofs.Joining.{same_err}
 use Rattle.tex_program.proofs.CallSteps.{plan_one, stepping_needs}
-use Rattle.tex_program.proofs.Running.{came_none, came_on, came_halts, came_join, came_whole, cut_by_join, rule_cut, stops_join, stops_whole, as_step, as_none, as_some, as_halted, same_count, no_some, when_halted}
+use Rattle.tex_program.proofs.Running.{came_none, came_on, came_halts, came_join, came_whole, cut_by_join, rule_cut, stops_join, stops_whole, as_step, as_none, as_some, as_halted, same_count, when_halted}
 use Rattle.tex_program.proofs.engine.Engine.run_steps.Goals as goal
 
 pub loop-outcome-init : goal.loop-outcome-init
@@ -25,7 +26,7 @@ returns-in-Some-clause-run g c = λ sizes f book stands.
 pub returns-then-taken-n-clause-run : goal.returns-then-taken-n-clause-run
 returns-then-taken-n-clause-run g c = λ sizes f book stands.
     let l = c.loop-outcome in let e = c.settle.new.self in
-    let none : c.in_ok-outcome.field-0 ≡ None = no_some c.in_ok-outcome.field-0 c.in_default.not-Some in
+    let none : c.in_ok-outcome.field-0 ≡ None = none_of c.in_ok-outcome.field-0 c.in_default.not-Some in
     let at : l.taken ≡ c.args.n = omega (arith, c.if-taken-n.true) in
     let came = same_count sizes _ _ _ _ _ (came_join sizes (state_of c.args.self.now book) l.self e _ _ _ l.taken (l.invariant.1.1 sizes f book stands) 0 (λ w h. as_none sizes (state_of l.self w) e _ _ _ none (c.in_ok-outcome.ensures.run sizes f w h))) in
     came_whole sizes e c.settle-then-taken-n.new.self c.settle-then-taken-n.ensures.after c.settle-then-taken-n.ensures.macros (state_of c.args.self.now book) (world_of f (g.S.Sink.told c.args.out.now) c.args.self.now) (world_of f (g.S.Sink.told c.settle.new.out) e) c.args.n (rw at at came) (stepping_needs sizes e (c.in_ok-outcome.ensures.waits none))
@@ -33,7 +34,7 @@ returns-then-taken-n-clause-run g c = λ sizes f book stands.
 pub returns-in_err-outcome-2-clause-err : goal.returns-in_err-outcome-2-clause-err
 returns-in_err-outcome-2-clause-err g c =
     let l = c.loop-outcome in let e = c.settle.new.self in let i = c.in_err-outcome-2 in
-    let none : c.in_ok-outcome.field-0 ≡ None = no_some c.in_ok-outcome.field-0 c.in_default.not-Some in
+    let none : c.in_ok-outcome.field-0 ≡ None = none_of c.in_ok-outcome.field-0 c.in_default.not-Some in
     let room : l.taken + 1 ≤ c.args.n = omega (arith, l.invariant.0, c.if-taken-n.false) in
     same_err c.from_residual-in_err-outcome-2.result i.field-0.0 _ c.from_residual-in_err-outcome-2.ensures.1
     (λ sizes f book stands. cut_by_join sizes (state_of c.args.self.now book) e c.rule.new.self _ _ _ (l.taken + 0)
@@ -44,7 +45,7 @@ returns-in_err-outcome-2-clause-err g c =
 pub returns-in-Halted-clause-run : goal.returns-in-Halted-clause-run
 returns-in-Halted-clause-run g c = λ sizes f book stands.
     let l = c.loop-outcome in let e = c.settle.new.self in let o = c.in-Halted.outcome in
-    let none : c.in_ok-outcome.field-0 ≡ None = no_some c.in_ok-outcome.field-0 c.in_default.not-Some in
+    let none : c.in_ok-outcome.field-0 ≡ None = none_of c.in_ok-outcome.field-0 c.in_default.not-Some in
     let room : l.taken + 1 ≤ c.args.n = omega (arith, l.invariant.0, c.if-taken-n.false) in
     stops_whole sizes (state_of c.args.self.now book) c.rule.new.self _ _ (l.taken + 0 + 1) c.args.n o (omega (arith, room))
     (came_halts sizes (state_of c.args.self.now book) e c.rule.new.self _ _ _ (l.taken + 0)
@@ -54,7 +55,7 @@ returns-in-Halted-clause-run g c = λ sizes f book stands.
 pub loop-outcome-preserved : goal.loop-outcome-preserved
 loop-outcome-preserved g c =
     let l = c.loop-outcome in let e = c.settle.new.self in
-    let none : c.in_ok-outcome.field-0 ≡ None = no_some c.in_ok-outcome.field-0 c.in_default.not-Some in (
+    let none : c.in_ok-outcome.field-0 ≡ None = none_of c.in_ok-outcome.field-0 c.in_default.not-Some in (
       omega (arith, l.invariant.0, c.if-taken-n.false),
       (
         c.in_ok-outcome-2.ensures.idle,
