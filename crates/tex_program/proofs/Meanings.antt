@@ -18,26 +18,26 @@ use Rattle.plain_machine.proofs.Doing.{did_join, due_did, due_cut, CutOff, cut_b
 use Rattle.plain_machine.proofs.Joins.{made_all_due, all_fit_due, refuses_due, due_none, stopped_ends}
 use Rattle.command_words.specs.Words.{Command, Init, NoCommand, job_name}
 use Rattle.world_io.specs.Told.{FilesTold, SinkTold, SameFiles, NotFound, IsContent, world}
-use Rattle.tex_program.specs.declared.engine.Engine.{Engine}
-use Rattle.tex_program.specs.declared.engine.Ended.{Ended}
-use Rattle.tex_program.specs.declared.engine.Ended.TheVariants.{Halted, Steps}
-use Rattle.tex_program.specs.declared.reactions.Outcome.{Outcome}
-use Rattle.tex_program.specs.declared.reactions.Outcome.TheVariants.{Finished, Fatal}
-use Rattle.tex_program.specs.declared.broken.Broken.{Broken}
-use Rattle.tex_program.specs.declared.broken.Broken.TheVariants as broken
-use Rattle.tex_program.specs.Begins.{outcome_of}
-use Rattle.tex_program.specs.Faults.{why_of}
-use Rattle.tex_program.specs.First.{Begins}
-use Rattle.tex_program.specs.Book.{Book, first_book}
-use Rattle.tex_program.specs.Stands.{Stands, FramesStand, SameFrames, state_of}
-use Rattle.tex_program.specs.Rules.{world_of, Halts, Cuts}
-use Rattle.tex_program.specs.Ran.{Came, Ran, CutBy}
+use Rattle.engine_state.specs.declared.engine.Engine.{Engine}
+use Rattle.stomach.specs.declared.runs.Ended.{Ended}
+use Rattle.stomach.specs.declared.runs.Ended.TheVariants.{Halted, Steps}
+use Rattle.engine_state.specs.declared.outcome.Outcome.{Outcome}
+use Rattle.engine_state.specs.declared.outcome.Outcome.TheVariants.{Finished, Fatal}
+use Rattle.engine_state.specs.declared.broken.Broken.{Broken}
+use Rattle.engine_state.specs.declared.broken.Broken.TheVariants as broken
+use Rattle.engine_state.specs.Begins.{outcome_of}
+use Rattle.engine_state.specs.Faults.{why_of}
+use Rattle.engine_state.specs.First.{Begins}
+use Rattle.engine_state.specs.Book.{Book, first_book}
+use Rattle.engine_state.specs.Stands.{Stands, FramesStand, SameFrames, state_of}
+use Rattle.engine_state.specs.Rules.{world_of, Halts, Cuts}
+use Rattle.stomach.specs.Ran.{Came, Ran, CutBy}
 use Rattle.tex_program.specs.Says.{SaysSo, end_status}
-use Rattle.tex_program.proofs.Bare.{all_of}
-use Rattle.tex_program.proofs.Nearing.{near_none}
-use Rattle.tex_program.proofs.Cutting.{later_cuts}
-use Rattle.tex_program.proofs.Reporting.{frames_still}
-use Rattle.tex_program.proofs.Running.{same_moment}
+use Rattle.engine_state.proofs.Bare.{all_of}
+use Rattle.engine_state.proofs.Nearing.{near_none}
+use Rattle.engine_state.proofs.Cutting.{later_cuts}
+use Rattle.engine_state.proofs.Reporting.{frames_still}
+use Rattle.stomach.proofs.Running.{same_moment}
 
 -- A RUN'S STATUS
 
@@ -122,7 +122,7 @@ due_cuts : (sizes : Sizes) (s : State) (e' : Engine) (book : Book) (w w' : World
 due_cuts sizes s e' book w w' ms n b le none frames h =
     let off : CutOff sizes (record s { due = ms }) (record h.at { due = ms }) n w w' (why_of b) =
     due_cut sizes (record s { due = ms }) (record h.at { due = ms }) n w w' ms (why_of b) (cut_due sizes s h.at w w' ms ms (why_of b) h.cut) le refl in
-    record { t = off.t; cut = off.cut; book' = book; frames = near_none e' book.work none frames; same = same_moment (why_of b) off.t h.at (state_of e' book) off.same h.same }
+    record { t = off.t; cut = off.cut; book' = book; frames = near_none b e' book.work none frames; same = same_moment (why_of b) off.t h.at (state_of e' book) off.same h.same }
 
 -- THE JOB BEGINS
 

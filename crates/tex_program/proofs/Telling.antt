@@ -8,7 +8,7 @@ use Rattle.world_io.specs.Told.{FilesTold, SinkTold, world}
 use Rattle.world_io.specs.declared.traits.Fault.{Fault}
 use Rattle.world_io.specs.declared.traits.Fault.TheVariants.{Failed, NoMemory}
 use Rattle.transcript.specs.Taken.{Took, TookFront}
-use Rattle.tex_program.proofs.Cutting.{wrote_out}
+use Rattle.engine_state.proofs.Cutting.{wrote_out}
 
 module _ (f : FilesTold) (s s' : SinkTold) (b b' : Bool) (line : List ℕ) where
   line_whole : Took s s' b b' (fresh_line b ++ line) → Line (world f s b) (world f s' b') line

@@ -4,8 +4,8 @@ use Rattle.tex_defs.specs.Places.{World}
 use Rattle.tex_defs.specs.declared.Sizes.{Sizes}
 use Rattle.plain_state.specs.States.{State}
 use Rattle.plain_machine.specs.Meaning.{Status, Says}
-use Rattle.tex_program.specs.declared.reactions.Outcome.{Outcome}
-use Rattle.tex_program.specs.declared.reactions.Outcome.TheVariants.{Finished, Fatal}
+use Rattle.engine_state.specs.declared.outcome.Outcome.{Outcome}
+use Rattle.engine_state.specs.declared.outcome.Outcome.TheVariants.{Finished, Fatal}
 
 -- the status is one of a run's, and what it says holds
 pub record SaysSo (sizes : Sizes) (s : State) (n : ℕ) (w w' : World) (status : ℕ) : Type 0 where

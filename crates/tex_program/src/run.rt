@@ -6,17 +6,16 @@ ghost use Rattle.tex_defs.specs.declared.Sizes.{Sizes};
 ghost use Rattle.plain_state.specs.States.{State};
 ghost use Rattle.plain_machine.specs.Meaning.{First};
 ghost use Rattle.world_io.specs.Told.{FilesTold, world};
-ghost use Rattle.tex_program.specs.Ran.{CutBy};
+ghost use Rattle.stomach.specs.Ran.{CutBy};
 ghost use Rattle.tex_program.specs.Says.{SaysSo, end_status};
-ghost use Rattle.tex_program.specs.First.{Begins};
-ghost use Rattle.tex_program.specs.declared.engine.Engine.{Engine};
+ghost use Rattle.engine_state.specs.First.{Begins};
+ghost use Rattle.engine_state.specs.declared.engine.Engine.{Engine};
 
-use crate::broken::Broken;
-use crate::engine::{Ended, Engine};
-use crate::reactions::Outcome;
 use crate::tell::{Telling, tell};
 use command_words::job_name;
+use engine_state::{Broken, Engine, Outcome};
 use std::alloc::Global;
+use stomach::{Ended, run_steps};
 use tex_defs::Sizes;
 use world_io::Sink;
 
@@ -78,7 +77,7 @@ fn run_engine<S: Sink>(engine: &mut Engine, file: &[u8], steps: u64, out: &mut S
     if let Err(broken) = engine.keep_name(job_name(file)) {
         return tell_broken(out, engine.is_in_line(), broken);
     }
-    match engine.run_steps(out, steps) {
+    match run_steps(engine, out, steps) {
         Ok(Ended::Halted(outcome)) => Told {
             in_line: engine.is_in_line(),
             status: status_of(outcome, engine.reports()),

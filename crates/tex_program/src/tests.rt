@@ -1,8 +1,10 @@
 // Runs within tables of given sizes.
 use crate::run::{Bounds, run_file};
+use engine_state::{Broken, Engine};
 use std::alloc::{AllocError, Global};
 use std::test::Fail;
-use tex_defs::Sizes;
+use stomach::run_steps;
+use tex_defs::{Full, Sizes, Table};
 use world_io::MemSink;
 
 /// The least size of each table.
@@ -169,5 +171,71 @@ fn a_name_too_many_is_refused(rt: HostRuntime) -> Result<(), Fail> {
     more.extend_from_slice(b"\\catcode`\\xn 5 \\end\n")?;
     written.extend_from_slice(b"! TeX capacity exceeded, sorry [number of strings=200].\n")?;
     assert!(rt; writes(alloc, LEAST, b"job", more.as_slice(), written.as_slice(), 3)?);
+    Ok(())
+}
+
+/// Whether the run of this text, within these sizes, comes to where this table is full, and what it uses of main memory then, in words.
+fn words_where_full(
+    alloc: Global,
+    sizes: Sizes,
+    text: &[u8],
+    full: Full,
+) -> Result<Option<u32>, AllocError> {
+    if sizes.check().is_err() {
+        return Ok(None);
+    }
+    let mut out = MemSink::new(alloc);
+    let bytes = Vec::from_slice(alloc, text)?;
+    let mut engine = Engine::new(alloc, &sizes, true, Some(bytes))?;
+    let ended = run_steps(&mut engine, &mut out, 1000000);
+    let words = engine.words();
+    engine.close();
+    match ended {
+        Err(Broken::Full(found)) if found == full => Ok(Some(words)),
+        _ => Ok(None),
+    }
+}
+
+#[test]
+fn a_full_memory_is_full_of_what_is_held(rt: HostRuntime) -> Result<(), Fail> {
+    let alloc = rt.alloc();
+    let text =
+        b"\\catcode`\\{=1 \\catcode`\\}=2 \\def\\b{xxxxxxxxxx}\\def\\a{\\edef\\b{\\b\\b}\\a}\\a";
+    let full = Full {
+        table: Table::MainMemorySize,
+        used: 30000,
+        size: 30000,
+    };
+    assert!(rt; words_where_full(alloc, Sizes::DEFAULT, text, full)? == Some(30000));
+    let full = Full {
+        table: Table::MainMemorySize,
+        used: 100,
+        size: 100,
+    };
+    assert!(rt; words_where_full(alloc, LEAST, text, full)? == Some(100));
+    Ok(())
+}
+
+#[test]
+fn levels_and_arguments_are_refused_at_their_least_sizes(rt: HostRuntime) -> Result<(), Fail> {
+    let alloc = rt.alloc();
+    let text = b"\\catcode`\\{=1 \\catcode`\\}=2 \\def\\a{\\a x}\\a";
+    let full = Full {
+        table: Table::InputStackSize,
+        used: 4,
+        size: 4,
+    };
+    assert!(rt; words_where_full(alloc, LEAST, text, full)?.is_some());
+    let text = b"\\catcode`\\{=1 \\catcode`\\}=2 \\catcode`\\#=6 \\def\\a#1{\\a{#1}x}\\a y";
+    let sizes = Sizes {
+        parameter_stack_size: 9,
+        ..Sizes::DEFAULT
+    };
+    let full = Full {
+        table: Table::ParameterStackSize,
+        used: 9,
+        size: 9,
+    };
+    assert!(rt; words_where_full(alloc, sizes, text, full)?.is_some());
     Ok(())
 }

@@ -2,12 +2,12 @@ use Rattle.std.proofs.Common.{◌∙◌, sym, subst, Bool, None, false}
 use Rattle.plain_machine.specs.Plan.{no_file}
 use Rattle.plain_machine.specs.Meaning.{First}
 use Rattle.world_io.specs.Told.{world}
-use Rattle.tex_program.specs.declared.reactions.Outcome.{Outcome}
-use Rattle.tex_program.specs.Begins.{outcome_of}
-use Rattle.tex_program.specs.Stands.{state_of}
-use Rattle.tex_program.specs.Book.{first_book}
-use Rattle.tex_program.specs.Rules.{Halts, world_of}
-use Rattle.tex_program.specs.Ran.{CutBy}
+use Rattle.engine_state.specs.declared.outcome.Outcome.{Outcome}
+use Rattle.engine_state.specs.Begins.{outcome_of}
+use Rattle.engine_state.specs.Stands.{state_of}
+use Rattle.engine_state.specs.Book.{first_book}
+use Rattle.engine_state.specs.Rules.{Halts, world_of}
+use Rattle.stomach.specs.Ran.{CutBy}
 use Rattle.tex_program.specs.Says.{SaysSo}
 use Rattle.tex_program.proofs.Meanings.{kept_cut, kept_names, kept_reports, refused_fails, refused_cut}
 use Rattle.tex_program.proofs.run.refuse_engine.Goals as goal

@@ -1,11 +1,11 @@
 use Rattle.std.proofs.Common.{◌∙◌, sym, subst, ap, Bool, refl, Some, false, arith}
 use Rattle.plain_machine.specs.Meaning.{First, Line, steps_line}
 use Rattle.world_io.specs.Told.{world}
-use Rattle.tex_program.specs.Book.{first_book}
-use Rattle.tex_program.specs.Rules.{world_of}
-use Rattle.tex_program.specs.Ran.{Came, Ran, CutBy}
+use Rattle.engine_state.specs.Book.{first_book}
+use Rattle.engine_state.specs.Rules.{world_of}
+use Rattle.stomach.specs.Ran.{Came, Ran, CutBy}
 use Rattle.tex_program.specs.Says.{end_status}
-use Rattle.tex_program.proofs.Running.{ran_join, cut_by_join}
+use Rattle.stomach.proofs.Running.{ran_join, cut_by_join}
 use Rattle.tex_program.proofs.Meanings.{kept_cut, kept_came, ran_ended, ran_steps}
 use Rattle.tex_program.proofs.run.run_engine.Goals as goal
 
@@ -22,7 +22,7 @@ returns-in-Ok-Halted-clause-says g c = λ sizes f quiet bytes begins.
     let b = g.S.Sink.told c.run_steps.new.out in
     let i = c.in-Ok-Halted in
     let e = c.keep_name.new.self in
-    let e' = c.run_steps.new.self in
+    let e' = c.run_steps.new.engine in
     let first = First quiet c.args.file.now (Some bytes) in
     let came : Came sizes first e (world f a false) (world_of f a e) 0 =
     kept_came sizes c.args.engine.now e quiet c.args.file.now c.job_name.result.now c.job_name.ensures f a bytes begins (c.keep_name.ensures.column ∙ begins.column)
@@ -38,7 +38,7 @@ returns-in-Ok-Steps-clause-says g c = λ sizes f quiet bytes begins.
     let b = g.S.Sink.told c.run_steps.new.out in
     let i = c.in-Ok-Steps in
     let e = c.keep_name.new.self in
-    let e' = c.run_steps.new.self in
+    let e' = c.run_steps.new.engine in
     let first = First quiet c.args.file.now (Some bytes) in
     let end = world f (g.S.Sink.told c.tell.new.out) c.tell.result in
     let came : Came sizes first e (world f a false) (world_of f a e) 0 =
@@ -55,7 +55,7 @@ returns-in-Err-run_steps-clause-says g c = λ sizes f quiet bytes begins.
     let b = g.S.Sink.told c.run_steps.new.out in
     let i = c.in-Err-run_steps in
     let e = c.keep_name.new.self in
-    let e' = c.run_steps.new.self in
+    let e' = c.run_steps.new.engine in
     let first = First quiet c.args.file.now (Some bytes) in
     let came : Came sizes first e (world f a false) (world_of f a e) 0 =
     kept_came sizes c.args.engine.now e quiet c.args.file.now c.job_name.result.now c.job_name.ensures f a bytes begins (c.keep_name.ensures.column ∙ begins.column)

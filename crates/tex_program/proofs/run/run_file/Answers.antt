@@ -2,7 +2,7 @@ use Rattle.std.proofs.Common.{ℕ, List, Vec, Global, false}
 use Rattle.std.specs.Prelude.{Option}
 use Rattle.plain_machine.specs.Meaning.{First}
 use Rattle.world_io.specs.Told.{world}
-use Rattle.tex_program.specs.First.{Begins}
+use Rattle.engine_state.specs.First.{Begins}
 use Rattle.tex_program.specs.Says.{SaysSo}
 use Rattle.tex_program.proofs.Meanings.{held_job, unheld_job, fault_rose}
 use Rattle.tex_program.proofs.run.run_file.Goals.{then-held, else-held}

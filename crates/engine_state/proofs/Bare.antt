@@ -1,0 +1,44 @@
+-- Where no call gathers its arguments.
+use Rattle.std.proofs.Common.{◌≡◌, ℕ, List, [], ◌∷◌, ◌++◌, sym, ap, subst, ◌∙◌}
+use Rattle.std.specs.Prelude.{Option, None, Some}
+use Rattle.tex_defs.specs.declared.Sizes.{Sizes}
+use Rattle.tex_defs.specs.declared.Token.{Token}
+use Rattle.plain_state.specs.States.{Reading}
+use Rattle.input_state.specs.Callings.{Calling, NotCalling, call_lists}
+use Rattle.input_state.specs.Stored.{Stored, gathered}
+use Rattle.engine_state.specs.declared.call.Call.{Call}
+use Rattle.engine_state.specs.declared.engine.Engine.{Engine}
+use Rattle.engine_state.specs.Book.{Book}
+use Rattle.engine_state.specs.Calls.{AllStand, ReadingsStand, FramesOf}
+use Rattle.engine_state.specs.Stands.{Stands}
+
+-- the lists that are gathered
+
+pub bare : (i : Stored) → i.call ≡ NotCalling → gathered i ≡ i.builds
+bare i none = ap (λ (k : Calling). call_lists k ++ i.builds) none
+
+-- where other lists are held then
+pub bare_after : (i j : Stored) → i.call ≡ NotCalling → j.call ≡ i.call → (f : List (List Token) → List (List Token)) → j.builds ≡ f i.builds → gathered j ≡ f (gathered i)
+bare_after i j none same f after = bare j (same ∙ none) ∙ after ∙ ap f (sym (bare i none))
+
+-- the engine
+
+pub all_of : (sizes : Sizes) (e : Engine) (book : Book) → Stands sizes e book → AllStand sizes e book
+all_of sizes e book st = record {
+  sound = st.sound;
+  idle = st.idle;
+  all = subst (λ (c : Option Call). ReadingsStand c e book.number book.work) (sym st.uncalled.none) (st.readings, (st.orderly, st.uncalled.input));
+}
+
+pub framed : (sizes : Sizes) (e : Engine) (book : Book) → e.call ≡ None → AllStand sizes e book → Stands sizes e book
+framed sizes e book none st =
+    let all : ReadingsStand None e book.number book.work = subst (λ (c : Option Call). ReadingsStand c e book.number book.work) none st.all in
+    record { sound = st.sound; idle = st.idle; readings = all.0; orderly = all.1.0; uncalled = record { none = none; input = all.1.1 } }
+
+frames_by : (e : Engine) (number : ℕ → ℕ) (c : Option Call) (work : List Reading) → ReadingsStand c e number work → FramesOf c e work
+frames_by e number None work h = h.0
+frames_by e number (Some c) [] h = h
+frames_by e number (Some c) (r ∷ rs) h = h.1.0
+
+pub frames_all : (sizes : Sizes) (e : Engine) (book : Book) → AllStand sizes e book → FramesOf e.call e book.work
+frames_all sizes e book st = frames_by e book.number e.call book.work st.all

@@ -1,0 +1,18 @@
+-- An engine that was just made.
+use Rattle.std.specs.Prelude.{◌≡◌, ℕ, Bool, false, List, Option}
+use Rattle.tex_defs.specs.declared.Sizes.{Sizes}
+use Rattle.prim_table.specs.Primitives.{primitive_names}
+use Rattle.plain_state.specs.Categories.{initial_categories}
+use Rattle.plain_state.specs.Names.{is_known}
+use Rattle.plain_machine.specs.Plan.{first_state, job_due}
+use Rattle.engine_state.specs.declared.engine.Engine.{Engine}
+use Rattle.engine_state.specs.Book.{first_book}
+use Rattle.engine_state.specs.Stands.{Stands, state_of}
+
+-- It stands for the first state of any job whose file has these bytes, where it is held, but for what is due.
+pub record Begins (sizes : Sizes) (e : Engine) (quiet : Bool) (job : Option (List ℕ)) : Type 0 where
+  pub stands : Stands sizes e first_book
+  pub state : (file : List ℕ) → record (state_of e first_book) { due = job_due file job } ≡ first_state is_known initial_categories quiet file job
+  pub column : e.in_line ≡ false
+  pub reports : e.reports ≡ 0
+  pub names : e.names.names ≡ primitive_names

@@ -1,0 +1,206 @@
+// The engine: what it keeps of the machine's state.
+ghost use Rattle.std.specs.Prelude.{◌≡◌, ◌<◌, ◌+◌, ◌-◌, ◌*◌, List, [], ◌∷◌, IfOk, IfErr, OnOk, Option, None, false, option_map};
+ghost use Rattle.tex_defs.specs.Places.{Transcript, World};
+ghost use Rattle.tex_defs.specs.Sizes.{first_out_of_range};
+ghost use Rattle.tex_defs.specs.declared.Sizes.{Sizes};
+ghost use Rattle.tex_defs.specs.declared.Fatal.TheVariants as fatal;
+ghost use Rattle.plain_state.specs.Categories.{initial_categories as first_categories};
+ghost use Rattle.plain_state.specs.Names as names;
+ghost use Rattle.prim_table.specs.Primitives.{primitive_names};
+ghost use Rattle.plain_state.specs.Reports.{NoSuchFile, report_bytes};
+ghost use Rattle.plain_state.specs.Tables.{words};
+ghost use Rattle.plain_state.specs.States.{Move, Kept, Written};
+ghost use Rattle.plain_machine.specs.Plan.{no_file};
+ghost use Rattle.plain_machine.specs.Does.{Did};
+ghost use Rattle.world_io.specs.Told.{FilesTold};
+ghost use Rattle.engine_state.specs.Book.{Book};
+ghost use Rattle.engine_state.specs.Begins.{outcome_of};
+ghost use Rattle.engine_state.specs.Stands.{Stands, IsSized, IsSound, SameFrames, OnlyColumn, state_of, frames};
+ghost use Rattle.engine_state.specs.Rules.{world_of, Cuts, Halts};
+ghost use Rattle.engine_state.specs.First.{Begins};
+ghost use Rattle.engine_state.specs.declared.outcome.Outcome.TheVariants as outcomes;
+ghost use Rattle.engine_state.specs.declared.call.Call.{Call};
+
+use crate::broken::Broken;
+use crate::call::Call;
+use crate::outcome::Outcome;
+use crate::writing::REPORTS_ROOM;
+use frames::{Ask, Frame, Outer, Want};
+use input_state::Input;
+use name_table::NameTable;
+use std::alloc::{AllocError, Global};
+use tex_defs::{Fatal, Sizes};
+use transcript::{initial_view, write_missing_file};
+use world_io::Sink;
+
+/// The machine's state, kept in tables that were reserved when the engine was made. An engine is closed at its end.
+pub struct Engine {
+    pub sizes: Sizes,
+    /// What is pending, and all lists.
+    pub input: Input,
+    pub names: NameTable,
+    pub categories: [u8; 256],
+    /// The open readings but the innermost.
+    pub outer: Outer,
+    /// The innermost open reading.
+    pub top: Option<Frame>,
+    /// What it asks for.
+    pub ask: Ask,
+    /// The call that gathers its arguments, if one does.
+    pub call: Option<Call>,
+    /// Whether the last byte that the transcript took isn't a line feed.
+    pub in_line: bool,
+    /// The reports so far.
+    pub reports: u32,
+    /// Whether token lines are left out.
+    pub quiet: bool,
+}
+
+const INITIAL: [u8; 256] = [
+    9, 12, 12, 12, 12, 12, 12, 12, 12, 12, 12, 12, 12, 5, 12, 12, 12, 12, 12, 12, 12, 12, 12, 12,
+    12, 12, 12, 12, 12, 12, 12, 12, 10, 12, 12, 12, 12, 14, 12, 12, 12, 12, 12, 12, 12, 12, 12, 12,
+    12, 12, 12, 12, 12, 12, 12, 12, 12, 12, 12, 12, 12, 12, 12, 12, 12, 11, 11, 11, 11, 11, 11, 11,
+    11, 11, 11, 11, 11, 11, 11, 11, 11, 11, 11, 11, 11, 11, 11, 11, 11, 11, 11, 12, 0, 12, 12, 12,
+    12, 11, 11, 11, 11, 11, 11, 11, 11, 11, 11, 11, 11, 11, 11, 11, 11, 11, 11, 11, 11, 11, 11, 11,
+    11, 11, 11, 12, 12, 12, 12, 15, 12, 12, 12, 12, 12, 12, 12, 12, 12, 12, 12, 12, 12, 12, 12, 12,
+    12, 12, 12, 12, 12, 12, 12, 12, 12, 12, 12, 12, 12, 12, 12, 12, 12, 12, 12, 12, 12, 12, 12, 12,
+    12, 12, 12, 12, 12, 12, 12, 12, 12, 12, 12, 12, 12, 12, 12, 12, 12, 12, 12, 12, 12, 12, 12, 12,
+    12, 12, 12, 12, 12, 12, 12, 12, 12, 12, 12, 12, 12, 12, 12, 12, 12, 12, 12, 12, 12, 12, 12, 12,
+    12, 12, 12, 12, 12, 12, 12, 12, 12, 12, 12, 12, 12, 12, 12, 12, 12, 12, 12, 12, 12, 12, 12, 12,
+    12, 12, 12, 12, 12, 12, 12, 12, 12, 12, 12, 12, 12, 12, 12, 12,
+];
+
+/// The category codes of INITEX's first state.
+#[tactic(auto, unfolding(plain_state::specs::Categories::initial_categories))]
+fn initial_categories() -> [u8; 256]
+    ensures { result ≡ first_categories }
+{
+    INITIAL
+}
+
+impl Engine {
+    /// An engine at the beginning of a job, whose bytes are these where its file is held.
+    ///
+    /// # Errors
+    /// There is no room for the tables. No other call takes memory.
+    pub fn new(
+        alloc: Global,
+        sizes: &Sizes,
+        quiet: bool,
+        bytes: Option<Vec<u8>>,
+    ) -> Result<Engine, AllocError>
+        requires { first_out_of_range sizes.now ≡ None }
+        ensures { IfOk result (λ e. Begins sizes.now e quiet (option_map (λ v. v.items) bytes)) }
+    {
+        let input = Input::new(alloc, sizes, bytes)?;
+        let names = match NameTable::new(alloc, sizes) {
+            Ok(names) => names,
+            Err(e) => {
+                input.close();
+                return Err(e);
+            }
+        };
+        let outer = match Outer::new(alloc, sizes.expansion_depth) {
+            Ok(outer) => outer,
+            Err(e) => {
+                input.close();
+                return Err(e);
+            }
+        };
+        Ok(Engine {
+            sizes: *sizes,
+            input,
+            names,
+            categories: initial_categories(),
+            outer,
+            top: None,
+            ask: Ask::More(Want::Expanded),
+            call: None,
+            in_line: false,
+            reports: 0,
+            quiet,
+        })
+    }
+
+    /// Lets all lists go, and with them the engine.
+    pub fn close(self) {
+        let Engine {
+            sizes: _,
+            input,
+            names: _,
+            categories: _,
+            outer: _,
+            top: _,
+            ask: _,
+            call: _,
+            in_line: _,
+            reports: _,
+            quiet: _,
+        } = self;
+        input.close();
+    }
+
+    /// Whether the last byte that the transcript took isn't a line feed.
+    pub fn is_in_line(&self) -> bool
+        ensures { result ≡ self.now.in_line }
+    {
+        self.in_line
+    }
+
+    /// The reports so far.
+    pub fn reports(&self) -> u32
+        ensures { result ≡ self.now.reports }
+    {
+        self.reports
+    }
+
+    /// The words of main memory that are used.
+    pub fn words(&self) -> u32
+        ensures { (sizes : Sizes) (book : Book) → IsSound sizes self.now book.number book.macros → result ≡ words (state_of self.now book) }
+    {
+        self.input.words()
+    }
+
+    /// Keeps the job's name.
+    pub fn keep_name(&mut self, name: &[u8]) -> Result<(), Broken>
+        ensures did { OnOk result ((sizes : Sizes) (w : World) (book : Book) → IsSized sizes self.old → Did sizes (state_of self.old book) (state_of self.new book) w w (Kept name.now ∷ [])) }
+        ensures err { IfErr result (λ b. (sizes : Sizes) (w : World) (book : Book) (more : List Move) → IsSized sizes self.old → Cuts sizes (state_of self.old book) self.new book w w (Kept name.now ∷ more) b) }
+        ensures stands { OnOk result ((sizes : Sizes) (book : Book) → Stands sizes self.old book → Stands sizes self.new book) }
+        ensures frames { SameFrames self.old self.new }
+        ensures column { self.new.in_line ≡ self.old.in_line }
+        ensures input { self.new.input ≡ self.old.input }
+    {
+        self.names.keep(name)?;
+        Ok(())
+    }
+
+    /// The report that a job's file isn't held, and what comes behind it.
+    pub fn refuse_job<S: Sink>(&mut self, out: &mut S, file: &[u8]) -> Result<Outcome, Broken>
+        ensures run { IfOk result (λ o. (sizes : Sizes) (f : FilesTold) (book : Book) → self.old.in_line ≡ false → self.old.names.names ≡ primitive_names →
+            Halts sizes (state_of self.old book) self.new book (world_of f (S.told out.old) self.old) (world_of f (S.told out.new) self.new) (no_file file.now) (outcome_of o) 0) }
+        ensures err { IfErr result (λ b. (sizes : Sizes) (f : FilesTold) (book : Book) → self.old.in_line ≡ false → self.old.names.names ≡ primitive_names → self.old.reports ≡ 0 →
+            Cuts sizes (state_of self.old book) self.new book (world_of f (S.told out.old) self.old) (world_of f (S.told out.new) self.new) (no_file file.now) b) }
+        ensures frames { SameFrames self.old self.new }
+        ensures no_file { IfOk result (λ o. o ≡ outcomes.Fatal fatal.NoFile) }
+    {
+        self.write_missing(out, file)?;
+        self.reports = self.reports.min(REPORTS_ROOM) + 1;
+        self.write_text(out, NO_FILE_LINES)?;
+        Ok(Outcome::Fatal(Fatal::NoFile))
+    }
+
+    /// Writes the report that a file isn't held.
+    pub fn write_missing<S: Sink>(&mut self, out: &mut S, file: &[u8]) -> Result<(), Broken>
+        ensures did { OnOk result ((sizes : Sizes) (f : FilesTold) (book : Book) → Did sizes (state_of self.old book) (state_of self.new book) (world_of f (S.told out.old) self.old) (world_of f (S.told out.new) self.new) (Written Transcript (report_bytes self.old.names.names self.old.in_line 0 (NoSuchFile file.now)) ∷ [])) }
+        ensures err { IfErr result (λ b. (sizes : Sizes) (f : FilesTold) (book : Book) (more : List Move) → Cuts sizes (state_of self.old book) self.new book (world_of f (S.told out.old) self.old) (world_of f (S.told out.new) self.new) (Written Transcript (report_bytes self.old.names.names self.old.in_line 0 (NoSuchFile file.now)) ∷ more) b) }
+        ensures only { OnlyColumn self.old self.new }
+    {
+        let (hash, pool) = self.names.parts();
+        let view = initial_view(self.input.lists(), hash, pool, &self.categories);
+        write_missing_file(out, &mut self.in_line, view, file)?;
+        Ok(())
+    }
+}
+
+/// What comes behind the report that a job's file isn't held.
+const NO_FILE_LINES: &[u8] = b"! Emergency stop.\n*** (job aborted, file error in nonstop mode)\n";

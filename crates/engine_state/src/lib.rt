@@ -1,0 +1,25 @@
+//! The engine of a run: what it keeps of the plain machine's state, its next token, its reports and its open readings.
+//!
+//! An [`Engine`] stands for a state of the plain machine (`Stands` and `AllStand` in `specs`, beside a `Book`). Each of its
+//! calls says which moves of the machine it makes, what it writes, and where it was cut off. *TeX: The Program*, parts 22
+//! to 24 (`get_next`, `check_outer_validity`) and 6 (`error`).
+#![tactic(auto)]
+
+mod broken;
+mod call;
+mod check;
+mod engine;
+mod front;
+mod meaning;
+mod names;
+mod next;
+mod outcome;
+mod readings;
+mod writing;
+
+pub use broken::Broken;
+pub use call::{Call, CallAsk};
+pub use check::PAR;
+pub use engine::Engine;
+pub use meaning::name_of;
+pub use outcome::{Last, Next, Outcome, Ruled};

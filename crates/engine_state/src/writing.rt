@@ -1,0 +1,204 @@
+// What the engine writes.
+ghost use Rattle.std.specs.Prelude.{◌≡◌, ◌≤◌, ◌<◌, ◌+◌, ◌-◌, ◌*◌, ℕ, List, [], ◌∷◌, IfOk, IfErr, OnOk, Some, None, true, false};
+ghost use Rattle.tex_defs.specs.Places.{Transcript};
+ghost use Rattle.tex_defs.specs.declared.Sizes.{Sizes};
+ghost use Rattle.tex_defs.specs.declared.Fatal.TheVariants as fatal;
+ghost use Rattle.plain_state.specs.Names as names;
+ghost use Rattle.plain_state.specs.Reports.{report_bytes, message_bytes, runaway_bytes, OfUse};
+ghost use Rattle.plain_state.specs.States.{Move, Written, AtFatal};
+ghost use Rattle.plain_machine.specs.Plan.{reported, token_line, reports_room};
+ghost use Rattle.plain_machine.specs.Does.{Did};
+ghost use Rattle.world_io.specs.Told.{FilesTold};
+ghost use Rattle.frames.specs.Sees.{first_list};
+ghost use Rattle.transcript.specs.Reported.{report_of, scanned_of};
+ghost use Rattle.engine_state.specs.Book.{Book};
+ghost use Rattle.engine_state.specs.Calls.{AllStand, argument_bytes};
+ghost use Rattle.engine_state.specs.Begins.{outcome_of_last, last_moves, last_bytes};
+ghost use Rattle.engine_state.specs.Stands.{IsSized, SameFrames, OnlyColumn, state_of, page_of, frames};
+ghost use Rattle.engine_state.specs.Rules.{world_of, Cuts, Reports, Halts, DoesOnward};
+ghost use Rattle.engine_state.specs.Steps.{IsFree};
+ghost use Rattle.engine_state.specs.declared.outcome.Ruled.TheVariants.{Halted};
+
+use crate::broken::Broken;
+use crate::engine::Engine;
+use crate::outcome::{Last, Outcome, Ruled};
+use tex_defs::{Fatal, Meaning, Sizes};
+use transcript::{
+    Report, Scanned, initial_view, put, write_message, write_report, write_runaway,
+    write_token_line,
+};
+use world_io::Sink;
+
+/// The reports that a run may have, but for the last.
+pub const REPORTS_ROOM: u32 = 99;
+
+impl Engine {
+    /// Writes text to the transcript.
+    pub fn write_text<S: Sink>(&mut self, out: &mut S, text: &[u8]) -> Result<(), Broken>
+        ensures did { OnOk result ((sizes : Sizes) (f : FilesTold) (book : Book) → Did sizes (state_of self.old book) (state_of self.new book) (world_of f (S.told out.old) self.old) (world_of f (S.told out.new) self.new) (Written Transcript text.now ∷ [])) }
+        ensures err { IfErr result (λ b. (sizes : Sizes) (f : FilesTold) (book : Book) (more : List Move) → Cuts sizes (state_of self.old book) self.new book (world_of f (S.told out.old) self.old) (world_of f (S.told out.new) self.new) (Written Transcript text.now ∷ more) b) }
+        ensures only { OnlyColumn self.old self.new }
+    {
+        put(out, &mut self.in_line, text)?;
+        Ok(())
+    }
+
+    /// Writes a message: the list that the innermost reading holds.
+    pub fn write_message<S: Sink>(&mut self, out: &mut S) -> Result<(), Broken>
+        ensures did { OnOk result ((sizes : Sizes) (f : FilesTold) (book : Book) → Did sizes (state_of self.old book) (state_of self.new book) (world_of f (S.told out.old) self.old) (world_of f (S.told out.new) self.new) (Written Transcript (message_bytes self.old.categories self.old.names.names self.old.in_line (first_list self.old.input.builds)) ∷ [])) }
+        ensures err { IfErr result (λ b. (sizes : Sizes) (f : FilesTold) (book : Book) (more : List Move) → Cuts sizes (state_of self.old book) self.new book (world_of f (S.told out.old) self.old) (world_of f (S.told out.new) self.new) (Written Transcript (message_bytes self.old.categories self.old.names.names self.old.in_line (first_list self.old.input.builds)) ∷ more) b) }
+        ensures only { OnlyColumn self.old self.new }
+    {
+        let (hash, pool) = self.names.parts();
+        if self.input.has_list() {
+            let (lists, list) = self.input.list();
+            let view = initial_view(lists, hash, pool, &self.categories);
+            write_message(out, &mut self.in_line, view, Some(list))?;
+        } else {
+            let view = initial_view(self.input.lists(), hash, pool, &self.categories);
+            write_message(out, &mut self.in_line, view, None)?;
+        }
+        Ok(())
+    }
+
+    /// Writes what is shown of a text or a definition that runs away: the list that the innermost reading holds.
+    pub fn write_runaway<S: Sink>(&mut self, out: &mut S, what: Scanned) -> Result<(), Broken>
+        requires { self.old.input.builds ≡ [] → ⊥ }
+        ensures did { OnOk result ((sizes : Sizes) (f : FilesTold) (book : Book) → Did sizes (state_of self.old book) (state_of self.new book) (world_of f (S.told out.old) self.old) (world_of f (S.told out.new) self.new) (Written Transcript (runaway_bytes (scanned_of what) self.old.categories self.old.names.names self.old.in_line (first_list self.old.input.builds)) ∷ [])) }
+        ensures err { IfErr result (λ b. (sizes : Sizes) (f : FilesTold) (book : Book) (more : List Move) → Cuts sizes (state_of self.old book) self.new book (world_of f (S.told out.old) self.old) (world_of f (S.told out.new) self.new) (Written Transcript (runaway_bytes (scanned_of what) self.old.categories self.old.names.names self.old.in_line (first_list self.old.input.builds)) ∷ more) b) }
+        ensures only { OnlyColumn self.old self.new }
+    {
+        let (hash, pool) = self.names.parts();
+        let (lists, list) = self.input.list();
+        let view = initial_view(lists, hash, pool, &self.categories);
+        write_runaway(out, &mut self.in_line, view, what, list)?;
+        Ok(())
+    }
+
+    /// Writes what is shown of an argument that runs away: the list in work, if a place is reached.
+    pub fn write_argument<S: Sink>(&mut self, out: &mut S) -> Result<(), Broken>
+        ensures did { OnOk result ((sizes : Sizes) (f : FilesTold) (book : Book) → Did sizes (state_of self.old book) (state_of self.new book) (world_of f (S.told out.old) self.old) (world_of f (S.told out.new) self.new) (Written Transcript (argument_bytes self.old) ∷ [])) }
+        ensures err { IfErr result (λ b. (sizes : Sizes) (f : FilesTold) (book : Book) (more : List Move) → Cuts sizes (state_of self.old book) self.new book (world_of f (S.told out.old) self.old) (world_of f (S.told out.new) self.new) (Written Transcript (argument_bytes self.old) ∷ more) b) }
+        ensures only { OnlyColumn self.old self.new }
+    {
+        let (hash, pool) = self.names.parts();
+        match self.input.call_list() {
+            Some((lists, list)) => {
+                let view = initial_view(lists, hash, pool, &self.categories);
+                write_runaway(out, &mut self.in_line, view, Scanned::Use, list)?;
+                Ok(())
+            }
+            None => self.write_text(out, empty_argument(self.in_line)),
+        }
+    }
+
+    /// The line of a token that only typesetting would use.
+    pub fn token_line<S: Sink>(&mut self, out: &mut S, meaning: Meaning<()>) -> Result<(), Broken>
+        ensures did { OnOk result ((sizes : Sizes) (f : FilesTold) (book : Book) →
+            Did sizes (state_of self.old book) (state_of self.new book) (world_of f (S.told out.old) self.old) (world_of f (S.told out.new) self.new) (token_line (page_of self.old book) meaning)) }
+        ensures err { IfErr result (λ b. (sizes : Sizes) (f : FilesTold) (book : Book) → Cuts sizes (state_of self.old book) self.new book (world_of f (S.told out.old) self.old) (world_of f (S.told out.new) self.new) (token_line (page_of self.old book) meaning) b) }
+        ensures only { OnlyColumn self.old self.new }
+    {
+        if self.quiet {
+            return Ok(());
+        }
+        let (hash, pool) = self.names.parts();
+        let view = initial_view(self.input.lists(), hash, pool, &self.categories);
+        write_token_line(out, &mut self.in_line, view, meaning)?;
+        Ok(())
+    }
+
+    /// Writes a report on a fresh line, and counts it. Answers whether the run goes on behind it.
+    pub fn report<S: Sink>(&mut self, out: &mut S, report: Report) -> Result<bool, Broken>
+        ensures on { IfOk result (λ on. on ≡ true → (sizes : Sizes) (f : FilesTold) (book : Book) (rest : List Move) →
+            Reports sizes (state_of self.old book) (state_of self.new book) (world_of f (S.told out.old) self.old) (world_of f (S.told out.new) self.new) (page_of self.old book) (report_of report) rest) }
+        ensures last { IfOk result (λ on. on ≡ false → (sizes : Sizes) (f : FilesTold) (book : Book) (rest : List Move) →
+            Halts sizes (state_of self.old book) self.new book (world_of f (S.told out.old) self.old) (world_of f (S.told out.new) self.new) (reported (page_of self.old book) (report_of report) rest) (AtFatal fatal.HundredErrors) 0) }
+        ensures err { IfErr result (λ b. (sizes : Sizes) (f : FilesTold) (book : Book) (rest : List Move) → self.old.reports ≤ reports_room →
+            Cuts sizes (state_of self.old book) self.new book (world_of f (S.told out.old) self.old) (world_of f (S.told out.new) self.new) (reported (page_of self.old book) (report_of report) rest) b) }
+        ensures frames { SameFrames self.old self.new }
+        ensures input { self.new.input ≡ self.old.input }
+        ensures sized { IfOk result (λ on. on ≡ true → (sizes : Sizes) → IsSized sizes self.old → IsSized sizes self.new) }
+    {
+        self.write_report(out, report)?;
+        if self.reports < REPORTS_ROOM {
+            self.reports += 1;
+            return Ok(true);
+        }
+        self.reports = REPORTS_ROOM + 1;
+        self.write_text(out, HUNDRED_LINE)?;
+        Ok(false)
+    }
+
+    /// Writes a report.
+    pub fn write_report<S: Sink>(&mut self, out: &mut S, report: Report) -> Result<(), Broken>
+        ensures did { OnOk result ((sizes : Sizes) (f : FilesTold) (book : Book) → Did sizes (state_of self.old book) (state_of self.new book) (world_of f (S.told out.old) self.old) (world_of f (S.told out.new) self.new) (Written Transcript (report_bytes self.old.names.names self.old.in_line self.old.input.pending.number (report_of report)) ∷ [])) }
+        ensures err { IfErr result (λ b. (sizes : Sizes) (f : FilesTold) (book : Book) (more : List Move) → Cuts sizes (state_of self.old book) self.new book (world_of f (S.told out.old) self.old) (world_of f (S.told out.new) self.new) (Written Transcript (report_bytes self.old.names.names self.old.in_line self.old.input.pending.number (report_of report)) ∷ more) b) }
+        ensures only { OnlyColumn self.old self.new }
+    {
+        let line = self.input.line_number();
+        let (hash, pool) = self.names.parts();
+        let view = initial_view(self.input.lists(), hash, pool, &self.categories);
+        write_report(out, &mut self.in_line, view, line, report)?;
+        Ok(())
+    }
+
+    /// A report, behind which the rule ends.
+    pub fn report_only<S: Sink>(&mut self, out: &mut S, report: Report) -> Result<Ruled, Broken>
+        requires idle { self.old.input.making ≡ None }
+        ensures rule { IfOk result (λ ruled. (sizes : Sizes) (f : FilesTold) (book : Book) → AllStand sizes self.old book →
+            DoesOnward sizes (state_of self.old book) self.new book (world_of f (S.told out.old) self.old) (world_of f (S.told out.new) self.new) (reported (page_of self.old book) (report_of report) []) ruled) }
+        ensures err { IfErr result (λ b. (sizes : Sizes) (f : FilesTold) (book : Book) → self.old.reports ≤ reports_room →
+            Cuts sizes (state_of self.old book) self.new book (world_of f (S.told out.old) self.old) (world_of f (S.told out.new) self.new) (reported (page_of self.old book) (report_of report) []) b) }
+        ensures frames { SameFrames self.old self.new }
+        ensures input { self.new.input ≡ self.old.input }
+        ensures on { IfOk result (λ ruled. IsFree ruled → ⊥) }
+        ensures idle { OnOk result (self.new.input.making ≡ None) }
+    {
+        if self.report(out, report)? {
+            Ok(Ruled::Step)
+        } else {
+            Ok(Ruled::Halted(Outcome::Fatal(Fatal::HundredErrors)))
+        }
+    }
+
+    /// Writes what the machine writes where it stops, and ends the run.
+    pub fn halt<S: Sink>(&mut self, out: &mut S, last: Last) -> Result<Ruled, Broken>
+        requires idle { self.old.input.making ≡ None }
+        ensures rule { IfOk result (λ ruled. (sizes : Sizes) (f : FilesTold) (book : Book) →
+            DoesOnward sizes (state_of self.old book) self.new book (world_of f (S.told out.old) self.old) (world_of f (S.told out.new) self.new) (last_moves self.old.in_line last) ruled) }
+        ensures err { IfErr result (λ b. (sizes : Sizes) (f : FilesTold) (book : Book) → Cuts sizes (state_of self.old book) self.new book (world_of f (S.told out.old) self.old) (world_of f (S.told out.new) self.new) (last_moves self.old.in_line last) b) }
+        ensures ends { IfOk result (λ ruled. ruled ≡ Halted (outcome_of_last last)) }
+        ensures frames { SameFrames self.old self.new }
+        ensures idle { OnOk result (self.new.input.making ≡ None) }
+    {
+        self.write_text(out, last_text(self.in_line, last))?;
+        Ok(Ruled::Halted(last.outcome()))
+    }
+}
+
+/// What comes behind the hundredth report.
+const HUNDRED_LINE: &[u8] = b"(That makes 100 errors; please try again.)\n";
+
+/// The text that the machine writes where it stops.
+fn last_text(in_line: bool, last: Last) -> &'static [u8]
+    ensures { result.now ≡ last_bytes in_line last }
+{
+    match (last, in_line) {
+        (Last::End, true) => b"\n",
+        (Last::End, false) => b"",
+        (Last::NoEnd, true) => b"\n! Emergency stop.\n*** (job aborted, no legal \\end found)\n",
+        (Last::NoEnd, false) => b"! Emergency stop.\n*** (job aborted, no legal \\end found)\n",
+    }
+}
+
+/// What is shown of an argument that runs away before it has a list.
+fn empty_argument(in_line: bool) -> &'static [u8]
+    ensures { (categories : List ℕ) (names : List (List ℕ)) → result.now ≡ runaway_bytes OfUse categories names in_line [] }
+{
+    if in_line {
+        b"\nRunaway argument?\n"
+    } else {
+        b"Runaway argument?\n"
+    }
+}

@@ -1,0 +1,244 @@
+-- A call that is fed with a token for which the main memory has no room.
+use Rattle.std.proofs.Common.{◌≡◌, ℕ, zero, suc, ◌+◌, ◌<◌, ◌≤◌, List, [], ◌∷◌, ◌++◌, length, drop, map, refl, sym, ap, subst, ◌∙◌, append_assoc, length-append, arith}
+use Rattle.std.proofs.lemmas.List.{length-drop}
+use Rattle.std.proofs.lemmas.List.Sums.{sum_by-cons, sum_by-append}
+use Rattle.std.proofs.Math.Seq.{drop-append_seam}
+use Rattle.std.specs.Prelude.{Option, Some, None, option_map, option_to_list, unwrap_or}
+use Rattle.tex_defs.specs.declared.Full.{Full}
+use Rattle.tex_defs.specs.declared.Name.{Name}
+use Rattle.tex_defs.specs.declared.Seen.{Seen}
+use Rattle.tex_defs.specs.declared.Sizes.{Sizes}
+use Rattle.tex_defs.specs.declared.Token.{Token}
+use Rattle.tex_defs.specs.Places.{World}
+use Rattle.plain_state.specs.Arguments.{Answer, arguments_in, work_in}
+use Rattle.plain_state.specs.Readings.{list_of_tokens}
+use Rattle.plain_state.specs.States.{State, Reading, Move, Grows, Feeds, Completed, Opened}
+use Rattle.plain_state.specs.Tables.{list_words, lists_words, memory, refused, refusal, words}
+use Rattle.plain_machine.specs.Plan.{feeding, argument_fed, grown_to, opened}
+use Rattle.plain_machine.specs.Does.{Did}
+use Rattle.macro_call.specs.Growths.{target_by, target_of}
+use Rattle.macro_call.specs.PlainScans.{Scan, resume_scan, scan_work, with_work as with_list}
+use Rattle.macro_call.specs.Scans.{args_with}
+use Rattle.macro_call.specs.Stages.{Stage}
+use Rattle.input_state.specs.CallFeeds.{CutTo, CutShort, IsCut, InGrowth, Between, IsCutInGrowth, IsCutBetween}
+use Rattle.input_state.specs.Callings as calls
+use Rattle.input_state.specs.Callings.{Calling, call_lists, last_first}
+use Rattle.input_state.specs.Calls.{text_of}
+use Rattle.input_state.specs.Macros.{list_at}
+use Rattle.input_state.specs.Stored.{KeepsMacros, words as stored_words}
+use Rattle.engine_state.specs.declared.broken.Broken.TheVariants as broken
+use Rattle.engine_state.specs.declared.call.Call.{Call}
+use Rattle.engine_state.specs.declared.engine.Engine.{Engine}
+use Rattle.engine_state.specs.Book.{Book, with_work}
+use Rattle.engine_state.specs.Calls.{AllStand, ReadingsStand, CallStands, open_call}
+use Rattle.engine_state.specs.Near.{FramesIn, FramesNear, CutsIn}
+use Rattle.engine_state.specs.Stands.{IsSound, SameStore, state_of}
+use Rattle.engine_state.proofs.CallEnding.{here as here_call}
+use Rattle.gullet.proofs.CallFeeding.{scanner, text_is, answer_to, feeding_is, growth_is, lists_before}
+use Rattle.gullet.proofs.CallFeedingAnswers.{Taking}
+use Rattle.gullet.proofs.CallFeedingMoves.{lists_of, fed_reading, state_at, other_words, words_at, last_more, grows_did, feeds_did, whole_did}
+use Rattle.engine_state.proofs.Counting.{words_more}
+use Rattle.engine_state.proofs.Cutting.{later_cuts, full_cuts, cuts_by}
+use Rattle.engine_state.proofs.Storing.{sound_still, store_call, words_are}
+
+-- THE MOVES of a token in a place begin with those that go into the list in work
+abbrev behind_growth : Seen → (complete : List (List Token)) → Option (List Token) → List Move
+behind_growth x (a ∷ more) next = Feeds x ∷ Completed a ∷ opened next
+behind_growth x [] next = Feeds x ∷ []
+
+none_left : (n : ℕ) → drop n (unwrap_or {T = List Token} None []) ≡ []
+none_left zero = refl
+none_left (suc n) = refl
+
+grows_first : (x : Seen) (was : List Token) (complete : List (List Token)) (next : Option (List Token)) →
+    argument_fed x (Some was) complete next ≡ map Grows (drop (length was) (target_by complete next)) ++ behind_growth x complete next
+grows_first x was (a ∷ more) next = refl
+grows_first x was [] None = ap (λ (ts : List Token). map Grows ts ++ Feeds x ∷ []) (sym (none_left (length was)))
+grows_first x was [] (Some after) = refl
+
+-- the lists of a call whose list in work has some tokens more
+abbrev cut_lists : (was front : List Token) → (args : List (List Token)) → List (List Token)
+cut_lists was front args = (was ++ front) ∷ last_first args []
+
+maps_join : (ts us : List Token) (rest : List Move) → map Grows (ts ++ us) ++ rest ≡ map Grows ts ++ (map Grows us ++ rest)
+maps_join [] us rest = refl
+maps_join (t ∷ ts) us rest = ap (λ (ms : List Move). Grows t ∷ ms) (maps_join ts us rest)
+
+-- the list in work is this one
+work_with : (scan : Scan) (o : Option Stage) (was list : List Token) → scan.present ≡ o → scan_work scan ≡ Some was → scan_work (with_list scan list) ≡ Some list
+work_with scan None was list is some = let none : scan_work scan ≡ None = ap (option_map (λ (s : Stage). s.list)) is in cc (none, some)
+work_with scan (Some s) was list is some =
+    ap (λ (o : Option Stage). option_map (λ (s : Stage). s.list) (option_map (λ (s : Stage). record { list = list; from = s.from; matched = s.matched; depth = s.depth }) o)) is
+
+-- an argument of which a token was held back has as many words as the list in work with the tokens that go into it
+arg_words : (was arg : List Token) (args : List (List Token)) → 0 < length (drop (length was) arg) → lists_words (list_of_tokens arg ++ args) ≡ lists_words (was ∷ args) + length (drop (length was) arg)
+arg_words was [] args some = omega (arith, some, length-drop {A = Token} (length was) [])
+arg_words was (t ∷ ts) args some = omega (arith, some, length-drop {A = Token} (length was) (t ∷ ts), sum_by-cons list_words (t ∷ ts) args, sum_by-cons list_words was args)
+
+module _ (sizes : Sizes) (e e2 : Engine) (book : Book) (r : Reading) (rs : List Reading) (name : Name) (x : Seen) (full : Full) (w : World) (is : e.call ≡ Some (open_call name)) (st : AllStand sizes e (with_work (r ∷ rs) book))
+    (behind : e2 ≡ record e { input = record e.input { call = e2.input.call; lists = e2.input.lists } }) (macros : KeepsMacros e.input e2.input)
+    (within : stored_words e2.input ≤ e2.input.sizes.main_memory_size) (refuses : refused e2.input.sizes (memory 1 (stored_words e2.input) ∷ []) ≡ Some full) where
+  abbrev W : Book
+  W = with_work (r ∷ rs) book
+
+  stood : ReadingsStand (Some (open_call name)) e book.number (r ∷ rs)
+  stood = here_call sizes e book (open_call name) r rs is st
+
+  abbrev h : CallStands e book.number (open_call name) r
+  h = stood.0
+
+  abbrev text : List Token
+  text = list_at e.input.lists h.id
+
+  abbrev k : Taking name h.long text r.fed e.input.call
+  k = scanner e book.number name r h
+
+  abbrev a : Answer
+  a = answer_to e book.number name r x h
+
+  abbrev complete : List (List Token)
+  complete = drop (length k.scan.args) (arguments_in a)
+
+  store : SameStore e.input e2.input
+  store = store_call e.input e2.input e2.input.call (ap (λ (y : Engine). y.input) behind) macros
+
+  sound : IsSound sizes e2 book.number book.macros
+  sound = sound_still sizes e e2 book.number book.macros (ap (λ (y : Engine). y.sizes) behind) (ap (λ (y : Engine). y.outer.size) behind) (ap (λ (y : Engine). y.names) behind) (ap (λ (y : Engine). y.reports) behind) store st.sound
+
+  start : state_at (state_of e W) (r ∷ rs) (lists_of k.scan.args (scan_work k.scan) ++ e.input.builds) ≡ state_of e W
+  start = ap (λ (l : List (List Token)). record (state_of e W) { gathered = l ++ e.input.builds }) (sym (lists_before e book.number name r x h))
+
+  -- the engine stands for this state
+  finish : (q : Reading) (lists : List (List Token)) → call_lists e2.input.call ≡ lists → state_at (state_of e W) (q ∷ rs) (lists ++ e.input.builds) ≡ state_of e2 (with_work (q ∷ rs) book)
+  finish q lists same =
+      ap (λ (l : List (List Token)). record (state_of e W) { work = q ∷ rs; gathered = l ++ e.input.builds }) (sym same)
+      ∙ ap (λ (y : Engine). state_of y (with_work (q ∷ rs) book)) (sym behind)
+
+  -- the words that it then has are within the memory's size
+  room : (q : Reading) (lists : List (List Token)) → call_lists e2.input.call ≡ lists → other_words (state_of e W) + lists_words (lists ++ e.input.builds) ≤ sizes.main_memory_size
+  room q lists same =
+      let own : e2.input.sizes.main_memory_size ≡ sizes.main_memory_size = ap (λ (s : Sizes). s.main_memory_size) sound.sized.input in
+      let used : other_words (state_of e W) + lists_words (lists ++ e.input.builds) ≡ stored_words e2.input =
+      sym (words_at (state_of e W) (q ∷ rs) (lists ++ e.input.builds)) ∙ ap words (finish q lists same) ∙ words_are sizes e2 (with_work (q ∷ rs) book) sound in
+      omega (arith, own, used, within)
+
+  -- a word more has no room
+  no_more : (q : Reading) (lists : List (List Token)) → call_lists e2.input.call ≡ lists → refused sizes (memory 1 (words (state_at (state_of e W) (q ∷ rs) (lists ++ e.input.builds))) ∷ []) ≡ Some full
+  no_more q lists same =
+      ap (λ (u : State). refused sizes (memory 1 (words u) ∷ [])) (finish q lists same) ∙ words_more sizes e2 (with_work (q ∷ rs) book) 1 (Some full) sound refuses
+
+  frames_near : (q : Reading) → FramesNear (broken.Full full) e2 (q ∷ rs)
+  frames_near q = record {
+    lists = e2.input.builds;
+    front = None;
+    grown = refl;
+    leads = tt;
+    stand = subst (λ (y : Engine). FramesIn y.call y y.input.builds (q ∷ rs)) (sym behind) (subst (λ (c : Option Call). FramesIn c (record e { input = record e.input { call = e2.input.call; lists = e2.input.lists } }) e.input.builds (q ∷ rs)) (sym is) stood.1.0);
+  }
+
+  -- the first moves are done, and the next one has no room
+  cut_at : (q : Reading) (lists : List (List Token)) (done : List Move) (m : Move) (rest : List Move) → call_lists e2.input.call ≡ lists →
+      argument_fed x (scan_work k.scan) complete (work_in a) ≡ done ++ m ∷ rest →
+      Did sizes (state_at (state_of e W) (r ∷ rs) (lists_of k.scan.args (scan_work k.scan) ++ e.input.builds)) (state_at (state_of e W) (q ∷ rs) (lists ++ e.input.builds)) w w done →
+      refusal sizes m (state_at (state_of e W) (q ∷ rs) (lists ++ e.input.builds)) ≡ Some full →
+      CutsIn sizes (state_of e W) e2 w w (feeding r x) (broken.Full full)
+  cut_at q lists done m rest same moves did no_room = record {
+    book' = with_work (q ∷ rs) book;
+    cuts = cuts_by sizes _ e2 (with_work (q ∷ rs) book) w w (done ++ m ∷ rest) (feeding r x) (broken.Full full) (feeding_is e book.number name r x h ∙ moves)
+        (later_cuts sizes (state_of e W) (state_at (state_of e W) (q ∷ rs) (lists ++ e.input.builds)) e2 (with_work (q ∷ rs) book) w w w done (m ∷ rest) (broken.Full full)
+        (subst (λ (u : State). Did sizes u (state_at (state_of e W) (q ∷ rs) (lists ++ e.input.builds)) w w done) start did)
+        (full_cuts sizes _ e2 (with_work (q ∷ rs) book) w m rest full (broken.Full full) refl no_room (finish q lists same)));
+    frames = frames_near q;
+  }
+
+  -- WITHIN A GROWTH
+  growth_cut : (n : Name) (next : Scan) → e2.input.call ≡ calls.Stopped n next → IsCutInGrowth text x.token k.scan next → CutsIn sizes (state_of e W) e2 w w (feeding r x) (broken.Full full)
+  growth_cut n next now c = by_behind c.behind refl c.some where
+    same : call_lists e2.input.call ≡ (cut_lists c.was c.front k.scan.args)
+    same = ap call_lists now ∙ ap (λ (s : Scan). option_to_list (scan_work s) ++ last_first s.args []) c.after
+        ∙ ap (λ (o : Option (List Token)). option_to_list o ++ last_first k.scan.args []) (work_with k.scan k.scan.present c.was (c.was ++ c.front) refl c.before)
+
+    whole : drop (length c.was) (target_by complete (work_in a)) ≡ c.front ++ c.behind
+    whole = ap (λ (o : Option (List Token)). drop (length (unwrap_or o [])) (target_by complete (work_in a))) (sym c.before) ∙ sym (growth_is e book.number name r x h) ∙ c.whole
+
+    moves : argument_fed x (scan_work k.scan) complete (work_in a) ≡ map Grows c.front ++ (map Grows c.behind ++ behind_growth x complete (work_in a))
+    moves = ap (λ (o : Option (List Token)). argument_fed x o complete (work_in a)) c.before ∙ grows_first x c.was complete (work_in a)
+        ∙ ap (λ (ts : List Token). map Grows ts ++ behind_growth x complete (work_in a)) whole ∙ maps_join c.front c.behind (behind_growth x complete (work_in a))
+
+    fits : other_words (state_of e W) + lists_words (c.was ∷ (last_first k.scan.args [] ++ e.input.builds)) + length c.front ≤ sizes.main_memory_size
+    fits = omega (arith, room r (cut_lists c.was c.front k.scan.args) same, sum_by-cons list_words (c.was ++ c.front) (last_first k.scan.args [] ++ e.input.builds), sum_by-cons list_words c.was (last_first k.scan.args [] ++ e.input.builds), length-append c.was c.front)
+
+    did : Did sizes (state_at (state_of e W) (r ∷ rs) (lists_of k.scan.args (scan_work k.scan) ++ e.input.builds)) (state_at (state_of e W) (r ∷ rs) ((cut_lists c.was c.front k.scan.args) ++ e.input.builds)) w w (map Grows c.front)
+    did = subst (λ (o : Option (List Token)). Did sizes (state_at (state_of e W) (r ∷ rs) (lists_of k.scan.args o ++ e.input.builds)) (state_at (state_of e W) (r ∷ rs) ((cut_lists c.was c.front k.scan.args) ++ e.input.builds)) w w (map Grows c.front)) (sym c.before)
+        (grows_did sizes (state_of e W) w c.front c.was (last_first k.scan.args [] ++ e.input.builds) (r ∷ rs) (λ some. fits))
+
+    by_behind : (ts : List Token) → c.behind ≡ ts → 0 < length ts → CutsIn sizes (state_of e W) e2 w w (feeding r x) (broken.Full full)
+    by_behind [] left some = absurd (omega (arith, some))
+    by_behind (t ∷ ts) left some =
+        cut_at r (cut_lists c.was c.front k.scan.args) (map Grows c.front) (Grows t) (map Grows ts ++ behind_growth x complete (work_in a)) same
+        (moves ∙ ap (λ (us : List Token). map Grows c.front ++ (map Grows us ++ behind_growth x complete (work_in a))) left) did (no_more r (cut_lists c.was c.front k.scan.args) same)
+
+  -- IN FRONT OF A PLACE
+  between_cut : (n : Name) (next : Scan) → e2.input.call ≡ calls.Stopped n next → IsCutBetween text x.token k.scan next → CutsIn sizes (state_of e W) e2 w w (feeding r x) (broken.Full full)
+  between_cut n next now c = by_present k.scan.present refl where
+    -- what is answered is due
+    due_args : arguments_in a ≡ next.args
+    due_args = ap arguments_in c.due
+
+    due_work : work_in a ≡ Some []
+    due_work = ap work_in c.due
+
+    lists_now : call_lists e2.input.call ≡ last_first next.args []
+    lists_now = ap call_lists now ∙ ap (λ (o : Option Stage). option_to_list (option_map (λ (s : Stage). s.list) o) ++ last_first next.args []) c.none
+
+    moves : (o : Option (List Token)) (args : List (List Token)) → scan_work k.scan ≡ o → next.args ≡ args → argument_fed x (scan_work k.scan) complete (work_in a) ≡ argument_fed x o (drop (length k.scan.args) args) (Some [])
+    moves o args work same =
+        ap (λ (o : Option (List Token)). argument_fed x o complete (work_in a)) work
+        ∙ ap (λ (us : List (List Token)). argument_fed x o (drop (length k.scan.args) us) (work_in a)) (due_args ∙ same)
+        ∙ ap (λ (u : Option (List Token)). argument_fed x o (drop (length k.scan.args) args) u) due_work
+
+    -- the first place
+    by_first : scan_work k.scan ≡ None → next.args ≡ k.scan.args → CutsIn sizes (state_of e W) e2 w w (feeding r x) (broken.Full full)
+    by_first none same =
+        let bare : k.scan.args ≡ [] = k.has_work none in
+        let lists : call_lists e2.input.call ≡ [] = lists_now ∙ ap (λ (us : List (List Token)). last_first us []) (same ∙ bare) in
+        let had : lists_of k.scan.args (scan_work k.scan) ≡ [] = ap (λ (o : Option (List Token)). lists_of k.scan.args o) none ∙ ap (λ (us : List (List Token)). lists_of us None) bare in
+        cut_at (fed_reading r x r.holds) [] (Feeds x ∷ []) Opened [] lists (moves None k.scan.args none same)
+        (subst (λ (l : List (List Token)). Did sizes (state_at (state_of e W) (r ∷ rs) (l ++ e.input.builds)) (state_at (state_of e W) (fed_reading r x r.holds ∷ rs) e.input.builds) w w (Feeds x ∷ [])) (sym had) (feeds_did sizes (state_of e W) w r rs x e.input.builds))
+        (no_more (fed_reading r x r.holds) [] lists)
+
+    -- a further one
+    by_next : (was arg : List Token) → scan_work k.scan ≡ Some was → next.args ≡ k.scan.args ++ arg ∷ [] → CutsIn sizes (state_of e W) e2 w w (feeding r x) (broken.Full full)
+    by_next was arg work same =
+        let args : List (List Token) = last_first k.scan.args [] in
+        let lists : call_lists e2.input.call ≡ list_of_tokens arg ++ args = lists_now ∙ ap (λ (us : List (List Token)). last_first us []) same ∙ last_more k.scan.args arg [] in
+        let q : Reading = fed_reading r x (length (list_of_tokens arg ++ args)) in
+        let had : lists_of k.scan.args (scan_work k.scan) ≡ was ∷ args = ap (lists_of k.scan.args) work in
+        let holds : r.holds ≡ suc (length args) = h.holds ∙ ap (length {A = List Token}) (lists_before e book.number name r x h ∙ had) in
+        let within_size = room q (list_of_tokens arg ++ args) lists in
+        cut_at q (list_of_tokens arg ++ args) (grown_to was arg ++ (Feeds x ∷ Completed arg ∷ [])) Opened [] lists
+        (moves (Some was) (k.scan.args ++ arg ∷ []) work same ∙ ap (λ (us : List (List Token)). argument_fed x (Some was) us (Some [])) (drop-append_seam k.scan.args (arg ∷ [])) ∙ sym (append_assoc (grown_to was arg) (Feeds x ∷ Completed arg ∷ []) (Opened ∷ [])))
+        (subst (λ (l : List (List Token)). Did sizes (state_at (state_of e W) (r ∷ rs) (l ++ e.input.builds)) (state_at (state_of e W) (q ∷ rs) ((list_of_tokens arg ++ args) ++ e.input.builds)) w w (grown_to was arg ++ (Feeds x ∷ Completed arg ∷ []))) (sym had)
+        (whole_did sizes (state_of e W) w r rs x arg was args e.input.builds holds
+        (λ some. omega (arith, within_size, arg_words was arg args some, sum_by-append list_words (list_of_tokens arg ++ args) e.input.builds, sum_by-append list_words (was ∷ args) e.input.builds))))
+        (no_more q (list_of_tokens arg ++ args) lists)
+
+    by_present : (o : Option Stage) → k.scan.present ≡ o → CutsIn sizes (state_of e W) e2 w w (feeding r x) (broken.Full full)
+    by_present None present = by_first (ap (option_map (λ (s : Stage). s.list)) present) (c.args ∙ ap (λ (o : Option Stage). args_with o k.scan.args (target_of (resume_scan text k.scan []) a)) present)
+    by_present (Some s) present =
+        by_next s.list (target_of (resume_scan text k.scan []) a) (ap (option_map (λ (s : Stage). s.list)) present) (c.args ∙ ap (λ (o : Option Stage). args_with o k.scan.args (target_of (resume_scan text k.scan []) a)) present)
+
+  -- THE CALL
+  by_new : (c : Calling) → e2.input.call ≡ c → CutTo text x.token name k.scan c → CutsIn sizes (state_of e W) e2 w w (feeding r x) (broken.Full full)
+  by_new calls.NotCalling now c = absurd c
+  by_new (calls.Gathering n next) now c = absurd c
+  by_new (calls.Stopped n next) now c = by_cut c.1 where
+    by_cut : IsCut text x.token k.scan next → CutsIn sizes (state_of e W) e2 w w (feeding r x) (broken.Full full)
+    by_cut (InGrowth g) = growth_cut n next now g
+    by_cut (Between b) = between_cut n next now b
+  by_new (calls.Gathered n args) now c = absurd c
+
+  pub fed_cut : CutShort (text_of e.input.lists e.input.meanings) x.token e.input.call e2.input.call → CutsIn sizes (state_of e W) e2 w w (feeding r x) (broken.Full full)
+  fed_cut short =
+      let at : CutShort (text_of e.input.lists e.input.meanings) x.token (calls.Gathering name k.scan) e2.input.call = subst (λ (c : Calling). CutShort (text_of e.input.lists e.input.meanings) x.token c e2.input.call) k.is short in
+      by_new e2.input.call refl (subst (λ (ts : List Token). CutTo ts x.token name k.scan e2.input.call) (text_is e book.number name r h) at)

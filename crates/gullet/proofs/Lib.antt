@@ -1,0 +1,11 @@
+pub mod CallBeginning
+pub mod CallBraces
+pub mod CallFeeding
+pub mod CallFeedingAnswers
+pub mod CallFeedingCuts
+pub mod CallFeedingMoves
+pub mod CallFeedingTurns
+pub mod CallPutting
+pub mod CallRules
+pub mod Expanding
+pub mod Handing

@@ -1,0 +1,2 @@
+pub mod CallAsks
+pub mod Stepping

@@ -1,0 +1,86 @@
+// The name of a macro is expanded.
+ghost use Rattle.std.specs.Prelude.{◌≡◌, ℕ, Bool, Some, None, IfErr, OnOk, OnErr};
+ghost use Rattle.tex_defs.specs.declared.Sizes.{Sizes};
+ghost use Rattle.tex_defs.specs.declared.Meaning.TheVariants.{Macro};
+ghost use Rattle.tex_defs.specs.Places.{World};
+ghost use Rattle.plain_state.specs.Meanings.{name_meaning};
+ghost use Rattle.plain_state.specs.Readings.{Arguments};
+ghost use Rattle.plain_state.specs.States.{Begun};
+ghost use Rattle.plain_state.specs.Tables.{refusal};
+ghost use Rattle.plain_machine.specs.Plan.{called};
+ghost use Rattle.macro_call.specs.Modes.{mode_of};
+ghost use Rattle.macro_call.specs.PlainScans.{first_scan};
+ghost use Rattle.input_state.specs.declared.answer.CallKind.TheVariants.{Gathers};
+ghost use Rattle.input_state.specs.Callings.{NotCalling};
+ghost use Rattle.input_state.specs.Callings as calls;
+ghost use Rattle.input_state.specs.Calls.{call_kind, text_of};
+ghost use Rattle.input_state.specs.Stored.{KeepsMacros};
+ghost use Rattle.engine_state.specs.Book.{Book};
+ghost use Rattle.engine_state.specs.Calls.{WantsToken, open_call};
+ghost use Rattle.engine_state.specs.Stands.{Stands, Counts, SameFrames, state_of, page_of};
+ghost use Rattle.engine_state.specs.Rules.{Cuts, Went};
+ghost use Rattle.engine_state.specs.declared.broken.Broken.TheVariants as broken;
+
+use engine_state::{Call, CallAsk, Engine, name_of};
+use input_state::CallKind;
+use tex_defs::{Full, Meaning, Name, Seen, Token};
+
+/// Expands the name of a macro: the body of one without a parameter text is put in front, another begins to gather its
+/// arguments, and one without a list comes to nothing. *TeX: The Program*, part 25 (`macro_call`).
+///
+/// # Errors
+/// There is no room for the level, for one more reading or for the first argument's list; the finished lists in front
+/// have gone where a level was asked for.
+pub(crate) fn call_name(engine: &mut Engine, token: Token) -> Result<(), Full>
+    ensures ok { OnOk result ((sizes : Sizes) (w : World) (book : Book) → Stands sizes engine.old book → WantsToken engine.old.top engine.old.ask →
+        Went sizes (state_of engine.old book) engine.new w w (called (page_of engine.old book) token) 0) }
+    ensures err { IfErr result (λ full. (sizes : Sizes) (w : World) (book : Book) → Stands sizes engine.old book → WantsToken engine.old.top engine.old.ask →
+        Cuts sizes (state_of engine.old book) engine.new book w w (called (page_of engine.old book) token) (broken.Full full)) }
+    ensures frames { OnErr result (SameFrames engine.old engine.new) }
+    ensures column { engine.new.in_line ≡ engine.old.in_line }
+    ensures idle { engine.new.input.making ≡ engine.old.input.making }
+{
+    if engine.input.is_calling() {
+        return Ok(());
+    }
+    let name = name_of(token);
+    match engine.input.call_kind(name) {
+        CallKind::None => Ok(()),
+        CallKind::AtOnce => engine.input.call_macro(name),
+        CallKind::Gathers => {
+            let long = is_long(engine.input.seen(Token::Named(name)));
+            begin_call(engine, name, long)
+        }
+    }
+}
+
+/// Begins to gather the arguments of a call: one more reading is asked for first, and then its list.
+///
+/// # Errors
+/// There is no room for them; nothing has changed.
+fn begin_call(engine: &mut Engine, name: Name, long: bool) -> Result<(), Full>
+    requires none { engine.old.input.call ≡ NotCalling }
+    requires gathers { call_kind engine.old.input.lists (name_meaning engine.old.input.meanings name) ≡ Gathers }
+    ensures ok { OnOk result (engine.new ≡ record engine.old { call = Some (open_call name); input = record engine.old.input { call = calls.Gathering name (first_scan (text_of engine.old.input.lists engine.old.input.meanings name) (mode_of long)); lists = engine.new.input.lists } }) }
+    ensures fits { OnOk result ((sizes : Sizes) (book : Book) (number : ℕ) → Counts sizes engine.old book → refusal sizes (Begun (Arguments name long number (text_of engine.old.input.lists engine.old.input.meanings name))) (state_of engine.old book) ≡ None) }
+    ensures refused { IfErr result (λ full. (sizes : Sizes) (book : Book) (number : ℕ) → Counts sizes engine.old book → refusal sizes (Begun (Arguments name long number (text_of engine.old.input.lists engine.old.input.meanings name))) (state_of engine.old book) ≡ Some full) }
+    ensures err { OnErr result (engine.new ≡ engine.old) }
+    ensures macros { KeepsMacros engine.old.input engine.new.input }
+{
+    if let Some(full) = engine.depth_refusal() {
+        return Err(full);
+    }
+    engine.input.begin_call(name, long)?;
+    engine.call = Some(Call {
+        name,
+        ask: CallAsk::More,
+    });
+    Ok(())
+}
+
+/// Whether it is the name of a `\long` macro.
+fn is_long(x: Seen) -> bool
+    ensures { (long outer : Bool) (list : Unit) → x.meaning ≡ Macro long outer list → result ≡ long }
+{
+    matches!(x.meaning, Meaning::Macro { long: true, .. })
+}

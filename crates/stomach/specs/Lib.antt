@@ -1,0 +1,4 @@
+pub mod Effects
+pub mod Ran
+pub mod Reactions
+pub mod Sets
