@@ -1,6 +1,6 @@
 // The checks: where a file has ended, or the name of an `\outer` macro has come, while something is scanned.
 // *The TeXbook*, chapter 20; *TeX: The Program*, part 24 (`check_outer_validity`).
-ghost use Rattle.std.specs.Prelude.{◌≡◌, ◌≤◌, ◌<◌, ◌+◌, ◌-◌, List, [], ◌∷◌, ◌++◌, IfOk, IfErr, IfSome, OnOk, OnErr, Option, Some, None, true, false, IsSome};
+ghost use Rattle.std.specs.Prelude.{◌≡◌, ◌≤◌, ◌+◌, List, [], ◌∷◌, ◌++◌, IfOk, IfErr, IfSome, OnOk, OnErr, Option, Some, None, true, false, IsSome};
 ghost use Rattle.tex_defs.specs.Places.{Transcript};
 ghost use Rattle.tex_defs.specs.declared.Sizes.{Sizes};
 ghost use Rattle.tex_defs.specs.declared.Fatal.TheVariants as fatal;
@@ -14,10 +14,9 @@ ghost use Rattle.engine_state.specs.Book.{Book};
 ghost use Rattle.engine_state.specs.Calls.{AllStand};
 ghost use Rattle.engine_state.specs.Near.{CutsIn};
 ghost use Rattle.engine_state.specs.Begins.{away_moves};
-ghost use Rattle.engine_state.specs.Stands.{SameFrames, OnlyColumn, state_of, page_of, frames};
+ghost use Rattle.engine_state.specs.Stands.{SameFrames, OnlyColumn, state_of, page_of};
 ghost use Rattle.engine_state.specs.Rules.{world_of, onward_of, token_moves, space_moves, scanning_of, Takes, Cuts, Halts, DoesOnward, away_text, IsScanned, Scans, Wants, Meets, SameReadings, Behind};
 ghost use Rattle.engine_state.specs.Steps.{IsFree, IsHalted, weight};
-ghost use Rattle.engine_state.specs.declared.outcome.Ruled.TheVariants.{Halted};
 ghost use Rattle.input_state.specs.CallFeeds.{with_scan};
 ghost use Rattle.macro_call.specs.PlainScans.{cut_scan};
 ghost use Rattle.frames.specs.declared.scan.Want.{Want as ScanWant};

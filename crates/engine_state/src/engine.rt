@@ -1,5 +1,5 @@
 // The engine: what it keeps of the machine's state.
-ghost use Rattle.std.specs.Prelude.{◌≡◌, ◌<◌, ◌+◌, ◌-◌, ◌*◌, List, [], ◌∷◌, IfOk, IfErr, OnOk, Option, None, false, option_map};
+ghost use Rattle.std.specs.Prelude.{◌≡◌, List, [], ◌∷◌, IfOk, IfErr, OnOk, None, false, option_map};
 ghost use Rattle.tex_defs.specs.Places.{Transcript, World};
 ghost use Rattle.tex_defs.specs.Sizes.{first_out_of_range};
 ghost use Rattle.tex_defs.specs.declared.Sizes.{Sizes};
@@ -15,11 +15,10 @@ ghost use Rattle.plain_machine.specs.Does.{Did};
 ghost use Rattle.world_io.specs.Told.{FilesTold};
 ghost use Rattle.engine_state.specs.Book.{Book};
 ghost use Rattle.engine_state.specs.Begins.{outcome_of};
-ghost use Rattle.engine_state.specs.Stands.{Stands, IsSized, IsSound, SameFrames, OnlyColumn, state_of, frames};
+ghost use Rattle.engine_state.specs.Stands.{Stands, IsSized, IsSound, SameFrames, OnlyColumn, state_of};
 ghost use Rattle.engine_state.specs.Rules.{world_of, Cuts, Halts};
 ghost use Rattle.engine_state.specs.First.{Begins};
 ghost use Rattle.engine_state.specs.declared.outcome.Outcome.TheVariants as outcomes;
-ghost use Rattle.engine_state.specs.declared.call.Call.{Call};
 
 use crate::broken::Broken;
 use crate::call::Call;
@@ -190,7 +189,7 @@ impl Engine {
     }
 
     /// Writes the report that a file isn't held.
-    pub fn write_missing<S: Sink>(&mut self, out: &mut S, file: &[u8]) -> Result<(), Broken>
+    fn write_missing<S: Sink>(&mut self, out: &mut S, file: &[u8]) -> Result<(), Broken>
         ensures did { OnOk result ((sizes : Sizes) (f : FilesTold) (book : Book) → Did sizes (state_of self.old book) (state_of self.new book) (world_of f (S.told out.old) self.old) (world_of f (S.told out.new) self.new) (Written Transcript (report_bytes self.old.names.names self.old.in_line 0 (NoSuchFile file.now)) ∷ [])) }
         ensures err { IfErr result (λ b. (sizes : Sizes) (f : FilesTold) (book : Book) (more : List Move) → Cuts sizes (state_of self.old book) self.new book (world_of f (S.told out.old) self.old) (world_of f (S.told out.new) self.new) (Written Transcript (report_bytes self.old.names.names self.old.in_line 0 (NoSuchFile file.now)) ∷ more) b) }
         ensures only { OnlyColumn self.old self.new }

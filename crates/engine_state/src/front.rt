@@ -1,5 +1,5 @@
 // Lists that are put in front.
-ghost use Rattle.std.specs.Prelude.{◌≡◌, ◌<◌, ◌+◌, ◌-◌, List, ◌++◌, IfErr, OnOk, Option, Some, None, is_some};
+ghost use Rattle.std.specs.Prelude.{◌≡◌, ◌+◌, List, ◌++◌, IfErr, OnOk, None, is_some};
 ghost use Rattle.tex_defs.specs.Places.{World};
 ghost use Rattle.tex_defs.specs.declared.Sizes.{Sizes};
 ghost use Rattle.plain_state.specs.Readings.{Fed};
@@ -7,7 +7,7 @@ ghost use Rattle.plain_state.specs.States.{Move};
 ghost use Rattle.plain_machine.specs.Plan.{given_back, put_inserted, put_one};
 ghost use Rattle.plain_machine.specs.Does.{Did};
 ghost use Rattle.engine_state.specs.Book.{Book};
-ghost use Rattle.engine_state.specs.Stands.{IsLast, Counts, SameStore, SameOthers, SameFrames, state_of, page_of, frames};
+ghost use Rattle.engine_state.specs.Stands.{IsLast, Counts, SameStore, SameOthers, SameFrames, state_of, page_of};
 ghost use Rattle.engine_state.specs.Rules.{Cuts};
 ghost use Rattle.engine_state.specs.Steps.{pending_weight};
 

@@ -1,5 +1,5 @@
 // The names and characters that a line gives, as tokens.
-ghost use Rattle.std.specs.Prelude.{◌≡◌, ◌≤◌, ◌++◌, length, IfOk, IfErr, OnOk, OnErr};
+ghost use Rattle.std.specs.Prelude.{◌≡◌, IfOk, IfErr, OnOk, OnErr};
 ghost use Rattle.plain_state.specs.Lex.{Lexeme};
 ghost use Rattle.plain_state.specs.Lookup.{name_among, new_among, token_of, new_name};
 ghost use Rattle.input_state.specs.Reads.{IsLexeme};

@@ -1,19 +1,17 @@
 // The next token.
-ghost use Rattle.std.specs.Prelude.{◌≡◌, ◌<◌, ◌-◌, IfOk, IfErr, OnOk, OnErr, Option, Some, None};
+ghost use Rattle.std.specs.Prelude.{◌≡◌, ◌<◌, IfOk, IfErr, OnOk, OnErr, Option, None};
 ghost use Rattle.tex_defs.specs.declared.Sizes.{Sizes};
 ghost use Rattle.plain_state.specs.Pending.{pulled};
 ghost use Rattle.plain_state.specs.Lex.{Lexeme};
-ghost use Rattle.plain_state.specs.Tables.{refused};
 ghost use Rattle.world_io.specs.Told.{FilesTold};
 ghost use Rattle.input_state.specs.Reads.{gives_step, IsLexeme};
 ghost use Rattle.plain_state.specs.Lookup.{token_of, new_name};
 ghost use Rattle.engine_state.specs.Book.{Book};
 ghost use Rattle.engine_state.specs.Near.{CutsIn};
 ghost use Rattle.engine_state.specs.Entering.{with_names, EntryFits, EntryRefused};
-ghost use Rattle.engine_state.specs.Stands.{IsSized, SameFrames, state_of, page_of, frames};
+ghost use Rattle.engine_state.specs.Stands.{IsSized, SameFrames, state_of, page_of};
 ghost use Rattle.engine_state.specs.Rules.{world_of, onward_of, enters_of, name_moves, scanning_of, Takes, Meets, Nexts, SameReadings, next_moves};
 ghost use Rattle.engine_state.specs.Steps.{weight, IsSkipped, IsOver, NextStepsIf, next_met, next_free};
-ghost use Rattle.engine_state.specs.declared.outcome.Ruled.TheVariants.{Halted};
 ghost use Rattle.frames.specs.declared.scan.Want.{Want as ScanWant};
 
 use crate::broken::Broken;
@@ -28,7 +26,7 @@ use world_io::Sink;
 
 impl Engine {
     /// The token that a line gives. A name that joins those that are entered gets its location with them.
-    pub fn resolve(&mut self, lexed: Lexed, enters: bool) -> Result<Token, Full>
+    fn resolve(&mut self, lexed: Lexed, enters: bool) -> Result<Token, Full>
         ensures token { IfOk result (λ t. (x : Lexeme) → IsLexeme self.old.input.buffer lexed x → t ≡ token_of enters self.old.names.names x) }
         ensures after { OnOk result ((sizes : Sizes) (x : Lexeme) → IsSized sizes self.old → IsLexeme self.old.input.buffer lexed x → self.new ≡ with_names (new_name enters self.old.names.names x) self.old) }
         ensures fits { OnOk result ((x : Lexeme) → IsLexeme self.old.input.buffer lexed x → EntryFits self.old.names (new_name enters self.old.names.names x)) }

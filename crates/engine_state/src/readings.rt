@@ -1,5 +1,5 @@
 // The open readings: frames, and what they hold.
-ghost use Rattle.std.specs.Prelude.{◌≡◌, ◌≤◌, ◌<◌, ◌+◌, ◌-◌, ◌*◌, List, [], ◌∷◌, ◌++◌, IfErr, OnOk, OnErr, Option, Some, None, IsSome, option_to_list, length};
+ghost use Rattle.std.specs.Prelude.{◌≡◌, ◌≤◌, ◌<◌, ◌+◌, ◌*◌, List, [], ◌∷◌, ◌++◌, IfErr, OnOk, OnErr, Some, None, IsSome, option_to_list, length};
 ghost use Rattle.tex_defs.specs.Places.{World};
 ghost use Rattle.tex_defs.specs.declared.Sizes.{Sizes};
 ghost use Rattle.plain_state.specs.Tables.{refusal, refused, memory, lists_words};
@@ -25,7 +25,7 @@ use tex_defs::{Full, Seen, Sizes, Table, Token};
 
 impl Engine {
     /// How many readings are open.
-    pub fn depth(&self) -> u64
+    fn depth(&self) -> u64
         ensures is { result ≡ frames self.now }
         ensures within { result ≤ self.now.outer.size + 2 }
     {
@@ -76,7 +76,7 @@ impl Engine {
     }
 
     /// A command waits behind those that wait already, if there is one.
-    pub fn wait(&mut self, waits: Option<Waiting>)
+    fn wait(&mut self, waits: Option<Waiting>)
         requires { length self.old.outer.items < self.old.outer.size }
         ensures { self.new ≡ record self.old { outer = record self.old.outer { items = self.old.outer.items ++ option_to_list waits } } }
     {
@@ -86,7 +86,7 @@ impl Engine {
     }
 
     /// Begins the list that a reading of this kind builds, if it builds one.
-    pub fn begin_list(&mut self, kind: Kind) -> Result<(), Full>
+    fn begin_list(&mut self, kind: Kind) -> Result<(), Full>
         ensures ok { OnOk result (self.new ≡ record self.old { input = record self.old.input { builds = own_lists (kind_of kind) ++ self.old.input.builds; lists = self.new.input.lists } }) }
         ensures fits { OnOk result (refused self.old.input.sizes (memory (lists_words (own_lists (kind_of kind))) (stored_words self.old.input) ∷ []) ≡ None) }
         ensures refused { IfErr result (λ full. refused self.old.input.sizes (memory (lists_words (own_lists (kind_of kind))) (stored_words self.old.input) ∷ []) ≡ Some full) }
@@ -120,7 +120,7 @@ impl Engine {
     }
 
     /// The list of the innermost frame gets the tokens of the answer, and the frame stands so behind them.
-    pub fn accept(&mut self, frame: Frame, answer: Answer) -> Result<(), Full>
+    fn accept(&mut self, frame: Frame, answer: Answer) -> Result<(), Full>
         ensures ok { OnOk result (self.new ≡ record self.old { top = Some frame; ask = answer.ask; input = record self.old.input { builds = lists_behind answer self.old.input.builds; lists = self.new.input.lists } }) }
         ensures macros { KeepsMacros self.old.input self.new.input }
         ensures fits { OnOk result (AnswerFits answer self.old.input) }
@@ -135,7 +135,7 @@ impl Engine {
     }
 
     /// A token, if there is one, goes onto the list of the innermost frame, if it has one.
-    pub fn grow(&mut self, token: Option<Token>) -> Result<(), Full>
+    fn grow(&mut self, token: Option<Token>) -> Result<(), Full>
         ensures ok { OnOk result (self.new ≡ record self.old { input = record self.old.input { builds = grown_by token self.old.input.builds; lists = self.new.input.lists } }) }
         ensures macros { KeepsMacros self.old.input self.new.input }
         ensures fits { OnOk result (IsSome token → (self.old.input.builds ≡ [] → ⊥) → refused self.old.input.sizes (memory 1 (stored_words self.old.input) ∷ []) ≡ None) }
@@ -153,7 +153,7 @@ impl Engine {
     }
 
     /// The list that the innermost reading holds goes, if there is one.
-    pub fn drop_list(&mut self)
+    fn drop_list(&mut self)
         ensures after { self.new ≡ record self.old { input = record self.old.input { builds = other_lists self.old.input.builds; lists = self.new.input.lists } } }
         ensures macros { KeepsMacros self.old.input self.new.input }
     {
@@ -163,7 +163,7 @@ impl Engine {
     }
 
     /// The list that the innermost reading holds goes, unless it has the value's tokens.
-    pub fn keep_value(&mut self, value: Value)
+    fn keep_value(&mut self, value: Value)
         ensures after { self.new ≡ record self.old { input = record self.old.input { builds = kept_lists value self.old.input.builds; lists = self.new.input.lists } } }
         ensures macros { KeepsMacros self.old.input self.new.input }
     {
@@ -212,7 +212,7 @@ impl Engine {
     }
 
     /// Feeds a frame that builds no list.
-    pub fn feed_first(&mut self, seen: Seen)
+    fn feed_first(&mut self, seen: Seen)
         ensures same { SameState self.old self.new }
         ensures lists { self.new.input ≡ self.old.input }
         ensures none { self.old.top ≡ None → self.new ≡ self.old }

@@ -1,5 +1,5 @@
 // What the engine writes.
-ghost use Rattle.std.specs.Prelude.{◌≡◌, ◌≤◌, ◌<◌, ◌+◌, ◌-◌, ◌*◌, ℕ, List, [], ◌∷◌, IfOk, IfErr, OnOk, Some, None, true, false};
+ghost use Rattle.std.specs.Prelude.{◌≡◌, ◌≤◌, ℕ, List, [], ◌∷◌, IfOk, IfErr, OnOk, None, true, false};
 ghost use Rattle.tex_defs.specs.Places.{Transcript};
 ghost use Rattle.tex_defs.specs.declared.Sizes.{Sizes};
 ghost use Rattle.tex_defs.specs.declared.Fatal.TheVariants as fatal;
@@ -14,7 +14,7 @@ ghost use Rattle.transcript.specs.Reported.{report_of, scanned_of};
 ghost use Rattle.engine_state.specs.Book.{Book};
 ghost use Rattle.engine_state.specs.Calls.{AllStand, argument_bytes};
 ghost use Rattle.engine_state.specs.Begins.{outcome_of_last, last_moves, last_bytes};
-ghost use Rattle.engine_state.specs.Stands.{IsSized, SameFrames, OnlyColumn, state_of, page_of, frames};
+ghost use Rattle.engine_state.specs.Stands.{IsSized, SameFrames, OnlyColumn, state_of, page_of};
 ghost use Rattle.engine_state.specs.Rules.{world_of, Cuts, Reports, Halts, DoesOnward};
 ghost use Rattle.engine_state.specs.Steps.{IsFree};
 ghost use Rattle.engine_state.specs.declared.outcome.Ruled.TheVariants.{Halted};
@@ -30,11 +30,11 @@ use transcript::{
 use world_io::Sink;
 
 /// The reports that a run may have, but for the last.
-pub const REPORTS_ROOM: u32 = 99;
+pub(crate) const REPORTS_ROOM: u32 = 99;
 
 impl Engine {
     /// Writes text to the transcript.
-    pub fn write_text<S: Sink>(&mut self, out: &mut S, text: &[u8]) -> Result<(), Broken>
+    pub(crate) fn write_text<S: Sink>(&mut self, out: &mut S, text: &[u8]) -> Result<(), Broken>
         ensures did { OnOk result ((sizes : Sizes) (f : FilesTold) (book : Book) → Did sizes (state_of self.old book) (state_of self.new book) (world_of f (S.told out.old) self.old) (world_of f (S.told out.new) self.new) (Written Transcript text.now ∷ [])) }
         ensures err { IfErr result (λ b. (sizes : Sizes) (f : FilesTold) (book : Book) (more : List Move) → Cuts sizes (state_of self.old book) self.new book (world_of f (S.told out.old) self.old) (world_of f (S.told out.new) self.new) (Written Transcript text.now ∷ more) b) }
         ensures only { OnlyColumn self.old self.new }
@@ -62,7 +62,11 @@ impl Engine {
     }
 
     /// Writes what is shown of a text or a definition that runs away: the list that the innermost reading holds.
-    pub fn write_runaway<S: Sink>(&mut self, out: &mut S, what: Scanned) -> Result<(), Broken>
+    pub(crate) fn write_runaway<S: Sink>(
+        &mut self,
+        out: &mut S,
+        what: Scanned,
+    ) -> Result<(), Broken>
         requires { self.old.input.builds ≡ [] → ⊥ }
         ensures did { OnOk result ((sizes : Sizes) (f : FilesTold) (book : Book) → Did sizes (state_of self.old book) (state_of self.new book) (world_of f (S.told out.old) self.old) (world_of f (S.told out.new) self.new) (Written Transcript (runaway_bytes (scanned_of what) self.old.categories self.old.names.names self.old.in_line (first_list self.old.input.builds)) ∷ [])) }
         ensures err { IfErr result (λ b. (sizes : Sizes) (f : FilesTold) (book : Book) (more : List Move) → Cuts sizes (state_of self.old book) self.new book (world_of f (S.told out.old) self.old) (world_of f (S.told out.new) self.new) (Written Transcript (runaway_bytes (scanned_of what) self.old.categories self.old.names.names self.old.in_line (first_list self.old.input.builds)) ∷ more) b) }
@@ -131,7 +135,7 @@ impl Engine {
     }
 
     /// Writes a report.
-    pub fn write_report<S: Sink>(&mut self, out: &mut S, report: Report) -> Result<(), Broken>
+    fn write_report<S: Sink>(&mut self, out: &mut S, report: Report) -> Result<(), Broken>
         ensures did { OnOk result ((sizes : Sizes) (f : FilesTold) (book : Book) → Did sizes (state_of self.old book) (state_of self.new book) (world_of f (S.told out.old) self.old) (world_of f (S.told out.new) self.new) (Written Transcript (report_bytes self.old.names.names self.old.in_line self.old.input.pending.number (report_of report)) ∷ [])) }
         ensures err { IfErr result (λ b. (sizes : Sizes) (f : FilesTold) (book : Book) (more : List Move) → Cuts sizes (state_of self.old book) self.new book (world_of f (S.told out.old) self.old) (world_of f (S.told out.new) self.new) (Written Transcript (report_bytes self.old.names.names self.old.in_line self.old.input.pending.number (report_of report)) ∷ more) b) }
         ensures only { OnlyColumn self.old self.new }

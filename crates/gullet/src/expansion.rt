@@ -1,6 +1,6 @@
 // A token is expanded where it can be.
 // *The TeXbook*, chapter 20; *TeX: The Program*, part 25 (`get_x_token`, `expand`).
-ghost use Rattle.std.specs.Prelude.{◌≡◌, ◌<◌, IfOk, IfErr, OnOk, List, Option, None};
+ghost use Rattle.std.specs.Prelude.{◌≡◌, ◌<◌, IfOk, IfErr, OnOk, List, None};
 ghost use Rattle.tex_defs.specs.declared.Sizes.{Sizes};
 ghost use Rattle.plain_state.specs.Pending.{pulled};
 ghost use Rattle.plain_state.specs.States.{Reading};

@@ -1,5 +1,5 @@
 // A macro is defined.
-ghost use Rattle.std.specs.Prelude.{◌≡◌, ◌≢◌, [], length, drop, MatchBool};
+ghost use Rattle.std.specs.Prelude.{◌≡◌, ◌≢◌, [], drop, MatchBool};
 ghost use Rattle.tex_defs.specs.Places.{World};
 ghost use Rattle.tex_defs.specs.declared.Sizes.{Sizes};
 ghost use Rattle.frames.specs.Sees.{first_list};

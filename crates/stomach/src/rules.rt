@@ -1,9 +1,8 @@
 // The rules: what becomes of tokens, and of what the readings ask for.
-ghost use Rattle.std.specs.Prelude.{◌≡◌, ◌<◌, ◌+◌, ◌-◌, ◌*◌, List, [], ◌∷◌, ◌++◌, IfOk, IfErr, OnOk, OnErr, Option, Some, None, true, false, is_some};
+ghost use Rattle.std.specs.Prelude.{◌≡◌, ◌<◌, ◌+◌, ◌*◌, List, [], ◌∷◌, ◌++◌, IfOk, IfErr, OnOk, OnErr, Some, None, true, false, is_some};
 ghost use Rattle.tex_defs.specs.Places.{World};
 ghost use Rattle.tex_defs.specs.declared.Sizes.{Sizes};
 ghost use Rattle.plain_state.specs.Pending.{pulled};
-ghost use Rattle.plain_state.specs.Names as names;
 ghost use Rattle.plain_state.specs.Readings.{Flag as FlagValue};
 ghost use Rattle.plain_state.specs.States.{Reading, Move, Ended as EndedMove};
 ghost use Rattle.plain_machine.specs.Plan.{effect as effect_moves, given_back, told, is_told};
@@ -20,7 +19,6 @@ ghost use Rattle.engine_state.specs.Near.{CutsIn};
 ghost use Rattle.engine_state.specs.Stands.{Stands, Waits, EndsHere, IsLast, Counts, SameFrames, state_of, page_of, frames};
 ghost use Rattle.engine_state.specs.Rules.{world_of, plan_of, feeds_of, onward_of, Takes, Cuts, Went, DoesRule, DoesOnward};
 ghost use Rattle.engine_state.specs.Steps.{stepping, IsStep, IsFree, IsHalted, StepsIf, pending_weight, frame_weight, weight};
-ghost use Rattle.engine_state.specs.declared.outcome.Ruled.TheVariants.{Halted};
 ghost use Rattle.stomach.specs.Reactions.{FitsOnward, onward_moves};
 ghost use Rattle.gullet.specs.Stepping.{Stays};
 ghost use Rattle.engine_state.specs.Rules.{SameReadings, next_moves};

@@ -1,5 +1,5 @@
 // Runs: rules, one after another.
-ghost use Rattle.std.specs.Prelude.{◌≡◌, ◌<◌, ◌+◌, ◌-◌, IfOk, IfErr, OnOk, Option, Some, None, true, false};
+ghost use Rattle.std.specs.Prelude.{◌≡◌, IfOk, IfErr, OnOk, None, true};
 ghost use Rattle.tex_defs.specs.declared.Sizes.{Sizes};
 ghost use Rattle.world_io.specs.Told.{FilesTold};
 ghost use Rattle.engine_state.specs.Book.{Book};
@@ -8,7 +8,6 @@ ghost use Rattle.engine_state.specs.Stands.{state_of};
 ghost use Rattle.engine_state.specs.Rules.{world_of};
 ghost use Rattle.engine_state.specs.Steps.{stepping};
 ghost use Rattle.stomach.specs.Ran.{Ran, Settles, CutBy};
-ghost use Rattle.engine_state.specs.declared.outcome.Ruled.TheVariants.{Halted};
 
 use crate::rules::rule;
 use engine_state::{Broken, Engine, Outcome, Ruled};
