@@ -1,5 +1,5 @@
 // The engine: what it keeps of the machine's state.
-ghost use Rattle.std.specs.Prelude.{◌≡◌, List, [], ◌∷◌, IfOk, IfErr, OnOk, None, false, option_map};
+ghost use Rattle.std.specs.Prelude.{◌≡◌, List, [], ◌∷◌, IfOk, IfErr, OnOk, None, false};
 ghost use Rattle.tex_defs.specs.Places.{Transcript, World};
 ghost use Rattle.tex_defs.specs.Sizes.{first_out_of_range};
 ghost use Rattle.tex_defs.specs.declared.Sizes.{Sizes};
@@ -13,6 +13,7 @@ ghost use Rattle.plain_state.specs.States.{Move, Kept, Written};
 ghost use Rattle.plain_machine.specs.Plan.{no_file};
 ghost use Rattle.plain_machine.specs.Does.{Did};
 ghost use Rattle.world_io.specs.Told.{FilesTold};
+ghost use Rattle.input_state.specs.Stored.{no_bytes};
 ghost use Rattle.engine_state.specs.Book.{Book};
 ghost use Rattle.engine_state.specs.Begins.{outcome_of};
 ghost use Rattle.engine_state.specs.Stands.{Stands, IsSized, IsSound, SameFrames, OnlyColumn, state_of};
@@ -78,20 +79,15 @@ fn initial_categories() -> [u8; 256]
 }
 
 impl Engine {
-    /// An engine at the beginning of a job, whose bytes are these where its file is held.
+    /// An engine at the beginning of a job, whose file is held or not, and of which no byte has come.
     ///
     /// # Errors
     /// There is no room for the tables. No other call takes memory.
-    pub fn new(
-        alloc: Global,
-        sizes: &Sizes,
-        quiet: bool,
-        bytes: Option<Vec<u8>>,
-    ) -> Result<Engine, AllocError>
+    pub fn new(alloc: Global, sizes: &Sizes, quiet: bool, held: bool) -> Result<Engine, AllocError>
         requires { first_out_of_range sizes.now ≡ None }
-        ensures { IfOk result (λ e. Begins sizes.now e quiet (option_map (λ v. v.items) bytes)) }
+        ensures { IfOk result (λ e. Begins sizes.now e quiet (no_bytes held)) }
     {
-        let input = Input::new(alloc, sizes, bytes)?;
+        let input = Input::new(alloc, sizes, held)?;
         let names = match NameTable::new(alloc, sizes) {
             Ok(names) => names,
             Err(e) => {

@@ -1,16 +1,21 @@
 -- Whether a token or a line comes next.
-use Rattle.std.proofs.Common.{◌≡◌, ℕ, ◌<◌, ◌≤◌, List, [], ◌∷◌, refl, ap, inl, inr, drop, length, true, false, arith}
-use Rattle.std.specs.Prelude.{nat_lt}
+use Rattle.std.proofs.Common.{◌≡◌, ℕ, ◌<◌, ◌≤◌, List, [], ◌∷◌, refl, ap, subst, ◌∙◌, inl, inr, drop, length, Bool, true, false, arith}
+use Rattle.std.specs.Prelude.{nat_lt, nat_le, ◌&&◌, not}
 use Rattle.std.proofs.lemmas.Bool.{cases_lt}
 use Rattle.std.proofs.lemmas.Bool.Decides.{nat_tests}
 use Rattle.plain_state.specs.Lex as lex
 use Rattle.plain_state.specs.Lex.{lexed}
 use Rattle.plain_state.specs.Puts.{Item, Put, passed, passed_top, without_gaps}
-use Rattle.plain_state.specs.Pending.{Pending, Begun, pulled, from_front, from_list, from_line, from_file}
+use Rattle.plain_state.specs.Lines.{has_feed}
+use Rattle.plain_state.specs.Pending.{Pending, Progress, NotBegun, Begun, Closed, pulled, takes_file, from_front, from_list, from_line, from_file}
 use Rattle.line_lexer.specs.declared.Ahead.TheVariants as ahead
 use Rattle.line_lexer.specs.Answers.{looks_of}
 use Rattle.input_state.specs.Reads.{gives_step}
-use Rattle.input_state.specs.HeldLists.{ahead_of, front_ahead}
+use Rattle.input_state.specs.HeldLists.{HeldLists, ahead_of, front_ahead}
+use Rattle.input_state.specs.Stored.{Stored}
+use Rattle.input_state.specs.InputViews.{stored_of}
+use Rattle.input_state.specs.FileLeft.{FileLeft, is_open, lacks_line}
+use Rattle.input_state.specs.NextBytes.{KnowsNext, NoFile, HasLine, TooLong, NeedsBytes}
 use Rattle.input_state.proofs.LineRests.{drop_at, drop_end}
 
 is_below : (a b : ℕ) → a < b → nat_lt a b ≡ true
@@ -67,3 +72,63 @@ front_used c p (x ∷ ps) is = cc
 -- nothing is left but the file
 pub used_up : (c : List ℕ) (p : Pending) → ahead_of c p ≡ ahead.End → (passed p.puts ≡ []) × (pulled c p ≡ from_file p.file p.number p.rest)
 used_up c p is = front_used c p (passed p.puts) is
+
+-- WHETHER THE FILE MUST GIVE MORE
+
+line_in_front : (p : Pending) (x : lex.Lexed) → (looks_of x ≡ ahead.End → ⊥) → takes_file (from_line p x) ≡ false
+line_in_front p (lex.Gives x state line) fact = refl
+line_in_front p (lex.Invalid state line) fact = refl
+line_in_front p lex.UsedUp fact = absurd (fact refl)
+
+list_in_front : (c : List ℕ) (p : Pending) (x : Put) (ps : List Put) (xs : List Item) → 0 < length xs → takes_file (from_list c p x ps xs) ≡ false
+list_in_front c p x ps [] some = absurd (omega (arith, some))
+list_in_front c p x ps (y ∷ ys) some = refl
+
+lists_in_front : (c : List ℕ) (p : Pending) (ps : List Put) → passed p.puts ≡ ps → (front_ahead c p ps ≡ ahead.End → ⊥) → takes_file (from_front c p ps) ≡ false
+lists_in_front c p [] e fact = line_in_front p (lexed c p.lex p.line) fact
+lists_in_front c p (x ∷ ps) e fact = list_in_front c p x ps x.items (head_left p.puts x ps e)
+
+-- something is left in front of the file
+pub in_front : (c : List ℕ) (p : Pending) → (ahead_of c p ≡ ahead.End → ⊥) → takes_file (pulled c p) ≡ false
+in_front c p fact = lists_in_front c p (passed p.puts) refl fact
+
+file_takes : (f : Progress) (n : ℕ) (bytes : List ℕ) → takes_file (from_file f n bytes) ≡ true
+file_takes NotBegun n bytes = refl
+file_takes Begun n [] = refl
+file_takes Begun n (c ∷ cs) = refl
+file_takes Closed n bytes = refl
+
+at_file : (c : List ℕ) (p : Pending) → ahead_of c p ≡ ahead.End → takes_file (pulled c p) ≡ true
+at_file c p is = ap takes_file (used_up c p is).1 ∙ file_takes p.file p.number p.rest
+
+is_few : (n size : ℕ) → nat_le n size ≡ true → n ≤ size
+is_few n size is = grind (arith, nat_tests)
+
+is_many : (n size : ℕ) → nat_le n size ≡ false → size < n
+is_many n size is = grind (arith, nat_tests)
+
+knows : (s : Stored) (c : List ℕ) (f : Progress) (feed : Bool) → s.pending.file ≡ f → has_feed s.pending.rest ≡ feed → (is_open f && (not feed && nat_le (length s.pending.rest) s.sizes.buffer_size)) ≡ false → KnowsNext s c
+knows s c Closed feed file line fact = NoFile file
+knows s c NotBegun true file line fact = HasLine line
+knows s c NotBegun false file line fact = TooLong (is_many _ _ fact)
+knows s c Begun true file line fact = HasLine line
+knows s c Begun false file line fact = TooLong (is_many _ _ fact)
+
+needs : (s : Stored) (c : List ℕ) (f : Progress) (feed : Bool) → ahead_of c s.pending ≡ ahead.End → s.pending.file ≡ f → has_feed s.pending.rest ≡ feed → (is_open f && (not feed && nat_le (length s.pending.rest) s.sizes.buffer_size)) ≡ true → NeedsBytes s c
+needs s c Closed feed end file line fact = cc
+needs s c NotBegun true end file line fact = cc
+needs s c NotBegun false end file line fact = record { at_file = at_file c s.pending end; not_closed = λ e. cc; no_line = line; few = is_few _ _ fact }
+needs s c Begun true end file line fact = cc
+needs s c Begun false end file line fact = record { at_file = at_file c s.pending end; not_closed = λ e. cc; no_line = line; few = is_few _ _ fact }
+
+module _ (c : List ℕ) (h : HeldLists) (b : List ℕ) (f : FileLeft) (s : Stored) (is : stored_of h b f ≡ s) (size : f.buffer_size ≡ h.sizes.buffer_size) where
+  sized : (x : Bool) → lacks_line f ≡ x → (is_open f.file && (not (has_feed f.rest) && nat_le (length f.rest) h.sizes.buffer_size)) ≡ x
+  sized x e = subst (λ (n : ℕ). (is_open f.file && (not (has_feed f.rest) && nat_le (length f.rest) n)) ≡ x) size e
+
+  -- the next line is known, or won't be taken
+  pub knows_next : lacks_line f ≡ false → KnowsNext s c
+  knows_next fact = subst (λ (v : Stored). KnowsNext v c) is (knows (stored_of h b f) c f.file (has_feed f.rest) refl refl (sized false fact))
+
+  pub needs_bytes : ahead_of c s.pending ≡ ahead.End → lacks_line f ≡ true → NeedsBytes s c
+  needs_bytes end fact =
+      subst (λ (v : Stored). ahead_of c v.pending ≡ ahead.End → NeedsBytes v c) is (λ e. needs (stored_of h b f) c f.file (has_feed f.rest) e refl refl (sized true fact)) end

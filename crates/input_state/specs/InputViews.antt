@@ -23,3 +23,4 @@ pub record IsTied (held : HeldLists) (buffer : List ℕ) (file : FileLeft) : Typ
   pub tied : line_levels held.line ≡ file_levels file.file
   pub in_buffer : IsLineIn held.line (length buffer)
   pub size : length buffer ≡ held.sizes.buffer_size
+  pub file_size : file.buffer_size ≡ held.sizes.buffer_size

@@ -1,5 +1,5 @@
 -- All lists of a run, and all that is still to be read.
-use Rattle.std.specs.Prelude.{ℕ, ◌+◌, List, [], ◌∷◌, ◌++◌, Option, None, Some}
+use Rattle.std.specs.Prelude.{ℕ, ◌+◌, Bool, true, false, List, [], ◌∷◌, ◌++◌, Option, None, Some}
 use Rattle.tex_defs.specs.declared.Token.{Token}
 use Rattle.tex_defs.specs.declared.Meaning.{Meaning}
 use Rattle.tex_defs.specs.declared.Full.{Full}
@@ -58,3 +58,8 @@ closed = record { puts = []; line = []; lex = NewLine; rest = []; file = Closed;
 abbrev pub unread : Option (List ℕ) → Pending
 unread None = closed
 unread (Some bytes) = record { puts = []; line = []; lex = NewLine; rest = bytes; file = NotBegun; number = 0 }
+
+-- a file of which no byte has come, where one is held
+abbrev pub no_bytes : Bool → Option (List ℕ)
+no_bytes true = Some []
+no_bytes false = None

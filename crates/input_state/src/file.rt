@@ -1,11 +1,19 @@
-// The job's file, whose bytes are read before the run.
-ghost use Rattle.std.specs.Prelude.{◌≡◌, ◌≢◌, ◌≤◌, ◌<◌, ◌+◌, [], length, drop, true, false};
+// The job's file, whose bytes come by pieces.
+ghost use Rattle.std.specs.Prelude.{◌≡◌, ◌≢◌, ◌≤◌, ◌<◌, ◌+◌, ◌^◌, ◌++◌, [], length, drop, true, false, IfOk, nat_le, if◌then◌else◌};
 ghost use Rattle.plain_state.specs.Pending as pending;
 ghost use Rattle.plain_state.specs.Pending.{from_file};
+ghost use Rattle.input_state.specs.FileLeft.{lacks_line};
 ghost use Rattle.input_state.specs.Reads.{gives_step};
 
-use std::alloc::Global;
+use crate::lines::find_feed;
+use std::alloc::{AllocError, Global};
 use std::marker::Model;
+
+/// How many bytes come at once.
+const WINDOW: usize = 256;
+
+/// The line's number and the count of the bytes that are left pass this together by no more than the first line.
+const MOST: u64 = 1 << 62;
 
 /// How far a file is read: not at all, in its lines, or behind its last.
 #[derive(Clone, Copy, Debug, PartialEq, Eq)]
@@ -15,50 +23,50 @@ pub enum Progress {
     Closed,
 }
 
-/// The bytes of the file, how many of them were read, and the number of the line, 0 where the file isn't open.
+/// The bytes of the file that came and weren't dropped, how many of them were read, the number of the line, 0 where
+/// the file isn't open, and the buffer size.
 #[derive(Debug, Drop)]
 pub struct JobFile {
     bytes: Vec<u8>,
     next: usize,
     progress: Progress,
     number: u64,
+    buffer_size: u32,
 }
 
 impl Model for JobFile {
+    ghost use Rattle.std.specs.Prelude.{vec_capacity};
     ghost use Rattle.input_state.specs.FileLeft.{FileLeft};
 
     ghost Value = { FileLeft };
 
     ghost use Rattle.input_state.specs.FileViews.{left_of, IsWithin};
 
-    ghost view = { λ f. left_of f.bytes.items f.next f.progress f.number };
+    ghost view = { λ f. left_of f.bytes.items f.next f.progress f.number f.buffer_size };
 
-    ghost invariant = { λ f. IsWithin f.bytes.items f.next f.progress f.number };
+    ghost invariant = { λ f. IsWithin f.bytes.items f.next f.progress f.number f.buffer_size (vec_capacity f.bytes) };
 }
 
 impl JobFile {
-    /// A file of these bytes, none of them read.
-    pub fn new(bytes: Vec<u8>) -> Self
-        ensures { result ≡ record { rest = bytes.items; file = pending.NotBegun; number = 0 } }
+    /// A file of which no byte has come, where one is held, and room for all that is held at once.
+    ///
+    /// # Errors
+    /// There is no room for it. No other call takes memory.
+    pub fn new(alloc: Global, buffer_size: u32, held: bool) -> Result<Self, AllocError>
+        ensures { IfOk result (λ f. f ≡ record { rest = []; file = (if held then pending.NotBegun else pending.Closed); number = 0; buffer_size = buffer_size }) }
     {
-        JobFile {
-            bytes,
+        let progress = if held {
+            Progress::NotBegun
+        } else {
+            Progress::Closed
+        };
+        Ok(JobFile {
+            bytes: Vec::with_capacity(alloc, buffer_size as usize + WINDOW)?,
             next: 0,
-            progress: Progress::NotBegun,
+            progress,
             number: 0,
-        }
-    }
-
-    /// No file.
-    pub fn closed(alloc: Global) -> Self
-        ensures { result ≡ record { rest = []; file = pending.Closed; number = 0 } }
-    {
-        JobFile {
-            bytes: Vec::new(alloc),
-            next: 0,
-            progress: Progress::Closed,
-            number: 0,
-        }
+            buffer_size,
+        })
     }
 
     ghost use Rattle.input_state.specs.FileViews.{progress_of};
@@ -94,12 +102,44 @@ impl JobFile {
         }
     }
 
+    /// Whether the next line isn't known before more bytes come, or the file's end.
+    pub fn lacks_line(&self) -> bool
+        ensures { result ≡ lacks_line self.now }
+    {
+        if self.progress == Progress::Closed {
+            return false;
+        }
+        let rest = self.rest();
+        rest.len() <= self.buffer_size as usize && find_feed(rest) == rest.len()
+    }
+
+    /// Whether the lines can still be counted where a window more comes.
+    pub fn counts_on(&self) -> bool
+        ensures { result ≡ nat_le (self.now.number + (length self.now.rest + 256)) (2 ^ 62) }
+    {
+        self.number + (self.rest().len() + WINDOW) as u64 <= MOST
+    }
+
+    /// The next bytes came, and those of the lines that were taken go.
+    pub fn add(&mut self, bytes: &[u8])
+        requires room { length self.old.rest ≤ self.old.buffer_size }
+        requires window { length bytes.now ≤ 256 }
+        requires counts { self.old.number + (length self.old.rest + length bytes.now) ≤ 2 ^ 62 }
+        ensures { self.new ≡ record self.old { rest = self.old.rest ++ bytes.now } }
+    {
+        drop(self.bytes.drain(..self.next));
+        self.next = 0;
+        let Ok(()) = self.bytes.extend_from_slice(bytes) else {
+            unreachable!()
+        };
+    }
+
     /// A line was taken, which took up so many bytes.
     pub fn go_on(&mut self, used: usize)
         requires within { used ≤ length self.old.rest }
         requires some { self.old.file ≡ pending.Begun → 0 < used }
         requires open { self.old.file ≢ pending.Closed }
-        ensures { self.new ≡ record { rest = drop used self.old.rest; file = pending.Begun; number = self.old.number + 1 } }
+        ensures { self.new ≡ record { rest = drop used self.old.rest; file = pending.Begun; number = self.old.number + 1; buffer_size = self.old.buffer_size } }
     {
         self.next += used;
         self.progress = Progress::Begun;
@@ -108,7 +148,7 @@ impl JobFile {
 
     /// The file goes.
     pub fn close(&mut self)
-        ensures { self.new ≡ record { rest = []; file = pending.Closed; number = 0 } }
+        ensures { self.new ≡ record { rest = []; file = pending.Closed; number = 0; buffer_size = self.old.buffer_size } }
     {
         self.next = self.bytes.len();
         self.progress = Progress::Closed;

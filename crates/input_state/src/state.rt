@@ -1,5 +1,5 @@
 // The input of a run.
-ghost use Rattle.std.specs.Prelude.{◌≡◌, ◌≢◌, ℕ, true, ◌≤◌, ◌<◌, ◌+◌, ◌++◌, [], ◌∷◌, None, Some, IsSome, IfSome, IfOk, IfErr, OnOk, OnErr, MatchResult, MatchBool, length, drop, replicate};
+ghost use Rattle.std.specs.Prelude.{◌≡◌, ◌≢◌, ℕ, true, false, ◌≤◌, ◌<◌, ◌+◌, ◌++◌, [], ◌∷◌, None, Some, IsSome, IfSome, IfOk, IfErr, OnOk, OnErr, MatchResult, MatchBool, length, drop, replicate};
 ghost use Rattle.std.specs.Option.{option_map};
 ghost use Rattle.tex_defs.specs.Sizes.{first_out_of_range};
 ghost use Rattle.plain_state.specs.Names.{is_known};
@@ -27,7 +27,8 @@ ghost use Rattle.input_state.specs.CallFeeds.{IsTaking, Feeds, CutShort, growth,
 ghost use Rattle.macro_call.specs.PlainScans.{first_scan, cut_scan, settled_scan};
 ghost use Rattle.macro_call.specs.Modes.{mode_of};
 ghost use Rattle.input_state.specs.FileViews.{progress_of};
-ghost use Rattle.input_state.specs.Stored.{KeepsMacros, call_refusal, put_refusal, words, unread, closed};
+ghost use Rattle.input_state.specs.NextBytes.{KnowsNext, NeedsBytes, CountsOn, with_bytes};
+ghost use Rattle.input_state.specs.Stored.{KeepsMacros, call_refusal, put_refusal, words, unread, no_bytes, closed};
 ghost use Rattle.input_state.specs.Reads.{GivesTo, Pulls, pull_refusal, RefusesLine, gives_step};
 
 use crate::file::{JobFile, Progress};
@@ -123,21 +124,22 @@ fn open_line(held: &mut Held, progress: Progress, line: Line)
 }
 
 impl Input {
-    /// The job's file, where there is one, with none of its bytes read, and room for all that these sizes admit.
+    /// The job's file, where one is held, of which no byte has come, and room for all that these sizes admit.
     ///
     /// # Errors
     /// There is no room for them. No other call takes memory.
-    pub fn new(alloc: Global, sizes: &Sizes, bytes: Option<Vec<u8>>) -> Result<Input, AllocError>
+    pub fn new(alloc: Global, sizes: &Sizes, held: bool) -> Result<Input, AllocError>
         requires { first_out_of_range sizes.now ≡ None }
-        ensures { IfOk result (λ i. i ≡ record { pending = unread (option_map (λ v. v.items) bytes); making = None; call = NotCalling; builds = []; buffer = i.buffer; sizes = sizes.now; meanings = first_meanings is_known; hash_size = sizes.now.hash_size; lists = replicate sizes.now.main_memory_size [] }) }
+        ensures { IfOk result (λ i. i ≡ record { pending = unread (no_bytes held); making = None; call = NotCalling; builds = []; buffer = i.buffer; sizes = sizes.now; meanings = first_meanings is_known; hash_size = sizes.now.hash_size; lists = replicate sizes.now.main_memory_size [] }) }
     {
         let buffer = vec![in alloc; 0; sizes.buffer_size as usize]?;
-        let held = Held::new(alloc, sizes)?;
-        let file = match bytes {
-            Some(bytes) => JobFile::new(bytes),
-            None => JobFile::closed(alloc),
-        };
-        Ok(Input { held, buffer, file })
+        let file = JobFile::new(alloc, sizes.buffer_size, held)?;
+        let lists = Held::new(alloc, sizes)?;
+        Ok(Input {
+            held: lists,
+            buffer,
+            file,
+        })
     }
 
     /// The bytes of the line buffer.
@@ -408,6 +410,36 @@ impl Input {
             Ahead::Invalid => false,
             Ahead::End => self.file.has_line(),
         }
+    }
+
+    /// Whether the file must give more before it is known what the next reading gives. In the middle of a line that is
+    /// told by what stands next; no byte of the file is looked at.
+    pub fn needs_bytes(&self, categories: &[u8; 256]) -> bool
+        ensures ready { result ≡ false → KnowsNext self.now categories.now }
+        ensures needs { result ≡ true → NeedsBytes self.now categories.now }
+    {
+        match self.looks(categories) {
+            Ahead::Token | Ahead::Invalid => false,
+            Ahead::End => self.file.lacks_line(),
+        }
+    }
+
+    /// Whether the lines of the file can still be counted where a window of 256 bytes more comes: the line's number and
+    /// the bytes that are left are at most 2^62 then.
+    pub fn counts_on(&self) -> bool
+        ensures { MatchBool result (CountsOn 256 self.now.pending) (CountsOn 256 self.now.pending → ⊥) }
+    {
+        self.file.counts_on()
+    }
+
+    /// The next bytes of the file came, behind those that are left of it.
+    pub fn add_bytes(&mut self, bytes: &[u8])
+        requires room { length self.old.pending.rest ≤ self.old.sizes.buffer_size }
+        requires window { length bytes.now ≤ 256 }
+        requires counts { CountsOn (length bytes.now) self.old.pending }
+        ensures { self.new ≡ record self.old { pending = with_bytes bytes.now self.old.pending } }
+    {
+        self.file.add(bytes);
     }
 
     /// A token with what it means now: a character means itself.

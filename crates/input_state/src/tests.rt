@@ -1,6 +1,6 @@
 //! A file that is read to its end, lists that are gathered, made and put in front, and tables that are full.
 
-ghost use Rattle.std.specs.Prelude.{◌≡◌, ◌<◌, [], None, length};
+ghost use Rattle.std.specs.Prelude.{◌≡◌, ◌<◌, ◌≤◌, [], None, length};
 ghost use Rattle.tex_defs.specs.Sizes.{first_out_of_range};
 ghost use Rattle.input_state.specs.Callings.{NotCalling};
 
@@ -51,11 +51,25 @@ fn readings(input: &mut Input) -> ([Option<Pulled>; 8], u64, Option<[u8; 2]>) {
     (told, number, letters)
 }
 
+// The next bytes of the file come, where they are needed: whether they were.
+fn give(input: &mut Input, bytes: &[u8]) -> bool
+    requires { length bytes.now ≤ 256 }
+{
+    if !input.needs_bytes(&categories()) || !input.counts_on() {
+        return false;
+    }
+    input.add_bytes(bytes);
+    true
+}
+
 #[test]
 fn file_is_read(rt: HostRuntime) -> Result<(), Fail> {
-    let alloc = rt.alloc();
-    let bytes = b"a\\bc %x  \r\n\x7f\n".to_vec(alloc)?;
-    let mut input = Input::new(alloc, &Sizes::DEFAULT, Some(bytes))?;
+    let mut input = Input::new(rt.alloc(), &Sizes::DEFAULT, true)?;
+    let given = (
+        give(&mut input, b"a\\bc %x"),
+        give(&mut input, b"  \r\n\x7f\n"),
+        give(&mut input, b"a"),
+    );
     let ready = input.is_ready(&categories());
     let told = readings(&mut input);
     let over = input.is_ready(&categories());
@@ -73,6 +87,7 @@ fn file_is_read(rt: HostRuntime) -> Result<(), Fail> {
         Some(Pulled::FileOver),
         Some(Pulled::Nothing),
     ];
+    assert_eq!(&rt; given, (true, true, false));
     assert_eq!(&rt; (ready, over), (true, false));
     assert_eq!(&rt; told, (wanted, 2, Some(*b"bc")));
     Ok(())
@@ -104,7 +119,7 @@ fn gather_one(input: &mut Input) -> Result<(bool, bool, u32), Full> {
 
 #[test]
 fn lists_are_read(rt: HostRuntime) -> Result<(), Fail> {
-    let mut input = Input::new(rt.alloc(), &Sizes::DEFAULT, None)?;
+    let mut input = Input::new(rt.alloc(), &Sizes::DEFAULT, false)?;
     let put = put_two(&mut input);
     let gathered = gather_one(&mut input);
     let full = input.words();
@@ -166,7 +181,7 @@ fn three(input: &mut Input) -> [Option<Pulled>; 3] {
 
 #[test]
 fn macro_is_called(rt: HostRuntime) -> Result<(), Fail> {
-    let mut input = Input::new(rt.alloc(), &Sizes::DEFAULT, None)?;
+    let mut input = Input::new(rt.alloc(), &Sizes::DEFAULT, false)?;
     let undefined = call(&mut input);
     let defined = define_two(&mut input, A, B);
     let once = input.words();
@@ -211,7 +226,7 @@ fn calls_fill_the_levels(rt: HostRuntime) -> Result<(), Fail> {
         input_stack_size: 4,
         ..Sizes::DEFAULT
     };
-    let mut input = Input::new(rt.alloc(), &least, None)?;
+    let mut input = Input::new(rt.alloc(), &least, false)?;
     let _defined = define_two(&mut input, A, B);
     let mut told = [None; 5];
     for answer in &mut told {
@@ -232,12 +247,14 @@ fn calls_fill_the_levels(rt: HostRuntime) -> Result<(), Fail> {
 fn first_reading(
     rt: &HostRuntime,
     sizes: &Sizes,
-    length: usize,
+    count: usize,
 ) -> Result<Result<Pulled, Full>, Fail>
-    requires { first_out_of_range sizes.now ≡ None }
+    requires sizes { first_out_of_range sizes.now ≡ None }
+    requires few { count ≤ 256 }
 {
-    let bytes = vec![in rt.alloc(); b'a'; length]?;
-    let mut input = Input::new(rt.alloc(), sizes, Some(bytes))?;
+    let bytes = vec![in rt.alloc(); b'a'; count]?;
+    let mut input = Input::new(rt.alloc(), sizes, true)?;
+    let _given = give(&mut input, &bytes);
     let told = input.pull(&categories());
     input.close();
     Ok(told)
@@ -260,7 +277,7 @@ fn tables_are_full(rt: HostRuntime) -> Result<(), Fail> {
         main_memory_size: 100,
         ..Sizes::DEFAULT
     };
-    let mut input = Input::new(rt.alloc(), &least, None)?;
+    let mut input = Input::new(rt.alloc(), &least, false)?;
     let put = put_two(&mut input);
     let gathered = gather_all(&mut input);
     input.close();
@@ -360,7 +377,7 @@ fn work(input: &Input) -> Option<usize> {
 
 #[test]
 fn call_is_gathered(rt: HostRuntime) -> Result<(), Fail> {
-    let mut input = Input::new(rt.alloc(), &Sizes::DEFAULT, None)?;
+    let mut input = Input::new(rt.alloc(), &Sizes::DEFAULT, false)?;
     let defined = define_call(&mut input);
     let before = input.is_calling();
     let begun = (begin(&mut input), input.words());
@@ -406,7 +423,7 @@ fn growth_is_cut(rt: HostRuntime) -> Result<(), Fail> {
         main_memory_size: 100,
         ..Sizes::DEFAULT
     };
-    let mut input = Input::new(rt.alloc(), &least, None)?;
+    let mut input = Input::new(rt.alloc(), &least, false)?;
     let defined = define_delimited(&mut input);
     let begun = (begin(&mut input), input.words());
     for _list in 0..91 {
@@ -449,7 +466,7 @@ fn enter(input: &mut Input) -> bool {
 // Behind the 186 names of the primitives.
 #[test]
 fn name_is_entered(rt: HostRuntime) -> Result<(), Fail> {
-    let mut input = Input::new(rt.alloc(), &Sizes::DEFAULT, None)?;
+    let mut input = Input::new(rt.alloc(), &Sizes::DEFAULT, false)?;
     let name = Name::Word(187);
     let before = input.is_placed(name);
     let room = enter(&mut input);

@@ -3,7 +3,7 @@ ghost use Rattle.world_io.specs.Memory.{files_told};
 ghost use Rattle.line_reader.specs.Ahead.{with_ahead};
 ghost use Rattle.line_reader.specs.OpenLines.{most_readers};
 
-use crate::{Buffer, Edit, at_end, next_line};
+use crate::{Buffer, Edit, Reader, at_end, next_line};
 use std::test::Fail;
 use tex_defs::{Full, Sizes, Stop, Table};
 use world_io::{Fault, Files, InId, MemFiles};
@@ -76,6 +76,27 @@ fn lines_come_in_turn(rt: HostRuntime) -> Result<(), Fail> {
     assert!(rt; takes(&mut files, id, &mut buffer, b"\ry\rz"));
     assert_eq!(rt; at_end(&mut files, id, &mut buffer), Ok(true));
     buffer.forget(id);
+    Ok(())
+}
+
+#[test]
+fn bytes_come_by_pieces(rt: HostRuntime) -> Result<(), Fail> {
+    let mut files = MemFiles::new(rt.alloc());
+    files.add(b"a", b"xy")?;
+    let Ok(Some(id)) = files.open_in(b"a") else {
+        assert!(rt; false);
+        return Ok(());
+    };
+    let mut reader = Reader::new(id);
+    let mut window = [b'z'; 256];
+    let Ok(first) = reader.read(&mut files, &mut window) else {
+        assert!(rt; false);
+        return Ok(());
+    };
+    assert_eq!(rt; (first, reader.is_ended()), (2, false));
+    assert_eq!(rt; &window[..3], b"xyz".as_slice());
+    assert_eq!(rt; reader.read(&mut files, &mut window), Ok(0));
+    assert!(rt; reader.is_ended());
     Ok(())
 }
 

@@ -1,8 +1,9 @@
 -- Some moves done, all of them or those before one that was cut off.
-use Rattle.std.specs.Prelude.{◌≡◌, ℕ, ◌+◌, ◌≤◌, List, [], ◌∷◌, ◌++◌, take, Some, ◌⊎◌}
+use Rattle.std.specs.Prelude.{◌≡◌, ◌≢◌, ℕ, ◌+◌, ◌≤◌, true, List, [], ◌∷◌, ◌++◌, take, Some, ◌⊎◌}
 use Rattle.tex_defs.specs.Places.{World, Rose}
 use Rattle.tex_defs.specs.declared.Full.{Full}
 use Rattle.tex_defs.specs.declared.Sizes.{Sizes}
+use Rattle.plain_state.specs.Pending.{Closed, pulled, takes_file}
 use Rattle.plain_state.specs.States.{State, Move, Written}
 use Rattle.plain_state.specs.Tables.{refusal}
 use Rattle.plain_machine.specs.Plan.{Goes, next}
@@ -72,3 +73,12 @@ pub record CutAt (sizes : Sizes) (s : State) (k : ℕ) (t : State) (w w' : World
   pub refuses : Refuses sizes why m t
   pub cause : IsCause why w w'
   pub written : Wrote w w' (ms ++ front_of count m)
+
+-- A moment t of the run from s within k steps, at which nothing is left in front of the file that is open. All before it is written.
+pub record ReadAt (sizes : Sizes) (s : State) (k : ℕ) (t : State) (w w' : World) : Type 0 where
+  pub ms : List Move
+  pub moves : FitMoves sizes s ms t
+  pub within : steps ms ≤ k
+  pub file : takes_file (pulled t.categories t.pending) ≡ true
+  pub not_closed : t.pending.file ≢ Closed
+  pub written : Wrote w w' ms

@@ -5,3 +5,4 @@ pub mod Does
 pub mod Meaning
 pub mod Rows
 pub mod Numbers
+pub mod Extended

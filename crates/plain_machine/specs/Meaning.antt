@@ -12,7 +12,7 @@ use Rattle.plain_state.specs.Reports.{fresh_line}
 use Rattle.plain_machine.specs.Plan.{first_state}
 use Rattle.plain_machine.specs.Runs.{Wrote}
 use Rattle.plain_machine.specs.Bounded.{Bounded, End, AtEnd, AtSteps, AtFull}
-use Rattle.plain_machine.specs.Does.{Why, IsFault, IsWant, CutAt}
+use Rattle.plain_machine.specs.Does.{Why, IsFault, IsWant, CutAt, ReadAt}
 use Rattle.command_words.specs.Words.{Command, Options, Init, NoCommand}
 
 -- THE STOP LINES
@@ -86,6 +86,13 @@ pub record CutShort (sizes : Sizes) (s : State) (n : ℕ) (w w' : World) (why : 
   pub cut : CutAt sizes s n t w between why
   pub last : Line between w' line
 
+-- A moment of the run is written at which its file's next bytes are needed, and then a stop line.
+pub record Unread (sizes : Sizes) (s : State) (n : ℕ) (w w' : World) (line : List ℕ) : Type 0 where
+  pub t : State
+  pub between : World
+  pub read : ReadAt sizes s n t w between
+  pub last : Line between w' line
+
 -- Nothing of the run is written, and then a stop line.
 pub record NotBegun (w w' : World) (line : List ℕ) : Type 0 where
   pub between : World
@@ -110,9 +117,9 @@ Says sizes s n w w' _ IsFlawed = Ending sizes s n w w' true
 Says sizes s n w w' _ IsFatal = Fails sizes s n w w'
 Says sizes s n w w' _ IsFullTable = OutOfRoom sizes s n w w'
 Says sizes s n w w' _ IsSteps = Stops sizes s n w w' AtSteps (steps_line n)
-Says sizes s n w w' _ IsReadFault = NotBegun w w' read_fault_line
+Says sizes s n w w' _ IsReadFault = Unread sizes s n w w' read_fault_line ⊎ NotBegun w w' read_fault_line
 Says sizes s n w w' _ IsWriteFault = CutShort sizes s n w w' IsFault write_fault_line
-Says sizes s n w w' _ IsNoMemory = CutShort sizes s n w w' IsWant no_memory_line ⊎ NotBegun w w' no_memory_line
+Says sizes s n w w' _ IsNoMemory = CutShort sizes s n w w' IsWant no_memory_line ⊎ (Unread sizes s n w w' no_memory_line ⊎ NotBegun w w' no_memory_line)
 
 -- what is told of the job's file may be this
 abbrev pub IsJob : File → Option (List ℕ) → Type 0

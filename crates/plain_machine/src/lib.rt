@@ -11,6 +11,7 @@ ghost use Rattle.tex_defs.specs.declared.Table.TheVariants.{PoolSize, NumberOfSt
 ghost use Rattle.tex_defs.specs.Sizes.{default_sizes};
 ghost use Rattle.plain_machine.specs.Rows.{Writes, Runs as RunsSo, Enters, Begins, RunsWithin, Fills, FillsWithin, Fits, RowsAreRuns, EndedRowsAreWhole, RefusalsAreRuns, first_line_usual};
 ghost use Rattle.plain_machine.specs.Numbers.{NumbersAreFree};
+ghost use Rattle.plain_machine.specs.Extended.{ExtensionIsFree};
 ghost use Rattle.plain_machine.specs.Runs.{RunsAreOne, EachHasRun, SumsOfSteps};
 ghost use Rattle.plain_machine.specs.Bounded.{BoundedRunsAreOne, EachHasBounded, BoundedIsFront};
 
@@ -48,6 +49,13 @@ pub fn bounded_runs_are_fronts()
 /// What macros are called is seen nowhere: other numbers, no two of them the same, change nothing that is read, meant or counted.
 pub fn numbers_are_free()
     ensures { NumbersAreFree }
+{}
+
+/// What a file has behind its next line is seen by no rule. Where the next reading is known, whichever bytes follow in the file,
+/// the next rule does the same for all of them: its moves, done or cut off, write the same and lead to the same state, but for
+/// these bytes at the file's end, and it has as many steps.
+pub fn later_bytes_are_free()
+    ensures { ExtensionIsFree }
 {}
 
 /// What is computed of a state are its first moves: what they write, the steps among them, and the names behind them. Where

@@ -1,5 +1,5 @@
 -- What is still to be read: lists put in front, the rest of a line, the rest of a file.
-use Rattle.std.specs.Prelude.{ℕ, ◌+◌, List, [], ◌∷◌, ◌++◌}
+use Rattle.std.specs.Prelude.{ℕ, ◌+◌, Bool, true, false, List, [], ◌∷◌, ◌++◌}
 use Rattle.tex_defs.specs.declared.Token.{Token}
 use Rattle.plain_state.specs.Lines.{end_char, first_line, behind_feed}
 use Rattle.plain_state.specs.Puts.{Item, Put, settled, passed, with_put, item_token}
@@ -99,3 +99,10 @@ after_pull p (LineTaken line next) = next
 after_pull p (InvalidMet next) = next
 after_pull p (FileOver next) = next
 after_pull p NothingLeft = p
+
+-- nothing is left in front of the file
+abbrev pub takes_file : Pulled → Bool
+takes_file (LineTaken line next) = true
+takes_file (FileOver next) = true
+takes_file NothingLeft = true
+takes_file r = false

@@ -3,5 +3,9 @@ pub mod Asking
 pub mod CallSteps
 pub mod Commands
 pub mod Defining
+pub mod Giving
 pub mod Handing
+pub mod Reading
+pub mod Rounds
 pub mod Running
+pub mod Unread

@@ -1,4 +1,4 @@
--- What the engine did in a whole run.
+-- What the engine did in a whole run. The bytes that the job's file has left, beyond those that the engine holds, are `left`.
 use Rattle.std.specs.Prelude.{◌≡◌, ℕ, ◌≤◌, List, Option, Some, None}
 use Rattle.tex_defs.specs.Places.{World}
 use Rattle.tex_defs.specs.declared.Sizes.{Sizes}
@@ -6,11 +6,14 @@ use Rattle.plain_state.specs.States.{State, Move}
 use Rattle.plain_machine.specs.Plan.{Ends, next}
 use Rattle.plain_machine.specs.Runs.{Wrote, steps}
 use Rattle.plain_machine.specs.Bounded.{FitMoves, Bounded, End, AtEnd, AtSteps}
-use Rattle.plain_machine.specs.Does.{CutAt, but_due}
+use Rattle.plain_machine.specs.Does.{CutAt, ReadAt, but_due}
+use Rattle.plain_machine.specs.Extended.{extended}
 use Rattle.engine_state.specs.declared.broken.Broken.{Broken}
 use Rattle.engine_state.specs.declared.engine.Engine.{Engine}
 use Rattle.stomach.specs.declared.runs.Ended.{Ended}
 use Rattle.stomach.specs.declared.runs.Ended.TheVariants.{Halted, Steps}
+use Rattle.stomach.specs.declared.early.Early.{Early}
+use Rattle.stomach.specs.declared.early.Early.TheVariants as early
 use Rattle.engine_state.specs.declared.outcome.Outcome.{Outcome}
 use Rattle.engine_state.specs.Begins.{outcome_of}
 use Rattle.engine_state.specs.Faults.{why_of}
@@ -20,23 +23,27 @@ use Rattle.engine_state.specs.Near.{FramesNear}
 use Rattle.engine_state.specs.Stands.{state_of}
 use Rattle.engine_state.specs.Rules.{CountsReports, IsMoment}
 
+-- the machine's state that an engine stands for, whose file goes on with these bytes
+abbrev pub whole_state : List ℕ → Engine → Book → State
+whole_state left e book = extended left (state_of e book)
+
 -- The machine has come from s to where the engine is.
-pub record Came (sizes : Sizes) (s : State) (e' : Engine) (w w' : World) (k : ℕ) : Type 0 where
+pub record Came (sizes : Sizes) (s : State) (e' : Engine) (left : List ℕ) (w w' : World) (k : ℕ) : Type 0 where
   pub ms : List Move
   pub book' : Book
   pub stands : AllStand sizes e' book'
-  pub moves : FitMoves sizes s ms (state_of e' book')
+  pub moves : FitMoves sizes s ms (whole_state left e' book')
   pub count : steps ms ≡ k
   pub written : Wrote w w' ms
 
 -- A run has ended in this state: the engine stands for it, with its open readings, but for how it stopped.
-pub record IsEnd (e' : Engine) (t : State) : Type 0 where
+pub record IsEnd (e' : Engine) (left : List ℕ) (t : State) : Type 0 where
   pub book' : Book
   pub frames : FramesOf e'.call e' book'.work
-  pub same : record t { stopped = None } ≡ state_of e' book'
+  pub same : record t { stopped = None } ≡ whole_state left e' book'
 
 -- The machine has come from s to its end, behind at most k steps.
-pub record Stops (sizes : Sizes) (s : State) (e' : Engine) (w w' : World) (k : ℕ) (o : Outcome) : Type 0 where
+pub record Stops (sizes : Sizes) (s : State) (e' : Engine) (left : List ℕ) (w w' : World) (k : ℕ) (o : Outcome) : Type 0 where
   pub ms : List Move
   pub t : State
   pub moves : FitMoves sizes s ms t
@@ -44,42 +51,53 @@ pub record Stops (sizes : Sizes) (s : State) (e' : Engine) (w w' : World) (k : �
   pub ends : next t ≡ Ends
   pub stopped : t.stopped ≡ Some (outcome_of o)
   pub reports : CountsReports (outcome_of o) t e'
-  pub stands : IsEnd e' t
+  pub stands : IsEnd e' left t
   pub written : Wrote w w' ms
 
 -- The machine has come on without a step: to where one comes next, or to its end.
-abbrev pub Settles : Sizes → State → Engine → World → World → Option Outcome → Type 0
-Settles sizes s e' w w' None = Came sizes s e' w w' 0
-Settles sizes s e' w w' (Some o) = Stops sizes s e' w w' 0 o
+abbrev pub Settles : Sizes → State → Engine → List ℕ → World → World → Option Outcome → Type 0
+Settles sizes s e' left w w' None = Came sizes s e' left w w' 0
+Settles sizes s e' left w w' (Some o) = Stops sizes s e' left w w' 0 o
 
 -- The engine stands for this state, but for what is due.
-pub record IsAt (sizes : Sizes) (e' : Engine) (t : State) : Type 0 where
+pub record IsAt (sizes : Sizes) (e' : Engine) (left : List ℕ) (t : State) : Type 0 where
   pub book' : Book
   pub stands : AllStand sizes e' book'
-  pub same : but_due t ≡ state_of e' book'
+  pub same : but_due t ≡ whole_state left e' book'
 
 abbrev pub end_of : Ended → End
 end_of (Halted o) = AtEnd
 end_of Steps = AtSteps
 
-abbrev pub EndsAs : Sizes → Ended → Engine → State → Type 0
-EndsAs sizes (Halted o) e' t = (t.stopped ≡ Some (outcome_of o)) × (CountsReports (outcome_of o) t e' × IsEnd e' t)
-EndsAs sizes Steps e' t = IsAt sizes e' t
+abbrev pub EndsAs : Sizes → Ended → Engine → List ℕ → State → Type 0
+EndsAs sizes (Halted o) e' left t = (t.stopped ≡ Some (outcome_of o)) × (CountsReports (outcome_of o) t e' × IsEnd e' left t)
+EndsAs sizes Steps e' left t = IsAt sizes e' left t
 
 -- The whole run of at most n steps within the sizes, and how it ended.
-pub record Ran (sizes : Sizes) (s : State) (n : ℕ) (e' : Engine) (w w' : World) (ended : Ended) : Type 0 where
+pub record Ran (sizes : Sizes) (s : State) (n : ℕ) (e' : Engine) (left : List ℕ) (w w' : World) (ended : Ended) : Type 0 where
   pub ms : List Move
   pub t : State
   pub run : Bounded sizes s n ms t (end_of ended)
-  pub ends : EndsAs sizes ended e' t
+  pub ends : EndsAs sizes ended e' left t
   pub written : Wrote w w' ms
 
 -- The run was cut off at a moment t: at a move that a table has no room for, or that calls the outside. The engine stands for it, with
 -- its open readings, but for what is due; where a table is full a definition's list may have one token more. At a failed write its column is
 -- that of the bytes really written.
-pub record CutBy (sizes : Sizes) (s : State) (n : ℕ) (e' : Engine) (w w' : World) (b : Broken) : Type 0 where
+pub record CutBy (sizes : Sizes) (s : State) (n : ℕ) (e' : Engine) (left : List ℕ) (w w' : World) (b : Broken) : Type 0 where
   pub t : State
   pub cut : CutAt sizes s n t w w' (why_of b)
   pub book' : Book
   pub frames : FramesNear b e' book'.work
-  pub same : IsMoment (why_of b) (but_due t) (state_of e' book')
+  pub same : IsMoment (why_of b) (but_due t) (whole_state left e' book')
+
+-- The run was cut off at a moment t at which the file's next bytes were needed and didn't come. The engine stands for it.
+pub record UnreadBy (sizes : Sizes) (s : State) (n : ℕ) (e' : Engine) (left : List ℕ) (w w' : World) : Type 0 where
+  pub t : State
+  pub read : ReadAt sizes s n t w w'
+  pub at : IsAt sizes e' left t
+
+-- The run stopped early.
+abbrev pub StoppedBy : Sizes → State → ℕ → Engine → List ℕ → World → World → Early → Type 0
+StoppedBy sizes s n e' left w w' (early.Broken b) = CutBy sizes s n e' left w w' b
+StoppedBy sizes s n e' left w w' (early.Unread fault) = UnreadBy sizes s n e' left w w'

@@ -1,12 +1,15 @@
 //! The stomach: what becomes of tokens that aren't expanded, and runs of the machine's rules.
 //!
-//! [`run_steps`] goes on for at most so many steps. *The TeXbook*, chapter 24; *TeX: The Program*, parts 46 and 49
-//! (`main_control`, `prefixed_command`).
+//! [`run_steps`] goes on for at most so many steps, and reads the job's file as they need it. *The TeXbook*,
+//! chapter 24; *TeX: The Program*, parts 46 and 49 (`main_control`, `prefixed_command`).
 #![tactic(auto)]
 
+mod ahead;
 mod define;
+mod early;
 mod reactions;
 mod rules;
 mod runs;
 
+pub use early::Early;
 pub use runs::{Ended, run_steps};

@@ -1,18 +1,24 @@
 // Runs: rules, one after another.
-ghost use Rattle.std.specs.Prelude.{◌≡◌, IfOk, IfErr, OnOk, None, true};
+ghost use Rattle.std.specs.Prelude.{◌≡◌, ℕ, List, IfOk, IfErr, OnOk, MatchResult, None, true};
+ghost use Rattle.tex_defs.specs.Places.{Rose};
 ghost use Rattle.tex_defs.specs.declared.Sizes.{Sizes};
 ghost use Rattle.world_io.specs.Told.{FilesTold};
+ghost use Rattle.world_io.specs.declared.traits.Fault.TheVariants.{Failed, NoMemory};
 ghost use Rattle.engine_state.specs.Book.{Book};
 ghost use Rattle.engine_state.specs.Calls.{AllStand};
-ghost use Rattle.engine_state.specs.Stands.{state_of};
 ghost use Rattle.engine_state.specs.Rules.{world_of};
 ghost use Rattle.engine_state.specs.Steps.{stepping};
-ghost use Rattle.stomach.specs.Ran.{Ran, Settles, CutBy};
+ghost use Rattle.stomach.specs.declared.early.Early.TheVariants as early;
+ghost use Rattle.stomach.specs.Ahead.{Knows, Wanted};
+ghost use Rattle.stomach.specs.Read.{ReadsTo};
+ghost use Rattle.stomach.specs.Ran.{Ran, Settles, StoppedBy, whole_state};
 
+use crate::ahead::{read_ahead, wants_token};
+use crate::early::Early;
 use crate::rules::rule;
-use engine_state::{Broken, Engine, Outcome, Ruled};
-use frames::Ask;
-use world_io::Sink;
+use engine_state::{Engine, Outcome, Ruled};
+use line_reader::Reader;
+use world_io::{Files, Sink};
 
 /// How a run came to its end.
 #[derive(Clone, Copy)]
@@ -25,49 +31,71 @@ pub enum Ended {
 fn needs_step(engine: &Engine) -> bool
     ensures { result ≡ stepping engine.now }
 {
-    match (&engine.call, &engine.top, &engine.ask) {
-        (Some(call), _, _) => call.asks_more() && engine.input.is_ready(&engine.categories),
-        (None, None, _) => engine.input.is_ready(&engine.categories),
-        (None, Some(_), Ask::More(_)) => engine.input.is_ready(&engine.categories),
-        (None, Some(_), _) => false,
-    }
+    wants_token(engine) && engine.input.is_ready(&engine.categories)
 }
 
-/// Makes the rules that need no step, until the next one needs one or the run ends.
-fn settle<S: Sink>(engine: &mut Engine, out: &mut S) -> Result<Option<Outcome>, Broken>
+/// Makes the rules that need no step, until the next one needs one or the run ends. The file is read on where it must be.
+fn settle<F: Files, S: Sink>(
+    engine: &mut Engine,
+    reader: &mut Reader,
+    files: &mut F,
+    out: &mut S,
+) -> Result<Option<Outcome>, Early>
     requires idle { engine.old.input.making ≡ None }
+    requires is_open { (F.told files.old).reading reader.old.id ≡ true }
     ensures waits { IfOk result (λ o. o ≡ None → stepping engine.new ≡ true) }
-    ensures run { IfOk result (λ o. (sizes : Sizes) (f : FilesTold) (book : Book) → AllStand sizes engine.old book →
-        Settles sizes (state_of engine.old book) engine.new (world_of f (S.told out.old) engine.old) (world_of f (S.told out.new) engine.new) o) }
-    ensures err { IfErr result (λ b. (sizes : Sizes) (f : FilesTold) (book : Book) → AllStand sizes engine.old book →
-        CutBy sizes (state_of engine.old book) 0 engine.new (world_of f (S.told out.old) engine.old) (world_of f (S.told out.new) engine.new) b) }
+    ensures knows { IfOk result (λ o. o ≡ None → Knows engine.new reader.new) }
+    ensures run { ReadsTo reader.old reader.new (F.told files.old) (F.told files.new) (λ all left. MatchResult result
+        (λ o. (sizes : Sizes) (f : FilesTold) (book : Book) → AllStand sizes engine.old book →
+        Settles sizes (whole_state all engine.old book) engine.new left (world_of f (S.told out.old) engine.old) (world_of f (S.told out.new) engine.new) o)
+        (λ e. (sizes : Sizes) (f : FilesTold) (book : Book) → AllStand sizes engine.old book →
+        StoppedBy sizes (whole_state all engine.old book) 0 engine.new left (world_of f (S.told out.old) engine.old) (world_of f (S.told out.new) engine.new) e)) }
+    ensures fault { IfErr result (λ e. e ≡ early.Unread Failed → Rose (F.told files.old).read_faults (F.told files.new).read_faults) }
+    ensures want { IfErr result (λ e. e ≡ early.Unread NoMemory → Wanted (F.told files.old).wants (F.told files.new).wants engine.new) }
     ensures idle { OnOk result (engine.new.input.making ≡ None) }
 {
-    while !needs_step(engine) {
+    loop {
+        read_ahead(engine, reader, files)?;
+        if needs_step(engine) {
+            return Ok(None);
+        }
         match rule(engine, out)? {
             Ruled::Halted(outcome) => return Ok(Some(outcome)),
             Ruled::Step => unreachable!(),
             Ruled::Free => {}
         }
     }
-    Ok(None)
 }
 
-/// Goes on for at most n steps: to the end of the run, or to where it needs one step more.
+/// Goes on for at most n steps: to the end of the run, or to where it needs one step more. The job's file is read on by
+/// windows of 256 bytes, and only where a token is wanted and nothing is left in front of it.
 ///
 /// # Errors
-/// A table has no room for the machine's next move, or a write failed or wanted memory: the engine stands for that moment.
-pub fn run_steps<S: Sink>(engine: &mut Engine, out: &mut S, n: u64) -> Result<Ended, Broken>
+/// A table has no room for the machine's next move, a write failed or wanted memory, or the file's next bytes were needed
+/// and didn't come: the engine stands for that moment.
+pub fn run_steps<F: Files, S: Sink>(
+    engine: &mut Engine,
+    reader: &mut Reader,
+    files: &mut F,
+    out: &mut S,
+    n: u64,
+) -> Result<Ended, Early>
     requires idle { engine.old.input.making ≡ None }
-    ensures run { IfOk result (λ ended. (sizes : Sizes) (f : FilesTold) (book : Book) → AllStand sizes engine.old book →
-        Ran sizes (state_of engine.old book) n engine.new (world_of f (S.told out.old) engine.old) (world_of f (S.told out.new) engine.new) ended) }
-    ensures err { IfErr result (λ b. (sizes : Sizes) (f : FilesTold) (book : Book) → AllStand sizes engine.old book →
-        CutBy sizes (state_of engine.old book) n engine.new (world_of f (S.told out.old) engine.old) (world_of f (S.told out.new) engine.new) b) }
+    requires is_open { (F.told files.old).reading reader.old.id ≡ true }
+    // Whatever the file has left when the call ends: the machine's run from where all the bytes that it had left stand
+    // in the file is this one.
+    ensures run { ReadsTo reader.old reader.new (F.told files.old) (F.told files.new) (λ all left. MatchResult result
+        (λ ended. (sizes : Sizes) (f : FilesTold) (book : Book) → AllStand sizes engine.old book →
+        Ran sizes (whole_state all engine.old book) n engine.new left (world_of f (S.told out.old) engine.old) (world_of f (S.told out.new) engine.new) ended)
+        (λ e. (sizes : Sizes) (f : FilesTold) (book : Book) → AllStand sizes engine.old book →
+        StoppedBy sizes (whole_state all engine.old book) n engine.new left (world_of f (S.told out.old) engine.old) (world_of f (S.told out.new) engine.new) e)) }
+    ensures fault { IfErr result (λ e. e ≡ early.Unread Failed → Rose (F.told files.old).read_faults (F.told files.new).read_faults) }
+    ensures want { IfErr result (λ e. e ≡ early.Unread NoMemory → Wanted (F.told files.old).wants (F.told files.new).wants engine.new) }
     ensures idle { OnOk result (engine.new.input.making ≡ None) }
 {
     let mut taken = 0;
     loop {
-        if let Some(outcome) = settle(engine, out)? {
+        if let Some(outcome) = settle(engine, reader, files, out)? {
             return Ok(Ended::Halted(outcome));
         }
         if taken == n {

@@ -1,7 +1,7 @@
 -- From the engine's run to what the program means.
-use Rattle.std.proofs.Common.{◌≡◌, inl, inr, ℕ, ◌+◌, ◌≤◌, List, [], ◌∷◌, refl, sym, ap, subst, ◌∙◌, arith, Bool, true, false}
-use Rattle.std.specs.Prelude.{Option, Some, None, IfNone, IfSome, is_some, nat_lt, if◌then◌else◌}
-use Rattle.std.specs.Option.{option_map}
+use Rattle.std.proofs.Common.{◌≡◌, inl, inr, ℕ, ◌≤◌, List, [], ◌∷◌, ◌++◌, refl, sym, ap, subst, ◌∙◌, arith, Bool, true, false}
+use Rattle.std.specs.Prelude.{Option, Some, None, nat_eq, nat_lt, if◌then◌else◌, ◌⊎◌}
+use Rattle.std.proofs.lemmas.Grind.{common_steps}
 use Rattle.prim_table.specs.Primitives.{primitive_names}
 use Rattle.tex_defs.specs.Places.{World, Rose, Later, File, Untold, NotHeld, Holds, Place, Transcript, OfFile}
 use Rattle.tex_defs.specs.declared.Full.{Full as FullTable}
@@ -9,15 +9,21 @@ use Rattle.tex_defs.specs.declared.Fatal.TheVariants.{NoFile}
 use Rattle.tex_defs.specs.declared.Sizes.{Sizes}
 use Rattle.plain_state.specs.States as machine
 use Rattle.plain_state.specs.States.{State, Move, Kept, AtFatal, Outcome as MachineOutcome}
+use Rattle.plain_machine.specs.Extended.{extended}
 use Rattle.plain_machine.specs.Plan.{no_file, job_due}
 use Rattle.plain_machine.specs.Runs.{Wrote, steps}
 use Rattle.plain_machine.specs.Bounded.{FitMoves}
-use Rattle.plain_machine.specs.Does.{Did, Cut, CutAt, IsCause, Why, IsFault, IsWant}
+use Rattle.plain_machine.specs.Does.{Did, Cut, IsCause, Why, IsFault}
 use Rattle.plain_machine.specs.Meaning.{First, Line, Whole, Ending, Status, IsFinished, IsFlawed, IsFatal, IsFullTable, IsSteps, IsReadFault, IsWriteFault, IsNoMemory, Says, IsJob, MeansRun, Means, sizes_of, steps_line, full_line, read_fault_line, write_fault_line, no_memory_line}
-use Rattle.plain_machine.proofs.Doing.{did_join, due_did, due_cut, CutOff, cut_behind, cut_within, full_end, full_wrote, wrote_none, wrote_join}
+use Rattle.plain_machine.proofs.Extending.{still_cut, still_did}
+use Rattle.plain_machine.proofs.Pulls.{pulls}
+use Rattle.plain_machine.proofs.Doing.{later_on, rose_to, did_join, due_did, due_cut, CutOff, full_end, full_wrote, wrote_none}
 use Rattle.plain_machine.proofs.Joins.{made_all_due, all_fit_due, refuses_due, due_none, stopped_ends}
 use Rattle.command_words.specs.Words.{Command, Init, NoCommand, job_name}
-use Rattle.world_io.specs.Told.{FilesTold, SinkTold, SameFiles, NotFound, IsContent, world}
+use Rattle.world_io.specs.declared.traits.Fault.{Fault}
+use Rattle.world_io.specs.Told.{FilesTold, SinkTold, SameFiles, SoFar, NotFound, MayHold, IsAtEnd, OpensReader, ClosesReader, OnlyReads, content, world}
+use Rattle.world_io.proofs.Reading.{closed_again}
+use Rattle.line_reader.specs.Readers.{OpenReader, KnowsEnd}
 use Rattle.engine_state.specs.declared.engine.Engine.{Engine}
 use Rattle.stomach.specs.declared.runs.Ended.{Ended}
 use Rattle.stomach.specs.declared.runs.Ended.TheVariants.{Halted, Steps}
@@ -31,30 +37,33 @@ use Rattle.engine_state.specs.First.{Begins}
 use Rattle.engine_state.specs.Book.{Book, first_book}
 use Rattle.engine_state.specs.Stands.{Stands, FramesStand, SameFrames, state_of}
 use Rattle.engine_state.specs.Rules.{world_of, Halts, Cuts}
-use Rattle.stomach.specs.Ran.{Came, Ran, CutBy}
+use Rattle.stomach.specs.declared.early.Early.{Early}
+use Rattle.stomach.specs.declared.early.Early.TheVariants as early
+use Rattle.stomach.specs.Ran.{Came, Ran, CutBy, UnreadBy, StoppedBy, whole_state}
+use Rattle.stomach.specs.Read.{CameOn, MayLeave}
 use Rattle.tex_program.specs.Says.{SaysSo, end_status}
 use Rattle.engine_state.proofs.Bare.{all_of}
 use Rattle.engine_state.proofs.Nearing.{near_none}
 use Rattle.engine_state.proofs.Cutting.{later_cuts}
 use Rattle.engine_state.proofs.Reporting.{frames_still}
-use Rattle.stomach.proofs.Running.{same_moment}
+use Rattle.stomach.proofs.Running.{same_moment, whole_moment}
 
 -- A RUN'S STATUS
 
-module _ (sizes : Sizes) (s : State) (n : ℕ) (w m w' : World) (e : Engine) where
-  pub broken_fault : (b : Broken) → b ≡ broken.WriteFault → CutBy sizes s n e w m b → Line m w' write_fault_line → SaysSo sizes s n w w' 6
+module _ (sizes : Sizes) (s : State) (n : ℕ) (w m w' : World) (e : Engine) (left : List ℕ) where
+  pub broken_fault : (b : Broken) → b ≡ broken.WriteFault → CutBy sizes s n e left w m b → Line m w' write_fault_line → SaysSo sizes s n w w' 6
   broken_fault b is cut last =
-      let c : CutBy sizes s n e w m broken.WriteFault = subst (λ (x : Broken). CutBy sizes s n e w m x) is cut in
+      let c : CutBy sizes s n e left w m broken.WriteFault = subst (λ (x : Broken). CutBy sizes s n e left w m x) is cut in
       record { is = IsWriteFault; says = record { t = c.t; between = m; cut = c.cut; last = last } }
 
-  pub broken_want : (b : Broken) → b ≡ broken.Want → CutBy sizes s n e w m b → Line m w' no_memory_line → SaysSo sizes s n w w' 7
+  pub broken_want : (b : Broken) → b ≡ broken.Want → CutBy sizes s n e left w m b → Line m w' no_memory_line → SaysSo sizes s n w w' 7
   broken_want b is cut last =
-      let c : CutBy sizes s n e w m broken.Want = subst (λ (x : Broken). CutBy sizes s n e w m x) is cut in
+      let c : CutBy sizes s n e left w m broken.Want = subst (λ (x : Broken). CutBy sizes s n e left w m x) is cut in
       record { is = IsNoMemory; says = inl (record { t = c.t; between = m; cut = c.cut; last = last }) }
 
-  pub broken_full : (b : Broken) (full : FullTable) → b ≡ broken.Full full → CutBy sizes s n e w m b → Line m w' (full_line full) → SaysSo sizes s n w w' 3
+  pub broken_full : (b : Broken) (full : FullTable) → b ≡ broken.Full full → CutBy sizes s n e left w m b → Line m w' (full_line full) → SaysSo sizes s n w w' 3
   broken_full b full is cut last =
-      let c : CutBy sizes s n e w m (broken.Full full) = subst (λ (x : Broken). CutBy sizes s n e w m x) is cut in
+      let c : CutBy sizes s n e left w m (broken.Full full) = subst (λ (x : Broken). CutBy sizes s n e left w m x) is cut in
       record {
         is = IsFullTable;
         says = record {
@@ -63,33 +72,48 @@ module _ (sizes : Sizes) (s : State) (n : ℕ) (w m w' : World) (e : Engine) whe
         };
       }
 
-module _ (sizes : Sizes) (s : State) (n : ℕ) (w m w' : World) (e' : Engine) where
-  abbrev whole_of : (o : Outcome) (ran : Ran sizes s n e' w w' (Halted o)) → Whole sizes s n w w' (outcome_of o)
+  -- the file's next bytes didn't come
+  pub unread_failed : UnreadBy sizes s n e left w m → Line m w' read_fault_line → SaysSo sizes s n w w' 5
+  unread_failed h last = record { is = IsReadFault; says = inl (record { t = h.t; between = m; read = h.read; last = last }) }
+
+  pub unread_want : UnreadBy sizes s n e left w m → Line m w' no_memory_line → SaysSo sizes s n w w' 7
+  unread_want h last = record { is = IsNoMemory; says = inr (inl (record { t = h.t; between = m; read = h.read; last = last })) }
+
+-- why it stopped
+module _ (sizes : Sizes) (s : State) (n : ℕ) (w m : World) (e : Engine) (left : List ℕ) where
+  pub early_broken : (x : Early) (b : Broken) → x ≡ early.Broken b → StoppedBy sizes s n e left w m x → CutBy sizes s n e left w m b
+  early_broken x b is h = subst (λ (y : Early). StoppedBy sizes s n e left w m y) is h
+
+  pub early_unread : (x : Early) (fault : Fault) → x ≡ early.Unread fault → StoppedBy sizes s n e left w m x → UnreadBy sizes s n e left w m
+  early_unread x fault is h = subst (λ (y : Early). StoppedBy sizes s n e left w m y) is h
+
+module _ (sizes : Sizes) (s : State) (n : ℕ) (w m w' : World) (e' : Engine) (left : List ℕ) where
+  abbrev whole_of : (o : Outcome) (ran : Ran sizes s n e' left w w' (Halted o)) → Whole sizes s n w w' (outcome_of o)
   whole_of o ran = record { ms = ran.ms; t = ran.t; run = ran.run; stopped = ran.ends.0; written = ran.written }
 
-  ending_of : (ran : Ran sizes s n e' w w' (Halted Finished)) (b : Bool) → nat_lt 0 e'.reports ≡ b → Ending sizes s n w w' b
+  ending_of : (ran : Ran sizes s n e' left w w' (Halted Finished)) (b : Bool) → nat_lt 0 e'.reports ≡ b → Ending sizes s n w w' b
   ending_of ran b is = record { whole = whole_of Finished ran; reports = ap (nat_lt 0) ran.ends.1.0 ∙ is }
 
   -- a run that has ended, with a report or without
-  ended_with : (ran : Ran sizes s n e' w w' (Halted Finished)) (b : Bool) → nat_lt 0 e'.reports ≡ b → SaysSo sizes s n w w' (if b then 1 else 0)
+  ended_with : (ran : Ran sizes s n e' left w w' (Halted Finished)) (b : Bool) → nat_lt 0 e'.reports ≡ b → SaysSo sizes s n w w' (if b then 1 else 0)
   ended_with ran true is = record { is = IsFlawed; says = ending_of ran true is }
   ended_with ran false is = record { is = IsFinished; says = ending_of ran false is }
 
-  ran_halted : (o : Outcome) → Ran sizes s n e' w w' (Halted o) → SaysSo sizes s n w w' (end_status o e'.reports)
+  ran_halted : (o : Outcome) → Ran sizes s n e' left w w' (Halted o) → SaysSo sizes s n w w' (end_status o e'.reports)
   ran_halted Finished ran = ended_with ran (nat_lt 0 e'.reports) refl
   ran_halted (Fatal f) ran = record { is = IsFatal; says = record { fatal = f; whole = whole_of (Fatal f) ran } }
 
-  pub ran_ended : (ended : Ended) (o : Outcome) (status : ℕ) → ended ≡ Halted o → status ≡ end_status o e'.reports → Ran sizes s n e' w w' ended → SaysSo sizes s n w w' status
-  ran_ended ended o status is this ran = rw this (ran_halted o (subst (λ (x : Ended). Ran sizes s n e' w w' x) is ran))
+  pub ran_ended : (ended : Ended) (o : Outcome) (status : ℕ) → ended ≡ Halted o → status ≡ end_status o e'.reports → Ran sizes s n e' left w w' ended → SaysSo sizes s n w w' status
+  ran_ended ended o status is this ran = rw this (ran_halted o (subst (λ (x : Ended). Ran sizes s n e' left w w' x) is ran))
 
-  pub ran_steps : (ended : Ended) → ended ≡ Steps → Ran sizes s n e' w m ended → Line m w' (steps_line n) → SaysSo sizes s n w w' 4
+  pub ran_steps : (ended : Ended) → ended ≡ Steps → Ran sizes s n e' left w m ended → Line m w' (steps_line n) → SaysSo sizes s n w w' 4
   ran_steps ended is run last =
-      let ran : Ran sizes s n e' w m Steps = subst (λ (x : Ended). Ran sizes s n e' w m x) is run in
+      let ran : Ran sizes s n e' left w m Steps = subst (λ (x : Ended). Ran sizes s n e' left w m x) is run in
       record { is = IsSteps; says = record { ms = ran.ms; t = ran.t; between = m; run = ran.run; written = ran.written; last = last } }
 
 -- nothing is written before the line
 pub not_begun : (sizes : Sizes) (s : State) (n : ℕ) (w w' : World) → Line w w' no_memory_line → SaysSo sizes s n w w' 7
-not_begun sizes s n w w' last = record { is = IsNoMemory; says = inr (record { between = w; written = wrote_none w; last = last }) }
+not_begun sizes s n w w' last = record { is = IsNoMemory; says = inr (inr (record { between = w; written = wrote_none w; last = last })) }
 
 -- MOVES THAT ARE DUE FROM THE START
 
@@ -118,11 +142,20 @@ cut_due sizes s s' w w' ms x why c = record {
   written = c.written;
 }
 
-due_cuts : (sizes : Sizes) (s : State) (e' : Engine) (book : Book) (w w' : World) (ms : List Move) (n : ℕ) (b : Broken) → steps ms ≤ n → e'.call ≡ None → FramesStand e' book.work → Cuts sizes s e' book w w' ms b → CutBy sizes (record s { due = ms }) n e' w w' b
-due_cuts sizes s e' book w w' ms n b le none frames h =
-    let off : CutOff sizes (record s { due = ms }) (record h.at { due = ms }) n w w' (why_of b) =
-    due_cut sizes (record s { due = ms }) (record h.at { due = ms }) n w w' ms (why_of b) (cut_due sizes s h.at w w' ms ms (why_of b) h.cut) le refl in
-    record { t = off.t; cut = off.cut; book' = book; frames = near_none b e' book.work none frames; same = same_moment (why_of b) off.t h.at (state_of e' book) off.same h.same }
+due_cuts : (sizes : Sizes) (s : State) (e' : Engine) (left : List ℕ) (book : Book) (w w' : World) (ms : List Move) (n : ℕ) (b : Broken) → steps ms ≤ n → pulls ms ≡ 0 → e'.call ≡ None → FramesStand e' book.work → Cuts sizes s e' book w w' ms b →
+    CutBy sizes (extended left (record s { due = ms })) n e' left w w' b
+due_cuts sizes s e' left book w w' ms n b le still none frames h =
+    let at : State = extended left h.at in
+    let cut : Cut sizes (extended left s) at w w' ms (why_of b) = still_cut sizes left ms s h.at w w' (why_of b) still h.cut in
+    let off : CutOff sizes (record (extended left s) { due = ms }) (record at { due = ms }) n w w' (why_of b) =
+    due_cut sizes (record (extended left s) { due = ms }) (record at { due = ms }) n w w' ms (why_of b) (cut_due sizes (extended left s) at w w' ms ms (why_of b) cut) le refl in
+    record {
+      t = off.t;
+      cut = off.cut;
+      book' = book;
+      frames = near_none b e' book.work none frames;
+      same = same_moment (why_of b) off.t at (whole_state left e' book) off.same (whole_moment (why_of b) left h.at (state_of e' book) h.same);
+    }
 
 -- THE JOB BEGINS
 
@@ -135,26 +168,33 @@ module _ (sizes : Sizes) (e e' : Engine) (quiet : Bool) (file name : List ℕ) (
   kept_did d = subst (λ (x : List ℕ). Did sizes (state_of e first_book) (state_of e' first_book) before before (Kept x ∷ [])) is d
 
   -- a name for which a table has no room
-  pub kept_cut : (job : Option (List ℕ)) (n : ℕ) (b : Broken) (column : Bool) → column ≡ false → Begins sizes e quiet job → SameFrames e e' →
-      ((more : List Move) → Cuts sizes (state_of e first_book) e' first_book before before (Kept name ∷ more) b) → CutBy sizes (First quiet file job) n e' before (world f a column) b
-  kept_cut None n b column none begins same h =
-      subst (λ (x : Bool). CutBy sizes (First quiet file None) n e' before (world f a x) b) (sym none)
-      (subst (λ (s : State). CutBy sizes s n e' before before b) (begins.state file)
-      (due_cuts sizes (state_of e first_book) e' first_book before before (job_due file None) n b (omega arith) (same.call ∙ begins.stands.uncalled.none) (frames_still e e' [] same begins.stands.readings) (subst (λ (x : List ℕ). Cuts sizes (state_of e first_book) e' first_book before before (Kept x ∷ no_file file) b) is (h (no_file file)))))
-  kept_cut (Some bytes) n b column none begins same h =
-      subst (λ (x : Bool). CutBy sizes (First quiet file (Some bytes)) n e' before (world f a x) b) (sym none)
-      (subst (λ (s : State). CutBy sizes s n e' before before b) (begins.state file)
-      (due_cuts sizes (state_of e first_book) e' first_book before before (job_due file (Some bytes)) n b (omega arith) (same.call ∙ begins.stands.uncalled.none) (frames_still e e' [] same begins.stands.readings) (subst (λ (x : List ℕ). Cuts sizes (state_of e first_book) e' first_book before before (Kept x ∷ []) b) is (h []))))
+  kept_cut : (job : Option (List ℕ)) (left : List ℕ) (more : List Move) (n : ℕ) (b : Broken) (column : Bool) → column ≡ false → steps (Kept (job_name file) ∷ more) ≤ n → pulls (Kept (job_name file) ∷ more) ≡ 0 → job_due file job ≡ Kept (job_name file) ∷ more →
+      Begins sizes e quiet job → SameFrames e e' → Cuts sizes (state_of e first_book) e' first_book before before (Kept name ∷ more) b → CutBy sizes (extended left (First quiet file job)) n e' left before (world f a column) b
+  kept_cut job left more n b column none le still due begins same h =
+      subst (λ (x : Bool). CutBy sizes (extended left (First quiet file job)) n e' left before (world f a x) b) (sym none)
+      (subst (λ (s : State). CutBy sizes (extended left s) n e' left before before b) (ap (λ (ms : List Move). record (state_of e first_book) { due = ms }) (sym due) ∙ begins.state file)
+      (due_cuts sizes (state_of e first_book) e' left first_book before before (Kept (job_name file) ∷ more) n b le still (same.call ∙ begins.stands.uncalled.none) (frames_still e e' [] same begins.stands.readings)
+      (subst (λ (x : List ℕ). Cuts sizes (state_of e first_book) e' first_book before before (Kept x ∷ more) b) is h)))
+
+  pub held_cut : (all : List ℕ) (n : ℕ) (b : Broken) (column : Bool) → column ≡ false → Begins sizes e quiet (Some []) → SameFrames e e' →
+      ((more : List Move) → Cuts sizes (state_of e first_book) e' first_book before before (Kept name ∷ more) b) → CutBy sizes (First quiet file (Some all)) n e' all before (world f a column) b
+  held_cut all n b column none begins same h = kept_cut (Some []) all [] n b column none (omega arith) refl refl begins same (h [])
+
+  pub unheld_cut : (n : ℕ) (b : Broken) (column : Bool) → column ≡ false → Begins sizes e quiet None → SameFrames e e' →
+      ((more : List Move) → Cuts sizes (state_of e first_book) e' first_book before before (Kept name ∷ more) b) → CutBy sizes (First quiet file None) n e' [] before (world f a column) b
+  unheld_cut n b column none begins same h = kept_cut None [] (no_file file) n b column none (omega arith) refl refl begins same (h (no_file file))
 
   -- the file is held, and the run goes on
-  pub kept_came : (bytes : List ℕ) → Begins sizes e quiet (Some bytes) → e'.in_line ≡ false → Stands sizes e' first_book → Did sizes (state_of e first_book) (state_of e' first_book) before before (Kept name ∷ []) →
-      Came sizes (First quiet file (Some bytes)) e' before (world_of f a e') 0
-  kept_came bytes begins column stands d =
-      subst (λ (x : Bool). Came sizes (First quiet file (Some bytes)) e' before (world f a x) 0) (sym column) (record {
+  pub kept_came : (all : List ℕ) → Begins sizes e quiet (Some []) → e'.in_line ≡ false → Stands sizes e' first_book → Did sizes (state_of e first_book) (state_of e' first_book) before before (Kept name ∷ []) →
+      Came sizes (First quiet file (Some all)) e' all before (world_of f a e') 0
+  kept_came all begins column stands d =
+      let on = still_did sizes all (Kept (job_name file) ∷ []) (state_of e first_book) (state_of e' first_book) before before refl (kept_did d) in
+      subst (λ (x : Bool). Came sizes (First quiet file (Some all)) e' all before (world f a x) 0) (sym column) (record {
         ms = Kept (job_name file) ∷ [];
         book' = first_book;
         stands = all_of sizes e' first_book stands;
-        moves = subst (λ (s : State). FitMoves sizes s (Kept (job_name file) ∷ []) (state_of e' first_book)) (begins.state file) (due_moves sizes (state_of e first_book) (state_of e' first_book) before before (Kept (job_name file) ∷ []) refl (kept_did d));
+        moves = subst (λ (s : State). FitMoves sizes (extended all s) (Kept (job_name file) ∷ []) (whole_state all e' first_book)) (begins.state file)
+            (due_moves sizes (whole_state all e first_book) (whole_state all e' first_book) before before (Kept (job_name file) ∷ []) refl on);
         count = refl;
         written = (kept_did d).written;
       })
@@ -192,48 +232,49 @@ module _ (sizes : Sizes) (e e' : Engine) (quiet : Bool) (file name : List ℕ) (
           };
         }
 
-    pub refused_cut : (k : Broken) → SameFrames e e' → SameFrames e' e2 → Cuts sizes (state_of e' first_book) e2 first_book (world_of f a e') (world_of f b e2) (no_file file) k → CutBy sizes (First quiet file None) n e2 before (world_of f b e2) k
+    pub refused_cut : (k : Broken) → SameFrames e e' → SameFrames e' e2 → Cuts sizes (state_of e' first_book) e2 first_book (world_of f a e') (world_of f b e2) (no_file file) k → CutBy sizes (First quiet file None) n e2 [] before (world_of f b e2) k
     refused_cut k first second cuts =
         let h : Cuts sizes (state_of e' first_book) e2 first_book before (world_of f b e2) (no_file file) k = subst (λ (x : Bool). Cuts sizes (state_of e' first_book) e2 first_book (world f a x) (world_of f b e2) (no_file file) k) column cuts in
-        subst (λ (s : State). CutBy sizes s n e2 before (world_of f b e2) k) (begins.state file)
-        (due_cuts sizes (state_of e first_book) e2 first_book before (world_of f b e2) (job_due file None) n k (omega arith) (second.call ∙ first.call ∙ begins.stands.uncalled.none) (frames_still e' e2 [] second (frames_still e e' [] first begins.stands.readings))
+        subst (λ (s : State). CutBy sizes (extended [] s) n e2 [] before (world_of f b e2) k) (begins.state file)
+        (due_cuts sizes (state_of e first_book) e2 [] first_book before (world_of f b e2) (job_due file None) n k (omega arith) refl (second.call ∙ first.call ∙ begins.stands.uncalled.none) (frames_still e' e2 [] second (frames_still e e' [] first begins.stands.readings))
         (later_cuts sizes (state_of e first_book) (state_of e' first_book) e2 first_book before before (world_of f b e2) (Kept (job_name file) ∷ []) (no_file file) k (kept_did d) h))
 
--- the job's file is held, or it isn't
-module _ {A : Type 0} (items : A → List ℕ) (B P : Option (List ℕ) → Type 0) where
-  pub held_job : (o : Option A) → true ≡ is_some o → ((bytes : List ℕ) → B (Some bytes) → P (Some bytes)) → B (option_map items o) → P (option_map items o)
-  held_job None is h b = cc
-  held_job (Some x) is h b = h (items x) b
+-- AND THEN NOTHING IS WRITTEN
 
-  pub unheld_job : (o : Option A) → false ≡ is_some o → (B None → P None) → B (option_map items o) → P (option_map items o)
-  unheld_job None is h b = h b
-  unheld_job (Some x) is h b = cc
+module _ (w m w' : World) (quiet : Wrote m w' []) where
+  wrote_on : (ms : List Move) → Wrote w m ms → Wrote w w' ms
+  wrote_on ms h = record { told = λ p. quiet.told p ∙ h.told p; column = quiet.column ∙ h.column; later = later_on w m w' h.later quiet.later }
 
--- BEHIND WHAT HAS WRITTEN NOTHING
+  line_whole : (P : Type 0) → P ⊎ (Rose w.sink_faults m.sink_faults ⊎ Rose w.sink_wants m.sink_wants) → P ⊎ (Rose w.sink_faults w'.sink_faults ⊎ Rose w.sink_wants w'.sink_wants)
+  line_whole P (inl h) = inl h
+  line_whole P (inr (inl h)) = inr (inl (rose_to _ _ _ h quiet.later.sink_faults))
+  line_whole P (inr (inr h)) = inr (inr (rose_to _ _ _ h quiet.later.sink_wants))
 
-module _ (sizes : Sizes) (s : State) (n : ℕ) (w m w' : World) (quiet : Wrote w m []) where
-  cut_later : (t : State) (between : World) (why : Why) → CutAt sizes s n t m between why → CutAt sizes s n t w between why
-  cut_later t between why c = cut_within sizes s t (0 + n) n w between why (omega arith) (cut_behind sizes s s t 0 n w m between [] why refl (omega arith) quiet c)
+  line_on : (line : List ℕ) → Line w m line → Line w w' line
+  line_on line h = record { count = h.count; written = wrote_on _ h.written; whole = line_whole _ h.whole }
 
-  abbrev whole_behind : (o : MachineOutcome) → Whole sizes s n m w' o → Whole sizes s n w w' o
-  whole_behind o h = record { ms = h.ms; t = h.t; run = h.run; stopped = h.stopped; written = wrote_join w m w' [] h.ms quiet h.written }
+module _ (sizes : Sizes) (s : State) (n : ℕ) (w m w' : World) (quiet : Wrote m w' []) where
+  abbrev whole_on : (o : MachineOutcome) → Whole sizes s n w m o → Whole sizes s n w w' o
+  whole_on o h = record { ms = h.ms; t = h.t; run = h.run; stopped = h.stopped; written = wrote_on w m w' quiet h.ms h.written }
 
-  behind : (status : ℕ) (is : Status status) → Says sizes s n m w' status is → Says sizes s n w w' status is
-  behind _ IsFinished h = record { whole = whole_behind machine.Finished h.whole; reports = h.reports }
-  behind _ IsFlawed h = record { whole = whole_behind machine.Finished h.whole; reports = h.reports }
-  behind _ IsFatal h = record { fatal = h.fatal; whole = whole_behind (AtFatal h.fatal) h.whole }
-  behind _ IsFullTable h = record {
+  on : (status : ℕ) (is : Status status) → Says sizes s n w m status is → Says sizes s n w w' status is
+  on _ IsFinished h = record { whole = whole_on machine.Finished h.whole; reports = h.reports }
+  on _ IsFlawed h = record { whole = whole_on machine.Finished h.whole; reports = h.reports }
+  on _ IsFatal h = record { fatal = h.fatal; whole = whole_on (AtFatal h.fatal) h.whole }
+  on _ IsFullTable h = record {
     full = h.full;
-    stops = record { ms = h.stops.ms; t = h.stops.t; between = h.stops.between; run = h.stops.run; written = wrote_join w m h.stops.between [] h.stops.ms quiet h.stops.written; last = h.stops.last };
+    stops = record { ms = h.stops.ms; t = h.stops.t; between = h.stops.between; run = h.stops.run; written = h.stops.written; last = line_on h.stops.between m w' quiet _ h.stops.last };
   }
-  behind _ IsSteps h = record { ms = h.ms; t = h.t; between = h.between; run = h.run; written = wrote_join w m h.between [] h.ms quiet h.written; last = h.last }
-  behind _ IsReadFault h = record { between = h.between; written = wrote_join w m h.between [] [] quiet h.written; last = h.last }
-  behind _ IsWriteFault h = record { t = h.t; between = h.between; cut = cut_later h.t h.between IsFault h.cut; last = h.last }
-  behind _ IsNoMemory (inl h) = inl (record { t = h.t; between = h.between; cut = cut_later h.t h.between IsWant h.cut; last = h.last })
-  behind _ IsNoMemory (inr h) = inr (record { between = h.between; written = wrote_join w m h.between [] [] quiet h.written; last = h.last })
+  on _ IsSteps h = record { ms = h.ms; t = h.t; between = h.between; run = h.run; written = h.written; last = line_on h.between m w' quiet _ h.last }
+  on _ IsReadFault (inl h) = inl (record { t = h.t; between = h.between; read = h.read; last = line_on h.between m w' quiet _ h.last })
+  on _ IsReadFault (inr h) = inr (record { between = h.between; written = h.written; last = line_on h.between m w' quiet _ h.last })
+  on _ IsWriteFault h = record { t = h.t; between = h.between; cut = h.cut; last = line_on h.between m w' quiet _ h.last }
+  on _ IsNoMemory (inl h) = inl (record { t = h.t; between = h.between; cut = h.cut; last = line_on h.between m w' quiet _ h.last })
+  on _ IsNoMemory (inr (inl h)) = inr (inl (record { t = h.t; between = h.between; read = h.read; last = line_on h.between m w' quiet _ h.last }))
+  on _ IsNoMemory (inr (inr h)) = inr (inr (record { between = h.between; written = h.written; last = line_on h.between m w' quiet _ h.last }))
 
-  pub says_behind : (status : ℕ) → SaysSo sizes s n m w' status → SaysSo sizes s n w w' status
-  says_behind status h = record { is = h.is; says = behind status h.is h.says }
+  pub says_on : (status : ℕ) → SaysSo sizes s n w m status → SaysSo sizes s n w w' status
+  says_on status h = record { is = h.is; says = on status h.is h.says }
 
 -- reading a file writes nothing
 same_at : (f f' : FilesTold) (s : SinkTold) (b : Bool) → SameFiles f f' → (p : Place) → (world f' s b).at p ≡ (world f s b).at p
@@ -249,20 +290,47 @@ read_quiet f f' s b h lr e lw = record {
 
 -- WHAT THE WORDS MEAN
 
-missing_job : (f : File) → NotFound f → IsJob f None
+pub missing_job : (f : File) → NotFound f → IsJob f None
 missing_job Untold h = tt
 missing_job NotHeld h = refl
 missing_job (Holds b) h = absurd h
 
-content_job : (f : File) (bytes : List ℕ) → IsContent f bytes → IsJob f (Some bytes)
-content_job Untold bytes h = tt
-content_job NotHeld bytes h = absurd h
-content_job (Holds b) bytes h = ap Some h
+-- What the job's file may have left, so that it and what came in are what may be told of the file.
+pub record Leaves (file : File) (r : OpenReader) (got : List ℕ) : Type 0 where
+  pub left : List ℕ
+  pub may : MayLeave r left
+  pub is_job : IsJob file (Some (got ++ left))
 
--- what was read of the job's file is what may be told of it
-pub told_job : {A : Type 0} (items : A → List ℕ) (f : File) (o : Option A) → IfNone o (NotFound f) → IfSome o (λ v. IsContent f (items v)) → IsJob f (option_map items o)
-told_job items f None missing content = missing_job f missing
-told_job items f (Some x) missing content = content_job f (items x) content
+module _ (r r' : OpenReader) (f f' : FilesTold) (got : List ℕ) (came : CameOn r r' f f' got) (began : r.ended ≡ false) where
+  -- at a told end nothing is left
+  at_end : (left : List ℕ) → f'.rest r'.id ≡ Some left → MayLeave r' left
+  at_end left is ended =
+      let knows : KnowsEnd r' f' = came.at_end (λ h. absurd (cc (h, began))) in
+      subst (λ (x : Option (List ℕ)). IsAtEnd x) is (knows ended)
+
+  leaves_told : (bytes : List ℕ) (rest : Option (List ℕ)) → f'.rest r.id ≡ rest → SoFar (Some bytes) got rest → Leaves (Holds bytes) r' got
+  leaves_told bytes None is h = absurd h
+  leaves_told bytes (Some left) is h = record { left = left; may = at_end left (ap f'.rest came.id ∙ is); is_job = ap Some (sym h) }
+
+  pub leaves : (file : File) → MayHold file → f.rest r.id ≡ content file → Leaves file r' got
+  leaves Untold held is = record { left = []; may = λ h. refl; is_job = tt }
+  leaves NotHeld held is = absurd held
+  leaves (Holds bytes) held is = leaves_told bytes (f'.rest r.id) refl (subst (λ (x : Option (List ℕ)). SoFar x got (f'.rest r.id)) is came.came.so_far)
+
+at_id : (id : ℕ) (a b : Option (List ℕ)) → (if nat_eq id id then a else b) ≡ a
+at_id id a b = grind (arith, common_steps)
+
+-- A job whose file was opened, read on and closed.
+module _ (id : ℕ) (name : List ℕ) (f f1 f2 f3 : FilesTold) (r r' : OpenReader) (got : List ℕ) (new : r ≡ record { id = id; ended = false }) (opens : OpensReader id name f f1) (came : CameOn r r' f1 f2 got) where
+  same_id : r.id ≡ id
+  same_id = ap (λ (x : OpenReader). x.id) new
+
+  pub job_leaves : Leaves (f.file name) r' got
+  job_leaves =
+      leaves r r' f1 f2 got came (ap (λ (x : OpenReader). x.ended) new) (f.file name) opens.held (ap f1.rest same_id ∙ (opens.rest id ∙ at_id id (content (f.file name)) (f.rest id)))
+
+  pub job_same : ClosesReader id f2 f3 → SameFiles f f3
+  job_same closes = closed_again id name f f1 f2 f3 opens (subst (λ (i : ℕ). OnlyReads i f1 f2) same_id came.came.only) closes
 
 -- other bounds, the same
 pub says_by : (sizes sizes' : Sizes) (quiet quiet' : Bool) (n n' : ℕ) (name : List ℕ) (job : Option (List ℕ)) (w w' : World) (status : ℕ) → sizes' ≡ sizes → quiet' ≡ quiet → n' ≡ n →
@@ -287,11 +355,11 @@ module _ (sizes : Sizes) (quiet : Bool) (name : List ℕ) (file : File) (n : ℕ
 
   pub means_unread : (w m w' : World) → Wrote w m [] → Line m w' read_fault_line → MeansRun sizes quiet name file n w w' 5
   means_unread w m w' wrote last = let j = some_job file in
-      record { job = j.job; is_job = j.is_job; is = IsReadFault; says = record { between = m; written = wrote; last = last } }
+      record { job = j.job; is_job = j.is_job; is = IsReadFault; says = inr (record { between = m; written = wrote; last = last }) }
 
   pub means_no_room : (w m w' : World) → Wrote w m [] → Line m w' no_memory_line → MeansRun sizes quiet name file n w w' 7
   means_no_room w m w' wrote last = let j = some_job file in
-      record { job = j.job; is_job = j.is_job; is = IsNoMemory; says = inr (record { between = m; written = wrote; last = last }) }
+      record { job = j.job; is_job = j.is_job; is = IsNoMemory; says = inr (inr (record { between = m; written = wrote; last = last })) }
 
 -- want of memory before there is a machine, whatever the words
 pub no_memory_means : (k : Command) (f : FilesTold) (a b : SinkTold) (c : Bool) → Line (world f a false) (world f b c) no_memory_line → Means k f.file (world f a false) (world f b c) 7

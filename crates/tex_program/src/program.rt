@@ -8,12 +8,13 @@ ghost use Rattle.command_words.specs.Words.{command_of, NoCommand, spelt};
 ghost use Rattle.plain_machine.specs.Meaning.{Means};
 ghost use Rattle.world_io.specs.Told.{world};
 
-use crate::run::{Bounds, run_file};
+use crate::run::{Bounds, refuse_file, run_file};
 use crate::tell::{Telling, tell};
 use command_words::{Job, Unread, read_words};
+use line_reader::Reader;
 use std::alloc::Global;
 use tex_defs::Sizes;
-use world_io::{Fault, Files, Sink, read_file};
+use world_io::{Fault, Files, Sink};
 
 /// How a job is run.
 fn bounds(job: &Job) -> Bounds
@@ -43,8 +44,14 @@ fn run_job<F: Files, S: Sink>(alloc: Global, job: &Job, files: &mut F, out: &mut
     ensures not_usage { result ≡ 9 → ⊥ }
 {
     let name = job.file.as_slice();
-    match read_file(alloc, files, name) {
-        Ok(bytes) => run_file(alloc, &bounds(job), name, bytes, out).status,
+    match files.open_in(name) {
+        Ok(Some(id)) => {
+            let mut reader = Reader::new(id);
+            let told = run_file(alloc, &bounds(job), name, &mut reader, files, out);
+            files.close_in(id);
+            told.status
+        }
+        Ok(None) => refuse_file(alloc, &bounds(job), name, out).status,
         Err(Fault::Failed) => {
             tell(out, false, Telling::ReadFault);
             5

@@ -1,12 +1,15 @@
-// The run of a job whose file has been read, and what is told of it.
-ghost use Rattle.std.specs.Prelude.{◌≡◌, ℕ, List, Some, None, false, option_map};
+// The run of a job, and what is told of it.
+ghost use Rattle.std.specs.Prelude.{◌≡◌, ℕ, List, [], Some, None, false, true};
 ghost use Rattle.tex_defs.specs.Places.{Rose};
 ghost use Rattle.tex_defs.specs.Sizes.{first_out_of_range};
 ghost use Rattle.tex_defs.specs.declared.Sizes.{Sizes};
 ghost use Rattle.plain_state.specs.States.{State};
 ghost use Rattle.plain_machine.specs.Meaning.{First};
 ghost use Rattle.world_io.specs.Told.{FilesTold, world};
-ghost use Rattle.stomach.specs.Ran.{CutBy};
+ghost use Rattle.world_io.specs.declared.traits.Fault.TheVariants.{Failed};
+ghost use Rattle.stomach.specs.Ran.{CutBy, UnreadBy, StoppedBy};
+ghost use Rattle.stomach.specs.Read.{ReadsTo};
+ghost use Rattle.stomach.specs.declared.early.Early.TheVariants.{Unread};
 ghost use Rattle.tex_program.specs.Says.{SaysSo, end_status};
 ghost use Rattle.engine_state.specs.First.{Begins};
 ghost use Rattle.engine_state.specs.declared.engine.Engine.{Engine};
@@ -14,10 +17,11 @@ ghost use Rattle.engine_state.specs.declared.engine.Engine.{Engine};
 use crate::tell::{Telling, tell};
 use command_words::job_name;
 use engine_state::{Broken, Engine, Outcome};
+use line_reader::Reader;
 use std::alloc::Global;
-use stomach::{Ended, run_steps};
+use stomach::{Early, Ended, run_steps};
 use tex_defs::Sizes;
-use world_io::Sink;
+use world_io::{Fault, Files, Sink};
 
 /// A run's status, and whether the transcript's column isn't 0 at its end.
 #[derive(Clone, Copy)]
@@ -36,7 +40,7 @@ pub struct Bounds {
 
 /// Tells of a run that was cut off.
 fn tell_broken<S: Sink>(out: &mut S, in_line: bool, broken: Broken) -> Told
-    ensures says { (sizes : Sizes) (f : FilesTold) (s : State) (n : ℕ) (w : _) (e : Engine) → CutBy sizes s n e w (world f (S.told out.old) in_line) broken → SaysSo sizes s n w (world f (S.told out.new) result.in_line) result.status }
+    ensures says { (sizes : Sizes) (f : FilesTold) (s : State) (n : ℕ) (w : _) (e : Engine) (left : List ℕ) → CutBy sizes s n e left w (world f (S.told out.old) in_line) broken → SaysSo sizes s n w (world f (S.told out.new) result.in_line) result.status }
     ensures no_read { result.status ≡ 5 → ⊥ }
     ensures not_usage { result.status ≡ 9 → ⊥ }
 {
@@ -56,6 +60,36 @@ fn tell_broken<S: Sink>(out: &mut S, in_line: bool, broken: Broken) -> Told
     }
 }
 
+/// Tells that the next bytes of the job's file were needed and didn't come.
+fn tell_unread<S: Sink>(out: &mut S, in_line: bool, fault: Fault) -> Told
+    ensures says { (sizes : Sizes) (f : FilesTold) (s : State) (n : ℕ) (w : _) (e : Engine) (left : List ℕ) → UnreadBy sizes s n e left w (world f (S.told out.old) in_line) → SaysSo sizes s n w (world f (S.told out.new) result.in_line) result.status }
+    ensures read_fault { result.status ≡ 5 → fault ≡ Failed }
+    ensures not_usage { result.status ≡ 9 → ⊥ }
+{
+    match fault {
+        Fault::Failed => Told {
+            in_line: tell(out, in_line, Telling::ReadFault),
+            status: 5,
+        },
+        Fault::NoMemory => Told {
+            in_line: tell(out, in_line, Telling::NoMemory),
+            status: 7,
+        },
+    }
+}
+
+/// Tells of a run that stopped early.
+fn tell_early<S: Sink>(out: &mut S, in_line: bool, early: Early) -> Told
+    ensures says { (sizes : Sizes) (f : FilesTold) (s : State) (n : ℕ) (w : _) (e : Engine) (left : List ℕ) → StoppedBy sizes s n e left w (world f (S.told out.old) in_line) early → SaysSo sizes s n w (world f (S.told out.new) result.in_line) result.status }
+    ensures read_fault { result.status ≡ 5 → early ≡ Unread Failed }
+    ensures not_usage { result.status ≡ 9 → ⊥ }
+{
+    match early {
+        Early::Broken(broken) => tell_broken(out, in_line, broken),
+        Early::Unread(fault) => tell_unread(out, in_line, fault),
+    }
+}
+
 /// The status of a run that has ended, by how it ended and whether it had reports.
 fn status_of(outcome: Outcome, reports: u32) -> u8
     ensures { result ≡ end_status outcome reports }
@@ -67,17 +101,26 @@ fn status_of(outcome: Outcome, reports: u32) -> u8
     }
 }
 
-/// Runs an engine at the beginning of the job of a file that is held.
-fn run_engine<S: Sink>(engine: &mut Engine, file: &[u8], steps: u64, out: &mut S) -> Told
+/// Runs an engine at the beginning of the job of a file that is open.
+fn run_engine<F: Files, S: Sink>(
+    engine: &mut Engine,
+    file: &[u8],
+    reader: &mut Reader,
+    files: &mut F,
+    steps: u64,
+    out: &mut S,
+) -> Told
     requires idle { engine.old.input.making ≡ None }
-    ensures says { (sizes : Sizes) (f : FilesTold) (quiet : _) (bytes : List ℕ) → Begins sizes engine.old quiet (Some bytes) → SaysSo sizes (First quiet file.now (Some bytes)) steps (world f (S.told out.old) false) (world f (S.told out.new) result.in_line) result.status }
-    ensures no_read { result.status ≡ 5 → ⊥ }
+    requires is_open { (F.told files.old).reading reader.old.id ≡ true }
+    ensures says { ReadsTo reader.old reader.new (F.told files.old) (F.told files.new) (λ all left. (sizes : Sizes) (f : FilesTold) (quiet : _) → Begins sizes engine.old quiet (Some []) →
+        SaysSo sizes (First quiet file.now (Some all)) steps (world f (S.told out.old) false) (world f (S.told out.new) result.in_line) result.status) }
+    ensures read_fault { result.status ≡ 5 → Rose (F.told files.old).read_faults (F.told files.new).read_faults }
     ensures not_usage { result.status ≡ 9 → ⊥ }
 {
     if let Err(broken) = engine.keep_name(job_name(file)) {
         return tell_broken(out, engine.is_in_line(), broken);
     }
-    match run_steps(engine, out, steps) {
+    match run_steps(engine, reader, files, out, steps) {
         Ok(Ended::Halted(outcome)) => Told {
             in_line: engine.is_in_line(),
             status: status_of(outcome, engine.reports()),
@@ -86,11 +129,11 @@ fn run_engine<S: Sink>(engine: &mut Engine, file: &[u8], steps: u64, out: &mut S
             in_line: tell(out, engine.is_in_line(), Telling::Steps(steps)),
             status: 4,
         },
-        Err(broken) => tell_broken(out, engine.is_in_line(), broken),
+        Err(early) => tell_early(out, engine.is_in_line(), early),
     }
 }
 
-/// Ends the job of a file that isn't held.
+/// Ends the job of a file that isn't held, at an engine's beginning.
 fn refuse_engine<S: Sink>(engine: &mut Engine, file: &[u8], out: &mut S) -> Told
     ensures says { (sizes : Sizes) (f : FilesTold) (quiet : _) (n : ℕ) → Begins sizes engine.old quiet None → SaysSo sizes (First quiet file.now None) n (world f (S.told out.old) false) (world f (S.told out.new) result.in_line) result.status }
     ensures no_read { result.status ≡ 5 → ⊥ }
@@ -119,30 +162,45 @@ fn tell_no_room<S: Sink>(out: &mut S) -> Told
     }
 }
 
-/// Runs a job's file, of these bytes where it is held.
-pub fn run_file<S: Sink>(
+/// Runs the job of a file that is open.
+pub fn run_file<F: Files, S: Sink>(
     alloc: Global,
     bounds: &Bounds,
     file: &[u8],
-    bytes: Option<Vec<u8>>,
+    reader: &mut Reader,
+    files: &mut F,
     out: &mut S,
 ) -> Told
+    requires in_range { first_out_of_range bounds.now.sizes ≡ None }
+    requires is_open { (F.told files.old).reading reader.old.id ≡ true }
+    ensures says { ReadsTo reader.old reader.new (F.told files.old) (F.told files.new) (λ all left. (f : FilesTold) →
+        SaysSo bounds.now.sizes (First bounds.now.quiet file.now (Some all)) bounds.now.steps (world f (S.told out.old) false) (world f (S.told out.new) result.in_line) result.status) }
+    ensures read_fault { result.status ≡ 5 → Rose (F.told files.old).read_faults (F.told files.new).read_faults }
+    ensures fault { result.status ≡ 6 → Rose (S.told out.old).faults (S.told out.new).faults }
+    ensures not_usage { result.status ≡ 9 → ⊥ }
+{
+    let mut engine = match Engine::new(alloc, &bounds.sizes, bounds.quiet, true) {
+        Ok(engine) => engine,
+        Err(_) => return tell_no_room(out),
+    };
+    let told = run_engine(&mut engine, file, reader, files, bounds.steps, out);
+    engine.close();
+    told
+}
+
+/// Ends the job of a file that isn't held.
+pub fn refuse_file<S: Sink>(alloc: Global, bounds: &Bounds, file: &[u8], out: &mut S) -> Told
     requires { first_out_of_range bounds.now.sizes ≡ None }
-    ensures says { (f : FilesTold) → SaysSo bounds.now.sizes (First bounds.now.quiet file.now (option_map (λ v. v.items) bytes)) bounds.now.steps (world f (S.told out.old) false) (world f (S.told out.new) result.in_line) result.status }
+    ensures says { (f : FilesTold) → SaysSo bounds.now.sizes (First bounds.now.quiet file.now None) bounds.now.steps (world f (S.told out.old) false) (world f (S.told out.new) result.in_line) result.status }
     ensures fault { result.status ≡ 6 → Rose (S.told out.old).faults (S.told out.new).faults }
     ensures no_read { result.status ≡ 5 → ⊥ }
     ensures not_usage { result.status ≡ 9 → ⊥ }
 {
-    let held = bytes.is_some();
-    let mut engine = match Engine::new(alloc, &bounds.sizes, bounds.quiet, bytes) {
+    let mut engine = match Engine::new(alloc, &bounds.sizes, bounds.quiet, false) {
         Ok(engine) => engine,
         Err(_) => return tell_no_room(out),
     };
-    let told = if held {
-        run_engine(&mut engine, file, bounds.steps, out)
-    } else {
-        refuse_engine(&mut engine, file, out)
-    };
+    let told = refuse_engine(&mut engine, file, out);
     engine.close();
     told
 }

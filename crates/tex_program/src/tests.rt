@@ -1,11 +1,12 @@
 // Runs within tables of given sizes.
 use crate::run::{Bounds, run_file};
 use engine_state::{Broken, Engine};
+use line_reader::Reader;
 use std::alloc::{AllocError, Global};
 use std::test::Fail;
-use stomach::run_steps;
+use stomach::{Early, run_steps};
 use tex_defs::{Full, Sizes, Table};
-use world_io::MemSink;
+use world_io::{Files, MemFiles, MemSink};
 
 /// The least size of each table.
 const LEAST: Sizes = Sizes {
@@ -47,9 +48,14 @@ fn writes(
         steps: 10000,
         quiet: true,
     };
+    let mut files = MemFiles::new(alloc);
     let mut out = MemSink::new(alloc);
-    let bytes = Vec::from_slice(alloc, text)?;
-    let told = run_file(alloc, &bounds, name, Some(bytes), &mut out);
+    files.add(b"job", text)?;
+    let Ok(Some(id)) = files.open_in(b"job") else {
+        return Ok(false);
+    };
+    let mut reader = Reader::new(id);
+    let told = run_file(alloc, &bounds, name, &mut reader, &mut files, &mut out);
     Ok(told.status == status && out.bytes() == written)
 }
 
@@ -184,14 +190,19 @@ fn words_where_full(
     if sizes.check().is_err() {
         return Ok(None);
     }
+    let mut files = MemFiles::new(alloc);
     let mut out = MemSink::new(alloc);
-    let bytes = Vec::from_slice(alloc, text)?;
-    let mut engine = Engine::new(alloc, &sizes, true, Some(bytes))?;
-    let ended = run_steps(&mut engine, &mut out, 1000000);
+    files.add(b"job", text)?;
+    let Ok(Some(id)) = files.open_in(b"job") else {
+        return Ok(None);
+    };
+    let mut reader = Reader::new(id);
+    let mut engine = Engine::new(alloc, &sizes, true, true)?;
+    let ended = run_steps(&mut engine, &mut reader, &mut files, &mut out, 1000000);
     let words = engine.words();
     engine.close();
     match ended {
-        Err(Broken::Full(found)) if found == full => Ok(Some(words)),
+        Err(Early::Broken(Broken::Full(found))) if found == full => Ok(Some(words)),
         _ => Ok(None),
     }
 }

@@ -133,6 +133,38 @@ fn a_failed_read_is_told(rt: HostRuntime) -> Result<(), Fail> {
     Ok(())
 }
 
+/// A line of 42 bytes that writes `hi`, and two more.
+const THREE_LINES: &[u8] =
+    b"\\catcode`\\{=1 \\catcode`\\}=2 \\message{hi}%\n%a second line here\n\\end\n";
+
+#[test]
+fn a_file_is_read_as_it_is_needed(rt: HostRuntime) -> Result<(), Fail> {
+    let alloc = rt.alloc();
+    for most in [1, 8] {
+        let mut files = MemFiles::new(alloc);
+        files.add(b"job.tex", THREE_LINES)?;
+        files.limit_reads(most);
+        let expected = Expected {
+            text: b"hi\n",
+            status: 0,
+        };
+        let out = MemSink::new(alloc);
+        assert!(rt; does(alloc, &["init", "job"], &mut files, out, expected)?);
+    }
+    // the file is opened, its first line comes by six reads, and the next one fails
+    let mut files = MemFiles::new(alloc);
+    files.add(b"job.tex", THREE_LINES)?;
+    files.limit_reads(8);
+    files.fail_at(8)?;
+    let expected = Expected {
+        text: b"hi\n! Read fault.\n",
+        status: 5,
+    };
+    let out = MemSink::new(alloc);
+    assert!(rt; does(alloc, &["init", "job"], &mut files, out, expected)?);
+    Ok(())
+}
+
 #[test]
 fn a_failed_write_is_told(rt: HostRuntime) -> Result<(), Fail> {
     let alloc = rt.alloc();

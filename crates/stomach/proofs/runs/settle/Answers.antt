@@ -1,34 +1,114 @@
-use Rattle.std.proofs.Common.{◌≡◌, sym, ◌∙◌, arith, refl, false}
+use Rattle.std.proofs.Common.{◌≡◌, ◌<◌, ◌∙◌, sym, refl, false, [], arith}
 use Rattle.std.proofs.lemmas.Grind.{common_steps}
-use Rattle.engine_state.specs.Stands.{state_of}
-use Rattle.engine_state.specs.Steps.{stepping}
+use Rattle.world_io.specs.declared.traits.Fault.TheVariants.{Failed, NoMemory}
+use Rattle.plain_machine.proofs.Doing.{rose_on}
+use Rattle.engine_state.specs.Steps.{weight, stepping}
 use Rattle.engine_state.proofs.Joining.{same_err}
+use Rattle.stomach.specs.declared.early.Early.{Early}
+use Rattle.stomach.specs.declared.early.Early.TheVariants as early
 use Rattle.stomach.proofs.CallSteps.{plan_silent}
-use Rattle.stomach.proofs.Running.{came_none, came_on, came_halts, cut_by_join, rule_cut, as_free, as_halted, same_count, same_stops, when_halted}
+use Rattle.stomach.proofs.Giving.{wanted_on}
+use Rattle.stomach.proofs.Running.{as_free, as_halted, when_free, when_halted}
+use Rattle.stomach.proofs.Reading.{reads_none, reads_map, still_open}
+use Rattle.stomach.proofs.Rounds.{CameTo, StopsTo, StoppedTo, came_first, came_rule, came_end, came_cut, idle_given, weight_given, same_fault, reads_err, reads_given, reads_unread}
 use Rattle.stomach.proofs.runs.settle.Goals as goal
 
 pub loop-engine-init : goal.loop-engine-init
-loop-engine-init g c = (c.requires.idle, (λ sizes f book stands. came_none sizes c.args.engine.now book _ stands))
+loop-engine-init g c =
+    let e = c.args.engine.now in
+    let s = g.S.Sink.told c.args.out.now in
+    (c.requires.idle, reads_none (CameTo e s e s 0) c.args.reader.now (g.F.Files.told c.args.files.now) (λ all. came_first e s all))
 
-pub returns-in_err-outcome-clause-err : goal.returns-in_err-outcome-clause-err
-returns-in_err-outcome-clause-err g c =
-    let e = c.loop-engine.engine in let i = c.in_err-outcome in
-    let silent : stepping e ≡ false = sym c.needs_step.ensures ∙ grind (arith, common_steps, c.loop-engine-test.true) in
-    same_err c.from_residual.result i.field-0.0 _ c.from_residual.ensures.1
-    (λ sizes f book stands. cut_by_join sizes (state_of c.args.engine.now book) e c.rule.new.engine _ _ _ 0 (c.loop-engine.invariant.1 sizes f book stands) 0 0 i.field-0.0 (omega arith)
-    (λ w h. rule_cut sizes e c.rule.new.engine w _ _ 0 i.field-0.0 (omega (arith, plan_silent sizes e silent w h)) (i.ensures.err sizes f w h)))
+pub read_ahead-requires : goal.read_ahead-requires
+read_ahead-requires g c =
+    let i = c.loop-engine.invariant.1 in
+    record { is_open = still_open c.args.reader.now c.loop-engine.reader _ _ i.got i.came c.requires.is_open }
+
+pub returns-in_err-read_ahead-clause-run : goal.returns-in_err-read_ahead-clause-run
+returns-in_err-read_ahead-clause-run g c =
+    let i = c.in_err-read_ahead in
+    let x : Early = early.Unread i.field-0.0 in
+    reads_err c.from_residual.result x _ _ _ _ _ _ c.from_residual.ensures.1
+    (reads_unread c.args.engine.now c.loop-engine.engine c.read_ahead.new.engine (g.S.Sink.told c.args.out.now) (g.S.Sink.told c.loop-engine.out) 0 0 i.field-0.0 c.args.reader.now c.loop-engine.reader c.read_ahead.new.reader
+    _ _ _ (omega arith) i.ensures.at_file c.loop-engine.invariant.1 i.ensures.came)
+
+pub returns-in_err-read_ahead-clause-fault : goal.returns-in_err-read_ahead-clause-fault
+returns-in_err-read_ahead-clause-fault g c =
+    let i = c.in_err-read_ahead in
+    same_err c.from_residual.result (early.Unread i.field-0.0) _ c.from_residual.ensures.1 (λ is. rose_on _ _ _ c.loop-engine.invariant.1.came.read_faults (i.ensures.fault (same_fault i.field-0.0 Failed is)))
+
+pub returns-in_err-read_ahead-clause-want : goal.returns-in_err-read_ahead-clause-want
+returns-in_err-read_ahead-clause-want g c =
+    let i = c.in_err-read_ahead in
+    same_err c.from_residual.result (early.Unread i.field-0.0) _ c.from_residual.ensures.1 (λ is. wanted_on _ _ _ c.read_ahead.new.engine c.loop-engine.invariant.1.came.wants (i.ensures.want (same_fault i.field-0.0 NoMemory is)))
+
+pub returns-then-needs_step-clause-run : goal.returns-then-needs_step-clause-run
+returns-then-needs_step-clause-run g c =
+    reads_given c.args.engine.now c.loop-engine.engine c.read_ahead.new.engine (g.S.Sink.told c.args.out.now) (g.S.Sink.told c.loop-engine.out) 0 c.args.reader.now c.loop-engine.reader c.read_ahead.new.reader
+    _ _ _ c.loop-engine.invariant.1 c.in_ok-read_ahead.ensures.came
+
+pub returns-then-needs_step-clause-idle : goal.returns-then-needs_step-clause-idle
+returns-then-needs_step-clause-idle g c =
+    let i = c.in_ok-read_ahead.ensures.came in
+    idle_given _ [] c.loop-engine.engine c.read_ahead.new.engine (i.holds [] (λ h. refl)) c.loop-engine.invariant.0
+
+pub rule-requires : goal.rule-requires
+rule-requires g c =
+    let i = c.in_ok-read_ahead.ensures.came in
+    record { idle = idle_given _ [] c.loop-engine.engine c.read_ahead.new.engine (i.holds [] (λ h. refl)) c.loop-engine.invariant.0 }
+
+pub returns-in_err-outcome-clause-run : goal.returns-in_err-outcome-clause-run
+returns-in_err-outcome-clause-run g c =
+    let i = c.in_err-outcome in
+    let e0 = c.args.engine.now in
+    let e = c.read_ahead.new.engine in
+    let e' = c.rule.new.engine in
+    let s0 = g.S.Sink.told c.args.out.now in
+    let s = g.S.Sink.told c.loop-engine.out in
+    let s' = g.S.Sink.told c.rule.new.out in
+    let r = c.read_ahead.new.reader in
+    let silent : stepping e ≡ false = sym c.needs_step.ensures ∙ grind (arith, common_steps, c.if-needs_step.false) in
+    reads_err c.from_residual-in_err-outcome.result (early.Broken i.field-0.0) _ _ _ _ _ _ c.from_residual-in_err-outcome.ensures.1
+    (reads_map (CameTo e0 s0 e s 0) c.args.reader.now r _ _ (StoppedTo e0 s0 e' s' 0 (early.Broken i.field-0.0))
+    (reads_given e0 c.loop-engine.engine e s0 s 0 c.args.reader.now c.loop-engine.reader r _ _ _ c.loop-engine.invariant.1 c.in_ok-read_ahead.ensures.came)
+    (λ all left may came. came_cut e0 e e' s0 s s' 0 r c.in_ok-read_ahead.ensures.knows all left may came 0 0 i.field-0.0 (omega arith) (λ sizes w h. omega (arith, plan_silent sizes e silent w h)) i.ensures.err))
 
 pub returns-in-Halted-clause-run : goal.returns-in-Halted-clause-run
-returns-in-Halted-clause-run g c = λ sizes f book stands.
-    let e = c.loop-engine.engine in let o = c.in-Halted.outcome in
-    let silent : stepping e ≡ false = sym c.needs_step.ensures ∙ grind (arith, common_steps, c.loop-engine-test.true) in
-    same_stops sizes _ _ _ _ _ _ o refl (came_halts sizes (state_of c.args.engine.now book) e c.rule.new.engine _ _ _ 0 (c.loop-engine.invariant.1 sizes f book stands) 0 o
-    (λ w h. as_halted sizes _ c.rule.new.engine w _ _ _ _ o c.in-Halted.is (c.in_ok-outcome.ensures.rule sizes f w h)) (c.in_ok-outcome.ensures.halts (when_halted _ o c.in-Halted.is)) (λ w h. plan_silent sizes e silent w h))
+returns-in-Halted-clause-run g c =
+    let i = c.in_ok-outcome.ensures in
+    let o = c.in-Halted.outcome in
+    let e0 = c.args.engine.now in
+    let e = c.read_ahead.new.engine in
+    let e' = c.rule.new.engine in
+    let s0 = g.S.Sink.told c.args.out.now in
+    let s = g.S.Sink.told c.loop-engine.out in
+    let s' = g.S.Sink.told c.rule.new.out in
+    let r = c.read_ahead.new.reader in
+    let silent : stepping e ≡ false = sym c.needs_step.ensures ∙ grind (arith, common_steps, c.if-needs_step.false) in
+    reads_map (CameTo e0 s0 e s 0) c.args.reader.now r _ _ (StopsTo e0 s0 e' s' 0 o)
+    (reads_given e0 c.loop-engine.engine e s0 s 0 c.args.reader.now c.loop-engine.reader r _ _ _ c.loop-engine.invariant.1 c.in_ok-read_ahead.ensures.came)
+    (λ all left may came. came_end e0 e e' s0 s s' 0 r c.in_ok-read_ahead.ensures.knows all left may came 0 o
+    (λ sizes f w h. as_halted sizes _ e' w _ _ _ _ o c.in-Halted.is (i.rule sizes f w h)) (i.halts (when_halted _ o c.in-Halted.is)) (λ sizes w h. plan_silent sizes e silent w h))
+
+pub loop-engine-smaller : goal.loop-engine-smaller
+loop-engine-smaller g c =
+    let i = c.in_ok-read_ahead.ensures.came in
+    let same : weight c.read_ahead.new.engine ≡ weight c.loop-engine.engine = weight_given _ [] c.loop-engine.engine c.read_ahead.new.engine (i.holds [] (λ h. refl)) in
+    let less : weight c.rule.new.engine < weight c.read_ahead.new.engine = c.in_ok-outcome.ensures.light (when_free _ c.in-Free.is) in
+    omega (arith, same, less)
 
 pub loop-engine-preserved : goal.loop-engine-preserved
-loop-engine-preserved g c = (
-  c.in_ok-outcome.ensures.idle,
-  (λ sizes f book stands.
-      same_count sizes _ _ _ _ _ (came_on sizes (state_of c.args.engine.now book) c.loop-engine.engine c.rule.new.engine _ _ _ 0 (c.loop-engine.invariant.1 sizes f book stands) 0
-      (λ w h. as_free sizes _ _ w _ _ _ _ c.in-Free.is (c.in_ok-outcome.ensures.rule sizes f w h)))),
-)
+loop-engine-preserved g c =
+    let i = c.in_ok-outcome.ensures in
+    let e0 = c.args.engine.now in
+    let e = c.read_ahead.new.engine in
+    let e' = c.rule.new.engine in
+    let s0 = g.S.Sink.told c.args.out.now in
+    let s = g.S.Sink.told c.loop-engine.out in
+    let s' = g.S.Sink.told c.rule.new.out in
+    let r = c.read_ahead.new.reader in (
+      i.idle,
+      reads_map (CameTo e0 s0 e s 0) c.args.reader.now r _ _ (CameTo e0 s0 e' s' 0)
+          (reads_given e0 c.loop-engine.engine e s0 s 0 c.args.reader.now c.loop-engine.reader r _ _ _ c.loop-engine.invariant.1 c.in_ok-read_ahead.ensures.came)
+          (λ all left may came. came_rule e0 e e' s0 s s' 0 r c.in_ok-read_ahead.ensures.knows all left may came 0 (λ sizes f w h. as_free sizes _ _ w _ _ _ _ c.in-Free.is (i.rule sizes f w h))),
+    )

@@ -1,20 +1,14 @@
 use Rattle.std.proofs.Common.{◌≡◌}
 use Rattle.std.specs.Prelude.{None}
-use Rattle.tex_defs.specs.declared.Sizes.{Sizes}
-use Rattle.world_io.specs.Told.{FilesTold}
-use Rattle.engine_state.specs.Book.{Book}
-use Rattle.engine_state.specs.Calls.{AllStand}
-use Rattle.engine_state.specs.Stands.{state_of}
-use Rattle.engine_state.specs.Rules.{world_of}
 use Rattle.engine_state.specs.Steps.{weight}
-use Rattle.stomach.specs.Ran.{Came}
+use Rattle.stomach.specs.Read.{ReadsTo}
+use Rattle.stomach.proofs.Rounds.{CameTo}
 use Rattle.stomach.proofs.runs.settle.Given as goal
 
 abbrev pub invariant-loop-engine : goal.invariant-loop-engine
 invariant-loop-engine g l =
     (l.engine.input.making ≡ None)
-    × ((sizes : Sizes) (f : FilesTold) (book : Book) → AllStand sizes l.fn.engine book →
-    Came sizes (state_of l.fn.engine book) l.engine (world_of f (g.S.Sink.told l.fn.out) l.fn.engine) (world_of f (g.S.Sink.told l.out) l.engine) 0)
+    × ReadsTo l.fn.reader l.reader (g.F.Files.told l.fn.files) (g.F.Files.told l.files) (CameTo l.fn.engine (g.S.Sink.told l.fn.out) l.engine (g.S.Sink.told l.out) 0)
 
 abbrev pub decreases-loop-engine : goal.decreases-loop-engine
 decreases-loop-engine g l = weight l.engine

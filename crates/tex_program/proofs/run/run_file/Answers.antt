@@ -1,30 +1,19 @@
-use Rattle.std.proofs.Common.{ℕ, List, Vec, Global, false}
-use Rattle.std.specs.Prelude.{Option}
-use Rattle.plain_machine.specs.Meaning.{First}
-use Rattle.world_io.specs.Told.{world}
-use Rattle.engine_state.specs.First.{Begins}
-use Rattle.tex_program.specs.Says.{SaysSo}
-use Rattle.tex_program.proofs.Meanings.{held_job, unheld_job, fault_rose}
-use Rattle.tex_program.proofs.run.run_file.Goals.{then-held, else-held}
+use Rattle.std.proofs.Common.{[], refl, false}
+use Rattle.stomach.proofs.Reading.{on_none, reads_map}
+use Rattle.tex_program.proofs.Meanings.{fault_rose}
 use Rattle.tex_program.proofs.run.run_file.Goals as goal
 
 pub returns-clause-says : goal.returns-clause-says
-returns-clause-says g c = λ f.
-    let sizes = c.args.bounds.now.sizes in
-    let quiet = c.args.bounds.now.quiet in
-    let n = c.args.bounds.now.steps in
-    let w = world f (g.S.Sink.told c.args.out.now) false in
-    elim c.if-held.branch [
-      | then-held b ↦ rw (b.out-is, b.told-is) (held_job (λ (v : Vec ℕ Global). v.items) (Begins sizes c.in-Ok.engine quiet)
-          (λ (job : Option (List ℕ)). SaysSo sizes (First quiet c.args.file.now job) n w (world f (g.S.Sink.told b.run_engine-told.new.out) b.run_engine-told.result.in_line) b.run_engine-told.result.status)
-          c.args.bytes b.if-held.ensures (λ bytes begins. b.run_engine-told.ensures.says sizes f quiet bytes begins) c.in-Ok.ensures)
-      | else-held b ↦ rw (b.out-is, b.told-is) (unheld_job (λ (v : Vec ℕ Global). v.items) (Begins sizes c.in-Ok.engine quiet)
-          (λ (job : Option (List ℕ)). SaysSo sizes (First quiet c.args.file.now job) n w (world f (g.S.Sink.told b.refuse_engine-told.new.out) b.refuse_engine-told.result.in_line) b.refuse_engine-told.result.status)
-          c.args.bytes b.if-held.ensures (λ begins. b.refuse_engine-told.ensures.says sizes f quiet n begins) c.in-Ok.ensures)
-    ]
+returns-clause-says g c =
+    let bounds = c.args.bounds.now in
+    reads_map _ c.args.reader.now c.run_engine-told.new.reader _ _ _ c.run_engine-told.ensures.says (λ all left may h f. h bounds.sizes f bounds.quiet c.in-Ok.ensures)
 
 pub returns-clause-fault : goal.returns-clause-fault
-returns-clause-fault g c = fault_rose c.args.bounds.now.sizes _ c.args.bounds.now.steps _ _ false c.if-held.told.in_line c.if-held.told.status (returns-clause-says g c)
+returns-clause-fault g c =
+    let bounds = c.args.bounds.now in
+    fault_rose bounds.sizes _ bounds.steps _ _ false c.run_engine-told.result.in_line c.run_engine-told.result.status (λ f. (returns-clause-says g c).holds [] (λ h. refl) f)
 
 pub returns-in-Err-clause-says : goal.returns-in-Err-clause-says
-returns-in-Err-clause-says g c = λ f. c.tell_no_room.ensures.says c.args.bounds.now.sizes f _ c.args.bounds.now.steps
+returns-in-Err-clause-says g c =
+    let bounds = c.args.bounds.now in
+    record { got = []; came = on_none c.args.reader.now (g.F.Files.told c.args.files.now); holds = λ left may f. c.tell_no_room.ensures.says bounds.sizes f _ bounds.steps }

@@ -1,0 +1,24 @@
+use Rattle.std.proofs.Common.{◌≡◌, ◌∙◌, ◌⊎◌, inl, inr, sym}
+use Rattle.line_lexer.specs.declared.Ahead.{Ahead}
+use Rattle.line_lexer.specs.declared.Ahead.TheVariants as ahead
+use Rattle.input_state.specs.NextBytes.{InFront}
+use Rattle.input_state.proofs.Readies.{in_front, knows_next, needs_bytes}
+use Rattle.input_state.proofs.state.Input.needs_bytes.Goals as goal
+
+no_end : (a : Ahead) → (a ≡ ahead.Token) ⊎ (a ≡ ahead.Invalid) → a ≡ ahead.End → ⊥
+no_end a (inl token) h = let k = sym token ∙ h in cc
+no_end a (inr invalid) h = let k = sym invalid ∙ h in cc
+
+pub returns-in-Token : goal.returns-in-Token
+returns-in-Token c = record {
+  ready = λ e. InFront (in_front c.args.categories.now c.args.self.now.pending (λ h. no_end c.looks.result c.in-Token.is (c.looks.ensures.ahead ∙ h)));
+  needs = λ e. cc;
+}
+
+pub returns-in-End : goal.returns-in-End
+returns-in-End c =
+    let i = c.self.inside in
+    record {
+      ready = λ e. knows_next c.args.categories.now i.held i.buffer.items i.file c.args.self.now c.self.view_is c.self.invariant.file_size (sym c.lacks_line.ensures ∙ e);
+      needs = λ e. needs_bytes c.args.categories.now i.held i.buffer.items i.file c.args.self.now c.self.view_is c.self.invariant.file_size (sym c.looks.ensures.ahead ∙ c.in-End.is) (sym c.lacks_line.ensures ∙ e);
+    }

@@ -1,0 +1,174 @@
+-- A run, round by round: the file is read on, and a rule follows.
+use Rattle.std.proofs.Common.{◌≡◌, ℕ, ◌+◌, ◌≤◌, List, refl, sym, ap, ◌∙◌, subst, Bool, true, false, arith}
+use Rattle.std.specs.Prelude.{◌&&◌, Option, None, Some, Result, Ok, Err, IsErrAnd, MatchResult}
+use Rattle.tex_defs.specs.declared.Sizes.{Sizes}
+use Rattle.world_io.specs.declared.traits.Fault.{Fault}
+use Rattle.world_io.specs.declared.traits.Fault.TheVariants.{Failed}
+use Rattle.world_io.specs.Told.{FilesTold, SinkTold, world}
+use Rattle.plain_machine.specs.Runs.{steps}
+use Rattle.input_state.specs.Stored.{Stored, KeepsMacros}
+use Rattle.plain_state.specs.Pending.{pulled, settle}
+use Rattle.input_state.specs.Reads.{gives_step}
+use Rattle.line_reader.specs.Readers.{OpenReader}
+use Rattle.engine_state.specs.declared.broken.Broken.{Broken}
+use Rattle.engine_state.specs.declared.engine.Engine.{Engine}
+use Rattle.engine_state.specs.declared.outcome.Outcome.{Outcome}
+use Rattle.engine_state.specs.Begins.{outcome_of}
+use Rattle.engine_state.specs.Book.{Book}
+use Rattle.engine_state.specs.Calls.{AllStand}
+use Rattle.engine_state.specs.Near.{CutsIn}
+use Rattle.engine_state.specs.Rules.{world_of, plan_of, Went, Halts, SameReadings}
+use Rattle.engine_state.specs.Stands.{state_of}
+use Rattle.engine_state.specs.Steps.{weight, stepping, all_want}
+use Rattle.stomach.specs.declared.early.Early.{Early}
+use Rattle.stomach.specs.declared.early.Early.TheVariants as early
+use Rattle.stomach.specs.declared.runs.Ended.{Ended}
+use Rattle.stomach.specs.declared.runs.Ended.TheVariants as ended
+use Rattle.stomach.specs.Ahead.{IsGiven, Knows, IsAtFile}
+use Rattle.stomach.specs.Ran.{Came, Stops, Settles, Ran, StoppedBy, whole_state}
+use Rattle.stomach.specs.Read.{MayLeave, ReadsTo}
+use Rattle.stomach.proofs.CallSteps.{stepping_needs}
+use Rattle.stomach.proofs.Giving.{came_given, is_known, is_ready, unread}
+use Rattle.stomach.proofs.Reading.{reads_map, reads_then}
+use Rattle.stomach.proofs.Running.{IsKnown, came_none, came_on, came_halts, came_join, came_whole, cut_by_join, stops_join, stops_whole, stopped_join, rule_cut, whole_needs}
+
+-- the engine has come behind k steps, whatever it stands for
+abbrev pub CameTo : Engine → SinkTold → Engine → SinkTold → ℕ → (all left : List ℕ) → Type 0
+CameTo e s e' s' k all left =
+    (sizes : Sizes) (f : FilesTold) (book : Book) → AllStand sizes e book → Came sizes (whole_state all e book) e' left (world_of f s e) (world_of f s' e') k
+
+-- to its end, behind at most k steps
+abbrev pub StopsTo : Engine → SinkTold → Engine → SinkTold → ℕ → Outcome → (all left : List ℕ) → Type 0
+StopsTo e s e' s' k o all left =
+    (sizes : Sizes) (f : FilesTold) (book : Book) → AllStand sizes e book → Stops sizes (whole_state all e book) e' left (world_of f s e) (world_of f s' e') k o
+
+-- without a step: to where one comes next, or to its end
+abbrev pub SettlesTo : Engine → SinkTold → Engine → SinkTold → Option Outcome → (all left : List ℕ) → Type 0
+SettlesTo e s e' s' o all left =
+    (sizes : Sizes) (f : FilesTold) (book : Book) → AllStand sizes e book → Settles sizes (whole_state all e book) e' left (world_of f s e) (world_of f s' e') o
+
+-- the whole run of at most n steps
+abbrev pub RanTo : Engine → SinkTold → Engine → SinkTold → ℕ → Ended → (all left : List ℕ) → Type 0
+RanTo e s e' s' n ended all left =
+    (sizes : Sizes) (f : FilesTold) (book : Book) → AllStand sizes e book → Ran sizes (whole_state all e book) n e' left (world_of f s e) (world_of f s' e') ended
+
+-- it stopped early, within n steps
+abbrev pub StoppedTo : Engine → SinkTold → Engine → SinkTold → ℕ → Early → (all left : List ℕ) → Type 0
+StoppedTo e s e' s' n x all left =
+    (sizes : Sizes) (f : FilesTold) (book : Book) → AllStand sizes e book → StoppedBy sizes (whole_state all e book) n e' left (world_of f s e) (world_of f s' e') x
+
+-- an error that `?` hands on
+pub match_err : {T E : Type 0} → (r : Result T E) (x : E) (P : T → Type 0) (Q : E → Type 0) → IsErrAnd r (λ e. e ≡ x) → Q x → MatchResult r P Q
+match_err (Ok y) x P Q h q = absurd h
+match_err (Err e) x P Q h q = subst Q (sym h) q
+
+abbrev fault_of : Early → Fault
+fault_of (early.Broken b) = Failed
+fault_of (early.Unread fault) = fault
+
+pub same_fault : (a b : Fault) → early.Unread a ≡ early.Unread b → a ≡ b
+same_fault a b h = ap fault_of h
+
+-- a run that stopped early, and its answer
+pub reads_err : {T : Type 0} (result : Result T Early) (x : Early) (P : T → (all left : List ℕ) → Type 0) (Q : Early → (all left : List ℕ) → Type 0) (r r' : OpenReader) (f f' : FilesTold) → IsErrAnd result (λ y. y ≡ x) → ReadsTo r r' f f' (Q x) →
+    ReadsTo r r' f f' (λ all left. MatchResult result (λ y. P y all left) (λ y. Q y all left))
+reads_err result x P Q r r' f f' is h = reads_map (Q x) r r' f f' (λ (all left : List ℕ). MatchResult result (λ y. P y all left) (λ y. Q y all left)) h (λ all left may a. match_err result x (λ y. P y all left) (λ y. Q y all left) is a)
+
+pub came_first : (e : Engine) (s : SinkTold) (all : List ℕ) → CameTo e s e s 0 all all
+came_first e s all sizes f book stands = came_none sizes e all book (world_of f s e) stands
+
+-- THE FILE IS READ ON
+
+module _ (all left : List ℕ) (e e' : Engine) (is : IsGiven all left e e') where
+  pub column_given : e.in_line ≡ e'.in_line
+  column_given = sym (ap (λ (x : Engine). x.in_line) is.after)
+
+  pub idle_given : e.input.making ≡ None → e'.input.making ≡ None
+  idle_given h = ap (λ (x : Engine). x.input.making) is.after ∙ h
+
+  pub weight_given : weight e' ≡ weight e
+  weight_given = ap weight is.after
+
+module _ (e0 e e' : Engine) (s0 s : SinkTold) (k : ℕ) where
+  came_more : (all mid left : List ℕ) → CameTo e0 s0 e s k all mid → IsGiven mid left e e' → CameTo e0 s0 e' s k all left
+  came_more all mid left came is sizes f book stands =
+      subst (λ (b : Bool). Came sizes (whole_state all e0 book) e' left (world_of f s0 e0) (world f s b) k) (column_given mid left e e' is)
+      (came_given sizes mid left e e' is (whole_state all e0 book) (world_of f s0 e0) (world_of f s e) k (came sizes f book stands))
+
+  pub reads_given : (r r' r'' : OpenReader) (f f' f'' : FilesTold) → ReadsTo r r' f f' (CameTo e0 s0 e s k) → ReadsTo r' r'' f' f'' (λ all left. IsGiven all left e e') → ReadsTo r r'' f f'' (CameTo e0 s0 e' s k)
+  reads_given r r' r'' f f' f'' a b =
+      reads_then (CameTo e0 s0 e s k) r r' r'' f f' f'' (λ (all left : List ℕ). IsGiven all left e e') (CameTo e0 s0 e' s k) a b (λ all mid left may x y. came_more all mid left x y)
+
+  -- and the bytes that are needed don't come
+  unread_more : (n : ℕ) (fault : Fault) (all mid left : List ℕ) → k ≤ n → IsAtFile e' → CameTo e0 s0 e s k all mid → IsGiven mid left e e' → StoppedTo e0 s0 e' s n (early.Unread fault) all left
+  unread_more n fault all mid left le at came is sizes f book stands =
+      subst (λ (b : Bool). StoppedBy sizes (whole_state all e0 book) n e' left (world_of f s0 e0) (world f s b) (early.Unread fault)) (column_given mid left e e' is)
+      (stopped_join sizes (whole_state all e0 book) e e' mid (world_of f s0 e0) (world_of f s e) (world_of f s e) k (came sizes f book stands) left 0 n (early.Unread fault) (omega (arith, le))
+      (λ w h. unread sizes e e' mid left (world_of f s e) 0 is at w h))
+
+  pub reads_unread : (n : ℕ) (fault : Fault) (r r' r'' : OpenReader) (f f' f'' : FilesTold) → k ≤ n → IsAtFile e' → ReadsTo r r' f f' (CameTo e0 s0 e s k) → ReadsTo r' r'' f' f'' (λ all left. IsGiven all left e e') →
+      ReadsTo r r'' f f'' (StoppedTo e0 s0 e' s n (early.Unread fault))
+  reads_unread n fault r r' r'' f f' f'' le at a b =
+      reads_then (CameTo e0 s0 e s k) r r' r'' f f' f'' (λ (all left : List ℕ). IsGiven all left e e') (StoppedTo e0 s0 e' s n (early.Unread fault)) a b (λ all mid left may x y. unread_more n fault all mid left le at x y)
+
+-- THE NEXT RULE, WHERE ITS READING IS KNOWN
+
+wants_step : (wants gives : Bool) → (wants && gives) ≡ true → wants ≡ true
+wants_step true gives h = refl
+wants_step false gives h = cc
+
+module _ (e0 e e' : Engine) (s0 s s' : SinkTold) (k : ℕ) (r : OpenReader) (knows : Knows e r) (all left : List ℕ) (may : MayLeave r left) (came : CameTo e0 s0 e s k all left) where
+  known_here : (sizes : Sizes) (book : Book) → AllStand sizes e book → IsKnown sizes e left book
+  known_here sizes book stands = is_known sizes e left book stands r knows may
+
+  pub came_rule : (n : ℕ) → ((sizes : Sizes) (f : FilesTold) (book : Book) → AllStand sizes e book → Went sizes (state_of e book) e' (world_of f s e) (world_of f s' e') (plan_of e book) n) → CameTo e0 s0 e' s' (k + n) all left
+  came_rule n does sizes f book stands =
+      came_on sizes (whole_state all e0 book) e e' left (world_of f s0 e0) (world_of f s e) (world_of f s' e') k (came sizes f book stands) (known_here sizes) n (λ w h. does sizes f w h)
+
+  pub came_end : (j : ℕ) (o : Outcome) → ((sizes : Sizes) (f : FilesTold) (book : Book) → AllStand sizes e book → Halts sizes (state_of e book) e' book (world_of f s e) (world_of f s' e') (plan_of e book) (outcome_of o) 1) → SameReadings e e' →
+      ((sizes : Sizes) (book : Book) → AllStand sizes e book → steps (plan_of e book) ≡ j) → StopsTo e0 s0 e' s' (k + j) o all left
+  came_end j o does same count sizes f book stands =
+      came_halts sizes (whole_state all e0 book) e e' left (world_of f s0 e0) (world_of f s e) (world_of f s' e') k (came sizes f book stands) (known_here sizes) j o (λ w h. does sizes f w h) same (count sizes)
+
+  pub came_cut : (j n : ℕ) (b : Broken) → k + j ≤ n → ((sizes : Sizes) (book : Book) → AllStand sizes e book → steps (plan_of e book) ≤ j) →
+      ((sizes : Sizes) (f : FilesTold) (book : Book) → AllStand sizes e book → CutsIn sizes (state_of e book) e' (world_of f s e) (world_of f s' e') (plan_of e book) b) → StoppedTo e0 s0 e' s' n (early.Broken b) all left
+  came_cut j n b le few cuts sizes f book stands =
+      cut_by_join sizes (whole_state all e0 book) e e' left (world_of f s0 e0) (world_of f s e) (world_of f s' e') k (came sizes f book stands) left j n b le
+      (λ w h. rule_cut sizes e e' left w (world_of f s e) (world_of f s' e') j b (known_here sizes w h) (few sizes w h) (cuts sizes f w h))
+
+  -- the steps were taken
+  pub came_steps : (i : Stored) → i ≡ record e.input { pending = settle e.input.pending; lists = i.lists } → KeepsMacros e.input i → stepping e ≡ true →
+      (sizes : Sizes) (f : FilesTold) (book : Book) → AllStand sizes e0 book → Ran sizes (whole_state all e0 book) k (record e { input = i }) left (world_of f s0 e0) (world_of f s e) ended.Steps
+  came_steps i is kept waits sizes f book stands =
+      came_whole sizes e left i is kept (whole_state all e0 book) (world_of f s0 e0) (world_of f s e) k (came sizes f book stands)
+      (whole_needs sizes e left (λ w h. is_ready sizes e left w h r knows (wants_step (all_want e.call e.top e.ask) (gives_step (pulled e.categories e.input.pending)) waits) may) (λ w h. stepping_needs sizes e waits w h))
+
+-- ONE PART OF A RUN BEHIND ANOTHER
+
+module _ (e0 e e' : Engine) (s0 s s' : SinkTold) (k : ℕ) (all mid left : List ℕ) (came : CameTo e0 s0 e s k all mid) where
+  pub came_then : (j : ℕ) → CameTo e s e' s' j mid left → CameTo e0 s0 e' s' (k + j) all left
+  came_then j on sizes f book stands =
+      came_join sizes (whole_state all e0 book) e e' mid (world_of f s0 e0) (world_of f s e) (world_of f s' e') k (came sizes f book stands) left j (λ w h. on sizes f w h)
+
+  pub stops_then : (j : ℕ) (o : Outcome) → StopsTo e s e' s' j o mid left → StopsTo e0 s0 e' s' (k + j) o all left
+  stops_then j o on sizes f book stands =
+      stops_join sizes (whole_state all e0 book) e e' mid (world_of f s0 e0) (world_of f s e) (world_of f s' e') k (came sizes f book stands) left j o (λ w h. on sizes f w h)
+
+  pub stopped_then : (j n : ℕ) (x : Early) → k + j ≤ n → StoppedTo e s e' s' j x mid left → StoppedTo e0 s0 e' s' n x all left
+  stopped_then j n x le on sizes f book stands =
+      stopped_join sizes (whole_state all e0 book) e e' mid (world_of f s0 e0) (world_of f s e) (world_of f s' e') k (came sizes f book stands) left j n x le (λ w h. on sizes f w h)
+
+module _ (e e' : Engine) (s s' : SinkTold) (r r' : OpenReader) (f f' : FilesTold) (x : Option Outcome) where
+  pub settles_none : x ≡ None → ReadsTo r r' f f' (SettlesTo e s e' s' x) → ReadsTo r r' f f' (CameTo e s e' s' 0)
+  settles_none is h = subst (λ (y : Option Outcome). ReadsTo r r' f f' (SettlesTo e s e' s' y)) is h
+
+  pub settles_some : (o : Outcome) → x ≡ Some o → ReadsTo r r' f f' (SettlesTo e s e' s' x) → ReadsTo r r' f f' (StopsTo e s e' s' 0 o)
+  settles_some o is h = subst (λ (y : Option Outcome). ReadsTo r r' f f' (SettlesTo e s e' s' y)) is h
+
+-- a run that has ended, within any bound that holds its steps
+pub stops_ran : (e e' : Engine) (s s' : SinkTold) (k n : ℕ) (o : Outcome) (all left : List ℕ) → k ≤ n → StopsTo e s e' s' k o all left → RanTo e s e' s' n (ended.Halted o) all left
+stops_ran e e' s s' k n o all left le h sizes f book stands = stops_whole sizes (whole_state all e book) e' left (world_of f s e) (world_of f s' e') k n o le (h sizes f book stands)
+
+-- as many steps
+pub came_count : (e e' : Engine) (s s' : SinkTold) (j k : ℕ) (all left : List ℕ) → j ≡ k → CameTo e s e' s' j all left → CameTo e s e' s' k all left
+came_count e e' s s' j k all left is h = subst (λ (n : ℕ). CameTo e s e' s' n all left) is h
