@@ -1,5 +1,5 @@
 -- What the program writes and answers, by the plain machine.
-use Rattle.std.specs.Prelude.{◌≡◌, ℕ, ◌≤◌, Bool, true, false, nat_lt, List, [], ◌∷◌, ◌++◌, Option, Some, None, take, length, codes, decimal, ◌⊎◌}
+use Rattle.std.specs.Prelude.{◌≡◌, ℕ, ◌+◌, ◌^◌, ◌<◌, ◌≤◌, Bool, true, false, nat_lt, List, [], ◌∷◌, ◌++◌, Option, Some, None, take, length, codes, decimal, ◌⊎◌}
 use Rattle.tex_defs.specs.declared.Fatal.{Fatal}
 use Rattle.tex_defs.specs.declared.Full.{Full}
 use Rattle.tex_defs.specs.declared.Sizes.{Sizes}
@@ -12,7 +12,7 @@ use Rattle.plain_state.specs.Reports.{fresh_line}
 use Rattle.plain_machine.specs.Plan.{first_state}
 use Rattle.plain_machine.specs.Runs.{Wrote}
 use Rattle.plain_machine.specs.Bounded.{Bounded, End, AtEnd, AtSteps, AtFull}
-use Rattle.plain_machine.specs.Does.{Why, IsFault, IsWant, CutAt, ReadAt}
+use Rattle.plain_machine.specs.Does.{Why, IsFull, IsFault, IsWant, CutAt, ReadAt}
 use Rattle.command_words.specs.Words.{Command, Options, Init, NoCommand}
 
 -- THE STOP LINES
@@ -86,11 +86,23 @@ pub record CutShort (sizes : Sizes) (s : State) (n : ℕ) (w w' : World) (why : 
   pub cut : CutAt sizes s n t w between why
   pub last : Line between w' line
 
--- A moment of the run is written at which its file's next bytes are needed, and then a stop line.
-pub record Unread (sizes : Sizes) (s : State) (n : ℕ) (w w' : World) (line : List ℕ) : Type 0 where
+-- The file is so long that its lines can't be counted any more: the lines that were taken, the bytes that are left, and the 256 that
+-- are read at once are together more than 2^62.
+abbrev pub IsUncountable : State → Type 0
+IsUncountable t = 2 ^ 62 < t.pending.number + (length t.pending.rest + 256)
+
+-- The file's next bytes don't come only where the count of failed reads, or of wants, rose, or where its lines can't be counted.
+abbrev pub IsReadCause : Why → State → World → World → Type 0
+IsReadCause (IsFull full) t w w' = ⊥
+IsReadCause IsFault t w w' = Rose w.read_faults w'.read_faults
+IsReadCause IsWant t w w' = Rose w.file_wants w'.file_wants ⊎ IsUncountable t
+
+-- A moment of the run is written at which its file's next bytes are needed and don't come, for a cause, and then a stop line.
+pub record Unread (sizes : Sizes) (s : State) (n : ℕ) (w w' : World) (why : Why) (line : List ℕ) : Type 0 where
   pub t : State
   pub between : World
   pub read : ReadAt sizes s n t w between
+  pub cause : IsReadCause why t w between
   pub last : Line between w' line
 
 -- Nothing of the run is written, and then a stop line.
@@ -117,9 +129,9 @@ Says sizes s n w w' _ IsFlawed = Ending sizes s n w w' true
 Says sizes s n w w' _ IsFatal = Fails sizes s n w w'
 Says sizes s n w w' _ IsFullTable = OutOfRoom sizes s n w w'
 Says sizes s n w w' _ IsSteps = Stops sizes s n w w' AtSteps (steps_line n)
-Says sizes s n w w' _ IsReadFault = Unread sizes s n w w' read_fault_line ⊎ NotBegun w w' read_fault_line
+Says sizes s n w w' _ IsReadFault = Unread sizes s n w w' IsFault read_fault_line ⊎ NotBegun w w' read_fault_line
 Says sizes s n w w' _ IsWriteFault = CutShort sizes s n w w' IsFault write_fault_line
-Says sizes s n w w' _ IsNoMemory = CutShort sizes s n w w' IsWant no_memory_line ⊎ (Unread sizes s n w w' no_memory_line ⊎ NotBegun w w' no_memory_line)
+Says sizes s n w w' _ IsNoMemory = CutShort sizes s n w w' IsWant no_memory_line ⊎ (Unread sizes s n w w' IsWant no_memory_line ⊎ NotBegun w w' no_memory_line)
 
 -- what is told of the job's file may be this
 abbrev pub IsJob : File → Option (List ℕ) → Type 0

@@ -1,5 +1,5 @@
 -- From the engine's run to what the program means.
-use Rattle.std.proofs.Common.{◌≡◌, inl, inr, ℕ, ◌≤◌, List, [], ◌∷◌, ◌++◌, refl, sym, ap, subst, ◌∙◌, arith, Bool, true, false}
+use Rattle.std.proofs.Common.{◌≡◌, inl, inr, ℕ, ◌≤◌, List, [], ◌∷◌, ◌++◌, refl, sym, ap, subst, ◌∙◌, arith, Bool, true, false, length, length-append}
 use Rattle.std.specs.Prelude.{Option, Some, None, nat_eq, nat_lt, if◌then◌else◌, ◌⊎◌}
 use Rattle.std.proofs.lemmas.Grind.{common_steps}
 use Rattle.prim_table.specs.Primitives.{primitive_names}
@@ -13,15 +13,16 @@ use Rattle.plain_machine.specs.Extended.{extended}
 use Rattle.plain_machine.specs.Plan.{no_file, job_due}
 use Rattle.plain_machine.specs.Runs.{Wrote, steps}
 use Rattle.plain_machine.specs.Bounded.{FitMoves}
-use Rattle.plain_machine.specs.Does.{Did, Cut, IsCause, Why, IsFault}
-use Rattle.plain_machine.specs.Meaning.{First, Line, Whole, Ending, Status, IsFinished, IsFlawed, IsFatal, IsFullTable, IsSteps, IsReadFault, IsWriteFault, IsNoMemory, Says, IsJob, MeansRun, Means, sizes_of, steps_line, full_line, read_fault_line, write_fault_line, no_memory_line}
+use Rattle.plain_machine.specs.Does.{Did, Cut, IsCause, Why, IsFault, CutAt, IsFull, IsWant, front_of}
+use Rattle.plain_machine.specs.Meaning.{First, Line, Whole, Ending, Status, IsFinished, IsFlawed, IsFatal, IsFullTable, IsSteps, IsReadFault, IsWriteFault, IsNoMemory, Says, IsJob, MeansRun, Means, sizes_of, steps_line, full_line, read_fault_line, write_fault_line, no_memory_line, IsReadCause}
 use Rattle.plain_machine.proofs.Extending.{still_cut, still_did}
 use Rattle.plain_machine.proofs.Pulls.{pulls}
 use Rattle.plain_machine.proofs.Doing.{later_on, rose_to, did_join, due_did, due_cut, CutOff, full_end, full_wrote, wrote_none}
 use Rattle.plain_machine.proofs.Joins.{made_all_due, all_fit_due, refuses_due, due_none, stopped_ends}
 use Rattle.command_words.specs.Words.{Command, Init, NoCommand, job_name}
 use Rattle.world_io.specs.declared.traits.Fault.{Fault}
-use Rattle.world_io.specs.Told.{FilesTold, SinkTold, SameFiles, SoFar, NotFound, MayHold, IsAtEnd, OpensReader, ClosesReader, OnlyReads, content, world}
+use Rattle.world_io.specs.declared.traits.Fault.TheVariants.{Failed, NoMemory}
+use Rattle.world_io.specs.Told.{FilesTold, SinkTold, SameFiles, SoFar, NotFound, MayHold, IsAtEnd, OpensReader, ClosesReader, OnlyReads, content, world, SameCounts}
 use Rattle.world_io.proofs.Reading.{closed_again}
 use Rattle.line_reader.specs.Readers.{OpenReader, KnowsEnd}
 use Rattle.engine_state.specs.declared.engine.Engine.{Engine}
@@ -39,9 +40,10 @@ use Rattle.engine_state.specs.Stands.{Stands, FramesStand, SameFrames, state_of}
 use Rattle.engine_state.specs.Rules.{world_of, Halts, Cuts}
 use Rattle.stomach.specs.declared.early.Early.{Early}
 use Rattle.stomach.specs.declared.early.Early.TheVariants as early
-use Rattle.stomach.specs.Ran.{Came, Ran, CutBy, UnreadBy, StoppedBy, whole_state}
+use Rattle.stomach.specs.Ran.{Came, Ran, CutBy, UnreadBy, StoppedBy, whole_state, IsAt}
+use Rattle.stomach.specs.Ahead.{Wanted}
 use Rattle.stomach.specs.Read.{CameOn, MayLeave}
-use Rattle.tex_program.specs.Says.{SaysSo, end_status}
+use Rattle.tex_program.specs.Says.{SaysSo, end_status, ReadAlike, HasReadCause}
 use Rattle.engine_state.proofs.Bare.{all_of}
 use Rattle.engine_state.proofs.Nearing.{near_none}
 use Rattle.engine_state.proofs.Cutting.{later_cuts}
@@ -73,11 +75,19 @@ module _ (sizes : Sizes) (s : State) (n : ℕ) (w m w' : World) (e : Engine) (le
       }
 
   -- the file's next bytes didn't come
-  pub unread_failed : UnreadBy sizes s n e left w m → Line m w' read_fault_line → SaysSo sizes s n w w' 5
-  unread_failed h last = record { is = IsReadFault; says = inl (record { t = h.t; between = m; read = h.read; last = last }) }
+  pub unread_failed : UnreadBy sizes s n e left w m → Rose w.read_faults m.read_faults → Line m w' read_fault_line → SaysSo sizes s n w w' 5
+  unread_failed h cause last = record { is = IsReadFault; says = inl (record { t = h.t; between = m; read = h.read; cause = cause; last = last }) }
 
-  pub unread_want : UnreadBy sizes s n e left w m → Line m w' no_memory_line → SaysSo sizes s n w w' 7
-  unread_want h last = record { is = IsNoMemory; says = inr (inl (record { t = h.t; between = m; read = h.read; last = last })) }
+  -- the machine's file is the engine's, and goes on
+  want_cause : (t : State) → IsAt sizes e left t → Wanted w.file_wants m.file_wants e → IsReadCause IsWant t w m
+  want_cause t at (inl h) = inl h
+  want_cause t at (inr h) =
+      let number : t.pending.number ≡ e.input.pending.number = ap (λ (x : State). x.pending.number) at.same in
+      let rest : length t.pending.rest ≡ length (e.input.pending.rest ++ left) = ap (λ (x : State). length x.pending.rest) at.same in
+      inr (omega (arith, h, number, rest, length-append e.input.pending.rest left))
+
+  pub unread_want : UnreadBy sizes s n e left w m → Wanted w.file_wants m.file_wants e → Line m w' no_memory_line → SaysSo sizes s n w w' 7
+  unread_want h wanted last = record { is = IsNoMemory; says = inr (inl (record { t = h.t; between = m; read = h.read; cause = want_cause h.t h.at wanted; last = last })) }
 
 -- why it stopped
 module _ (sizes : Sizes) (s : State) (n : ℕ) (w m : World) (e : Engine) (left : List ℕ) where
@@ -86,6 +96,9 @@ module _ (sizes : Sizes) (s : State) (n : ℕ) (w m : World) (e : Engine) (left 
 
   pub early_unread : (x : Early) (fault : Fault) → x ≡ early.Unread fault → StoppedBy sizes s n e left w m x → UnreadBy sizes s n e left w m
   early_unread x fault is h = subst (λ (y : Early). StoppedBy sizes s n e left w m y) is h
+
+  pub early_cause : (x : Early) (fault : Fault) → x ≡ early.Unread fault → HasReadCause x e w m → HasReadCause (early.Unread fault) e w m
+  early_cause x fault is h = subst (λ (y : Early). HasReadCause y e w m) is h
 
 module _ (sizes : Sizes) (s : State) (n : ℕ) (w m w' : World) (e' : Engine) (left : List ℕ) where
   abbrev whole_of : (o : Outcome) (ran : Ran sizes s n e' left w w' (Halted o)) → Whole sizes s n w w' (outcome_of o)
@@ -253,6 +266,35 @@ module _ (w m w' : World) (quiet : Wrote m w' []) where
   line_on : (line : List ℕ) → Line w m line → Line w w' line
   line_on line h = record { count = h.count; written = wrote_on _ h.written; whole = line_whole _ h.whole }
 
+  cause_still : (why : Why) → IsCause why w m → IsCause why w w'
+  cause_still (IsFull full) h = tt
+  cause_still IsFault (inl h) = inl (rose_to _ _ _ h quiet.later.file_faults)
+  cause_still IsFault (inr h) = inr (rose_to _ _ _ h quiet.later.sink_faults)
+  cause_still IsWant (inl h) = inl (rose_to _ _ _ h quiet.later.file_wants)
+  cause_still IsWant (inr h) = inr (rose_to _ _ _ h quiet.later.sink_wants)
+
+  cut_on : (sizes : Sizes) (s : State) (n : ℕ) (t : State) (why : Why) → CutAt sizes s n t w m why → CutAt sizes s n t w w' why
+  cut_on sizes s n t why h = record {
+    ms = h.ms;
+    m = h.m;
+    u = h.u;
+    count = h.count;
+    moves = h.moves;
+    goes = h.goes;
+    room = h.room;
+    refuses = h.refuses;
+    cause = cause_still why h.cause;
+    written = wrote_on (h.ms ++ front_of h.count h.m) h.written;
+  }
+
+  pub stopped_on : (sizes : Sizes) (s : State) (n : ℕ) (e : Engine) (left : List ℕ) (x : Early) → StoppedBy sizes s n e left w m x → StoppedBy sizes s n e left w w' x
+  stopped_on sizes s n e left (early.Broken b) h = record { t = h.t; cut = cut_on sizes s n h.t (why_of b) h.cut; book' = h.book'; frames = h.frames; same = h.same }
+  stopped_on sizes s n e left (early.Unread fault) h = record {
+    t = h.t;
+    read = record { ms = h.read.ms; moves = h.read.moves; within = h.read.within; file = h.read.file; not_closed = h.read.not_closed; written = wrote_on h.read.ms h.read.written };
+    at = h.at;
+  }
+
 module _ (sizes : Sizes) (s : State) (n : ℕ) (w m w' : World) (quiet : Wrote m w' []) where
   abbrev whole_on : (o : MachineOutcome) → Whole sizes s n w m o → Whole sizes s n w w' o
   whole_on o h = record { ms = h.ms; t = h.t; run = h.run; stopped = h.stopped; written = wrote_on w m w' quiet h.ms h.written }
@@ -266,27 +308,42 @@ module _ (sizes : Sizes) (s : State) (n : ℕ) (w m w' : World) (quiet : Wrote m
     stops = record { ms = h.stops.ms; t = h.stops.t; between = h.stops.between; run = h.stops.run; written = h.stops.written; last = line_on h.stops.between m w' quiet _ h.stops.last };
   }
   on _ IsSteps h = record { ms = h.ms; t = h.t; between = h.between; run = h.run; written = h.written; last = line_on h.between m w' quiet _ h.last }
-  on _ IsReadFault (inl h) = inl (record { t = h.t; between = h.between; read = h.read; last = line_on h.between m w' quiet _ h.last })
+  on _ IsReadFault (inl h) = inl (record { t = h.t; between = h.between; read = h.read; cause = h.cause; last = line_on h.between m w' quiet _ h.last })
   on _ IsReadFault (inr h) = inr (record { between = h.between; written = h.written; last = line_on h.between m w' quiet _ h.last })
   on _ IsWriteFault h = record { t = h.t; between = h.between; cut = h.cut; last = line_on h.between m w' quiet _ h.last }
   on _ IsNoMemory (inl h) = inl (record { t = h.t; between = h.between; cut = h.cut; last = line_on h.between m w' quiet _ h.last })
-  on _ IsNoMemory (inr (inl h)) = inr (inl (record { t = h.t; between = h.between; read = h.read; last = line_on h.between m w' quiet _ h.last }))
+  on _ IsNoMemory (inr (inl h)) = inr (inl (record { t = h.t; between = h.between; read = h.read; cause = h.cause; last = line_on h.between m w' quiet _ h.last }))
   on _ IsNoMemory (inr (inr h)) = inr (inr (record { between = h.between; written = h.written; last = line_on h.between m w' quiet _ h.last }))
 
   pub says_on : (status : ℕ) → SaysSo sizes s n w m status → SaysSo sizes s n w w' status
   says_on status h = record { is = h.is; says = on status h.is h.says }
 
 -- reading a file writes nothing
-same_at : (f f' : FilesTold) (s : SinkTold) (b : Bool) → SameFiles f f' → (p : Place) → (world f' s b).at p ≡ (world f s b).at p
+same_at : (f f' : FilesTold) (s : SinkTold) (b : Bool) → ((name : List ℕ) → f'.file name ≡ f.file name) → (p : Place) → (world f' s b).at p ≡ (world f s b).at p
 same_at f f' s b h Transcript = refl
-same_at f f' s b h (OfFile name) = h.file name
+same_at f f' s b h (OfFile name) = h name
 
-pub read_quiet : (f f' : FilesTold) (s : SinkTold) (b : Bool) → SameFiles f f' → f.read_faults ≤ f'.read_faults → f'.write_faults ≡ f.write_faults → f.wants ≤ f'.wants → Wrote (world f s b) (world f' s b) []
+pub read_quiet : (f f' : FilesTold) (s : SinkTold) (b : Bool) → ((name : List ℕ) → f'.file name ≡ f.file name) → f.read_faults ≤ f'.read_faults → f'.write_faults ≡ f.write_faults → f.wants ≤ f'.wants → Wrote (world f s b) (world f' s b) []
 read_quiet f f' s b h lr e lw = record {
   told = same_at f f' s b h;
   column = refl;
   later = record { read_faults = lr; file_faults = omega (arith, e); sink_faults = omega arith; file_wants = lw; sink_wants = omega arith };
 }
+
+module _ (a a' f f' : FilesTold) (alike : ReadAlike a a' f f') where
+  pub alike_quiet : (s : SinkTold) (b : Bool) → Wrote (world f s b) (world f' s b) []
+  alike_quiet s b = read_quiet f f' s b alike.file alike.read_faults alike.write_faults alike.wants
+
+  -- what holds over the same files holds where these were read
+  pub says_alike : (sizes : Sizes) (s : State) (n : ℕ) (w : World) (x : SinkTold) (b : Bool) (status : ℕ) → SaysSo sizes s n w (world f x b) status → SaysSo sizes s n w (world f' x b) status
+  says_alike sizes s n w x b status h = says_on sizes s n w (world f x b) (world f' x b) (alike_quiet x b) status h
+
+  pub cause_alike : (x : Early) (e : Engine) (s s' : SinkTold) (b b' : Bool) → (x ≡ early.Unread Failed → Rose a.read_faults a'.read_faults) → (x ≡ early.Unread NoMemory → Wanted a.wants a'.wants e) →
+      HasReadCause x e (world f s b) (world f' s' b')
+  cause_alike x e s s' b b' failed wanted = record { failed = λ h. alike.failed (failed h); wanted = λ h. wanted_alike (wanted h) } where
+    wanted_alike : Wanted a.wants a'.wants e → Wanted f.wants f'.wants e
+    wanted_alike (inl h) = inl (alike.wanted h)
+    wanted_alike (inr h) = inr h
 
 -- WHAT THE WORDS MEAN
 
@@ -329,8 +386,19 @@ module _ (id : ℕ) (name : List ℕ) (f f1 f2 f3 : FilesTold) (r r' : OpenReade
   job_leaves =
       leaves r r' f1 f2 got came (ap (λ (x : OpenReader). x.ended) new) (f.file name) opens.held (ap f1.rest same_id ∙ (opens.rest id ∙ at_id id (content (f.file name)) (f.rest id)))
 
-  pub job_same : ClosesReader id f2 f3 → SameFiles f f3
+  job_same : ClosesReader id f2 f3 → SameFiles f f3
   job_same closes = closed_again id name f f1 f2 f3 opens (subst (λ (i : ℕ). OnlyReads i f1 f2) same_id came.came.only) closes
+
+  -- from before it was opened until it is closed
+  pub job_alike : ClosesReader id f2 f3 → SameCounts f2 f3 → f.read_faults ≤ f1.read_faults → f1.write_faults ≡ f.write_faults → f.wants ≤ f1.wants → ReadAlike f1 f2 f f3
+  job_alike closes counts faults writes wants = record {
+    file = (job_same closes).file;
+    read_faults = omega (arith, faults, came.read_faults, counts.read_faults);
+    write_faults = counts.write_faults ∙ (came.write_faults ∙ writes);
+    wants = omega (arith, wants, came.wants, counts.wants);
+    failed = λ h. omega (arith, h, faults, counts.read_faults);
+    wanted = λ h. omega (arith, h, wants, counts.wants);
+  }
 
 -- other bounds, the same
 pub says_by : (sizes sizes' : Sizes) (quiet quiet' : Bool) (n n' : ℕ) (name : List ℕ) (job : Option (List ℕ)) (w w' : World) (status : ℕ) → sizes' ≡ sizes → quiet' ≡ quiet → n' ≡ n →
@@ -368,25 +436,32 @@ no_memory_means NoCommand f a b c last = inr (record { is = refl; line = last })
 
 -- A FAILED WRITE
 
--- over whatever files: a write to the transcript failed
-bare : FilesTold
+-- files that tell nothing, and the same where a read failed and wanted memory
+abbrev pub bare : FilesTold
 bare = record { file = λ name. Untold; reading = λ id. false; rest = λ id. None; writer = λ id. None; read_faults = 0; write_faults = 0; wants = 0 }
 
-of_cause : (a b : SinkTold) (c d : Bool) (m : World) → IsCause IsFault (world bare a c) m → Later m (world bare b d) → Rose a.faults b.faults
-unfolding bare
-of_cause a b c d m (inl h) later =
-    let rose : Rose 0 m.file_faults = h in
-    let none : m.file_faults ≤ 0 = later.file_faults in
-    absurd (omega (arith, rose, none))
-of_cause a b c d m (inr h) later =
-    let rose : Rose a.faults m.sink_faults = h in
-    let on : m.sink_faults ≤ b.faults = later.sink_faults in
-    omega (arith, rose, on)
+abbrev pub bare_read : FilesTold
+bare_read = record { file = λ name. Untold; reading = λ id. false; rest = λ id. None; writer = λ id. None; read_faults = 1; write_faults = 0; wants = 1 }
 
-of_fault : (sizes : Sizes) (s : State) (n : ℕ) (a b : SinkTold) (c d : Bool) (is : Status 6) → Says sizes s n (world bare a c) (world bare b d) 6 is → Rose a.faults b.faults
-of_fault sizes s n a b c d IsWriteFault h = of_cause a b c d h.between h.cut.cause h.last.written.later
+pub bare_alike : (a a' : FilesTold) → ReadAlike a a' bare bare_read
+bare_alike a a' = record { file = λ name. refl; read_faults = omega arith; write_faults = refl; wants = omega arith; failed = λ h. omega arith; wanted = λ h. omega arith }
 
-pub fault_rose : (sizes : Sizes) (s : State) (n : ℕ) (a b : SinkTold) (c d : Bool) (status : ℕ) → ((f : FilesTold) → SaysSo sizes s n (world f a c) (world f b d) status) → status ≡ 6 → Rose a.faults b.faults
-fault_rose sizes s n a b c d status h is =
-    let x : SaysSo sizes s n (world bare a c) (world bare b d) 6 = subst (λ (k : ℕ). SaysSo sizes s n (world bare a c) (world bare b d) k) is (h bare) in
-    of_fault sizes s n a b c d x.is x.says
+-- over whatever files: a write to the transcript failed
+module _ (f : FilesTold) (none : f.write_faults ≡ 0) (a b : SinkTold) (c d : Bool) where
+  of_cause : (m : World) → IsCause IsFault (world bare a c) m → Later m (world f b d) → Rose a.faults b.faults
+  of_cause m (inl h) later =
+      let rose : Rose 0 m.file_faults = h in
+      let on : m.file_faults ≤ f.write_faults = later.file_faults in
+      absurd (omega (arith, rose, on, none))
+  of_cause m (inr h) later =
+      let rose : Rose a.faults m.sink_faults = h in
+      let on : m.sink_faults ≤ b.faults = later.sink_faults in
+      omega (arith, rose, on)
+
+  of_fault : (sizes : Sizes) (s : State) (n : ℕ) (is : Status 6) → Says sizes s n (world bare a c) (world f b d) 6 is → Rose a.faults b.faults
+  of_fault sizes s n IsWriteFault h = of_cause h.between h.cut.cause h.last.written.later
+
+  pub fault_rose : (sizes : Sizes) (s : State) (n : ℕ) (status : ℕ) → SaysSo sizes s n (world bare a c) (world f b d) status → status ≡ 6 → Rose a.faults b.faults
+  fault_rose sizes s n status h is =
+      let x : SaysSo sizes s n (world bare a c) (world f b d) 6 = subst (λ (k : ℕ). SaysSo sizes s n (world bare a c) (world f b d) k) is h in
+      of_fault sizes s n x.is x.says

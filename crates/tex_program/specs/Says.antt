@@ -1,11 +1,17 @@
 -- What a run of the engine means, by the machine.
-use Rattle.std.specs.Prelude.{ℕ, nat_lt, if◌then◌else◌}
-use Rattle.tex_defs.specs.Places.{World}
+use Rattle.std.specs.Prelude.{◌≡◌, ◌≤◌, ℕ, nat_lt, List, if◌then◌else◌}
+use Rattle.tex_defs.specs.Places.{World, Rose}
 use Rattle.tex_defs.specs.declared.Sizes.{Sizes}
 use Rattle.plain_state.specs.States.{State}
 use Rattle.plain_machine.specs.Meaning.{Status, Says}
+use Rattle.world_io.specs.Told.{FilesTold}
+use Rattle.world_io.specs.declared.traits.Fault.TheVariants.{Failed, NoMemory}
+use Rattle.engine_state.specs.declared.engine.Engine.{Engine}
 use Rattle.engine_state.specs.declared.outcome.Outcome.{Outcome}
 use Rattle.engine_state.specs.declared.outcome.Outcome.TheVariants.{Finished, Fatal}
+use Rattle.stomach.specs.declared.early.Early.{Early}
+use Rattle.stomach.specs.declared.early.Early.TheVariants.{Unread}
+use Rattle.stomach.specs.Ahead.{Wanted}
 
 -- the status is one of a run's, and what it says holds
 pub record SaysSo (sizes : Sizes) (s : State) (n : ℕ) (w w' : World) (status : ℕ) : Type 0 where
@@ -16,3 +22,17 @@ pub record SaysSo (sizes : Sizes) (s : State) (n : ℕ) (w w' : World) (status :
 abbrev pub end_status : Outcome → ℕ → ℕ
 end_status Finished reports = if nat_lt 0 reports then 1 else 0
 end_status (Fatal f) reports = 2
+
+-- f was read as a was: nothing was written to it, and its counts of failed reads and of wants rose where those of a did
+pub record ReadAlike (a a' f f' : FilesTold) : Type 0 where
+  pub file : (name : List ℕ) → f'.file name ≡ f.file name
+  pub read_faults : f.read_faults ≤ f'.read_faults
+  pub write_faults : f'.write_faults ≡ f.write_faults
+  pub wants : f.wants ≤ f'.wants
+  pub failed : Rose a.read_faults a'.read_faults → Rose f.read_faults f'.read_faults
+  pub wanted : Rose a.wants a'.wants → Rose f.wants f'.wants
+
+-- Where the run stopped because the file's next bytes didn't come, a read failed, or memory was wanted or the lines can't be counted.
+pub record HasReadCause (early : Early) (e : Engine) (w w' : World) : Type 0 where
+  pub failed : early ≡ Unread Failed → Rose w.read_faults w'.read_faults
+  pub wanted : early ≡ Unread NoMemory → Wanted w.file_wants w'.file_wants e

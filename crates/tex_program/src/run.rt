@@ -10,7 +10,7 @@ ghost use Rattle.world_io.specs.declared.traits.Fault.TheVariants.{Failed};
 ghost use Rattle.stomach.specs.Ran.{CutBy, UnreadBy, StoppedBy};
 ghost use Rattle.stomach.specs.Read.{ReadsTo};
 ghost use Rattle.stomach.specs.declared.early.Early.TheVariants.{Unread};
-ghost use Rattle.tex_program.specs.Says.{SaysSo, end_status};
+ghost use Rattle.tex_program.specs.Says.{SaysSo, ReadAlike, HasReadCause, end_status};
 ghost use Rattle.engine_state.specs.First.{Begins};
 ghost use Rattle.engine_state.specs.declared.engine.Engine.{Engine};
 
@@ -62,7 +62,8 @@ fn tell_broken<S: Sink>(out: &mut S, in_line: bool, broken: Broken) -> Told
 
 /// Tells that the next bytes of the job's file were needed and didn't come.
 fn tell_unread<S: Sink>(out: &mut S, in_line: bool, fault: Fault) -> Told
-    ensures says { (sizes : Sizes) (f : FilesTold) (s : State) (n : ℕ) (w : _) (e : Engine) (left : List ℕ) → UnreadBy sizes s n e left w (world f (S.told out.old) in_line) → SaysSo sizes s n w (world f (S.told out.new) result.in_line) result.status }
+    ensures says { (sizes : Sizes) (f : FilesTold) (s : State) (n : ℕ) (w : _) (e : Engine) (left : List ℕ) → UnreadBy sizes s n e left w (world f (S.told out.old) in_line) →
+        HasReadCause (Unread fault) e w (world f (S.told out.old) in_line) → SaysSo sizes s n w (world f (S.told out.new) result.in_line) result.status }
     ensures read_fault { result.status ≡ 5 → fault ≡ Failed }
     ensures not_usage { result.status ≡ 9 → ⊥ }
 {
@@ -80,7 +81,8 @@ fn tell_unread<S: Sink>(out: &mut S, in_line: bool, fault: Fault) -> Told
 
 /// Tells of a run that stopped early.
 fn tell_early<S: Sink>(out: &mut S, in_line: bool, early: Early) -> Told
-    ensures says { (sizes : Sizes) (f : FilesTold) (s : State) (n : ℕ) (w : _) (e : Engine) (left : List ℕ) → StoppedBy sizes s n e left w (world f (S.told out.old) in_line) early → SaysSo sizes s n w (world f (S.told out.new) result.in_line) result.status }
+    ensures says { (sizes : Sizes) (f : FilesTold) (s : State) (n : ℕ) (w : _) (e : Engine) (left : List ℕ) → StoppedBy sizes s n e left w (world f (S.told out.old) in_line) early →
+        HasReadCause early e w (world f (S.told out.old) in_line) → SaysSo sizes s n w (world f (S.told out.new) result.in_line) result.status }
     ensures read_fault { result.status ≡ 5 → early ≡ Unread Failed }
     ensures not_usage { result.status ≡ 9 → ⊥ }
 {
@@ -112,8 +114,8 @@ fn run_engine<F: Files, S: Sink>(
 ) -> Told
     requires idle { engine.old.input.making ≡ None }
     requires is_open { (F.told files.old).reading reader.old.id ≡ true }
-    ensures says { ReadsTo reader.old reader.new (F.told files.old) (F.told files.new) (λ all left. (sizes : Sizes) (f : FilesTold) (quiet : _) → Begins sizes engine.old quiet (Some []) →
-        SaysSo sizes (First quiet file.now (Some all)) steps (world f (S.told out.old) false) (world f (S.told out.new) result.in_line) result.status) }
+    ensures says { ReadsTo reader.old reader.new (F.told files.old) (F.told files.new) (λ all left. (sizes : Sizes) (f f' : FilesTold) (quiet : _) → ReadAlike (F.told files.old) (F.told files.new) f f' → Begins sizes engine.old quiet (Some []) →
+        SaysSo sizes (First quiet file.now (Some all)) steps (world f (S.told out.old) false) (world f' (S.told out.new) result.in_line) result.status) }
     ensures read_fault { result.status ≡ 5 → Rose (F.told files.old).read_faults (F.told files.new).read_faults }
     ensures not_usage { result.status ≡ 9 → ⊥ }
 {
@@ -173,8 +175,8 @@ pub fn run_file<F: Files, S: Sink>(
 ) -> Told
     requires in_range { first_out_of_range bounds.now.sizes ≡ None }
     requires is_open { (F.told files.old).reading reader.old.id ≡ true }
-    ensures says { ReadsTo reader.old reader.new (F.told files.old) (F.told files.new) (λ all left. (f : FilesTold) →
-        SaysSo bounds.now.sizes (First bounds.now.quiet file.now (Some all)) bounds.now.steps (world f (S.told out.old) false) (world f (S.told out.new) result.in_line) result.status) }
+    ensures says { ReadsTo reader.old reader.new (F.told files.old) (F.told files.new) (λ all left. (f f' : FilesTold) → ReadAlike (F.told files.old) (F.told files.new) f f' →
+        SaysSo bounds.now.sizes (First bounds.now.quiet file.now (Some all)) bounds.now.steps (world f (S.told out.old) false) (world f' (S.told out.new) result.in_line) result.status) }
     ensures read_fault { result.status ≡ 5 → Rose (F.told files.old).read_faults (F.told files.new).read_faults }
     ensures fault { result.status ≡ 6 → Rose (S.told out.old).faults (S.told out.new).faults }
     ensures not_usage { result.status ≡ 9 → ⊥ }

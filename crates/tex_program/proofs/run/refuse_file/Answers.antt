@@ -1,5 +1,5 @@
-use Rattle.std.proofs.Common.{false}
-use Rattle.tex_program.proofs.Meanings.{fault_rose}
+use Rattle.std.proofs.Common.{refl, false}
+use Rattle.tex_program.proofs.Meanings.{bare, fault_rose}
 use Rattle.tex_program.proofs.run.refuse_file.Goals as goal
 
 pub returns-clause-says : goal.returns-clause-says
@@ -10,7 +10,7 @@ returns-clause-says g c =
 pub returns-clause-fault : goal.returns-clause-fault
 returns-clause-fault g c =
     let bounds = c.args.bounds.now in
-    fault_rose bounds.sizes _ bounds.steps _ _ false c.refuse_engine-told.result.in_line c.refuse_engine-told.result.status (returns-clause-says g c)
+    fault_rose bare refl _ _ false c.refuse_engine-told.result.in_line bounds.sizes _ bounds.steps c.refuse_engine-told.result.status (returns-clause-says g c bare)
 
 pub returns-in-Err-clause-says : goal.returns-in-Err-clause-says
 returns-in-Err-clause-says g c =
