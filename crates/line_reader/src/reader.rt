@@ -30,13 +30,6 @@ impl Reader {
         Reader { id, ended: false }
     }
 
-    /// The reader's number.
-    pub fn id(&self) -> InId
-        ensures { result ≡ record { number = self.now.id } }
-    {
-        self.id
-    }
-
     /// Whether the file's end has come.
     pub fn is_ended(&self) -> bool
         ensures { result ≡ self.now.ended }
