@@ -2,17 +2,14 @@
 use Rattle.std.proofs.Common.{◌≡◌, List, [], ◌∷◌, refl, sym, ap, ◌∙◌, arith, true, false}
 use Rattle.std.specs.Prelude.{Option, Some, None, ◌&&◌}
 use Rattle.tex_defs.specs.declared.Sizes.{Sizes}
-use Rattle.tex_defs.specs.declared.Token.{Token}
 use Rattle.tex_defs.specs.declared.Name.{Name}
-use Rattle.plain_state.specs.Puts.{Put as PutList, Item, call_put}
 use Rattle.plain_state.specs.Pending.{pulled}
-use Rattle.plain_state.specs.Readings as reading
-use Rattle.plain_state.specs.Reports as reports
-use Rattle.plain_state.specs.States.{Reading, Closed}
+use Rattle.plain_state.specs.States.{Move, Reading}
 use Rattle.plain_state.specs.Tokens.{Raw}
-use Rattle.plain_machine.specs.Plan.{Page, page_of, answered, given_back, failed, failed_away, called_with, arguments_put, Scanning, scanning, away_text, page_behind, wanted, feeding}
+use Rattle.plain_machine.specs.Plan.{page_of, answered, scanning, wanted, feeding}
 use Rattle.plain_machine.specs.Runs.{steps}
-use Rattle.plain_machine.proofs.Joins.{StepComes, steps_join}
+use Rattle.plain_machine.proofs.Joins.{StepComes}
+use Rattle.plain_machine.proofs.Pulls.{pulls, steps_pull}
 use Rattle.input_state.specs.Reads.{gives_step}
 use Rattle.input_state.specs.Stored.{gathered}
 use Rattle.engine_state.specs.declared.call.Call.{Call}
@@ -20,41 +17,23 @@ use Rattle.engine_state.specs.declared.call.CallAsk.{CallAsk}
 use Rattle.engine_state.specs.declared.call.CallAsk.TheVariants as call
 use Rattle.engine_state.specs.declared.engine.Engine.{Engine}
 use Rattle.engine_state.specs.Book.{Book, with_work}
-use Rattle.engine_state.specs.Calls.{AllStand, ReadingsStand, asks_by, args_of}
+use Rattle.engine_state.specs.Calls.{AllStand, ReadingsStand, asks_by}
 use Rattle.engine_state.specs.Stands.{state_of}
 use Rattle.engine_state.specs.Steps.{stepping, all_want, call_asks_more}
 use Rattle.engine_state.specs.Rules.{plan_of}
-use Rattle.engine_state.proofs.Stepping.{one_if, kind_none, handed_now, back_none, reported_none, told_none, wanted_none, pulled_needs, frame_steps, frame_needs}
-
--- MOVES WITHOUT A STEP
-
-put_none : (p : PutList) (items : List Item) → steps (arguments_put p items) ≡ 0
-put_none p [] = refl
-put_none p (x ∷ xs) = refl
-
-called_none : (k : reading.Kind) (args : List (List Token)) → steps (called_with k args) ≡ 0
-called_none (reading.Arguments name long number ts) args = put_none (call_put number ts args) (call_put number ts args).items
-called_none k args = refl
-
-failed_none : (page : Page) (report : reports.Report) → steps (failed page report) ≡ 0
-failed_none page report = reported_none page report (Closed ∷ []) refl
-
-away_none : (page : Page) (report : reports.Report) (o : Option Scanning) (fed : List reading.Fed) → steps (failed_away page report o fed) ≡ 0
-away_none page report None fed = steps_join (given_back true fed) (failed page report) ∙ omega (arith, back_none true fed, failed_none page report)
-away_none page report (Some s) fed =
-    let behind : Page = page_behind page (away_text page s) in
-    omega (arith, steps_join (given_back true fed) (failed behind report), back_none true fed, failed_none behind report)
+use Rattle.engine_state.proofs.Stepping.{one_if, kind_none, handed_now, wanted_none, pulled_needs, frame_steps, frame_needs}
+use Rattle.stomach.proofs.Unread.{call_unread}
 
 -- A RULE'S STEPS
+
+-- moves that pull nothing are no steps
+no_pull : (ms : List Move) → pulls ms ≡ 0 → steps ms ≡ 0
+no_pull ms h = omega (arith, h, steps_pull ms)
 
 call_steps : (e : Engine) (book : Book) (r : Reading) (name : Name) (a : CallAsk) → steps (answered (state_of e book) book.work r (asks_by name a e.input.call)) ≡ one_if (call_asks_more a && gives_step (pulled e.categories e.input.pending))
 call_steps e book r name call.More = let page = page_of (state_of e book) in
     handed_now e book page true (scanning book.work (gathered e.input)) (λ x. wanted page Raw (feeding r x) x) (λ x. wanted_none page Raw (feeding r x) x (kind_none r.kind r.fed x))
-call_steps e book r name (call.ExtraBrace x) = told_none (page_of (state_of e book)) (reports.ExtraBrace name) (Some reading.par_token) true r
-call_steps e book r name call.Gathered = called_none r.kind (args_of e.input.call)
-call_steps e book r name call.Mismatch = failed_none (page_of (state_of e book)) (reports.UseMismatch name)
-call_steps e book r name (call.ParEnded (Some x)) = away_none (page_of (state_of e book)) (reports.ParagraphEnded name) (scanning book.work (gathered e.input)) r.fed
-call_steps e book r name (call.ParEnded None) = refl
+call_steps e book r name a = no_pull (answered (state_of e book) book.work r (asks_by name a e.input.call)) (call_unread e book r name a refl)
 
 steps_at : (e : Engine) (c : Option Call) (book : Book) (work : List Reading) → ReadingsStand c e book.number work → steps (plan_of e (with_work work book)) ≡ one_if (all_want c e.top e.ask && gives_step (pulled e.categories e.input.pending))
 steps_at e None book work h = frame_steps e (with_work work book) h.0

@@ -38,7 +38,7 @@ frame_unread e None book work h none = cc
 frame_unread e (Some f) book [] h none = absurd h
 frame_unread e (Some f) book (r ∷ rs) h none = rw (← h.0.asked) (answer_unread e (with_work (r ∷ rs) book) r f e.ask none)
 
-call_unread : (e : Engine) (book : Book) (r : Reading) (name : Name) (a : CallAsk) → call_asks_more a ≡ false → pulls (answered (state_of e book) book.work r (asks_by name a e.input.call)) ≡ 0
+pub call_unread : (e : Engine) (book : Book) (r : Reading) (name : Name) (a : CallAsk) → call_asks_more a ≡ false → pulls (answered (state_of e book) book.work r (asks_by name a e.input.call)) ≡ 0
 call_unread e book r name call.More h = cc
 call_unread e book r name (call.ExtraBrace x) h = told_none (page_of (state_of e book)) (reports.ExtraBrace name) (Some reading.par_token) true r
 call_unread e book r name call.Gathered h = called_with_none r.kind (args_of e.input.call)
