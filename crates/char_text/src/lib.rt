@@ -6,8 +6,6 @@
 
 mod laws;
 mod roman;
-#[cfg(test)]
-mod tests;
 mod text;
 
 pub use laws::{

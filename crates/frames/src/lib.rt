@@ -11,8 +11,6 @@ mod frame;
 mod outer;
 mod prefix;
 mod scan;
-#[cfg(test)]
-mod tests;
 mod text;
 
 pub use define::DefineScan;

@@ -14,8 +14,6 @@ mod pull;
 mod reader;
 mod release;
 mod stack;
-#[cfg(test)]
-mod tests;
 
 pub use level::{Begun, Pulled, Source};
 pub use line::line_in;

@@ -7,8 +7,6 @@
 mod heads;
 mod lex;
 mod names;
-#[cfg(test)]
-mod tests;
 
 ghost use Rattle.std.specs.Prelude.{◌≡◌, ◌+◌, ◌^◌, ◌<◌, ◌≤◌, length, take, drop};
 ghost use Rattle.plain_state.specs.Lex.{lexed};

@@ -21,5 +21,3 @@ pub use edit::Edit;
 pub use reader::Reader;
 pub use reading::{at_end, next_line};
 
-#[cfg(test)]
-mod tests;

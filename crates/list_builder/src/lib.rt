@@ -10,8 +10,6 @@ mod def;
 mod laws;
 mod scan;
 mod stage;
-#[cfg(test)]
-mod tests;
 mod text;
 
 pub use ask::{Ask, Due, Report, Want};

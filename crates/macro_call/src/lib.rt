@@ -12,8 +12,6 @@ mod matches;
 mod par_mode;
 mod present;
 mod scan;
-#[cfg(test)]
-mod tests;
 mod tokens;
 
 pub use cursor::Cursor;

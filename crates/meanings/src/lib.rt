@@ -8,8 +8,6 @@ mod kept;
 pub mod laws;
 mod locations;
 mod map;
-#[cfg(test)]
-mod tests;
 
 pub use kept::Kept;
 pub use map::Meanings;

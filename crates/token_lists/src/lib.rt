@@ -15,8 +15,6 @@ ghost use Rattle.token_lists.specs.Chains.{noted_at, step, freed, len_of, IsWay}
 
 pub mod codes;
 pub mod laws;
-#[cfg(test)]
-mod tests;
 
 use codes::{decode, encode};
 use mem_words::{Mem, Place};

@@ -19,5 +19,3 @@ pub use shown::{
 };
 pub use view::View;
 
-#[cfg(test)]
-mod tests;

@@ -9,8 +9,6 @@
 mod initial;
 mod message;
 mod report;
-#[cfg(test)]
-mod tests;
 mod writing;
 
 pub use initial::initial_view;

@@ -9,8 +9,6 @@ mod numbers;
 mod real_files;
 mod real_sink;
 mod store;
-#[cfg(test)]
-mod tests;
 mod text;
 mod traits;
 mod whole;

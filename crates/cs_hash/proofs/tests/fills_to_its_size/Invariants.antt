@@ -1,9 +1,0 @@
-use Rattle.std.proofs.Common.{◌≡◌, None}
-use Rattle.cs_hash.specs.Names.{Knows}
-use Rattle.cs_hash.proofs.tests.fills_to_its_size.Given as goal
-
-abbrev pub invariant-loop-k : goal.invariant-loop-k
-invariant-loop-k g l = record {
-  knows : Knows l.hash l.pool.kept;
-  closed : l.pool.opened ≡ None;
-}

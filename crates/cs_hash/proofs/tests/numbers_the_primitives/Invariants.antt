@@ -1,9 +1,0 @@
-use Rattle.std.proofs.Common.{◌≡◌, None}
-use Rattle.cs_hash.specs.Names.{Knows}
-use Rattle.cs_hash.proofs.tests.numbers_the_primitives.Given as goal
-
-abbrev pub invariant-loop-j : goal.invariant-loop-j
-invariant-loop-j g l = record {
-  knows : Knows l.hash l.pool.kept;
-  closed : l.pool.opened ≡ None;
-}

@@ -1,9 +1,0 @@
-use Rattle.std.proofs.Common.{◌≡◌, None}
-use Rattle.cs_hash.specs.Names.{Knows}
-use Rattle.cs_hash.proofs.tests.refuses_in_order.Given as goal
-
-abbrev pub invariant-loop-name : goal.invariant-loop-name
-invariant-loop-name g l = record {
-  knows : Knows l.hash l.pool.kept;
-  closed : l.pool.opened ≡ None;
-}

@@ -1,5 +1,0 @@
-use Rattle.list_builder.specs.Scans.{IsSound}
-use Rattle.list_builder.proofs.tests.reported.Given as goal
-
-abbrev pub invariant-loop-x : goal.invariant-loop-x
-invariant-loop-x l = IsSound l.lists l.scan.scan

@@ -1,5 +1,0 @@
-use Rattle.token_lists.specs.Accounts.{IsReading}
-use Rattle.list_builder.proofs.tests.spells.Given as goal
-
-abbrev pub invariant-loop-token : goal.invariant-loop-token
-invariant-loop-token l = IsReading l.lists l.list.id l.at l.token-index

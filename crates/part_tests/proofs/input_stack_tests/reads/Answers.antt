@@ -1,0 +1,16 @@
+use Rattle.std.proofs.Common.{arith}
+use Rattle.input_stack.specs.Backs.{begun_holds}
+use Rattle.input_stack.proofs.Helds.{others}
+use Rattle.token_lists.specs.Accounts.{none}
+use Rattle.part_tests.proofs.input_stack_tests.reads.Goals as goal
+
+pub returns-in-Err : goal.returns-in-Err
+returns-in-Err c =
+    let e = c.in-Err.ensures in
+    (others c.back.new.self c.back.new.lists c.let_go.new.lists (begun_holds c.in-Err.begun) none e.stands (λ h. omega (arith, e.account h, c.push_file.ensures.stands.read.covers h)) c.let_go.ensures.account c.let_go.ensures.kept).0
+
+pub pull-requires-5-clause-stands : goal.pull-requires-5-clause-stands
+pull-requires-5-clause-stands c = c.begin_line.ensures.stands c.pull-4.new.lists c.pull-4.ensures.stands
+
+pub drop_finished-requires : goal.drop_finished-requires
+drop_finished-requires c = c.end_file-id.ensures.stands c.pull-6.new.lists c.pull-6.ensures.stands

@@ -1,0 +1,61 @@
+use cs_hash::{CsHash, NameNo};
+use prim_table::COUNT;
+use std::test::Fail;
+use string_pool::StringPool;
+use tex_defs::{Full, Table};
+
+#[test]
+fn fills_to_its_size(rt: HostRuntime) -> Result<(), Fail> {
+    let mut pool = StringPool::new(rt.alloc(), 32000, 3000)?;
+    let mut hash = CsHash::new(rt.alloc(), 1777)?;
+    for k in 0u16..1778 {
+        let name = [(k / 676) as u8, (k / 26 % 26) as u8, (k % 26) as u8];
+        let full = Full {
+            table: Table::HashSize,
+            used: 1777,
+            size: 1777,
+        };
+        let wanted = if k < 1777 { Ok(k + 1) } else { Err(full) };
+        assert_eq!(rt; hash.enter(&mut pool, &name), wanted);
+    }
+    assert_eq!(rt; hash.enter(&mut pool, &[0, 0, 7]), Ok(8));
+    assert_eq!(rt; hash.find(&pool, &[2, 16, 8]), Some(1777));
+    assert_eq!(rt; hash.find(&pool, &[2, 16, 9]), None);
+    assert_eq!(rt; pool.used(), 5331);
+    Ok(())
+}
+
+#[test]
+fn refuses_in_order(rt: HostRuntime) -> Result<(), Fail> {
+    let mut pool = StringPool::new(rt.alloc(), 5, 1)?;
+    let mut hash = CsHash::new(rt.alloc(), 1)?;
+    let wanted: [(&[u8], Result<NameNo, Full>); 4] = [
+        (b"abc", Ok(1)),
+        (b"xyz", Err(full(Table::PoolSize, 3, 5))),
+        (b"xy", Err(full(Table::NumberOfStrings, 1, 1))),
+        (b"abc", Ok(1)),
+    ];
+    for (name, answer) in wanted {
+        assert_eq!(rt; hash.enter(&mut pool, name), answer);
+    }
+    Ok(())
+}
+
+fn full(table: Table, used: u32, size: u32) -> Full {
+    Full { table, used, size }
+}
+
+#[test]
+fn numbers_the_primitives(rt: HostRuntime) -> Result<(), Fail> {
+    let mut pool = StringPool::new(rt.alloc(), 4000, 200)?;
+    let mut hash = CsHash::new(rt.alloc(), 1777)?;
+    for j in 1..COUNT + 1 {
+        assert_eq!(rt; hash.enter(&mut pool, prim_table::name(j)), Ok(j));
+    }
+    for j in 1..COUNT + 1 {
+        assert_eq!(rt; hash.find(&pool, prim_table::name(j)), Some(j));
+    }
+    assert_eq!(rt; hash.count(), 186);
+    assert_eq!(rt; hash.name(hash.in_order(186)), 185);
+    Ok(())
+}

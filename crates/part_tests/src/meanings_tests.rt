@@ -1,0 +1,163 @@
+//! Names that are defined, shared and let go, as assignments do it.
+
+ghost use Rattle.std.specs.Prelude.{◌≡◌, ◌+◌, ◌<◌, ◌≤◌, ◌^◌, IfSome, IsTrue, length};
+ghost use Rattle.token_lists.specs.Table.{holders_at};
+ghost use Rattle.token_lists.specs.Accounts.{Covers};
+ghost use Rattle.meanings.specs.Map.{meaning_of, IsAssignable, defined};
+ghost use Rattle.meanings.specs.Holding.{held, list_of};
+
+use meanings::{Kept, Meanings};
+use std::test::Fail;
+use tex_defs::{Frozen, Meaning, Name, Sizes, Token};
+use token_lists::Lists;
+
+// Whether one more holder of a macro's list can be counted.
+fn is_shareable(meanings: &Meanings, lists: &Lists, name: Name) -> bool
+    requires { Covers lists.now (held meanings.now) }
+    ensures { IsTrue result → IfSome (list_of (meaning_of meanings.now name)) (λ id. holders_at lists.now id + 1 < 2 ^ 32) }
+{
+    match meanings.list(name) {
+        Some(list) => lists.holders(list) < 1000,
+        None => true,
+    }
+}
+
+// What `\let` does.
+fn let_name(meanings: &mut Meanings, lists: &mut Lists, target: Name, source: Name) -> bool
+    requires covered { Covers lists.old (held meanings.old) }
+    requires assignable { IsAssignable meanings.old target }
+    ensures covered { Covers lists.new (held meanings.new) }
+    ensures after { IsTrue result → meanings.new ≡ defined meanings.old target (meaning_of meanings.old source) }
+{
+    if !is_shareable(meanings, lists, source) {
+        return false;
+    }
+    let value = meanings.shared(lists, source);
+    meanings.define(lists, target, value);
+    true
+}
+
+// What `\outer\def` does with an empty parameter text and body.
+fn define_macro(meanings: &mut Meanings, lists: &mut Lists, name: Name) -> bool
+    requires covered { Covers lists.old (held meanings.old) }
+    requires assignable { IsAssignable meanings.old name }
+    ensures covered { Covers lists.new (held meanings.new) }
+    ensures count { length meanings.new.cells ≡ length meanings.old.cells }
+{
+    let Ok(mut build) = lists.begin() else {
+        return false;
+    };
+    if lists.append(&mut build, Token::EndPlaces).is_err() {
+        lists.abandon(build);
+        return false;
+    }
+    let list = Some(lists.finish(build));
+    let value: Kept = Meaning::Macro {
+        long: false,
+        outer: true,
+        list,
+    };
+    meanings.define(lists, name, value);
+    true
+}
+
+// A meaning, and how many words are used.
+type Told = (Meaning<()>, u32);
+
+fn told(meanings: &Meanings, lists: &Lists, name: Name) -> Told {
+    (meanings.seen(Token::Named(name)).meaning, lists.used())
+}
+
+// A macro gets a second name, its first one loses it, and its second one is made the same as itself.
+fn lives(meanings: &mut Meanings, lists: &mut Lists) -> Option<[Told; 4]>
+    requires covered { Covers lists.old (held meanings.old) }
+    requires count { 700 ≤ length meanings.old.cells }
+    ensures covered { Covers lists.new (held meanings.new) }
+{
+    let first = Name::Single(97);
+    let second = Name::Active(97);
+    if !define_macro(meanings, lists, first) {
+        return None;
+    }
+    let defined = told(meanings, lists, first);
+    if !let_name(meanings, lists, second, first) {
+        return None;
+    }
+    let shared = told(meanings, lists, second);
+    if !let_name(meanings, lists, first, Name::Word(5)) {
+        return None;
+    }
+    let changed = told(meanings, lists, first);
+    if !let_name(meanings, lists, second, second) {
+        return None;
+    }
+    let same = told(meanings, lists, second);
+    Some([defined, shared, changed, same])
+}
+
+#[test]
+fn names_share_a_list(rt: HostRuntime) -> Result<(), Fail> {
+    let mut lists = Lists::new(rt.alloc(), 4)?;
+    let mut meanings = Meanings::new(rt.alloc(), &Sizes::DEFAULT)?;
+    meanings.enter();
+    let primitive = meanings.get(Name::Word(35));
+    let definition = meanings.get(Name::Word(29));
+    let unknown = meanings.get(Name::Word(30));
+    let entered = meanings.get(Name::Word(187));
+    let frozen = meanings.get(Name::Frozen(Frozen::EndWrite));
+    let missing = meanings.get(Name::Frozen(Frozen::Inaccessible));
+    let told = lives(&mut meanings, &mut lists);
+    meanings.close(&mut lists);
+    let outer = Meaning::Macro {
+        long: false,
+        outer: true,
+        list: (),
+    };
+    let wanted = [(outer, 2), (outer, 2), (Meaning::Prim(5), 2), (outer, 2)];
+    assert_eq!(rt;
+        (primitive, definition),
+        (Meaning::Prim(35), Meaning::Prim(29))
+    );
+    assert_eq!(rt;
+        (unknown, entered),
+        (Meaning::Undefined, Meaning::Undefined)
+    );
+    assert_eq!(rt; (frozen, missing), (outer, Meaning::Undefined));
+    assert_eq!(rt; told, Some(wanted));
+    assert_eq!(rt; lists.used(), 0);
+    Ok(())
+}
+
+// The 186 names of the primitives are entered at first, and behind them one more.
+#[test]
+fn names_are_placed(rt: HostRuntime) -> Result<(), Fail> {
+    let mut lists = Lists::new(rt.alloc(), 4)?;
+    let mut meanings = Meanings::new(rt.alloc(), &Sizes::DEFAULT)?;
+    let before = (
+        meanings.is_placed(Name::Word(186)),
+        meanings.is_placed(Name::Word(187)),
+    );
+    meanings.enter();
+    let behind = (
+        meanings.is_placed(Name::Word(187)),
+        meanings.is_placed(Name::Word(188)),
+        meanings.is_placed(Name::Word(0)),
+    );
+    let short = (
+        meanings.is_placed(Name::Active(0)),
+        meanings.is_placed(Name::Single(255)),
+        meanings.is_placed(Name::Empty),
+    );
+    let missing = meanings.is_placed(Name::Frozen(Frozen::Inaccessible));
+    let frozen = (
+        meanings.is_placed(Name::Frozen(Frozen::Relax)),
+        meanings.is_placed(Name::Frozen(Frozen::EndWrite)),
+        meanings.is_placed(Name::Frozen(Frozen::Unknown)),
+    );
+    meanings.close(&mut lists);
+    assert_eq!(rt; before, (true, false));
+    assert_eq!(rt; behind, (true, false, false));
+    assert_eq!(rt; short, (true, true, true));
+    assert_eq!(rt; (missing, frozen), (true, (false, false, false)));
+    Ok(())
+}

@@ -1,0 +1,69 @@
+use name_table::NameTable;
+use std::test::Fail;
+use tex_defs::{Full, Sizes, Table};
+
+const LEAST: Sizes = Sizes {
+    pool_size: 4000,
+    number_of_strings: 200,
+    hash_size: 1777,
+    ..Sizes::DEFAULT
+};
+
+fn full(table: Table, used: u32, size: u32) -> Full {
+    Full { table, used, size }
+}
+
+#[test]
+fn numbers_names(rt: HostRuntime) -> Result<(), Fail> {
+    let mut table = NameTable::new(rt.alloc(), &LEAST)?;
+    assert_eq!(rt; table.count(), 186);
+    assert_eq!(rt; table.find(b"relax"), Some(1));
+    assert_eq!(rt; table.find(b"errhelp"), Some(186));
+    assert_eq!(rt; table.keep(b"cmr"), Ok(()));
+    assert!(rt; table.find(b"cmr").is_none());
+    assert_eq!(rt; table.enter(b"cmr"), Ok(187));
+    assert_eq!(rt; table.find(b"cmr"), Some(187));
+    assert_eq!(rt; table.count(), 187);
+    let (hash, pool) = table.parts();
+    assert_eq!(rt; hash.find(pool, b"par"), Some(5));
+    assert_eq!(rt; pool.count(), 188);
+    Ok(())
+}
+
+#[test]
+fn refuses_in_order(rt: HostRuntime) -> Result<(), Fail> {
+    let mut table = NameTable::new(rt.alloc(), &LEAST)?;
+    let bytes = [b'x'; 2312];
+    let bytes_full = full(Table::PoolSize, 1689, 4000);
+    assert_eq!(rt; table.keep(&bytes), Err(bytes_full));
+    assert_eq!(rt; table.keep(&bytes[1..]), Ok(()));
+    for _ in 0..13 {
+        assert_eq!(rt; table.keep(b""), Ok(()));
+    }
+    let strings_full = full(Table::NumberOfStrings, 200, 200);
+    assert_eq!(rt; table.keep(b""), Err(strings_full));
+    assert!(rt; table.find(b"cmr").is_none());
+    assert_eq!(rt; table.enter(b"cmr"), Err(full(Table::PoolSize, 4000, 4000)));
+    Ok(())
+}
+
+#[test]
+fn fills_the_hash(rt: HostRuntime) -> Result<(), Fail> {
+    let sizes = Sizes {
+        hash_size: 1777,
+        ..Sizes::DEFAULT
+    };
+    let mut table = NameTable::new(rt.alloc(), &sizes)?;
+    for k in 0u16..1592 {
+        let name = [200 + (k / 100) as u8, (k % 100) as u8];
+        let hash_full = full(Table::HashSize, 1777, 1777);
+        let wanted = if k < 1591 {
+            Ok(187 + k)
+        } else {
+            Err(hash_full)
+        };
+        assert!(rt; table.find(&name).is_none());
+        assert_eq!(rt; table.enter(&name), wanted);
+    }
+    Ok(())
+}

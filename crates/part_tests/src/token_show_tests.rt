@@ -1,0 +1,269 @@
+// Texts as TeX prints them.
+ghost use Rattle.token_lists.specs.Table.{IsHeld};
+ghost use Rattle.token_lists.specs.Ids.{build_id, IsBuilding};
+ghost use Rattle.token_show.specs.Views.{IsView};
+
+use cs_hash::CsHash;
+use std::process::Abort;
+use std::test::Fail;
+use string_pool::StringPool;
+use tex_defs::{Frozen, Full, Meaning, Name, RegisterKind, Token};
+use token_lists::{Build, ListRef, Lists};
+use token_show::{
+    Characters, Shown, View, meaning, meaning_head, name_text, show_built, show_bytes, show_list,
+    show_runaway, show_token,
+};
+
+static MEANINGS: [(Meaning<ListRef>, &[u8]); 17] = [
+    (Meaning::Undefined, b"undefined"),
+    (Meaning::RelaxMarked, b"\\relax"),
+    (Meaning::Char { cat: 11, code: 65 }, b"the letter A"),
+    (Meaning::Char { cat: 10, code: 32 }, b"blank space  "),
+    (Meaning::Char { cat: 12, code: 49 }, b"the character 1"),
+    (
+        Meaning::Char { cat: 1, code: b'{' },
+        b"begin-group character {",
+    ),
+    (
+        Meaning::Char { cat: 2, code: b'}' },
+        b"end-group character }",
+    ),
+    (
+        Meaning::Char { cat: 3, code: b'$' },
+        b"math shift character $",
+    ),
+    (
+        Meaning::Char { cat: 4, code: b'&' },
+        b"alignment tab character &",
+    ),
+    (
+        Meaning::Char { cat: 6, code: b'#' },
+        b"macro parameter character #",
+    ),
+    (
+        Meaning::Char { cat: 7, code: b'^' },
+        b"superscript character ^",
+    ),
+    (
+        Meaning::Char { cat: 8, code: b'_' },
+        b"subscript character _",
+    ),
+    (Meaning::CharGiven(65), b"\\char\"41"),
+    (Meaning::MathGiven(0x141), b"\\mathchar\"141"),
+    (Meaning::MathGiven(0x7FFF), b"\\mathchar\"7FFF"),
+    (
+        Meaning::Register {
+            kind: RegisterKind::Count,
+            no: 7,
+        },
+        b"\\count7",
+    ),
+    (Meaning::Prim(6), b"\\end"),
+];
+
+// `#1->[#1]`, a parameter text and a body.
+const BRACKETS: [Token; 5] = [
+    Token::Place(b'#'),
+    Token::EndPlaces,
+    Token::Char {
+        cat: 12,
+        code: b'[',
+    },
+    Token::Number(1),
+    Token::Char {
+        cat: 12,
+        code: b']',
+    },
+];
+
+const HASH: Token = Token::Char { cat: 6, code: b'#' };
+
+fn expect(rt: &impl Abort, mut shown: Shown<'_>, wanted: &[u8]) {
+    for byte in wanted {
+        assert_eq!(rt; shown.next(), Some(*byte));
+    }
+    assert_eq!(rt; shown.next(), None);
+}
+
+fn expect_characters(rt: &impl Abort, mut characters: Characters<'_>, wanted: &[u8]) {
+    for c in wanted {
+        assert_eq!(rt; characters.next(), Some(*c));
+    }
+    assert_eq!(rt; characters.next(), None);
+}
+
+fn append_all(lists: &mut Lists, build: &mut Build, tokens: &[Token]) -> Result<(), Full>
+    requires { IsBuilding lists.old build.old }
+    ensures { IsBuilding lists.new build.new }
+{
+    for token in tokens {
+        lists.append(build, *token)?;
+    }
+    Ok(())
+}
+
+// The letters are letters, and all else is other.
+fn categories() -> [u8; 256] {
+    let mut categories = [12; 256];
+    for k in 0..26usize {
+        categories[65 + k] = 11;
+        categories[97 + k] = 11;
+    }
+    categories
+}
+
+#[test]
+fn lists(rt: HostRuntime) -> Result<(), Fail> {
+    let mut lists = Lists::new(rt.alloc(), 100)?;
+    let hash = CsHash::new(rt.alloc(), 10)?;
+    let pool = StringPool::new(rt.alloc(), 100, 10)?;
+    let Ok(mut build) = lists.begin() else {
+        return Ok(assert!(rt; false, "a word is there"));
+    };
+    let a = Token::Char { cat: 11, code: 97 };
+    let tokens = [
+        Token::EndPlaces,
+        a,
+        HASH,
+        HASH,
+        Token::Char { cat: 11, code: 98 },
+    ];
+    let appended = append_all(&mut lists, &mut build, &tokens);
+    let list = lists.finish(build);
+    let categories = categories();
+    let view = View {
+        lists: &lists,
+        hash: &hash,
+        pool: &pool,
+        categories: &categories,
+        escape: 92,
+        newline: 98,
+    };
+    expect(&rt, show_list(view, &list), b"->a####\n");
+    expect_characters(&rt, Characters::of_list(view, &list), b"->a####b");
+    lists.release(list);
+    assert_eq!(rt; appended, Ok(()));
+    Ok(())
+}
+
+// A macro `\long\outer`, shown whole, and up to its list.
+#[test]
+fn macros(rt: HostRuntime) -> Result<(), Fail> {
+    let mut lists = Lists::new(rt.alloc(), 100)?;
+    let hash = CsHash::new(rt.alloc(), 10)?;
+    let pool = StringPool::new(rt.alloc(), 100, 10)?;
+    let Ok(mut build) = lists.begin() else {
+        return Ok(assert!(rt; false, "a word is there"));
+    };
+    let appended = append_all(&mut lists, &mut build, &BRACKETS);
+    let made = Meaning::Macro {
+        long: true,
+        outer: true,
+        list: lists.finish(build),
+    };
+    let categories = categories();
+    let view = View {
+        lists: &lists,
+        hash: &hash,
+        pool: &pool,
+        categories: &categories,
+        escape: 92,
+        newline: -1,
+    };
+    expect(&rt, meaning(view, &made), b"\\long\\outer macro:#1->[#1]");
+    expect(&rt, meaning_head(view, &made), b"\\long\\outer macro:");
+    let Meaning::Macro {
+        long: _,
+        outer: _,
+        list,
+    } = made
+    else {
+        unreachable!();
+    };
+    lists.release(list);
+    assert_eq!(rt; appended, Ok(()));
+    Ok(())
+}
+
+#[test]
+fn names_and_meanings(rt: HostRuntime) -> Result<(), Fail> {
+    let lists = Lists::new(rt.alloc(), 100)?;
+    let mut hash = CsHash::new(rt.alloc(), 10)?;
+    let mut pool = StringPool::new(rt.alloc(), 100, 10)?;
+    let foo = hash.enter(&mut pool, b"foo");
+    assert_eq!(rt; foo, Ok(1));
+    let categories = categories();
+    let view = View {
+        lists: &lists,
+        hash: &hash,
+        pool: &pool,
+        categories: &categories,
+        escape: 92,
+        newline: -1,
+    };
+    let silent = View { escape: -1, ..view };
+    let names: [(Name, &[u8], &[u8], &[u8]); 7] = [
+        (Name::Word(1), b"\\foo", b"\\foo ", b"foo "),
+        (Name::Single(b'a'), b"\\a", b"\\a ", b"a "),
+        (Name::Single(b'+'), b"\\+", b"\\+", b"+"),
+        (Name::Single(13), b"\\^^M", b"\\^^M", b"^^M"),
+        (Name::Active(200), b"^^c8", b"^^c8", b"^^c8"),
+        (
+            Name::Empty,
+            b"\\csname\\endcsname",
+            b"\\csname\\endcsname ",
+            b"csnameendcsname ",
+        ),
+        (Name::Frozen(Frozen::Fi), b"\\fi", b"\\fi ", b"fi "),
+    ];
+    for (name, alone, in_list, without_escape) in names {
+        expect(&rt, name_text(view, name), alone);
+        expect(&rt, show_token(view, Token::Named(name)), in_list);
+        expect(&rt, show_token(silent, Token::Marked(name)), without_escape);
+    }
+    expect(&rt, show_bytes(view, b"a\r"), b"a^^M");
+    expect_characters(&rt, Characters::of_bytes(view, b"a\r"), b"a\r");
+    let relax: Meaning<()> = Meaning::Prim(1);
+    expect(&rt, meaning_head(view, &relax), b"\\relax");
+    for k in 0..17usize {
+        expect(&rt, meaning_head(view, &MEANINGS[k].0), MEANINGS[k].1);
+    }
+    Ok(())
+}
+
+// A runaway text ends behind 64 bytes: the 16th character begins at the 61st.
+#[test]
+fn runaway(rt: HostRuntime) -> Result<(), Fail> {
+    let mut lists = Lists::new(rt.alloc(), 100)?;
+    let hash = CsHash::new(rt.alloc(), 10)?;
+    let pool = StringPool::new(rt.alloc(), 100, 10)?;
+    let Ok(mut build) = lists.begin() else {
+        return Ok(assert!(rt; false, "a word is there"));
+    };
+    let high = Token::Char { cat: 12, code: 255 };
+    let appended = append_all(&mut lists, &mut build, &[high; 17]);
+    let categories = categories();
+    let view = View {
+        lists: &lists,
+        hash: &hash,
+        pool: &pool,
+        categories: &categories,
+        escape: 92,
+        newline: -1,
+    };
+    let mut shown = show_runaway(view, &build);
+    for _k in 0..16usize {
+        for byte in b"^^ff" {
+            assert_eq!(rt; shown.next(), Some(*byte));
+        }
+    }
+    expect(&rt, shown, b"\\ETC.");
+    let mut whole = show_built(view, &build);
+    for _k in 0..68usize {
+        assert!(rt; whole.next().is_some());
+    }
+    assert_eq!(rt; whole.next(), None);
+    lists.abandon(build);
+    assert_eq!(rt; appended, Ok(()));
+    Ok(())
+}

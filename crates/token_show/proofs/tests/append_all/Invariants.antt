@@ -1,5 +1,0 @@
-use Rattle.token_lists.specs.Ids.{IsBuilding}
-use Rattle.token_show.proofs.tests.append_all.Given as goal
-
-abbrev pub invariant-loop-token : goal.invariant-loop-token
-invariant-loop-token l = IsBuilding l.lists l.build
