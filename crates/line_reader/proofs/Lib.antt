@@ -8,4 +8,3 @@ pub mod Going
 pub mod Exits
 pub mod Knowing
 pub mod Looking
-pub mod Opened

@@ -35,6 +35,8 @@ mod scaled_arith_tests;
 #[cfg(test)]
 mod string_pool_tests;
 #[cfg(test)]
+mod tables;
+#[cfg(test)]
 mod tex_defs_tests;
 #[cfg(test)]
 mod token_lists_tests;

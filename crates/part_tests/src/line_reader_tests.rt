@@ -9,7 +9,7 @@ use tex_defs::{Full, Sizes, Stop, Table};
 use world_io::{Fault, Files, InId, MemFiles};
 
 /// What the first call answers on a file with these bytes, where the buffer has 80.
-#[tactic(auto, using(line_reader::proofs::Opened::still_open, line_reader::proofs::Opened::one_reader))]
+#[tactic(auto, using(crate::proofs::Opened::still_open, crate::proofs::Opened::one_reader))]
 fn first_answer(rt: &HostRuntime, bytes: &[u8]) -> Result<Option<Result<bool, Stop>>, Fail> {
     let mut files = MemFiles::new(rt.alloc());
     files.add(b"a", bytes)?;

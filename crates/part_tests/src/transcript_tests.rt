@@ -1,12 +1,14 @@
 // Texts as TeX writes them.
-ghost use Rattle.token_lists.specs.Ids.{IsBuilding};
+ghost use Rattle.token_lists.specs.Ids.{build_id, IsBuilding};
+ghost use Rattle.token_lists.specs.Table.{IsHeld};
+ghost use Rattle.transcript.specs.Initial.{IsInitialView};
 
-use cs_hash::CsHash;
+use crate::tables::Tables;
+use std::alloc::Global;
 use std::test::Fail;
-use string_pool::StringPool;
 use tex_defs::{Full, Meaning, Name, Token};
 use token_lists::{Build, Lists};
-use token_show::show_bytes;
+use token_show::{View, show_bytes};
 use transcript::{
     Report, Scanned, initial_view, put, put_shown, write_message, write_missing_file, write_report,
     write_runaway, write_token_line,
@@ -31,7 +33,7 @@ fn append_copies(
 }
 
 /// Each report with its text, where the name numbered 1 is `message`, on line 7.
-const REPORTS: [(Report, &[u8]); 20] = [
+static REPORTS: [(Report, &[u8]); 20] = [
     (
         Report::UndefinedName,
         b"! Undefined control sequence.\nl.7\n",
@@ -108,122 +110,111 @@ const REPORTS: [(Report, &[u8]); 20] = [
     ),
 ];
 
+/// Whether a report on line 7 comes to this text, where the column is 0.
+fn is_reported(alloc: Global, view: View<'_>, report: Report, wanted: &[u8]) -> bool
+    requires { IsInitialView view }
+{
+    let mut sink = MemSink::new(alloc);
+    let mut in_line = false;
+    let written = write_report(&mut sink, &mut in_line, view, 7, report);
+    written.is_ok() && !in_line && sink.bytes() == wanted
+}
+
 #[test]
 fn reports(rt: HostRuntime) -> Result<(), Fail> {
-    let lists = Lists::new(rt.alloc(), 100)?;
-    let mut hash = CsHash::new(rt.alloc(), 10)?;
-    let mut pool = StringPool::new(rt.alloc(), 100, 10)?;
-    let entered = hash.enter(&mut pool, b"message");
-    assert_eq!(rt; entered, Ok(1));
+    let tables = Tables::new(rt.alloc(), b"message")?;
     let categories = [12; 256];
-    let view = initial_view(&lists, &hash, &pool, &categories);
-    for (report, wanted) in REPORTS {
-        let mut sink = MemSink::new(rt.alloc());
-        let mut in_line = false;
-        assert_eq!(rt;
-            write_report(&mut sink, &mut in_line, view, 7, report),
-            Ok(())
-        );
-        assert_eq!(rt; sink.bytes(), wanted);
-        assert!(rt; !in_line);
+    let view = initial_view(&tables.lists, &tables.hash, &tables.pool, &categories);
+    for k in 0..20usize {
+        let same = is_reported(rt.alloc(), view, REPORTS[k].0, REPORTS[k].1);
+        assert!(rt; same, "report {k}");
     }
     Ok(())
 }
 
+/// A file that is missing, two messages without tokens and two token lines, and whether each was written.
+fn writes_lines(sink: &mut MemSink, in_line: &mut bool, view: View<'_>) -> bool
+    requires { IsInitialView view }
+{
+    let missing = write_missing_file(sink, in_line, view, b"a\xFF.tex");
+    let first = write_message(sink, in_line, view, None);
+    let shown = put_shown(sink, in_line, show_bytes(view, b"b"));
+    let second = write_message(sink, in_line, view, None);
+    let letter = Meaning::Char { cat: 11, code: 97 };
+    let line = write_token_line(sink, in_line, view, letter);
+    let other = write_token_line(sink, in_line, view, Meaning::Undefined);
+    missing.is_ok()
+        && first.is_ok()
+        && shown.is_ok()
+        && second.is_ok()
+        && line.is_ok()
+        && other.is_ok()
+}
+
 #[test]
 fn fresh_lines(rt: HostRuntime) -> Result<(), Fail> {
-    let lists = Lists::new(rt.alloc(), 100)?;
-    let hash = CsHash::new(rt.alloc(), 10)?;
-    let pool = StringPool::new(rt.alloc(), 100, 10)?;
+    let tables = Tables::new(rt.alloc(), b"message")?;
     let categories = [12; 256];
-    let view = initial_view(&lists, &hash, &pool, &categories);
+    let view = initial_view(&tables.lists, &tables.hash, &tables.pool, &categories);
     let mut sink = MemSink::new(rt.alloc());
     let mut in_line = false;
-    assert_eq!(rt; put(&mut sink, &mut in_line, b"("), Ok(()));
-    assert_eq!(rt;
-        write_missing_file(&mut sink, &mut in_line, view, b"a\xFF.tex"),
-        Ok(())
-    );
-    assert_eq!(rt; write_message(&mut sink, &mut in_line, view, None), Ok(()));
-    assert_eq!(rt;
-        put_shown(&mut sink, &mut in_line, show_bytes(view, b"b")),
-        Ok(())
-    );
-    assert_eq!(rt; write_message(&mut sink, &mut in_line, view, None), Ok(()));
-    let letter = Meaning::Char { cat: 11, code: 97 };
-    assert_eq!(rt;
-        write_token_line(&mut sink, &mut in_line, view, letter),
-        Ok(())
-    );
-    assert_eq!(rt;
-        write_token_line(&mut sink, &mut in_line, view, Meaning::Undefined),
-        Ok(())
-    );
-    assert_eq!(rt;
-        sink.bytes(),
-        b"(\n! I can't find file `a^^ff.tex'.\nl.0\nb \n{the letter a}\n{undefined}\n".as_slice()
-    );
-    assert!(rt; !in_line);
+    let begun = put(&mut sink, &mut in_line, b"(");
+    let written = writes_lines(&mut sink, &mut in_line, view);
+    assert!(rt; begun.is_ok() && written && !in_line);
+    let wanted = b"(\n! I can't find file `a^^ff.tex'.\nl.0\nb \n{the letter a}\n{undefined}\n";
+    assert!(rt; sink.bytes() == wanted.as_slice());
     Ok(())
+}
+
+/// Writes a message and a runaway text, and tells whether each was written.
+fn writes_twice(sink: &mut MemSink, in_line: &mut bool, view: View<'_>, build: &Build) -> bool
+    requires initial { IsInitialView view }
+    requires held { IsHeld view.lists.now (build_id build.now) }
+{
+    let said = write_message(sink, in_line, view, Some(build));
+    let told = write_runaway(sink, in_line, view, Scanned::Text, build);
+    said.is_ok() && told.is_ok()
 }
 
 // A list that is longer than what is gathered at a time.
 #[test]
 fn long_lists(rt: HostRuntime) -> Result<(), Fail> {
-    let mut lists = Lists::new(rt.alloc(), 300)?;
-    let hash = CsHash::new(rt.alloc(), 10)?;
-    let pool = StringPool::new(rt.alloc(), 100, 10)?;
-    let Ok(mut build) = lists.begin() else {
+    let mut tables = Tables::new(rt.alloc(), b"message")?;
+    let Ok(mut build) = tables.lists.begin() else {
         return Ok(assert!(rt; false, "a word is there"));
     };
-    let appended = append_copies(&mut lists, &mut build, A, 200);
+    let appended = append_copies(&mut tables.lists, &mut build, A, 200);
     let categories = [12; 256];
-    let view = initial_view(&lists, &hash, &pool, &categories);
+    let view = initial_view(&tables.lists, &tables.hash, &tables.pool, &categories);
     let mut sink = MemSink::new(rt.alloc());
     let mut in_line = true;
-    let said = write_message(&mut sink, &mut in_line, view, Some(&build));
-    let told = write_runaway(&mut sink, &mut in_line, view, Scanned::Text, &build);
-    lists.abandon(build);
-    assert_eq!(rt; appended, Ok(()));
-    assert_eq!(rt; said, Ok(()));
-    assert_eq!(rt; told, Ok(()));
+    let written = writes_twice(&mut sink, &mut in_line, view, &build);
+    tables.lists.abandon(build);
+    assert!(rt; appended.is_ok() && written && in_line);
     let bytes = sink.bytes();
-    assert_eq!(rt; bytes.len(), 1 + 200 + 15 + 62 + 5);
-    assert_eq!(rt; &bytes[..3], b" aa".as_slice());
-    assert_eq!(rt; &bytes[199..218], b"aa\nRunaway text?\naa".as_slice());
-    assert_eq!(rt; &bytes[276..], b"aa\\ETC.".as_slice());
-    assert!(rt; in_line);
+    assert!(rt; bytes.len() == 1 + 200 + 15 + 62 + 5);
+    assert!(rt; &bytes[..3] == b" aa".as_slice());
+    assert!(rt; &bytes[199..218] == b"aa\nRunaway text?\naa".as_slice());
+    assert!(rt; &bytes[276..] == b"aa\\ETC.".as_slice());
     Ok(())
 }
 
 // The second write fails: the column is that of the front that was written.
 #[test]
 fn faults(rt: HostRuntime) -> Result<(), Fail> {
-    let lists = Lists::new(rt.alloc(), 100)?;
-    let hash = CsHash::new(rt.alloc(), 10)?;
-    let pool = StringPool::new(rt.alloc(), 100, 10)?;
+    let tables = Tables::new(rt.alloc(), b"message")?;
     let categories = [12; 256];
-    let view = initial_view(&lists, &hash, &pool, &categories);
+    let view = initial_view(&tables.lists, &tables.hash, &tables.pool, &categories);
     let mut sink = MemSink::new(rt.alloc());
     sink.fail_at(2)?;
     let mut in_line = false;
     let report = Report::MissingNumber;
-    assert_eq!(rt;
-        write_report(&mut sink, &mut in_line, view, 1, report),
-        Err(Fault::Failed)
-    );
-    assert_eq!(rt;
-        sink.bytes(),
-        b"! Missing number, treated as zero".as_slice()
-    );
-    assert!(rt; in_line);
-    assert_eq!(rt;
-        write_report(&mut sink, &mut in_line, view, 1, report),
-        Ok(())
-    );
-    assert_eq!(rt;
-        sink.bytes(),
-        b"! Missing number, treated as zero\n! Missing number, treated as zero.\nl.1\n".as_slice()
-    );
+    let failed = write_report(&mut sink, &mut in_line, view, 1, report);
+    assert!(rt; failed == Err(Fault::Failed) && in_line);
+    assert!(rt; sink.bytes() == b"! Missing number, treated as zero".as_slice());
+    let written = write_report(&mut sink, &mut in_line, view, 1, report);
+    assert!(rt; written.is_ok());
+    let wanted = b"! Missing number, treated as zero\n! Missing number, treated as zero.\nl.1\n";
+    assert!(rt; sink.bytes() == wanted.as_slice());
     Ok(())
 }

@@ -1,4 +1,4 @@
-use Rattle.line_reader.proofs.Opened.{so, readers_after}
+use Rattle.part_tests.proofs.Opened.{so, readers_after}
 use Rattle.part_tests.proofs.line_reader_tests.takes.Goals as goal
 
 pub returns-clause-readers : goal.returns-clause-readers
