@@ -2,11 +2,12 @@
 ghost use Rattle.token_lists.specs.Table.{IsHeld};
 ghost use Rattle.token_lists.specs.Ids.{build_id, IsBuilding};
 ghost use Rattle.token_show.specs.Views.{IsView};
+ghost use Rattle.std.specs.Prelude.{◌≡◌};
+ghost use Rattle.cs_hash.specs.Names.{Knows};
 
-use cs_hash::CsHash;
+use crate::tables::Tables;
 use std::process::Abort;
 use std::test::Fail;
-use string_pool::StringPool;
 use tex_defs::{Frozen, Full, Meaning, Name, RegisterKind, Token};
 use token_lists::{Build, ListRef, Lists};
 use token_show::{
@@ -80,16 +81,16 @@ const HASH: Token = Token::Char { cat: 6, code: b'#' };
 
 fn expect(rt: &impl Abort, mut shown: Shown<'_>, wanted: &[u8]) {
     for byte in wanted {
-        assert_eq!(rt; shown.next(), Some(*byte));
+        assert!(rt; shown.next() == Some(*byte));
     }
-    assert_eq!(rt; shown.next(), None);
+    assert!(rt; shown.next().is_none());
 }
 
 fn expect_characters(rt: &impl Abort, mut characters: Characters<'_>, wanted: &[u8]) {
     for c in wanted {
-        assert_eq!(rt; characters.next(), Some(*c));
+        assert!(rt; characters.next() == Some(*c));
     }
-    assert_eq!(rt; characters.next(), None);
+    assert!(rt; characters.next().is_none());
 }
 
 fn append_all(lists: &mut Lists, build: &mut Build, tokens: &[Token]) -> Result<(), Full>
@@ -112,12 +113,26 @@ fn categories() -> [u8; 256] {
     categories
 }
 
+// The names and lists of these tables, with a backslash as escape character and no newline character.
+fn view_of<'a>(tables: &'a Tables, categories: &'a [u8; 256]) -> View<'a>
+    requires { Knows tables.now.hash tables.now.pool.kept }
+    ensures names { IsView result }
+    ensures lists { result.lists.now ≡ tables.now.lists }
+{
+    View {
+        lists: &tables.lists,
+        hash: &tables.hash,
+        pool: &tables.pool,
+        categories,
+        escape: 92,
+        newline: -1,
+    }
+}
+
 #[test]
 fn lists(rt: HostRuntime) -> Result<(), Fail> {
-    let mut lists = Lists::new(rt.alloc(), 100)?;
-    let hash = CsHash::new(rt.alloc(), 10)?;
-    let pool = StringPool::new(rt.alloc(), 100, 10)?;
-    let Ok(mut build) = lists.begin() else {
+    let mut tables = Tables::new(rt.alloc(), b"foo")?;
+    let Ok(mut build) = tables.lists.begin() else {
         return Ok(assert!(rt; false, "a word is there"));
     };
     let a = Token::Char { cat: 11, code: 97 };
@@ -128,48 +143,35 @@ fn lists(rt: HostRuntime) -> Result<(), Fail> {
         HASH,
         Token::Char { cat: 11, code: 98 },
     ];
-    let appended = append_all(&mut lists, &mut build, &tokens);
-    let list = lists.finish(build);
+    let appended = append_all(&mut tables.lists, &mut build, &tokens);
+    let list = tables.lists.finish(build);
     let categories = categories();
     let view = View {
-        lists: &lists,
-        hash: &hash,
-        pool: &pool,
-        categories: &categories,
-        escape: 92,
         newline: 98,
+        ..view_of(&tables, &categories)
     };
     expect(&rt, show_list(view, &list), b"->a####\n");
     expect_characters(&rt, Characters::of_list(view, &list), b"->a####b");
-    lists.release(list);
-    assert_eq!(rt; appended, Ok(()));
+    tables.lists.release(list);
+    assert!(rt; appended.is_ok());
     Ok(())
 }
 
 // A macro `\long\outer`, shown whole, and up to its list.
 #[test]
 fn macros(rt: HostRuntime) -> Result<(), Fail> {
-    let mut lists = Lists::new(rt.alloc(), 100)?;
-    let hash = CsHash::new(rt.alloc(), 10)?;
-    let pool = StringPool::new(rt.alloc(), 100, 10)?;
-    let Ok(mut build) = lists.begin() else {
+    let mut tables = Tables::new(rt.alloc(), b"foo")?;
+    let Ok(mut build) = tables.lists.begin() else {
         return Ok(assert!(rt; false, "a word is there"));
     };
-    let appended = append_all(&mut lists, &mut build, &BRACKETS);
+    let appended = append_all(&mut tables.lists, &mut build, &BRACKETS);
     let made = Meaning::Macro {
         long: true,
         outer: true,
-        list: lists.finish(build),
+        list: tables.lists.finish(build),
     };
     let categories = categories();
-    let view = View {
-        lists: &lists,
-        hash: &hash,
-        pool: &pool,
-        categories: &categories,
-        escape: 92,
-        newline: -1,
-    };
+    let view = view_of(&tables, &categories);
     expect(&rt, meaning(view, &made), b"\\long\\outer macro:#1->[#1]");
     expect(&rt, meaning_head(view, &made), b"\\long\\outer macro:");
     let Meaning::Macro {
@@ -180,51 +182,55 @@ fn macros(rt: HostRuntime) -> Result<(), Fail> {
     else {
         unreachable!();
     };
-    lists.release(list);
-    assert_eq!(rt; appended, Ok(()));
+    tables.lists.release(list);
+    assert!(rt; appended.is_ok());
     Ok(())
+}
+
+// Names, each alone, in a list and in a list without an escape character.
+static NAMES: [(Name, &[u8], &[u8], &[u8]); 7] = [
+    (Name::Word(1), b"\\foo", b"\\foo ", b"foo "),
+    (Name::Single(b'a'), b"\\a", b"\\a ", b"a "),
+    (Name::Single(b'+'), b"\\+", b"\\+", b"+"),
+    (Name::Single(13), b"\\^^M", b"\\^^M", b"^^M"),
+    (Name::Active(200), b"^^c8", b"^^c8", b"^^c8"),
+    (
+        Name::Empty,
+        b"\\csname\\endcsname",
+        b"\\csname\\endcsname ",
+        b"csnameendcsname ",
+    ),
+    (Name::Frozen(Frozen::Fi), b"\\fi", b"\\fi ", b"fi "),
+];
+
+fn expect_name(rt: &impl Abort, view: View<'_>, row: &(Name, &[u8], &[u8], &[u8]))
+    requires { IsView view }
+{
+    let (name, alone, in_list, without_escape) = *row;
+    let silent = View { escape: -1, ..view };
+    expect(rt, name_text(view, name), alone);
+    expect(rt, show_token(view, Token::Named(name)), in_list);
+    expect(rt, show_token(silent, Token::Marked(name)), without_escape);
+}
+
+fn expect_bytes(rt: &impl Abort, view: View<'_>)
+    requires { IsView view }
+{
+    expect(rt, show_bytes(view, b"a\r"), b"a^^M");
+    expect_characters(rt, Characters::of_bytes(view, b"a\r"), b"a\r");
+    let relax: Meaning<()> = Meaning::Prim(1);
+    expect(rt, meaning_head(view, &relax), b"\\relax");
 }
 
 #[test]
 fn names_and_meanings(rt: HostRuntime) -> Result<(), Fail> {
-    let lists = Lists::new(rt.alloc(), 100)?;
-    let mut hash = CsHash::new(rt.alloc(), 10)?;
-    let mut pool = StringPool::new(rt.alloc(), 100, 10)?;
-    let foo = hash.enter(&mut pool, b"foo");
-    assert_eq!(rt; foo, Ok(1));
+    let tables = Tables::new(rt.alloc(), b"foo")?;
     let categories = categories();
-    let view = View {
-        lists: &lists,
-        hash: &hash,
-        pool: &pool,
-        categories: &categories,
-        escape: 92,
-        newline: -1,
-    };
-    let silent = View { escape: -1, ..view };
-    let names: [(Name, &[u8], &[u8], &[u8]); 7] = [
-        (Name::Word(1), b"\\foo", b"\\foo ", b"foo "),
-        (Name::Single(b'a'), b"\\a", b"\\a ", b"a "),
-        (Name::Single(b'+'), b"\\+", b"\\+", b"+"),
-        (Name::Single(13), b"\\^^M", b"\\^^M", b"^^M"),
-        (Name::Active(200), b"^^c8", b"^^c8", b"^^c8"),
-        (
-            Name::Empty,
-            b"\\csname\\endcsname",
-            b"\\csname\\endcsname ",
-            b"csnameendcsname ",
-        ),
-        (Name::Frozen(Frozen::Fi), b"\\fi", b"\\fi ", b"fi "),
-    ];
-    for (name, alone, in_list, without_escape) in names {
-        expect(&rt, name_text(view, name), alone);
-        expect(&rt, show_token(view, Token::Named(name)), in_list);
-        expect(&rt, show_token(silent, Token::Marked(name)), without_escape);
+    let view = view_of(&tables, &categories);
+    for k in 0..7usize {
+        expect_name(&rt, view, &NAMES[k]);
     }
-    expect(&rt, show_bytes(view, b"a\r"), b"a^^M");
-    expect_characters(&rt, Characters::of_bytes(view, b"a\r"), b"a\r");
-    let relax: Meaning<()> = Meaning::Prim(1);
-    expect(&rt, meaning_head(view, &relax), b"\\relax");
+    expect_bytes(&rt, view);
     for k in 0..17usize {
         expect(&rt, meaning_head(view, &MEANINGS[k].0), MEANINGS[k].1);
     }
@@ -234,27 +240,18 @@ fn names_and_meanings(rt: HostRuntime) -> Result<(), Fail> {
 // A runaway text ends behind 64 bytes: the 16th character begins at the 61st.
 #[test]
 fn runaway(rt: HostRuntime) -> Result<(), Fail> {
-    let mut lists = Lists::new(rt.alloc(), 100)?;
-    let hash = CsHash::new(rt.alloc(), 10)?;
-    let pool = StringPool::new(rt.alloc(), 100, 10)?;
-    let Ok(mut build) = lists.begin() else {
+    let mut tables = Tables::new(rt.alloc(), b"foo")?;
+    let Ok(mut build) = tables.lists.begin() else {
         return Ok(assert!(rt; false, "a word is there"));
     };
     let high = Token::Char { cat: 12, code: 255 };
-    let appended = append_all(&mut lists, &mut build, &[high; 17]);
+    let appended = append_all(&mut tables.lists, &mut build, &[high; 17]);
     let categories = categories();
-    let view = View {
-        lists: &lists,
-        hash: &hash,
-        pool: &pool,
-        categories: &categories,
-        escape: 92,
-        newline: -1,
-    };
+    let view = view_of(&tables, &categories);
     let mut shown = show_runaway(view, &build);
     for _k in 0..16usize {
         for byte in b"^^ff" {
-            assert_eq!(rt; shown.next(), Some(*byte));
+            assert!(rt; shown.next() == Some(*byte));
         }
     }
     expect(&rt, shown, b"\\ETC.");
@@ -262,8 +259,8 @@ fn runaway(rt: HostRuntime) -> Result<(), Fail> {
     for _k in 0..68usize {
         assert!(rt; whole.next().is_some());
     }
-    assert_eq!(rt; whole.next(), None);
-    lists.abandon(build);
-    assert_eq!(rt; appended, Ok(()));
+    assert!(rt; whole.next().is_none());
+    tables.lists.abandon(build);
+    assert!(rt; appended.is_ok());
     Ok(())
 }
