@@ -13,53 +13,64 @@ fn read(alloc: Global, text: &str) -> Result<Result<Job, Unread>, Fail> {
     Ok(read_words(alloc, words.as_slice()))
 }
 
+// The words of a command, its file, its most steps, the size of main memory and whether it is quiet.
+static JOBS: [(&str, &str, u64, u32, bool); 17] = [
+    ("t|init|a", "a.tex", 10_000_000, 30000, false),
+    ("|init|a", "a.tex", 10_000_000, 30000, false),
+    ("t|init|a.b", "a.b", 10_000_000, 30000, false),
+    ("t|init|a.b/c", "a.b/c.tex", 10_000_000, 30000, false),
+    ("t|init|--steps|5|a", "a.tex", 5, 30000, false),
+    ("t|init|a|--steps=5", "a.tex", 5, 30000, false),
+    ("t|init|a|--steps|+5", "a.tex", 5, 30000, false),
+    ("t|init|--steps|007|a|--quiet", "a.tex", 7, 30000, true),
+    ("t|init|--quiet|a", "a.tex", 10_000_000, 30000, true),
+    ("t|init|a|--steps|0", "a.tex", 0, 30000, false),
+    (
+        "t|init|a|--steps|1000000000000000",
+        "a.tex",
+        1_000_000_000_000_000,
+        30000,
+        false,
+    ),
+    ("t|init|a|--mem|100", "a.tex", 10_000_000, 100, false),
+    (
+        "t|init|--mem=16777216|a|--steps|8",
+        "a.tex",
+        8,
+        16_777_216,
+        false,
+    ),
+    (
+        "t|init|--mem|+0500|--quiet|a",
+        "a.tex",
+        10_000_000,
+        500,
+        true,
+    ),
+    ("t|init|-", "-.tex", 10_000_000, 30000, false),
+    ("t|init|--quiet|--|a", "a.tex", 10_000_000, 30000, true),
+    ("t|init|init", "init.tex", 10_000_000, 30000, false),
+];
+
+// Whether these words are this job.
+fn is_read(alloc: Global, row: &(&str, &str, u64, u32, bool)) -> Result<bool, Fail> {
+    let (text, name, steps, size, quiet) = *row;
+    let Ok(job) = read(alloc, text)? else {
+        return Ok(false);
+    };
+    Ok(
+        job.file.as_slice() == name.as_bytes()
+            && job.steps == steps
+            && job.main_memory_size == size
+            && job.quiet == quiet,
+    )
+}
+
 #[test]
 fn reads_commands(rt: HostRuntime) -> Result<(), Fail> {
-    let rows = [
-        ("t|init|a", "a.tex", 10_000_000, 30000, false),
-        ("|init|a", "a.tex", 10_000_000, 30000, false),
-        ("t|init|a.b", "a.b", 10_000_000, 30000, false),
-        ("t|init|a.b/c", "a.b/c.tex", 10_000_000, 30000, false),
-        ("t|init|--steps|5|a", "a.tex", 5, 30000, false),
-        ("t|init|a|--steps=5", "a.tex", 5, 30000, false),
-        ("t|init|a|--steps|+5", "a.tex", 5, 30000, false),
-        ("t|init|--steps|007|a|--quiet", "a.tex", 7, 30000, true),
-        ("t|init|--quiet|a", "a.tex", 10_000_000, 30000, true),
-        ("t|init|a|--steps|0", "a.tex", 0, 30000, false),
-        (
-            "t|init|a|--steps|1000000000000000",
-            "a.tex",
-            1_000_000_000_000_000,
-            30000,
-            false,
-        ),
-        ("t|init|a|--mem|100", "a.tex", 10_000_000, 100, false),
-        (
-            "t|init|--mem=16777216|a|--steps|8",
-            "a.tex",
-            8,
-            16_777_216,
-            false,
-        ),
-        (
-            "t|init|--mem|+0500|--quiet|a",
-            "a.tex",
-            10_000_000,
-            500,
-            true,
-        ),
-        ("t|init|-", "-.tex", 10_000_000, 30000, false),
-        ("t|init|--quiet|--|a", "a.tex", 10_000_000, 30000, true),
-        ("t|init|init", "init.tex", 10_000_000, 30000, false),
-    ];
-    for (text, name, most, size, silent) in rows {
-        let Ok(job) = read(rt.alloc(), text)? else {
-            return Err("no command".into());
-        };
-        assert_eq!(rt; job.file.as_slice(), name.as_bytes());
-        assert_eq!(rt; (text, job.steps), (text, most));
-        assert_eq!(rt; (text, job.main_memory_size), (text, size));
-        assert_eq!(rt; (text, job.quiet), (text, silent));
+    for k in 0..17usize {
+        let same = is_read(rt.alloc(), &JOBS[k])?;
+        assert!(rt; same, "row {k}");
     }
     Ok(())
 }
@@ -82,50 +93,52 @@ fn names_jobs(rt: HostRuntime) {
     }
 }
 
+// Words that are no command.
+static OTHERS: [&str; 37] = [
+    "",
+    "t",
+    "t|init",
+    "t|a",
+    "t|run|a",
+    "t|init|a|b",
+    "t|init|a|--steps",
+    "t|init|a|--steps|5|--steps|5",
+    "t|init|a|--quiet|--quiet",
+    "t|init|a|--quiet=x",
+    "t|--quiet|init|a",
+    "t|init|a|-q",
+    "t|init|-x",
+    "t|init|a|--steps|-5",
+    "t|init|a|--steps=-5",
+    "t|init|a|--steps|1000000000000001",
+    "t|init|a|--steps|5x",
+    "t|init|a|--steps=",
+    "t|init|a|--steps|+",
+    "t|init|a|--steps|99999999999999999999",
+    "t|init|a|--mem|99",
+    "t|init|a|--mem|16777217",
+    "t|init|a|--mem|-100",
+    "t|init|a|--mem=",
+    "t|init|a|--mem|100|--mem|100",
+    "t|init|a|--mem|4294967396",
+    "t|init|a|--mem|18446744073709551716",
+    "t|--mem|100|init|a",
+    "t|init|a|--pool|5000",
+    "t|init|a|--step|5",
+    "t|--help",
+    "t|-h",
+    "t|help",
+    "t|init|--help",
+    "t|init|a|--help",
+    "t|--version",
+    "t|init|a|--version",
+];
+
 #[test]
 fn refuses_other_words(rt: HostRuntime) -> Result<(), Fail> {
-    let rows = [
-        "",
-        "t",
-        "t|init",
-        "t|a",
-        "t|run|a",
-        "t|init|a|b",
-        "t|init|a|--steps",
-        "t|init|a|--steps|5|--steps|5",
-        "t|init|a|--quiet|--quiet",
-        "t|init|a|--quiet=x",
-        "t|--quiet|init|a",
-        "t|init|a|-q",
-        "t|init|-x",
-        "t|init|a|--steps|-5",
-        "t|init|a|--steps=-5",
-        "t|init|a|--steps|1000000000000001",
-        "t|init|a|--steps|5x",
-        "t|init|a|--steps=",
-        "t|init|a|--steps|+",
-        "t|init|a|--steps|99999999999999999999",
-        "t|init|a|--mem|99",
-        "t|init|a|--mem|16777217",
-        "t|init|a|--mem|-100",
-        "t|init|a|--mem=",
-        "t|init|a|--mem|100|--mem|100",
-        "t|init|a|--mem|4294967396",
-        "t|init|a|--mem|18446744073709551716",
-        "t|--mem|100|init|a",
-        "t|init|a|--pool|5000",
-        "t|init|a|--step|5",
-        "t|--help",
-        "t|-h",
-        "t|help",
-        "t|init|--help",
-        "t|init|a|--help",
-        "t|--version",
-        "t|init|a|--version",
-    ];
-    for text in rows {
-        let refused = matches!(read(rt.alloc(), text)?, Err(Unread::Usage));
-        assert_eq!(rt; (text, refused), (text, true));
+    for k in 0..37usize {
+        let refused = matches!(read(rt.alloc(), OTHERS[k])?, Err(Unread::Usage));
+        assert!(rt; refused, "row {k}");
     }
     Ok(())
 }

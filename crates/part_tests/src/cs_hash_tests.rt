@@ -16,7 +16,7 @@ fn fills_to_its_size(rt: HostRuntime) -> Result<(), Fail> {
             size: 1777,
         };
         let wanted = if k < 1777 { Ok(k + 1) } else { Err(full) };
-        assert_eq!(rt; hash.enter(&mut pool, &name), wanted);
+        assert!(rt; hash.enter(&mut pool, &name) == wanted, "name {k}");
     }
     assert_eq!(rt; hash.enter(&mut pool, &[0, 0, 7]), Ok(8));
     assert_eq!(rt; hash.find(&pool, &[2, 16, 8]), Some(1777));
@@ -50,10 +50,16 @@ fn numbers_the_primitives(rt: HostRuntime) -> Result<(), Fail> {
     let mut pool = StringPool::new(rt.alloc(), 4000, 200)?;
     let mut hash = CsHash::new(rt.alloc(), 1777)?;
     for j in 1..COUNT + 1 {
-        assert_eq!(rt; hash.enter(&mut pool, prim_table::name(j)), Ok(j));
+        assert!(rt;
+            hash.enter(&mut pool, prim_table::name(j)) == Ok(j),
+            "name {j}"
+        );
     }
     for j in 1..COUNT + 1 {
-        assert_eq!(rt; hash.find(&pool, prim_table::name(j)), Some(j));
+        assert!(rt;
+            hash.find(&pool, prim_table::name(j)) == Some(j),
+            "name {j}"
+        );
     }
     assert_eq!(rt; hash.count(), 186);
     assert_eq!(rt; hash.name(hash.in_order(186)), 185);
