@@ -89,7 +89,7 @@ fn names_jobs(rt: HostRuntime) {
         ("a/..", ""),
     ];
     for (file, name) in rows {
-        assert_eq!(rt; job_name(file.as_bytes()), name.as_bytes());
+        assert!(rt; job_name(file.as_bytes()) == name.as_bytes());
     }
 }
 

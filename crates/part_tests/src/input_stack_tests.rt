@@ -91,7 +91,7 @@ fn file_is_read(rt: HostRuntime) -> Result<(), Fail> {
         Pulled::Lexed(Lexed::Char { cat: 12, code: 98 }),
         Some(InId { number: 7 }),
     );
-    assert_eq!(&rt; told, Some(wanted));
+    assert!(&rt; told == Some(wanted));
     Ok(())
 }
 
@@ -99,7 +99,7 @@ fn file_is_read(rt: HostRuntime) -> Result<(), Fail> {
 fn line_has_its_end_character(rt: HostRuntime) -> Result<(), Fail> {
     let mut bytes = [97, 98, 0];
     let line = line_in(&mut bytes, 0, 2, Some(13));
-    assert_eq!(rt; (line.at, line.end, bytes), (0, 3, [97, 98, 13]));
+    assert!(rt; line.at == 0 && line.end == 3 && bytes == [97, 98, 13]);
     Ok(())
 }
 
@@ -248,8 +248,8 @@ fn call_is_read(rt: HostRuntime) -> Result<(), Fail> {
         letter_at(122, 1),
         (Some(Pulled::Bottom), 0, 0),
     ];
-    assert_eq!(&rt; (stand, told), ((1, 2), wanted));
-    assert_eq!(rt; lists.used(), 0);
+    assert!(&rt; stand == (1, 2) && told == wanted);
+    assert!(rt; lists.used() == 0);
     Ok(())
 }
 
@@ -297,6 +297,6 @@ fn parameter_stack_is_full(rt: HostRuntime) -> Result<(), Fail> {
         used: 9,
         size: 9,
     };
-    assert_eq!(rt; (full, lists.used()), (Some(wanted), 0));
+    assert!(rt; full == Some(wanted) && lists.used() == 0);
     Ok(())
 }

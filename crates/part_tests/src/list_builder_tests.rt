@@ -108,7 +108,7 @@ fn definition_is_built(rt: HostRuntime) -> Result<(), Fail> {
     ];
     let told = (spells(&lists, &list, &wanted), lists.used());
     lists.release(list);
-    assert_eq!(rt; (told, lists.used()), ((true, 6), 0));
+    assert!(rt; told == (true, 6) && lists.used() == 0);
     Ok(())
 }
 
@@ -150,18 +150,15 @@ fn reports_come_at_their_tokens(rt: HostRuntime) -> Result<(), Fail> {
     let body = reported(&mut lists, &[read(2, 125)]);
     let illegal = reported(&mut lists, &[read(1, 123), read(6, 35), read(12, 49)]);
     let refused = reported(&mut lists, &[read(1, 123), read(11, 120)]);
-    assert_eq!(rt; number, Ok(Some((Report::NotConsecutive, true))));
-    assert_eq!(rt; body, Ok(Some((Report::MissingBrace, false))));
-    assert_eq!(rt;
-        illegal,
-        Ok(Some((Report::IllegalNumber(Name::Single(97)), true)))
-    );
+    assert!(rt; number == Ok(Some((Report::NotConsecutive, true))));
+    assert!(rt; body == Ok(Some((Report::MissingBrace, false))));
+    assert!(rt; illegal == Ok(Some((Report::IllegalNumber(Name::Single(97)), true))));
     let full = Full {
         table: Table::MainMemorySize,
         used: 2,
         size: 2,
     };
-    assert_eq!(rt; (refused, lists.used()), (Err(full), 0));
+    assert!(rt; refused == Err(full) && lists.used() == 0);
     Ok(())
 }
 
@@ -246,7 +243,7 @@ fn empty_text_has_no_list(rt: HostRuntime) -> Result<(), Fail> {
         }
         None => true,
     };
-    assert_eq!(rt; (complete, none, lists.used()), (true, true, 0));
+    assert!(rt; complete && none && lists.used() == 0);
     Ok(())
 }
 
@@ -301,7 +298,7 @@ fn token_list_is_copied(rt: HostRuntime) -> Result<(), Fail> {
     lists.release(copy);
     let left = lists.used();
     lists.release(list);
-    assert_eq!(rt; (told, left), ((true, true, 6), 3));
+    assert!(rt; told == (true, true, 6) && left == 3);
     Ok(())
 }
 
@@ -326,8 +323,8 @@ fn list_in_work_is_lent(rt: HostRuntime) -> Result<(), Fail> {
         }
     };
     scan.abandon(&mut lists);
-    assert_eq!(rt; (begun, used, wants), (true, 1, Some(Want::Command)));
-    assert_eq!(rt; lists.used(), 0);
+    assert!(rt; begun && used == 1 && wants == Some(Want::Command));
+    assert!(rt; lists.used() == 0);
     Ok(())
 }
 
@@ -352,34 +349,23 @@ fn stages_tell_what_is_due(rt: HostRuntime) -> Result<(), Fail> {
     let character = Token::Char { cat: 6, code: 35 };
     let behind = Stage::Reference(body, 2, character);
     let illegal = Stage::Illegal(body, 2, character);
-    assert_eq!(rt; deeper, Next::On(Stage::InBody(body, 2)));
-    assert_eq!(rt;
-        (
-            first.depth(),
-            inside.depth(),
-            behind.depth(),
-            illegal.depth()
-        ),
-        (0, 1, 2, 2)
+    assert!(rt; deeper == Next::On(Stage::InBody(body, 2)));
+    assert!(rt;
+        first.depth() == 0 && inside.depth() == 1 && behind.depth() == 2 && illegal.depth() == 2
     );
-    assert_eq!(rt;
-        (first.due(manner), Stage::First.due(raw)),
-        (Due::More(Want::Raw), Due::More(Want::Command))
+    assert!(rt;
+        first.due(manner) == Due::More(Want::Raw)
+            && Stage::First.due(raw) == Due::More(Want::Command)
     );
-    assert_eq!(rt;
-        (inside.due(manner), inside.due(raw)),
-        (Due::More(Want::Copied), Due::More(Want::Raw))
+    assert!(rt;
+        inside.due(manner) == Due::More(Want::Copied) && inside.due(raw) == Due::More(Want::Raw)
     );
-    assert_eq!(rt;
-        (behind.due(manner), behind.due(raw)),
-        (Due::More(Want::Expanded), Due::More(Want::Raw))
+    assert!(rt;
+        behind.due(manner) == Due::More(Want::Expanded) && behind.due(raw) == Due::More(Want::Raw)
     );
-    assert_eq!(rt;
-        (Stage::Tenth(9).due(manner), illegal.due(raw)),
-        (
-            Due::Tells(Report::AlreadyNine, false),
-            Due::Tells(Report::IllegalNumber(Name::Single(97)), true)
-        )
+    assert!(rt;
+        Stage::Tenth(9).due(manner) == Due::Tells(Report::AlreadyNine, false)
+            && illegal.due(raw) == Due::Tells(Report::IllegalNumber(Name::Single(97)), true)
     );
     Ok(())
 }

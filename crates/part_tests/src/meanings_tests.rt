@@ -114,17 +114,11 @@ fn names_share_a_list(rt: HostRuntime) -> Result<(), Fail> {
         list: (),
     };
     let wanted = [(outer, 2), (outer, 2), (Meaning::Prim(5), 2), (outer, 2)];
-    assert_eq!(rt;
-        (primitive, definition),
-        (Meaning::Prim(35), Meaning::Prim(29))
-    );
-    assert_eq!(rt;
-        (unknown, entered),
-        (Meaning::Undefined, Meaning::Undefined)
-    );
-    assert_eq!(rt; (frozen, missing), (outer, Meaning::Undefined));
-    assert_eq!(rt; told, Some(wanted));
-    assert_eq!(rt; lists.used(), 0);
+    assert!(rt; primitive == Meaning::Prim(35) && definition == Meaning::Prim(29));
+    assert!(rt; unknown == Meaning::Undefined && entered == Meaning::Undefined);
+    assert!(rt; frozen == outer && missing == Meaning::Undefined);
+    assert!(rt; told == Some(wanted));
+    assert!(rt; lists.used() == 0);
     Ok(())
 }
 
@@ -155,9 +149,9 @@ fn names_are_placed(rt: HostRuntime) -> Result<(), Fail> {
         meanings.is_placed(Name::Frozen(Frozen::Unknown)),
     );
     meanings.close(&mut lists);
-    assert_eq!(rt; before, (true, false));
-    assert_eq!(rt; behind, (true, false, false));
-    assert_eq!(rt; short, (true, true, true));
-    assert_eq!(rt; (missing, frozen), (true, (false, false, false)));
+    assert!(rt; before == (true, false));
+    assert!(rt; behind == (true, false, false));
+    assert!(rt; short == (true, true, true));
+    assert!(rt; missing && frozen == (false, false, false));
     Ok(())
 }

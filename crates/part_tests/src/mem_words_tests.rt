@@ -5,27 +5,24 @@ use std::test::Fail;
 #[test]
 fn takes_and_gives(rt: HostRuntime) -> Result<(), Fail> {
     let mut mem = Mem::new(rt.alloc(), 2)?;
-    assert_eq!(rt; mem.size(), 2);
+    assert!(rt; mem.size() == 2);
     let (Some(first), Some(second)) = (mem.take(), mem.take()) else {
         return Ok(assert!(rt; false, "a word is left"));
     };
-    assert_eq!(rt; mem.take(), None);
+    assert!(rt; mem.take().is_none());
     mem.set_info(first, 7);
     mem.set_link(first, 9);
     mem.set_info(second, 8);
-    assert_eq!(rt;
-        (
-            mem.info(first),
-            mem.link(first),
-            mem.info(second),
-            mem.link(second)
-        ),
-        (7, 9, 8, 0)
+    assert!(rt;
+        mem.info(first) == 7
+            && mem.link(first) == 9
+            && mem.info(second) == 8
+            && mem.link(second) == 0
     );
     mem.give(second);
-    assert_eq!(rt; mem.used(), 1);
+    assert!(rt; mem.used() == 1);
     assert!(rt; mem.take().is_some());
     mem.recall_avail();
-    assert_eq!(rt; mem.used(), 2);
+    assert!(rt; mem.used() == 2);
     Ok(())
 }

@@ -10,11 +10,11 @@ fn numbers_and_names(rt: HostRuntime) {
     ];
     for (j, class, place, text) in wanted {
         assert!(rt; j > 0 && j <= COUNT);
-        assert_eq!(rt; name(j), text);
-        assert_eq!(rt; prim(j), (class, place));
+        assert!(rt; name(j) == text);
+        assert!(rt; prim(j) == (class, place));
         assert!(rt; place > 0 && place <= row_size(class));
-        assert_eq!(rt; number(class, place), j);
-        assert_eq!(rt; name_in_row(class, place), text);
+        assert!(rt; number(class, place) == j);
+        assert!(rt; name_in_row(class, place) == text);
     }
     numbering_law();
 }

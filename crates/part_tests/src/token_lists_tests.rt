@@ -202,9 +202,9 @@ fn last_holder_frees(rt: HostRuntime) -> Result<(), Fail> {
         used: 4,
         size: 4,
     };
-    assert_eq!(rt; (braced, full), (Ok(()), Err(refusal)));
-    assert_eq!(rt; shared, (2, 2, 1, 7, word));
-    assert_eq!(rt; alone, (2, 1, 1, 7, word));
-    assert_eq!(rt; (lists.used(), lists.size()), (0, 4));
+    assert!(rt; braced.is_ok() && full == Err(refusal));
+    assert!(rt; shared == (2, 2, 1, 7, word));
+    assert!(rt; alone == (2, 1, 1, 7, word));
+    assert!(rt; lists.used() == 0 && lists.size() == 4);
     Ok(())
 }
