@@ -20,4 +20,3 @@ pub use buffer::Buffer;
 pub use edit::Edit;
 pub use reader::Reader;
 pub use reading::{at_end, next_line};
-

@@ -18,4 +18,3 @@ pub use shown::{
     show_token,
 };
 pub use view::View;
-
