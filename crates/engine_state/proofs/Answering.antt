@@ -65,6 +65,11 @@ pub same_growth : (t : Token) (lists : List (List Token)) → machine.grow_first
 same_growth t [] = refl
 same_growth t (ts ∷ lists) = refl
 
+-- where lists that are set aside stand behind it
+first_growth : (t : Token) (lists aside : List (List Token)) → (lists ≡ [] → ⊥) → machine.grow_first t (lists ++ aside) ≡ grow_first t lists ++ aside
+first_growth t [] aside list = absurd (list refl)
+first_growth t (ts ∷ lists) aside list = refl
+
 -- the tokens go onto the list, if there is one
 abbrev pub grown_moves : List Token → List (List Token) → List Move
 grown_moves ts [] = []
@@ -80,18 +85,18 @@ listed_sound sizes e e' builds number macros is kept h =
     (store_gathered e.input e'.input builds (ap (λ (x : Engine). x.input) is) kept) h
 
 module _ (sizes : Sizes) (book : Book) (w : World) where
-  grow_did : (e e' : Engine) (t : Token) → e' ≡ listed e (grow_first t e.input.builds) e'.input.lists → e.input.call ≡ NotCalling → IsSound sizes e book.number book.macros → refused e.input.sizes (memory 1 (stored_words e.input) ∷ []) ≡ None →
+  grow_did : (e e' : Engine) (t : Token) → e' ≡ listed e (grow_first t e.input.builds) e'.input.lists → (e.input.builds ≡ [] → ⊥) → e.input.call ≡ NotCalling → IsSound sizes e book.number book.macros → refused e.input.sizes (memory 1 (stored_words e.input) ∷ []) ≡ None →
       Did sizes (state_of e book) (state_of e' book) w w (Grows t ∷ [])
-  grow_did e e' t is none sound fits =
+  grow_did e e' t is list none sound fits =
       let grown : Engine = listed e (grow_first t e.input.builds) e'.input.lists in
-      let lists : machine.grow_first t (gathered e.input) ≡ gathered grown.input = ap (machine.grow_first t) (bare e.input none) ∙ same_growth t e.input.builds ∙ sym (bare grown.input none) in
+      let lists : machine.grow_first t (gathered e.input) ≡ gathered grown.input = ap (machine.grow_first t) (bare e.input none) ∙ first_growth t e.input.builds e.input.aside list ∙ sym (bare grown.input none) in
       did_one sizes (Grows t) (state_of e book) (state_of e' book) w w (words_more sizes e book 1 None sound fits)
       (ap (λ (l : List (List Token)). record (state_of e book) { gathered = l }) lists ∙ ap (λ (x : Engine). state_of x book) (sym is)) (quiet_here (Grows t) w tt)
 
-  pub grown_did : (e e' : Engine) (o : Option Token) → e' ≡ listed e (grown_by o e.input.builds) e'.input.lists → e.input.call ≡ NotCalling → IsSound sizes e book.number book.macros →
+  pub grown_did : (e e' : Engine) (o : Option Token) → e' ≡ listed e (grown_by o e.input.builds) e'.input.lists → (e.input.builds ≡ [] → ⊥) → e.input.call ≡ NotCalling → IsSound sizes e book.number book.macros →
       (IsSome o → refused e.input.sizes (memory 1 (stored_words e.input) ∷ []) ≡ None) → Did sizes (state_of e book) (state_of e' book) w w (map Grows (option_to_list o))
-  grown_did e e' None is none sound fits = subst (λ (x : Engine). Did sizes (state_of e book) (state_of x book) w w []) (sym is) (did_none sizes (state_of e book) w)
-  grown_did e e' (Some t) is none sound fits = grow_did e e' t is none sound (fits refl)
+  grown_did e e' None is list none sound fits = subst (λ (x : Engine). Did sizes (state_of e book) (state_of x book) w w []) (sym is) (did_none sizes (state_of e book) w)
+  grown_did e e' (Some t) is list none sound fits = grow_did e e' t is list none sound (fits refl)
 
   two_moves : (o p : Option Token) → map Grows (option_to_list o ++ option_to_list p) ≡ map Grows (option_to_list o) ++ map Grows (option_to_list p)
   two_moves None p = refl
@@ -109,7 +114,7 @@ module _ (sizes : Sizes) (book : Book) (w : World) where
       let held : fits.between.builds ≡ [] → ⊥ = λ empty. list (before_none a.first e.input.builds (sym (ap (λ (i : Stored). i.builds) fits.is) ∙ empty)) in
       subst (λ (ms : List Move). Did sizes (state_of e book) (state_of e' book) w w ms) (sym (two_moves a.first a.second))
       (did_join sizes _ _ _ w w w (map Grows (option_to_list a.first)) (map Grows (option_to_list a.second))
-      (grown_did e e1 a.first is1 none sound (λ some. fits.first some list)) (grown_did e1 e' a.second is2 none1 sound1 (λ some. fits.second some held))) where
+      (grown_did e e1 a.first is1 list none sound (λ some. fits.first some list)) (grown_did e1 e' a.second is2 held none1 sound1 (λ some. fits.second some held))) where
         before_none : (o : Option Token) (lists : List (List Token)) → grown_by o lists ≡ [] → lists ≡ []
         before_none None lists h = h
         before_none (Some t) [] h = refl
@@ -148,7 +153,7 @@ module _ (sizes : Sizes) (book : Book) (w : World) (e e' : Engine) (a : Answer) 
         cuts_by sizes (state_of e book) e' book w w (map Grows (option_to_list cut.front) ++ (Grows cut.next ∷ (map Grows cut.rest ++ m ∷ []))) _ (broken.Full full)
         (ap (λ (us : List Token). map Grows us ++ m ∷ []) cut.split ∙ cut_moves cut.front cut.next cut.rest)
         (later_cuts sizes (state_of e book) (state_of e' book) e' book w w w (map Grows (option_to_list cut.front)) (Grows cut.next ∷ (map Grows cut.rest ++ m ∷ [])) (broken.Full full)
-        (grown_did sizes book w e e' cut.front cut.after none sound cut.fits)
+        (grown_did sizes book w e e' cut.front cut.after cut.list none sound cut.fits)
         (full_cuts sizes (state_of e' book) e' book w (Grows cut.next) (map Grows cut.rest ++ m ∷ []) full (broken.Full full) refl
         (words_more sizes e' book 1 (Some full) (listed_sound sizes e e' (grown_by cut.front e.input.builds) book.number book.macros cut.after kept sound) cut.refused_then) refl))
 

@@ -1,5 +1,5 @@
 -- Where no call gathers its arguments.
-use Rattle.std.proofs.Common.{◌≡◌, ℕ, List, [], ◌∷◌, ◌++◌, sym, ap, subst, ◌∙◌}
+use Rattle.std.proofs.Common.{◌≡◌, ℕ, List, [], ◌∷◌, ◌++◌, sym, ap, subst, ◌∙◌, append_assoc}
 use Rattle.std.specs.Prelude.{Option, None, Some}
 use Rattle.tex_defs.specs.declared.Sizes.{Sizes}
 use Rattle.tex_defs.specs.declared.Token.{Token}
@@ -14,12 +14,14 @@ use Rattle.engine_state.specs.Stands.{Stands}
 
 -- the lists that are gathered
 
-pub bare : (i : Stored) → i.call ≡ NotCalling → gathered i ≡ i.builds
-bare i none = ap (λ (k : Calling). call_lists k ++ i.builds) none
+pub bare : (i : Stored) → i.call ≡ NotCalling → gathered i ≡ i.builds ++ i.aside
+bare i none = ap (λ (k : Calling). call_lists k ++ (i.builds ++ i.aside)) none
 
 -- where other lists are held then
-pub bare_after : (i j : Stored) → i.call ≡ NotCalling → j.call ≡ i.call → (f : List (List Token) → List (List Token)) → j.builds ≡ f i.builds → gathered j ≡ f (gathered i)
-bare_after i j none same f after = bare j (same ∙ none) ∙ after ∙ ap f (sym (bare i none))
+pub bare_after : (i j : Stored) → i.call ≡ NotCalling → j.call ≡ i.call → j.aside ≡ i.aside → (more : List (List Token)) → j.builds ≡ more ++ i.builds → gathered j ≡ more ++ gathered i
+bare_after i j none same aside more after =
+    bare j (same ∙ none) ∙ ap (λ (l : List (List Token)). l ++ j.aside) after ∙ ap (λ (l : List (List Token)). (more ++ i.builds) ++ l) aside
+    ∙ append_assoc more i.builds i.aside ∙ ap (λ (l : List (List Token)). more ++ l) (sym (bare i none))
 
 -- the engine
 

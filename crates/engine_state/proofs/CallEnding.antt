@@ -47,8 +47,8 @@ behind_all [] ys = refl
 behind_all (x ∷ xs) ys = behind_all xs ys
 
 -- its lists go
-pub lists_gone : (i : Stored) (n : ℕ) → n ≡ length (call_lists i.call) → drop n (gathered i) ≡ i.builds
-lists_gone i n is = ap (λ (k : ℕ). drop k (gathered i)) is ∙ behind_all (call_lists i.call) i.builds
+pub lists_gone : (i : Stored) (n : ℕ) → n ≡ length (call_lists i.call) → drop n (gathered i) ≡ i.builds ++ i.aside
+lists_gone i n is = ap (λ (k : ℕ). drop k (gathered i)) is ∙ behind_all (call_lists i.call) (i.builds ++ i.aside)
 
 -- the engine without its call
 module _ (sizes : Sizes) (e e2 : Engine) (book : Book) (r : Reading) (rs : List Reading) (c : Call) (is : e.call ≡ Some c) (st : AllStand sizes e (with_work (r ∷ rs) book))
@@ -122,9 +122,9 @@ put_stands sizes e e1 book same others store idle st = all_still sizes e e1 book
 
 -- the readings are counted
 count_by : (e : Engine) (number : ℕ → ℕ) (c : Option Call) (work : List Reading) → ReadingsStand c e number work → length work ≡ length e.outer.items + top_count e.top + call_count c
-count_by e number None work h = omega (arith, work_depth e.ask e.top e.outer.items e.input.builds work h.0)
+count_by e number None work h = omega (arith, work_depth e.ask e.top e.outer.items e.input.builds e.input.aside work h.0)
 count_by e number (Some c) [] h = absurd h
-count_by e number (Some c) (r ∷ rs) h = omega (arith, work_depth e.ask e.top e.outer.items e.input.builds rs h.1.0)
+count_by e number (Some c) (r ∷ rs) h = omega (arith, work_depth e.ask e.top e.outer.items e.input.builds e.input.aside rs h.1.0)
 
 pub call_counts : (sizes : Sizes) (e : Engine) (book : Book) → AllStand sizes e book → Counts sizes e book
 call_counts sizes e book st = record { sound = st.sound; depth = count_by e book.number e.call book.work st.all }

@@ -10,8 +10,9 @@ use Rattle.plain_state.specs.Tokens.{Want, is_other, is_space_token, means_categ
 use Rattle.plain_state.specs.Arguments as call
 use Rattle.plain_state.specs.Definitions as build
 use Rattle.plain_state.specs.Reports.{Report, MissingNumber}
-use Rattle.plain_state.specs.Readings.{Kind, Catcode, Message, Prefixed, Define, Integer, Text, Definition, Arguments, Value, Int, Toks, Flag, Fed, Tok, Val, Told, Cut, Effect, SetCategory, SetMacro, Ask, More, Inner, Done, Act, ask, is_minus, is_plus, is_digit, digit_of_token, greatest_integer, number_ended, behind_number, digits_dropped, too_big, digits, missing, first_digit, code_of, behind_code, constant, unsigned, integer, closes_at, text_done, brace_missing, text, greatest_category, is_at_most, natural, bad_category, category_behind, behind_equals, equals_behind, greatest_character, bad_code, catcode, message, name_to_assign, definition_behind, define, name_behind, build_ask, manner, build_fed, is_long, is_outer_prefix, is_global, is_raw_definition, is_expanded_definition, is_assignment, prefix_refused, limit_refused, behind_prefixes, prefixed, call_ask, gathered_by, arguments_ask}
+use Rattle.plain_state.specs.Readings.{Kind, number, Catcode, Message, Prefixed, Define, Number, Integer, Text, Definition, Arguments, Value, Int, Toks, Flag, Fed, Tok, Val, Told, Cut, Effect, SetCategory, SetMacro, Ask, More, Inner, Done, Act, ask, is_minus, is_plus, is_digit, digit_of_token, greatest_integer, number_ended, behind_number, digits_dropped, too_big, digits, missing, first_digit, code_of, behind_code, constant, unsigned, integer, closes_at, text_done, brace_missing, text, greatest_category, is_at_most, natural, bad_category, category_behind, behind_equals, equals_behind, greatest_character, bad_code, catcode, message, name_to_assign, definition_behind, define, name_behind, build_ask, manner, build_fed, is_long, is_outer_prefix, is_global, is_raw_definition, is_expanded_definition, is_assignment, prefix_refused, limit_refused, behind_prefixes, prefixed, call_ask, gathered_by, arguments_ask}
 use Rattle.plain_state.specs.States.{Reading, fresh, begun_at, fed_with, lending, holding, without_one, ended_with}
+use Rattle.engine_state.specs.Begins.{IsNoExpansion}
 use Rattle.engine_state.specs.Chained.{HasBody, IsDefinition, Follows, ChainedTo, AreChained}
 use Rattle.engine_state.proofs.ChainedLists.{GivesTokens, definition_lists}
 
@@ -176,6 +177,11 @@ arguments_body : (name : Name) (long : Bool) (ts : List Token) (fed : List Fed) 
 arguments_body name long ts [] = tt
 arguments_body name long ts (x ∷ fed) = call_body name (gathered_by long ts (x ∷ fed))
 
+number_body : (fed : List Fed) → HasBody (number fed)
+number_body [] = tt
+number_body (Val (Int n) ∷ fed) = tt
+number_body (x ∷ fed) = tt
+
 -- ONE MORE IS FED
 
 -- a value that is waited for as a definition's has a token
@@ -266,6 +272,7 @@ body_kept Catcode fed y = λ h g. catcode_body (fed ++ y ∷ [])
 body_kept (Message name) fed y = λ h g. message_body name (fed ++ y ∷ [])
 body_kept (Prefixed long outer) fed y = prefixed_kept long outer fed y
 body_kept (Define expanded) fed y = define_kept expanded false false fed y
+body_kept Number fed y = λ h g. number_body (fed ++ y ∷ [])
 body_kept Integer fed y = λ h g. integer_body false (fed ++ y ∷ [])
 body_kept (Text name) fed y = λ h g. text_body (fed ++ y ∷ [])
 body_kept (Definition name expanded) fed y = λ h g. build_body (build.definition (manner name expanded) (build_fed (fed ++ y ∷ [])))
@@ -276,6 +283,7 @@ first_body Catcode = tt
 first_body (Message name) = tt
 first_body (Prefixed long outer) = tt
 first_body (Define expanded) = tt
+first_body Number = tt
 first_body Integer = tt
 first_body (Text name) = tt
 first_body (Definition name expanded) = tt
@@ -293,6 +301,7 @@ inner_follows Catcode begins = tt
 inner_follows (Message name) begins = tt
 inner_follows (Prefixed long outer) begins = tt
 inner_follows (Define expanded) begins = tt
+inner_follows Number begins = tt
 inner_follows Integer begins = tt
 inner_follows (Text name) begins = tt
 inner_follows (Arguments name long number ts) begins = tt
@@ -345,6 +354,7 @@ definition_brings Catcode fed v back e h = absurd h
 definition_brings (Message name) fed v back e h = absurd h
 definition_brings (Prefixed long outer) fed v back e h = absurd h
 definition_brings (Define expanded) fed v back e h = absurd h
+definition_brings Number fed v back e h = absurd h
 definition_brings Integer fed v back e h = absurd h
 definition_brings (Text name) fed v back e h = absurd h
 definition_brings (Arguments name long number ts) fed v back e h = absurd h
@@ -371,6 +381,7 @@ acts_none Catcode fed x e h = h
 acts_none (Message name) fed x e h = h
 acts_none (Prefixed long outer) fed x e h = h
 acts_none (Define expanded) fed x e h = h
+acts_none Number fed x e h = h
 acts_none Integer fed x e h = h
 acts_none (Text name) fed x e h = h
 acts_none (Arguments name long number ts) fed x e h = h
@@ -406,3 +417,47 @@ chained_rest r (q ∷ qs) h = (h.1.0.1, h.1.1)
 
 pub more_is : (want : Want) (a : Ask) → a ≡ More want → IsMore a
 more_is want a e = subst IsMore (sym e) tt
+
+-- AN EXPANSION has no value, and does nothing
+
+pub done_ends : (k : Kind) (fed : List Fed) (v : Value) (back : Bool) → ask k fed ≡ Done v back → IsNoExpansion k
+done_ends Number fed v back e = number_done fed v back e where
+  number_done : (fed : List Fed) (v : Value) (back : Bool) → number fed ≡ Done v back → ⊥
+  number_done [] v back e = cc
+  number_done (Val (Int n) ∷ fed) v back e = cc
+  number_done (Val (Toks ts) ∷ fed) v back e = cc
+  number_done (Val (Flag b) ∷ fed) v back e = cc
+  number_done (Tok x ∷ fed) v back e = cc
+  number_done (Told ∷ fed) v back e = cc
+  number_done (Cut ∷ fed) v back e = cc
+done_ends Catcode fed v back e = tt
+done_ends (Message name) fed v back e = tt
+done_ends (Prefixed long outer) fed v back e = tt
+done_ends (Define expanded) fed v back e = tt
+done_ends Integer fed v back e = tt
+done_ends (Text name) fed v back e = tt
+done_ends (Definition name expanded) fed v back e = tt
+done_ends (Arguments name long number ts) fed v back e = tt
+
+pub act_ends : (k : Kind) (fed : List Fed) (x : Effect) → ask k fed ≡ Act x → IsNoExpansion k
+act_ends Number fed x e = number_acts fed x e where
+  number_acts : (fed : List Fed) (x : Effect) → number fed ≡ Act x → ⊥
+  number_acts [] x e = cc
+  number_acts (Val (Int n) ∷ fed) x e = cc
+  number_acts (Val (Toks ts) ∷ fed) x e = cc
+  number_acts (Val (Flag b) ∷ fed) x e = cc
+  number_acts (Tok y ∷ fed) x e = cc
+  number_acts (Told ∷ fed) x e = cc
+  number_acts (Cut ∷ fed) x e = cc
+act_ends Catcode fed x e = tt
+act_ends (Message name) fed x e = tt
+act_ends (Prefixed long outer) fed x e = tt
+act_ends (Define expanded) fed x e = tt
+act_ends Integer fed x e = tt
+act_ends (Text name) fed x e = tt
+act_ends (Definition name expanded) fed x e = tt
+act_ends (Arguments name long number ts) fed x e = tt
+
+-- an expansion in front of a reading that wants a token
+pub chained_expansion : (k : Kind) (work : List Reading) → WantMore work → AreChained work → AreChained (fresh k ∷ work)
+chained_expansion k work want h = (first_body k, call_behind k work want h)

@@ -60,18 +60,22 @@ wants_still (Some c) (Some want) e e' top ask h = h
 pub takes_still : (sizes : Sizes) (want : Option ScanWant) (e e' : Engine) (book : Book) → SameFrames e e' → AllStand sizes e' book → Takes sizes want e book → Takes sizes want e' book
 takes_still sizes want e e' book same st t = (subst (λ (c : Option Call). WantsHere c want e') (sym same.call) (wants_still e.call want e e' same.top same.ask t.0), st)
 
-pub scanned_still : (what : reports.Scanned) (e e' : Engine) → e'.input.call ≡ e.input.call → e'.input.builds ≡ e.input.builds → IsScanned what e → IsScanned what e'
-scanned_still reports.OfUse e e' call lists h = subst IsTaking (sym call) h
-scanned_still reports.OfText e e' call lists h = λ (none : e'.input.builds ≡ []). h (sym lists ∙ none)
-scanned_still reports.OfDefinition e e' call lists h = λ (none : e'.input.builds ≡ []). h (sym lists ∙ none)
+-- the lists that frames hold
+both_still : (e e' : Engine) → e'.input.builds ≡ e.input.builds → e'.input.aside ≡ e.input.aside → e'.input.builds ++ e'.input.aside ≡ e.input.builds ++ e.input.aside
+both_still e e' lists aside = ap (λ (l : List (List Token)). l ++ e'.input.aside) lists ∙ ap (λ (l : List (List Token)). e.input.builds ++ l) aside
 
-list_still : (what : reports.Scanned) (e e' : Engine) → e'.input.call ≡ e.input.call → e'.input.builds ≡ e.input.builds → scanned_list what e' ≡ scanned_list what e
-list_still reports.OfUse e e' call lists = ap (λ (k : Calling). list_or_none (call_work k)) call
-list_still reports.OfText e e' call lists = ap first_list lists
-list_still reports.OfDefinition e e' call lists = ap first_list lists
+pub scanned_still : (what : reports.Scanned) (e e' : Engine) → e'.input.call ≡ e.input.call → e'.input.builds ≡ e.input.builds → e'.input.aside ≡ e.input.aside → IsScanned what e → IsScanned what e'
+scanned_still reports.OfUse e e' call lists aside h = subst IsTaking (sym call) h
+scanned_still reports.OfText e e' call lists aside h = λ (none : e'.input.builds ++ e'.input.aside ≡ []). h (sym (both_still e e' lists aside) ∙ none)
+scanned_still reports.OfDefinition e e' call lists aside h = λ (none : e'.input.builds ++ e'.input.aside ≡ []). h (sym (both_still e e' lists aside) ∙ none)
 
--- a frame's list, where no call is what is scanned
-pub frame_list : (what : Scanned) (e : Engine) → (what ≡ scanned.Use → ⊥) → scanned_list (scanned_of what) e ≡ first_list e.input.builds
+list_still : (what : reports.Scanned) (e e' : Engine) → e'.input.call ≡ e.input.call → e'.input.builds ≡ e.input.builds → e'.input.aside ≡ e.input.aside → scanned_list what e' ≡ scanned_list what e
+list_still reports.OfUse e e' call lists aside = ap (λ (k : Calling). list_or_none (call_work k)) call
+list_still reports.OfText e e' call lists aside = ap first_list (both_still e e' lists aside)
+list_still reports.OfDefinition e e' call lists aside = ap first_list (both_still e e' lists aside)
+
+-- the innermost list that frames hold, where no call is what is scanned
+pub frame_list : (what : Scanned) (e : Engine) → (what ≡ scanned.Use → ⊥) → scanned_list (scanned_of what) e ≡ first_list (e.input.builds ++ e.input.aside)
 frame_list scanned.Use e other = absurd (other refl)
 frame_list scanned.Text e other = refl
 frame_list scanned.Definition e other = refl
@@ -224,7 +228,7 @@ module _ (sizes : Sizes) (e e1 e2 : Engine) (f : FilesTold) (s : SinkTold) (w2 :
   away_same : away_moves (page_of e book) what (away_text what e) report rest ≡ away_moves (page_of e1 book) what (away_text what e1) report rest
   away_same =
       ap (λ (p : Page). away_moves p what (runaway_bytes what p.categories p.names p.in_line (scanned_list what e)) report rest) (sym page)
-      ∙ ap (λ (ts : List Token). away_moves (page_of e1 book) what (runaway_bytes what e1.categories e1.names.names e1.in_line ts) report rest) (sym (list_still what e e1 same.calling same.lists))
+      ∙ ap (λ (ts : List Token). away_moves (page_of e1 book) what (runaway_bytes what e1.categories e1.names.names e1.in_line ts) report rest) (sym (list_still what e e1 same.calling same.lists same.aside))
 
   put_did : Did sizes (state_of e book) (state_of e1 book) (world_of f s e) (world_of f s e1) (put_one t)
   put_did = subst (λ (b : Bool). Did sizes (state_of e book) (state_of e1 book) (world_of f s e) (world f s b) (put_one t)) (sym (ap (λ (p : Page). p.in_line) page)) (put (world_of f s e))

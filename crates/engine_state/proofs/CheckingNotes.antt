@@ -152,7 +152,7 @@ module _ (sizes : Sizes) (e e2 : Engine) (book : Book) (name : Name) (r : Readin
   made_now : made Checked (state_of e book) ≡ state_of e2 (with_work now book)
   made_now =
       ap (λ (rs : List Reading). record (state_of e book) { work = fed_with Cut rs }) work
-      ∙ ap (λ (l : List (List Token)). record (state_of e book) { work = now; gathered = l ++ e.input.builds }) (sym c.lists)
+      ∙ ap (λ (l : List (List Token)). record (state_of e book) { work = now; gathered = l ++ (e.input.builds ++ e.input.aside) }) (sym c.lists)
       ∙ ap (λ (y : Engine). state_of y (with_work now book)) (sym after)
 
   pub noted_did : (f : FilesTold) (s : SinkTold) → Did sizes (state_of e book) (state_of e2 (with_work now book)) (world_of f s e) (world_of f s e2) (Checked ∷ [])

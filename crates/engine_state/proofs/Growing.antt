@@ -42,7 +42,7 @@ use Rattle.engine_state.specs.Book.{Book, with_work}
 use Rattle.engine_state.specs.Chained.{AreChained}
 use Rattle.engine_state.specs.Feeding.{tokens_of, AnswerFits, AnswerCut}
 use Rattle.engine_state.specs.Near.{FramesIn, CutsIn, with_token, MayLead}
-use Rattle.engine_state.specs.Stands.{Stands, WorkStands, FrameStands, FeedsHere, Waits as WaitsFor, WaitStands, IsLone, AreOrderly, SameState, state_of, frames}
+use Rattle.engine_state.specs.Stands.{Stands, WorkStands, FrameStands, FeedsHere, Waits as WaitsFor, WaitStands, IsRooted, AreOrderly, SameState, state_of, frames}
 use Rattle.engine_state.specs.Steps.{frame_weight, pending_weight}
 use Rattle.engine_state.specs.Rules.{feeds_of, Cuts}
 use Rattle.engine_state.proofs.Answering.{grown_moves, listed, same_growth, answer_did, answer_cuts}
@@ -71,6 +71,7 @@ behind_list (Waits (waiting.Catcode scan)) lists now fed o b = sym (ap first_lis
 behind_list (Waits (waiting.Message name)) lists now fed o b = sym (ap first_list o)
 behind_list (Waits (waiting.Prefixed long outer scan)) lists now fed o b = sym (ap first_list o)
 behind_list (Waits (waiting.Define expanded scan)) lists now fed o b = sym (ap first_list o)
+behind_list (Waits waiting.Number) lists now fed o b = sym (ap first_list o)
 behind_list (Integer scan) lists now fed o b = sym (ap first_list o)
 behind_list (Text name scan) lists now fed o b = b
 behind_list (Definition name expanded scan) lists now fed o b = sym (ap first_list b)
@@ -109,6 +110,7 @@ module _ (f : Frame) (a : Answer) (lists : List (List Token)) (r : Reading) (bel
   kind_feeding (Waits (waiting.Message name)) x = refl
   kind_feeding (Waits (waiting.Prefixed long outer scan)) x = refl
   kind_feeding (Waits (waiting.Define expanded scan)) x = refl
+  kind_feeding (Waits waiting.Number) x = refl
   kind_feeding (Integer scan) x = refl
   kind_feeding (Text name scan) x = refl
   kind_feeding (Definition name expanded scan) x = refl
@@ -168,7 +170,7 @@ may_feed (Definition name expanded scan) x lists h takes shallow small = has_mac
 
 -- the words of the lists that readings hold can be counted
 few_words : (e : Engine) → stored_words e.input < 4294967296 → lists_words e.input.builds < 4294967296
-few_words e h = omega (arith, h, sum_by-append list_words (call_lists e.input.call) e.input.builds)
+few_words e h = omega (arith, h, sum_by-append list_words (call_lists e.input.call) (e.input.builds ++ e.input.aside), sum_by-append list_words e.input.builds e.input.aside)
 
 -- what is known of a frame that was fed with a token
 pub record FrameFed (f f' : Frame) (a : Answer) (x : Seen) : Type 0 where
@@ -203,31 +205,32 @@ accepted_same e e' f a is kept = record {
   pending = ap (λ (y : Engine). y.input.pending) is;
   making = ap (λ (y : Engine). y.input.making) is;
   calling = ap (λ (y : Engine). y.input.call) is;
+  aside = ap (λ (y : Engine). y.input.aside) is;
   store = store_gathered e.input e'.input (lists_behind a e.input.builds) (ap (λ (y : Engine). y.input) is) kept;
 }
 
 -- A TOKEN
 
 module _ (sizes : Sizes) (e : Engine) (f f' : Frame) (a : Answer) (x : Seen) (book : Book) (top : e.top ≡ Some f) (small : stored_words e.input < 4294967296) (fed : FrameFed f f' a x) (h : FeedsHere sizes e x book) where
-  work_is : WorkStands e.ask (Some f) e.outer.items e.input.builds book.work
-  work_is = subst (λ (t : Option Frame). WorkStands e.ask t e.outer.items e.input.builds book.work) top h.stands.readings
+  work_is : WorkStands e.ask (Some f) e.outer.items e.input.builds e.input.aside book.work
+  work_is = subst (λ (t : Option Frame). WorkStands e.ask t e.outer.items e.input.builds e.input.aside book.work) top h.stands.readings
 
-  frame_is : (r : Reading) (rs : List Reading) → WorkStands e.ask (Some f) e.outer.items e.input.builds (r ∷ rs) → FrameStands f e.input.builds r
+  frame_is : (r : Reading) (rs : List Reading) → WorkStands e.ask (Some f) e.outer.items e.input.builds e.input.aside (r ∷ rs) → FrameStands f e.input.builds r
   frame_is r rs w = w.0.open_frame (subst IsOpen (sym h.asks) tt)
 
-  goes_is : (r : Reading) (rs : List Reading) → WorkStands e.ask (Some f) e.outer.items e.input.builds (r ∷ rs) → GoesOn a.ask f f' e.input.builds (lists_behind a e.input.builds) (Tok x)
+  goes_is : (r : Reading) (rs : List Reading) → WorkStands e.ask (Some f) e.outer.items e.input.builds e.input.aside (r ∷ rs) → GoesOn a.ask f f' e.input.builds (lists_behind a e.input.builds) (Tok x)
   goes_is r rs w =
       let below : FrameStands f e.input.builds r = frame_is r rs w in
       let takes : TakesTokens f = takes_of f e.input.builds r h.want below (ap (ask_of e.input.builds) (sym h.asks) ∙ w.0.asked) in
       fed.goes e.input.builds (may_feed f x e.input.builds below.owns takes below.shallow (few_words e small)) below.shallow (owned_behind (frame_kind f) a e.input.builds (owned_of f e.input.builds below.owns))
 
-  feeds_is : (r : Reading) (rs : List Reading) → WorkStands e.ask (Some f) e.outer.items e.input.builds (r ∷ rs) → feeding r x ≡ grown_moves (tokens_of a) e.input.builds ++ Feeds x ∷ []
+  feeds_is : (r : Reading) (rs : List Reading) → WorkStands e.ask (Some f) e.outer.items e.input.builds e.input.aside (r ∷ rs) → feeding r x ≡ grown_moves (tokens_of a) e.input.builds ++ Feeds x ∷ []
   feeds_is r rs w = feeding_is f a e.input.builds r (frame_is r rs w) x (goes_is r rs w).builds
 
   module _ (e' : Engine) (is : e' ≡ accepted e f' a e'.input.lists) (kept : KeepsMacros e.input e'.input) where
     pub token_stands : Stands sizes e' (with_work (fed_with (Tok x) book.work) book)
     token_stands = at book.work work_is h.stands.orderly where
-      at : (work : List Reading) → WorkStands e.ask (Some f) e.outer.items e.input.builds work → AreOrderly work → Stands sizes e' (with_work (fed_with (Tok x) work) book)
+      at : (work : List Reading) → WorkStands e.ask (Some f) e.outer.items e.input.builds e.input.aside work → AreOrderly work → Stands sizes e' (with_work (fed_with (Tok x) work) book)
       at [] w orderly = absurd w
       at (r ∷ rs) w orderly =
           feeds_on sizes e e' f f' r rs book (accepted_same e e' f' a is kept) h.stands.sound h.stands.idle h.stands.uncalled (frame_is r rs w) w.0.holds w.1
@@ -237,7 +240,7 @@ module _ (sizes : Sizes) (e : Engine) (f f' : Frame) (a : Answer) (x : Seen) (bo
 
     pub token_did : (w : World) → AnswerFits a e.input → Did sizes (state_of e book) (state_of e' (with_work (fed_with (Tok x) book.work) book)) w w (feeds_of book.work x)
     token_did w room = at book.work work_is where
-      at : (work : List Reading) → WorkStands e.ask (Some f) e.outer.items e.input.builds work → Did sizes (state_of e (with_work work book)) (state_of e' (with_work (fed_with (Tok x) work) book)) w w (feeds_of work x)
+      at : (work : List Reading) → WorkStands e.ask (Some f) e.outer.items e.input.builds e.input.aside work → Did sizes (state_of e (with_work work book)) (state_of e' (with_work (fed_with (Tok x) work) book)) w w (feeds_of work x)
       at [] ws = absurd ws
       at (r ∷ rs) ws =
           subst (λ (ms : List Move). Did sizes (state_of e (with_work (r ∷ rs) book)) (state_of e' (with_work (fed_with (Tok x) (r ∷ rs)) book)) w w ms) (sym (feeds_is r rs ws))
@@ -268,7 +271,7 @@ module _ (sizes : Sizes) (e : Engine) (f f' : Frame) (a : Answer) (x : Seen) (bo
           (subst (λ (c : Option Call). FramesIn c (listed e (grown_by cut.front e.input.builds) e'.input.lists) e.input.builds book.work) (sym h.stands.uncalled.none) h.stands.readings);
     };
   } where
-    at : (work : List Reading) → WorkStands e.ask (Some f) e.outer.items e.input.builds work → Cuts sizes (state_of e (with_work work book)) e' (with_work work book) w w (feeds_of work x) (broken.Full full)
+    at : (work : List Reading) → WorkStands e.ask (Some f) e.outer.items e.input.builds e.input.aside work → Cuts sizes (state_of e (with_work work book)) e' (with_work work book) w w (feeds_of work x) (broken.Full full)
     at [] ws = absurd ws
     at (r ∷ rs) ws =
         cuts_by sizes (state_of e (with_work (r ∷ rs) book)) e' (with_work (r ∷ rs) book) w w (grown_moves (tokens_of a) e.input.builds ++ Feeds x ∷ []) (feeding r x) (broken.Full full) (feeds_is r rs ws)
@@ -277,19 +280,19 @@ module _ (sizes : Sizes) (e : Engine) (f f' : Frame) (a : Answer) (x : Seen) (bo
 -- A NOTE
 
 module _ (sizes : Sizes) (e : Engine) (f f' : Frame) (a : Answer) (book : Book) (top : e.top ≡ Some f) (told : FrameTold f f' a) (h : WaitsFor sizes e book) where
-  waits_is : WaitStands (Some f) e.outer.items e.input.builds book.work
-  waits_is = subst (λ (t : Option Frame). WaitStands t e.outer.items e.input.builds book.work) top h.readings
+  waits_is : WaitStands (Some f) e.outer.items e.input.builds e.input.aside book.work
+  waits_is = subst (λ (t : Option Frame). WaitStands t e.outer.items e.input.builds e.input.aside book.work) top h.readings
 
-  noted_is : (r : Reading) (rs : List Reading) → WaitStands (Some f) e.outer.items e.input.builds (r ∷ rs) → GoesOn a.ask f f' e.input.builds (lists_behind a e.input.builds) Told
+  noted_is : (r : Reading) (rs : List Reading) → WaitStands (Some f) e.outer.items e.input.builds e.input.aside (r ∷ rs) → GoesOn a.ask f f' e.input.builds (lists_behind a e.input.builds) Told
   noted_is r rs w = told.goes e.input.builds (told_builds f e.input.builds w.0.owns) w.0.shallow (owned_behind (frame_kind f) a e.input.builds (owned_of f e.input.builds w.0.owns))
 
-  notes_is : (r : Reading) (rs : List Reading) → WaitStands (Some f) e.outer.items e.input.builds (r ∷ rs) → noting r ≡ grown_moves (tokens_of a) e.input.builds ++ Noted ∷ []
+  notes_is : (r : Reading) (rs : List Reading) → WaitStands (Some f) e.outer.items e.input.builds e.input.aside (r ∷ rs) → noting r ≡ grown_moves (tokens_of a) e.input.builds ++ Noted ∷ []
   notes_is r rs w = noting_is f a e.input.builds r w.0 (noted_is r rs w).builds
 
   module _ (e' : Engine) (is : e' ≡ accepted e f' a e'.input.lists) (kept : KeepsMacros e.input e'.input) where
     pub note_stands : Stands sizes e' (with_work (fed_with Told book.work) book)
-    note_stands = at book.work waits_is h.lone h.chained where
-      at : (work : List Reading) → WaitStands (Some f) e.outer.items e.input.builds work → IsLone work → AreChained (fed_with Told work) → Stands sizes e' (with_work (fed_with Told work) book)
+    note_stands = at book.work waits_is h.rooted h.chained where
+      at : (work : List Reading) → WaitStands (Some f) e.outer.items e.input.builds e.input.aside work → IsRooted work → AreChained (fed_with Told work) → Stands sizes e' (with_work (fed_with Told work) book)
       at [] w lone chained = absurd w
       at (r ∷ rs) w lone chained =
           notes_on sizes e e' f f' r rs book (accepted_same e e' f' a is kept) h.sound h.idle h.uncalled w.0 w.1.0 w.1.1
@@ -299,14 +302,14 @@ module _ (sizes : Sizes) (e : Engine) (f f' : Frame) (a : Answer) (book : Book) 
 
     pub note_did : (w : World) (r : Reading) (rs : List Reading) → book.work ≡ r ∷ rs → AnswerFits a e.input → Did sizes (state_of e (with_work (r ∷ rs) book)) (state_of e' (with_work (fed_with Told (r ∷ rs)) book)) w w (noting r)
     note_did w r rs work room =
-        subst (λ (ms : List Move). Did sizes (state_of e (with_work (r ∷ rs) book)) (state_of e' (with_work (fed_with Told (r ∷ rs)) book)) w w ms) (sym (notes_is r rs (subst (WaitStands (Some f) e.outer.items e.input.builds) work waits_is)))
+        subst (λ (ms : List Move). Did sizes (state_of e (with_work (r ∷ rs) book)) (state_of e' (with_work (fed_with Told (r ∷ rs)) book)) w w ms) (sym (notes_is r rs (subst (WaitStands (Some f) e.outer.items e.input.builds e.input.aside) work waits_is)))
         (answer_did sizes book w e e' a (Some f') Noted Told (r ∷ rs) is h.uncalled.input h.sound tt (λ s. refl) (λ s. refl) room)
 
   -- the list has no room for one of the answer's tokens
   pub note_cuts : (e' : Engine) (w : World) (full : Full) (r : Reading) (rs : List Reading) → book.work ≡ r ∷ rs → KeepsMacros e.input e'.input → AnswerCut a full e e' → Cuts sizes (state_of e (with_work (r ∷ rs) book)) e' (with_work (r ∷ rs) book) w w (noting r) (broken.Full full)
   note_cuts e' w full r rs work kept cut =
       cuts_by sizes (state_of e (with_work (r ∷ rs) book)) e' (with_work (r ∷ rs) book) w w (grown_moves (tokens_of a) e.input.builds ++ Noted ∷ []) (noting r) (broken.Full full)
-      (notes_is r rs (subst (WaitStands (Some f) e.outer.items e.input.builds) work waits_is))
+      (notes_is r rs (subst (WaitStands (Some f) e.outer.items e.input.builds e.input.aside) work waits_is))
       (answer_cuts sizes (with_work (r ∷ rs) book) w e e' a full Noted h.uncalled.input h.sound kept cut)
 
 -- BEGUN WITH A TOKEN
@@ -323,8 +326,8 @@ may_bare (Definition name expanded scan) x lists h = absurd cc
 
 pub first_stands : (sizes : Sizes) (e : Engine) (f f' : Frame) (a : Answer) (x : Seen) (book : Book) (r : Reading) (rs : List Reading) → e.top ≡ Some f → FrameFed f f' a x → (own_lists (frame_kind f) ≡ [] → GrowsNone a) → own_lists r.kind ≡ [] → IsOpen e.ask →
     Stands sizes e (with_work (r ∷ rs) book) → Stands sizes (record e { top = Some f'; ask = a.ask }) (with_work (fed_with (Tok x) (r ∷ rs)) book)
-first_stands sizes e f f' a x book r rs top fed grows none opened h = at (subst (λ (t : Option Frame). WorkStands e.ask t e.outer.items e.input.builds (r ∷ rs)) top h.readings) where
-  at : WorkStands e.ask (Some f) e.outer.items e.input.builds (r ∷ rs) → Stands sizes (record e { top = Some f'; ask = a.ask }) (with_work (fed_with (Tok x) (r ∷ rs)) book)
+first_stands sizes e f f' a x book r rs top fed grows none opened h = at (subst (λ (t : Option Frame). WorkStands e.ask t e.outer.items e.input.builds e.input.aside (r ∷ rs)) top h.readings) where
+  at : WorkStands e.ask (Some f) e.outer.items e.input.builds e.input.aside (r ∷ rs) → Stands sizes (record e { top = Some f'; ask = a.ask }) (with_work (fed_with (Tok x) (r ∷ rs)) book)
   at w =
       let below : FrameStands f e.input.builds r = w.0.open_frame opened in
       let own : own_lists (frame_kind f) ≡ [] = ap own_lists (sym below.kind) ∙ none in
@@ -332,7 +335,7 @@ first_stands sizes e f f' a x book r rs top fed grows none opened h = at (subst 
       let goes : GoesOn a.ask f f' e.input.builds (lists_behind a e.input.builds) (Tok x) =
       fed.goes e.input.builds (may_bare f x e.input.builds own) below.shallow (owned_behind (frame_kind f) a e.input.builds (owned_of f e.input.builds below.owns)) in
       feeds_on sizes e (record e { top = Some f'; ask = a.ask }) f f' r rs book
-      (record { others = record { depth = refl; call = refl; names = refl; categories = refl; in_line = refl; reports = refl; quiet = refl; sizes = refl }; pending = refl; making = refl; calling = refl; store = store_gathered e.input e.input e.input.builds refl (record { tokens = λ n h. refl }) })
+      (record { others = record { depth = refl; call = refl; names = refl; categories = refl; in_line = refl; reports = refl; quiet = refl; sizes = refl }; pending = refl; making = refl; calling = refl; aside = refl; store = store_gathered e.input e.input e.input.builds refl (record { tokens = λ n h. refl }) })
       h.sound h.idle h.uncalled below w.0.holds w.1 refl refl refl x h.orderly fed.back fed.bare (subst (λ (l : List (List Token)). GoesOn a.ask f f' e.input.builds l (Tok x)) still goes)
 
 none_open : IsSome {T = Frame} None → ⊥

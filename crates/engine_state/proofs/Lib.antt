@@ -22,3 +22,4 @@ pub mod Reporting
 pub mod Standing
 pub mod Stepping
 pub mod Storing
+pub mod TextPutting

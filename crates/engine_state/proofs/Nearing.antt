@@ -9,7 +9,7 @@ use Rattle.plain_machine.specs.Does.{Did}
 use Rattle.world_io.specs.Told.{FilesTold, SinkTold, world}
 use Rattle.frames.specs.declared.scan.Ask.{Ask}
 use Rattle.frames.specs.declared.frame.Frame.{Frame}
-use Rattle.frames.specs.declared.frame.Waiting.{Waiting}
+use Rattle.frames.specs.declared.outer.Beneath.{Beneath}
 use Rattle.engine_state.specs.declared.broken.Broken.{Broken}
 use Rattle.engine_state.specs.declared.call.Call.{Call}
 use Rattle.engine_state.specs.declared.engine.Engine.{Engine}
@@ -35,11 +35,12 @@ near_all sizes b e book st = record { lists = e.input.builds; front = None; grow
 pub near_none : (b : Broken) (e : Engine) (work : List Reading) → e.call ≡ None → FramesStand e work → FramesNear b e work
 near_none b e work none h = record { lists = e.input.builds; front = None; grown = refl; leads = tt; stand = subst (λ (c : Option Call). FramesIn c e e.input.builds work) (sym none) h }
 
-work_still : (e e' : Engine) (lists : List (List Token)) (work : List Reading) → SameFrames e e' → WorkStands e.ask e.top e.outer.items lists work → WorkStands e'.ask e'.top e'.outer.items lists work
+work_still : (e e' : Engine) (lists : List (List Token)) (work : List Reading) → SameFrames e e' → WorkStands e.ask e.top e.outer.items lists e.input.aside work → WorkStands e'.ask e'.top e'.outer.items lists e'.input.aside work
 work_still e e' lists work same h =
-    subst (λ (x : List Waiting). WorkStands e'.ask e'.top x lists work) (sym (ap (λ (o : _). o.items) same.outer))
-    (subst (λ (x : Option Frame). WorkStands e'.ask x e.outer.items lists work) (sym same.top)
-    (subst (λ (x : Ask). WorkStands x e.top e.outer.items lists work) (sym same.ask) h))
+    subst (λ (x : List (List Token)). WorkStands e'.ask e'.top e'.outer.items lists x work) (sym same.aside)
+    (subst (λ (x : List Beneath). WorkStands e'.ask e'.top x lists e.input.aside work) (sym (ap (λ (o : _). o.items) same.outer))
+    (subst (λ (x : Option Frame). WorkStands e'.ask x e.outer.items lists e.input.aside work) (sym same.top)
+    (subst (λ (x : Ask). WorkStands x e.top e.outer.items lists e.input.aside work) (sym same.ask) h)))
 
 in_still : (e e' : Engine) (c : Option Call) (lists : List (List Token)) (work : List Reading) → SameFrames e e' → FramesIn c e lists work → FramesIn c e' lists work
 in_still e e' None lists work same h = work_still e e' lists work same h

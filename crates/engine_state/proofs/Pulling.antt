@@ -70,7 +70,7 @@ use Rattle.engine_state.proofs.Coming.{meets_by, meets_later, next_by, next_late
 -- AN ENGINE THAT HAS WRITTEN
 
 pub column_frames : (e e' : Engine) → OnlyColumn e e' → SameFrames e e'
-column_frames e e' only = record { outer = only.outer; top = only.top; ask = only.ask; lists = ap (λ (x : Stored). x.builds) only.input; call = only.call; calling = ap (λ (x : Stored). x.call) only.input }
+column_frames e e' only = record { outer = only.outer; top = only.top; ask = only.ask; lists = ap (λ (x : Stored). x.builds) only.input; aside = ap (λ (x : Stored). x.aside) only.input; call = only.call; calling = ap (λ (x : Stored). x.call) only.input }
 
 pub same_frames : (e e' : Engine) → SameFrames e e' → frames e' ≡ frames e
 same_frames e e' h = rw (h.outer, h.top, h.call) refl
@@ -438,7 +438,7 @@ module _ (e : Engine) (i : Stored) where
   lighter_close is = subst (Lighter e.input.pending) is (lighter e.categories e.input.pending)
 
 pub frames_now : (e : Engine) (i : Stored) → i ≡ record e.input { pending = i.pending; buffer = i.buffer; lists = i.lists } → SameFrames e (record e { input = i })
-frames_now e i others = record { outer = refl; top = refl; ask = refl; lists = ap (λ (x : Stored). x.builds) others; call = refl; calling = ap (λ (x : Stored). x.call) others }
+frames_now e i others = record { outer = refl; top = refl; ask = refl; lists = ap (λ (x : Stored). x.builds) others; aside = ap (λ (x : Stored). x.aside) others; call = refl; calling = ap (λ (x : Stored). x.call) others }
 
 module _ (sizes : Sizes) (e : Engine) (i : Stored) (others : i ≡ record e.input { pending = i.pending; buffer = i.buffer; lists = i.lists }) where
   abbrev now : Engine
@@ -689,7 +689,7 @@ lighter_after e e' h less = let asked : ask_weight e'.ask ≡ ask_weight e.ask =
 pub skipped_light : (e : Engine) (i : Stored) (e' : Engine) → SameFrames e (record e { input = i }) → SameFrames (record e { input = i }) e' → e'.input ≡ i → pending_weight i.pending < pending_weight e.input.pending → weight e' < weight e
 skipped_light e i e' first second input less =
     let pending : pending_weight e'.input.pending ≡ pending_weight i.pending = ap (λ (x : Stored). pending_weight x.pending) input in
-    lighter_after e e' (record { outer = second.outer; top = second.top; ask = second.ask; lists = second.lists ∙ first.lists; call = second.call; calling = second.calling ∙ first.calling }) (omega (arith, pending, less))
+    lighter_after e e' (record { outer = second.outer; top = second.top; ask = second.ask; lists = second.lists ∙ first.lists; aside = second.aside ∙ first.aside; call = second.call; calling = second.calling ∙ first.calling }) (omega (arith, pending, less))
 
 -- the answer
 pub steps_met : (o : Option Seen) (n : Next) (b : Bool) → n ≡ next_met o → b ≡ true → NextStepsIf n b

@@ -37,7 +37,7 @@ use Rattle.frames.specs.declared.scan.Ask.{Ask}
 use Rattle.frames.specs.declared.scan.Ask.TheVariants.{More}
 use Rattle.frames.specs.declared.scan.Want.{Want as ScanWant}
 use Rattle.frames.specs.declared.frame.Frame.{Frame}
-use Rattle.frames.specs.declared.frame.Waiting.{Waiting}
+use Rattle.frames.specs.declared.outer.Beneath.{Beneath}
 use Rattle.engine_state.specs.declared.broken.Broken.{Broken}
 use Rattle.engine_state.specs.declared.call.Call.{Call}
 use Rattle.engine_state.specs.declared.engine.Engine.{Engine}
@@ -238,13 +238,14 @@ counted_last e book n is = ap (λ (k : ℕ). record (state_of e book) { reports 
 -- the frames stand for the same readings
 pub readings_still : (e e' : Engine) (work : List Reading) → SameReadings e e' → FramesStand e work → FramesStand e' work
 readings_still e e' work same h =
-    subst (λ (x : List (List Token)). WorkStands e'.ask e'.top e'.outer.items x work) (sym same.lists)
-    (subst (λ (x : List Waiting). WorkStands e'.ask e'.top x e.input.builds work) (sym (ap (λ (o : _). o.items) same.outer))
-    (subst (λ (x : Option Frame). WorkStands e'.ask x e.outer.items e.input.builds work) (sym same.top)
-    (subst (λ (x : Ask). WorkStands x e.top e.outer.items e.input.builds work) (sym same.ask) h)))
+    subst (λ (x : List (List Token)). WorkStands e'.ask e'.top e'.outer.items e'.input.builds x work) (sym same.aside)
+    (subst (λ (x : List (List Token)). WorkStands e'.ask e'.top e'.outer.items x e.input.aside work) (sym same.lists)
+    (subst (λ (x : List Beneath). WorkStands e'.ask e'.top x e.input.builds e.input.aside work) (sym (ap (λ (o : _). o.items) same.outer))
+    (subst (λ (x : Option Frame). WorkStands e'.ask x e.outer.items e.input.builds e.input.aside work) (sym same.top)
+    (subst (λ (x : Ask). WorkStands x e.top e.outer.items e.input.builds e.input.aside work) (sym same.ask) h))))
 
 pub frames_still : (e e' : Engine) (work : List Reading) → SameFrames e e' → FramesStand e work → FramesStand e' work
-frames_still e e' work same h = readings_still e e' work (record { outer = same.outer; top = same.top; ask = same.ask; lists = same.lists; call = same.call }) h
+frames_still e e' work same h = readings_still e e' work (record { outer = same.outer; top = same.top; ask = same.ask; lists = same.lists; aside = same.aside; call = same.call }) h
 
 -- and no call is gathered
 uncalled_still : (e e' : Engine) → SameFrames e e' → IsUncalled e → IsUncalled e'
@@ -260,10 +261,11 @@ waits_still sizes e e' book same sound idle st = record {
   sound = sound;
   idle = idle;
   readings =
-      subst (λ (x : List (List Token)). WaitStands e'.top e'.outer.items x book.work) (sym same.lists)
-      (subst (λ (x : List Waiting). WaitStands e'.top x e.input.builds book.work) (sym (ap (λ (o : _). o.items) same.outer))
-      (subst (λ (x : Option Frame). WaitStands x e.outer.items e.input.builds book.work) (sym same.top) st.readings));
-  lone = st.lone;
+      subst (λ (x : List (List Token)). WaitStands e'.top e'.outer.items e'.input.builds x book.work) (sym same.aside)
+      (subst (λ (x : List (List Token)). WaitStands e'.top e'.outer.items x e.input.aside book.work) (sym same.lists)
+      (subst (λ (x : List Beneath). WaitStands e'.top x e.input.builds e.input.aside book.work) (sym (ap (λ (o : _). o.items) same.outer))
+      (subst (λ (x : Option Frame). WaitStands x e.outer.items e.input.builds e.input.aside book.work) (sym same.top) st.readings)));
+  rooted = st.rooted;
   chained = st.chained;
   uncalled = uncalled_still e e' same st.uncalled;
 }
@@ -276,7 +278,11 @@ ends_still sizes e e' v r rs book same sound idle h = record {
   holds = h.holds ∙ sym (ap (length {A = List Token}) same.lists);
   taken = h.taken;
   chained = h.chained;
-  outer = subst (λ (x : List Waiting). OuterStand (reverse x) rs) (sym (ap (λ (o : _). o.items) same.outer)) h.outer;
+  rooted = h.rooted;
+  ends = h.ends;
+  outer =
+      subst (λ (x : List (List Token)). OuterStand r.kind (reverse e'.outer.items) x rs) (sym same.aside)
+      (subst (λ (x : List Beneath). OuterStand r.kind (reverse x) e.input.aside rs) (sym (ap (λ (o : _). o.items) same.outer)) h.outer);
   uncalled = uncalled_still e e' same h.uncalled;
 }
 
@@ -386,10 +392,11 @@ bodiless reading.Catcode h = tt
 bodiless (reading.Message name) h = tt
 bodiless (reading.Prefixed long outer) h = tt
 bodiless (reading.Define expanded) h = tt
+bodiless reading.Number h = tt
 bodiless k h = absurd h
 
 pub orderly_first : (sizes : Sizes) (e : Engine) (k : reading.Kind) (book : Book) → e.top ≡ None → IsCommand k → Stands sizes e book → AreOrderly (fresh k ∷ book.work)
-orderly_first sizes e k book top is st = at book.work (subst (λ (t : Option Frame). WorkStands e.ask t e.outer.items e.input.builds book.work) top st.readings) where
-  at : (work : List Reading) → WorkStands e.ask None e.outer.items e.input.builds work → AreOrderly (fresh k ∷ work)
-  at [] w = record { lone = is; chained = (bodiless k is, tt) }
+orderly_first sizes e k book top is st = at book.work (subst (λ (t : Option Frame). WorkStands e.ask t e.outer.items e.input.builds e.input.aside book.work) top st.readings) where
+  at : (work : List Reading) → WorkStands e.ask None e.outer.items e.input.builds e.input.aside work → AreOrderly (fresh k ∷ work)
+  at [] w = record { rooted = is; chained = (bodiless k is, tt) }
   at (s ∷ rs) w = absurd w

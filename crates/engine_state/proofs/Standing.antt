@@ -12,7 +12,7 @@ use Rattle.engine_state.proofs.Reporting.{input_sound, column_sound}
 use Rattle.engine_state.proofs.Storing.{store_is}
 
 pub only_frames : (e e' : Engine) → OnlyColumn e e' → SameFrames e e'
-only_frames e e' only = record { outer = only.outer; top = only.top; ask = only.ask; lists = ap (λ (x : Stored). x.builds) only.input; call = only.call; calling = ap (λ (x : Stored). x.call) only.input }
+only_frames e e' only = record { outer = only.outer; top = only.top; ask = only.ask; lists = ap (λ (x : Stored). x.builds) only.input; aside = ap (λ (x : Stored). x.aside) only.input; call = only.call; calling = ap (λ (x : Stored). x.call) only.input }
 
 pub all_input : (sizes : Sizes) (e e' : Engine) (book : Book) → SameFrames e e' → e'.input ≡ e.input → (IsSized sizes e → IsSized sizes e') → AllStand sizes e book → AllStand sizes e' book
 all_input sizes e e' book same is sized st =
@@ -24,8 +24,8 @@ column_all sizes e e' book only st =
 
 -- the engine is the same
 pub same_engine : (e e' : Engine) → e' ≡ e → SameFrames e e'
-same_engine e e' is = record { outer = ap (λ (x : Engine). x.outer) is; top = ap (λ (x : Engine). x.top) is; ask = ap (λ (x : Engine). x.ask) is; lists = ap (λ (x : Engine). x.input.builds) is; call = ap (λ (x : Engine). x.call) is; calling = ap (λ (x : Engine). x.input.call) is }
+same_engine e e' is = record { outer = ap (λ (x : Engine). x.outer) is; top = ap (λ (x : Engine). x.top) is; ask = ap (λ (x : Engine). x.ask) is; lists = ap (λ (x : Engine). x.input.builds) is; aside = ap (λ (x : Engine). x.input.aside) is; call = ap (λ (x : Engine). x.call) is; calling = ap (λ (x : Engine). x.input.call) is }
 
 -- finished lists have gone
 pub list_frames : (e e' : Engine) (p : Pending) → e' ≡ record e { input = record e.input { pending = p; lists = e'.input.lists } } → SameFrames e e'
-list_frames e e' p is = record { outer = ap (λ (x : Engine). x.outer) is; top = ap (λ (x : Engine). x.top) is; ask = ap (λ (x : Engine). x.ask) is; lists = ap (λ (x : Engine). x.input.builds) is; call = ap (λ (x : Engine). x.call) is; calling = ap (λ (x : Engine). x.input.call) is }
+list_frames e e' p is = record { outer = ap (λ (x : Engine). x.outer) is; top = ap (λ (x : Engine). x.top) is; ask = ap (λ (x : Engine). x.ask) is; lists = ap (λ (x : Engine). x.input.builds) is; aside = ap (λ (x : Engine). x.input.aside) is; call = ap (λ (x : Engine). x.call) is; calling = ap (λ (x : Engine). x.input.call) is }

@@ -9,26 +9,26 @@ use Rattle.tex_defs.specs.declared.Token.{Token}
 use Rattle.tex_defs.specs.declared.Fatal.TheVariants.{HundredErrors}
 use Rattle.tex_defs.specs.Places.{Transcript}
 use Rattle.tex_defs.specs.declared.Name.{Name}
-use Rattle.plain_state.specs.Names.{name_of, means_relax, relax_primitive, catcode_primitive, message_primitive, end_primitive, long_primitive, outer_primitive, global_primitive, def_primitive, gdef_primitive, edef_primitive, xdef_primitive}
-use Rattle.plain_state.specs.Tokens.{Want, Raw, Expanded, Copied, Nonblank, Command, is_space, is_outer, space_token}
+use Rattle.plain_state.specs.Names.{name_of, means_relax, relax_primitive, catcode_primitive, message_primitive, end_primitive, long_primitive, outer_primitive, global_primitive, def_primitive, gdef_primitive, edef_primitive, xdef_primitive, number_primitive}
+use Rattle.plain_state.specs.Tokens.{Want, Raw, Expanded, Copied, Nonblank, Command, is_space, is_outer, space_token, made_text}
 use Rattle.plain_state.specs.Meanings.{name_meaning, seen}
 use Rattle.plain_state.specs.Puts.{Item, Put as PutList, call_put}
 use Rattle.plain_state.specs.Arguments.{has_parameters, arguments_in, work_in}
 use Rattle.plain_state.specs.Lookup.{token_of, new_name}
 use Rattle.plain_state.specs.Readings as reading
 use Rattle.plain_state.specs.Pending.{Pending, Pulled, TokenFrom, LexemeFrom, LineTaken, InvalidMet, FileOver, NothingLeft, pulled}
-use Rattle.plain_state.specs.States.{State, Move, Reading, Handed, Taken, Grows, Feeds, Noted, Completed, Begun, Ended, Written, Stopped, AtFatal}
+use Rattle.plain_state.specs.States.{State, Move, Reading, Handed, Taken, Grows, Feeds, Noted, Completed, ListGrown, Put, Begun, Ended, Closed, Written, Stopped, AtFatal}
 use Rattle.plain_state.specs.Reports as reports
 use Rattle.plain_state.specs.Reports.{Scanned, hundred_line}
-use Rattle.plain_machine.specs.Plan.{Page, page_of, plan, handed, met, met_outer, entered, enters_names, Scanning, scanning, checked, check_noted, ran_away, away_text, without_file, page_behind, reported, reports_room, told, put_inserted, is_told, noting, token_line, finish, stomach, command, primitive, called, called_meaning, called_list, put_body, body_put, wanted, expanded, expanded_as, feeding, feeding_kind, grown_to, opened, in_place, argument_fed, answered, begun, begun_with, last_seen, given_back, put_all, effect}
+use Rattle.plain_machine.specs.Plan.{put_text, unless_expanded, Page, page_of, plan, handed, met, met_outer, entered, enters_names, Scanning, scanning, checked, check_noted, ran_away, away_text, without_file, page_behind, reported, reports_room, told, put_inserted, is_told, noting, token_line, finish, stomach, command, primitive, called, called_meaning, called_list, put_body, body_put, wanted, expanded, expanded_as, feeding, feeding_kind, grown_to, opened, in_place, argument_fed, answered, begun, begun_with, last_seen, given_back, put_all, effect}
 use Rattle.plain_machine.specs.Numbers.{pending_of, pulled_of}
 use Rattle.plain_machine.specs.Runs.{steps}
 use Rattle.plain_machine.proofs.Joins.{StepComes, plan_needs, steps_join}
 use Rattle.plain_machine.proofs.Renumbering.{pulled_same}
 use Rattle.frames.specs.declared.scan.Ask.{Ask}
-use Rattle.frames.specs.declared.scan.Ask.TheVariants.{More, Inner, Done, Act, Tells, Inserts}
+use Rattle.frames.specs.declared.scan.Ask.TheVariants.{More, Inner, Done, Act, Tells, Inserts, Makes}
 use Rattle.frames.specs.declared.frame.Frame.{Frame}
-use Rattle.frames.specs.Sees.{ask_of, want_of, effect_of, value_of, kind_of}
+use Rattle.frames.specs.Sees.{made_of, ask_of, want_of, effect_of, value_of, kind_of}
 use Rattle.transcript.specs.Reported.{report_of}
 use Rattle.input_state.specs.Reads.{gives_step}
 use Rattle.input_state.specs.Stored.{gathered}
@@ -143,8 +143,19 @@ primitive_none page t n =
     (none_if (nat_eq n edef_primitive || nat_eq n xdef_primitive) (Begun (reading.Define true) ∷ []) relax refl
     (none_if (nat_eq n relax_primitive) [] line refl (line_none page (means.Prim n))))))))))
 
+unless_none : (n : ℕ) (moves : List Move) → steps moves ≡ 0 → steps (unless_expanded n moves) ≡ 0
+unless_none n moves h = none_if (nat_eq n number_primitive) (Begun reading.Number ∷ []) moves refl h
+
+-- a text that is put in front
+made_none : (ts us : List Token) → steps (map ListGrown ts ++ Put us ∷ []) ≡ 0
+made_none [] us = refl
+made_none (t ∷ ts) us = omega (arith, made_none ts us)
+
+pub text_none : (ts : List Token) → steps (put_text ts) ≡ 0
+text_none ts = omega (arith, made_none ts ts)
+
 command_none : (page : Page) (t : Token) (m : Meaning Unit) → steps (command page t m) ≡ 0
-command_none page t (means.Prim n) = primitive_none page t n
+command_none page t (means.Prim n) = unless_none n (primitive page t n) (primitive_none page t n)
 command_none page t means.Undefined = reported_none page reports.UndefinedName [] refl
 command_none page t means.RelaxMarked = refl
 command_none page t (means.Char category code) = line_none page (means.Char category code)
@@ -156,6 +167,7 @@ command_none page t (means.Macro long outer list) = called_none page t
 expanded_none : (page : Page) (t : Token) (m : Meaning Unit) (feeds : List Move) → steps feeds ≡ 0 → steps (expanded_as page t m feeds) ≡ 0
 expanded_none page t means.Undefined feeds h = reported_none page reports.UndefinedName [] refl
 expanded_none page t (means.Macro long outer list) feeds h = called_none page t
+expanded_none page t (means.Prim n) feeds h = unless_none n feeds h
 expanded_none page t m feeds h = h
 
 pub wanted_none : (page : Page) (w : Want) (feeds : List Move) (x : Seen) → steps feeds ≡ 0 → steps (wanted page w feeds x) ≡ 0
@@ -243,8 +255,9 @@ answer_steps e book r f (Act ef) =
     steps_join (effect (state_of e book) (effect_of e.input.builds ef)) (Ended (reading.Flag true) ∷ []) ∙ omega (arith, effect_none (state_of e book) (effect_of e.input.builds ef))
 answer_steps e book r f (Tells report back) = told_none (page_of (state_of e book)) (report_of report) None (is_some back) r
 answer_steps e book r f (Inserts t report back) = told_none (page_of (state_of e book)) (report_of report) (Some t) (is_some back) r
+answer_steps e book r f (Makes n) = steps_join (put_text (made_text (made_of n))) (Closed ∷ []) ∙ omega (arith, text_none (made_text (made_of n)))
 
-steps_at : (e : Engine) (x : Option Frame) (book : Book) (work : List Reading) → WorkStands e.ask x e.outer.items e.input.builds work → steps (plan_of e (with_work work book)) ≡ one_if (wants_token x e.ask && gives_step (pulled e.categories e.input.pending))
+steps_at : (e : Engine) (x : Option Frame) (book : Book) (work : List Reading) → WorkStands e.ask x e.outer.items e.input.builds e.input.aside work → steps (plan_of e (with_work work book)) ≡ one_if (wants_token x e.ask && gives_step (pulled e.categories e.input.pending))
 steps_at e None book [] h = let page = page_of (state_of e (with_work [] book)) in handed_now e book page false None (stomach page) (λ x. command_none page x.token x.meaning)
 steps_at e None book (r ∷ rs) h = absurd h
 steps_at e (Some f) book [] h = absurd h
@@ -278,8 +291,9 @@ module _ (sizes : Sizes) where
   answer_needs e book r f (Act ef) h g = cc
   answer_needs e book r f (Tells report back) h g = cc
   answer_needs e book r f (Inserts t report back) h g = cc
+  answer_needs e book r f (Makes n) h g = cc
 
-  needs_at : (e : Engine) (x : Option Frame) (book : Book) (work : List Reading) → WorkStands e.ask x e.outer.items e.input.builds work → (wants_token x e.ask && gives_step (pulled e.categories e.input.pending)) ≡ true → StepComes sizes (state_of e (with_work work book))
+  needs_at : (e : Engine) (x : Option Frame) (book : Book) (work : List Reading) → WorkStands e.ask x e.outer.items e.input.builds e.input.aside work → (wants_token x e.ask && gives_step (pulled e.categories e.input.pending)) ≡ true → StepComes sizes (state_of e (with_work work book))
   needs_at e None book [] h g = let page = page_of (state_of e (with_work [] book)) in pulled_needs e (with_work [] book) page false None (stomach page) refl g
   needs_at e None book (r ∷ rs) h g = absurd h
   needs_at e (Some f) book [] h g = absurd h

@@ -140,6 +140,7 @@ same_lists e e' i gathered others is kept same = record {
   pending = ap (λ (x : Stored). x.pending) same ∙ ap (λ (x : Stored). x.pending) is;
   making = ap (λ (x : Stored). x.making) same ∙ ap (λ (x : Stored). x.making) is;
   calling = ap (λ (x : Stored). x.call) same ∙ ap (λ (x : Stored). x.call) is;
+  aside = ap (λ (x : Stored). x.aside) same ∙ ap (λ (x : Stored). x.aside) is;
   store = subst (λ (x : Stored). SameStore e.input x) (sym same) (store_gathered e.input i gathered is kept);
 }
 
@@ -158,6 +159,7 @@ same_join e e1 e2 a b = record {
   pending = b.pending ∙ a.pending;
   making = b.making ∙ a.making;
   calling = b.calling ∙ a.calling;
+  aside = b.aside ∙ a.aside;
   store = store_join e.input e1.input e2.input a.store b.store;
 }
 

@@ -34,10 +34,20 @@ last_bytes in_line NoEnd = fresh_line in_line ++ (emergency ++ no_end_line)
 abbrev pub away_moves : Page → reports.Scanned → List ℕ → reports.Report → (rest : List Move) → List Move
 away_moves page what text report rest = Written Transcript text ∷ (put_one (inserted_at what) ++ reported (page_behind page text) report (check_noted what rest))
 
--- a command of the stomach
+-- the expansion of a primitive
+abbrev pub IsExpansion : reading.Kind → Type 0
+IsExpansion reading.Number = Unit {0}
+IsExpansion k = ⊥
+
+abbrev pub IsNoExpansion : reading.Kind → Type 0
+IsNoExpansion reading.Number = ⊥
+IsNoExpansion k = Unit {0}
+
+-- a command of the stomach, or an expansion
 abbrev pub IsCommand : reading.Kind → Type 0
 IsCommand reading.Catcode = Unit {0}
 IsCommand (reading.Message name) = Unit {0}
 IsCommand (reading.Prefixed long outer) = Unit {0}
 IsCommand (reading.Define expanded) = Unit {0}
+IsCommand reading.Number = Unit {0}
 IsCommand k = ⊥

@@ -16,9 +16,9 @@ use Rattle.engine_state.specs.Rules.{Cuts}
 
 -- the open readings, but for a call, are these, where they held these lists
 abbrev pub FramesIn : Option Call → Engine → (lists : List (List Token)) → List Reading → Type 0
-FramesIn None e lists work = WorkStands e.ask e.top e.outer.items lists work
+FramesIn None e lists work = WorkStands e.ask e.top e.outer.items lists e.input.aside work
 FramesIn (Some c) e lists [] = ⊥
-FramesIn (Some c) e lists (r ∷ rs) = WorkStands e.ask e.top e.outer.items lists rs
+FramesIn (Some c) e lists (r ∷ rs) = WorkStands e.ask e.top e.outer.items lists e.input.aside rs
 
 -- the innermost list has one token more, or none
 abbrev pub with_token : Option Token → List (List Token) → List (List Token)

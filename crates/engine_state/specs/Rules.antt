@@ -103,10 +103,10 @@ token_moves page scanned onward t = met page scanned onward (seen page.meanings 
 abbrev pub name_moves : Page → Option Scanning → (enters : Bool) → (onward : Seen → List Move) → Lexeme → List Move
 name_moves page scanned enters onward x = entered (new_name enters page.names x) ++ token_moves page scanned onward (token_of enters page.names x)
 
--- the list of what is scanned: of a call the present argument, if a place is reached, and else the list of the innermost frame
+-- the list of what is scanned: of a call the present argument, if a place is reached, and else the innermost list that frames hold
 abbrev pub scanned_list : Scanned → Engine → List PlainToken
 scanned_list reports.OfUse e = list_or_none (call_work e.input.call)
-scanned_list what e = first_list e.input.builds
+scanned_list what e = first_list (e.input.builds ++ e.input.aside)
 
 -- what is shown of it where it runs away
 abbrev pub away_text : Scanned → Engine → List ℕ
@@ -115,7 +115,7 @@ away_text what e = runaway_bytes what e.categories e.names.names e.in_line (scan
 -- a call takes tokens, or a list is held
 abbrev pub IsScanned : Scanned → Engine → Type 0
 IsScanned reports.OfUse e = IsTaking e.input.call
-IsScanned what e = e.input.builds ≡ [] → ⊥
+IsScanned what e = e.input.builds ++ e.input.aside ≡ [] → ⊥
 
 -- such a thing is scanned, under this name
 abbrev pub Scans : (Scanned × Name) → Engine → Book → Type 0
@@ -209,4 +209,5 @@ pub record SameReadings (e e' : Engine) : Type 0 where
   pub top : e'.top ≡ e.top
   pub ask : e'.ask ≡ e.ask
   pub lists : e'.input.builds ≡ e.input.builds
+  pub aside : e'.input.aside ≡ e.input.aside
   pub call : e'.call ≡ e.call

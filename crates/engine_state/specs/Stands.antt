@@ -1,5 +1,5 @@
 -- What an engine stands for: a state of the machine, once its open readings are named.
-use Rattle.std.specs.Prelude.{◌≡◌, ℕ, ◌+◌, ◌<◌, ◌≤◌, true, false, List, [], ◌∷◌, ◌++◌, length, reverse, nat_lt, if◌then◌else◌, Option, Some, None}
+use Rattle.std.specs.Prelude.{◌≡◌, ℕ, ◌+◌, ◌<◌, ◌≤◌, true, false, List, [], ◌∷◌, ◌++◌, length, reverse, take, drop, nat_lt, if◌then◌else◌, Option, Some, None}
 use Rattle.tex_defs.specs.declared.Seen.{Seen}
 use Rattle.tex_defs.specs.declared.Token.{Token}
 use Rattle.tex_defs.specs.declared.Sizes.{Sizes}
@@ -18,14 +18,16 @@ use Rattle.frames.specs.declared.scan.Want.{Want}
 use Rattle.frames.specs.declared.scan.Value.{Value}
 use Rattle.frames.specs.declared.scan.Value.TheVariants.{Toks}
 use Rattle.frames.specs.declared.scan.Ask.{Ask}
-use Rattle.frames.specs.declared.scan.Ask.TheVariants.{More, Inner, Done, Act, Tells, Inserts}
+use Rattle.frames.specs.declared.scan.Ask.TheVariants.{More, Inner, Done, Act, Tells, Inserts, Makes}
 use Rattle.frames.specs.declared.frame.Frame.{Frame}
 use Rattle.frames.specs.declared.frame.Waiting.{Waiting}
+use Rattle.frames.specs.declared.outer.Beneath.{Beneath}
+use Rattle.frames.specs.declared.outer.Beneath.TheVariants as beneath
 use Rattle.frames.specs.Sees.{ask_of}
-use Rattle.frames.specs.Resumes.{resume, resume_waiting, waiting_kind, frame_list, frame_kind, IsOpen, BeginsBare, InnerWaits, Owns, IsShallow}
+use Rattle.frames.specs.Resumes.{resume, resume_waiting, waiting_kind, frame_list, frame_kind, IsOpen, BeginsBare, InnerWaits, Owns, IsShallow, list_count}
 use Rattle.engine_state.specs.declared.engine.Engine.{Engine}
 use Rattle.engine_state.specs.declared.call.Call.{Call}
-use Rattle.engine_state.specs.Begins.{IsCommand}
+use Rattle.engine_state.specs.Begins.{IsCommand, IsExpansion, IsNoExpansion}
 use Rattle.engine_state.specs.Book.{Book, AreBodies}
 use Rattle.engine_state.specs.Chained.{AreChained}
 
@@ -43,13 +45,6 @@ pub record WaitingStands (waiting : Waiting) (r : Reading) : Type 0 where
   pub kind : r.kind ≡ waiting_kind waiting
   pub none : r.holds ≡ 0
 
--- innermost first
-abbrev pub OuterStand : List Waiting → List Reading → Type 0
-OuterStand [] [] = Unit {0}
-OuterStand (f ∷ fs) (r ∷ rs) = WaitingStands f r × OuterStand fs rs
-OuterStand [] (r ∷ rs) = ⊥
-OuterStand (f ∷ fs) [] = ⊥
-
 -- this token is the last one
 abbrev pub IsLast : Option Seen → List Fed → Type 0
 IsLast None fed = Unit {0}
@@ -62,6 +57,7 @@ GivesLast (Done v back) fed = IsLast back fed
 GivesLast (Act e) fed = Unit {0}
 GivesLast (Tells report back) fed = IsLast back fed
 GivesLast (Inserts t report back) fed = IsLast back fed
+GivesLast (Makes n) fed = Unit {0}
 
 -- a report comes only where none was the last
 abbrev pub TellsOnce : Ask → List Fed → Type 0
@@ -85,24 +81,35 @@ pub record Innermost (a : Ask) (frame : Frame) (lists : List (List Token)) (r : 
   pub once : TellsOnce a r.fed
   pub not_lent : r.lent ≡ false
 
-abbrev pub WorkStands : Ask → Option Frame → List Waiting → List (List Token) → List Reading → Type 0
-WorkStands a None outer lists [] = (outer ≡ []) × (lists ≡ [])
-WorkStands a None outer lists (r ∷ rs) = ⊥
-WorkStands a (Some frame) outer lists [] = ⊥
-WorkStands a (Some frame) outer lists (r ∷ rs) = Innermost a frame lists r × OuterStand (reverse outer) rs
+-- The readings beneath, innermost first, with the lists that they hold, behind a reading of this kind: an expansion, in front of which a
+-- reading asks for a token, or one whose value is waited for.
+abbrev pub OuterStand : reading.Kind → List Beneath → List (List Token) → List Reading → Type 0
+OuterStand k [] lists [] = lists ≡ []
+OuterStand k (beneath.Waits w ∷ fs) lists (r ∷ rs) = (IsNoExpansion k × WaitingStands w r) × OuterStand r.kind fs lists rs
+OuterStand k (beneath.Expands f want ∷ fs) lists (r ∷ rs) =
+    (IsExpansion k × Innermost (More want) f (take (list_count f) lists) r) × OuterStand r.kind fs (drop (list_count f) lists) rs
+OuterStand k [] lists (r ∷ rs) = ⊥
+OuterStand k (f ∷ fs) lists [] = ⊥
+
+abbrev pub WorkStands : Ask → Option Frame → List Beneath → (lists aside : List (List Token)) → List Reading → Type 0
+WorkStands a None outer lists aside [] = (outer ≡ []) × ((lists ≡ []) × (aside ≡ []))
+WorkStands a None outer lists aside (r ∷ rs) = ⊥
+WorkStands a (Some frame) outer lists aside [] = ⊥
+WorkStands a (Some frame) outer lists aside (r ∷ rs) = Innermost a frame lists r × OuterStand r.kind (reverse outer) aside rs
 
 -- the open readings, with the lists that they hold, are these
 abbrev pub FramesStand : Engine → List Reading → Type 0
-FramesStand e work = WorkStands e.ask e.top e.outer.items e.input.builds work
+FramesStand e work = WorkStands e.ask e.top e.outer.items e.input.builds e.input.aside work
 
--- where one reading is open, it is a command
-abbrev pub IsLone : List Reading → Type 0
-IsLone (r ∷ []) = IsCommand r.kind
-IsLone rs = Unit {0}
+-- the outermost reading is a command, or an expansion where no command is
+abbrev pub IsRooted : List Reading → Type 0
+IsRooted [] = Unit {0}
+IsRooted (r ∷ []) = IsCommand r.kind
+IsRooted (r ∷ s ∷ rs) = IsRooted (s ∷ rs)
 
 -- and a definition gives its list to the command that defines
 pub record AreOrderly (work : List Reading) : Type 0 where
-  pub lone : IsLone work
+  pub rooted : IsRooted work
   pub chained : AreChained work
 
 -- the tables' sizes are these, two readings more than may be open can be counted, the last report that a run may have hasn't come,
@@ -137,24 +144,24 @@ pub record Stands (sizes : Sizes) (e : Engine) (book : Book) : Type 0 where
   pub uncalled : IsUncalled e
 
 -- The innermost reading waits for what comes.
-abbrev pub WaitStands : Option Frame → List Waiting → List (List Token) → List Reading → Type 0
-WaitStands None outer lists [] = (outer ≡ []) × (lists ≡ [])
-WaitStands None outer lists (r ∷ rs) = ⊥
-WaitStands (Some frame) outer lists [] = ⊥
-WaitStands (Some frame) outer lists (r ∷ rs) = FrameStands frame lists r × ((r.holds ≡ length lists) × OuterStand (reverse outer) rs)
+abbrev pub WaitStands : Option Frame → List Beneath → (lists aside : List (List Token)) → List Reading → Type 0
+WaitStands None outer lists aside [] = (outer ≡ []) × ((lists ≡ []) × (aside ≡ []))
+WaitStands None outer lists aside (r ∷ rs) = ⊥
+WaitStands (Some frame) outer lists aside [] = ⊥
+WaitStands (Some frame) outer lists aside (r ∷ rs) = FrameStands frame lists r × ((r.holds ≡ length lists) × OuterStand r.kind (reverse outer) aside rs)
 
 pub record Waits (sizes : Sizes) (e : Engine) (book : Book) : Type 0 where
   pub sound : IsSound sizes e book.number book.macros
   pub idle : e.input.making ≡ None
-  pub readings : WaitStands e.top e.outer.items e.input.builds book.work
-  pub lone : IsLone book.work
+  pub readings : WaitStands e.top e.outer.items e.input.builds e.input.aside book.work
+  pub rooted : IsRooted book.work
   pub chained : AreChained (fed_with reading.Told book.work)
   pub uncalled : IsUncalled e
 
 -- A command waits in front of the reading that begins.
 abbrev pub WaitsFirst : Engine → Waiting → List Reading → Type 0
 WaitsFirst e waiting [] = ⊥
-WaitsFirst e waiting (r ∷ rs) = WaitingStands waiting r × OuterStand (reverse e.outer.items) rs
+WaitsFirst e waiting (r ∷ rs) = WaitingStands waiting r × OuterStand r.kind (reverse e.outer.items) e.input.aside rs
 
 pub record WaitsIn (sizes : Sizes) (e : Engine) (waiting : Waiting) (book : Book) : Type 0 where
   pub sound : IsSound sizes e book.number book.macros
@@ -166,6 +173,16 @@ pub record WaitsIn (sizes : Sizes) (e : Engine) (waiting : Waiting) (book : Book
 abbrev pub WaitsWith : Sizes → Engine → Option Waiting → Book → Type 0
 WaitsWith sizes e None book = (e.top ≡ None) × Stands sizes e book
 WaitsWith sizes e (Some waiting) book = WaitsIn sizes e waiting book
+
+-- the readings that begin are no expansions, where a command waits for their value
+abbrev pub MayBegin : Option Waiting → reading.Kind → Type 0
+MayBegin None k = Unit {0}
+MayBegin (Some waiting) k = IsNoExpansion k
+
+-- the command that waits, if one does, among the readings beneath
+abbrev pub waiting_list : Option Waiting → List Beneath
+waiting_list None = []
+waiting_list (Some waiting) = beneath.Waits waiting ∷ []
 
 -- a value that goes to no reading has no list
 abbrev pub IsTaken : reading.Value → List Reading → Type 0
@@ -180,8 +197,29 @@ pub record EndsHere (sizes : Sizes) (e : Engine) (v : reading.Value) (r : Readin
   pub holds : r.holds ≡ length e.input.builds
   pub taken : IsTaken v rs
   pub chained : AreChained (ended_with v (r ∷ rs))
-  pub outer : OuterStand (reverse e.outer.items) rs
+  pub rooted : IsRooted (r ∷ rs)
+  pub ends : IsNoExpansion r.kind
+  pub outer : OuterStand r.kind (reverse e.outer.items) e.input.aside rs
   pub uncalled : IsUncalled e
+
+-- The innermost reading is an expansion, and these are beneath it.
+pub record Expanded (sizes : Sizes) (e : Engine) (r : Reading) (rs : List Reading) (book : Book) : Type 0 where
+  pub sound : IsSound sizes e book.number book.macros
+  pub idle : e.input.making ≡ None
+  pub expansion : IsExpansion r.kind
+  pub few : AtMostOne e.input.builds
+  pub holds : r.holds ≡ length e.input.builds
+  pub orderly : AreOrderly (r ∷ rs)
+  pub outer : OuterStand r.kind (reverse e.outer.items) e.input.aside rs
+  pub uncalled : IsUncalled e
+
+-- the innermost frame waits as it asks for a token, and its list is set aside
+abbrev pub aside_by : Option Frame → Ask → Engine → Engine
+aside_by (Some f) (More want) e = record e { outer = record e.outer { items = e.outer.items ++ beneath.Expands f want ∷ [] }; input = record e.input { builds = []; aside = e.input.builds ++ e.input.aside } }
+aside_by t a e = e
+
+abbrev pub aside_of : Engine → Engine
+aside_of e = aside_by e.top e.ask e
 
 -- The innermost reading is fed with this token, and no report is due.
 pub record FeedsHere (sizes : Sizes) (e : Engine) (x : Seen) (book : Book) : Type 0 where
@@ -260,6 +298,7 @@ pub record SameFrames (e e' : Engine) : Type 0 where
   pub top : e'.top ≡ e.top
   pub ask : e'.ask ≡ e.ask
   pub lists : e'.input.builds ≡ e.input.builds
+  pub aside : e'.input.aside ≡ e.input.aside
   pub call : e'.call ≡ e.call
   pub calling : e'.input.call ≡ e.input.call
 
@@ -282,12 +321,13 @@ pub record SameStore (old new : Stored) : Type 0 where
   pub puts : (n : ℕ) → is_put n new.pending.puts ≡ true → is_put n old.pending.puts ≡ true
   pub lists : KeepsMacros old new
 
--- all but the frames, with the lists that they hold, is as it was
+-- all but the frames, with the lists that the innermost holds, is as it was
 pub record SameState (e e' : Engine) : Type 0 where
   pub others : SameOthers e e'
   pub pending : e'.input.pending ≡ e.input.pending
   pub making : e'.input.making ≡ e.input.making
   pub calling : e'.input.call ≡ e.input.call
+  pub aside : e'.input.aside ≡ e.input.aside
   pub store : SameStore e.input e'.input
 
 -- nothing but the column has changed

@@ -43,7 +43,7 @@ impl Engine {
         }
     }
 
-    /// What the innermost frame scans, where it has a list.
+    /// What the innermost of the frames scans that scans something, where a list is held.
     fn scanned_frame(&self) -> Option<(Scanned, Name)>
         requires { self.now.call ≡ None }
         ensures is { IfSome result (λ s. IsScanned (scanned_of s.0) self.now) }
@@ -53,10 +53,13 @@ impl Engine {
         let Some(frame) = &self.top else {
             return None;
         };
-        if !self.input.has_list() {
+        if !self.input.gathers() {
             return None;
         }
-        frame.scanned()
+        match frame.scanned() {
+            Some(scanned) => Some(scanned),
+            None => self.outer.scanned(),
+        }
     }
 
     /// Writes what is shown of what is scanned.

@@ -15,6 +15,7 @@ mod names;
 mod next;
 mod outcome;
 mod readings;
+mod text;
 mod writing;
 
 pub use broken::Broken;

@@ -1,26 +1,29 @@
 // The open readings: frames, and what they hold.
-ghost use Rattle.std.specs.Prelude.{◌≡◌, ◌≤◌, ◌<◌, ◌+◌, ◌*◌, List, [], ◌∷◌, ◌++◌, IfErr, OnOk, OnErr, Some, None, IsSome, option_to_list, length};
+ghost use Rattle.std.specs.Prelude.{◌≡◌, ◌≤◌, ◌<◌, ◌+◌, ◌*◌, List, [], ◌∷◌, ◌++◌, IfErr, OnOk, OnErr, Some, None, IsSome, option_to_list, length, take, drop};
 ghost use Rattle.tex_defs.specs.Places.{World};
 ghost use Rattle.tex_defs.specs.declared.Sizes.{Sizes};
 ghost use Rattle.plain_state.specs.Tables.{refusal, refused, memory, lists_words};
 ghost use Rattle.plain_state.specs.Readings.{Tok, Told, rank, own_lists, value_lists};
-ghost use Rattle.plain_state.specs.States.{Reading, Begun, BegunWith, fresh, fed_with, ended_with, beneath};
+ghost use Rattle.plain_state.specs.States.{Reading, Begun, BegunWith, Closed, fresh, fed_with, ended_with, beneath, made};
 ghost use Rattle.plain_machine.specs.Plan.{noting};
 ghost use Rattle.plain_machine.specs.Does.{Did};
 ghost use Rattle.frames.specs.Sees.{value_of, kind_of};
-ghost use Rattle.frames.specs.Resumes.{IsOpen, lists_behind, grown_by};
+ghost use Rattle.frames.specs.Resumes.{IsOpen, lists_behind, grown_by, list_count};
+ghost use Rattle.frames.specs.declared.scan.Ask.TheVariants.{More};
 ghost use Rattle.frames.specs.Weights.{frame_rank};
 ghost use Rattle.input_state.specs.Stored.{KeepsMacros, gathered, words as stored_words};
 ghost use Rattle.engine_state.specs.Book.{Book, with_work};
 ghost use Rattle.engine_state.specs.Feeding.{AnswerFits, AnswerCut};
 ghost use Rattle.engine_state.specs.Near.{CutsIn};
-ghost use Rattle.engine_state.specs.Stands.{Stands, Waits, WaitsWith, EndsHere, FeedsHere, AreOrderly, Counts, SameState, state_of, frames, depth_full, kept_lists, other_lists};
+ghost use Rattle.engine_state.specs.Stands.{Stands, Waits, WaitsWith, EndsHere, FeedsHere, AreOrderly, Counts, SameState, Expanded, MayBegin, state_of, frames, depth_full, kept_lists, other_lists, waiting_list, aside_of};
+ghost use Rattle.engine_state.specs.Calls.{WantsToken};
+ghost use Rattle.engine_state.specs.Begins.{IsExpansion, IsNoExpansion};
 ghost use Rattle.engine_state.specs.Rules.{feeds_of, Cuts};
 ghost use Rattle.engine_state.specs.Steps.{pending_weight, frame_weight};
 ghost use Rattle.engine_state.specs.declared.broken.Broken.TheVariants as broken;
 
 use crate::engine::Engine;
-use frames::{Answer, Ask, Frame, Kind, Value, Waiting, Want, first_ask};
+use frames::{Answer, Ask, Beneath, Frame, Kind, Made, Value, Waiting, Want, first_ask};
 use tex_defs::{Full, Seen, Sizes, Table, Token};
 
 impl Engine {
@@ -60,7 +63,7 @@ impl Engine {
         ensures is_open { OnOk result (IsSome self.new.top) }
         ensures asks { OnOk result (IsOpen self.new.ask) }
         ensures lists { OnOk result (self.new.input.builds ≡ own_lists (kind_of kind) ++ self.old.input.builds) }
-        ensures stands { OnOk result ((sizes : Sizes) (book : Book) → WaitsWith sizes self.old waits book → AreOrderly (fresh (kind_of kind) ∷ book.work) → Stands sizes self.new (with_work (fresh (kind_of kind) ∷ book.work) book)) }
+        ensures stands { OnOk result ((sizes : Sizes) (book : Book) → WaitsWith sizes self.old waits book → MayBegin waits (kind_of kind) → AreOrderly (fresh (kind_of kind) ∷ book.work) → Stands sizes self.new (with_work (fresh (kind_of kind) ∷ book.work) book)) }
         ensures fits { OnOk result ((sizes : Sizes) (book : Book) → Counts sizes self.old book → refusal sizes (Begun (kind_of kind)) (state_of self.old book) ≡ None) }
         ensures refused { IfErr result (λ full. (sizes : Sizes) (book : Book) → Counts sizes self.old book → refusal sizes (Begun (kind_of kind)) (state_of self.old book) ≡ Some full) }
         ensures err { OnErr result (self.new ≡ self.old) }
@@ -78,10 +81,10 @@ impl Engine {
     /// A command waits behind those that wait already, if there is one.
     fn wait(&mut self, waits: Option<Waiting>)
         requires { length self.old.outer.items < self.old.outer.size }
-        ensures { self.new ≡ record self.old { outer = record self.old.outer { items = self.old.outer.items ++ option_to_list waits } } }
+        ensures { self.new ≡ record self.old { outer = record self.old.outer { items = self.old.outer.items ++ waiting_list waits } } }
     {
         if let Some(waiting) = waits {
-            self.outer.push(waiting);
+            self.outer.push(Beneath::Waits(waiting));
         }
     }
 
@@ -173,7 +176,7 @@ impl Engine {
         }
     }
 
-    /// Ends the innermost reading, whose value goes to the one beneath.
+    /// Ends the innermost reading, whose value goes to the one beneath, which waits for it.
     pub fn end(&mut self, value: Value)
         ensures light { (f : Frame) → self.old.top ≡ Some f → frame_weight self.new < 2 * frames self.old + 6 + pending_weight self.old.input.pending }
         ensures same { SameState self.old self.new }
@@ -186,11 +189,89 @@ impl Engine {
                 self.top = None;
                 self.ask = Ask::More(Want::Expanded);
             }
-            Some(waiting) => {
+            Some(Beneath::Waits(mut waiting)) => {
                 self.keep_value(value);
-                let mut waiting = waiting;
                 self.ask = waiting.feed_value(value);
                 self.top = Some(Frame::Waits(waiting));
+            }
+            Some(Beneath::Expands(frame, want)) => {
+                self.top = Some(frame);
+                self.ask = Ask::More(want);
+            }
+        }
+    }
+
+    /// A frame that asked for a token while a primitive was expanded is the innermost again, with its list.
+    fn go_on(&mut self, frame: Frame, want: Want)
+        ensures { self.new ≡ record self.old { top = Some frame; ask = More want; input = record self.old.input { builds = self.old.input.builds ++ take (list_count frame) self.old.input.aside; aside = drop (list_count frame) self.old.input.aside } } }
+    {
+        if frame.builds_list() {
+            self.input.take_up();
+        }
+        self.top = Some(frame);
+        self.ask = Ask::More(want);
+    }
+
+    /// Begins the expansion of a primitive, which builds no list: the innermost reading, if there is one, goes on to ask for a
+    /// token as it does now, once the expansion has ended.
+    ///
+    /// # Errors
+    /// There is no room for one more reading; nothing has changed.
+    pub fn begin_expansion(&mut self, kind: Kind) -> Result<(), Full>
+        requires { own_lists (kind_of kind) ≡ [] }
+        ensures stands { OnOk result ((sizes : Sizes) (book : Book) → Stands sizes self.old book → WantsToken self.old.top self.old.ask → IsExpansion (kind_of kind) → Stands sizes self.new (with_work (fresh (kind_of kind) ∷ book.work) book)) }
+        ensures state { OnOk result ((sizes : Sizes) (book : Book) → Stands sizes self.old book → made (Begun (kind_of kind)) (state_of self.old book) ≡ state_of self.new (with_work (fresh (kind_of kind) ∷ book.work) book)) }
+        ensures fits { OnOk result ((sizes : Sizes) (book : Book) → Counts sizes self.old book → refusal sizes (Begun (kind_of kind)) (state_of self.old book) ≡ None) }
+        ensures refused { IfErr result (λ full. (sizes : Sizes) (book : Book) → Counts sizes self.old book → refusal sizes (Begun (kind_of kind)) (state_of self.old book) ≡ Some full) }
+        ensures err { OnErr result (self.new ≡ self.old) }
+        ensures column { self.new.in_line ≡ self.old.in_line }
+        ensures idle { self.new.input.making ≡ self.old.input.making }
+    {
+        if let Some(full) = self.depth_refusal() {
+            return Err(full);
+        }
+        // What is used of the main memory is at most its size.
+        let _used = self.input.words();
+        self.set_aside();
+        self.top = Some(Frame::new(kind));
+        self.ask = first_ask(kind);
+        Ok(())
+    }
+
+    /// The innermost reading, if there is one, waits as it asks for a token, and its list is set aside.
+    fn set_aside(&mut self)
+        requires { length self.old.outer.items < self.old.outer.size }
+        ensures { self.new ≡ aside_of self.old }
+    {
+        let Some(frame) = self.top else {
+            return;
+        };
+        let Ask::More(want) = self.ask else {
+            return;
+        };
+        self.outer.push(Beneath::Expands(frame, want));
+        self.input.set_aside();
+    }
+
+    /// Ends an expansion, which is the innermost reading: the reading beneath it goes on to ask for a token.
+    pub fn end_expansion(&mut self)
+        ensures light { (f : Frame) → self.old.top ≡ Some f → frame_weight self.new < 2 * frames self.old + 6 + pending_weight self.old.input.pending }
+        ensures stands { (sizes : Sizes) (book : Book) (r : Reading) (rs : List Reading) → Expanded sizes self.old r rs book → Stands sizes self.new (with_work rs book) }
+        ensures state { (sizes : Sizes) (book : Book) (r : Reading) (rs : List Reading) → Expanded sizes self.old r rs book → made Closed (state_of self.old (with_work (r ∷ rs) book)) ≡ state_of self.new (with_work rs book) }
+        ensures column { self.new.in_line ≡ self.old.in_line }
+        ensures idle { self.new.input.making ≡ self.old.input.making }
+        ensures call { self.new.call ≡ self.old.call }
+    {
+        self.drop_list();
+        match self.outer.pop() {
+            None => {
+                self.top = None;
+                self.ask = Ask::More(Want::Expanded);
+            }
+            Some(Beneath::Expands(frame, want)) => self.go_on(frame, want),
+            Some(Beneath::Waits(waiting)) => {
+                self.top = Some(Frame::Waits(waiting));
+                self.ask = Ask::Makes(Made::Number(0));
             }
         }
     }
@@ -201,7 +282,7 @@ impl Engine {
         ensures light { OnOk result (frame_weight self.new < 2 * frames self.old + (10 + 3 * rank (kind_of kind)) + pending_weight self.old.input.pending) }
         ensures same { OnOk result (SameState self.old self.new) }
         ensures lists { OnOk result (self.new.input.builds ≡ own_lists (kind_of kind) ++ self.old.input.builds) }
-        ensures stands { OnOk result ((sizes : Sizes) (book : Book) → own_lists (kind_of kind) ≡ [] → AreOrderly (fresh (kind_of kind) ∷ book.work) → WaitsWith sizes self.old (Some waits) book → Stands sizes self.new (with_work (fed_with (Tok seen) (fresh (kind_of kind) ∷ book.work)) book)) }
+        ensures stands { OnOk result ((sizes : Sizes) (book : Book) → own_lists (kind_of kind) ≡ [] → IsNoExpansion (kind_of kind) → AreOrderly (fresh (kind_of kind) ∷ book.work) → WaitsWith sizes self.old (Some waits) book → Stands sizes self.new (with_work (fed_with (Tok seen) (fresh (kind_of kind) ∷ book.work)) book)) }
         ensures fits { OnOk result ((sizes : Sizes) (book : Book) → Counts sizes self.old book → refusal sizes (BegunWith (kind_of kind) seen) (state_of self.old book) ≡ None) }
         ensures refused { IfErr result (λ full. (sizes : Sizes) (book : Book) → Counts sizes self.old book → refusal sizes (BegunWith (kind_of kind) seen) (state_of self.old book) ≡ Some full) }
         ensures err { OnErr result (self.new ≡ self.old) }

@@ -1,5 +1,5 @@
 // What the engine writes.
-ghost use Rattle.std.specs.Prelude.{◌≡◌, ◌≤◌, ℕ, List, [], ◌∷◌, IfOk, IfErr, OnOk, None, true, false};
+ghost use Rattle.std.specs.Prelude.{◌≡◌, ◌≤◌, ℕ, List, [], ◌∷◌, ◌++◌, IfOk, IfErr, OnOk, None, true, false};
 ghost use Rattle.tex_defs.specs.Places.{Transcript};
 ghost use Rattle.tex_defs.specs.declared.Sizes.{Sizes};
 ghost use Rattle.tex_defs.specs.declared.Fatal.TheVariants as fatal;
@@ -61,19 +61,19 @@ impl Engine {
         Ok(())
     }
 
-    /// Writes what is shown of a text or a definition that runs away: the list that the innermost reading holds.
+    /// Writes what is shown of a text or a definition that runs away: the innermost list that frames hold.
     pub(crate) fn write_runaway<S: Sink>(
         &mut self,
         out: &mut S,
         what: Scanned,
     ) -> Result<(), Broken>
-        requires { self.old.input.builds ≡ [] → ⊥ }
-        ensures did { OnOk result ((sizes : Sizes) (f : FilesTold) (book : Book) → Did sizes (state_of self.old book) (state_of self.new book) (world_of f (S.told out.old) self.old) (world_of f (S.told out.new) self.new) (Written Transcript (runaway_bytes (scanned_of what) self.old.categories self.old.names.names self.old.in_line (first_list self.old.input.builds)) ∷ [])) }
-        ensures err { IfErr result (λ b. (sizes : Sizes) (f : FilesTold) (book : Book) (more : List Move) → Cuts sizes (state_of self.old book) self.new book (world_of f (S.told out.old) self.old) (world_of f (S.told out.new) self.new) (Written Transcript (runaway_bytes (scanned_of what) self.old.categories self.old.names.names self.old.in_line (first_list self.old.input.builds)) ∷ more) b) }
+        requires { self.old.input.builds ++ self.old.input.aside ≡ [] → ⊥ }
+        ensures did { OnOk result ((sizes : Sizes) (f : FilesTold) (book : Book) → Did sizes (state_of self.old book) (state_of self.new book) (world_of f (S.told out.old) self.old) (world_of f (S.told out.new) self.new) (Written Transcript (runaway_bytes (scanned_of what) self.old.categories self.old.names.names self.old.in_line (first_list (self.old.input.builds ++ self.old.input.aside))) ∷ [])) }
+        ensures err { IfErr result (λ b. (sizes : Sizes) (f : FilesTold) (book : Book) (more : List Move) → Cuts sizes (state_of self.old book) self.new book (world_of f (S.told out.old) self.old) (world_of f (S.told out.new) self.new) (Written Transcript (runaway_bytes (scanned_of what) self.old.categories self.old.names.names self.old.in_line (first_list (self.old.input.builds ++ self.old.input.aside))) ∷ more) b) }
         ensures only { OnlyColumn self.old self.new }
     {
         let (hash, pool) = self.names.parts();
-        let (lists, list) = self.input.list();
+        let (lists, list) = self.input.innermost_list();
         let view = initial_view(lists, hash, pool, &self.categories);
         write_runaway(out, &mut self.in_line, view, what, list)?;
         Ok(())

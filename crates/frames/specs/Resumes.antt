@@ -3,7 +3,7 @@ use Rattle.std.specs.Prelude.{◌≡◌, ◌≤◌, ℕ, length, false, List, []
 use Rattle.tex_defs.specs.declared.Token.{Token}
 use Rattle.tex_defs.specs.declared.Seen.{Seen}
 use Rattle.tex_defs.specs.declared.Name.{Name}
-use Rattle.plain_state.specs.Readings.{Ask, Fed, integer, constant, first_digit, digits, digits_dropped, too_big, missing, greatest_integer, behind_number, catcode, bad_code, bad_category, equals_behind, behind_equals, message, prefixed, prefix_refused, limit_refused, manner, own_lists}
+use Rattle.plain_state.specs.Readings.{Ask, Fed, integer, constant, first_digit, digits, digits_dropped, too_big, missing, greatest_integer, behind_number, catcode, bad_code, bad_category, equals_behind, behind_equals, message, number, prefixed, prefix_refused, limit_refused, manner, own_lists}
 use Rattle.plain_state.specs.Reports.{OfText, OfDefinition}
 use Rattle.plain_state.specs.Readings as reading
 use Rattle.frames.specs.declared.scan.Radix.{Radix}
@@ -13,17 +13,20 @@ use Rattle.frames.specs.declared.scan.NumberScan.TheVariants.{Signs, Quote, Firs
 use Rattle.frames.specs.declared.frame.CodeScan.{CodeScan}
 use Rattle.frames.specs.declared.frame.CodeScan.TheVariants.{Start, BadCode, Equals, Value, BadCategory}
 use Rattle.frames.specs.declared.frame.Waiting.{Waiting}
-use Rattle.frames.specs.declared.frame.Waiting.TheVariants.{Catcode, Message, Prefixed, Define}
+use Rattle.frames.specs.declared.frame.Waiting.TheVariants.{Catcode, Message, Prefixed, Define, Number}
 use Rattle.frames.specs.declared.prefix.PrefixScan.{PrefixScan}
 use Rattle.frames.specs.declared.prefix.PrefixScan.TheVariants.{Prefixes, Refused, LimitRefused, Code, Defines}
 use Rattle.frames.specs.declared.define.DefineScan.TheVariants as defines
 use Rattle.frames.specs.declared.frame.Frame.{Frame}
 use Rattle.frames.specs.declared.frame.Frame.TheVariants.{Waits, Integer, Text, Definition}
 use Rattle.frames.specs.declared.scan.Ask as engine
-use Rattle.frames.specs.declared.scan.Ask.TheVariants.{More, Inner, Done, Act, Tells, Inserts}
+use Rattle.frames.specs.declared.scan.Ask.TheVariants.{More, Inner, Done, Act, Tells, Inserts, Makes}
 use Rattle.frames.specs.declared.scan.Answer.{Answer}
 use Rattle.transcript.specs.Reported.{report_of, scanned_of}
 use Rattle.transcript.specs.declared.report.Scanned.{Scanned}
+use Rattle.transcript.specs.declared.report.Scanned.TheVariants as scanned
+use Rattle.frames.specs.declared.outer.Beneath.{Beneath}
+use Rattle.frames.specs.declared.outer.Beneath.TheVariants as beneath
 use Rattle.list_builder.specs.Stages as stages
 use Rattle.list_builder.specs.declared.stage.Stage.TheVariants as stage
 use Rattle.frames.specs.Sees.{first_list, kind_of}
@@ -64,18 +67,20 @@ resume_prefixed (LimitRefused m) fed = limit_refused m fed
 resume_prefixed (Code scan) fed = resume_code scan fed
 resume_prefixed (Defines expanded long outer scan) fed = resume_define expanded long outer scan fed
 
--- a command that waits for an inner value
+-- a command or an expansion that waits for an inner value
 abbrev pub resume_waiting : Waiting → List Fed → Ask
 resume_waiting (Catcode scan) fed = resume_code scan fed
 resume_waiting (Message name) fed = message name fed
 resume_waiting (Prefixed long outer scan) fed = resume_prefixed scan fed
 resume_waiting (Define expanded scan) fed = resume_define expanded false false scan fed
+resume_waiting Number fed = number fed
 
 abbrev pub waiting_kind : Waiting → reading.Kind
 waiting_kind (Catcode scan) = reading.Catcode
 waiting_kind (Message name) = reading.Message name
 waiting_kind (Prefixed long outer scan) = reading.Prefixed long outer
 waiting_kind (Define expanded scan) = reading.Define expanded
+waiting_kind Number = reading.Number
 
 -- what the frame answers once it is fed with this, where its reading holds these lists
 abbrev pub resume : Frame → List (List Token) → List Fed → Ask
@@ -96,6 +101,7 @@ first_frame kinds.Catcode = Waits (Catcode Start)
 first_frame (kinds.Message name) = Waits (Message name)
 first_frame (kinds.Prefixed long outer) = Waits (Prefixed long outer (Prefixes long outer))
 first_frame (kinds.Define expanded) = Waits (Define expanded defines.Start)
+first_frame kinds.Number = Waits Number
 first_frame kinds.Integer = Integer (Signs false)
 first_frame (kinds.Text name) = Text name texts.First
 first_frame (kinds.Definition name expanded) = Definition name expanded (stage.Parameters 0)
@@ -147,6 +153,7 @@ IsOpen (Done v back) = ⊥
 IsOpen (Act e) = ⊥
 IsOpen (Tells report back) = Unit {0}
 IsOpen (Inserts t report back) = Unit {0}
+IsOpen (Makes n) = ⊥
 
 -- an answer that reports nothing
 abbrev pub IsUntold : engine.Ask → Type 0
@@ -166,6 +173,7 @@ GivesBack (Done v back) x = IsBack back x
 GivesBack (Act e) x = Unit {0}
 GivesBack (Tells report back) x = IsBack back x
 GivesBack (Inserts t report back) x = IsBack back x
+GivesBack (Makes n) x = Unit {0}
 
 -- no token is read again
 abbrev pub IsNone : Option Seen → Type 0
@@ -179,6 +187,7 @@ GivesNone (Done v back) = IsNone back
 GivesNone (Act e) = Unit {0}
 GivesNone (Tells report back) = IsNone back
 GivesNone (Inserts t report back) = IsNone back
+GivesNone (Makes n) = Unit {0}
 
 -- Where a frame asks for an inner reading, it waits as its answer says.
 abbrev pub InnerWaits : engine.Ask → Frame → Type 0
@@ -223,6 +232,32 @@ IsShallow f lists = Unit {0}
 abbrev pub IsNoInner : engine.Ask → Type 0
 IsNoInner (Inner waits kind begins) = ⊥
 IsNoInner a = Unit {0}
+
+-- what a frame scans, with the name of the command or the macro
+abbrev pub frame_scans : Frame → Option (Scanned × Name)
+frame_scans (Text name scan) = Some (scanned.Text, name)
+frame_scans (Definition name expanded scan) = Some (scanned.Definition, name)
+frame_scans f = None
+
+abbrev pub first_of : Option (Scanned × Name) → Option (Scanned × Name) → Option (Scanned × Name)
+first_of (Some s) o = Some s
+first_of None o = o
+
+-- what a reading scans, or else those beneath it
+abbrev pub reading_scans : Beneath → Option (Scanned × Name) → Option (Scanned × Name)
+reading_scans (beneath.Waits w) o = o
+reading_scans (beneath.Expands f want) o = first_of (frame_scans f) o
+
+-- what the innermost of these readings scans that scans something
+abbrev pub beneath_scans : List Beneath → Option (Scanned × Name)
+beneath_scans [] = None
+beneath_scans (b ∷ bs) = reading_scans b (beneath_scans bs)
+
+-- how many lists the reading of a frame holds
+abbrev pub list_count : Frame → ℕ
+list_count (Text name scan) = 1
+list_count (Definition name expanded scan) = 1
+list_count f = 0
 
 -- Where a reading goes on, its lists are these: the one that a text or a definition has built, and else none.
 abbrev pub Owns : Frame → List (List Token) → Type 0

@@ -1,5 +1,5 @@
 -- What the engine's values and answers stand for.
-use Rattle.std.specs.Prelude.{List, [], ◌∷◌, is_some}
+use Rattle.std.specs.Prelude.{ℕ, List, [], ◌∷◌, is_some}
 use Rattle.tex_defs.specs.declared.Token.{Token}
 use Rattle.plain_state.specs.Readings as reading
 use Rattle.plain_state.specs.Tokens as tokens
@@ -8,12 +8,15 @@ use Rattle.frames.specs.declared.scan.Value.TheVariants.{Int, Toks, Flag}
 use Rattle.frames.specs.declared.scan.Want.{Want}
 use Rattle.frames.specs.declared.scan.Want.TheVariants.{Raw, Expanded, Nonblank, Command, Copied}
 use Rattle.frames.specs.declared.scan.Kind.{Kind}
-use Rattle.frames.specs.declared.scan.Kind.TheVariants.{Catcode, Message, Prefixed, Define, Integer, Text, Definition}
+use Rattle.frames.specs.declared.scan.Kind.TheVariants.{Catcode, Message, Prefixed, Define, Number, Integer, Text, Definition}
+use Rattle.frames.specs.declared.scan.Made.{Made}
+use Rattle.frames.specs.declared.scan.Made.TheVariants as makes
 use Rattle.frames.specs.declared.scan.Effect.{Effect}
 use Rattle.frames.specs.declared.scan.Effect.TheVariants.{SetCategory, Say, SetMacro}
 use Rattle.frames.specs.declared.scan.Ask.{Ask}
-use Rattle.frames.specs.declared.scan.Ask.TheVariants.{More, Inner, Done, Act, Tells, Inserts}
+use Rattle.frames.specs.declared.scan.Ask.TheVariants.{More, Inner, Done, Act, Tells, Inserts, Makes}
 use Rattle.transcript.specs.Reported.{report_of}
+use Rattle.plain_state.specs.Numerals.{whole_number}
 
 -- the first of the lists that the innermost reading holds
 abbrev pub first_list : List (List Token) → List Token
@@ -31,6 +34,7 @@ kind_of Catcode = reading.Catcode
 kind_of (Message name) = reading.Message name
 kind_of (Prefixed long outer) = reading.Prefixed long outer
 kind_of (Define expanded) = reading.Define expanded
+kind_of Number = reading.Number
 kind_of Integer = reading.Integer
 kind_of (Text name) = reading.Text name
 kind_of (Definition name expanded) = reading.Definition name expanded
@@ -47,6 +51,9 @@ effect_of lists (SetCategory code category) = reading.SetCategory code category
 effect_of lists Say = reading.Say (first_list lists)
 effect_of lists (SetMacro name long outer) = reading.SetMacro name long outer (first_list lists)
 
+abbrev pub made_of : Made → List ℕ
+made_of (makes.Number n) = whole_number n
+
 -- A token given back, and one with which an inner reading begins, is one that the reading was fed with last.
 abbrev pub ask_of : List (List Token) → Ask → reading.Ask
 ask_of lists (More want) = reading.More (want_of want)
@@ -55,3 +62,4 @@ ask_of lists (Done v back) = reading.Done (value_of lists v) (is_some back)
 ask_of lists (Act e) = reading.Act (effect_of lists e)
 ask_of lists (Tells report back) = reading.Tells (report_of report) (is_some back)
 ask_of lists (Inserts t report back) = reading.Inserts t (report_of report) (is_some back)
+ask_of lists (Makes made) = reading.Makes (made_of made)

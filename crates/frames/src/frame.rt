@@ -1,18 +1,18 @@
 // The open readings, whatever their kind.
-ghost use Rattle.std.specs.Prelude.{◌≡◌, ◌≤◌, ◌<◌, ◌+◌, ◌*◌, List, [], ◌∷◌, MatchOption, None, true, false};
+ghost use Rattle.std.specs.Prelude.{◌≡◌, ◌≤◌, ◌<◌, ◌+◌, ◌*◌, List, [], ◌∷◌, MatchOption, MatchBool, None, true, false};
 ghost use Rattle.tex_defs.specs.declared.Token.{Token};
 ghost use Rattle.tex_defs.specs.declared.Seen.{Seen};
 ghost use Rattle.plain_state.specs.Readings.{Tok, Val, Told, Fed, ask, so_far, own_lists, value_lists, rank, is_at_most, natural};
 ghost use Rattle.frames.specs.Sees.{value_of, kind_of, ask_of};
-ghost use Rattle.frames.specs.Weights.{ask_weight, frame_rank};
-ghost use Rattle.frames.specs.Resumes.{resume, resume_waiting, resume_code, first_frame, frame_list, frame_kind, waiting_kind, lists_behind, GrowsNone, IsNoDefinition, IsScanned, IsUnscanned, IsOpen, IsUntold, GivesBack, GivesNone, InnerWaits, BeginsBare, MayFeed, Builds, IsShallow, TakesTokens};
+ghost use Rattle.frames.specs.Weights.{ask_weight, frame_rank, waiting_rank};
+ghost use Rattle.frames.specs.Resumes.{resume, resume_waiting, resume_code, first_frame, frame_list, frame_kind, waiting_kind, lists_behind, GrowsNone, IsNoDefinition, IsScanned, IsUnscanned, IsOpen, IsUntold, GivesBack, GivesNone, InnerWaits, BeginsBare, MayFeed, Builds, IsShallow, TakesTokens, list_count, frame_scans};
 ghost use Rattle.frames.specs.declared.frame.Waiting.TheVariants.{Catcode};
 ghost use Rattle.frames.specs.declared.frame.Frame.TheVariants.{Waits};
 
 use crate::define::DefineScan;
 use crate::definition;
 use crate::prefix::{First, PrefixScan};
-use crate::scan::{Answer, Ask, Effect, Kind, NumberScan, Value, Want, is_other, senseless};
+use crate::scan::{Answer, Ask, Effect, Kind, Made, NumberScan, Value, Want, is_other, senseless};
 use crate::text::TextScan;
 use list_builder::{Manner, Stage};
 use tex_defs::{Name, Seen};
@@ -33,7 +33,10 @@ pub enum CodeScan {
     BadCategory(u8, i32),
 }
 
-/// A command that may wait for an inner value.
+/// The number of `\number`.
+pub const NUMBER: u16 = 57;
+
+/// A command or an expansion that may wait for an inner value.
 #[derive(Clone, Copy, Debug, PartialEq, Eq)]
 pub enum Waiting {
     Catcode(CodeScan),
@@ -43,6 +46,8 @@ pub enum Waiting {
     Prefixed(bool, bool, PrefixScan),
     /// A definition without prefixes: whether it is expanded, and where it stands.
     Define(bool, DefineScan),
+    /// `\number`.
+    Number,
 }
 
 /// An open reading.
@@ -70,6 +75,7 @@ pub fn first_ask(kind: Kind) -> Ask
         Kind::Message(name) => Ask::Inner(Waiting::Message(name), Kind::Text(name), None),
         Kind::Prefixed(_, _) | Kind::Text(_) => Ask::More(Want::Command),
         Kind::Define(_) | Kind::Definition(_, _) => Ask::More(Want::Raw),
+        Kind::Number => Ask::Inner(Waiting::Number, Kind::Integer, None),
         Kind::Integer => Ask::More(Want::Nonblank),
     }
 }
@@ -191,6 +197,10 @@ impl Waiting {
             },
             Waiting::Prefixed(long, outer, scan) => scan.feed_value(first(*long, *outer), value),
             Waiting::Define(_, scan) => scan.feed_value(false, false, value),
+            Waiting::Number => match value {
+                Value::Int(n) => Ask::Makes(Made::Number(n)),
+                _ => Ask::Makes(Made::Number(0)),
+            },
         }
     }
 
@@ -209,6 +219,7 @@ impl Waiting {
             Waiting::Message(_) => senseless(),
             Waiting::Prefixed(long, outer, scan) => scan.feed_told(first(*long, *outer)),
             Waiting::Define(_, scan) => scan.feed_told(),
+            Waiting::Number => Ask::Makes(Made::Number(0)),
         }
     }
 
@@ -219,7 +230,7 @@ impl Waiting {
         ensures kind { waiting_kind self.new ≡ waiting_kind self.old }
         ensures back { GivesBack result x }
         ensures waits { InnerWaits result (Waits self.new) }
-        ensures light { ask_weight result ≤ 10 }
+        ensures light { ask_weight result ≤ 7 + 3 * waiting_rank self.old }
         ensures begins { BeginsBare result }
     {
         match self {
@@ -227,6 +238,7 @@ impl Waiting {
             Waiting::Message(_) => senseless(),
             Waiting::Prefixed(long, outer, scan) => scan.feed(first(*long, *outer), x),
             Waiting::Define(expanded, scan) => scan.feed(*expanded, x),
+            Waiting::Number => Ask::Makes(Made::Number(0)),
         }
     }
 }
@@ -251,6 +263,7 @@ impl Frame {
                 Frame::Waits(Waiting::Prefixed(long, outer, scan))
             }
             Kind::Define(expanded) => Frame::Waits(Waiting::Define(expanded, DefineScan::Start)),
+            Kind::Number => Frame::Waits(Waiting::Number),
             Kind::Integer => Frame::Integer(NumberScan::Signs(false)),
             Kind::Text(name) => Frame::Text(name, TextScan::First),
             Kind::Definition(name, expanded) => {
@@ -310,9 +323,17 @@ impl Frame {
         }
     }
 
+    /// Whether its reading builds a list.
+    pub fn builds_list(&self) -> bool
+        ensures { MatchBool result (list_count self.now ≡ 1) (list_count self.now ≡ 0) }
+    {
+        matches!(self, Frame::Text(..) | Frame::Definition(..))
+    }
+
     /// What is scanned, for the checks: a text or a definition, with the name of the command or the macro.
     pub fn scanned(&self) -> Option<(Scanned, Name)>
-        ensures { MatchOption result (IsUnscanned (frame_kind self.now)) (λ s. IsScanned s.0 s.1 (frame_kind self.now)) }
+        ensures kind { MatchOption result (IsUnscanned (frame_kind self.now)) (λ s. IsScanned s.0 s.1 (frame_kind self.now)) }
+        ensures is { result ≡ frame_scans self.now }
     {
         match self {
             Frame::Text(name, _) => Some((Scanned::Text, *name)),

@@ -14,8 +14,8 @@ mod scan;
 mod text;
 
 pub use define::DefineScan;
-pub use frame::{CodeScan, Frame, Waiting, first_ask};
-pub use outer::Outer;
+pub use frame::{CodeScan, Frame, NUMBER, Waiting, first_ask};
+pub use outer::{Beneath, Outer};
 pub use prefix::{CATCODE, DEF, EDEF, First, GDEF, GLOBAL, LONG, OUTER, PrefixScan, XDEF};
-pub use scan::{Answer, Ask, Effect, Kind, NumberScan, Radix, Value, Want};
+pub use scan::{Answer, Ask, Effect, Kind, Made, NumberScan, Radix, Value, Want};
 pub use text::TextScan;

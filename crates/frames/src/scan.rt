@@ -27,6 +27,8 @@ pub enum Kind {
     Prefixed(bool, bool),
     /// A definition without prefixes, and whether it is expanded.
     Define(bool),
+    /// The expansion of `\\number`.
+    Number,
     Integer,
     Text(Name),
     /// The list of the macro of this name, and whether its body is expanded.
@@ -65,6 +67,13 @@ pub enum Effect {
     SetMacro(Name, bool, bool),
 }
 
+/// A text that an expansion makes.
+#[derive(Clone, Copy, Debug, PartialEq, Eq)]
+pub enum Made {
+    /// The decimal digits of a number, behind `-` where it is negative.
+    Number(i32),
+}
+
 /// What a reading asks for.
 #[derive(Clone, Copy, Debug, PartialEq, Eq)]
 pub enum Ask {
@@ -78,6 +87,8 @@ pub enum Ask {
     Tells(Report, Option<Seen>),
     /// A token that is inserted, the report behind it, and the token that is given back before.
     Inserts(Token, Report, Option<Seen>),
+    /// This text is put in front, and the expansion ends.
+    Makes(Made),
 }
 
 /// What a reading answers, and the tokens that go onto its list, in this order.

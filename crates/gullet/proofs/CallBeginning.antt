@@ -241,6 +241,7 @@ module _ (sizes : Sizes) (e : Engine) (book : Book) (t : Token) (name : Name) (i
       top = ap (λ (y : Engine). y.top) now;
       ask = ap (λ (y : Engine). y.ask) now;
       lists = ap (λ (y : Engine). y.input.builds) now;
+      aside = ap (λ (y : Engine). y.input.aside) now;
       call = ap (λ (y : Engine). y.call) now;
       calling = ap (λ (y : Engine). y.input.call) now;
     }
@@ -254,7 +255,7 @@ module _ (sizes : Sizes) (e : Engine) (book : Book) (t : Token) (name : Name) (i
     begun_state : made (Begun K) (state_of e book) ≡ state_of e2 (with_work (fresh K ∷ book.work) book)
     begun_state =
         ap (λ (l : List (List Token)). record (state_of e book) { work = fresh K ∷ book.work; gathered = reading.own_lists K ++ l }) (bare e.input st.uncalled.input)
-        ∙ ap (λ (l : List (List Token)). record (state_of e book) { work = fresh K ∷ book.work; gathered = l ++ e.input.builds }) (first_lists (begins_with_place ts) (mode_of h.long) name)
+        ∙ ap (λ (l : List (List Token)). record (state_of e book) { work = fresh K ∷ book.work; gathered = l ++ (e.input.builds ++ e.input.aside) }) (first_lists (begins_with_place ts) (mode_of h.long) name)
         ∙ ap (λ (y : Engine). state_of y (with_work (fresh K ∷ book.work) book)) (sym now)
 
     pub begun_went : (w : World) → call_kind e.input.lists (name_meaning e.input.meanings name) ≡ kind.Gathers → WantsToken e.top e.ask →
@@ -354,6 +355,7 @@ module _ (sizes : Sizes) (e : Engine) (book : Book) (t : Token) (name : Name) (i
           top = ap (λ (y : Engine). y.top) now;
           ask = ap (λ (y : Engine). y.ask) now;
           lists = ap (λ (y : Engine). y.input.builds) now;
+          aside = ap (λ (y : Engine). y.input.aside) now;
           call = ap (λ (y : Engine). y.call) now;
           calling = ap (λ (y : Engine). y.input.call) now;
         }) lists_store

@@ -211,7 +211,7 @@ module _ (sizes : Sizes) (e e1 e2 : Engine) (f : FilesTold) (s0 : SinkTold) (nam
             let whole : moves ≡ (put_one x.token ++ put_one par_token) ++ (written ++ Noted ∷ []) = ap (λ (ms : List Move). put_one x.token ++ (put_one par_token ++ ms)) h.moves in
             let work : List Reading = fed_with Told (r ∷ rs) in
             let made_now : made Noted (state_of e3 W) ≡ state_of e4 (with_work work book) =
-            ap (λ (l : List (List Token)). record (state_of e3 W) { work = work; gathered = l ++ e3.input.builds }) (sym b.lists) ∙ ap (λ (y : Engine). state_of y (with_work work book)) (sym after) in
+            ap (λ (l : List (List Token)). record (state_of e3 W) { work = work; gathered = l ++ (e3.input.builds ++ e3.input.aside) }) (sym b.lists) ∙ ap (λ (y : Engine). state_of y (with_work work book)) (sym after) in
             went_by sizes _ e4 _ _ _ moves 0 whole (record {
               book' = with_work work book;
               stands = record {

@@ -161,23 +161,23 @@ module _ (sizes : Sizes) (e e2 : Engine) (book : Book) (r : Reading) (rs : List 
   }
 
   -- the states before and behind
-  start : state_at (state_of e W) (r ∷ rs) (lists_of k.scan.args (scan_work k.scan) ++ e.input.builds) ≡ state_of e W
-  start = ap (λ (l : List (List Token)). record (state_of e W) { gathered = l ++ e.input.builds }) (sym (lists_before e book.number name r x h))
+  start : state_at (state_of e W) (r ∷ rs) (lists_of k.scan.args (scan_work k.scan) ++ (e.input.builds ++ e.input.aside)) ≡ state_of e W
+  start = ap (λ (l : List (List Token)). record (state_of e W) { gathered = l ++ (e.input.builds ++ e.input.aside) }) (sym (lists_before e book.number name r x h))
 
-  finish : state_at (state_of e W) (fed ∷ rs) (lists_by a ++ e.input.builds) ≡ state_of e2 W'
+  finish : state_at (state_of e W) (fed ∷ rs) (lists_by a ++ (e.input.builds ++ e.input.aside)) ≡ state_of e2 W'
   finish =
-      ap (λ (l : List (List Token)). record (state_of e W) { work = fed ∷ rs; gathered = l ++ e.input.builds }) (sym (lists_after name h.long text k.scan r.fed x answer k.has_work k.gathers e2.input.call came))
+      ap (λ (l : List (List Token)). record (state_of e W) { work = fed ∷ rs; gathered = l ++ (e.input.builds ++ e.input.aside) }) (sym (lists_after name h.long text k.scan r.fed x answer k.has_work k.gathers e2.input.call came))
       ∙ ap (λ (y : Engine). state_of y W') (sym behind)
 
   holds : r.holds ≡ length (lists_of k.scan.args (scan_work k.scan))
   holds = h.holds ∙ ap (length {A = List Token}) (lists_before e book.number name r x h)
 
   -- the machine's words
-  words_before : other_words (state_of e W) + lists_words (lists_of k.scan.args (scan_work k.scan) ++ e.input.builds) ≡ stored_words e.input
-  words_before = sym (words_at (state_of e W) (r ∷ rs) (lists_of k.scan.args (scan_work k.scan) ++ e.input.builds)) ∙ ap words start ∙ words_are sizes e W st.sound
+  words_before : other_words (state_of e W) + lists_words (lists_of k.scan.args (scan_work k.scan) ++ (e.input.builds ++ e.input.aside)) ≡ stored_words e.input
+  words_before = sym (words_at (state_of e W) (r ∷ rs) (lists_of k.scan.args (scan_work k.scan) ++ (e.input.builds ++ e.input.aside))) ∙ ap words start ∙ words_are sizes e W st.sound
 
-  words_behind : other_words (state_of e W) + lists_words (lists_by a ++ e.input.builds) ≡ stored_words e2.input
-  words_behind = sym (words_at (state_of e W) (fed ∷ rs) (lists_by a ++ e.input.builds)) ∙ ap words finish ∙ words_are sizes e2 W' sound
+  words_behind : other_words (state_of e W) + lists_words (lists_by a ++ (e.input.builds ++ e.input.aside)) ≡ stored_words e2.input
+  words_behind = sym (words_at (state_of e W) (fed ∷ rs) (lists_by a ++ (e.input.builds ++ e.input.aside))) ∙ ap words finish ∙ words_are sizes e2 W' sound
 
   pub fed_went : (w : World) → stored_words e.input + length (growth (text_of e.input.lists e.input.meanings) x.token e.input.call) ≤ e.input.sizes.main_memory_size → stored_words e2.input ≤ e2.input.sizes.main_memory_size →
       Went sizes (state_of e W) e2 w w (feeding r x) 0
@@ -190,8 +190,8 @@ module _ (sizes : Sizes) (e e2 : Engine) (book : Book) (r : Reading) (rs : List 
         stands = fed_stands;
         did = subst (λ (ms : List Move). Did sizes (state_of e W) (state_of e2 W') w w ms) (sym (feeding_is e book.number name r x h))
             (subst (λ (u : State). Did sizes u (state_of e2 W') w w (argument_fed x (scan_work k.scan) (drop (length k.scan.args) (arguments_in a)) (work_in a))) start
-            (subst (λ (u : State). Did sizes (state_at (state_of e W) (r ∷ rs) (lists_of k.scan.args (scan_work k.scan) ++ e.input.builds)) u w w (argument_fed x (scan_work k.scan) (drop (length k.scan.args) (arguments_in a)) (work_in a))) finish
-            (turn_leads sizes (state_of e W) w r rs x k.scan.args (scan_work k.scan) a e.input.builds (scan_turn h.long text k.scan r.fed x k.has_work k.gathers) holds (omega (arith, fits, own, grows, words_before)) (omega (arith, within, own2, words_behind)))));
+            (subst (λ (u : State). Did sizes (state_at (state_of e W) (r ∷ rs) (lists_of k.scan.args (scan_work k.scan) ++ (e.input.builds ++ e.input.aside))) u w w (argument_fed x (scan_work k.scan) (drop (length k.scan.args) (arguments_in a)) (work_in a))) finish
+            (turn_leads sizes (state_of e W) w r rs x k.scan.args (scan_work k.scan) a (e.input.builds ++ e.input.aside) (scan_turn h.long text k.scan r.fed x k.has_work k.gathers) holds (omega (arith, fits, own, grows, words_before)) (omega (arith, within, own2, words_behind)))));
         count = kind_none r.kind r.fed x;
       }
 

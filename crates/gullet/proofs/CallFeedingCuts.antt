@@ -105,25 +105,25 @@ module _ (sizes : Sizes) (e e2 : Engine) (book : Book) (r : Reading) (rs : List 
   sound : IsSound sizes e2 book.number book.macros
   sound = sound_still sizes e e2 book.number book.macros (ap (λ (y : Engine). y.sizes) behind) (ap (λ (y : Engine). y.outer.size) behind) (ap (λ (y : Engine). y.names) behind) (ap (λ (y : Engine). y.reports) behind) store st.sound
 
-  start : state_at (state_of e W) (r ∷ rs) (lists_of k.scan.args (scan_work k.scan) ++ e.input.builds) ≡ state_of e W
-  start = ap (λ (l : List (List Token)). record (state_of e W) { gathered = l ++ e.input.builds }) (sym (lists_before e book.number name r x h))
+  start : state_at (state_of e W) (r ∷ rs) (lists_of k.scan.args (scan_work k.scan) ++ (e.input.builds ++ e.input.aside)) ≡ state_of e W
+  start = ap (λ (l : List (List Token)). record (state_of e W) { gathered = l ++ (e.input.builds ++ e.input.aside) }) (sym (lists_before e book.number name r x h))
 
   -- the engine stands for this state
-  finish : (q : Reading) (lists : List (List Token)) → call_lists e2.input.call ≡ lists → state_at (state_of e W) (q ∷ rs) (lists ++ e.input.builds) ≡ state_of e2 (with_work (q ∷ rs) book)
+  finish : (q : Reading) (lists : List (List Token)) → call_lists e2.input.call ≡ lists → state_at (state_of e W) (q ∷ rs) (lists ++ (e.input.builds ++ e.input.aside)) ≡ state_of e2 (with_work (q ∷ rs) book)
   finish q lists same =
-      ap (λ (l : List (List Token)). record (state_of e W) { work = q ∷ rs; gathered = l ++ e.input.builds }) (sym same)
+      ap (λ (l : List (List Token)). record (state_of e W) { work = q ∷ rs; gathered = l ++ (e.input.builds ++ e.input.aside) }) (sym same)
       ∙ ap (λ (y : Engine). state_of y (with_work (q ∷ rs) book)) (sym behind)
 
   -- the words that it then has are within the memory's size
-  room : (q : Reading) (lists : List (List Token)) → call_lists e2.input.call ≡ lists → other_words (state_of e W) + lists_words (lists ++ e.input.builds) ≤ sizes.main_memory_size
+  room : (q : Reading) (lists : List (List Token)) → call_lists e2.input.call ≡ lists → other_words (state_of e W) + lists_words (lists ++ (e.input.builds ++ e.input.aside)) ≤ sizes.main_memory_size
   room q lists same =
       let own : e2.input.sizes.main_memory_size ≡ sizes.main_memory_size = ap (λ (s : Sizes). s.main_memory_size) sound.sized.input in
-      let used : other_words (state_of e W) + lists_words (lists ++ e.input.builds) ≡ stored_words e2.input =
-      sym (words_at (state_of e W) (q ∷ rs) (lists ++ e.input.builds)) ∙ ap words (finish q lists same) ∙ words_are sizes e2 (with_work (q ∷ rs) book) sound in
+      let used : other_words (state_of e W) + lists_words (lists ++ (e.input.builds ++ e.input.aside)) ≡ stored_words e2.input =
+      sym (words_at (state_of e W) (q ∷ rs) (lists ++ (e.input.builds ++ e.input.aside))) ∙ ap words (finish q lists same) ∙ words_are sizes e2 (with_work (q ∷ rs) book) sound in
       omega (arith, own, used, within)
 
   -- a word more has no room
-  no_more : (q : Reading) (lists : List (List Token)) → call_lists e2.input.call ≡ lists → refused sizes (memory 1 (words (state_at (state_of e W) (q ∷ rs) (lists ++ e.input.builds))) ∷ []) ≡ Some full
+  no_more : (q : Reading) (lists : List (List Token)) → call_lists e2.input.call ≡ lists → refused sizes (memory 1 (words (state_at (state_of e W) (q ∷ rs) (lists ++ (e.input.builds ++ e.input.aside)))) ∷ []) ≡ Some full
   no_more q lists same =
       ap (λ (u : State). refused sizes (memory 1 (words u) ∷ [])) (finish q lists same) ∙ words_more sizes e2 (with_work (q ∷ rs) book) 1 (Some full) sound refuses
 
@@ -139,14 +139,14 @@ module _ (sizes : Sizes) (e e2 : Engine) (book : Book) (r : Reading) (rs : List 
   -- the first moves are done, and the next one has no room
   cut_at : (q : Reading) (lists : List (List Token)) (done : List Move) (m : Move) (rest : List Move) → call_lists e2.input.call ≡ lists →
       argument_fed x (scan_work k.scan) complete (work_in a) ≡ done ++ m ∷ rest →
-      Did sizes (state_at (state_of e W) (r ∷ rs) (lists_of k.scan.args (scan_work k.scan) ++ e.input.builds)) (state_at (state_of e W) (q ∷ rs) (lists ++ e.input.builds)) w w done →
-      refusal sizes m (state_at (state_of e W) (q ∷ rs) (lists ++ e.input.builds)) ≡ Some full →
+      Did sizes (state_at (state_of e W) (r ∷ rs) (lists_of k.scan.args (scan_work k.scan) ++ (e.input.builds ++ e.input.aside))) (state_at (state_of e W) (q ∷ rs) (lists ++ (e.input.builds ++ e.input.aside))) w w done →
+      refusal sizes m (state_at (state_of e W) (q ∷ rs) (lists ++ (e.input.builds ++ e.input.aside))) ≡ Some full →
       CutsIn sizes (state_of e W) e2 w w (feeding r x) (broken.Full full)
   cut_at q lists done m rest same moves did no_room = record {
     book' = with_work (q ∷ rs) book;
     cuts = cuts_by sizes _ e2 (with_work (q ∷ rs) book) w w (done ++ m ∷ rest) (feeding r x) (broken.Full full) (feeding_is e book.number name r x h ∙ moves)
-        (later_cuts sizes (state_of e W) (state_at (state_of e W) (q ∷ rs) (lists ++ e.input.builds)) e2 (with_work (q ∷ rs) book) w w w done (m ∷ rest) (broken.Full full)
-        (subst (λ (u : State). Did sizes u (state_at (state_of e W) (q ∷ rs) (lists ++ e.input.builds)) w w done) start did)
+        (later_cuts sizes (state_of e W) (state_at (state_of e W) (q ∷ rs) (lists ++ (e.input.builds ++ e.input.aside))) e2 (with_work (q ∷ rs) book) w w w done (m ∷ rest) (broken.Full full)
+        (subst (λ (u : State). Did sizes u (state_at (state_of e W) (q ∷ rs) (lists ++ (e.input.builds ++ e.input.aside))) w w done) start did)
         (full_cuts sizes _ e2 (with_work (q ∷ rs) book) w m rest full (broken.Full full) refl no_room (finish q lists same)));
     frames = frames_near q;
   }
@@ -165,12 +165,12 @@ module _ (sizes : Sizes) (e e2 : Engine) (book : Book) (r : Reading) (rs : List 
     moves = ap (λ (o : Option (List Token)). argument_fed x o complete (work_in a)) c.before ∙ grows_first x c.was complete (work_in a)
         ∙ ap (λ (ts : List Token). map Grows ts ++ behind_growth x complete (work_in a)) whole ∙ maps_join c.front c.behind (behind_growth x complete (work_in a))
 
-    fits : other_words (state_of e W) + lists_words (c.was ∷ (last_first k.scan.args [] ++ e.input.builds)) + length c.front ≤ sizes.main_memory_size
-    fits = omega (arith, room r (cut_lists c.was c.front k.scan.args) same, sum_by-cons list_words (c.was ++ c.front) (last_first k.scan.args [] ++ e.input.builds), sum_by-cons list_words c.was (last_first k.scan.args [] ++ e.input.builds), length-append c.was c.front)
+    fits : other_words (state_of e W) + lists_words (c.was ∷ (last_first k.scan.args [] ++ (e.input.builds ++ e.input.aside))) + length c.front ≤ sizes.main_memory_size
+    fits = omega (arith, room r (cut_lists c.was c.front k.scan.args) same, sum_by-cons list_words (c.was ++ c.front) (last_first k.scan.args [] ++ (e.input.builds ++ e.input.aside)), sum_by-cons list_words c.was (last_first k.scan.args [] ++ (e.input.builds ++ e.input.aside)), length-append c.was c.front)
 
-    did : Did sizes (state_at (state_of e W) (r ∷ rs) (lists_of k.scan.args (scan_work k.scan) ++ e.input.builds)) (state_at (state_of e W) (r ∷ rs) ((cut_lists c.was c.front k.scan.args) ++ e.input.builds)) w w (map Grows c.front)
-    did = subst (λ (o : Option (List Token)). Did sizes (state_at (state_of e W) (r ∷ rs) (lists_of k.scan.args o ++ e.input.builds)) (state_at (state_of e W) (r ∷ rs) ((cut_lists c.was c.front k.scan.args) ++ e.input.builds)) w w (map Grows c.front)) (sym c.before)
-        (grows_did sizes (state_of e W) w c.front c.was (last_first k.scan.args [] ++ e.input.builds) (r ∷ rs) (λ some. fits))
+    did : Did sizes (state_at (state_of e W) (r ∷ rs) (lists_of k.scan.args (scan_work k.scan) ++ (e.input.builds ++ e.input.aside))) (state_at (state_of e W) (r ∷ rs) ((cut_lists c.was c.front k.scan.args) ++ (e.input.builds ++ e.input.aside))) w w (map Grows c.front)
+    did = subst (λ (o : Option (List Token)). Did sizes (state_at (state_of e W) (r ∷ rs) (lists_of k.scan.args o ++ (e.input.builds ++ e.input.aside))) (state_at (state_of e W) (r ∷ rs) ((cut_lists c.was c.front k.scan.args) ++ (e.input.builds ++ e.input.aside))) w w (map Grows c.front)) (sym c.before)
+        (grows_did sizes (state_of e W) w c.front c.was (last_first k.scan.args [] ++ (e.input.builds ++ e.input.aside)) (r ∷ rs) (λ some. fits))
 
     by_behind : (ts : List Token) → c.behind ≡ ts → 0 < length ts → CutsIn sizes (state_of e W) e2 w w (feeding r x) (broken.Full full)
     by_behind [] left some = absurd (omega (arith, some))
@@ -204,7 +204,7 @@ module _ (sizes : Sizes) (e e2 : Engine) (book : Book) (r : Reading) (rs : List 
         let lists : call_lists e2.input.call ≡ [] = lists_now ∙ ap (λ (us : List (List Token)). last_first us []) (same ∙ bare) in
         let had : lists_of k.scan.args (scan_work k.scan) ≡ [] = ap (λ (o : Option (List Token)). lists_of k.scan.args o) none ∙ ap (λ (us : List (List Token)). lists_of us None) bare in
         cut_at (fed_reading r x r.holds) [] (Feeds x ∷ []) Opened [] lists (moves None k.scan.args none same)
-        (subst (λ (l : List (List Token)). Did sizes (state_at (state_of e W) (r ∷ rs) (l ++ e.input.builds)) (state_at (state_of e W) (fed_reading r x r.holds ∷ rs) e.input.builds) w w (Feeds x ∷ [])) (sym had) (feeds_did sizes (state_of e W) w r rs x e.input.builds))
+        (subst (λ (l : List (List Token)). Did sizes (state_at (state_of e W) (r ∷ rs) (l ++ (e.input.builds ++ e.input.aside))) (state_at (state_of e W) (fed_reading r x r.holds ∷ rs) (e.input.builds ++ e.input.aside)) w w (Feeds x ∷ [])) (sym had) (feeds_did sizes (state_of e W) w r rs x (e.input.builds ++ e.input.aside)))
         (no_more (fed_reading r x r.holds) [] lists)
 
     -- a further one
@@ -218,9 +218,9 @@ module _ (sizes : Sizes) (e e2 : Engine) (book : Book) (r : Reading) (rs : List 
         let within_size = room q (list_of_tokens arg ++ args) lists in
         cut_at q (list_of_tokens arg ++ args) (grown_to was arg ++ (Feeds x ∷ Completed arg ∷ [])) Opened [] lists
         (moves (Some was) (k.scan.args ++ arg ∷ []) work same ∙ ap (λ (us : List (List Token)). argument_fed x (Some was) us (Some [])) (drop-append_seam k.scan.args (arg ∷ [])) ∙ sym (append_assoc (grown_to was arg) (Feeds x ∷ Completed arg ∷ []) (Opened ∷ [])))
-        (subst (λ (l : List (List Token)). Did sizes (state_at (state_of e W) (r ∷ rs) (l ++ e.input.builds)) (state_at (state_of e W) (q ∷ rs) ((list_of_tokens arg ++ args) ++ e.input.builds)) w w (grown_to was arg ++ (Feeds x ∷ Completed arg ∷ []))) (sym had)
-        (whole_did sizes (state_of e W) w r rs x arg was args e.input.builds holds
-        (λ some. omega (arith, within_size, arg_words was arg args some, sum_by-append list_words (list_of_tokens arg ++ args) e.input.builds, sum_by-append list_words (was ∷ args) e.input.builds))))
+        (subst (λ (l : List (List Token)). Did sizes (state_at (state_of e W) (r ∷ rs) (l ++ (e.input.builds ++ e.input.aside))) (state_at (state_of e W) (q ∷ rs) ((list_of_tokens arg ++ args) ++ (e.input.builds ++ e.input.aside))) w w (grown_to was arg ++ (Feeds x ∷ Completed arg ∷ []))) (sym had)
+        (whole_did sizes (state_of e W) w r rs x arg was args (e.input.builds ++ e.input.aside) holds
+        (λ some. omega (arith, within_size, arg_words was arg args some, sum_by-append list_words (list_of_tokens arg ++ args) (e.input.builds ++ e.input.aside), sum_by-append list_words (was ∷ args) (e.input.builds ++ e.input.aside)))))
         (no_more q (list_of_tokens arg ++ args) lists)
 
     by_present : (o : Option Stage) → k.scan.present ≡ o → CutsIn sizes (state_of e W) e2 w w (feeding r x) (broken.Full full)

@@ -56,6 +56,6 @@ call_scanned e r rs name long number ts list kind is =
 pub away_is : (e : Engine) (book : Book) (number : ℕ → ℕ) (name : Name) (x : Seen) (r : Reading) (rs : List Reading) → CallStands e number (record { name = name; ask = asked.ParEnded (Some x) }) r →
     failed_away (page_of e book) (reports.ParagraphEnded name) (scanning (r ∷ rs) (gathered e.input)) r.fed ≡ call_away_moves (page_of e book) (argument_bytes e) x.token (reports.ParagraphEnded name)
 away_is e book number name x r rs h =
-    let list = stopped_list name e.input.call e.input.builds r.holds h.at h.holds in
+    let list = stopped_list name e.input.call (e.input.builds ++ e.input.aside) r.holds h.at h.holds in
     ap (λ (o : Option Scanning). failed_away (page_of e book) (reports.ParagraphEnded name) o r.fed) (call_scanned e r rs name h.long (number h.id) _ (list_or_none (call_work e.input.call)) h.kind list)
     ∙ ap (λ (xs : List Seen). Written Transcript (argument_bytes e) ∷ (put_all xs ++ failed (page_behind (page_of e book) (argument_bytes e)) (reports.ParagraphEnded name))) h.last

@@ -1,20 +1,25 @@
 -- One step of expansion.
-use Rattle.std.proofs.Common.{◌≡◌, List, [], ◌++◌, refl, sym, ap, append_assoc, subst, ◌∙◌, arith}
+use Rattle.std.proofs.Common.{◌≡◌, List, [], ◌∷◌, ◌++◌, refl, sym, ap, append_assoc, subst, ◌∙◌, arith}
 use Rattle.std.specs.Prelude.{Option, None}
 use Rattle.tex_defs.specs.declared.Seen.{Seen}
 use Rattle.tex_defs.specs.declared.Sizes.{Sizes}
 use Rattle.tex_defs.specs.Places.{World}
-use Rattle.plain_state.specs.States.{State, Move}
-use Rattle.plain_machine.proofs.Doing.{did_join, did_none}
+use Rattle.plain_state.specs.Readings.{Kind}
+use Rattle.plain_state.specs.Tables.{refusal}
+use Rattle.plain_state.specs.States.{State, Move, Begun, fresh, made}
+use Rattle.plain_machine.proofs.Doing.{did_join, did_none, did_one}
 use Rattle.plain_machine.proofs.Joins.{steps_join}
 use Rattle.frames.specs.declared.scan.Want.{Want as ScanWant}
 use Rattle.engine_state.specs.declared.engine.Engine.{Engine}
 use Rattle.engine_state.specs.declared.outcome.Ruled.{Ruled}
 use Rattle.engine_state.specs.declared.outcome.Ruled.TheVariants as ruled
 use Rattle.engine_state.specs.Begins.{outcome_of}
-use Rattle.engine_state.specs.Book.{Book}
-use Rattle.engine_state.specs.Stands.{SameFrames, state_of, page_of}
-use Rattle.engine_state.specs.Rules.{onward_of, Takes, Comes, SameReadings, DoesOnward}
+use Rattle.engine_state.specs.Book.{Book, with_work}
+use Rattle.engine_state.specs.Stands.{SameFrames, Stands, state_of, page_of}
+use Rattle.engine_state.proofs.Bare.{all_of}
+use Rattle.world_io.specs.Told.{FilesTold, SinkTold}
+use Rattle.engine_state.specs.Rules.{world_of, Went, onward_of, Takes, Comes, SameReadings, DoesOnward}
+use Rattle.engine_state.proofs.Joining.{quiet_wrote}
 use Rattle.engine_state.proofs.Coming.{comes_went, comes_halts}
 use Rattle.gullet.specs.declared.expansion.Stepped.{Stepped}
 use Rattle.gullet.specs.declared.expansion.Stepped.TheVariants.{More, Skipped, Unexpandable, Over}
@@ -33,6 +38,16 @@ expands_by sizes want s e' book w w' ms ns x r n moves is h = subst (λ (l : Lis
 -- it stays
 pub expands_none : (sizes : Sizes) (want : Option ScanWant) (e : Engine) (book : Book) (w : World) (x : Seen) → Takes sizes want e book → Stays want x → Expands sizes want (state_of e book) e book w w (onward_of (page_of e book) want book.work x) x (Unexpandable x)
 expands_none sizes want e book w x takes stays = (record { book' = book; still = λ none. refl; takes = takes; front = []; did = did_none sizes (state_of e book) w; whole = refl; count = refl }, stays)
+
+-- the reading of its expansion begins
+pub expansion_went : (sizes : Sizes) (e e' : Engine) (book : Book) (f : FilesTold) (s : SinkTold) (k : Kind) → refusal sizes (Begun k) (state_of e book) ≡ None → made (Begun k) (state_of e book) ≡ state_of e' (with_work (fresh k ∷ book.work) book) →
+    e'.in_line ≡ e.in_line → Stands sizes e' (with_work (fresh k ∷ book.work) book) → Went sizes (state_of e book) e' (world_of f s e) (world_of f s e') (Begun k ∷ []) 0
+expansion_went sizes e e' book f s k fits is column st = record {
+  book' = with_work (fresh k ∷ book.work) book;
+  stands = all_of sizes e' (with_work (fresh k ∷ book.work) book) st;
+  did = did_one sizes (Begun k) _ _ _ _ fits is (quiet_wrote (Begun k) f s e.in_line e'.in_line tt column);
+  count = refl;
+}
 
 -- BEHIND A STEP
 
@@ -60,7 +75,7 @@ module _ (sizes : Sizes) (want : Option ScanWant) (s : State) (e1 e2 : Engine) (
 -- THE OPEN READINGS
 
 pub halted_readings : (e e1 e2 : Engine) → SameReadings e e1 → SameFrames e1 e2 → SameReadings e e2
-halted_readings e e1 e2 a b = record { outer = b.outer ∙ a.outer; top = b.top ∙ a.top; ask = b.ask ∙ a.ask; lists = b.lists ∙ a.lists; call = b.call ∙ a.call }
+halted_readings e e1 e2 a b = record { outer = b.outer ∙ a.outer; top = b.top ∙ a.top; ask = b.ask ∙ a.ask; lists = b.lists ∙ a.lists; aside = b.aside ∙ a.aside; call = b.call ∙ a.call }
 
 pub kept_readings : (e e1 e2 : Engine) → SameReadings e e1 → e2 ≡ e1 → SameReadings e e2
 kept_readings e e1 e2 a is = subst (SameReadings e) (sym is) a

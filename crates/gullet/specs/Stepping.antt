@@ -1,19 +1,22 @@
 -- What one step of expansion comes to.
-use Rattle.std.specs.Prelude.{◌≡◌, Bool, true, false, List, [], Option, Some}
+use Rattle.std.specs.Prelude.{◌≡◌, ◌==◌, Bool, true, false, List, [], ◌∷◌, Option, Some}
 use Rattle.tex_defs.specs.Places.{World}
 use Rattle.tex_defs.specs.declared.Meaning.{Meaning}
 use Rattle.tex_defs.specs.declared.Meaning.TheVariants as means
 use Rattle.tex_defs.specs.declared.Seen.{Seen}
 use Rattle.tex_defs.specs.declared.Sizes.{Sizes}
 use Rattle.plain_state.specs.Reports.{UndefinedName}
-use Rattle.plain_state.specs.States.{State, Reading, Move}
+use Rattle.plain_state.specs.Names.{number_primitive}
+use Rattle.plain_state.specs.Readings.{own_lists}
+use Rattle.plain_state.specs.States.{State, Reading, Move, Begun}
 use Rattle.plain_machine.specs.Plan.{Page, reported, called}
+use Rattle.frames.specs.Sees.{kind_of}
 use Rattle.frames.specs.declared.scan.Want.{Want as ScanWant}
 use Rattle.frames.specs.declared.scan.Want.TheVariants.{Raw}
 use Rattle.engine_state.specs.declared.engine.Engine.{Engine}
 use Rattle.engine_state.specs.declared.outcome.Ruled.{Ruled}
 use Rattle.engine_state.specs.declared.outcome.Ruled.TheVariants as ruled
-use Rattle.engine_state.specs.Begins.{outcome_of}
+use Rattle.engine_state.specs.Begins.{outcome_of, IsExpansion}
 use Rattle.engine_state.specs.Book.{Book}
 use Rattle.engine_state.specs.Rules.{onward_of, Comes, Went, Halts}
 use Rattle.gullet.specs.declared.expansion.Expansion.{Expansion}
@@ -25,6 +28,7 @@ use Rattle.gullet.specs.declared.expansion.Stepped.TheVariants.{More, Skipped, U
 abbrev pub IsUnexpandable : {L : Type 0} → Meaning L → Type 0
 IsUnexpandable means.Undefined = ⊥
 IsUnexpandable (means.Macro long outer list) = ⊥
+IsUnexpandable (means.Prim number) = (number == number_primitive) ≡ false
 IsUnexpandable m = Unit {0}
 
 -- a token stays where it is wanted as it stands, and where it can't be expanded
@@ -35,7 +39,13 @@ Stays want x = IsUnexpandable x.meaning
 abbrev pub ExpandsTo : Expansion → Page → Option ScanWant → List Reading → Seen → Type 0
 ExpandsTo by.Undefined page want work x = onward_of page want work x ≡ reported page UndefinedName []
 ExpandsTo by.Call page want work x = onward_of page want work x ≡ called page x.token
+ExpandsTo (by.Begin k) page want work x = onward_of page want work x ≡ Begun (kind_of k) ∷ []
 ExpandsTo by.Unexpandable page want work x = Stays want x
+
+-- what begins is an expansion, and builds no list
+abbrev pub IsBare : Expansion → Type 0
+IsBare (by.Begin k) = IsExpansion (kind_of k) × (own_lists (kind_of k) ≡ [])
+IsBare e = Unit {0}
 
 -- a token that was handed on: where it stays nothing was done
 abbrev pub Expands : Sizes → Option ScanWant → State → Engine → Book → World → World → List Move → Seen → Stepped → Type 0

@@ -12,11 +12,11 @@ ghost use Rattle.engine_state.specs.Near.{CutsIn};
 ghost use Rattle.engine_state.specs.Stands.{SameFrames, state_of, page_of};
 ghost use Rattle.engine_state.specs.Rules.{world_of, onward_of, enters_of, Takes, SameReadings, next_moves};
 ghost use Rattle.engine_state.specs.Steps.{weight};
-ghost use Rattle.gullet.specs.Stepping.{ExpandsTo, Expands, Steps, StepStepsIf, IsSkipped, IsKept, IsOver, stepped_by};
+ghost use Rattle.gullet.specs.Stepping.{IsBare, ExpandsTo, Expands, Steps, StepStepsIf, IsSkipped, IsKept, IsOver, stepped_by};
 
 use crate::call_name::call_name;
 use engine_state::{Broken, Engine, Next, Outcome, Ruled};
-use frames::Want;
+use frames::{Kind, NUMBER, Want};
 use tex_defs::{Meaning, Seen};
 use transcript::Report;
 use world_io::Sink;
@@ -41,6 +41,8 @@ enum Expansion {
     Undefined,
     /// The macro of its name is called.
     Call,
+    /// The reading of its expansion begins, which builds no list.
+    Begin(Kind),
     /// It stays.
     Unexpandable,
 }
@@ -54,7 +56,8 @@ fn enters_names(want: Option<Want>) -> bool
 
 /// What becomes of a token by expansion, where it is wanted.
 fn expansion_of(want: Option<Want>, seen: Seen) -> Expansion
-    ensures { (page : Page) (work : List Reading) → ExpandsTo result page want work seen }
+    ensures to { (page : Page) (work : List Reading) → ExpandsTo result page want work seen }
+    ensures bare { IsBare result }
 {
     if enters_names(want) {
         return Expansion::Unexpandable;
@@ -62,6 +65,7 @@ fn expansion_of(want: Option<Want>, seen: Seen) -> Expansion
     match seen.meaning {
         Meaning::Undefined => Expansion::Undefined,
         Meaning::Macro { .. } => Expansion::Call,
+        Meaning::Prim(NUMBER) => Expansion::Begin(Kind::Number),
         _ => Expansion::Unexpandable,
     }
 }
@@ -91,6 +95,10 @@ fn expand<S: Sink>(
         }
         Expansion::Call => {
             call_name(engine, seen.token)?;
+            Ok(Stepped::More)
+        }
+        Expansion::Begin(kind) => {
+            engine.begin_expansion(kind)?;
             Ok(Stepped::More)
         }
         Expansion::Unexpandable => Ok(Stepped::Unexpandable(seen)),

@@ -25,3 +25,4 @@ pub mod Pulling
 pub mod PullKept
 pub mod Readies
 pub mod Files
+pub mod Asides

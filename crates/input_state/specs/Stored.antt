@@ -18,8 +18,10 @@ pub record Stored : Type 0 where
   pub making : Option (List Token)
   -- the call whose arguments are gathered
   pub call : Calling
-  -- the lists that other readings gather, innermost first
+  -- the lists that the innermost of the other readings gathers, innermost first
   pub builds : List (List Token)
+  -- the lists that the readings beneath gather, which wait, innermost first
+  pub aside : List (List Token)
   -- all bytes of the line buffer
   pub buffer : List ℕ
   pub sizes : Sizes
@@ -32,7 +34,7 @@ pub record Stored : Type 0 where
 
 -- all lists that are gathered, innermost first
 abbrev pub gathered : Stored → List (List Token)
-gathered s = call_lists s.call ++ s.builds
+gathered s = call_lists s.call ++ (s.builds ++ s.aside)
 
 -- the words of main memory that are used
 abbrev pub words : Stored → ℕ

@@ -261,7 +261,14 @@ impl Held {
         !self.builds.is_empty()
     }
 
-    /// The innermost reading's list, and the memory in which it stands.
+    /// How many lists the readings gather, but for a call's.
+    pub fn list_count(&self) -> usize
+        ensures { result ≡ length self.now.builds }
+    {
+        self.builds.len()
+    }
+
+    /// The innermost of these lists, and the memory in which it stands.
     pub fn list(&self) -> (&Lists, &Build)
         requires { self.now.builds ≢ [] }
         ensures held { IsHeld result.0.now (build_id result.1.now) }

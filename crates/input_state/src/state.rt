@@ -1,5 +1,5 @@
 // The input of a run.
-ghost use Rattle.std.specs.Prelude.{◌≡◌, ◌≢◌, ℕ, true, false, ◌≤◌, ◌<◌, ◌+◌, ◌++◌, [], ◌∷◌, None, Some, IsSome, IfSome, IfOk, IfErr, OnOk, OnErr, MatchResult, MatchBool, length, drop, replicate};
+ghost use Rattle.std.specs.Prelude.{◌≡◌, ◌≢◌, ℕ, true, false, ◌≤◌, ◌<◌, ◌+◌, ◌++◌, [], ◌∷◌, None, Some, IsSome, IfSome, IfOk, IfErr, OnOk, OnErr, MatchResult, MatchBool, length, take, drop, replicate};
 ghost use Rattle.std.specs.Option.{option_map};
 ghost use Rattle.tex_defs.specs.Sizes.{first_out_of_range};
 ghost use Rattle.plain_state.specs.Names.{is_known};
@@ -49,6 +49,8 @@ use token_lists::{Build, Lists};
 #[derive(Debug)]
 pub struct Input {
     held: Held,
+    /// How many of the lists that are gathered wait: the outermost ones, for the readings beneath.
+    aside: usize,
     /// The line that is being read stands at the front.
     buffer: Vec<u8>,
     file: JobFile,
@@ -62,9 +64,9 @@ impl Model for Input {
 
     ghost use Rattle.input_state.specs.InputViews.{stored_of, IsTied};
 
-    ghost view = { λ i. stored_of i.held i.buffer.items i.file };
+    ghost view = { λ i. stored_of i.held i.buffer.items i.file i.aside };
 
-    ghost invariant = { λ i. IsTied i.held i.buffer.items i.file };
+    ghost invariant = { λ i. IsTied i.held i.buffer.items i.file i.aside };
 }
 
 // A line of this length, none of it read.
@@ -130,13 +132,14 @@ impl Input {
     /// There is no room for them. No other call takes memory.
     pub fn new(alloc: Global, sizes: &Sizes, held: bool) -> Result<Input, AllocError>
         requires { first_out_of_range sizes.now ≡ None }
-        ensures { IfOk result (λ i. i ≡ record { pending = unread (no_bytes held); making = None; call = NotCalling; builds = []; buffer = i.buffer; sizes = sizes.now; meanings = first_meanings is_known; hash_size = sizes.now.hash_size; lists = replicate sizes.now.main_memory_size [] }) }
+        ensures { IfOk result (λ i. i ≡ record { pending = unread (no_bytes held); making = None; call = NotCalling; builds = []; aside = []; buffer = i.buffer; sizes = sizes.now; meanings = first_meanings is_known; hash_size = sizes.now.hash_size; lists = replicate sizes.now.main_memory_size [] }) }
     {
         let buffer = vec![in alloc; 0; sizes.buffer_size as usize]?;
         let file = JobFile::new(alloc, sizes.buffer_size, held)?;
         let lists = Held::new(alloc, sizes)?;
         Ok(Input {
             held: lists,
+            aside: 0,
             buffer,
             file,
         })
@@ -208,11 +211,11 @@ impl Input {
         self.held.drop_list();
     }
 
-    /// Whether a reading holds a list.
+    /// Whether the innermost reading holds a list: one that was set aside is none of its own.
     pub fn has_list(&self) -> bool
         ensures { MatchBool result (self.now.builds ≢ []) (self.now.builds ≡ []) }
     {
-        self.held.is_gathering()
+        self.aside < self.held.list_count()
     }
 
     /// Whether the innermost reading's list has no token.
@@ -229,6 +232,41 @@ impl Input {
         requires { self.now.builds ≢ [] }
         ensures held { IsHeld result.0.now (build_id result.1.now) }
         ensures tokens { tokens_at result.0.now (build_id result.1.now) ≡ first_list self.now.builds }
+    {
+        self.held.list()
+    }
+
+    /// The lists of the innermost reading are set aside: another reading begins, which gathers its own.
+    pub fn set_aside(&mut self)
+        ensures after { self.new ≡ record self.old { builds = []; aside = self.old.builds ++ self.old.aside } }
+        ensures macros { KeepsMacros self.old self.new }
+    {
+        self.aside = self.held.list_count();
+    }
+
+    /// The innermost of the lists that were set aside, if there is one, is the innermost reading's again.
+    pub fn take_up(&mut self)
+        ensures after { self.new ≡ record self.old { builds = self.old.builds ++ take 1 self.old.aside; aside = drop 1 self.old.aside } }
+        ensures macros { KeepsMacros self.old self.new }
+    {
+        if self.aside > 0 {
+            self.aside -= 1;
+        }
+    }
+
+    /// Whether some reading gathers a list, but for a call.
+    pub fn gathers(&self) -> bool
+        ensures { MatchBool result (self.now.builds ++ self.now.aside ≢ []) (self.now.builds ++ self.now.aside ≡ []) }
+    {
+        self.held.is_gathering()
+    }
+
+    /// The innermost list that is gathered, but for a call's, and the memory in which it stands: it may be one that was set
+    /// aside.
+    pub fn innermost_list(&self) -> (&Lists, &Build)
+        requires { self.now.builds ++ self.now.aside ≢ [] }
+        ensures held { IsHeld result.0.now (build_id result.1.now) }
+        ensures tokens { tokens_at result.0.now (build_id result.1.now) ≡ first_list (self.now.builds ++ self.now.aside) }
     {
         self.held.list()
     }
@@ -623,6 +661,7 @@ impl Input {
     pub fn close(self) {
         let Input {
             held,
+            aside: _,
             buffer: _,
             file: _,
         } = self;

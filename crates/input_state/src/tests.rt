@@ -1,6 +1,6 @@
 //! A file that is read to its end, lists that are gathered, made and put in front, and tables that are full.
 
-ghost use Rattle.std.specs.Prelude.{◌≡◌, ◌<◌, ◌≤◌, [], None, length};
+ghost use Rattle.std.specs.Prelude.{◌≡◌, ◌≢◌, ◌<◌, ◌≤◌, ◌++◌, [], None, length};
 ghost use Rattle.tex_defs.specs.Sizes.{first_out_of_range};
 ghost use Rattle.input_state.specs.Callings.{NotCalling};
 
@@ -138,6 +138,57 @@ fn lists_are_read(rt: HostRuntime) -> Result<(), Fail> {
         (Ok(Pulled::Token(A)), Ok(Pulled::Token(B)))
     );
     assert_eq!(&rt; last, Ok(Pulled::Nothing));
+    Ok(())
+}
+
+// The first token of the innermost list, if it has one.
+fn innermost_first(input: &Input) -> Option<Token>
+    requires { input.now.builds ++ input.now.aside ≢ [] }
+{
+    let (lists, build) = input.innermost_list();
+    Some(lists.token(lists.first_built(build)?))
+}
+
+// Whether the innermost reading has a list, whether some reading has one, and the first token of the innermost.
+fn lists_told(input: &Input) -> (bool, bool, Option<Token>) {
+    let some = input.gathers();
+    let first = if some { innermost_first(input) } else { None };
+    (input.has_list(), some, first)
+}
+
+// A list of one token is set aside, another is gathered and goes, and the first gets a second token. Told are the lists of
+// each step, and the words that are used at the end.
+fn set_one_aside(input: &mut Input) -> Result<([(bool, bool, Option<Token>); 4], u32), Full>
+    requires { input.old.builds ≡ [] }
+{
+    input.begin_list()?;
+    input.grow_list(A)?;
+    input.set_aside();
+    let aside = lists_told(input);
+    input.begin_list()?;
+    input.grow_list(B)?;
+    let second = lists_told(input);
+    input.drop_list();
+    input.take_up();
+    input.grow_list(B)?;
+    let again = lists_told(input);
+    let words = input.words();
+    input.drop_list();
+    Ok(([aside, second, again, lists_told(input)], words))
+}
+
+#[test]
+fn list_is_set_aside(rt: HostRuntime) -> Result<(), Fail> {
+    let mut input = Input::new(rt.alloc(), &Sizes::DEFAULT, false)?;
+    let told = set_one_aside(&mut input);
+    input.close();
+    let wanted = [
+        (false, true, Some(A)),
+        (true, true, Some(B)),
+        (true, true, Some(A)),
+        (false, false, None),
+    ];
+    assert_eq!(&rt; told, Ok((wanted, 3)));
     Ok(())
 }
 

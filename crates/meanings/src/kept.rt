@@ -86,7 +86,7 @@ pub fn without_list(meaning: Meaning<()>) -> Kept
 fn is_known(number: u16) -> bool
     ensures { result ≡ is_known number }
 {
-    matches!(number, 1 | 5 | 6 | 9 | 23..=29 | 35)
+    matches!(number, 1 | 5 | 6 | 9 | 23..=29 | 35 | 57)
 }
 
 // What the name of a primitive means at first.

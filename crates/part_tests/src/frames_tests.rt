@@ -1,7 +1,7 @@
 // Readings, fed token by token.
 use frames::{
-    Answer, Ask, CATCODE, CodeScan, DEF, DefineScan, EDEF, Effect, Frame, GDEF, GLOBAL, Kind, LONG,
-    OUTER, Outer, PrefixScan, Value, Waiting, Want, XDEF, first_ask,
+    Answer, Ask, Beneath, CATCODE, CodeScan, DEF, DefineScan, EDEF, Effect, Frame, GDEF, GLOBAL,
+    Kind, LONG, Made, OUTER, Outer, PrefixScan, Value, Waiting, Want, XDEF, first_ask,
 };
 use std::test::Fail;
 use tex_defs::{Frozen, Meaning, Name, Seen, Token};
@@ -186,17 +186,33 @@ fn a_wrong_number_is_reported(rt: HostRuntime) -> Result<(), Fail> {
 }
 
 #[test]
+fn an_expansion_lies_above_a_text(rt: HostRuntime) -> Result<(), Fail> {
+    let name = Name::Word(9);
+    let text = Frame::new(Kind::Text(name));
+    let mut number = Waiting::Number;
+    let mut outer = Outer::new(rt.alloc(), 2)?;
+    assert!(rt; text.builds_list() && !Frame::Waits(number).builds_list());
+    assert!(rt; outer.scanned() == None);
+    outer.push(Beneath::Expands(text, Want::Expanded));
+    outer.push(Beneath::Waits(number));
+    assert!(rt; outer.scanned() == Some((Scanned::Text, name)));
+    assert!(rt; first_ask(Kind::Number) == Ask::Inner(Waiting::Number, Kind::Integer, None));
+    assert!(rt; number.feed_value(Value::Int(-7)) == Ask::Makes(Made::Number(-7)));
+    Ok(())
+}
+
+#[test]
 fn commands_wait(rt: HostRuntime) -> Result<(), Fail> {
     let name = Name::Word(9);
     let code = Waiting::Catcode(CodeScan::Start);
     let message = Waiting::Message(name);
     let mut outer = Outer::new(rt.alloc(), 2)?;
     assert!(rt; outer.size() == 2);
-    outer.push(code);
-    outer.push(message);
+    outer.push(Beneath::Waits(code));
+    outer.push(Beneath::Expands(Frame::Waits(message), Want::Expanded));
     assert!(rt; outer.len() == 2);
-    assert!(rt; outer.pop() == Some(message));
-    assert!(rt; outer.pop() == Some(code));
+    assert!(rt; outer.pop() == Some(Beneath::Expands(Frame::Waits(message), Want::Expanded)));
+    assert!(rt; outer.pop() == Some(Beneath::Waits(code)));
     assert!(rt; outer.pop() == None);
     let mut ended = message;
     assert!(rt; ended.feed_value(Value::Toks) == Ask::Act(Effect::Say));

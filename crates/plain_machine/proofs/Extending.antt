@@ -13,18 +13,19 @@ use Rattle.plain_state.specs.Lookup.{token_of, new_name}
 use Rattle.plain_state.specs.Meanings.{seen}
 use Rattle.plain_state.specs.Puts.{Item, First, next_item}
 use Rattle.plain_state.specs.Pending.{Pending, Progress, NotBegun, Pulled, TokenFrom, LexemeFrom, LineTaken, InvalidMet, FileOver, NothingLeft, settle, pulled, after_pull, takes_file}
-use Rattle.plain_state.specs.Readings.{Ask, More, Inner, Done, Act, Tells, Inserts, Calls, Fails, RunsAway, Closes, Flag, ask}
+use Rattle.plain_state.specs.Readings.{Ask, More, Inner, Done, Act, Tells, Inserts, Makes, Calls, Fails, RunsAway, Closes, Flag, ask}
 use Rattle.plain_state.specs.Reports.{InvalidCharacter}
-use Rattle.plain_state.specs.States.{State, Reading, Outcome, Move, Handed, Taken, Settled, Skipped, FileClosed, Ended, made}
+use Rattle.plain_state.specs.States.{State, Reading, Outcome, Move, Handed, Taken, Settled, Skipped, FileClosed, Ended, Closed, made}
 use Rattle.plain_state.specs.Tables.{Demand, lines_beneath, line_need, opened_level, file_level, next_line, refused, refusal}
-use Rattle.plain_machine.specs.Plan.{Page, page_of, plan, planned, answered, handed, met, entered, enters_names, Scanning, scanning, checked, without_file, reported, stomach, wanted, feeding, effect, given_back, Ends, Goes, next, next_of, first_of_plan}
+use Rattle.plain_machine.specs.Plan.{put_text, Page, page_of, plan, planned, answered, handed, met, entered, enters_names, Scanning, scanning, checked, without_file, reported, stomach, wanted, feeding, effect, given_back, Ends, Goes, next, next_of, first_of_plan}
 use Rattle.plain_machine.specs.Runs.{Wrote, step_of, steps, made_all, NeedsStep}
 use Rattle.plain_machine.specs.Bounded.{AllFit}
 use Rattle.plain_machine.specs.Does.{Did, Cut, Why, IsFull, IsFault, IsWant, Refuses, IsCause, front_of}
 use Rattle.plain_machine.specs.Extended.{extended_pending, extended, IsReady}
 use Rattle.plain_machine.proofs.Joins.{StepComes, plan_needs, next_due}
 use Rattle.plain_machine.proofs.Settling.{pulled_settled}
-use Rattle.plain_machine.proofs.Pulls.{pull_of, pulls, pulls_join, step_pulls, command_none, wanted_none, kind_none, met_none, checked_none, reported_none, entered_none, back_none, effect_none, begun_none, told_none, called_with_none, failed_none, failed_away_none}
+use Rattle.plain_state.specs.Tokens.{made_text}
+use Rattle.plain_machine.proofs.Pulls.{text_none, pull_of, pulls, pulls_join, step_pulls, command_none, wanted_none, kind_none, met_none, checked_none, reported_none, entered_none, back_none, effect_none, begun_none, told_none, called_with_none, failed_none, failed_away_none}
 use Rattle.plain_machine.proofs.Ahead.{full_buffer, long_need, long_refused, extended_pulled, source, takes_at, takes_line, Sight, Alike, Long, sight, sight_nothing, nothing_at}
 
 -- MOVES THAT DO THE SAME
@@ -198,6 +199,7 @@ rules_answered left s work r (Done v back) = Still refl (pulls_join (given_back 
 rules_answered left s work r (Act e) = Still refl (pulls_join (effect s e) (Ended (Flag true) ∷ []) ∙ omega (arith, effect_none s e))
 rules_answered left s work r (Tells report back) = Still refl (told_none (page_of s) report None back r)
 rules_answered left s work r (Inserts t report back) = Still refl (told_none (page_of s) report (Some t) back r)
+rules_answered left s work r (Makes characters) = Still refl (pulls_join (put_text (made_text characters)) (Closed ∷ []) ∙ omega (arith, text_none (made_text characters)))
 rules_answered left s work r (Calls args) = Still refl (called_with_none r.kind args)
 rules_answered left s work r (Fails report) = Still refl (failed_none (page_of s) report)
 rules_answered left s work r (RunsAway report) = Still refl (failed_away_none (page_of s) report (scanning work s.gathered) r.fed)

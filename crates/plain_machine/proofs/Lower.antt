@@ -1,5 +1,5 @@
 -- What readings begin: only readings of a lower rank, and nothing else before a token comes.
-use Rattle.std.proofs.Common.{ℕ, ◌+◌, ◌*◌, ◌<◌, Bool, true, false, List, [], ◌∷◌, arith, ℤ, pos}
+use Rattle.std.proofs.Common.{◌≤◌, ℕ, ◌+◌, ◌*◌, ◌<◌, Bool, true, false, List, [], ◌∷◌, arith, ℤ, pos}
 use Rattle.std.specs.Prelude.{Option, Some, None, if◌then◌else◌, nat_le, not, ◌||◌}
 use Rattle.tex_defs.specs.declared.Token.{Token}
 use Rattle.tex_defs.specs.declared.Name.{Name}
@@ -11,11 +11,12 @@ use Rattle.plain_state.specs.Tokens.{is_other, is_space_token, means_category}
 use Rattle.plain_state.specs.Definitions.{definition}
 use Rattle.plain_state.specs.Definitions as build
 use Rattle.plain_state.specs.Arguments as call
-use Rattle.plain_state.specs.Readings.{Kind, Catcode, Message, Prefixed, Define, Integer, Text, Definition, Arguments, Fed, Tok, Val, Told, Int, Toks, is_digit, is_minus, is_plus, is_at_most, natural, code_of, digit_of_token, greatest_integer, greatest_character, greatest_category, improper_code, signed, SetCategory, Ask, More, Inner, ask, rank, catcode, message, integer, unsigned, constant, behind_code, behind_number, number_ended, digits, digits_dropped, too_big, missing, first_digit, Act, bad_code, equals_behind, category_behind, bad_category, text, text_done, brace_missing, closes_at, define, name_behind, name_to_assign, definition_behind, is_long, is_outer_prefix, is_global, is_raw_definition, is_expanded_definition, is_assignment, prefixed, behind_prefixes, prefix_refused, limit_refused, build_fed, build_ask, manner, gathered_by, call_ask, arguments_ask}
+use Rattle.plain_state.specs.Readings.{Kind, number, Catcode, Message, Prefixed, Define, Number, Integer, Text, Definition, Arguments, Fed, Tok, Val, Told, Int, Toks, is_digit, is_minus, is_plus, is_at_most, natural, code_of, digit_of_token, greatest_integer, greatest_character, greatest_category, improper_code, signed, SetCategory, Ask, More, Inner, Makes, ask, rank, catcode, message, integer, unsigned, constant, behind_code, behind_number, number_ended, digits, digits_dropped, too_big, missing, first_digit, Act, bad_code, equals_behind, category_behind, bad_category, text, text_done, brace_missing, closes_at, define, name_behind, name_to_assign, definition_behind, is_long, is_outer_prefix, is_global, is_raw_definition, is_expanded_definition, is_assignment, prefixed, behind_prefixes, prefix_refused, limit_refused, build_fed, build_ask, manner, gathered_by, call_ask, arguments_ask}
 
 -- A reading begins only readings of a lower rank.
 abbrev pub Lower : ℕ → Ask → Type 0
 Lower n (Inner k begins) = rank k < n
+Lower n (Makes characters) = 2 ≤ n
 Lower n a = Unit {0}
 
 lower_if : (n : ℕ) (b : Bool) (x y : Ask) → Lower n x → Lower n y → Lower n (if b then x else y)
@@ -142,6 +143,11 @@ lower_message name [] = omega arith
 lower_message name (Val (Toks ts) ∷ fed) = tt
 lower_message name (y ∷ fed) = tt
 
+lower_made : (fed : List Fed) → Lower 2 (number fed)
+lower_made [] = omega arith
+lower_made (Val (Int n) ∷ fed) = omega arith
+lower_made (y ∷ fed) = omega arith
+
 lower_refused : (m : Meaning Unit) (fed : List Fed) → Lower 1 (prefix_refused m fed)
 lower_refused m [] = tt
 lower_refused m (Told ∷ fed) = tt
@@ -221,6 +227,7 @@ lower Catcode fed = lower_catcode fed
 lower (Message name) fed = lower_message name fed
 lower (Prefixed long outer) fed = lower_prefixed long outer fed
 lower (Define expanded) fed = lower_define expanded false false fed
+lower Number fed = lower_made fed
 lower Integer fed = lower_integer 0 false fed
 lower (Text name) fed = lower_text 0 fed
 lower (Definition name expanded) fed = lower_built 0 (definition (manner name expanded) (build_fed fed))
@@ -237,7 +244,24 @@ starts Catcode = tt
 starts (Message name) = tt
 starts (Prefixed long outer) = tt
 starts (Define expanded) = tt
+starts Number = tt
 starts Integer = tt
 starts (Text name) = tt
 starts (Definition name expanded) = tt
 starts (Arguments name long number ts) = tt
+
+-- only expansions make a text, and begin with no command
+abbrev pub IsHighest : Kind → Type 0
+IsHighest Number = Unit {0}
+IsHighest k = ⊥
+
+pub highest : (k : Kind) → 2 ≤ rank k → IsHighest k
+highest Number h = tt
+highest Catcode h = absurd (omega (arith, h))
+highest (Message name) h = absurd (omega (arith, h))
+highest (Prefixed long outer) h = absurd (omega (arith, h))
+highest (Define expanded) h = absurd (omega (arith, h))
+highest Integer h = absurd (omega (arith, h))
+highest (Text name) h = absurd (omega (arith, h))
+highest (Definition name expanded) h = absurd (omega (arith, h))
+highest (Arguments name long number ts) h = absurd (omega (arith, h))

@@ -8,16 +8,16 @@ use Rattle.tex_defs.specs.declared.Token.{Token}
 use Rattle.tex_defs.specs.declared.Fatal.TheVariants.{HundredErrors}
 use Rattle.tex_defs.specs.Places.{Transcript}
 use Rattle.tex_defs.specs.declared.Name.{Name}
-use Rattle.plain_state.specs.Names.{name_of, means_relax, relax_primitive, catcode_primitive, message_primitive, end_primitive, long_primitive, outer_primitive, global_primitive, def_primitive, gdef_primitive, edef_primitive, xdef_primitive}
+use Rattle.plain_state.specs.Names.{name_of, means_relax, relax_primitive, catcode_primitive, message_primitive, end_primitive, long_primitive, outer_primitive, global_primitive, def_primitive, gdef_primitive, edef_primitive, xdef_primitive, number_primitive}
 use Rattle.plain_state.specs.Tokens.{Want, Raw, Expanded, Copied, Nonblank, Command, is_space, is_outer, space_token}
 use Rattle.plain_state.specs.Meanings.{name_meaning, seen}
 use Rattle.plain_state.specs.Puts.{Item, Put as PutList, call_put}
 use Rattle.plain_state.specs.Arguments.{has_parameters, arguments_in, work_in}
 use Rattle.plain_state.specs.Readings as reading
-use Rattle.plain_state.specs.States.{State, Move, Reading, Handed, Taken, Skipped, FileClosed, Grows, Feeds, Noted, Completed, Begun, Ended, Closed, Written, Stopped, AtFatal}
+use Rattle.plain_state.specs.States.{State, Move, Reading, Handed, Taken, Skipped, FileClosed, Grows, Feeds, Noted, Completed, ListGrown, Put, Begun, Ended, Closed, Written, Stopped, AtFatal}
 use Rattle.plain_state.specs.Reports as reports
 use Rattle.plain_state.specs.Reports.{Scanned, hundred_line}
-use Rattle.plain_machine.specs.Plan.{Page, met, met_outer, entered, Scanning, checked, check_noted, ran_away, away_text, page_behind, reported, reports_room, told, put_inserted, is_told, noting, token_line, finish, command, primitive, called, called_meaning, called_list, put_body, body_put, wanted, expanded, expanded_as, feeding_kind, grown_to, opened, in_place, argument_fed, begun, begun_with, last_seen, given_back, put_all, effect, arguments_put, called_with, failed, failed_away}
+use Rattle.plain_machine.specs.Plan.{Page, met, met_outer, entered, Scanning, checked, check_noted, ran_away, away_text, page_behind, reported, reports_room, told, put_inserted, is_told, noting, token_line, finish, command, primitive, called, called_meaning, called_list, put_body, body_put, wanted, expanded, expanded_as, feeding_kind, grown_to, opened, in_place, argument_fed, begun, begun_with, last_seen, given_back, put_all, effect, arguments_put, called_with, failed, failed_away, unless_expanded, put_text}
 use Rattle.plain_machine.specs.Runs.{step_of, steps}
 
 -- the moves that pull
@@ -58,6 +58,14 @@ back_none true fed = all_none (last_seen fed) where
   all_none : (xs : List Seen) → pulls (put_all xs) ≡ 0
   all_none [] = refl
   all_none (x ∷ xs) = refl
+
+-- a text that is put in front
+made_none : (ts us : List Token) → pulls (map ListGrown ts ++ Put us ∷ []) ≡ 0
+made_none [] us = refl
+made_none (t ∷ ts) us = omega (arith, made_none ts us)
+
+pub text_none : (ts : List Token) → pulls (put_text ts) ≡ 0
+text_none ts = omega (arith, made_none ts ts)
 
 pub effect_none : (s : State) (ef : reading.Effect) → pulls (effect s ef) ≡ 0
 effect_none s (reading.SetCategory code category) = refl
@@ -144,8 +152,11 @@ primitive_none page t n =
     (none_if (nat_eq n edef_primitive || nat_eq n xdef_primitive) (Begun (reading.Define true) ∷ []) relax refl
     (none_if (nat_eq n relax_primitive) [] line refl (line_none page (means.Prim n))))))))))
 
+unless_none : (n : ℕ) (moves : List Move) → pulls moves ≡ 0 → pulls (unless_expanded n moves) ≡ 0
+unless_none n moves h = none_if (nat_eq n number_primitive) (Begun reading.Number ∷ []) moves refl h
+
 pub command_none : (page : Page) (t : Token) (m : Meaning Unit) → pulls (command page t m) ≡ 0
-command_none page t (means.Prim n) = primitive_none page t n
+command_none page t (means.Prim n) = unless_none n (primitive page t n) (primitive_none page t n)
 command_none page t means.Undefined = reported_none page reports.UndefinedName [] refl
 command_none page t means.RelaxMarked = refl
 command_none page t (means.Char category code) = line_none page (means.Char category code)
@@ -157,6 +168,7 @@ command_none page t (means.Macro long outer list) = called_none page t
 expanded_none : (page : Page) (t : Token) (m : Meaning Unit) (feeds : List Move) → pulls feeds ≡ 0 → pulls (expanded_as page t m feeds) ≡ 0
 expanded_none page t means.Undefined feeds h = reported_none page reports.UndefinedName [] refl
 expanded_none page t (means.Macro long outer list) feeds h = called_none page t
+expanded_none page t (means.Prim n) feeds h = unless_none n feeds h
 expanded_none page t m feeds h = h
 
 pub wanted_none : (page : Page) (w : Want) (feeds : List Move) (x : Seen) → pulls feeds ≡ 0 → pulls (wanted page w feeds x) ≡ 0

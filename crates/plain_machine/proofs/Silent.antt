@@ -12,15 +12,16 @@ use Rattle.plain_state.proofs.LexRests.{less}
 use Rattle.plain_state.specs.Puts.{Item, Put as PutList, passed, call_put}
 use Rattle.plain_state.specs.Pending.{Pending, Progress, NotBegun, Begun as BegunFile, Closed as ClosedFile, Pulled, TokenFrom, LexemeFrom, LineTaken, InvalidMet, FileOver, NothingLeft, settle, pulled, from_front, from_list, from_line, from_file}
 use Rattle.plain_state.specs.Reports.{Report, InvalidCharacter, Scanned, OfDefinition, OfUse, OfText, FileEnded, report_bytes, hundred_line}
-use Rattle.plain_state.specs.Readings.{Kind, Catcode, Message, Prefixed, Define, Arguments, Fed, Tok, Val, Told, Cut, Value, Flag, Effect, SetCategory, SetMacro, Say, Ask, More, Inner, Done, Act, Tells, Inserts, Calls, Fails, RunsAway, Closes, ask, so_far, rank}
+use Rattle.plain_state.specs.Readings.{Kind, Catcode, Message, Prefixed, Define, Arguments, Fed, Tok, Val, Told, Cut, Value, Flag, Effect, SetCategory, SetMacro, Say, Ask, More, Inner, Done, Act, Tells, Inserts, Makes, Calls, Fails, RunsAway, Closes, ask, so_far, rank}
 use Rattle.plain_state.specs.States.{State, Reading, Move, Handed, Settled, Skipped, FileClosed, Entered, Kept as KeptBytes, Grows, Noted, Checked, ListBegun, ListGrown, Put, CalledWith, SetCategoryOf, Defined, Written, Begun, Ended, Closed, Reported, Stopped, Outcome, AtFatal, made, fed_with, holding}
-use Rattle.plain_machine.specs.Plan.{Page, page_of, plan, planned, answered, handed, checked, check_noted, Scanning, scanning, inserted_at, away_text, without_file, ran_away, page_behind, reported, behind_report, reports_room, stomach, wanted, enters_names, feeding, effect, given_back, grown_to, noting, put_one, put_all, put_inserted, arguments_put, called_with, failed, failed_away, last_seen, is_told, begun_with}
+use Rattle.plain_state.specs.Tokens.{made_text}
+use Rattle.plain_machine.specs.Plan.{Page, page_of, plan, planned, answered, handed, checked, check_noted, Scanning, scanning, inserted_at, away_text, without_file, ran_away, page_behind, reported, behind_report, reports_room, stomach, wanted, enters_names, feeding, effect, given_back, grown_to, noting, put_one, put_text, put_all, put_inserted, arguments_put, called_with, failed, failed_away, last_seen, is_told, begun_with}
 use Rattle.plain_machine.specs.Runs.{step_of, all_made}
 use Rattle.plain_machine.proofs.Lower.{Lower, lower, Starts, starts}
 use Rattle.plain_machine.proofs.Settling.{pulled_settled}
 
 abbrev pub top_rank : ℕ
-top_rank = 1
+top_rank = 2
 
 rank_within : (k : Kind) → rank k ≤ top_rank
 rank_within Catcode = omega arith
@@ -63,7 +64,7 @@ pending_weight p = length p.line + file_weight p.file
 -- where the file ends a call may be fed with the note of a check
 abbrev pub weight_of : Option Outcome → List Reading → Pending → ℕ
 weight_of (Some o) work p = 0
-weight_of None work p = 1 + work_weight work + 9 * pending_weight p
+weight_of None work p = 1 + work_weight work + 13 * pending_weight p
 
 abbrev pub weight : State → ℕ
 weight s = weight_of s.stopped s.work s.pending
@@ -262,6 +263,13 @@ plain_grown : (ts : List Token) → AllPlain (map Grows ts)
 plain_grown [] = tt
 plain_grown (t ∷ ts) = (refl, plain_grown ts)
 
+plain_made : (ts us : List Token) → AllPlain (map ListGrown ts ++ Put us ∷ [])
+plain_made [] us = (refl, tt)
+plain_made (t ∷ ts) us = (refl, plain_made ts us)
+
+plain_text : (ts : List Token) → AllPlain (put_text ts)
+plain_text ts = (refl, (refl, plain_made ts ts))
+
 -- A reading that is fed with something
 
 weight_fed : (k : Kind) (fed : List Fed) (x : Fed) (own : ℕ) → top_weight k (fed ++ x ∷ []) own ≡ 4 * top_rank + 1 + own
@@ -274,7 +282,7 @@ weight_other y h r rs =
     rw (weight_fed r.kind r.fed y _) (rw (last_note r.fed y (note_of y h), told_other r.fed y h) (omega arith))
 
 -- the note of a check
-weight_checked : (rs : List Reading) → work_weight (fed_with Cut rs) ≤ 8 + work_weight rs
+weight_checked : (rs : List Reading) → work_weight (fed_with Cut rs) ≤ 12 + work_weight rs
 weight_checked [] = omega arith
 weight_checked (r ∷ rs) = omega (arith, weight_other Cut tt r rs)
 
@@ -436,6 +444,7 @@ module _ (s : State) (k : Kind) (lent : Bool) (holds : ℕ) (rs : List Reading) 
     rule_fed (Act f) l = rule_effect f
     rule_fed (Tells report back) l = rule_told report None back (is_told (x ∷ fed)) refl
     rule_fed (Inserts t report back) l = rule_told report (Some t) back (is_told (x ∷ fed)) refl
+    rule_fed (Makes characters) l = Falls (drops_plain (weight s) s (put_text (made_text characters)) (Closed ∷ []) (plain_text (made_text characters)) (λ u h. falls_closed u h))
     rule_fed (Calls args) l = rule_called k args
     rule_fed (Fails report) l = Falls (falls_failed (page_of s) report s (kept_none s))
     rule_fed (RunsAway report) l = rule_away (page_of s) report (scanning (reading_of (x ∷ fed) ∷ rs) s.gathered)

@@ -10,8 +10,8 @@ use Rattle.tex_defs.specs.declared.Fatal.TheVariants.{NoEnd, NoFile, HundredErro
 use Rattle.tex_defs.specs.Places.{Transcript}
 use Rattle.plain_state.specs.Categories.{end_group}
 use Rattle.prim_table.specs.Primitives.{primitive_names}
-use Rattle.plain_state.specs.Names.{name_of, means_relax, relax_primitive, end_primitive, message_primitive, catcode_primitive, long_primitive, outer_primitive, global_primitive, def_primitive, gdef_primitive, edef_primitive, xdef_primitive}
-use Rattle.plain_state.specs.Tokens.{Want, Raw, Expanded, Copied, Nonblank, Command, is_space, is_outer, space_token}
+use Rattle.plain_state.specs.Names.{name_of, means_relax, relax_primitive, end_primitive, message_primitive, catcode_primitive, long_primitive, outer_primitive, global_primitive, def_primitive, gdef_primitive, edef_primitive, xdef_primitive, number_primitive}
+use Rattle.plain_state.specs.Tokens.{Want, Raw, Expanded, Copied, Nonblank, Command, is_space, is_outer, space_token, made_text}
 use Rattle.plain_state.specs.Meanings.{name_meaning, seen, first_meanings}
 use Rattle.plain_state.specs.Puts.{Item, Put as PutList, call_put}
 use Rattle.plain_state.specs.Lookup.{token_of, new_name}
@@ -21,7 +21,7 @@ use Rattle.command_words.specs.Words.{job_name}
 use Rattle.plain_state.specs.Pending.{Pulled, TokenFrom, LexemeFrom, LineTaken, InvalidMet, FileOver, NothingLeft, Progress, NotBegun, Closed as ClosedFile, pulled}
 use Rattle.plain_state.specs.Arguments.{has_parameters, arguments_in, work_in}
 use Rattle.plain_state.specs.Arguments as call
-use Rattle.plain_state.specs.Readings.{Kind, Catcode, Message, Text, Prefixed, Define, Definition, Arguments, Effect, SetCategory, Say, SetMacro, Fed, Tok, Val, Told, Cut, Flag, Ask, More, Inner, Done, Act, Tells, Inserts, Calls, Fails, RunsAway, Closes, ask, so_far, gathered_by, par_token}
+use Rattle.plain_state.specs.Readings.{Kind, Catcode, Message, Text, Prefixed, Define, Number, Definition, Arguments, Effect, SetCategory, Say, SetMacro, Fed, Tok, Val, Told, Cut, Flag, Ask, More, Inner, Done, Act, Tells, Inserts, Makes, Calls, Fails, RunsAway, Closes, ask, so_far, gathered_by, par_token}
 use Rattle.plain_state.specs.States.{Reading, Outcome, Finished, AtFatal, Move, Handed, Taken, Settled, Skipped, FileClosed, Entered, Kept, Grows, Feeds, Noted, Checked, Completed, Opened, ListBegun, ListGrown, Put, Called, CalledWith, SetCategoryOf, Defined, Written, Begun, BegunWith, Ended, Closed, Reported, Stopped, State, made, in_line_after}
 
 -- What the moves of a rule depend on: the category codes, the names entered and what they mean, the macros' lists, whether the
@@ -77,6 +77,10 @@ token_line page m = if page.quiet then [] else Written Transcript (token_line_by
 abbrev pub put_one : Token → List Move
 put_one t = Settled ∷ ListBegun ∷ ListGrown t ∷ Put (t ∷ []) ∷ []
 
+-- a text put in front, which has a token
+abbrev pub put_text : List Token → List Move
+put_text ts = Settled ∷ ListBegun ∷ (map ListGrown ts ++ Put ts ∷ [])
+
 -- CALLS OF MACROS
 
 -- the body of a macro is put; one without items isn't, and nothing is asked for
@@ -118,9 +122,13 @@ primitive page t number =
     else if number == relax_primitive then []
     else token_line page (means.Prim number)
 
+-- a primitive that is expanded begins the reading of its expansion; another comes to these moves
+abbrev pub unless_expanded : ℕ → List Move → List Move
+unless_expanded number moves = if number == number_primitive then Begun Number ∷ [] else moves
+
 -- a token where no reading is open
 abbrev pub command : Page → Token → Meaning Unit → List Move
-command page t (means.Prim number) = primitive page t number
+command page t (means.Prim number) = unless_expanded number (primitive page t number)
 command page t means.Undefined = reported page UndefinedName []
 command page t means.RelaxMarked = []
 command page t (means.Macro long outer list) = called page t
@@ -166,10 +174,11 @@ feeding r x = feeding_kind r.kind r.fed x
 abbrev pub noting : Reading → List Move
 noting r = grown_to (so_far r.kind r.fed) (so_far r.kind (r.fed ++ Told ∷ [])) ++ Noted ∷ []
 
--- a token read by X: an undefined name is reported and dropped, a macro called, and another token fed
+-- a token read by X: an undefined name is reported and dropped, a macro called, a primitive expanded, and another token fed
 abbrev pub expanded_as : Page → Token → Meaning Unit → List Move → List Move
 expanded_as page t means.Undefined feeds = reported page UndefinedName []
 expanded_as page t (means.Macro long outer list) feeds = called page t
+expanded_as page t (means.Prim number) feeds = unless_expanded number feeds
 expanded_as page t m feeds = feeds
 
 abbrev pub expanded : Page → Seen → List Move → List Move
@@ -348,6 +357,7 @@ answered s work r (Done v back) = given_back back r.fed ++ Ended v ∷ []
 answered s work r (Act e) = effect s e ++ Ended (Flag true) ∷ []
 answered s work r (Tells report back) = told (page_of s) report None back r
 answered s work r (Inserts t report back) = told (page_of s) report (Some t) back r
+answered s work r (Makes characters) = put_text (made_text characters) ++ Closed ∷ []
 answered s work r (Calls args) = called_with r.kind args
 answered s work r (Fails report) = failed (page_of s) report
 answered s work r (RunsAway report) = failed_away (page_of s) report (scanning work s.gathered) r.fed

@@ -241,6 +241,27 @@ pub fn worked_loops()
     ensures hundred { RunsWithin 1200 (first_line_usual ++ codes "\\def\\a{\\foo\\a}\\a") (concat (replicate 100 (codes "! Undefined control sequence.\nl.2\n")) ++ codes "(That makes 100 errors; please try again.)\n") 236 (AtFatal HundredErrors) }
 {}
 
+/// The machine run on small files with numbers that are expanded.
+pub fn worked_numbers()
+    ensures negative { RunsSo (first_line_usual ++ codes "\\message{\\number-007 }\\end\n") (codes "-7\n") 42 Finished }
+    ensures nested { Writes (first_line_usual ++ codes "\\message{\\number\\number7 8 }\\end\n") (codes "78\n") Finished }
+    ensures of_a_macro { Writes (first_line_usual ++ codes "\\def\\a{1}\\message{\\number\\a2 x}\\end\n") (codes "12x\n") Finished }
+    ensures in_a_body { Writes (first_line_usual ++ codes "\\def\\a{\\number}\\message{\\a5\\relax}\\end\n") (codes "5\\relax \n") Finished }
+    ensures in_an_expanded_body { Writes (first_line_usual ++ codes "\\edef\\a{\\number\"FF \\number`\\a}\\message{\\a}\\end\n") (codes "25597\n") Finished }
+    ensures in_a_number { Writes (first_line_usual ++ codes "\\catcode\\number`\\%=12 \\message{%}\\end\n") (codes "%\n") Finished }
+    ensures behind_a_prefix { Writes (first_line_usual ++ codes "\\global\\number5\\end\n") (codes "! You can't use a prefix with `the character 5'.\nl.2\n{the character 5}\n") Finished }
+    ensures obeyed { RunsSo (first_line_usual ++ codes "\\number12\\end\n") (codes "{the character 1}\n{the character 2}\n") 37 Finished }
+    ensures missing { Writes (first_line_usual ++ codes "\\message{\\number\\relax}\\end\n") (codes "! Missing number, treated as zero.\nl.2\n0\\relax \n") Finished }
+    ensures too_big { Writes (first_line_usual ++ codes "\\message{\\number2147483648 }\\end\n") (codes "! Number too big.\nl.2\n2147483647\n") Finished }
+    ensures outer_in_a_definition { Writes (first_line_usual ++ codes "\\outer\\def\\o{}\\edef\\a{x\\number1\\o}\\message{\\a}\\end\n") (codes "Runaway definition?\n->x\n! Forbidden control sequence found while scanning definition of \\a.\nl.2\n{end-group character }}\nx1\n") Finished }
+    ensures outer_elsewhere { Writes (first_line_usual ++ codes "\\outer\\def\\o{y}\\number1\\o\\end\n") (codes "{the character 1}\n{the letter y}\n") Finished }
+    ensures file_ended { Writes (first_line_usual ++ codes "\\message{x\\number1%") (codes "Runaway text?\nx\n! File ended while scanning text of \\message.\nl.0\nx1\n! Emergency stop.\n*** (job aborted, no legal \\end found)\n") (AtFatal NoEnd) }
+    ensures depth { FillsWithin 400 (record default_sizes { expansion_depth = 8 }) (first_line_usual ++ codes "\\def\\a{\\number\\a}\\a") (record { table = ExpansionDepth; used = 8; size = 8 }) }
+    ensures text_words { Fills (record default_sizes { main_memory_size = 5 }) (first_line_usual ++ codes "\\message{\\number12 }\\end") (record { table = MainMemorySize; used = 5; size = 5 }) }
+    ensures text_words_fit { Fits (record default_sizes { main_memory_size = 6 }) (first_line_usual ++ codes "\\message{\\number12 }\\end") }
+    ensures text_level { Fills (record default_sizes { input_stack_size = 1 }) (first_line_usual ++ codes "\\number1 \\end") (record { table = InputStackSize; used = 1; size = 1 }) }
+{}
+
 /// Small files within small sizes: the first table that is full, what is used of it, and its size.
 pub fn worked_refusals()
     ensures fits { Fits default_sizes (first_line_usual ++ codes "\\message{hi}\\catcode`\\foo 5 \\end") }

@@ -1,5 +1,5 @@
 -- The primitives that mean something, and the names that tokens are.
-use Rattle.std.specs.Prelude.{ℕ, ◌==◌, Bool, true, false, ◌||◌, if◌then◌else◌}
+use Rattle.std.specs.Prelude.{ℕ, ◌==◌, Bool, true, false, ◌||◌}
 use Rattle.tex_defs.specs.declared.Token.{Token}
 use Rattle.tex_defs.specs.declared.Token.TheVariants as token
 use Rattle.tex_defs.specs.declared.Name.{Name}
@@ -23,6 +23,10 @@ message_primitive = 9
 
 abbrev pub catcode_primitive : ℕ
 catcode_primitive = 35
+
+-- `\number`, which is expanded
+abbrev pub number_primitive : ℕ
+number_primitive = 57
 
 -- the prefixes of assignments
 abbrev pub long_primitive : ℕ
@@ -55,7 +59,7 @@ abbrev pub is_known : ℕ → Bool
 is_known number =
     (number == relax_primitive) || (number == par_primitive) || (number == end_primitive) || (number == message_primitive)
     || (number == long_primitive) || (number == outer_primitive) || (number == global_primitive) || (number == catcode_primitive)
-    || is_definition_primitive number
+    || is_definition_primitive number || (number == number_primitive)
 
 -- a primitive's own meaning, under whatever name
 abbrev pub means_primitive : ℕ → Meaning Unit → Bool

@@ -1,5 +1,5 @@
 -- The readings: what each asks for after all that it was fed with.
-use Rattle.std.specs.Prelude.{ℕ, ℤ, pos, negsuc, ◌-ℤ◌, ◌+◌, ◌-◌, ◌*◌, Bool, List, [], ◌∷◌, ◌++◌, ◌==◌, true, false, not, if◌then◌else◌, ◌&&◌, ◌||◌, nat_le, Option, Some, None}
+use Rattle.std.specs.Prelude.{ℕ, ℤ, pos, negsuc, ◌-ℤ◌, ◌+◌, ◌-◌, ◌*◌, Bool, List, [], ◌∷◌, ◌==◌, true, false, not, if◌then◌else◌, ◌&&◌, ◌||◌, nat_le, Option, Some, None}
 use Rattle.tex_defs.specs.declared.Token.{Token}
 use Rattle.tex_defs.specs.declared.Token.TheVariants as token
 use Rattle.tex_defs.specs.declared.Name.{Name}
@@ -15,15 +15,17 @@ use Rattle.plain_state.specs.Arguments.{Long, Short, ParMode, gathering, begins_
 use Rattle.plain_state.specs.Arguments as call
 use Rattle.plain_state.specs.Definitions.{Manner, definition}
 use Rattle.plain_state.specs.Definitions as build
+use Rattle.plain_state.specs.Numerals.{whole_number}
 
--- The commands of the stomach, an integer, a balanced text, the definition of a name, the arguments of a call; a name is that of
--- the command or the macro, as it was written. A command with prefixes begins behind its first prefix, and remembers whether
--- that is `\long` or `\outer`; a definition is expanded or not. A call has the number of the macro and its list.
+-- The commands of the stomach, the expansion of `\number`, an integer, a balanced text, the definition of a name, the arguments of
+-- a call; a name is that of the command or the macro, as it was written. A command with prefixes begins behind its first prefix, and
+-- remembers whether that is `\long` or `\outer`; a definition is expanded or not. A call has the number of the macro and its list.
 pub data Kind : Type 0 where
   Catcode : Kind
   Message : Name → Kind
   Prefixed : (long outer : Bool) → Kind
   Define : (expanded : Bool) → Kind
+  Number : Kind
   Integer : Kind
   Text : Name → Kind
   Definition : Name → (expanded : Bool) → Kind
@@ -51,8 +53,9 @@ pub data Effect : Type 0 where
   SetMacro : Name → (long outer : Bool) → List Token → Effect
 
 -- What a reading asks for: a token; an inner reading, which may begin with the last token; to end with a value,
--- or to report, where the last token may be given back before, and then another be inserted; to act and end. A call asks that
--- its body be put, with these arguments; to report and end; to report that it ran away, and end; or to end.
+-- or to report, where the last token may be given back before, and then another be inserted; to act and end. An expansion asks that
+-- these characters be put in front, and ends without a value. A call asks that its body be put, with these arguments; to report and
+-- end; to report that it ran away, and end; or to end.
 pub data Ask : Type 0 where
   More : Want → Ask
   Inner : Kind → (begins : Bool) → Ask
@@ -60,6 +63,7 @@ pub data Ask : Type 0 where
   Act : Effect → Ask
   Tells : Report → (give_back : Bool) → Ask
   Inserts : Token → Report → (give_back : Bool) → Ask
+  Makes : (characters : List ℕ) → Ask
   Calls : List (List Token) → Ask
   Fails : Report → Ask
   RunsAway : Report → Ask
@@ -295,6 +299,14 @@ message name [] = Inner (Text name) false
 message name (Val (Toks ts) ∷ fed) = Act (Say ts)
 message name fed = senseless
 
+-- EXPANSIONS
+
+-- `\number`: the decimal digits of an integer, behind `-` where it is negative; what is no integer, to which no run comes, counts as 0
+abbrev pub number : List Fed → Ask
+number [] = Inner Integer false
+number (Val (Int n) ∷ fed) = Makes (whole_number n)
+number fed = Makes (whole_number (pos 0))
+
 -- DEFINITIONS. The name to be assigned is read raw, behind spaces, and then the list of the macro.
 
 -- the name that may be assigned: no frozen one, but for `\inaccessible`
@@ -446,6 +458,7 @@ ask Catcode fed = catcode fed
 ask (Message name) fed = message name fed
 ask (Prefixed long outer) fed = prefixed long outer fed
 ask (Define expanded) fed = define expanded false false fed
+ask Number fed = number fed
 ask Integer fed = integer false fed
 ask (Text name) fed = text fed
 ask (Definition name expanded) fed = build_ask (definition (manner name expanded) (build_fed fed))
@@ -480,10 +493,11 @@ own_lists (Definition name expanded) = [] ∷ []
 own_lists (Arguments name long number ts) = if begins_with_place ts then [] ∷ [] else []
 own_lists k = []
 
--- A reading begins only readings of a lower rank before a token comes.
+-- A reading begins only readings of a lower rank before a token comes; expansions have the highest.
 abbrev pub rank : Kind → ℕ
 rank Catcode = 1
 rank (Message name) = 1
 rank (Prefixed long outer) = 1
 rank (Define expanded) = 1
+rank Number = 2
 rank k = 0

@@ -1,5 +1,5 @@
 -- What tokens are to a reading, and how it wants them.
-use Rattle.std.specs.Prelude.{ℕ, ◌==◌, ◌&&◌, Bool, true, false}
+use Rattle.std.specs.Prelude.{ℕ, ◌==◌, ◌&&◌, Bool, true, false, List, map, if◌then◌else◌}
 use Rattle.tex_defs.specs.declared.Token.{Token}
 use Rattle.tex_defs.specs.declared.Token.TheVariants as token
 use Rattle.tex_defs.specs.declared.Meaning.{Meaning}
@@ -33,6 +33,13 @@ is_space_token t = false
 
 abbrev pub space_token : Token
 space_token = token.Char space 32
+
+-- A made text: a space token for each space, and a character of category 12 for each other character.
+abbrev pub made_token : ℕ → Token
+made_token c = if c == 32 then space_token else token.Char other c
+
+abbrev pub made_text : List ℕ → List Token
+made_text = map made_token
 
 -- the meaning is a character of this category
 abbrev pub means_category : ℕ → Meaning Unit → Bool

@@ -8,7 +8,7 @@ use Rattle.plain_state.specs.States.{Reading, Defined, Ended, beneath, ended_wit
 use Rattle.plain_machine.proofs.Doing.{did_join, did_one}
 use Rattle.world_io.specs.Told.{FilesTold, SinkTold}
 use Rattle.input_state.specs.Stored.{gathered}
-use Rattle.frames.specs.declared.frame.Waiting.{Waiting}
+use Rattle.frames.specs.declared.outer.Beneath.{Beneath}
 use Rattle.frames.specs.declared.scan.Effect.{Effect}
 use Rattle.frames.specs.declared.scan.Effect.TheVariants.{SetCategory, Say, SetMacro}
 use Rattle.frames.specs.Sees.{first_list}
@@ -17,7 +17,7 @@ use Rattle.engine_state.specs.Book.{Book, with_work}
 use Rattle.stomach.specs.Effects.{IsNoMacro}
 use Rattle.engine_state.specs.Rules.{world_of, Went}
 use Rattle.stomach.specs.Sets.{Sets, with_macro}
-use Rattle.engine_state.specs.Stands.{Stands, EndsHere, OuterStand, AtMostOne, SameState, state_of}
+use Rattle.engine_state.specs.Stands.{IsRooted, Stands, EndsHere, OuterStand, AtMostOne, SameState, state_of}
 use Rattle.engine_state.proofs.Bare.{all_of}
 use Rattle.engine_state.proofs.Joining.{quiet_wrote}
 use Rattle.engine_state.proofs.Reporting.{ended_state}
@@ -52,6 +52,10 @@ module _ (sizes : Sizes) (e e1 : Engine) (is : e1 ≡ record e { input = record 
   lists_less : e1.input.builds ≡ drop 1 e.input.builds
   lists_less = ap (λ (x : Engine). x.input.builds) is
 
+  less_rooted : (qs : List Reading) → IsRooted (r ∷ qs) → IsRooted (less r ∷ qs)
+  less_rooted [] h = h
+  less_rooted (q ∷ qs) h = h
+
   pub defined_here : EndsHere sizes e (Flag true) r rs book → EndsHere sizes e1 (Flag true) (less r) rs behind
   defined_here h = record {
     sound = sets.sound;
@@ -60,7 +64,11 @@ module _ (sizes : Sizes) (e e1 : Engine) (is : e1 ≡ record e { input = record 
     holds = ap (λ (n : ℕ). n - 1) h.holds ∙ one_less e.input.builds h.few ∙ sym (ap (length {A = List Token}) lists_less);
     taken = h.taken;
     chained = h.chained;
-    outer = subst (λ (x : List Waiting). OuterStand (reverse x) rs) (sym (ap (λ (x : Engine). x.outer.items) is)) h.outer;
+    rooted = less_rooted rs h.rooted;
+    ends = h.ends;
+    outer =
+        subst (λ (x : List (List Token)). OuterStand r.kind (reverse e1.outer.items) x rs) (sym (ap (λ (x : Engine). x.input.aside) is))
+        (subst (λ (x : List Beneath). OuterStand r.kind (reverse x) e.input.aside rs) (sym (ap (λ (x : Engine). x.outer.items) is)) h.outer);
     uncalled = record { none = ap (λ (x : Engine). x.call) is ∙ h.uncalled.none; input = ap (λ (x : Engine). x.input.call) is ∙ h.uncalled.input };
   }
 

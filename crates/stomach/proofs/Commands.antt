@@ -6,10 +6,10 @@ use Rattle.tex_defs.specs.declared.Seen.{Seen}
 use Rattle.tex_defs.specs.declared.Name.{Name}
 use Rattle.tex_defs.specs.declared.Meaning.{Meaning}
 use Rattle.plain_state.specs.Tokens.{is_space_token}
-use Rattle.plain_state.specs.Readings.{Kind, Catcode, Message, Prefixed, Define, Value, Int, Toks, Fed, Tok, Val, Told, Ask, Done, ask, value_lists, is_at_most, greatest_category, greatest_character, natural, SetCategory, Act, bad_category, category_behind, behind_equals, equals_behind, bad_code, catcode, message, definition_behind, define, name_behind, name_to_assign, prefix_refused, limit_refused, behind_prefixes, prefixed, is_long, is_outer_prefix, is_global, is_raw_definition, is_expanded_definition, is_assignment}
+use Rattle.plain_state.specs.Readings.{Kind, number, Catcode, Message, Prefixed, Define, Number, Value, Int, Toks, Fed, Tok, Val, Told, Ask, Done, ask, value_lists, is_at_most, greatest_category, greatest_character, natural, SetCategory, Act, bad_category, category_behind, behind_equals, equals_behind, bad_code, catcode, message, definition_behind, define, name_behind, name_to_assign, prefix_refused, limit_refused, behind_prefixes, prefixed, is_long, is_outer_prefix, is_global, is_raw_definition, is_expanded_definition, is_assignment}
 use Rattle.plain_state.specs.States.{Reading}
 use Rattle.engine_state.specs.Begins.{IsCommand}
-use Rattle.engine_state.specs.Stands.{IsLone, IsTaken}
+use Rattle.engine_state.specs.Stands.{IsRooted, IsTaken}
 
 -- an answer that ends the reading without a list
 abbrev EndsBare : Ask → Type 0
@@ -114,14 +114,20 @@ prefixed_bare long outer (Tok x ∷ fed) =
     (bare_if (is_global x.meaning) (prefixed long outer fed) behind (prefixed_bare long outer fed) (command_behind long outer x.meaning fed)))
 prefixed_bare long outer (x ∷ fed) = refl
 
+number_bare : (fed : List Fed) → EndsBare (number fed)
+number_bare [] = tt
+number_bare (Val (Int n) ∷ fed) = tt
+number_bare (x ∷ fed) = tt
+
 command_bare : (k : Kind) (fed : List Fed) → IsCommand k → EndsBare (ask k fed)
 command_bare Catcode fed h = catcode_bare fed
 command_bare (Message name) fed h = message_bare name fed
 command_bare (Prefixed long outer) fed h = prefixed_bare long outer fed
 command_bare (Define expanded) fed h = define_bare expanded false false fed
+command_bare Number fed h = number_bare fed
 command_bare k fed h = absurd h
 
 -- so a value with a list goes to the reading beneath
-pub done_taken : (v : Value) (back : Bool) (r : Reading) (rs : List Reading) → Done v back ≡ ask r.kind r.fed → IsLone (r ∷ rs) → IsTaken v rs
+pub done_taken : (v : Value) (back : Bool) (r : Reading) (rs : List Reading) → Done v back ≡ ask r.kind r.fed → IsRooted (r ∷ rs) → IsTaken v rs
 done_taken v back r [] is h = subst EndsBare (sym is) (command_bare r.kind r.fed h)
 done_taken v back r (s ∷ rs) is h = tt

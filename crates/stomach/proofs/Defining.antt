@@ -99,6 +99,10 @@ module _ (number : ℕ → ℕ) (macros : List (List Token)) (ts : List Token) w
 
 -- HOW IT IS DEFINED
 
+first_gone : (lists aside : List (List Token)) → first_list lists ≢ [] → drop 1 (lists ++ aside) ≡ drop 1 lists ++ aside
+first_gone [] aside some = absurd (some refl)
+first_gone (ts ∷ lists) aside some = refl
+
 module _ (sizes : Sizes) (e : Engine) (book : Book) (w : World) (name : Name) (long outer : Bool) (h : IsSound sizes e book.number book.macros) (some : first_list e.input.builds ≢ []) (idle : e.input.call ≡ NotCalling) where
   abbrev ts : List Token
   ts = first_list e.input.builds
@@ -124,8 +128,14 @@ module _ (sizes : Sizes) (e : Engine) (book : Book) (w : World) (name : Name) (l
   abbrev defined_state : List Put → List Cell → List (List Token) → State
   defined_state puts meanings lists = record (made (Defined name long outer ts) (state_of e book)) { pending = with_puts puts e.input.pending; meanings = meanings; gathered = lists }
 
-  lists_after : drop 1 (gathered e.input) ≡ call_lists e.input.call ++ drop 1 e.input.builds
-  lists_after = ap (λ (k : calls.Calling). drop 1 (call_lists k ++ e.input.builds)) idle ∙ sym (ap (λ (k : calls.Calling). call_lists k ++ drop 1 e.input.builds) idle)
+  abbrev behind : List (List Token)
+  behind = drop 1 e.input.builds ++ e.input.aside
+
+  lists_after : drop 1 (gathered e.input) ≡ call_lists e.input.call ++ behind
+  lists_after =
+      ap (λ (k : calls.Calling). drop 1 (call_lists k ++ (e.input.builds ++ e.input.aside))) idle
+      ∙ first_gone e.input.builds e.input.aside some
+      ∙ sym (ap (λ (k : calls.Calling). call_lists k ++ behind) idle)
 
   sets_by : (number : ℕ → ℕ) (meanings : List Cell) (lists : List (List Token)) → length meanings ≡ length e.input.meanings → Tied number macros meanings e.input.pending.puts lists →
       puts_of number e.input.pending.puts ≡ puts_of book.number e.input.pending.puts → meanings_of number meanings ≡ assigned (meanings_of book.number e.input.meanings) name (means.Macro long outer (Some (length book.macros))) →
@@ -135,8 +145,8 @@ module _ (sizes : Sizes) (e : Engine) (book : Book) (w : World) (name : Name) (l
     sound = record { sized = sized_after meanings lists same; tied = tied; bodies = bodies_more book.macros ts h.bodies some };
     did = did_silent sizes (Defined name long outer ts) (state_of e book) (state_of (after meanings lists) (with_macro number ts book)) w refl
         (ap (λ (x : List (List Token)). defined_state (puts_of book.number e.input.pending.puts) (assigned (meanings_of book.number e.input.meanings) name (means.Macro long outer (Some (length book.macros)))) x) lists_after
-        ∙ ap (λ (x : List Cell). defined_state (puts_of book.number e.input.pending.puts) x (call_lists e.input.call ++ drop 1 e.input.builds)) (sym means_it)
-        ∙ ap (λ (x : List Put). defined_state x (meanings_of number meanings) (call_lists e.input.call ++ drop 1 e.input.builds)) (sym puts))
+        ∙ ap (λ (x : List Cell). defined_state (puts_of book.number e.input.pending.puts) x (call_lists e.input.call ++ behind)) (sym means_it)
+        ∙ ap (λ (x : List Put). defined_state x (meanings_of number meanings) (call_lists e.input.call ++ behind)) (sym puts))
         (wrote_silent w (Defined name long outer ts ∷ []) tt);
   }
 

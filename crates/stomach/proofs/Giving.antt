@@ -33,7 +33,7 @@ module _ (sizes : Sizes) (e : Engine) (bytes : List ℕ) where
   given_store = record { sizes = refl; hash = refl; meanings = refl; puts = λ n h. h; lists = record { tokens = λ n h. refl } }
 
   given_frames : SameFrames e (given bytes e)
-  given_frames = record { outer = refl; top = refl; ask = refl; lists = refl; call = refl; calling = refl }
+  given_frames = record { outer = refl; top = refl; ask = refl; lists = refl; aside = refl; call = refl; calling = refl }
 
   given_stands : (book : Book) → AllStand sizes e book → AllStand sizes (given bytes e) book
   given_stands book h = all_still sizes e (given bytes e) book given_frames given_store (sound_still sizes e (given bytes e) book.number book.macros refl refl refl refl given_store h.sound) h.idle h

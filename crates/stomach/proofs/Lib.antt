@@ -7,5 +7,6 @@ pub mod Giving
 pub mod Handing
 pub mod Reading
 pub mod Rounds
+pub mod Making
 pub mod Running
 pub mod Unread

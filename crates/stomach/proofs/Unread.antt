@@ -5,13 +5,14 @@ use Rattle.tex_defs.specs.declared.Sizes.{Sizes}
 use Rattle.tex_defs.specs.declared.Name.{Name}
 use Rattle.plain_state.specs.Readings as reading
 use Rattle.plain_state.specs.Reports as reports
-use Rattle.plain_state.specs.States.{Reading, Ended}
-use Rattle.plain_machine.specs.Plan.{page_of, answered, given_back, effect, scanning}
-use Rattle.plain_machine.proofs.Pulls.{pulls, pulls_join, back_none, begun_none, called_with_none, effect_none, failed_none, failed_away_none, told_none}
+use Rattle.plain_state.specs.States.{Reading, Ended, Closed}
+use Rattle.plain_state.specs.Tokens.{made_text}
+use Rattle.plain_machine.specs.Plan.{page_of, put_text, answered, given_back, effect, scanning}
+use Rattle.plain_machine.proofs.Pulls.{pulls, pulls_join, back_none, begun_none, called_with_none, effect_none, failed_none, failed_away_none, told_none, text_none}
 use Rattle.frames.specs.declared.scan.Ask.{Ask}
-use Rattle.frames.specs.declared.scan.Ask.TheVariants.{More, Inner, Done, Act, Tells, Inserts}
+use Rattle.frames.specs.declared.scan.Ask.TheVariants.{More, Inner, Done, Act, Tells, Inserts, Makes}
 use Rattle.frames.specs.declared.frame.Frame.{Frame}
-use Rattle.frames.specs.Sees.{ask_of, effect_of, value_of, kind_of}
+use Rattle.frames.specs.Sees.{made_of, ask_of, effect_of, value_of, kind_of}
 use Rattle.transcript.specs.Reported.{report_of}
 use Rattle.input_state.specs.Stored.{gathered}
 use Rattle.engine_state.specs.declared.call.Call.{Call}
@@ -32,8 +33,9 @@ answer_unread e book r f (Act ef) h =
     pulls_join (effect (state_of e book) (effect_of e.input.builds ef)) (Ended (reading.Flag true) ∷ []) ∙ omega (arith, effect_none (state_of e book) (effect_of e.input.builds ef))
 answer_unread e book r f (Tells report back) h = told_none (page_of (state_of e book)) (report_of report) None (is_some back) r
 answer_unread e book r f (Inserts t report back) h = told_none (page_of (state_of e book)) (report_of report) (Some t) (is_some back) r
+answer_unread e book r f (Makes n) h = pulls_join (put_text (made_text (made_of n))) (Closed ∷ []) ∙ omega (arith, text_none (made_text (made_of n)))
 
-frame_unread : (e : Engine) (x : Option Frame) (book : Book) (work : List Reading) → WorkStands e.ask x e.outer.items e.input.builds work → wants_token x e.ask ≡ false → pulls (plan_of e (with_work work book)) ≡ 0
+frame_unread : (e : Engine) (x : Option Frame) (book : Book) (work : List Reading) → WorkStands e.ask x e.outer.items e.input.builds e.input.aside work → wants_token x e.ask ≡ false → pulls (plan_of e (with_work work book)) ≡ 0
 frame_unread e None book work h none = cc
 frame_unread e (Some f) book [] h none = absurd h
 frame_unread e (Some f) book (r ∷ rs) h none = rw (← h.0.asked) (answer_unread e (with_work (r ∷ rs) book) r f e.ask none)

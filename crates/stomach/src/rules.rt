@@ -4,11 +4,12 @@ ghost use Rattle.tex_defs.specs.Places.{World};
 ghost use Rattle.tex_defs.specs.declared.Sizes.{Sizes};
 ghost use Rattle.plain_state.specs.Pending.{pulled};
 ghost use Rattle.plain_state.specs.Readings.{Flag as FlagValue};
-ghost use Rattle.plain_state.specs.States.{Reading, Move, Ended as EndedMove};
-ghost use Rattle.plain_machine.specs.Plan.{effect as effect_moves, given_back, told, is_told};
+ghost use Rattle.plain_state.specs.States.{Reading, Move, Closed, Ended as EndedMove};
+ghost use Rattle.plain_state.specs.Tokens.{made_text};
+ghost use Rattle.plain_machine.specs.Plan.{effect as effect_moves, given_back, put_text, told, is_told};
 ghost use Rattle.plain_machine.specs.Does.{Did};
 ghost use Rattle.world_io.specs.Told.{FilesTold};
-ghost use Rattle.frames.specs.Sees.{value_of, effect_of};
+ghost use Rattle.frames.specs.Sees.{value_of, effect_of, made_of};
 ghost use Rattle.transcript.specs.Reported.{report_of};
 ghost use Rattle.input_state.specs.Reads.{gives_step};
 ghost use Rattle.frames.specs.declared.frame.Frame.{Frame};
@@ -16,7 +17,7 @@ ghost use Rattle.engine_state.specs.Book.{Book, with_work};
 ghost use Rattle.engine_state.specs.Calls.{AllStand};
 ghost use Rattle.stomach.specs.Effects.{IsNoMacro, Defines};
 ghost use Rattle.engine_state.specs.Near.{CutsIn};
-ghost use Rattle.engine_state.specs.Stands.{Stands, Waits, EndsHere, IsLast, Counts, SameFrames, state_of, page_of, frames};
+ghost use Rattle.engine_state.specs.Stands.{Stands, Waits, EndsHere, Expanded, IsLast, Counts, SameFrames, state_of, page_of, frames};
 ghost use Rattle.engine_state.specs.Rules.{world_of, plan_of, feeds_of, onward_of, Takes, Cuts, Went, DoesRule, DoesOnward};
 ghost use Rattle.engine_state.specs.Steps.{stepping, IsStep, IsFree, IsHalted, StepsIf, pending_weight, frame_weight, weight};
 ghost use Rattle.stomach.specs.Reactions.{FitsOnward, onward_moves};
@@ -25,8 +26,9 @@ ghost use Rattle.engine_state.specs.Rules.{SameReadings, next_moves};
 
 use crate::define::set_macro;
 use crate::reactions::{Onward, obey, react};
+use char_text::{Text, whole_number_length};
 use engine_state::{Broken, Engine, Last, Outcome, Ruled};
-use frames::{Ask, Effect, Value, Want};
+use frames::{Ask, Effect, Made, Value, Want};
 use gullet::{Stepped, gather, step};
 use tex_defs::{Fatal, Seen, Token};
 use transcript::Report;
@@ -47,6 +49,39 @@ fn done(engine: &mut Engine, value: Value, back: Option<Seen>) -> Result<(), Bro
 {
     engine.put_back(back)?;
     engine.end(value);
+    Ok(())
+}
+
+/// The text that an expansion makes.
+fn text_of(made: Made) -> Text
+    ensures { result ≡ made_of made }
+{
+    let mut text = Text::new();
+    match made {
+        Made::Number(n) => {
+            whole_number_length(n);
+            text.put_int(n);
+        }
+    }
+    text
+}
+
+/// The text that an expansion makes is put in front, and the expansion, which is the innermost reading, ends.
+fn make(engine: &mut Engine, made: Made) -> Result<(), Broken>
+    requires idle { engine.old.input.making ≡ None }
+    ensures light { OnOk result ((f : Frame) → engine.old.top ≡ Some f → frame_weight engine.new < 2 * frames engine.old + 6 + pending_weight engine.old.input.pending) }
+    ensures rule { OnOk result ((sizes : Sizes) (w : World) (book : Book) (r : Reading) (rs : List Reading) → Counts sizes engine.old (with_work (r ∷ rs) book) → Expanded sizes engine.old r rs book →
+        Went sizes (state_of engine.old (with_work (r ∷ rs) book)) engine.new w w (put_text (made_text (made_of made)) ++ Closed ∷ []) 0) }
+    ensures err { IfErr result (λ b. (sizes : Sizes) (w : World) (book : Book) (r : Reading) (rs : List Reading) → Counts sizes engine.old (with_work (r ∷ rs) book) → Expanded sizes engine.old r rs book →
+        Cuts sizes (state_of engine.old (with_work (r ∷ rs) book)) engine.new (with_work (r ∷ rs) book) w w (put_text (made_text (made_of made)) ++ Closed ∷ []) b) }
+    ensures frames { OnErr result (SameFrames engine.old engine.new) }
+    ensures column { engine.new.in_line ≡ engine.old.in_line }
+    ensures idle { OnOk result (engine.new.input.making ≡ None) }
+    ensures call { OnOk result (engine.new.call ≡ engine.old.call) }
+{
+    let text = text_of(made);
+    engine.put_text(text.bytes())?;
+    engine.end_expansion();
     Ok(())
 }
 
@@ -235,6 +270,10 @@ fn frame_rule<S: Sink>(engine: &mut Engine, out: &mut S) -> Result<Ruled, Broken
         }
         Ask::Tells(report, back) => tell(engine, out, report, None, back),
         Ask::Inserts(token, report, back) => tell(engine, out, report, Some(token), back),
+        Ask::Makes(made) => {
+            make(engine, made)?;
+            Ok(Ruled::Free)
+        }
     }
 }
 

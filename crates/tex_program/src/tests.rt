@@ -237,6 +237,13 @@ fn levels_and_arguments_are_refused_at_their_least_sizes(rt: HostRuntime) -> Res
         size: 4,
     };
     assert!(rt; words_where_full(alloc, LEAST, text, full)?.is_some());
+    let text = b"\\catcode`\\{=1 \\catcode`\\}=2 \\def\\a{\\number\\a}\\a";
+    let full = Full {
+        table: Table::ExpansionDepth,
+        used: 8,
+        size: 8,
+    };
+    assert!(rt; words_where_full(alloc, LEAST, text, full)?.is_some());
     let text = b"\\catcode`\\{=1 \\catcode`\\}=2 \\catcode`\\#=6 \\def\\a#1{\\a{#1}x}\\a y";
     let sizes = Sizes {
         parameter_stack_size: 9,

@@ -499,6 +499,62 @@ const OUTER_NAMES: [Row; 15] = [
     ),
 ];
 
+/// Numbers that are expanded.
+const NUMBERS: [Row; 12] = [
+    (b"\\message{\\number-007 }\\end\n", b"-7\n", 0),
+    (
+        b"\\message{\\number\"FF .\\number'17x\\number`a}\\end\n",
+        b"255.15x97\n",
+        0,
+    ),
+    (b"\\message{\\number-\\number-3}\\end\n", b"3\n", 0),
+    (
+        b"\\edef\\a{x\\number 007y}\\message{\\a}\\end\n",
+        b"x7y\n",
+        0,
+    ),
+    (
+        b"\\def\\a{\\number1\\b}\\def\\b{2\\c}\\def\\c{ }\\message{\\a\\a}\\end\n",
+        b"1212\n",
+        0,
+    ),
+    (
+        b"\\def\\a#1{#1}\\message{x\\number\\a{12}\\a3y}\\end\n",
+        b"x123y\n",
+        0,
+    ),
+    (
+        b"\\def\\a#1#2{<#1#2>}\\message{\\a\\number5}\\end\n",
+        b"<5>\n",
+        0,
+    ),
+    (
+        b"\\message{\\number x}\\end\n",
+        b"! Missing number, treated as zero.\nl.2\n0x\n",
+        1,
+    ),
+    (
+        b"\\message{\\number\\foo 5}\\end\n",
+        b"! Undefined control sequence.\nl.2\n5\n",
+        1,
+    ),
+    (
+        b"\\message{\\number2147483648 }\\end\n",
+        b"! Number too big.\nl.2\n2147483647\n",
+        1,
+    ),
+    (
+        b"\\message{ab\\number1%\n",
+        b"Runaway text?\nab\n! File ended while scanning text of \\message.\nl.0\nab1\n! Emergency stop.\n*** (job aborted, no legal \\end found)\n",
+        2,
+    ),
+    (
+        b"\\def\\a{\\number\\a}\\a\n",
+        b"! TeX capacity exceeded, sorry [expansion depth=400].\n",
+        3,
+    ),
+];
+
 #[test]
 fn definitions_are_read(rt: HostRuntime) -> Result<(), Fail> {
     assert!(rt; rows_hold(rt.alloc(), &DEFINITIONS)?);
@@ -544,6 +600,12 @@ fn a_file_ends_what_is_scanned(rt: HostRuntime) -> Result<(), Fail> {
 #[test]
 fn outer_names_are_forbidden(rt: HostRuntime) -> Result<(), Fail> {
     assert!(rt; rows_hold(rt.alloc(), &OUTER_NAMES)?);
+    Ok(())
+}
+
+#[test]
+fn numbers_are_expanded(rt: HostRuntime) -> Result<(), Fail> {
+    assert!(rt; rows_hold(rt.alloc(), NUMBERS.as_slice())?);
     Ok(())
 }
 

@@ -1,13 +1,13 @@
 use Rattle.std.proofs.Common.{◌∷◌, [], refl, ap, ◌∙◌}
 use Rattle.std.specs.Prelude.{None, Some}
-use Rattle.frames.specs.declared.scan.Ask.TheVariants.{More, Inner, Done, Act, Tells, Inserts}
+use Rattle.frames.specs.declared.scan.Ask.TheVariants.{More, Inner, Done, Act, Tells, Inserts, Makes}
 use Rattle.frames.specs.Sees.{kind_of}
 use Rattle.plain_state.specs.States.{Begun, BegunWith, lending}
 use Rattle.engine_state.specs.Book.{with_work}
 use Rattle.engine_state.specs.Stands.{state_of}
 use Rattle.engine_state.specs.Near.{CutsIn}
 use Rattle.engine_state.specs.Rules.{world_of, DoesRule, Went}
-use Rattle.stomach.proofs.Asking.{by_none, by_ask, done_here, act_here, waits_here, command_waits, command_lends, begins_orderly, lends_orderly, with_bare, with_plan, some_taken, defines_here, begun_went, begun_with_went, refused_cuts, same_column, same_column_cuts, err_by, none_if, some_if}
+use Rattle.stomach.proofs.Asking.{by_none, by_ask, done_here, act_here, waits_here, command_waits, command_lends, begins_orderly, begins_plain, lends_orderly, expanded_here, with_bare, with_plan, some_taken, defines_here, begun_went, begun_with_went, refused_cuts, same_column, same_column_cuts, err_by, none_if, some_if}
 use Rattle.engine_state.proofs.Counting.{counts_of}
 use Rattle.engine_state.proofs.Joining.{ok_to, err_to, err_both, same_err}
 use Rattle.engine_state.proofs.Nearing.{stands_in}
@@ -39,7 +39,7 @@ returns-in_ok-begin-in-None-clause-rule g c =
     let e = c.args.engine.now in let i = c.in-Inner in let b = c.in_ok-begin-in-None.ensures in
     λ sizes f. by_ask sizes e (λ book plan. Went sizes (state_of e book) c.begin.new.self (world_of f (g.S.Sink.told c.args.out.now) e) (world_of f (g.S.Sink.told c.args.out.now) c.begin.new.self) plan 0) (Inner i.waits i.kind None)
     (some_if e.top _ c.is_none.ensures c.if-is_none.false) (i.is ∙ ap (Inner i.waits i.kind) c.in-None.is)
-    (λ book r rs a. begun_went sizes e c.begin.new.self (with_work (r ∷ rs) book) f (g.S.Sink.told c.args.out.now) b.same (kind_of i.kind) (b.fits sizes (with_work (r ∷ rs) book) (counts_of sizes e (with_work (r ∷ rs) book) a.stands)) a.stands.uncalled.input b.lists (b.stands sizes (with_work (r ∷ rs) book) (command_waits sizes e i.waits i.kind None book r rs a) (begins_orderly sizes e i.waits i.kind None book r rs a)))
+    (λ book r rs a. begun_went sizes e c.begin.new.self (with_work (r ∷ rs) book) f (g.S.Sink.told c.args.out.now) b.same (kind_of i.kind) (b.fits sizes (with_work (r ∷ rs) book) (counts_of sizes e (with_work (r ∷ rs) book) a.stands)) a.stands.uncalled.input b.lists (b.stands sizes (with_work (r ∷ rs) book) (command_waits sizes e i.waits i.kind None book r rs a) (begins_plain sizes e i.waits i.kind None book r rs a) (begins_orderly sizes e i.waits i.kind None book r rs a)))
 
 pub returns-in_err-begin-in-None-clause-err : goal.returns-in_err-begin-in-None-clause-err
 returns-in_err-begin-in-None-clause-err g c =
@@ -58,7 +58,7 @@ returns-in_ok-begin_with-in-Some-clause-rule g c =
     λ sizes f. by_ask sizes e (λ book plan. Went sizes (state_of e book) c.begin_with.new.self (world_of f (g.S.Sink.told c.args.out.now) e) (world_of f (g.S.Sink.told c.args.out.now) c.begin_with.new.self) plan 0) (Inner i.waits i.kind (Some c.in-Some.seen))
     (some_if e.top _ c.is_none.ensures c.if-is_none.false) (i.is ∙ ap (Inner i.waits i.kind) c.in-Some.is)
     (λ book r rs a. begun_with_went sizes e c.begin_with.new.self (with_work (r ∷ rs) book) f (g.S.Sink.told c.args.out.now) b.same (kind_of i.kind) c.in-Some.seen _ (with_plan sizes e i.waits i.kind c.in-Some.seen book r rs a)
-    (b.fits sizes (with_work (r ∷ rs) book) (counts_of sizes e (with_work (r ∷ rs) book) a.stands)) a.stands.uncalled.input b.lists (b.stands sizes (with_work (lending (r ∷ rs)) book) (with_bare sizes e i.waits i.kind c.in-Some.seen book r rs a) (lends_orderly sizes e i.waits i.kind (Some c.in-Some.seen) book r rs a) (command_lends sizes e i.waits i.kind (Some c.in-Some.seen) book r rs a)))
+    (b.fits sizes (with_work (r ∷ rs) book) (counts_of sizes e (with_work (r ∷ rs) book) a.stands)) a.stands.uncalled.input b.lists (b.stands sizes (with_work (lending (r ∷ rs)) book) (with_bare sizes e i.waits i.kind c.in-Some.seen book r rs a) (begins_plain sizes e i.waits i.kind (Some c.in-Some.seen) book r rs a) (lends_orderly sizes e i.waits i.kind (Some c.in-Some.seen) book r rs a) (command_lends sizes e i.waits i.kind (Some c.in-Some.seen) book r rs a)))
 
 pub returns-in_err-begin_with-in-Some-clause-err : goal.returns-in_err-begin_with-in-Some-clause-err
 returns-in_err-begin_with-in-Some-clause-err g c =
@@ -130,3 +130,22 @@ returns-in-Inserts-clause-err g c = let e = c.args.engine.now in let t = c.in-In
     (some_if e.top _ c.is_none.ensures c.if-is_none.false) t.is
     (λ book r rs a. stands_in sizes e n.new.engine (with_work (r ∷ rs) book) _ _ _ b
     (h sizes f book r rs (waits_here sizes e (Inserts t.token t.report t.back) book r rs a (a.innermost.open_frame tt)) (counts_of sizes e (with_work (r ∷ rs) book) a.stands) a.innermost.last a.innermost.once) same a.stands)) n.ensures.err n.ensures.frames
+
+pub returns-in_ok-make-in-Makes-clause-rule : goal.returns-in_ok-make-in-Makes-clause-rule
+returns-in_ok-make-in-Makes-clause-rule g c =
+    let e = c.args.engine.now in let d = c.in-Makes in let b = c.in_ok-make-in-Makes.ensures in
+    λ sizes f. by_ask sizes e (λ book plan. Went sizes (state_of e book) c.make.new.engine (world_of f (g.S.Sink.told c.args.out.now) e) (world_of f (g.S.Sink.told c.args.out.now) c.make.new.engine) plan 0) (Makes d.made)
+    (some_if e.top _ c.is_none.ensures c.if-is_none.false) d.is
+    (λ book r rs a. same_column sizes (state_of e (with_work (r ∷ rs) book)) c.make.new.engine f (g.S.Sink.told c.args.out.now) e.in_line _ 0 b.column
+    (b.rule sizes (world_of f (g.S.Sink.told c.args.out.now) e) book r rs (counts_of sizes e (with_work (r ∷ rs) book) a.stands) (expanded_here sizes e d.made book r rs a)))
+
+pub returns-in_err-make-in-Makes-clause-err : goal.returns-in_err-make-in-Makes-clause-err
+returns-in_err-make-in-Makes-clause-err g c =
+    let e = c.args.engine.now in let d = c.in-Makes in let b = c.in_err-make-in-Makes in
+    same_err c.from_residual-in_err-make-in-Makes.result b.field-0.0 _ c.from_residual-in_err-make-in-Makes.ensures.1
+    (λ sizes f. by_ask sizes e (λ book plan. CutsIn sizes (state_of e book) c.make.new.engine (world_of f (g.S.Sink.told c.args.out.now) e) (world_of f (g.S.Sink.told c.args.out.now) c.make.new.engine) plan b.field-0.0) (Makes d.made)
+    (some_if e.top _ c.is_none.ensures c.if-is_none.false) d.is
+    (λ book r rs a. stands_in sizes e c.make.new.engine (with_work (r ∷ rs) book) _ _ _ b.field-0.0
+    (same_column_cuts sizes (state_of e (with_work (r ∷ rs) book)) c.make.new.engine (with_work (r ∷ rs) book) f (g.S.Sink.told c.args.out.now) e.in_line _ b.field-0.0 b.ensures.column
+    (b.ensures.err sizes (world_of f (g.S.Sink.told c.args.out.now) e) book r rs (counts_of sizes e (with_work (r ∷ rs) book) a.stands) (expanded_here sizes e d.made book r rs a)))
+    b.ensures.frames a.stands))

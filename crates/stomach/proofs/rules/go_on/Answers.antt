@@ -1,4 +1,4 @@
-use Rattle.std.proofs.Common.{[], ◌∷◌, ◌++◌, refl, sym, ap, List}
+use Rattle.std.proofs.Common.{[], ◌∷◌, refl, sym, ap, List}
 use Rattle.tex_defs.specs.declared.Token.{Token}
 use Rattle.plain_state.specs.Readings.{own_lists}
 use Rattle.plain_state.specs.States.{Begun, fresh}
@@ -32,8 +32,8 @@ returns-in-Skip-clause-rule g c = rw c.in-Skip.is (λ sizes f book st. skip_onwa
 pub returns-in_ok-begin-in-Begin-clause-rule : goal.returns-in_ok-begin-in-Begin-clause-rule
 returns-in_ok-begin-in-Begin-clause-rule g c = let e = c.args.engine.now in let i = c.in_ok-begin-in-Begin.ensures in
     rw c.in-Begin.is (λ sizes f book fits.
-    reading_went sizes e c.begin.new.self book (fresh (kind_of c.in-Begin.kind) ∷ book.work) f _ (Begun (kind_of c.in-Begin.kind)) tt refl (i.fits sizes book (counts_of sizes e book fits.1.1)) (ap (λ (l : List (List Token)). record (state_of e book) { work = fresh (kind_of c.in-Begin.kind) ∷ book.work; gathered = l }) (sym (bare_after e.input c.begin.new.self.input fits.1.1.uncalled.input i.same.calling (λ l. own_lists (kind_of c.in-Begin.kind) ++ l) i.lists))) i.same
-    (i.stands sizes book (fits.0, fits.1.1) (orderly_first sizes e (kind_of c.in-Begin.kind) book fits.0 fits.1.0 fits.1.1)))
+    reading_went sizes e c.begin.new.self book (fresh (kind_of c.in-Begin.kind) ∷ book.work) f _ (Begun (kind_of c.in-Begin.kind)) tt refl (i.fits sizes book (counts_of sizes e book fits.1.1)) (ap (λ (l : List (List Token)). record (state_of e book) { work = fresh (kind_of c.in-Begin.kind) ∷ book.work; gathered = l }) (sym (bare_after e.input c.begin.new.self.input fits.1.1.uncalled.input i.same.calling i.same.aside (own_lists (kind_of c.in-Begin.kind)) i.lists))) i.same
+    (i.stands sizes book (fits.0, fits.1.1) tt (orderly_first sizes e (kind_of c.in-Begin.kind) book fits.0 fits.1.0 fits.1.1)))
 
 pub returns-in_ok-token_line-in-Line-clause-rule : goal.returns-in_ok-token_line-in-Line-clause-rule
 returns-in_ok-token_line-in-Line-clause-rule g c = let e = c.args.engine.now in

@@ -1,5 +1,6 @@
 use Rattle.std.proofs.Common.{◌++◌, sym, ap, ◌∙◌, refl, subst, rules}
-use Rattle.std.specs.Prelude.{Some, None, option_to_list}
+use Rattle.std.specs.Prelude.{Some, None}
+use Rattle.engine_state.specs.Stands.{waiting_list}
 use Rattle.plain_state.specs.Readings.{own_lists}
 use Rattle.frames.specs.declared.frame.Frame.{Frame}
 use Rattle.frames.specs.Sees.{kind_of}
@@ -16,14 +17,14 @@ returns-clause-same c = let e = c.args.self.now in
     same_lists e _ c.begin_list.new.self.input (own_lists (kind_of c.args.kind) ++ e.input.builds) (search rules) (ap (λ (x : Engine). x.input) c.in_ok-begin_list.ensures.ok) c.begin_list.ensures.macros (ap (λ (x : Engine). x.input) c.wait.ensures)
 
 pub returns-clause-stands : goal.returns-clause-stands
-returns-clause-stands c = λ sizes book h lone.
+returns-clause-stands c = λ sizes book h may orderly.
     let f = c.new.ensures in
     let a = c.first_ask-self.ensures in
     let list = c.in_ok-begin_list.ensures.ok in
-    begins_on sizes c.args.self.now _ c.args.waits c.new.result _ book (returns-clause-same c) h
-    (ap (λ (e : Engine). e.outer.items) c.wait.ensures ∙ ap (λ (e : Engine). e.outer.items ++ option_to_list c.args.waits) list) refl
+    begins_on sizes c.args.self.now _ c.args.waits c.new.result _ book (returns-clause-same c) may h
+    (ap (λ (e : Engine). e.outer.items) c.wait.ensures ∙ ap (λ (e : Engine). e.outer.items ++ waiting_list c.args.waits) list) refl
     (ap (λ (e : Engine). e.input.builds) c.wait.ensures ∙ ap (λ (e : Engine). e.input.builds) list)
-    (record { answer = a.answer; none = a.none; untold = a.untold; waits = subst (λ (x : Frame). InnerWaits c.first_ask-self.result x) (sym f.is) a.waits; stands = f.stands; list = f.list; kind = f.kind; builds = f.builds; shallow = f.shallow }) lone
+    (record { answer = a.answer; none = a.none; untold = a.untold; waits = subst (λ (x : Frame). InnerWaits c.first_ask-self.result x) (sym f.is) a.waits; stands = f.stands; list = f.list; kind = f.kind; builds = f.builds; shallow = f.shallow }) orderly
 
 pub returns-in_err-begin_list-clause-refused : goal.returns-in_err-begin_list-clause-refused
 returns-in_err-begin_list-clause-refused c = let e = c.args.self.now in let i = c.in_err-begin_list in

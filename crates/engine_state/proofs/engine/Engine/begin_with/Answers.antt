@@ -10,9 +10,9 @@ returns-clause-light c =
     with_light c.args.self.now c.begin.new.self c.feed_first.new.self c.args.kind b.one b.is_open b.top b.same.pending c.feed_first.ensures.light
 
 pub returns-clause-stands : goal.returns-clause-stands
-returns-clause-stands c = λ sizes book none orderly h.
+returns-clause-stands c = λ sizes book none plain orderly h.
     let b = c.in_ok-begin.ensures in
-    c.feed_first.ensures.stands sizes book (fresh (kind_of c.args.kind)) book.work none b.asks (b.stands sizes book h orderly)
+    c.feed_first.ensures.stands sizes book (fresh (kind_of c.args.kind)) book.work none b.asks (b.stands sizes book h plain orderly)
 
 pub returns-clause-same : goal.returns-clause-same
 returns-clause-same c = same_join c.args.self.now c.begin.new.self c.feed_first.new.self c.in_ok-begin.ensures.same c.feed_first.ensures.same

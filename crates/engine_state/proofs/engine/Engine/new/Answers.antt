@@ -64,8 +64,8 @@ returns c = let i = c.in_ok-input.ensures in let n = c.in-Ok.ensures in let o = 
           bodies = tt;
         };
         idle = making;
-        readings = (ap (λ (x : Stack). x.items) o, ap (λ (x : Stored). x.builds) i);
-        orderly = record { lone = tt; chained = tt };
+        readings = (ap (λ (x : Stack). x.items) o, (ap (λ (x : Stored). x.builds) i, ap (λ (x : Stored). x.aside) i));
+        orderly = record { rooted = tt; chained = tt };
         uncalled = record { none = refl; input = ap (λ (x : Stored). x.call) i };
       };
       state = λ file. first_at _ _ _ _ _ _ _ c.args.quiet file _ here c.initial_categories.ensures names others means (ap gathered i) making;

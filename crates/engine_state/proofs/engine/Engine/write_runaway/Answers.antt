@@ -1,4 +1,4 @@
-use Rattle.std.proofs.Common.{◌≡◌}
+use Rattle.std.proofs.Common.{◌≡◌, ◌++◌}
 use Rattle.plain_state.specs.Reports.{runaway_bytes}
 use Rattle.token_lists.specs.Ids.{build_id}
 use Rattle.transcript.specs.Initial.{names_of}
@@ -11,11 +11,11 @@ returns-in_err-write_runaway-clause-err g c =
     let e = c.args.self.now in let view = c.initial_view-view in
     let names : names_of view.result ≡ e.names.names = names_is view.result _ _ _ view.ensures.same_hash view.ensures.same_pool c.parts.ensures.names in
     err_out _ _ e c.write_runaway.new.in_line _ _ (shown_is (λ categories ns ts. runaway_bytes (scanned_of c.args.what) categories ns e.in_line ts) view.result e.categories e.names.names _ _ view.ensures.same_categories names
-    (list_is _ _ (build_id c.list.result.1.now) e.input.builds view.ensures.same_lists c.list.ensures.tokens)) c.from_residual.result c.in_err-write_runaway.field-0.0 c.from_residual.ensures.1 c.in_err-write_runaway.ensures.err
+    (list_is _ _ (build_id c.innermost_list.result.1.now) (e.input.builds ++ e.input.aside) view.ensures.same_lists c.innermost_list.ensures.tokens)) c.from_residual.result c.in_err-write_runaway.field-0.0 c.from_residual.ensures.1 c.in_err-write_runaway.ensures.err
 
 pub returns-clause-did : goal.returns-clause-did
 returns-clause-did g c =
     let e = c.args.self.now in let view = c.initial_view-view in
     let names : names_of view.result ≡ e.names.names = names_is view.result _ _ _ view.ensures.same_hash view.ensures.same_pool c.parts.ensures.names in
     took_out _ _ e c.write_runaway.new.in_line _ _ (shown_is (λ categories ns ts. runaway_bytes (scanned_of c.args.what) categories ns e.in_line ts) view.result e.categories e.names.names _ _ view.ensures.same_categories names
-    (list_is _ _ (build_id c.list.result.1.now) e.input.builds view.ensures.same_lists c.list.ensures.tokens)) c.in_ok-write_runaway.ensures.ok
+    (list_is _ _ (build_id c.innermost_list.result.1.now) (e.input.builds ++ e.input.aside) view.ensures.same_lists c.innermost_list.ensures.tokens)) c.in_ok-write_runaway.ensures.ok

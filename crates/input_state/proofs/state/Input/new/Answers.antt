@@ -11,8 +11,8 @@ use Rattle.input_state.proofs.state.Input.new.Goals as goal
 
 -- no list is held, and no byte of the file has come
 first_is : (buffer : List ℕ) (sizes : Sizes) (size : ℕ) (held : Bool) →
-    stored_of (record { puts = []; making = None; call = NotCalling; builds = []; line = None; sizes = sizes; meanings = first_meanings is_known; hash_size = sizes.hash_size; lists = replicate sizes.main_memory_size [] }) buffer (record { rest = []; file = (if held then NotBegun else Closed); number = 0; buffer_size = size })
-    ≡ record { pending = unread (no_bytes held); making = None; call = NotCalling; builds = []; buffer = buffer; sizes = sizes; meanings = first_meanings is_known; hash_size = sizes.hash_size; lists = replicate sizes.main_memory_size [] }
+    stored_of (record { puts = []; making = None; call = NotCalling; builds = []; line = None; sizes = sizes; meanings = first_meanings is_known; hash_size = sizes.hash_size; lists = replicate sizes.main_memory_size [] }) buffer (record { rest = []; file = (if held then NotBegun else Closed); number = 0; buffer_size = size }) 0
+    ≡ record { pending = unread (no_bytes held); making = None; call = NotCalling; builds = []; aside = []; buffer = buffer; sizes = sizes; meanings = first_meanings is_known; hash_size = sizes.hash_size; lists = replicate sizes.main_memory_size [] }
 first_is buffer sizes size true = refl
 first_is buffer sizes size false = refl
 

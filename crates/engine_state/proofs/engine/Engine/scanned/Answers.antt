@@ -1,0 +1,5 @@
+use Rattle.engine_state.proofs.Checking.{use_scans}
+use Rattle.engine_state.proofs.engine.Engine.scanned.Goals as goal
+
+pub returns-in-Some-clause-some : goal.returns-in-Some-clause-some
+returns-in-Some-clause-some c = λ sizes book want t. use_scans sizes c.args.self.now c.in-Some.call want book c.in-Some.is t
