@@ -21,5 +21,6 @@ pub mod Putting
 pub mod Reporting
 pub mod Standing
 pub mod Stepping
+pub mod Stopping
 pub mod Storing
 pub mod TextPutting

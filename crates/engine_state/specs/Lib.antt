@@ -10,3 +10,4 @@ pub mod Near
 pub mod Rules
 pub mod Stands
 pub mod Steps
+pub mod Turns

@@ -78,6 +78,11 @@ abbrev pub IsHalted : Ruled → Type 0
 IsHalted (Halted o) = Unit {0}
 IsHalted r = ⊥
 
+-- the run has ended
+abbrev pub stops_run : Ruled → Bool
+stops_run (Halted o) = true
+stops_run r = false
+
 -- a rule that goes on has a step exactly where one comes next
 abbrev pub StepsIf : Ruled → Bool → Type 0
 StepsIf Step b = b ≡ true
@@ -98,6 +103,11 @@ IsSkipped n = ⊥
 abbrev pub IsOver : Next → Type 0
 IsOver (Over o) = Unit {0}
 IsOver n = ⊥
+
+-- the run has ended
+abbrev pub ends_run : Next → Bool
+ends_run (Over o) = true
+ends_run n = false
 
 -- it has a step exactly where one comes next
 abbrev pub NextStepsIf : Next → Bool → Type 0

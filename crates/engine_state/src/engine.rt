@@ -1,5 +1,5 @@
 // The engine: what it keeps of the machine's state.
-ghost use Rattle.std.specs.Prelude.{◌≡◌, List, [], ◌∷◌, IfOk, IfErr, OnOk, None, false};
+ghost use Rattle.std.specs.Prelude.{◌≡◌, List, [], ◌∷◌, IfOk, IfErr, OnOk, MatchResult, Some, None, false, true};
 ghost use Rattle.tex_defs.specs.Places.{Transcript, World};
 ghost use Rattle.tex_defs.specs.Sizes.{first_out_of_range};
 ghost use Rattle.tex_defs.specs.declared.Sizes.{Sizes};
@@ -13,12 +13,11 @@ ghost use Rattle.plain_state.specs.States.{Move, Kept, Written};
 ghost use Rattle.plain_machine.specs.Plan.{no_file};
 ghost use Rattle.plain_machine.specs.Does.{Did};
 ghost use Rattle.world_io.specs.Told.{FilesTold};
-ghost use Rattle.input_state.specs.Stored.{no_bytes};
 ghost use Rattle.engine_state.specs.Book.{Book};
 ghost use Rattle.engine_state.specs.Begins.{outcome_of};
 ghost use Rattle.engine_state.specs.Stands.{Stands, IsSized, IsSound, SameFrames, OnlyColumn, state_of};
 ghost use Rattle.engine_state.specs.Rules.{world_of, Cuts, Halts};
-ghost use Rattle.engine_state.specs.First.{Begins};
+ghost use Rattle.engine_state.specs.First.{Begins, IsUnread};
 ghost use Rattle.engine_state.specs.declared.outcome.Outcome.TheVariants as outcomes;
 
 use crate::broken::Broken;
@@ -54,6 +53,8 @@ pub struct Engine {
     pub reports: u32,
     /// Whether token lines are left out.
     pub quiet: bool,
+    /// Whether the last rule or run has answered with a stop: no step is taken behind it.
+    pub stopped: bool,
 }
 
 const INITIAL: [u8; 256] = [
@@ -79,15 +80,15 @@ fn initial_categories() -> [u8; 256]
 }
 
 impl Engine {
-    /// An engine at the beginning of a job, whose file is held or not, and of which no byte has come.
+    /// An engine at the beginning of a job, of whose file no byte has come.
     ///
     /// # Errors
     /// There is no room for the tables. No other call takes memory.
-    pub fn new(alloc: Global, sizes: &Sizes, quiet: bool, held: bool) -> Result<Engine, AllocError>
+    pub fn new(alloc: Global, sizes: &Sizes, quiet: bool) -> Result<Engine, AllocError>
         requires { first_out_of_range sizes.now ≡ None }
-        ensures { IfOk result (λ e. Begins sizes.now e quiet (no_bytes held)) }
+        ensures { IfOk result (λ e. Begins sizes.now e quiet (Some [])) }
     {
-        let input = Input::new(alloc, sizes, held)?;
+        let input = Input::new(alloc, sizes, true)?;
         let names = match NameTable::new(alloc, sizes) {
             Ok(names) => names,
             Err(e) => {
@@ -114,7 +115,16 @@ impl Engine {
             in_line: false,
             reports: 0,
             quiet,
+            stopped: false,
         })
+    }
+
+    /// The job's file isn't held.
+    pub fn drop_file(&mut self)
+        requires { IsUnread self.old }
+        ensures { (sizes : Sizes) (quiet : _) → Begins sizes self.old quiet (Some []) → Begins sizes self.new quiet None }
+    {
+        self.input.drop_file();
     }
 
     /// Lets all lists go, and with them the engine.
@@ -131,6 +141,7 @@ impl Engine {
             in_line: _,
             reports: _,
             quiet: _,
+            stopped: _,
         } = self;
         input.close();
     }
@@ -149,6 +160,13 @@ impl Engine {
         self.reports
     }
 
+    /// Whether the engine has answered with a stop, or with the end of its run: then it takes no further step.
+    pub fn stopped(&self) -> bool
+        ensures { result ≡ self.now.stopped }
+    {
+        self.stopped
+    }
+
     /// The words of main memory that are used.
     pub fn words(&self) -> u32
         ensures { (sizes : Sizes) (book : Book) → IsSound sizes self.now book.number book.macros → result ≡ words (state_of self.now book) }
@@ -164,13 +182,32 @@ impl Engine {
         ensures frames { SameFrames self.old self.new }
         ensures column { self.new.in_line ≡ self.old.in_line }
         ensures input { self.new.input ≡ self.old.input }
+        ensures stopped { MatchResult result (λ _. self.new.stopped ≡ self.old.stopped) (λ _. self.new.stopped ≡ true) }
     {
-        self.names.keep(name)?;
+        if let Err(full) = self.names.keep(name) {
+            self.stopped = true;
+            return Err(Broken::Full(full));
+        }
         Ok(())
     }
 
     /// The report that a job's file isn't held, and what comes behind it.
     pub fn refuse_job<S: Sink>(&mut self, out: &mut S, file: &[u8]) -> Result<Outcome, Broken>
+        ensures run { IfOk result (λ o. (sizes : Sizes) (f : FilesTold) (book : Book) → self.old.in_line ≡ false → self.old.names.names ≡ primitive_names →
+            Halts sizes (state_of self.old book) self.new book (world_of f (S.told out.old) self.old) (world_of f (S.told out.new) self.new) (no_file file.now) (outcome_of o) 0) }
+        ensures err { IfErr result (λ b. (sizes : Sizes) (f : FilesTold) (book : Book) → self.old.in_line ≡ false → self.old.names.names ≡ primitive_names → self.old.reports ≡ 0 →
+            Cuts sizes (state_of self.old book) self.new book (world_of f (S.told out.old) self.old) (world_of f (S.told out.new) self.new) (no_file file.now) b) }
+        ensures frames { SameFrames self.old self.new }
+        ensures no_file { IfOk result (λ o. o ≡ outcomes.Fatal fatal.NoFile) }
+        ensures stopped { self.new.stopped ≡ true }
+    {
+        let refused = self.write_refusal(out, file);
+        self.stopped = true;
+        refused
+    }
+
+    /// Writes and counts the report that a job's file isn't held, and writes what comes behind it.
+    fn write_refusal<S: Sink>(&mut self, out: &mut S, file: &[u8]) -> Result<Outcome, Broken>
         ensures run { IfOk result (λ o. (sizes : Sizes) (f : FilesTold) (book : Book) → self.old.in_line ≡ false → self.old.names.names ≡ primitive_names →
             Halts sizes (state_of self.old book) self.new book (world_of f (S.told out.old) self.old) (world_of f (S.told out.new) self.new) (no_file file.now) (outcome_of o) 0) }
         ensures err { IfErr result (λ b. (sizes : Sizes) (f : FilesTold) (book : Book) → self.old.in_line ≡ false → self.old.names.names ≡ primitive_names → self.old.reports ≡ 0 →

@@ -1,5 +1,5 @@
 // The next token.
-ghost use Rattle.std.specs.Prelude.{◌≡◌, ◌<◌, IfOk, IfErr, OnOk, OnErr, Option, None};
+ghost use Rattle.std.specs.Prelude.{◌≡◌, ◌<◌, IfOk, IfErr, OnOk, OnErr, MatchResult, Option, None, false, true};
 ghost use Rattle.tex_defs.specs.declared.Sizes.{Sizes};
 ghost use Rattle.plain_state.specs.Pending.{pulled};
 ghost use Rattle.plain_state.specs.Lex.{Lexeme};
@@ -10,8 +10,9 @@ ghost use Rattle.engine_state.specs.Book.{Book};
 ghost use Rattle.engine_state.specs.Near.{CutsIn};
 ghost use Rattle.engine_state.specs.Entering.{with_names, EntryFits, EntryRefused};
 ghost use Rattle.engine_state.specs.Stands.{IsSized, SameFrames, state_of, page_of};
-ghost use Rattle.engine_state.specs.Rules.{world_of, onward_of, enters_of, name_moves, scanning_of, Takes, Meets, Nexts, SameReadings, next_moves};
-ghost use Rattle.engine_state.specs.Steps.{weight, IsSkipped, IsOver, NextStepsIf, next_met, next_free};
+ghost use Rattle.engine_state.specs.Rules.{world_of, onward_of, enters_of, name_moves, scanning_of, Takes, Meets, SameReadings};
+ghost use Rattle.engine_state.specs.Turns.{ReadsNext, CutsNext};
+ghost use Rattle.engine_state.specs.Steps.{weight, IsSkipped, IsOver, NextStepsIf, ends_run, next_met, next_free};
 ghost use Rattle.frames.specs.declared.scan.Want.{Want as ScanWant};
 
 use crate::broken::Broken;
@@ -71,12 +72,28 @@ impl Engine {
     /// There is no room for what comes, or a write failed: the engine stands for the moment before.
     pub fn next_token<S: Sink>(&mut self, out: &mut S, enters: bool) -> Result<Next, Broken>
         requires idle { self.old.input.making ≡ None }
+        requires running { self.old.stopped ≡ false }
         ensures light { IfOk result (λ next. IsSkipped next → weight self.new < weight self.old) }
         ensures step { IfOk result (λ next. NextStepsIf next (gives_step (pulled self.old.categories self.old.input.pending))) }
-        ensures rule { IfOk result (λ next. (sizes : Sizes) (f : FilesTold) (book : Book) (want : Option ScanWant) → enters ≡ enters_of want → Takes sizes want self.old book →
-            Nexts sizes want (state_of self.old book) self.new book (world_of f (S.told out.old) self.old) (world_of f (S.told out.new) self.new) (next_moves want self.old book) next) }
-        ensures err { IfErr result (λ b. (sizes : Sizes) (f : FilesTold) (book : Book) (want : Option ScanWant) → enters ≡ enters_of want → Takes sizes want self.old book →
-            CutsIn sizes (state_of self.old book) self.new (world_of f (S.told out.old) self.old) (world_of f (S.told out.new) self.new) (next_moves want self.old book) b) }
+        ensures rule { IfOk result (λ next. ReadsNext enters self.old self.new (S.told out.old) (S.told out.new) next) }
+        ensures err { IfErr result (λ b. CutsNext enters self.old self.new (S.told out.old) (S.told out.new) b) }
+        ensures halts { IfOk result (λ next. IsOver next → SameFrames self.old self.new) }
+        ensures readings { SameReadings self.old self.new }
+        ensures idle { OnOk result (self.new.input.making ≡ None) }
+        ensures stopped { MatchResult result (λ next. self.new.stopped ≡ ends_run next) (λ _. self.new.stopped ≡ true) }
+    {
+        let next = self.next_reading(out, enters);
+        self.stopped = has_stopped(&next);
+        next
+    }
+
+    /// The next token or line; no stop is noted.
+    fn next_reading<S: Sink>(&mut self, out: &mut S, enters: bool) -> Result<Next, Broken>
+        requires idle { self.old.input.making ≡ None }
+        ensures light { IfOk result (λ next. IsSkipped next → weight self.new < weight self.old) }
+        ensures step { IfOk result (λ next. NextStepsIf next (gives_step (pulled self.old.categories self.old.input.pending))) }
+        ensures rule { IfOk result (λ next. ReadsNext enters self.old self.new (S.told out.old) (S.told out.new) next) }
+        ensures err { IfErr result (λ b. CutsNext enters self.old self.new (S.told out.old) (S.told out.new) b) }
         ensures halts { IfOk result (λ next. IsOver next → SameFrames self.old self.new) }
         ensures readings { SameReadings self.old self.new }
         ensures idle { OnOk result (self.new.input.making ≡ None) }
@@ -105,6 +122,13 @@ impl Engine {
             }
         }
     }
+}
+
+/// Whether the run has stopped, by what the next reading came to.
+fn has_stopped(next: &Result<Next, Broken>) -> bool
+    ensures { MatchResult next.now (λ next. result ≡ ends_run next) (λ _. result ≡ true) }
+{
+    matches!(next, Ok(Next::Over(_)) | Err(_))
 }
 
 /// A token that was met, or that a check ended the run.

@@ -1,7 +1,9 @@
 // What the engine comes to.
-ghost use Rattle.std.specs.Prelude.{◌≡◌};
+ghost use Rattle.std.specs.Prelude.{◌≡◌, MatchResult, true};
 ghost use Rattle.engine_state.specs.Begins.{outcome_of_last};
+ghost use Rattle.engine_state.specs.Steps.{stops_run};
 
+use crate::broken::Broken;
 use tex_defs::{Fatal, Seen};
 
 /// How the machine stops.
@@ -38,6 +40,13 @@ pub enum Ruled {
     Step,
     Free,
     Halted(Outcome),
+}
+
+/// Whether the run has stopped, by what a rule came to.
+pub fn stops(ruled: &Result<Ruled, Broken>) -> bool
+    ensures { MatchResult ruled.now (λ ruled. result ≡ stops_run ruled) (λ _. result ≡ true) }
+{
+    matches!(ruled, Ok(Ruled::Halted(_)) | Err(_))
 }
 
 /// What the next reading comes to.

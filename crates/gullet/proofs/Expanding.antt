@@ -1,6 +1,6 @@
 -- One step of expansion.
 use Rattle.std.proofs.Common.{◌≡◌, List, [], ◌∷◌, ◌++◌, refl, sym, ap, append_assoc, subst, ◌∙◌, arith}
-use Rattle.std.specs.Prelude.{Option, None}
+use Rattle.std.specs.Prelude.{Bool, Option, None}
 use Rattle.tex_defs.specs.declared.Seen.{Seen}
 use Rattle.tex_defs.specs.declared.Sizes.{Sizes}
 use Rattle.tex_defs.specs.Places.{World}
@@ -21,6 +21,7 @@ use Rattle.world_io.specs.Told.{FilesTold, SinkTold}
 use Rattle.engine_state.specs.Rules.{world_of, Went, onward_of, Takes, Comes, SameReadings, DoesOnward}
 use Rattle.engine_state.proofs.Joining.{quiet_wrote}
 use Rattle.engine_state.proofs.Coming.{comes_went, comes_halts}
+use Rattle.engine_state.proofs.Stopping.{noted, noted_went, noted_halts, noted_comes}
 use Rattle.gullet.specs.declared.expansion.Stepped.{Stepped}
 use Rattle.gullet.specs.declared.expansion.Stepped.TheVariants.{More, Skipped, Unexpandable, Over}
 use Rattle.gullet.specs.Stepping.{Expands, Steps, Stays, stepped_by}
@@ -71,6 +72,13 @@ module _ (sizes : Sizes) (want : Option ScanWant) (s : State) (e1 e2 : Engine) (
   steps_on Skipped h = absurd h
   steps_on (Unexpandable y) h = (comes_on y h.0, h.1)
   steps_on (Over o) h = comes_halts sizes want s e1 e2 book w v w' moves x 1 c (outcome_of o) 0 none h
+
+-- whether the run has stopped is noted
+pub noted_steps : (b : Bool) (sizes : Sizes) (want : Option ScanWant) (s : State) (e : Engine) (book : Book) (w w' : World) (moves : List Move) (n : Stepped) → Steps sizes want s e book w w' moves n → Steps sizes want s (noted b e) book w w' moves n
+noted_steps b sizes want s e book w w' moves More h = noted_went b sizes s e w w' moves 1 h
+noted_steps b sizes want s e book w w' moves Skipped h = noted_went b sizes s e w w' moves 0 h
+noted_steps b sizes want s e book w w' moves (Unexpandable x) h = (noted_comes b sizes s e w w' moves want book x 1 h.0, h.1)
+noted_steps b sizes want s e book w w' moves (Over o) h = noted_halts b sizes s e w w' moves book (outcome_of o) 1 h
 
 -- THE OPEN READINGS
 

@@ -75,6 +75,11 @@ abbrev pub IsOver : Stepped → Type 0
 IsOver (Over o) = Unit {0}
 IsOver n = ⊥
 
+-- the run has ended
+abbrev pub ends_run : Stepped → Bool
+ends_run (Over o) = true
+ends_run n = false
+
 -- it has a step exactly where one comes next
 abbrev pub StepStepsIf : Stepped → Bool → Type 0
 StepStepsIf More b = b ≡ true

@@ -1,6 +1,6 @@
 // A token is expanded where it can be.
 // *The TeXbook*, chapter 20; *TeX: The Program*, part 25 (`get_x_token`, `expand`).
-ghost use Rattle.std.specs.Prelude.{◌≡◌, ◌<◌, IfOk, IfErr, OnOk, List, None};
+ghost use Rattle.std.specs.Prelude.{◌≡◌, ◌<◌, IfOk, IfErr, OnOk, MatchResult, List, None, false, true};
 ghost use Rattle.tex_defs.specs.declared.Sizes.{Sizes};
 ghost use Rattle.plain_state.specs.Pending.{pulled};
 ghost use Rattle.plain_state.specs.States.{Reading};
@@ -12,7 +12,7 @@ ghost use Rattle.engine_state.specs.Near.{CutsIn};
 ghost use Rattle.engine_state.specs.Stands.{SameFrames, state_of, page_of};
 ghost use Rattle.engine_state.specs.Rules.{world_of, onward_of, enters_of, Takes, SameReadings, next_moves};
 ghost use Rattle.engine_state.specs.Steps.{weight};
-ghost use Rattle.gullet.specs.Stepping.{IsBare, ExpandsTo, Expands, Steps, StepStepsIf, IsSkipped, IsKept, IsOver, stepped_by};
+ghost use Rattle.gullet.specs.Stepping.{IsBare, ExpandsTo, Expands, Steps, StepStepsIf, IsSkipped, IsKept, IsOver, ends_run, stepped_by};
 
 use crate::call_name::call_name;
 use engine_state::{Broken, Engine, Next, Outcome, Ruled};
@@ -115,6 +115,13 @@ fn more(ruled: Ruled) -> Stepped
     }
 }
 
+/// Whether the run has stopped, by what a step came to.
+fn stops(stepped: &Result<Stepped, Broken>) -> bool
+    ensures { MatchResult stepped.now (λ stepped. result ≡ ends_run stepped) (λ _. result ≡ true) }
+{
+    matches!(stepped, Ok(Stepped::Over(_)) | Err(_))
+}
+
 /// Reads the next token, and expands it if it can be expanded: at most one step. No call gathers its arguments.
 ///
 /// # Errors
@@ -126,6 +133,7 @@ pub fn step<S: Sink>(
 ) -> Result<Stepped, Broken>
     requires idle { engine.old.input.making ≡ None }
     requires uncalled { engine.old.call ≡ None }
+    requires running { engine.old.stopped ≡ false }
     ensures light { IfOk result (λ stepped. IsSkipped stepped → weight engine.new < weight engine.old) }
     ensures step { IfOk result (λ stepped. StepStepsIf stepped (gives_step (pulled engine.old.categories engine.old.input.pending))) }
     ensures rule { IfOk result (λ stepped. (sizes : Sizes) (f : FilesTold) (book : Book) → Takes sizes want engine.old book →
@@ -135,9 +143,14 @@ pub fn step<S: Sink>(
     ensures halts { IfOk result (λ stepped. IsOver stepped → SameReadings engine.old engine.new) }
     ensures stays { IfOk result (λ stepped. IsKept stepped → SameReadings engine.old engine.new) }
     ensures idle { OnOk result (engine.new.input.making ≡ None) }
+    ensures stopped { MatchResult result (λ stepped. engine.new.stopped ≡ ends_run stepped) (λ _. engine.new.stopped ≡ true) }
 {
     match engine.next_token(out, enters_names(want))? {
-        Next::Token(seen) => expand(engine, out, want, seen),
+        Next::Token(seen) => {
+            let stepped = expand(engine, out, want, seen);
+            engine.stopped = stops(&stepped);
+            stepped
+        }
         Next::Line => Ok(Stepped::More),
         Next::Skipped => Ok(Stepped::Skipped),
         Next::Over(outcome) => Ok(Stepped::Over(outcome)),

@@ -1,5 +1,5 @@
 // A call that gathers its arguments.
-ghost use Rattle.std.specs.Prelude.{◌≡◌, ◌++◌, ◌∷◌, ◌<◌, [], List, None, Some, IfOk, IfErr, OnOk, OnErr};
+ghost use Rattle.std.specs.Prelude.{◌≡◌, ◌++◌, ◌∷◌, ◌<◌, [], List, None, Some, IfOk, IfErr, OnOk, OnErr, MatchResult, false, true};
 ghost use Rattle.tex_defs.specs.declared.Sizes.{Sizes};
 ghost use Rattle.plain_state.specs.Readings.{par_token};
 ghost use Rattle.plain_state.specs.Reports.{ParagraphEnded, ExtraBrace};
@@ -17,16 +17,17 @@ ghost use Rattle.engine_state.specs.Book.{Book, with_work};
 ghost use Rattle.engine_state.specs.Calls.{AllStand, argument_bytes, brace_call, open_call, call_away_moves};
 ghost use Rattle.engine_state.specs.Near.{CutsIn};
 ghost use Rattle.engine_state.specs.Stands.{SameFrames, state_of, page_of};
-ghost use Rattle.engine_state.specs.Rules.{world_of, plan_of, next_moves, Takes, Cuts, DoesRule};
+ghost use Rattle.engine_state.specs.Rules.{world_of, next_moves, Takes, Cuts, DoesRule};
 ghost use Rattle.engine_state.specs.declared.call.CallAsk.TheVariants.{More as AsksMore};
 ghost use Rattle.input_state.specs.Reads.{gives_step};
 ghost use Rattle.plain_state.specs.Pending.{pulled};
-ghost use Rattle.engine_state.specs.Steps.{stepping, IsStep, IsFree, IsHalted, StepsIf, weight};
+ghost use Rattle.engine_state.specs.Steps.{stepping, stops_run, IsStep, IsFree, IsHalted, StepsIf, weight};
+ghost use Rattle.engine_state.specs.Turns.{DoesPlan, CutsPlan};
 ghost use Rattle.engine_state.specs.declared.call.Call.{Call};
 ghost use Rattle.frames.specs.declared.scan.Want.TheVariants.{Raw};
 
 use crate::feeding::feed_call;
-use engine_state::{Broken, Call, CallAsk, Engine, Next, Outcome, PAR, Ruled};
+use engine_state::{Broken, Call, CallAsk, Engine, Next, Outcome, PAR, Ruled, stops};
 use tex_defs::{Fatal, Full, Name, Seen};
 use transcript::Report;
 use world_io::Sink;
@@ -37,13 +38,30 @@ use world_io::Sink;
 /// There is no room for what comes, or a write failed: the engine stands for the moment before.
 pub fn gather<S: Sink>(engine: &mut Engine, out: &mut S, call: Call) -> Result<Ruled, Broken>
     requires idle { engine.old.input.making ≡ None }
+    requires running { engine.old.stopped ≡ false }
     requires call { engine.old.call ≡ Some call }
     ensures light { IfOk result (λ ruled. IsFree ruled → weight engine.new < weight engine.old) }
     ensures step { IfOk result (λ ruled. StepsIf ruled (stepping engine.old)) }
-    ensures rule { IfOk result (λ ruled. (sizes : Sizes) (f : FilesTold) (book : Book) → AllStand sizes engine.old book →
-        DoesRule sizes (state_of engine.old book) engine.new book (world_of f (S.told out.old) engine.old) (world_of f (S.told out.new) engine.new) (plan_of engine.old book) ruled) }
-    ensures err { IfErr result (λ b. (sizes : Sizes) (f : FilesTold) (book : Book) → AllStand sizes engine.old book →
-        CutsIn sizes (state_of engine.old book) engine.new (world_of f (S.told out.old) engine.old) (world_of f (S.told out.new) engine.new) (plan_of engine.old book) b) }
+    ensures rule { IfOk result (λ ruled. DoesPlan engine.old engine.new (S.told out.old) (S.told out.new) ruled) }
+    ensures err { IfErr result (λ b. CutsPlan engine.old engine.new (S.told out.old) (S.told out.new) b) }
+    ensures halts { IfOk result (λ ruled. IsHalted ruled → SameFrames engine.old engine.new) }
+    ensures idle { OnOk result (engine.new.input.making ≡ None) }
+    ensures stopped { MatchResult result (λ ruled. engine.new.stopped ≡ stops_run ruled) (λ _. engine.new.stopped ≡ true) }
+{
+    let ruled = call_rule(engine, out, call);
+    engine.stopped = stops(&ruled);
+    ruled
+}
+
+/// The rule of the call; no stop is noted.
+fn call_rule<S: Sink>(engine: &mut Engine, out: &mut S, call: Call) -> Result<Ruled, Broken>
+    requires idle { engine.old.input.making ≡ None }
+    requires running { engine.old.stopped ≡ false }
+    requires call { engine.old.call ≡ Some call }
+    ensures light { IfOk result (λ ruled. IsFree ruled → weight engine.new < weight engine.old) }
+    ensures step { IfOk result (λ ruled. StepsIf ruled (stepping engine.old)) }
+    ensures rule { IfOk result (λ ruled. DoesPlan engine.old engine.new (S.told out.old) (S.told out.new) ruled) }
+    ensures err { IfErr result (λ b. CutsPlan engine.old engine.new (S.told out.old) (S.told out.new) b) }
     ensures halts { IfOk result (λ ruled. IsHalted ruled → SameFrames engine.old engine.new) }
     ensures idle { OnOk result (engine.new.input.making ≡ None) }
 {
@@ -68,6 +86,7 @@ pub fn gather<S: Sink>(engine: &mut Engine, out: &mut S, call: Call) -> Result<R
 /// The call takes the next token.
 fn take<S: Sink>(engine: &mut Engine, out: &mut S, call: Call) -> Result<Ruled, Broken>
     requires idle { engine.old.input.making ≡ None }
+    requires running { engine.old.stopped ≡ false }
     requires call { engine.old.call ≡ Some call }
     requires asks { call.ask ≡ AsksMore }
     ensures light { IfOk result (λ ruled. IsFree ruled → weight engine.new < weight engine.old) }

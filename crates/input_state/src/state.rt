@@ -145,6 +145,14 @@ impl Input {
         })
     }
 
+    /// The job's file isn't held: none of its bytes has come, and none will.
+    pub fn drop_file(&mut self)
+        requires { self.old.pending ≡ unread (Some []) }
+        ensures { self.new ≡ record self.old { pending = unread None } }
+    {
+        self.file.close();
+    }
+
     /// The bytes of the line buffer.
     pub fn buffer(&self) -> &[u8]
         ensures { result.now ≡ self.now.buffer }

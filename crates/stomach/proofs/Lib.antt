@@ -9,4 +9,5 @@ pub mod Reading
 pub mod Rounds
 pub mod Making
 pub mod Running
+pub mod Stopping
 pub mod Unread

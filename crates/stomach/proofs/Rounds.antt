@@ -25,7 +25,7 @@ use Rattle.stomach.specs.declared.early.Early.TheVariants as early
 use Rattle.stomach.specs.declared.runs.Ended.{Ended}
 use Rattle.stomach.specs.declared.runs.Ended.TheVariants as ended
 use Rattle.stomach.specs.Ahead.{IsGiven, Knows, IsAtFile}
-use Rattle.stomach.specs.Ran.{Came, Stops, Settles, Ran, StoppedBy, whole_state}
+use Rattle.stomach.specs.Ran.{Came, Stops, Settles, Ran, StoppedBy, RanTo, StoppedTo, whole_state}
 use Rattle.stomach.specs.Read.{MayLeave, ReadsTo}
 use Rattle.stomach.proofs.CallSteps.{stepping_needs}
 use Rattle.stomach.proofs.Giving.{came_given, is_known, is_ready, unread}
@@ -46,16 +46,6 @@ StopsTo e s e' s' k o all left =
 abbrev pub SettlesTo : Engine → SinkTold → Engine → SinkTold → Option Outcome → (all left : List ℕ) → Type 0
 SettlesTo e s e' s' o all left =
     (sizes : Sizes) (f : FilesTold) (book : Book) → AllStand sizes e book → Settles sizes (whole_state all e book) e' left (world_of f s e) (world_of f s' e') o
-
--- the whole run of at most n steps
-abbrev pub RanTo : Engine → SinkTold → Engine → SinkTold → ℕ → Ended → (all left : List ℕ) → Type 0
-RanTo e s e' s' n ended all left =
-    (sizes : Sizes) (f : FilesTold) (book : Book) → AllStand sizes e book → Ran sizes (whole_state all e book) n e' left (world_of f s e) (world_of f s' e') ended
-
--- it stopped early, within n steps
-abbrev pub StoppedTo : Engine → SinkTold → Engine → SinkTold → ℕ → Early → (all left : List ℕ) → Type 0
-StoppedTo e s e' s' n x all left =
-    (sizes : Sizes) (f : FilesTold) (book : Book) → AllStand sizes e book → StoppedBy sizes (whole_state all e book) n e' left (world_of f s e) (world_of f s' e') x
 
 -- an error that `?` hands on
 pub match_err : {T E : Type 0} → (r : Result T E) (x : E) (P : T → Type 0) (Q : E → Type 0) → IsErrAnd r (λ e. e ≡ x) → Q x → MatchResult r P Q
@@ -85,6 +75,9 @@ module _ (all left : List ℕ) (e e' : Engine) (is : IsGiven all left e e') wher
 
   pub idle_given : e.input.making ≡ None → e'.input.making ≡ None
   idle_given h = ap (λ (x : Engine). x.input.making) is.after ∙ h
+
+  pub running_given : e.stopped ≡ false → e'.stopped ≡ false
+  running_given h = ap (λ (x : Engine). x.stopped) is.after ∙ h
 
   pub weight_given : weight e' ≡ weight e
   weight_given = ap weight is.after

@@ -2,6 +2,7 @@
 use Rattle.std.specs.Prelude.{◌≡◌, ℕ, ◌≤◌, List, Option, Some, None}
 use Rattle.tex_defs.specs.Places.{World}
 use Rattle.tex_defs.specs.declared.Sizes.{Sizes}
+use Rattle.world_io.specs.Told.{FilesTold, SinkTold}
 use Rattle.plain_state.specs.States.{State, Move}
 use Rattle.plain_machine.specs.Plan.{Ends, next}
 use Rattle.plain_machine.specs.Runs.{Wrote, steps}
@@ -21,7 +22,7 @@ use Rattle.engine_state.specs.Book.{Book}
 use Rattle.engine_state.specs.Calls.{AllStand, FramesOf}
 use Rattle.engine_state.specs.Near.{FramesNear}
 use Rattle.engine_state.specs.Stands.{state_of}
-use Rattle.engine_state.specs.Rules.{CountsReports, IsMoment}
+use Rattle.engine_state.specs.Rules.{world_of, CountsReports, IsMoment}
 
 -- the machine's state that an engine stands for, whose file goes on with these bytes
 abbrev pub whole_state : List ℕ → Engine → Book → State
@@ -101,3 +102,13 @@ pub record UnreadBy (sizes : Sizes) (s : State) (n : ℕ) (e' : Engine) (left : 
 abbrev pub StoppedBy : Sizes → State → ℕ → Engine → List ℕ → World → World → Early → Type 0
 StoppedBy sizes s n e' left w w' (early.Broken b) = CutBy sizes s n e' left w w' b
 StoppedBy sizes s n e' left w w' (early.Unread fault) = UnreadBy sizes s n e' left w w'
+
+-- The whole run of at most n steps, over any files and whatever the engine stands for.
+abbrev pub RanTo : Engine → SinkTold → Engine → SinkTold → ℕ → Ended → (all left : List ℕ) → Type 0
+RanTo e s e' s' n ended all left =
+    (sizes : Sizes) (f : FilesTold) (book : Book) → AllStand sizes e book → Ran sizes (whole_state all e book) n e' left (world_of f s e) (world_of f s' e') ended
+
+-- It stopped early, within n steps.
+abbrev pub StoppedTo : Engine → SinkTold → Engine → SinkTold → ℕ → Early → (all left : List ℕ) → Type 0
+StoppedTo e s e' s' n x all left =
+    (sizes : Sizes) (f : FilesTold) (book : Book) → AllStand sizes e book → StoppedBy sizes (whole_state all e book) n e' left (world_of f s e) (world_of f s' e') x

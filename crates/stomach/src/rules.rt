@@ -1,5 +1,5 @@
 // The rules: what becomes of tokens, and of what the readings ask for.
-ghost use Rattle.std.specs.Prelude.{◌≡◌, ◌<◌, ◌+◌, ◌*◌, List, [], ◌∷◌, ◌++◌, IfOk, IfErr, OnOk, OnErr, Some, None, true, false, is_some};
+ghost use Rattle.std.specs.Prelude.{◌≡◌, ◌<◌, ◌+◌, ◌*◌, List, [], ◌∷◌, ◌++◌, IfOk, IfErr, OnOk, OnErr, MatchResult, Some, None, true, false, is_some};
 ghost use Rattle.tex_defs.specs.Places.{World};
 ghost use Rattle.tex_defs.specs.declared.Sizes.{Sizes};
 ghost use Rattle.plain_state.specs.Pending.{pulled};
@@ -19,7 +19,8 @@ ghost use Rattle.stomach.specs.Effects.{IsNoMacro, Defines};
 ghost use Rattle.engine_state.specs.Near.{CutsIn};
 ghost use Rattle.engine_state.specs.Stands.{Stands, Waits, EndsHere, Expanded, IsLast, Counts, SameFrames, state_of, page_of, frames};
 ghost use Rattle.engine_state.specs.Rules.{world_of, plan_of, feeds_of, onward_of, Takes, Cuts, Went, DoesRule, DoesOnward};
-ghost use Rattle.engine_state.specs.Steps.{stepping, IsStep, IsFree, IsHalted, StepsIf, pending_weight, frame_weight, weight};
+ghost use Rattle.engine_state.specs.Turns.{DoesPlan, CutsPlan};
+ghost use Rattle.engine_state.specs.Steps.{stepping, stops_run, IsStep, IsFree, IsHalted, StepsIf, pending_weight, frame_weight, weight};
 ghost use Rattle.stomach.specs.Reactions.{FitsOnward, onward_moves};
 ghost use Rattle.gullet.specs.Stepping.{Stays};
 ghost use Rattle.engine_state.specs.Rules.{SameReadings, next_moves};
@@ -27,7 +28,7 @@ ghost use Rattle.engine_state.specs.Rules.{SameReadings, next_moves};
 use crate::define::set_macro;
 use crate::reactions::{Onward, obey, react};
 use char_text::{Text, whole_number_length};
-use engine_state::{Broken, Engine, Last, Outcome, Ruled};
+use engine_state::{Broken, Engine, Last, Outcome, Ruled, stops};
 use frames::{Ask, Effect, Made, Value, Want};
 use gullet::{Stepped, gather, step};
 use tex_defs::{Fatal, Seen, Token};
@@ -189,6 +190,7 @@ fn token_rule<S: Sink>(
 ) -> Result<Ruled, Broken>
     requires idle { engine.old.input.making ≡ None }
     requires uncalled { engine.old.call ≡ None }
+    requires running { engine.old.stopped ≡ false }
     ensures light { IfOk result (λ ruled. IsFree ruled → weight engine.new < weight engine.old) }
     ensures step { IfOk result (λ ruled. StepsIf ruled (gives_step (pulled engine.old.categories engine.old.input.pending))) }
     ensures rule { IfOk result (λ ruled. (sizes : Sizes) (f : FilesTold) (book : Book) → Takes sizes want engine.old book →
@@ -239,6 +241,7 @@ fn tell<S: Sink>(
 fn frame_rule<S: Sink>(engine: &mut Engine, out: &mut S) -> Result<Ruled, Broken>
     requires idle { engine.old.input.making ≡ None }
     requires uncalled { engine.old.call ≡ None }
+    requires running { engine.old.stopped ≡ false }
     ensures light { IfOk result (λ ruled. IsFree ruled → weight engine.new < weight engine.old) }
     ensures step { IfOk result (λ ruled. StepsIf ruled (stepping engine.old)) }
     ensures rule { IfOk result (λ ruled. (sizes : Sizes) (f : FilesTold) (book : Book) → Stands sizes engine.old book →
@@ -280,17 +283,21 @@ fn frame_rule<S: Sink>(engine: &mut Engine, out: &mut S) -> Result<Ruled, Broken
 /// Does one rule of the machine, with at most one step.
 pub(crate) fn rule<S: Sink>(engine: &mut Engine, out: &mut S) -> Result<Ruled, Broken>
     requires idle { engine.old.input.making ≡ None }
+    requires running { engine.old.stopped ≡ false }
     ensures light { IfOk result (λ ruled. IsFree ruled → weight engine.new < weight engine.old) }
     ensures step { IfOk result (λ ruled. StepsIf ruled (stepping engine.old)) }
-    ensures rule { IfOk result (λ ruled. (sizes : Sizes) (f : FilesTold) (book : Book) → AllStand sizes engine.old book →
-        DoesRule sizes (state_of engine.old book) engine.new book (world_of f (S.told out.old) engine.old) (world_of f (S.told out.new) engine.new) (plan_of engine.old book) ruled) }
-    ensures err { IfErr result (λ b. (sizes : Sizes) (f : FilesTold) (book : Book) → AllStand sizes engine.old book →
-        CutsIn sizes (state_of engine.old book) engine.new (world_of f (S.told out.old) engine.old) (world_of f (S.told out.new) engine.new) (plan_of engine.old book) b) }
+    ensures rule { IfOk result (λ ruled. DoesPlan engine.old engine.new (S.told out.old) (S.told out.new) ruled) }
+    ensures err { IfErr result (λ b. CutsPlan engine.old engine.new (S.told out.old) (S.told out.new) b) }
     ensures halts { IfOk result (λ ruled. IsHalted ruled → SameReadings engine.old engine.new) }
     ensures idle { OnOk result (engine.new.input.making ≡ None) }
+    ensures stopped { MatchResult result (λ ruled. engine.new.stopped ≡ stops_run ruled) (λ _. engine.new.stopped ≡ true) }
 {
     match engine.call {
         Some(call) => gather(engine, out, call),
-        None => frame_rule(engine, out),
+        None => {
+            let ruled = frame_rule(engine, out);
+            engine.stopped = stops(&ruled);
+            ruled
+        }
     }
 }

@@ -1,5 +1,5 @@
 // Runs: rules, one after another.
-ghost use Rattle.std.specs.Prelude.{◌≡◌, ℕ, List, IfOk, IfErr, OnOk, MatchResult, None, true};
+ghost use Rattle.std.specs.Prelude.{◌≡◌, ℕ, List, IfOk, IfErr, OnOk, MatchResult, None, true, false};
 ghost use Rattle.tex_defs.specs.Places.{Rose};
 ghost use Rattle.tex_defs.specs.declared.Sizes.{Sizes};
 ghost use Rattle.world_io.specs.Told.{FilesTold};
@@ -11,7 +11,7 @@ ghost use Rattle.engine_state.specs.Steps.{stepping};
 ghost use Rattle.stomach.specs.declared.early.Early.TheVariants as early;
 ghost use Rattle.stomach.specs.Ahead.{Knows, Wanted};
 ghost use Rattle.stomach.specs.Read.{ReadsTo};
-ghost use Rattle.stomach.specs.Ran.{Ran, Settles, StoppedBy, whole_state};
+ghost use Rattle.stomach.specs.Ran.{Settles, StoppedBy, RanTo, StoppedTo, whole_state};
 
 use crate::ahead::{read_ahead, wants_token};
 use crate::early::Early;
@@ -42,8 +42,10 @@ fn settle<F: Files, S: Sink>(
     out: &mut S,
 ) -> Result<Option<Outcome>, Early>
     requires idle { engine.old.input.making ≡ None }
+    requires running { engine.old.stopped ≡ false }
     requires is_open { (F.told files.old).reading reader.old.id ≡ true }
     ensures waits { IfOk result (λ o. o ≡ None → stepping engine.new ≡ true) }
+    ensures runs { IfOk result (λ o. o ≡ None → engine.new.stopped ≡ false) }
     ensures knows { IfOk result (λ o. o ≡ None → Knows engine.new reader.new) }
     ensures run { ReadsTo reader.old reader.new (F.told files.old) (F.told files.new) (λ all left. MatchResult result
         (λ o. (sizes : Sizes) (f : FilesTold) (book : Book) → AllStand sizes engine.old book →
@@ -81,14 +83,37 @@ pub fn run_steps<F: Files, S: Sink>(
     n: u64,
 ) -> Result<Ended, Early>
     requires idle { engine.old.input.making ≡ None }
+    requires running { engine.old.stopped ≡ false }
     requires is_open { (F.told files.old).reading reader.old.id ≡ true }
     // Whatever the file has left when the call ends: the machine's run from where all the bytes that it had left stand
     // in the file is this one.
     ensures run { ReadsTo reader.old reader.new (F.told files.old) (F.told files.new) (λ all left. MatchResult result
-        (λ ended. (sizes : Sizes) (f : FilesTold) (book : Book) → AllStand sizes engine.old book →
-        Ran sizes (whole_state all engine.old book) n engine.new left (world_of f (S.told out.old) engine.old) (world_of f (S.told out.new) engine.new) ended)
-        (λ e. (sizes : Sizes) (f : FilesTold) (book : Book) → AllStand sizes engine.old book →
-        StoppedBy sizes (whole_state all engine.old book) n engine.new left (world_of f (S.told out.old) engine.old) (world_of f (S.told out.new) engine.new) e)) }
+        (λ ended. RanTo engine.old (S.told out.old) engine.new (S.told out.new) n ended all left)
+        (λ e. StoppedTo engine.old (S.told out.old) engine.new (S.told out.new) n e all left)) }
+    ensures fault { IfErr result (λ e. e ≡ early.Unread Failed → Rose (F.told files.old).read_faults (F.told files.new).read_faults) }
+    ensures want { IfErr result (λ e. e ≡ early.Unread NoMemory → Wanted (F.told files.old).wants (F.told files.new).wants engine.new) }
+    ensures idle { OnOk result (engine.new.input.making ≡ None) }
+    ensures stopped { engine.new.stopped ≡ true }
+{
+    let ended = make_run(engine, reader, files, out, n);
+    engine.stopped = true;
+    ended
+}
+
+/// Goes on for at most n steps; that the run has stopped isn't noted.
+fn make_run<F: Files, S: Sink>(
+    engine: &mut Engine,
+    reader: &mut Reader,
+    files: &mut F,
+    out: &mut S,
+    n: u64,
+) -> Result<Ended, Early>
+    requires idle { engine.old.input.making ≡ None }
+    requires running { engine.old.stopped ≡ false }
+    requires is_open { (F.told files.old).reading reader.old.id ≡ true }
+    ensures run { ReadsTo reader.old reader.new (F.told files.old) (F.told files.new) (λ all left. MatchResult result
+        (λ ended. RanTo engine.old (S.told out.old) engine.new (S.told out.new) n ended all left)
+        (λ e. StoppedTo engine.old (S.told out.old) engine.new (S.told out.new) n e all left)) }
     ensures fault { IfErr result (λ e. e ≡ early.Unread Failed → Rose (F.told files.old).read_faults (F.told files.new).read_faults) }
     ensures want { IfErr result (λ e. e ≡ early.Unread NoMemory → Wanted (F.told files.old).wants (F.told files.new).wants engine.new) }
     ensures idle { OnOk result (engine.new.input.making ≡ None) }

@@ -124,10 +124,6 @@ module _ (sizes : Sizes) (s : State) (n : ℕ) (w m w' : World) (e' : Engine) (l
       let ran : Ran sizes s n e' left w m Steps = subst (λ (x : Ended). Ran sizes s n e' left w m x) is run in
       record { is = IsSteps; says = record { ms = ran.ms; t = ran.t; between = m; run = ran.run; written = ran.written; last = last } }
 
--- nothing is written before the line
-pub not_begun : (sizes : Sizes) (s : State) (n : ℕ) (w w' : World) → Line w w' no_memory_line → SaysSo sizes s n w w' 7
-not_begun sizes s n w w' last = record { is = IsNoMemory; says = inr (inr (record { between = w; written = wrote_none w; last = last })) }
-
 -- MOVES THAT ARE DUE FROM THE START
 
 did_due : (sizes : Sizes) (s s' : State) (w w' : World) (ms x : List Move) → Did sizes s s' w w' ms → Did sizes (record s { due = x }) (record s' { due = x }) w w' ms
@@ -400,13 +396,9 @@ module _ (id : ℕ) (name : List ℕ) (f f1 f2 f3 : FilesTold) (r r' : OpenReade
     wanted = λ h. omega (arith, h, wants, counts.wants);
   }
 
--- other bounds, the same
-pub says_by : (sizes sizes' : Sizes) (quiet quiet' : Bool) (n n' : ℕ) (name : List ℕ) (job : Option (List ℕ)) (w w' : World) (status : ℕ) → sizes' ≡ sizes → quiet' ≡ quiet → n' ≡ n →
-    SaysSo sizes' (First quiet' name job) n' w w' status → SaysSo sizes (First quiet name job) n w w' status
-says_by sizes sizes' quiet quiet' n n' name job w w' status a b c h =
-    subst (λ (x : Sizes). SaysSo x (First quiet name job) n w w' status) a
-    (subst (λ (x : Bool). SaysSo sizes' (First x name job) n w w' status) b
-    (subst (λ (x : ℕ). SaysSo sizes' (First quiet' name job) x w w' status) c h))
+-- other sizes, the same
+pub means_by : (sizes sizes' : Sizes) (quiet : Bool) (name : List ℕ) (file : File) (n : ℕ) (w w' : World) (status : ℕ) → sizes' ≡ sizes → MeansRun sizes' quiet name file n w w' status → MeansRun sizes quiet name file n w w' status
+means_by sizes sizes' quiet name file n w w' status is h = subst (λ (x : Sizes). MeansRun x quiet name file n w w' status) is h
 
 record SomeJob (f : File) : Type 0 where
   job : Option (List ℕ)

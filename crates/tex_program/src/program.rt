@@ -8,34 +8,27 @@ ghost use Rattle.command_words.specs.Words.{command_of, NoCommand, spelt};
 ghost use Rattle.plain_machine.specs.Meaning.{Means};
 ghost use Rattle.world_io.specs.Told.{world};
 
-use crate::run::{Bounds, refuse_file, run_file};
+use crate::run::run_file;
 use crate::tell::{Telling, tell};
 use command_words::{Job, Unread, read_words};
-use line_reader::Reader;
+use engine_state::Engine;
 use std::alloc::Global;
 use tex_defs::Sizes;
-use world_io::{Fault, Files, Sink};
+use world_io::{Files, Sink};
 
-/// How a job is run.
-fn bounds(job: &Job) -> Bounds
+/// The sizes of a job's tables.
+fn sizes(job: &Job) -> Sizes
     requires { is_in_range MainMemorySize job.now.main_memory_size ≡ true }
-    ensures sizes { result.sizes ≡ record default_sizes { main_memory_size = job.now.main_memory_size } }
-    ensures in_range { first_out_of_range result.sizes ≡ None }
-    ensures steps { result.steps ≡ job.now.steps }
-    ensures quiet { result.quiet ≡ job.now.quiet }
+    ensures sizes { result ≡ record default_sizes { main_memory_size = job.now.main_memory_size } }
+    ensures in_range { first_out_of_range result ≡ None }
 {
-    let sizes = Sizes {
+    Sizes {
         main_memory_size: job.main_memory_size,
         ..Sizes::DEFAULT
-    };
-    Bounds {
-        sizes,
-        steps: job.steps,
-        quiet: job.quiet,
     }
 }
 
-/// Runs the job of a file.
+/// Runs the job of a file: the engine is made before the file is opened.
 fn run_job<F: Files, S: Sink>(alloc: Global, job: &Job, files: &mut F, out: &mut S) -> u8
     requires { is_in_range MainMemorySize job.now.main_memory_size ≡ true }
     ensures meaning { (b : Bool) × Means (spelt job.now) (F.told files.old).file (world (F.told files.old) (S.told out.old) false) (world (F.told files.new) (S.told out.new) b) result }
@@ -43,24 +36,16 @@ fn run_job<F: Files, S: Sink>(alloc: Global, job: &Job, files: &mut F, out: &mut
     ensures write_fault { result ≡ 6 → Rose (S.told out.old).faults (S.told out.new).faults }
     ensures not_usage { result ≡ 9 → ⊥ }
 {
-    let name = job.file.as_slice();
-    match files.open_in(name) {
-        Ok(Some(id)) => {
-            let mut reader = Reader::new(id);
-            let told = run_file(alloc, &bounds(job), name, &mut reader, files, out);
-            files.close_in(id);
-            told.status
-        }
-        Ok(None) => refuse_file(alloc, &bounds(job), name, out).status,
-        Err(Fault::Failed) => {
-            tell(out, false, Telling::ReadFault);
-            5
-        }
-        Err(Fault::NoMemory) => {
+    let mut engine = match Engine::new(alloc, &sizes(job), job.quiet) {
+        Ok(engine) => engine,
+        Err(_) => {
             tell(out, false, Telling::NoMemory);
-            7
+            return 7;
         }
-    }
+    };
+    let told = run_file(&mut engine, job.file.as_slice(), files, job.steps, out);
+    engine.close();
+    told.status
 }
 
 /// The program: does what its words say, over these files and this sink, and answers its exit status.

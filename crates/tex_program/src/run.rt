@@ -1,26 +1,23 @@
 // The run of a job, and what is told of it.
 ghost use Rattle.std.specs.Prelude.{◌≡◌, ℕ, List, [], Some, None, false, true};
 ghost use Rattle.tex_defs.specs.Places.{Rose};
-ghost use Rattle.tex_defs.specs.Sizes.{first_out_of_range};
 ghost use Rattle.tex_defs.specs.declared.Sizes.{Sizes};
 ghost use Rattle.plain_state.specs.States.{State};
-ghost use Rattle.plain_machine.specs.Meaning.{First};
+ghost use Rattle.plain_machine.specs.Meaning.{First, MeansRun};
 ghost use Rattle.world_io.specs.Told.{FilesTold, world};
 ghost use Rattle.world_io.specs.declared.traits.Fault.TheVariants.{Failed};
 ghost use Rattle.stomach.specs.Ran.{CutBy, UnreadBy, StoppedBy};
 ghost use Rattle.stomach.specs.Read.{ReadsTo};
 ghost use Rattle.stomach.specs.declared.early.Early.TheVariants.{Unread};
 ghost use Rattle.tex_program.specs.Says.{SaysSo, ReadAlike, HasReadCause, end_status};
-ghost use Rattle.engine_state.specs.First.{Begins};
+ghost use Rattle.engine_state.specs.First.{Begins, IsUnread};
 ghost use Rattle.engine_state.specs.declared.engine.Engine.{Engine};
 
 use crate::tell::{Telling, tell};
 use command_words::job_name;
 use engine_state::{Broken, Engine, Outcome};
 use line_reader::Reader;
-use std::alloc::Global;
 use stomach::{Early, Ended, run_steps};
-use tex_defs::Sizes;
 use world_io::{Fault, Files, Sink};
 
 /// A run's status, and whether the transcript's column isn't 0 at its end.
@@ -28,14 +25,6 @@ use world_io::{Fault, Files, Sink};
 pub struct Told {
     pub status: u8,
     pub in_line: bool,
-}
-
-/// How a job is run: within these sizes, for at most so many steps, with token lines or without.
-#[derive(Clone, Copy)]
-pub struct Bounds {
-    pub sizes: Sizes,
-    pub steps: u64,
-    pub quiet: bool,
 }
 
 /// Tells of a run that was cut off.
@@ -113,6 +102,7 @@ fn run_engine<F: Files, S: Sink>(
     out: &mut S,
 ) -> Told
     requires idle { engine.old.input.making ≡ None }
+    requires running { engine.old.stopped ≡ false }
     requires is_open { (F.told files.old).reading reader.old.id ≡ true }
     ensures says { ReadsTo reader.old reader.new (F.told files.old) (F.told files.new) (λ all left. (sizes : Sizes) (f f' : FilesTold) (quiet : _) → ReadAlike (F.told files.old) (F.told files.new) f f' → Begins sizes engine.old quiet (Some []) →
         SaysSo sizes (First quiet file.now (Some all)) steps (world f (S.told out.old) false) (world f' (S.told out.new) result.in_line) result.status) }
@@ -153,56 +143,41 @@ fn refuse_engine<S: Sink>(engine: &mut Engine, file: &[u8], out: &mut S) -> Told
     }
 }
 
-/// Want of memory before the run.
-fn tell_no_room<S: Sink>(out: &mut S) -> Told
-    ensures says { (sizes : Sizes) (f : FilesTold) (s : State) (n : ℕ) → SaysSo sizes s n (world f (S.told out.old) false) (world f (S.told out.new) result.in_line) result.status }
-    ensures status { result.status ≡ 7 }
-{
-    Told {
-        in_line: tell(out, false, Telling::NoMemory),
-        status: 7,
-    }
-}
-
-/// Runs the job of a file that is open.
+/// Opens the job's file and runs it, by an engine at its beginning.
 pub fn run_file<F: Files, S: Sink>(
-    alloc: Global,
-    bounds: &Bounds,
+    engine: &mut Engine,
     file: &[u8],
-    reader: &mut Reader,
     files: &mut F,
+    steps: u64,
     out: &mut S,
 ) -> Told
-    requires in_range { first_out_of_range bounds.now.sizes ≡ None }
-    requires is_open { (F.told files.old).reading reader.old.id ≡ true }
-    ensures says { ReadsTo reader.old reader.new (F.told files.old) (F.told files.new) (λ all left. (f f' : FilesTold) → ReadAlike (F.told files.old) (F.told files.new) f f' →
-        SaysSo bounds.now.sizes (First bounds.now.quiet file.now (Some all)) bounds.now.steps (world f (S.told out.old) false) (world f' (S.told out.new) result.in_line) result.status) }
+    requires idle { engine.old.input.making ≡ None }
+    requires running { engine.old.stopped ≡ false }
+    requires is_unread { IsUnread engine.old }
+    ensures means { (sizes : Sizes) (quiet : _) → Begins sizes engine.old quiet (Some []) →
+        MeansRun sizes quiet file.now ((F.told files.old).file file.now) steps (world (F.told files.old) (S.told out.old) false) (world (F.told files.new) (S.told out.new) result.in_line) result.status }
     ensures read_fault { result.status ≡ 5 → Rose (F.told files.old).read_faults (F.told files.new).read_faults }
-    ensures fault { result.status ≡ 6 → Rose (S.told out.old).faults (S.told out.new).faults }
+    ensures write_fault { (sizes : Sizes) (quiet : _) → Begins sizes engine.old quiet (Some []) → result.status ≡ 6 → Rose (S.told out.old).faults (S.told out.new).faults }
     ensures not_usage { result.status ≡ 9 → ⊥ }
 {
-    let mut engine = match Engine::new(alloc, &bounds.sizes, bounds.quiet, true) {
-        Ok(engine) => engine,
-        Err(_) => return tell_no_room(out),
-    };
-    let told = run_engine(&mut engine, file, reader, files, bounds.steps, out);
-    engine.close();
-    told
-}
-
-/// Ends the job of a file that isn't held.
-pub fn refuse_file<S: Sink>(alloc: Global, bounds: &Bounds, file: &[u8], out: &mut S) -> Told
-    requires { first_out_of_range bounds.now.sizes ≡ None }
-    ensures says { (f : FilesTold) → SaysSo bounds.now.sizes (First bounds.now.quiet file.now None) bounds.now.steps (world f (S.told out.old) false) (world f (S.told out.new) result.in_line) result.status }
-    ensures fault { result.status ≡ 6 → Rose (S.told out.old).faults (S.told out.new).faults }
-    ensures no_read { result.status ≡ 5 → ⊥ }
-    ensures not_usage { result.status ≡ 9 → ⊥ }
-{
-    let mut engine = match Engine::new(alloc, &bounds.sizes, bounds.quiet, false) {
-        Ok(engine) => engine,
-        Err(_) => return tell_no_room(out),
-    };
-    let told = refuse_engine(&mut engine, file, out);
-    engine.close();
-    told
+    match files.open_in(file) {
+        Ok(Some(id)) => {
+            let mut reader = Reader::new(id);
+            let told = run_engine(engine, file, &mut reader, files, steps, out);
+            files.close_in(id);
+            told
+        }
+        Ok(None) => {
+            engine.drop_file();
+            refuse_engine(engine, file, out)
+        }
+        Err(Fault::Failed) => Told {
+            in_line: tell(out, false, Telling::ReadFault),
+            status: 5,
+        },
+        Err(Fault::NoMemory) => Told {
+            in_line: tell(out, false, Telling::NoMemory),
+            status: 7,
+        },
+    }
 }

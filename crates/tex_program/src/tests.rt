@@ -1,5 +1,5 @@
 // Runs within tables of given sizes.
-use crate::run::{Bounds, run_file};
+use crate::run::run_file;
 use engine_state::{Broken, Engine};
 use line_reader::Reader;
 use std::alloc::{AllocError, Global};
@@ -43,19 +43,12 @@ fn writes(
     if sizes.check().is_err() {
         return Ok(false);
     }
-    let bounds = Bounds {
-        sizes,
-        steps: 10000,
-        quiet: true,
-    };
     let mut files = MemFiles::new(alloc);
     let mut out = MemSink::new(alloc);
-    files.add(b"job", text)?;
-    let Ok(Some(id)) = files.open_in(b"job") else {
-        return Ok(false);
-    };
-    let mut reader = Reader::new(id);
-    let told = run_file(alloc, &bounds, name, &mut reader, &mut files, &mut out);
+    files.add(name, text)?;
+    let mut engine = Engine::new(alloc, &sizes, true)?;
+    let told = run_file(&mut engine, name, &mut files, 10000, &mut out);
+    engine.close();
     Ok(told.status == status && out.bytes() == written)
 }
 
@@ -180,7 +173,7 @@ fn a_name_too_many_is_refused(rt: HostRuntime) -> Result<(), Fail> {
     Ok(())
 }
 
-/// Whether the run of this text, within these sizes, comes to where this table is full, and what it uses of main memory then, in words.
+/// Whether the run of this text, within these sizes, comes to where this table is full and stops, and what it uses of main memory then, in words.
 fn words_where_full(
     alloc: Global,
     sizes: Sizes,
@@ -197,12 +190,13 @@ fn words_where_full(
         return Ok(None);
     };
     let mut reader = Reader::new(id);
-    let mut engine = Engine::new(alloc, &sizes, true, true)?;
+    let mut engine = Engine::new(alloc, &sizes, true)?;
     let ended = run_steps(&mut engine, &mut reader, &mut files, &mut out, 1000000);
     let words = engine.words();
+    let stopped = engine.stopped();
     engine.close();
     match ended {
-        Err(Early::Broken(Broken::Full(found))) if found == full => Ok(Some(words)),
+        Err(Early::Broken(Broken::Full(found))) if found == full && stopped => Ok(Some(words)),
         _ => Ok(None),
     }
 }

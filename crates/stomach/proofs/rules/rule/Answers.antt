@@ -1,9 +1,16 @@
 use Rattle.engine_state.proofs.Bare.{framed}
 use Rattle.engine_state.proofs.Joining.{ok_to, err_to}
+use Rattle.engine_state.proofs.Stopping.{noted_readings, does_noted, plan_noted}
 use Rattle.stomach.proofs.rules.rule.Goals as goal
 
 pub returns-in-None-clause-rule : goal.returns-in-None-clause-rule
-returns-in-None-clause-rule g c = ok_to c.frame_rule.result (λ ruled h sizes f book st. h sizes f book (framed sizes c.args.engine.now book c.in-None.is st)) c.frame_rule.ensures.rule
+returns-in-None-clause-rule g c = let n = c.frame_rule-ruled in
+    ok_to n.result (λ ruled h. does_noted c.stops-engine.result c.args.engine.now n.new.engine _ _ ruled (λ sizes f book st. h sizes f book (framed sizes c.args.engine.now book c.in-None.is st))) n.ensures.rule
 
 pub returns-in-None-clause-err : goal.returns-in-None-clause-err
-returns-in-None-clause-err g c = err_to c.frame_rule.result (λ b h sizes f book st. h sizes f book (framed sizes c.args.engine.now book c.in-None.is st)) c.frame_rule.ensures.err
+returns-in-None-clause-err g c = let n = c.frame_rule-ruled in
+    err_to n.result (λ b h. plan_noted c.stops-engine.result c.args.engine.now n.new.engine _ _ b (λ sizes f book st. h sizes f book (framed sizes c.args.engine.now book c.in-None.is st))) n.ensures.err
+
+pub returns-in-None-clause-halts : goal.returns-in-None-clause-halts
+returns-in-None-clause-halts g c = let n = c.frame_rule-ruled in
+    ok_to n.result (λ ruled h halted. noted_readings c.stops-engine.result c.args.engine.now n.new.engine (h halted)) n.ensures.halts

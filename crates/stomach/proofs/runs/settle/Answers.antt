@@ -1,8 +1,8 @@
-use Rattle.std.proofs.Common.{◌≡◌, ◌<◌, ◌∙◌, sym, refl, false, [], arith}
+use Rattle.std.proofs.Common.{◌≡◌, ◌<◌, ◌∙◌, sym, ap, refl, false, [], arith}
 use Rattle.std.proofs.lemmas.Grind.{common_steps}
 use Rattle.world_io.specs.declared.traits.Fault.TheVariants.{Failed, NoMemory}
 use Rattle.plain_machine.proofs.Doing.{rose_on}
-use Rattle.engine_state.specs.Steps.{weight, stepping}
+use Rattle.engine_state.specs.Steps.{weight, stepping, stops_run}
 use Rattle.engine_state.proofs.Joining.{same_err}
 use Rattle.stomach.specs.declared.early.Early.{Early}
 use Rattle.stomach.specs.declared.early.Early.TheVariants as early
@@ -10,14 +10,15 @@ use Rattle.stomach.proofs.CallSteps.{plan_silent}
 use Rattle.stomach.proofs.Giving.{wanted_on}
 use Rattle.stomach.proofs.Running.{as_free, as_halted, when_free, when_halted}
 use Rattle.stomach.proofs.Reading.{reads_none, reads_map, still_open}
-use Rattle.stomach.proofs.Rounds.{CameTo, StopsTo, StoppedTo, came_first, came_rule, came_end, came_cut, idle_given, weight_given, same_fault, reads_err, reads_given, reads_unread}
+use Rattle.stomach.specs.Ran.{StoppedTo}
+use Rattle.stomach.proofs.Rounds.{CameTo, StopsTo, came_first, came_rule, came_end, came_cut, idle_given, running_given, weight_given, same_fault, reads_err, reads_given, reads_unread}
 use Rattle.stomach.proofs.runs.settle.Goals as goal
 
 pub loop-engine-init : goal.loop-engine-init
 loop-engine-init g c =
     let e = c.args.engine.now in
     let s = g.S.Sink.told c.args.out.now in
-    (c.requires.idle, reads_none (CameTo e s e s 0) c.args.reader.now (g.F.Files.told c.args.files.now) (λ all. came_first e s all))
+    ((c.requires.idle, c.requires.running), reads_none (CameTo e s e s 0) c.args.reader.now (g.F.Files.told c.args.files.now) (λ all. came_first e s all))
 
 pub read_ahead-requires : goal.read_ahead-requires
 read_ahead-requires g c =
@@ -50,12 +51,18 @@ returns-then-needs_step-clause-run g c =
 pub returns-then-needs_step-clause-idle : goal.returns-then-needs_step-clause-idle
 returns-then-needs_step-clause-idle g c =
     let i = c.in_ok-read_ahead.ensures.came in
-    idle_given _ [] c.loop-engine.engine c.read_ahead.new.engine (i.holds [] (λ h. refl)) c.loop-engine.invariant.0
+    idle_given _ [] c.loop-engine.engine c.read_ahead.new.engine (i.holds [] (λ h. refl)) c.loop-engine.invariant.0.0
+
+pub returns-then-needs_step-clause-runs : goal.returns-then-needs_step-clause-runs
+returns-then-needs_step-clause-runs g c =
+    let i = c.in_ok-read_ahead.ensures.came in
+    λ none. running_given _ [] c.loop-engine.engine c.read_ahead.new.engine (i.holds [] (λ h. refl)) c.loop-engine.invariant.0.1
 
 pub rule-requires : goal.rule-requires
 rule-requires g c =
     let i = c.in_ok-read_ahead.ensures.came in
-    record { idle = idle_given _ [] c.loop-engine.engine c.read_ahead.new.engine (i.holds [] (λ h. refl)) c.loop-engine.invariant.0 }
+    let given = i.holds [] (λ h. refl) in
+    record { idle = idle_given _ [] c.loop-engine.engine c.read_ahead.new.engine given c.loop-engine.invariant.0.0; running = running_given _ [] c.loop-engine.engine c.read_ahead.new.engine given c.loop-engine.invariant.0.1 }
 
 pub returns-in_err-outcome-clause-run : goal.returns-in_err-outcome-clause-run
 returns-in_err-outcome-clause-run g c =
@@ -107,7 +114,7 @@ loop-engine-preserved g c =
     let s = g.S.Sink.told c.loop-engine.out in
     let s' = g.S.Sink.told c.rule.new.out in
     let r = c.read_ahead.new.reader in (
-      i.idle,
+      (i.idle, i.stopped ∙ ap stops_run c.in-Free.is),
       reads_map (CameTo e0 s0 e s 0) c.args.reader.now r _ _ (CameTo e0 s0 e' s' 0)
           (reads_given e0 c.loop-engine.engine e s0 s 0 c.args.reader.now c.loop-engine.reader r _ _ _ c.loop-engine.invariant.1 c.in_ok-read_ahead.ensures.came)
           (λ all left may came. came_rule e0 e e' s0 s s' 0 r c.in_ok-read_ahead.ensures.knows all left may came 0 (λ sizes f w h. as_free sizes _ _ w _ _ _ _ c.in-Free.is (i.rule sizes f w h))),

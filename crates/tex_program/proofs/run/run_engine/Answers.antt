@@ -3,9 +3,8 @@ use Rattle.plain_machine.specs.Meaning.{First, Line, steps_line}
 use Rattle.world_io.specs.Told.{world}
 use Rattle.engine_state.specs.Book.{first_book}
 use Rattle.engine_state.specs.Rules.{world_of}
-use Rattle.stomach.specs.Ran.{Came, Ran, StoppedBy}
+use Rattle.stomach.specs.Ran.{Came, Ran, StoppedBy, RanTo, StoppedTo}
 use Rattle.stomach.proofs.Reading.{on_none, reads_map}
-use Rattle.stomach.proofs.Rounds.{RanTo, StoppedTo}
 use Rattle.stomach.proofs.Running.{ran_join, stopped_join}
 use Rattle.tex_program.specs.Says.{end_status}
 use Rattle.tex_program.proofs.Meanings.{held_cut, kept_came, ran_ended, ran_steps, stopped_on, says_alike, alike_quiet, cause_alike}

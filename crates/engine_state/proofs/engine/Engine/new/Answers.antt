@@ -40,7 +40,7 @@ first_at pending categories names strings meanings gathered making quiet file jo
 
 pub returns : goal.returns
 returns c = let i = c.in_ok-input.ensures in let n = c.in-Ok.ensures in let o = c.in-Ok-new.ensures in
-    let pending = ap (λ (x : Stored). x.pending) i ∙ opened _ in
+    let pending = ap (λ (x : Stored). x.pending) i ∙ opened (Some []) in
     let here = ap (pending_of first_book.number) pending in
     let making = ap (λ (x : Stored). x.making) i in
     let meanings = ap (λ (x : Stored). x.meanings) i in
@@ -68,8 +68,10 @@ returns c = let i = c.in_ok-input.ensures in let n = c.in-Ok.ensures in let o = 
         orderly = record { rooted = tt; chained = tt };
         uncalled = record { none = refl; input = ap (λ (x : Stored). x.call) i };
       };
-      state = λ file. first_at _ _ _ _ _ _ _ c.args.quiet file _ here c.initial_categories.ensures names others means (ap gathered i) making;
+      state = λ file. first_at _ _ _ _ _ _ _ c.args.quiet file (Some []) here c.initial_categories.ensures names others means (ap gathered i) making;
       column = refl;
       reports = refl;
+      running = refl;
+      unread = ap (λ (x : Stored). x.pending) i;
       names = names;
     }

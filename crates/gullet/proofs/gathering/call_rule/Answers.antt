@@ -1,0 +1,93 @@
+use Rattle.std.proofs.Common.{◌∷◌, [], refl, ap, sym, subst, ◌∙◌, List}
+use Rattle.std.specs.Prelude.{Some, None}
+use Rattle.plain_state.specs.Pending.{settle}
+use Rattle.plain_state.specs.States.{Move}
+use Rattle.plain_machine.proofs.Doing.{did_none}
+use Rattle.engine_state.specs.declared.broken.Broken.TheVariants as broken
+use Rattle.engine_state.specs.declared.call.CallAsk.TheVariants as asked
+use Rattle.engine_state.specs.Book.{with_work}
+use Rattle.engine_state.specs.Calls.{brace_call}
+use Rattle.engine_state.specs.Near.{CutsIn}
+use Rattle.engine_state.specs.Stands.{state_of, page_of}
+use Rattle.engine_state.specs.Rules.{world_of, DoesRule, Cuts, Went}
+use Rattle.gullet.proofs.CallBraces.{brace_moves}
+use Rattle.engine_state.proofs.CallEnding.{by_call, closed_went}
+use Rattle.gullet.proofs.CallPutting.{put_rule, put_cut}
+use Rattle.gullet.proofs.CallRules.{asks_this, away_is, call_wants}
+use Rattle.engine_state.proofs.Cutting.{cuts_by}
+use Rattle.engine_state.proofs.Joining.{ok_to, err_to, err_both, same_err}
+use Rattle.engine_state.proofs.Nearing.{cuts_in, column_in}
+use Rattle.engine_state.proofs.Standing.{list_frames}
+use Rattle.gullet.proofs.gathering.call_rule.Goals as goal
+
+pub returns-in-More-clause-rule : goal.returns-in-More-clause-rule
+returns-in-More-clause-rule g c = let e = c.args.engine.now in let n = c.take in
+    let is = asks_this e c.args.call asked.More c.requires.call c.in-More.is in
+    ok_to n.result (λ ruled h sizes f. by_call sizes e _ (λ book plan. DoesRule sizes (state_of e book) n.new.engine book (world_of f (g.S.Sink.told c.args.out.now) e) (world_of f (g.S.Sink.told n.new.out) n.new.engine) plan ruled) is
+    (λ book r rs st k. h sizes f (with_work (r ∷ rs) book) (call_wants e c.args.call.name is, st))) n.ensures.rule
+
+pub returns-in-More-clause-err : goal.returns-in-More-clause-err
+returns-in-More-clause-err g c = let e = c.args.engine.now in let n = c.take in
+    let is = asks_this e c.args.call asked.More c.requires.call c.in-More.is in
+    err_to n.result (λ b h sizes f. by_call sizes e _ (λ book plan. CutsIn sizes (state_of e book) n.new.engine (world_of f (g.S.Sink.told c.args.out.now) e) (world_of f (g.S.Sink.told n.new.out) n.new.engine) plan b) is
+    (λ book r rs st k. h sizes f (with_work (r ∷ rs) book) (call_wants e c.args.call.name is, st))) n.ensures.err
+
+pub returns-in-ExtraBrace-clause-rule : goal.returns-in-ExtraBrace-clause-rule
+returns-in-ExtraBrace-clause-rule g c = let e = c.args.engine.now in let x = c.in-ExtraBrace.seen in let n = c.settle_brace in let name = c.args.call.name in
+    let is = asks_this e c.args.call (asked.ExtraBrace x) c.requires.call c.in-ExtraBrace.is in
+    ok_to n.result (λ ruled h sizes f. by_call sizes e (brace_call name x) (λ book plan. DoesRule sizes (state_of e book) n.new.engine book (world_of f (g.S.Sink.told c.args.out.now) e) (world_of f (g.S.Sink.told n.new.out) n.new.engine) plan ruled) is
+    (λ book r rs st k. subst (λ (ms : List Move). DoesRule sizes (state_of e (with_work (r ∷ rs) book)) n.new.engine (with_work (r ∷ rs) book) (world_of f (g.S.Sink.told c.args.out.now) e) (world_of f (g.S.Sink.told n.new.out) n.new.engine) ms ruled) (sym (brace_moves e book.number name x r (page_of e book) k))
+    (h sizes f book r rs is st))) n.ensures.rule
+
+pub returns-in-ExtraBrace-clause-err : goal.returns-in-ExtraBrace-clause-err
+returns-in-ExtraBrace-clause-err g c = let e = c.args.engine.now in let x = c.in-ExtraBrace.seen in let n = c.settle_brace in let name = c.args.call.name in
+    let is = asks_this e c.args.call (asked.ExtraBrace x) c.requires.call c.in-ExtraBrace.is in
+    err_both n.result (λ b h same sizes f book st. cuts_in sizes e n.new.engine book _ _ _ b (by_call sizes e (brace_call name x) (λ book plan. Cuts sizes (state_of e book) n.new.engine book (world_of f (g.S.Sink.told c.args.out.now) e) (world_of f (g.S.Sink.told n.new.out) n.new.engine) plan b) is
+    (λ book r rs st k. cuts_by sizes _ n.new.engine (with_work (r ∷ rs) book) _ _ _ _ b (brace_moves e book.number name x r (page_of e book) k) (h sizes f book r rs st)) book st) same st) n.ensures.err n.ensures.frames
+
+pub returns-in-Mismatch-clause-rule : goal.returns-in-Mismatch-clause-rule
+returns-in-Mismatch-clause-rule g c = let e = c.args.engine.now in let n = c.fail_call in
+    let is = asks_this e c.args.call asked.Mismatch c.requires.call c.in-Mismatch.is in
+    ok_to n.result (λ ruled h sizes f. by_call sizes e _ (λ book plan. DoesRule sizes (state_of e book) n.new.engine book (world_of f (g.S.Sink.told c.args.out.now) e) (world_of f (g.S.Sink.told n.new.out) n.new.engine) plan ruled) is
+    (λ book r rs st k. h sizes f book r rs _ is st)) n.ensures.rule
+
+pub returns-in-Mismatch-clause-err : goal.returns-in-Mismatch-clause-err
+returns-in-Mismatch-clause-err g c = let e = c.args.engine.now in let n = c.fail_call in
+    let is = asks_this e c.args.call asked.Mismatch c.requires.call c.in-Mismatch.is in
+    err_both n.result (λ b h same sizes f book st. cuts_in sizes e n.new.engine book _ _ _ b (by_call sizes e _ (λ book plan. Cuts sizes (state_of e book) n.new.engine book (world_of f (g.S.Sink.told c.args.out.now) e) (world_of f (g.S.Sink.told n.new.out) n.new.engine) plan b) is
+    (λ book r rs st k. h sizes f book r rs st) book st) same st) n.ensures.err n.ensures.frames
+
+pub returns-in-Some-clause-rule : goal.returns-in-Some-clause-rule
+returns-in-Some-clause-rule g c = let e = c.args.engine.now in let x = c.in-Some.seen in let n = c.run_away_call in let name = c.args.call.name in
+    let is = asks_this e c.args.call (asked.ParEnded (Some x)) c.requires.call (c.in-ParEnded.is ∙ ap asked.ParEnded c.in-Some.is) in
+    ok_to n.result (λ ruled h sizes f. by_call sizes e _ (λ book plan. DoesRule sizes (state_of e book) n.new.engine book (world_of f (g.S.Sink.told c.args.out.now) e) (world_of f (g.S.Sink.told n.new.out) n.new.engine) plan ruled) is
+    (λ book r rs st k. subst (λ (ms : List Move). DoesRule sizes (state_of e (with_work (r ∷ rs) book)) n.new.engine (with_work (r ∷ rs) book) (world_of f (g.S.Sink.told c.args.out.now) e) (world_of f (g.S.Sink.told n.new.out) n.new.engine) ms ruled) (sym (away_is e book book.number name x r rs k))
+    (h sizes f book r rs _ is st))) n.ensures.rule
+
+pub returns-in-Some-clause-err : goal.returns-in-Some-clause-err
+returns-in-Some-clause-err g c = let e = c.args.engine.now in let x = c.in-Some.seen in let n = c.run_away_call in let name = c.args.call.name in
+    let is = asks_this e c.args.call (asked.ParEnded (Some x)) c.requires.call (c.in-ParEnded.is ∙ ap asked.ParEnded c.in-Some.is) in
+    err_both n.result (λ b h same sizes f book st. cuts_in sizes e n.new.engine book _ _ _ b (by_call sizes e _ (λ book plan. Cuts sizes (state_of e book) n.new.engine book (world_of f (g.S.Sink.told c.args.out.now) e) (world_of f (g.S.Sink.told n.new.out) n.new.engine) plan b) is
+    (λ book r rs st k. cuts_by sizes _ n.new.engine (with_work (r ∷ rs) book) _ _ _ _ b (away_is e book book.number name x r rs k) (h sizes f book r rs st)) book st) same st) n.ensures.err n.ensures.frames
+
+pub returns-in-None-clause-rule : goal.returns-in-None-clause-rule
+returns-in-None-clause-rule g c = let e = c.args.engine.now in let n = c.close_call in let told = g.S.Sink.told c.args.out.now in
+    let is = asks_this e c.args.call (asked.ParEnded None) c.requires.call (c.in-ParEnded.is ∙ ap asked.ParEnded c.in-None.is) in
+    λ sizes f. by_call sizes e _ (λ book plan. Went sizes (state_of e book) n.new.engine (world_of f told e) (world_of f told n.new.engine) plan 0) is
+    (λ book r rs st k. closed_went sizes e n.new.engine book r rs _ is st n.ensures.after n.ensures.macros (state_of e (with_work (r ∷ rs) book)) f told (world_of f told e) [] (did_none sizes (state_of e (with_work (r ∷ rs) book)) (world_of f told e)) refl)
+
+pub returns-in_ok-put_call-in-Gathered-clause-rule : goal.returns-in_ok-put_call-in-Gathered-clause-rule
+returns-in_ok-put_call-in-Gathered-clause-rule g c = let e = c.args.engine.now in let n = c.put_call in let i = c.in_ok-put_call-in-Gathered.ensures in let told = g.S.Sink.told c.args.out.now in
+    let is = asks_this e c.args.call asked.Gathered c.requires.call c.in-Gathered.is in
+    λ sizes f. by_call sizes e _ (λ book plan. Went sizes (state_of e book) n.new.engine (world_of f told e) (world_of f told n.new.engine) plan 0) is
+    (λ book r rs st k. put_rule sizes e n.new.engine book r rs c.args.call.name is st k i.ok n.ensures.macros i.fits f told)
+
+pub returns-in_err-put_call-in-Gathered-clause-err : goal.returns-in_err-put_call-in-Gathered-clause-err
+returns-in_err-put_call-in-Gathered-clause-err g c = let e = c.args.engine.now in let n = c.put_call in let i = c.in_err-put_call-in-Gathered in let told = g.S.Sink.told c.args.out.now in
+    let is = asks_this e c.args.call asked.Gathered c.requires.call c.in-Gathered.is in
+    same_err c.from_residual.result (broken.Full i.field-0.0) _ c.from_residual.ensures.1
+    (λ sizes f book st. column_in sizes (state_of e book) n.new.engine f told e.in_line _ (broken.Full i.field-0.0) n.ensures.column
+    (cuts_in sizes e n.new.engine book _ _ _ (broken.Full i.field-0.0)
+    (by_call sizes e _ (λ book plan. Cuts sizes (state_of e book) n.new.engine book (world_of f told e) (world_of f told e) plan (broken.Full i.field-0.0)) is
+    (λ book r rs st k. put_cut sizes e n.new.engine book r rs c.args.call.name is st k i.ensures.err i.field-0.0 i.ensures.refused (world_of f told e)) book st)
+    (list_frames e n.new.engine (settle e.input.pending) i.ensures.err) st))
