@@ -30,7 +30,10 @@ fn show_given<'a>(view: View<'a>, list: Option<&'a Build>) -> Shown<'a>
 
 /// Writes a message: a space where the column isn't 0, and a list as it is shown; no tokens where there is no list.
 ///
-/// *The TeXbook*, chapter 24 (`\message`). At a fault the sink took a front of the message.
+/// *The TeXbook*, chapter 24 (`\message`).
+///
+/// # Errors
+/// A write failed or wanted memory; the sink took a front of the message.
 pub fn write_message<S: Sink>(
     out: &mut S,
     in_line: &mut bool,
@@ -48,7 +51,8 @@ pub fn write_message<S: Sink>(
 
 /// Writes the line for a token that only typesetting would use: its meaning in braces, on a line of its own.
 ///
-/// At a fault the sink took a front of it.
+/// # Errors
+/// A write failed or wanted memory; the sink took a front of the line.
 pub fn write_token_line<S: Sink>(
     out: &mut S,
     in_line: &mut bool,
@@ -79,7 +83,10 @@ fn runaway_head(what: Scanned, in_line: bool) -> &'static [u8]
 
 /// Writes what was built of a list whose definition, argument or text runs away, on a fresh line.
 ///
-/// *TeX: The Program*, part 22 (`runaway`). At a fault the sink took a front of it.
+/// *TeX: The Program*, part 22 (`runaway`).
+///
+/// # Errors
+/// A write failed or wanted memory; the sink took a front of the text.
 pub fn write_runaway<S: Sink>(
     out: &mut S,
     in_line: &mut bool,

@@ -210,7 +210,10 @@ fn line_number(close: &[u8], line: u64) -> Text
 
 /// Writes a report on a fresh line, and then the number of the line that is being read, 0 where there is none.
 ///
-/// *TeX: The Program*, part 6 (`error`). At a fault the sink took a front of it.
+/// *TeX: The Program*, part 6 (`error`).
+///
+/// # Errors
+/// A write failed or wanted memory; the sink took a front of the report.
 pub fn write_report<S: Sink>(
     out: &mut S,
     in_line: &mut bool,
@@ -236,7 +239,8 @@ pub fn write_report<S: Sink>(
 
 /// Writes the report that a file isn't held, with its name printed.
 ///
-/// At a fault the sink took a front of it.
+/// # Errors
+/// A write failed or wanted memory; the sink took a front of the report.
 pub fn write_missing_file<S: Sink>(
     out: &mut S,
     in_line: &mut bool,

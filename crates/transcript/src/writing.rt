@@ -19,7 +19,10 @@ fn ends_in_line(before: bool, text: &[u8]) -> bool
     }
 }
 
-/// Writes bytes. At a fault the sink took a front of them.
+/// Writes bytes.
+///
+/// # Errors
+/// A write failed or wanted memory; the sink took a front of the bytes.
 pub fn put<S: Sink>(out: &mut S, in_line: &mut bool, text: &[u8]) -> Result<(), Fault>
     ensures ok { OnOk result (Took (S.told out.old) (S.told out.new) in_line.old in_line.new text.now) }
     ensures err { IfErr result (λ fault. TookFront (S.told out.old) (S.told out.new) in_line.old in_line.new text.now fault) }
@@ -51,7 +54,10 @@ fn first_bytes(shown: &mut Shown<'_>) -> Text
     text
 }
 
-/// Writes a text that is handed out byte by byte. At a fault the sink took a front of it.
+/// Writes a text that is handed out byte by byte.
+///
+/// # Errors
+/// A write failed or wanted memory; the sink took a front of the text.
 pub fn put_shown<S: Sink>(out: &mut S, in_line: &mut bool, shown: Shown<'_>) -> Result<(), Fault>
     ensures ok { OnOk result (Took (S.told out.old) (S.told out.new) in_line.old in_line.new shown.entry) }
     ensures err { IfErr result (λ fault. TookFront (S.told out.old) (S.told out.new) in_line.old in_line.new shown.entry fault) }

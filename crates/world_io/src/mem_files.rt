@@ -49,6 +49,9 @@ impl MemFiles {
     }
 
     /// Lets this name hold these bytes. It is no numbered call.
+    ///
+    /// # Errors
+    /// There is no memory for the name and the bytes; every file is as it was.
     pub fn add(&mut self, name: &[u8], bytes: &[u8]) -> Result<(), AllocError>
         ensures ok { OnOk result (Puts name.now bytes.now (files_told self.old) (files_told self.new)) }
         ensures err { OnErr result (SameFiles (files_told self.old) (files_told self.new)) }
@@ -59,6 +62,9 @@ impl MemFiles {
     }
 
     /// Lets the call of this number fail.
+    ///
+    /// # Errors
+    /// There is no memory for the number; nothing has changed.
     pub fn fail_at(&mut self, call: u64) -> Result<(), AllocError>
         ensures told { SameFiles (files_told self.old) (files_told self.new) }
         ensures counts { SameCounts (files_told self.old) (files_told self.new) }

@@ -19,6 +19,7 @@ impl MemSink {
     ghost use Rattle.tex_defs.specs.Places.{Holds};
     ghost use Rattle.world_io.specs.Memory.{sink_told, sink_plan};
 
+    /// Nothing is written, and no write is to fail.
     pub fn new(alloc: Global) -> Self
         ensures told { sink_told result ≡ record { bytes = Holds []; faults = 0; wants = 0 } }
         ensures plan { sink_plan result ≡ record { made = 0; failing = [] } }
@@ -32,6 +33,9 @@ impl MemSink {
     }
 
     /// Lets the write of this number fail.
+    ///
+    /// # Errors
+    /// There is no memory for the number; nothing has changed.
     pub fn fail_at(&mut self, call: u64) -> Result<(), AllocError>
         ensures told { sink_told self.new ≡ sink_told self.old }
         ensures ok { OnOk result (sink_plan self.new ≡ record (sink_plan self.old) { failing = (sink_plan self.old).failing ++ call ∷ [] }) }

@@ -30,6 +30,7 @@ pub struct RealFiles<'a, R: rt::Files> {
 impl<'a, R: rt::Files + AllocGlobal> RealFiles<'a, R> {
     ghost use Rattle.world_io.specs.Told.{IsFresh};
 
+    /// The files of this runtime, of which none is open.
     pub fn new(rt: &'a R) -> Self
         ensures { IsFresh (⟦<RealFiles<'a, R> as Files>⟧.told result) }
     {

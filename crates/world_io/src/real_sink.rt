@@ -15,6 +15,7 @@ impl<'a, P: Print> RealSink<'a, P> {
     ghost use Rattle.std.specs.Prelude.{◌≡◌};
     ghost use Rattle.tex_defs.specs.Places.{Untold};
 
+    /// What this runtime prints to.
     pub fn new(rt: &'a P) -> Self
         ensures { ⟦<RealSink<'a, P> as Sink>⟧.told result ≡ record { bytes = Untold; faults = 0; wants = 0 } }
     {

@@ -29,6 +29,7 @@ pub trait Sink {
 
     /// Takes the first bytes of the piece, and answers how many: at least one of a piece that isn't empty.
     ///
+    /// # Errors
     /// `Failed` where it can't, and `NoMemory` where memory is wanted; nothing was taken then.
     fn write(&mut self, piece: &[u8]) -> Result<usize, Fault>
         ensures count { IfOk result (λ n. n ≤ length piece.now) }
@@ -45,6 +46,9 @@ pub trait Files {
     ghost told: { Self → FilesTold };
 
     /// Opens a file for reading. `None` where there is no file of this name.
+    ///
+    /// # Errors
+    /// `Failed` where it can't, and `NoMemory` where memory is wanted; nothing was opened then.
     fn open_in(&mut self, name: &[u8]) -> Result<Option<InId>, Fault>
         ensures missing { IfOk result (λ r. IfNone r (NotFound ((told self.old).file name.now))) }
         ensures none { IfOk result (λ r. IfNone r (SameFiles (told self.old) (told self.new))) }
@@ -55,6 +59,9 @@ pub trait Files {
 
     /// Moves the next bytes of an open reader to the front of the piece, and answers how many. For a piece that
     /// isn't empty the answer is 0 only at the end.
+    ///
+    /// # Errors
+    /// `Failed` where it can't, and `NoMemory` where memory is wanted; the reader stands where it stood.
     fn read(&mut self, id: InId, piece: &mut [u8]) -> Result<usize, Fault>
         requires { (told self.old).reading id.number ≡ true }
         ensures count { IfOk result (λ n. n ≤ length piece.old) }
@@ -71,6 +78,9 @@ pub trait Files {
         ensures counts { SameCounts (told self.old) (told self.new) };
 
     /// Opens a file for writing, which empties it.
+    ///
+    /// # Errors
+    /// `Failed` where it can't, and `NoMemory` where memory is wanted; every file is as it was.
     fn open_out(&mut self, name: &[u8]) -> Result<OutId, Fault>
         ensures opened { IfOk result (λ id. OpensWriter id.number name.now (told self.old) (told self.new)) }
         ensures err { OnErr result (SameFiles (told self.old) (told self.new)) }
@@ -79,6 +89,9 @@ pub trait Files {
 
     /// Writes the first bytes of the piece behind those of an open writer's file, and answers how many: at least
     /// one of a piece that isn't empty.
+    ///
+    /// # Errors
+    /// `Failed` where it can't, and `NoMemory` where memory is wanted; nothing was written then.
     fn write(&mut self, id: OutId, piece: &[u8]) -> Result<usize, Fault>
         requires { IsSome ((told self.old).writer id.number) }
         ensures count { IfOk result (λ n. n ≤ length piece.now) }

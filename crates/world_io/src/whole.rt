@@ -14,7 +14,10 @@ pub struct Unfinished {
 }
 
 #[tactic(auto, using(crate::proofs::Fronts::grown_twice, crate::proofs::Fronts::grown_none))]
-/// Writes all the bytes. At a fault the first `written` of them, and no others, were written.
+/// Writes all the bytes.
+///
+/// # Errors
+/// A write failed or wanted memory: the first `written` of the bytes, and no others, were written.
 pub fn write_all<S: Sink>(out: &mut S, bytes: &[u8]) -> Result<(), Unfinished>
     ensures written { OnOk result ((S.told out.new).bytes ≡ grown (S.told out.old).bytes bytes.now) }
     ensures front { IfErr result (λ e. (S.told out.new).bytes ≡ grown (S.told out.old).bytes (take e.written bytes.now)) }
@@ -34,7 +37,10 @@ pub fn write_all<S: Sink>(out: &mut S, bytes: &[u8]) -> Result<(), Unfinished>
     Ok(())
 }
 
-/// Writes all the bytes to an open file. At a fault the first `written` of them, and no others, were written.
+/// Writes all the bytes to an open file.
+///
+/// # Errors
+/// A write failed or wanted memory: the first `written` of the bytes, and no others, were written.
 pub fn write_file<F: Files>(files: &mut F, id: OutId, bytes: &[u8]) -> Result<(), Unfinished>
     requires { IsSome ((F.told files.old).writer id.number) }
     ensures written { OnOk result ((name : List ℕ) → (F.told files.old).writer id.number ≡ Some name → Grew name bytes.now (F.told files.old) (F.told files.new)) }
@@ -90,6 +96,7 @@ fn read_rest<F: Files>(alloc: Global, files: &mut F, id: InId) -> Result<Vec<u8>
 #[tactic(auto, using(crate::proofs::Reading::still_open, crate::proofs::Reading::closed_again, crate::proofs::Reading::opened_content))]
 /// Reads a file whole: its bytes, or `None` where there is no file of this name. Its reader is closed afterwards.
 ///
+/// # Errors
 /// `Failed` where a call on the files failed. `NoMemory` where such a call wanted memory, where this call itself
 /// finds none for the bytes, and where the file goes on behind its first 2^32 bytes (one that never ends, say).
 pub fn read_file<F: Files>(
