@@ -88,6 +88,13 @@ fn a_line_too_long_for_the_buffer_is_refused(rt: HostRuntime) -> Result<(), Fail
             3
         )?
     );
+    // no list is held then
+    let full = Full {
+        table: Table::BufferSize,
+        used: 0,
+        size: 80,
+    };
+    assert!(rt; words_where_full(alloc, LEAST, text.as_slice(), full)? == Some(0));
     Ok(())
 }
 

@@ -111,11 +111,15 @@ fn a_message_is_written(rt: HostRuntime) -> Result<(), Fail> {
     Ok(())
 }
 
+/// The file that writes `hi`.
+const HI: &[u8] =
+    b"\\catcode`\\{=1 \\catcode`\\}=2 \\catcode`\\#=6 \\catcode`\\^=7\n\\message{hi}\\end\n";
+
 #[test]
 fn a_failed_read_is_told(rt: HostRuntime) -> Result<(), Fail> {
     let alloc = rt.alloc();
     let mut files = MemFiles::new(alloc);
-    files.add(b"job.tex", b"\\end\n")?;
+    files.add(b"job.tex", HI)?;
     files.fail_at(2)?;
     let expected = Expected {
         text: b"! Read fault.\n",
@@ -169,10 +173,7 @@ fn a_file_is_read_as_it_is_needed(rt: HostRuntime) -> Result<(), Fail> {
 fn a_failed_write_is_told(rt: HostRuntime) -> Result<(), Fail> {
     let alloc = rt.alloc();
     let mut files = MemFiles::new(alloc);
-    files.add(
-        b"job.tex",
-        b"\\catcode`\\{=1 \\catcode`\\}=2 \\message{hi}\\end\n",
-    )?;
+    files.add(b"job.tex", HI)?;
     let mut out = MemSink::new(alloc);
     out.fail_at(1)?;
     let expected = Expected {
@@ -256,9 +257,9 @@ fn tokens_of_typesetting_have_lines(rt: HostRuntime) -> Result<(), Fail> {
     assert!(rt; job(alloc, text, b"hi\n{the letter x}\n", 0)?);
     assert!(rt; job_with(alloc, &["init", "--quiet", "job"], text, b"hi\n", 0)?);
     assert!(rt;
-        job(
+        bare_job(
             alloc,
-            b"\\message{x}\r\n\\end\r\n",
+            b"\\catcode`\\{=1 \\catcode`\\}=2 \\catcode`\\#=6 \\catcode`\\^=7\r\n\\message{x}\r\n\\end\r\n",
             b"x\n{blank space  }\n",
             0
         )?
@@ -290,6 +291,22 @@ fn reports_are_written(rt: HostRuntime) -> Result<(), Fail> {
             alloc,
             b"\\catcode256=1 \\end\n",
             b"! Bad character code (256).\nl.2\n",
+            1
+        )?
+    );
+    assert!(rt;
+        job(
+            alloc,
+            b"\\catcode`\\x=16 \\end\n",
+            b"! Invalid code (16), should be in the range 0..15.\nl.2\n",
+            1
+        )?
+    );
+    assert!(rt;
+        job(
+            alloc,
+            b"\\message{a\x7fb}\\end\n",
+            b"! Text line contains an invalid character.\nl.2\nab\n",
             1
         )?
     );
