@@ -1,5 +1,5 @@
 -- An engine that has noted whether it has stopped: all else is as it was.
-use Rattle.std.proofs.Common.{◌≡◌, ℕ, refl}
+use Rattle.std.proofs.Common.{ℕ, refl}
 use Rattle.std.specs.Prelude.{Bool, List, Option, Some, None}
 use Rattle.tex_defs.specs.declared.Seen.{Seen}
 use Rattle.tex_defs.specs.declared.Sizes.{Sizes}

@@ -1,4 +1,4 @@
-use Rattle.std.proofs.Common.{◌≡◌, List, [], refl, ap, sym, subst, Bool, ℕ}
+use Rattle.std.proofs.Common.{List, [], refl, ap, sym, subst, Bool}
 use Rattle.std.specs.Prelude.{Some, None}
 use Rattle.tex_defs.specs.declared.Sizes.{Sizes}
 use Rattle.plain_state.specs.Pending.{Pending}
