@@ -35,7 +35,7 @@ item_level (First n t) = refl
 item_level (Later n t) = refl
 item_level Gap = refl
 
-used_items : (xs : List Item) → used_of xs ≡ plain.levels_of (map plain_item xs)
+pub used_items : (xs : List Item) → used_of xs ≡ plain.levels_of (map plain_item xs)
 used_items [] = refl
 used_items (x ∷ xs) = ap (λ (n : ℕ). 1 + n) (item_level x)
 

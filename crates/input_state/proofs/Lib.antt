@@ -7,7 +7,9 @@ pub mod Fronts
 pub mod Levels
 pub mod Sharing
 pub mod CallStays
+pub mod CallNumbers
 pub mod Words
+pub mod AllHolders
 pub mod Refusing
 pub mod ListViews
 pub mod Sounds

@@ -45,7 +45,7 @@ use Rattle.input_state.proofs.Sharing.{Reheld, reheld, keeps_lists, text_at}
 use Rattle.input_state.proofs.ListViews.{held_lists, same_held}
 use Rattle.input_state.proofs.Refusing.{levels_refused}
 use Rattle.input_state.proofs.Files.{settled_levels}
-use Rattle.input_state.proofs.Words.{have_tokens, token_at}
+use Rattle.input_state.proofs.CallNumbers.{have_tokens, token_at}
 use Rattle.input_state.proofs.CallKept.{shared_stands}
 use Rattle.input_state.proofs.PutItems.{args_numbers, args_length, call_is, call_front, front_called, macro_put_is}
 

@@ -1,4 +1,5 @@
 pub mod Stored
+pub mod Counted
 pub mod NextBytes
 pub mod Reads
 pub mod HeldLists

@@ -28,6 +28,7 @@ ghost use Rattle.macro_call.specs.PlainScans.{first_scan, cut_scan, settled_scan
 ghost use Rattle.macro_call.specs.Modes.{mode_of};
 ghost use Rattle.input_state.specs.FileViews.{progress_of};
 ghost use Rattle.input_state.specs.NextBytes.{KnowsNext, NeedsBytes, CountsOn, with_bytes};
+ghost use Rattle.input_state.specs.Counted.{AreCounted};
 ghost use Rattle.input_state.specs.Stored.{KeepsMacros, call_refusal, put_refusal, words, unread, no_bytes, closed};
 ghost use Rattle.input_state.specs.Reads.{GivesTo, Pulls, pull_refusal, RefusesLine, gives_step};
 
@@ -279,9 +280,11 @@ impl Input {
         self.held.list()
     }
 
-    /// The memory of all lists.
+    /// The memory of all lists. Each list is counted once for each of its holders, and for nothing else.
     pub fn lists(&self) -> &Lists
-        ensures { table.words result.now ≡ words self.now }
+        ensures words { table.words result.now ≡ words self.now }
+        ensures tokens { (id : ℕ) → tokens_at result.now id ≡ list_at self.now.lists id }
+        ensures counts { AreCounted result.now self.now }
     {
         self.held.lists()
     }
