@@ -175,6 +175,9 @@ impl Engine {
     }
 
     /// Keeps the job's name.
+    ///
+    /// # Errors
+    /// There is no room for it in the pool or among the strings; nothing has changed, but that the engine has stopped.
     pub fn keep_name(&mut self, name: &[u8]) -> Result<(), Broken>
         ensures did { OnOk result ((sizes : Sizes) (w : World) (book : Book) → IsSized sizes self.old → Did sizes (state_of self.old book) (state_of self.new book) w w (Kept name.now ∷ [])) }
         ensures err { IfErr result (λ b. (sizes : Sizes) (w : World) (book : Book) (more : List Move) → IsSized sizes self.old → Cuts sizes (state_of self.old book) self.new book w w (Kept name.now ∷ more) b) }
@@ -192,6 +195,9 @@ impl Engine {
     }
 
     /// The report that a job's file isn't held, and what comes behind it.
+    ///
+    /// # Errors
+    /// A write failed or wanted memory: a front of the text was written.
     pub fn refuse_job<S: Sink>(&mut self, out: &mut S, file: &[u8]) -> Result<Outcome, Broken>
         ensures run { IfOk result (λ o. (sizes : Sizes) (f : FilesTold) (book : Book) → self.old.in_line ≡ false → self.old.names.names ≡ primitive_names →
             Halts sizes (state_of self.old book) self.new book (world_of f (S.told out.old) self.old) (world_of f (S.told out.new) self.new) (no_file file.now) (outcome_of o) 0) }

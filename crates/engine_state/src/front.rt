@@ -17,6 +17,9 @@ use tex_defs::{Seen, Sizes, Token};
 
 impl Engine {
     /// Puts a token in front: a list of it is begun, grown and put, once the finished lists in front have gone.
+    ///
+    /// # Errors
+    /// The main memory or the input stack is full: of the list there is what had room.
     pub fn put_one(&mut self, token: Token) -> Result<(), Broken>
         requires idle { self.old.input.making ≡ None }
         ensures did { OnOk result ((sizes : Sizes) (w : World) (book : Book) → Counts sizes self.old book → self.old.input.making ≡ None → Did sizes (state_of self.old book) (state_of self.new book) w w (put_one token)) }
@@ -36,6 +39,9 @@ impl Engine {
     }
 
     /// Puts a token back, if there is one.
+    ///
+    /// # Errors
+    /// As [`Engine::put_one`].
     pub fn put_back(&mut self, back: Option<Seen>) -> Result<(), Broken>
         requires idle { self.old.input.making ≡ None }
         ensures did { OnOk result ((sizes : Sizes) (w : World) (book : Book) (fed : List Fed) → Counts sizes self.old book → self.old.input.making ≡ None → IsLast back fed → Did sizes (state_of self.old book) (state_of self.new book) w w (given_back (is_some back) fed)) }
@@ -54,6 +60,9 @@ impl Engine {
     }
 
     /// Inserts a token, if there is one.
+    ///
+    /// # Errors
+    /// As [`Engine::put_one`].
     pub fn insert(&mut self, inserted: Option<Token>) -> Result<(), Broken>
         requires idle { self.old.input.making ≡ None }
         ensures did { OnOk result ((sizes : Sizes) (w : World) (book : Book) → Counts sizes self.old book → self.old.input.making ≡ None → Did sizes (state_of self.old book) (state_of self.new book) w w (put_inserted inserted)) }

@@ -54,6 +54,9 @@ impl Engine {
     }
 
     /// Begins a reading, while the command in front of it waits, if there is one.
+    ///
+    /// # Errors
+    /// There is no room for one more reading, or for its list; nothing has changed.
     pub fn begin(&mut self, kind: Kind, waits: Option<Waiting>) -> Result<(), Full>
         requires { IsSome waits → IsSome self.old.top }
         ensures light { OnOk result (frame_weight self.new < 2 * frames self.old + 3 * (rank (kind_of kind) + 1) + pending_weight self.old.input.pending) }
@@ -107,6 +110,9 @@ impl Engine {
     }
 
     /// Feeds the innermost frame with a token.
+    ///
+    /// # Errors
+    /// The main memory is full before a token of the answer; one in front of it may be in the list, and the frame stands as before.
     pub fn feed_top(&mut self, seen: Seen) -> Result<(), Full>
         ensures same { OnOk result (SameState self.old self.new) }
         ensures stands { OnOk result ((sizes : Sizes) (book : Book) → FeedsHere sizes self.old seen book → Stands sizes self.new (with_work (fed_with (Tok seen) book.work) book)) }
@@ -277,6 +283,9 @@ impl Engine {
     }
 
     /// Begins a reading with the token that the command in front of it looked at: one that builds no list.
+    ///
+    /// # Errors
+    /// There is no room for one more reading; nothing has changed.
     pub fn begin_with(&mut self, kind: Kind, waits: Waiting, seen: Seen) -> Result<(), Full>
         requires { IsSome self.old.top }
         ensures light { OnOk result (frame_weight self.new < 2 * frames self.old + (10 + 3 * rank (kind_of kind)) + pending_weight self.old.input.pending) }

@@ -49,6 +49,9 @@ fn grow_text(input: &mut Input, text: &[u8]) -> Result<(), Full>
 
 impl Engine {
     /// Puts a made text in front: a list of its characters is begun, grown and put, once the finished lists in front have gone.
+    ///
+    /// # Errors
+    /// The main memory or the input stack is full: of the list there is what had room.
     pub fn put_text(&mut self, text: &[u8]) -> Result<(), Broken>
         requires idle { self.old.input.making ≡ None }
         ensures did { OnOk result ((sizes : Sizes) (w : World) (book : Book) → Counts sizes self.old book → self.old.input.making ≡ None → Did sizes (state_of self.old book) (state_of self.new book) w w (put_text (made_text text.now))) }

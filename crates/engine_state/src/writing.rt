@@ -44,6 +44,9 @@ impl Engine {
     }
 
     /// Writes a message: the list that the innermost reading holds.
+    ///
+    /// # Errors
+    /// A write failed or wanted memory: a front of the text was written.
     pub fn write_message<S: Sink>(&mut self, out: &mut S) -> Result<(), Broken>
         ensures did { OnOk result ((sizes : Sizes) (f : FilesTold) (book : Book) → Did sizes (state_of self.old book) (state_of self.new book) (world_of f (S.told out.old) self.old) (world_of f (S.told out.new) self.new) (Written Transcript (message_bytes self.old.categories self.old.names.names self.old.in_line (first_list self.old.input.builds)) ∷ [])) }
         ensures err { IfErr result (λ b. (sizes : Sizes) (f : FilesTold) (book : Book) (more : List Move) → Cuts sizes (state_of self.old book) self.new book (world_of f (S.told out.old) self.old) (world_of f (S.told out.new) self.new) (Written Transcript (message_bytes self.old.categories self.old.names.names self.old.in_line (first_list self.old.input.builds)) ∷ more) b) }
@@ -80,6 +83,9 @@ impl Engine {
     }
 
     /// Writes what is shown of an argument that runs away: the list in work, if a place is reached.
+    ///
+    /// # Errors
+    /// A write failed or wanted memory: a front of the text was written.
     pub fn write_argument<S: Sink>(&mut self, out: &mut S) -> Result<(), Broken>
         ensures did { OnOk result ((sizes : Sizes) (f : FilesTold) (book : Book) → Did sizes (state_of self.old book) (state_of self.new book) (world_of f (S.told out.old) self.old) (world_of f (S.told out.new) self.new) (Written Transcript (argument_bytes self.old) ∷ [])) }
         ensures err { IfErr result (λ b. (sizes : Sizes) (f : FilesTold) (book : Book) (more : List Move) → Cuts sizes (state_of self.old book) self.new book (world_of f (S.told out.old) self.old) (world_of f (S.told out.new) self.new) (Written Transcript (argument_bytes self.old) ∷ more) b) }
@@ -97,6 +103,9 @@ impl Engine {
     }
 
     /// The line of a token that only typesetting would use.
+    ///
+    /// # Errors
+    /// A write failed or wanted memory: a front of the text was written.
     pub fn token_line<S: Sink>(&mut self, out: &mut S, meaning: Meaning<()>) -> Result<(), Broken>
         ensures did { OnOk result ((sizes : Sizes) (f : FilesTold) (book : Book) →
             Did sizes (state_of self.old book) (state_of self.new book) (world_of f (S.told out.old) self.old) (world_of f (S.told out.new) self.new) (token_line (page_of self.old book) meaning)) }
@@ -113,6 +122,10 @@ impl Engine {
     }
 
     /// Writes a report on a fresh line, and counts it. Answers whether the run goes on behind it.
+    ///
+    /// # Errors
+    /// A write failed or wanted memory: a front of the report was written, which isn't counted, or the report is counted and a front of the
+    /// last line written, which comes behind the hundredth.
     pub fn report<S: Sink>(&mut self, out: &mut S, report: Report) -> Result<bool, Broken>
         ensures on { IfOk result (λ on. on ≡ true → (sizes : Sizes) (f : FilesTold) (book : Book) (rest : List Move) →
             Reports sizes (state_of self.old book) (state_of self.new book) (world_of f (S.told out.old) self.old) (world_of f (S.told out.new) self.new) (page_of self.old book) (report_of report) rest) }
@@ -148,6 +161,9 @@ impl Engine {
     }
 
     /// A report, behind which the rule ends.
+    ///
+    /// # Errors
+    /// As [`Engine::report`].
     pub fn report_only<S: Sink>(&mut self, out: &mut S, report: Report) -> Result<Ruled, Broken>
         requires idle { self.old.input.making ≡ None }
         ensures rule { IfOk result (λ ruled. (sizes : Sizes) (f : FilesTold) (book : Book) → AllStand sizes self.old book →
@@ -167,6 +183,9 @@ impl Engine {
     }
 
     /// Writes what the machine writes where it stops, and ends the run.
+    ///
+    /// # Errors
+    /// A write failed or wanted memory: a front of the text was written.
     pub fn halt<S: Sink>(&mut self, out: &mut S, last: Last) -> Result<Ruled, Broken>
         requires idle { self.old.input.making ≡ None }
         ensures rule { IfOk result (λ ruled. (sizes : Sizes) (f : FilesTold) (book : Book) →
