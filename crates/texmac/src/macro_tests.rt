@@ -1,20 +1,7 @@
 // Macros, over files in memory: what real TeX writes of them, token lines aside.
-use crate::tests::{job, job_with};
+use crate::tests::{Row, job, job_with, rows_hold};
 use std::alloc::{AllocError, Global};
 use std::test::Fail;
-
-/// A file behind the line with the usual categories, what it writes, and its status.
-type Row = (&'static [u8], &'static [u8], u8);
-
-/// Whether each of the files does so.
-fn rows_hold(alloc: Global, rows: &[Row]) -> Result<bool, AllocError> {
-    for row in rows {
-        if !job(alloc, row.0, row.1, row.2)? {
-            return Ok(false);
-        }
-    }
-    Ok(true)
-}
 
 /// Definitions, with all that is reported of them.
 const DEFINITIONS: [Row; 14] = [
@@ -619,33 +606,28 @@ fn repeated(alloc: Global, text: &[u8], count: usize, last: &[u8]) -> Result<Vec
     Ok(all)
 }
 
+/// Calls that never end.
+const ENDLESS: [Row; 3] = [
+    (
+        b"\\def\\a{\\a x}\\a\n",
+        b"! TeX capacity exceeded, sorry [input stack size=200].\n",
+        3,
+    ),
+    (
+        b"\\def\\a#1{\\a{#1}x}\\a y\n",
+        b"! TeX capacity exceeded, sorry [parameter stack size=60].\n",
+        3,
+    ),
+    (
+        b"\\def\\b{xxxxxxxxxx}\\def\\a{\\edef\\b{\\b\\b}\\a}\\a\n",
+        b"! TeX capacity exceeded, sorry [main memory size=30000].\n",
+        3,
+    ),
+];
+
 #[test]
 fn full_tables_end_calls_that_never_end(rt: HostRuntime) -> Result<(), Fail> {
-    let alloc = rt.alloc();
-    assert!(rt;
-        job(
-            alloc,
-            b"\\def\\a{\\a x}\\a\n",
-            b"! TeX capacity exceeded, sorry [input stack size=200].\n",
-            3
-        )?
-    );
-    assert!(rt;
-        job(
-            alloc,
-            b"\\def\\a#1{\\a{#1}x}\\a y\n",
-            b"! TeX capacity exceeded, sorry [parameter stack size=60].\n",
-            3
-        )?
-    );
-    assert!(rt;
-        job(
-            alloc,
-            b"\\def\\b{xxxxxxxxxx}\\def\\a{\\edef\\b{\\b\\b}\\a}\\a\n",
-            b"! TeX capacity exceeded, sorry [main memory size=30000].\n",
-            3
-        )?
-    );
+    assert!(rt; rows_hold(rt.alloc(), &ENDLESS)?);
     Ok(())
 }
 

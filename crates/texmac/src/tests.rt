@@ -40,7 +40,20 @@ pub fn job(alloc: Global, text: &[u8], written: &[u8], status: u8) -> Result<boo
     job_with(alloc, &["init", "job"], text, written, status)
 }
 
-/// The same for these words.
+/// A file behind the line with the usual categories, what it writes, and its status.
+pub type Row = (&'static [u8], &'static [u8], u8);
+
+/// Whether each of the files does so.
+pub fn rows_hold(alloc: Global, rows: &[Row]) -> Result<bool, AllocError> {
+    for row in rows {
+        if !job(alloc, row.0, row.1, row.2)? {
+            return Ok(false);
+        }
+    }
+    Ok(true)
+}
+
+/// The same for other words than `init job`.
 pub fn job_with(
     alloc: Global,
     words: &[&str],
@@ -275,6 +288,30 @@ fn tokens_of_typesetting_have_lines(rt: HostRuntime) -> Result<(), Fail> {
     Ok(())
 }
 
+/// Texts that are reported.
+const REPORTS: [Row; 4] = [
+    (
+        b"\\catcode256=1 \\end\n",
+        b"! Bad character code (256).\nl.2\n",
+        1,
+    ),
+    (
+        b"\\catcode`\\x=16 \\end\n",
+        b"! Invalid code (16), should be in the range 0..15.\nl.2\n",
+        1,
+    ),
+    (
+        b"\\message{a\x7fb}\\end\n",
+        b"! Text line contains an invalid character.\nl.2\nab\n",
+        1,
+    ),
+    (
+        b"\\message{a}\\foo\\message x}\\end\n",
+        b"a\n! Undefined control sequence.\nl.2\n! Missing { inserted.\nl.2\nx\n",
+        1,
+    ),
+];
+
 #[test]
 fn reports_are_written(rt: HostRuntime) -> Result<(), Fail> {
     let alloc = rt.alloc();
@@ -286,38 +323,7 @@ fn reports_are_written(rt: HostRuntime) -> Result<(), Fail> {
             1
         )?
     );
-    assert!(rt;
-        job(
-            alloc,
-            b"\\catcode256=1 \\end\n",
-            b"! Bad character code (256).\nl.2\n",
-            1
-        )?
-    );
-    assert!(rt;
-        job(
-            alloc,
-            b"\\catcode`\\x=16 \\end\n",
-            b"! Invalid code (16), should be in the range 0..15.\nl.2\n",
-            1
-        )?
-    );
-    assert!(rt;
-        job(
-            alloc,
-            b"\\message{a\x7fb}\\end\n",
-            b"! Text line contains an invalid character.\nl.2\nab\n",
-            1
-        )?
-    );
-    assert!(rt;
-        job(
-            alloc,
-            b"\\message{a}\\foo\\message x}\\end\n",
-            b"a\n! Undefined control sequence.\nl.2\n! Missing { inserted.\nl.2\nx\n",
-            1
-        )?
-    );
+    assert!(rt; rows_hold(alloc, &REPORTS)?);
     Ok(())
 }
 
@@ -367,158 +373,143 @@ fn a_run_stops_at_its_bound(rt: HostRuntime) -> Result<(), Fail> {
     Ok(())
 }
 
+/// Messages, with a space between them.
+const PARTED: [Row; 2] = [
+    (b"\\message{a}%\n\\message{b}\\end\n", b"a b\n", 0),
+    (b"\\message{a}%\r\n\\message{b}\\end", b"a b\n", 0),
+];
+
 #[test]
 fn messages_are_parted_by_a_space(rt: HostRuntime) -> Result<(), Fail> {
-    let alloc = rt.alloc();
-    assert!(rt; job(alloc, b"\\message{a}%\n\\message{b}\\end\n", b"a b\n", 0)?);
-    assert!(rt; job(alloc, b"\\message{a}%\r\n\\message{b}\\end", b"a b\n", 0)?);
+    assert!(rt; rows_hold(rt.alloc(), &PARTED)?);
     Ok(())
 }
+
+/// Texts with braces, and of several lines.
+const BALANCED: [Row; 2] = [
+    (b"\\message{a{b{c}}d}\\end\n", b"a{b{c}}d\n", 0),
+    (
+        b"\\message {one\ntwo  three   \n   four}\\end\n",
+        b"one two three four\n",
+        0,
+    ),
+];
 
 #[test]
 fn texts_are_balanced(rt: HostRuntime) -> Result<(), Fail> {
-    let alloc = rt.alloc();
-    assert!(rt; job(alloc, b"\\message{a{b{c}}d}\\end\n", b"a{b{c}}d\n", 0)?);
-    assert!(rt;
-        job(
-            alloc,
-            b"\\message {one\ntwo  three   \n   four}\\end\n",
-            b"one two three four\n",
-            0
-        )?
-    );
+    assert!(rt; rows_hold(rt.alloc(), &BALANCED)?);
     Ok(())
 }
+
+/// Characters by `^^`, inside names too.
+const HATS: [Row; 2] = [
+    (b"\\message{^^41^^4a}\\end\n", b"AJ\n", 0),
+    (b"\\mess^^61ge{^^:^^^41}\\e^^6ed\n", b"z^^^41\n", 0),
+];
 
 #[test]
 fn double_hats_stand_for_characters(rt: HostRuntime) -> Result<(), Fail> {
-    let alloc = rt.alloc();
-    assert!(rt; job(alloc, b"\\message{^^41^^4a}\\end\n", b"AJ\n", 0)?);
-    assert!(rt; job(alloc, b"\\mess^^61ge{^^:^^^41}\\e^^6ed\n", b"z^^^41\n", 0)?);
+    assert!(rt; rows_hold(rt.alloc(), &HATS)?);
     Ok(())
 }
+
+/// Characters as they are printed: `\newlinechar` is 0.
+const PRINTED: [Row; 2] = [
+    (
+        b"\\message{a\x00b\tc\xffd##}\\end\n",
+        b"ab^^Ic^^ffd####\n",
+        0,
+    ),
+    (b"\\catcode0=12 \\message{a^^@b}\\end\n", b"a\nb\n", 0),
+];
 
 #[test]
 fn characters_are_printed_as_tex_prints_them(rt: HostRuntime) -> Result<(), Fail> {
-    let alloc = rt.alloc();
-    assert!(rt;
-        job(
-            alloc,
-            b"\\message{a\x00b\tc\xffd##}\\end\n",
-            b"ab^^Ic^^ffd####\n",
-            0
-        )?
-    );
-    // \newlinechar is 0
-    assert!(rt;
-        job(
-            alloc,
-            b"\\catcode0=12 \\message{a^^@b}\\end\n",
-            b"a\nb\n",
-            0
-        )?
-    );
+    assert!(rt; rows_hold(rt.alloc(), &PRINTED)?);
     Ok(())
 }
+
+/// Category codes, read in each form of a number.
+const CODES: [Row; 4] = [
+    (
+        b"\\catcode`\\%=12 \\message{a%b}\\catcode`\\%=14 %c\n\\end\n",
+        b"a%b\n",
+        0,
+    ),
+    (b"\\catcode'45=12 \\message{a%b}\\end\n", b"a%b\n", 0),
+    (b"\\catcode\"25='14 \\message{a%b}\\end\n", b"a%b\n", 0),
+    (b"\\catcode 37 = -+-\"C \\message{a%b}\\end\n", b"a%b\n", 0),
+];
 
 #[test]
 fn category_codes_are_read_in_each_form(rt: HostRuntime) -> Result<(), Fail> {
-    let alloc = rt.alloc();
-    assert!(rt;
-        job(
-            alloc,
-            b"\\catcode`\\%=12 \\message{a%b}\\catcode`\\%=14 %c\n\\end\n",
-            b"a%b\n",
-            0
-        )?
-    );
-    assert!(rt; job(alloc, b"\\catcode'45=12 \\message{a%b}\\end\n", b"a%b\n", 0)?);
-    assert!(rt;
-        job(
-            alloc,
-            b"\\catcode\"25='14 \\message{a%b}\\end\n",
-            b"a%b\n",
-            0
-        )?
-    );
-    assert!(rt;
-        job(
-            alloc,
-            b"\\catcode 37 = -+-\"C \\message{a%b}\\end\n",
-            b"a%b\n",
-            0
-        )?
-    );
+    assert!(rt; rows_hold(rt.alloc(), &CODES)?);
     Ok(())
 }
+
+/// `\relax` by itself and before a text.
+const RELAXED: [Row; 3] = [
+    (b"\\relax\\end\n", b"", 0),
+    (b"\\message\\relax {hi}\\end\n", b"hi\n", 0),
+    (b"\\message \\relax\\relax{hi}\\end\n", b"hi\n", 0),
+];
 
 #[test]
 fn relax_does_nothing(rt: HostRuntime) -> Result<(), Fail> {
-    let alloc = rt.alloc();
-    assert!(rt; job(alloc, b"\\relax\\end\n", b"", 0)?);
-    assert!(rt; job(alloc, b"\\message\\relax {hi}\\end\n", b"hi\n", 0)?);
-    assert!(rt; job(alloc, b"\\message \\relax\\relax{hi}\\end\n", b"hi\n", 0)?);
+    assert!(rt; rows_hold(rt.alloc(), &RELAXED)?);
     Ok(())
 }
+
+/// Prefixes, with what is reported of them.
+const PREFIXES: [Row; 5] = [
+    (
+        b"\\global\\catcode`\\%=12 \\message{a%b}\\catcode`\\%=14 \\end\n",
+        b"a%b\n",
+        0,
+    ),
+    (
+        b"\\global\\relax \\long\\catcode`\\%=12 \\message{%}\\catcode`\\%=14 \\end\n",
+        b"! You can't use `\\long' or `\\outer' with `\\catcode'.\nl.2\n%\n",
+        1,
+    ),
+    (
+        b"\\global\\message{x}\\end\n",
+        b"! You can't use a prefix with `\\message'.\nl.2\nx\n",
+        1,
+    ),
+    (
+        b"\\outer x\\end\n",
+        b"! You can't use a prefix with `the letter x'.\nl.2\n{the letter x}\n",
+        1,
+    ),
+    (
+        b"\\long\\foo\\global\\end\n",
+        b"! Undefined control sequence.\nl.2\n! You can't use a prefix with `\\end'.\nl.2\n",
+        1,
+    ),
+];
 
 #[test]
 fn prefixes_stand_before_assignments(rt: HostRuntime) -> Result<(), Fail> {
-    let alloc = rt.alloc();
-    let rows: [(&[u8], &[u8], u8); 5] = [
-        (
-            b"\\global\\catcode`\\%=12 \\message{a%b}\\catcode`\\%=14 \\end\n",
-            b"a%b\n",
-            0,
-        ),
-        (
-            b"\\global\\relax \\long\\catcode`\\%=12 \\message{%}\\catcode`\\%=14 \\end\n",
-            b"! You can't use `\\long' or `\\outer' with `\\catcode'.\nl.2\n%\n",
-            1,
-        ),
-        (
-            b"\\global\\message{x}\\end\n",
-            b"! You can't use a prefix with `\\message'.\nl.2\nx\n",
-            1,
-        ),
-        (
-            b"\\outer x\\end\n",
-            b"! You can't use a prefix with `the letter x'.\nl.2\n{the letter x}\n",
-            1,
-        ),
-        (
-            b"\\long\\foo\\global\\end\n",
-            b"! Undefined control sequence.\nl.2\n! You can't use a prefix with `\\end'.\nl.2\n",
-            1,
-        ),
-    ];
-    for (text, written, status) in rows {
-        assert!(rt; job(alloc, text, written, status)?);
-    }
+    assert!(rt; rows_hold(rt.alloc(), &PREFIXES)?);
     Ok(())
 }
 
+/// An active, an ignored, a comment and an escape character.
+const CATEGORIES: [Row; 4] = [
+    (
+        b"\\catcode`\\~=13 ~\\end\n",
+        b"! Undefined control sequence.\nl.2\n",
+        1,
+    ),
+    (b"\\catcode`\\!=9 \\message{a!b}\\end\n", b"ab\n", 0),
+    (b"\\catcode`\\!=14 \\message{a}!b\n\\end\n", b"a\n", 0),
+    (b"\\catcode`\\|=0 |message{a}|end\n", b"a\n", 0),
+];
+
 #[test]
 fn categories_are_followed(rt: HostRuntime) -> Result<(), Fail> {
-    let alloc = rt.alloc();
-    // active, ignored, comment, escape
-    assert!(rt;
-        job(
-            alloc,
-            b"\\catcode`\\~=13 ~\\end\n",
-            b"! Undefined control sequence.\nl.2\n",
-            1
-        )?
-    );
-    assert!(rt; job(alloc, b"\\catcode`\\!=9 \\message{a!b}\\end\n", b"ab\n", 0)?);
-    assert!(rt;
-        job(
-            alloc,
-            b"\\catcode`\\!=14 \\message{a}!b\n\\end\n",
-            b"a\n",
-            0
-        )?
-    );
-    assert!(rt; job(alloc, b"\\catcode`\\|=0 |message{a}|end\n", b"a\n", 0)?);
+    assert!(rt; rows_hold(rt.alloc(), &CATEGORIES)?);
     Ok(())
 }
 
