@@ -22,7 +22,6 @@ use Rattle.engine_state.specs.Stands.{state_of}
 use Rattle.engine_state.specs.Steps.{weight, stepping, all_want}
 use Rattle.stomach.specs.declared.early.Early.{Early}
 use Rattle.stomach.specs.declared.early.Early.TheVariants as early
-use Rattle.stomach.specs.declared.runs.Ended.{Ended}
 use Rattle.stomach.specs.declared.runs.Ended.TheVariants as ended
 use Rattle.stomach.specs.Ahead.{IsGiven, Knows, IsAtFile}
 use Rattle.stomach.specs.Ran.{Came, Stops, Settles, Ran, StoppedBy, RanTo, StoppedTo, whole_state}

@@ -1,11 +1,10 @@
 -- An engine that has noted whether it has stopped stands for the same moment of a run.
-use Rattle.std.proofs.Common.{◌≡◌, ℕ, List, []}
+use Rattle.std.proofs.Common.{ℕ, List, []}
 use Rattle.std.specs.Prelude.{Bool, Option, Some, None, ◌∷◌, Result, Ok, Err, MatchResult}
 use Rattle.tex_defs.specs.declared.Sizes.{Sizes}
 use Rattle.tex_defs.specs.Places.{World}
 use Rattle.plain_state.specs.States.{State, Reading}
 use Rattle.world_io.specs.Told.{SinkTold}
-use Rattle.engine_state.specs.declared.broken.Broken.{Broken}
 use Rattle.engine_state.specs.declared.call.Call.{Call}
 use Rattle.engine_state.specs.declared.engine.Engine.{Engine}
 use Rattle.engine_state.specs.Begins.{outcome_of}

@@ -1,4 +1,4 @@
-use Rattle.std.proofs.Common.{◌≡◌, subst, refl, ℕ, List, [], ◌++◌, Some, None, false}
+use Rattle.std.proofs.Common.{subst, refl, ℕ, List, [], ◌++◌, Some, None, false}
 use Rattle.std.specs.Prelude.{Option, IfNone, IfSome}
 use Rattle.plain_machine.specs.Meaning.{First}
 use Rattle.world_io.specs.declared.traits.InId.{InId}
