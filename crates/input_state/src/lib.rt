@@ -15,8 +15,6 @@ mod holders;
 mod lines;
 mod lists_held;
 mod state;
-#[cfg(test)]
-mod tests;
 
 pub use answer::{CallKind, CallTold, Pulled};
 pub use state::Input;

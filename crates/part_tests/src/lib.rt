@@ -15,6 +15,8 @@ mod frames_tests;
 #[cfg(test)]
 mod input_stack_tests;
 #[cfg(test)]
+mod input_state_tests;
+#[cfg(test)]
 mod line_lexer_tests;
 #[cfg(test)]
 mod line_reader_tests;
