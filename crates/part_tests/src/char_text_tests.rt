@@ -2,7 +2,6 @@
 use char_text::{
     Roman, Text, count_length, hexadecimal_length, scaled_length, whole_number_length,
 };
-use std::process::Abort;
 
 fn scaled_text(s: i32) -> Text {
     let mut text = Text::new();
@@ -32,60 +31,79 @@ fn hex_text(n: u32) -> Text {
     text
 }
 
-fn expect_roman(rt: &impl Abort, n: i32, letters: &[u8]) {
+// Whether the numeral of `n` has these letters, and then none.
+fn is_roman(n: i32, letters: &[u8]) -> bool {
     let mut numeral = Roman::new(n);
     for letter in letters {
-        assert!(rt; numeral.next() == Some(*letter));
+        if numeral.next() != Some(*letter) {
+            return false;
+        }
     }
-    assert!(rt; numeral.next().is_none());
+    numeral.next().is_none()
 }
 
+const SCALED_NUMBERS: [(i32, &[u8]); 8] = [
+    (4736286, b"72.26999"),
+    (2368143, b"36.135"),
+    (1073741823, b"16383.99998"),
+    (65536, b"1.0"),
+    (-3, b"-0.00005"),
+    (1, b"0.00002"),
+    (0, b"0.0"),
+    (i32::MIN, b"-32768.0"),
+];
+
+// Among them 1in, .5in, the largest dimension and 1sp.
 #[test]
 fn scaled_numbers(rt: HostRuntime) {
-    assert!(rt;
-        scaled_text(4736286).bytes() == b"72.26999".as_slice(),
-        "1in"
-    );
-    assert!(rt;
-        scaled_text(2368143).bytes() == b"36.135".as_slice(),
-        ".5in"
-    );
-    assert!(rt;
-        scaled_text(1073741823).bytes() == b"16383.99998".as_slice(),
-        "the largest dimension"
-    );
-    assert!(rt; scaled_text(65536).bytes() == b"1.0".as_slice());
-    assert!(rt; scaled_text(-3).bytes() == b"-0.00005".as_slice());
-    assert!(rt; scaled_text(1).bytes() == b"0.00002".as_slice(), "1sp");
-    assert!(rt; scaled_text(0).bytes() == b"0.0".as_slice());
-    assert!(rt; scaled_text(i32::MIN).bytes() == b"-32768.0".as_slice());
+    for (s, wanted) in SCALED_NUMBERS {
+        assert!(rt; scaled_text(s).bytes() == wanted, "{s}sp");
+    }
 }
+
+const WHOLE_NUMBERS: [(i32, &[u8]); 3] = [
+    (0, b"0"),
+    (-2147483648, b"-2147483648"),
+    (2147483647, b"2147483647"),
+];
 
 #[test]
 fn whole_numbers(rt: HostRuntime) {
-    assert!(rt; int_text(0).bytes() == b"0".as_slice());
-    assert!(rt; int_text(-2147483648).bytes() == b"-2147483648".as_slice());
-    assert!(rt; int_text(2147483647).bytes() == b"2147483647".as_slice());
+    for (n, wanted) in WHOLE_NUMBERS {
+        assert!(rt; int_text(n).bytes() == wanted);
+    }
     assert!(rt; count_text(18446744073709551615).bytes() == b"18446744073709551615".as_slice());
 }
 
+const HEXADECIMAL_NUMBERS: [(u32, &[u8]); 5] = [
+    (0x41, b"41"),
+    (0x141, b"141"),
+    (0, b"0"),
+    (0xABCDEF, b"ABCDEF"),
+    (u32::MAX, b"FFFFFFFF"),
+];
+
 #[test]
 fn hexadecimal_numbers(rt: HostRuntime) {
-    assert!(rt; hex_text(0x41).bytes() == b"41".as_slice());
-    assert!(rt; hex_text(0x141).bytes() == b"141".as_slice());
-    assert!(rt; hex_text(0).bytes() == b"0".as_slice());
-    assert!(rt; hex_text(0xABCDEF).bytes() == b"ABCDEF".as_slice());
-    assert!(rt; hex_text(u32::MAX).bytes() == b"FFFFFFFF".as_slice());
+    for (n, wanted) in HEXADECIMAL_NUMBERS {
+        assert!(rt; hex_text(n).bytes() == wanted);
+    }
 }
+
+const ROMAN_NUMERALS: [(i32, &[u8]); 6] = [
+    (1987, b"mcmlxxxvii"),
+    (1444, b"mcdxliv"),
+    (999, b"cmxcix"),
+    (4000, b"mmmm"),
+    (0, b""),
+    (-5, b""),
+];
 
 #[test]
 fn roman_numerals(rt: HostRuntime) {
-    expect_roman(&rt, 1987, b"mcmlxxxvii");
-    expect_roman(&rt, 1444, b"mcdxliv");
-    expect_roman(&rt, 999, b"cmxcix");
-    expect_roman(&rt, 4000, b"mmmm");
-    expect_roman(&rt, 0, b"");
-    expect_roman(&rt, -5, b"");
+    for (n, letters) in ROMAN_NUMERALS {
+        assert!(rt; is_roman(n, letters), "{n}");
+    }
 }
 
 #[test]
