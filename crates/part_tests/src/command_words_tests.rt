@@ -75,21 +75,23 @@ fn reads_commands(rt: HostRuntime) -> Result<(), Fail> {
     Ok(())
 }
 
+// Files, and the names of their jobs.
+const JOB_NAMES: [(&[u8], &[u8]); 9] = [
+    (b"x.tex", b"x"),
+    (b"a/b.c/d.e.f", b"d"),
+    (b".tex", b""),
+    (b"x", b"x"),
+    (b"a.b/c", b"c"),
+    (b"a/", b""),
+    (b"", b""),
+    (b"/x.y", b"x"),
+    (b"a/..", b""),
+];
+
 #[test]
 fn names_jobs(rt: HostRuntime) {
-    let rows = [
-        ("x.tex", "x"),
-        ("a/b.c/d.e.f", "d"),
-        (".tex", ""),
-        ("x", "x"),
-        ("a.b/c", "c"),
-        ("a/", ""),
-        ("", ""),
-        ("/x.y", "x"),
-        ("a/..", ""),
-    ];
-    for (file, name) in rows {
-        assert!(rt; job_name(file.as_bytes()) == name.as_bytes());
+    for (file, name) in JOB_NAMES {
+        assert!(rt; job_name(file) == name);
     }
 }
 
