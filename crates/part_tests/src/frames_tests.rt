@@ -25,15 +25,43 @@ fn char_of(cat: u8, code: u8) -> Seen {
     }
 }
 
+/// Whether the reading answers each of these tokens so.
+fn answers(frame: &mut Frame, rows: &[(Seen, Answer)]) -> bool {
+    for (token, wanted) in rows {
+        if frame.feed(*token) != *wanted {
+            return false;
+        }
+    }
+    true
+}
+
+/// Whether the reading answers so once its report is written.
+fn goes_on(frame: &mut Frame, wanted: Answer) -> bool {
+    frame.feed_told() == wanted
+}
+
+/// Whether a reading begins by asking so.
+fn begins(kind: Kind, wanted: Ask) -> bool {
+    first_ask(kind) == wanted
+}
+
+/// Whether what waits answers so to a value.
+fn takes(waits: &mut Waiting, value: Value, wanted: Ask) -> bool {
+    waits.feed_value(value) == wanted
+}
+
 #[test]
 fn an_integer_is_read_to_its_end(rt: HostRuntime) -> Result<(), Fail> {
     let mut frame = Frame::new(Kind::Integer);
-    assert!(rt; first_ask(Kind::Integer) == Ask::More(Want::Nonblank));
-    assert!(rt; frame.feed(char_of(12, 45)) == bare(Ask::More(Want::Nonblank)));
-    assert!(rt; frame.feed(char_of(12, 49)) == bare(Ask::More(Want::Expanded)));
-    assert!(rt; frame.feed(char_of(12, 50)) == bare(Ask::More(Want::Expanded)));
     let letter = char_of(11, 120);
-    assert!(rt; frame.feed(letter) == bare(Ask::Done(Value::Int(-12), Some(letter))));
+    let rows = [
+        (char_of(12, 45), bare(Ask::More(Want::Nonblank))),
+        (char_of(12, 49), bare(Ask::More(Want::Expanded))),
+        (char_of(12, 50), bare(Ask::More(Want::Expanded))),
+        (letter, bare(Ask::Done(Value::Int(-12), Some(letter)))),
+    ];
+    assert!(rt; begins(Kind::Integer, Ask::More(Want::Nonblank)));
+    assert!(rt; answers(&mut frame, &rows));
     Ok(())
 }
 
@@ -41,8 +69,9 @@ fn an_integer_is_read_to_its_end(rt: HostRuntime) -> Result<(), Fail> {
 fn a_report_comes_before_the_value(rt: HostRuntime) -> Result<(), Fail> {
     let mut frame = Frame::new(Kind::Integer);
     let letter = char_of(11, 120);
-    assert!(rt; frame.feed(letter) == bare(Ask::Tells(Report::MissingNumber, Some(letter))));
-    assert!(rt; frame.feed_told() == bare(Ask::Done(Value::Int(0), None)));
+    let report = bare(Ask::Tells(Report::MissingNumber, Some(letter)));
+    assert!(rt; answers(&mut frame, &[(letter, report)]));
+    assert!(rt; goes_on(&mut frame, bare(Ask::Done(Value::Int(0), None))));
     Ok(())
 }
 
@@ -56,27 +85,35 @@ fn primitive(number: u16) -> Seen {
 
 #[test]
 fn prefixes_stand_before_assignments(rt: HostRuntime) -> Result<(), Fail> {
-    assert!(rt; first_ask(Kind::Prefixed(false, false)) == Ask::More(Want::Command));
-    let mut frame = Frame::new(Kind::Prefixed(false, false));
-    assert!(rt; frame.feed(primitive(GLOBAL)) == bare(Ask::More(Want::Command)));
+    let kind = Kind::Prefixed(false, false);
+    let more = bare(Ask::More(Want::Command));
     let waits = Waiting::Prefixed(false, false, PrefixScan::Code(CodeScan::Start));
-    assert!(rt; frame.feed(primitive(CATCODE)) == bare(Ask::Inner(waits, Kind::Integer, None)));
-    let mut limited = Frame::new(Kind::Prefixed(false, false));
-    assert!(rt; limited.feed(primitive(OUTER)) == bare(Ask::More(Want::Command)));
+    let inner = bare(Ask::Inner(waits, Kind::Integer, None));
     let report = Report::LongOrOuterWith(Meaning::Prim(CATCODE));
-    assert!(rt; limited.feed(primitive(CATCODE)) == bare(Ask::Tells(report, None)));
-    assert!(rt; limited.feed_told() == bare(Ask::Inner(waits, Kind::Integer, None)));
+    let global = [(primitive(GLOBAL), more), (primitive(CATCODE), inner)];
+    let outer = [
+        (primitive(OUTER), more),
+        (primitive(CATCODE), bare(Ask::Tells(report, None))),
+    ];
+    let mut limited = Frame::new(kind);
+    assert!(rt; begins(kind, Ask::More(Want::Command)));
+    assert!(rt; answers(&mut Frame::new(kind), &global));
+    assert!(rt; answers(&mut limited, &outer));
+    assert!(rt; goes_on(&mut limited, inner));
     Ok(())
 }
 
 #[test]
 fn another_command_is_given_back(rt: HostRuntime) -> Result<(), Fail> {
     let mut frame = Frame::new(Kind::Prefixed(true, false));
-    assert!(rt; frame.feed(primitive(LONG)) == bare(Ask::More(Want::Command)));
     let letter = char_of(11, 120);
     let report = Report::PrefixWith(letter.meaning);
-    assert!(rt; frame.feed(letter) == bare(Ask::Tells(report, Some(letter))));
-    assert!(rt; frame.feed_told() == bare(Ask::Done(Value::Flag(true), None)));
+    let rows = [
+        (primitive(LONG), bare(Ask::More(Want::Command))),
+        (letter, bare(Ask::Tells(report, Some(letter)))),
+    ];
+    assert!(rt; answers(&mut frame, &rows));
+    assert!(rt; goes_on(&mut frame, bare(Ask::Done(Value::Flag(true), None))));
     Ok(())
 }
 
@@ -86,12 +123,15 @@ fn a_text_is_balanced(rt: HostRuntime) -> Result<(), Fail> {
     let mut frame = Frame::new(Kind::Text(name));
     let open = char_of(1, 123);
     let close = char_of(2, 125);
-    assert!(rt; frame.scanned() == Some((Scanned::Text, name)));
     let more = Ask::More(Want::Expanded);
-    assert!(rt; frame.feed(open) == bare(more));
-    assert!(rt; frame.feed(open) == grown(more, Some(open.token), None));
-    assert!(rt; frame.feed(close) == grown(more, Some(close.token), None));
-    assert!(rt; frame.feed(close) == bare(Ask::Done(Value::Toks, None)));
+    let rows = [
+        (open, bare(more)),
+        (open, grown(more, Some(open.token), None)),
+        (close, grown(more, Some(close.token), None)),
+        (close, bare(Ask::Done(Value::Toks, None))),
+    ];
+    assert!(rt; frame.scanned() == Some((Scanned::Text, name)));
+    assert!(rt; answers(&mut frame, &rows));
     Ok(())
 }
 
@@ -106,18 +146,25 @@ fn named(name: Name) -> Seen {
     }
 }
 
+/// Whether `\outer` and the primitive of this number define a macro, with expansion or without.
+fn defines(number: u16, expanded: bool) -> bool {
+    let scan = PrefixScan::Defines(expanded, true, true, DefineScan::Behind(MACRO));
+    let mut waits = Waiting::Prefixed(true, false, scan);
+    let inner = Ask::Inner(waits, Kind::Definition(MACRO, expanded), None);
+    let rows = [
+        (primitive(OUTER), bare(Ask::More(Want::Command))),
+        (primitive(number), bare(Ask::More(Want::Raw))),
+        (named(MACRO), bare(inner)),
+    ];
+    let effect = Effect::SetMacro(MACRO, true, true);
+    answers(&mut Frame::new(Kind::Prefixed(true, false)), &rows)
+        && takes(&mut waits, Value::Toks, Ask::Act(effect))
+}
+
 #[test]
 fn prefixes_stand_before_definitions(rt: HostRuntime) -> Result<(), Fail> {
     for (number, expanded) in [(DEF, false), (GDEF, false), (EDEF, true), (XDEF, true)] {
-        let mut frame = Frame::new(Kind::Prefixed(true, false));
-        assert!(rt; frame.feed(primitive(OUTER)) == bare(Ask::More(Want::Command)));
-        assert!(rt; frame.feed(primitive(number)) == bare(Ask::More(Want::Raw)));
-        let scan = PrefixScan::Defines(expanded, true, true, DefineScan::Behind(MACRO));
-        let mut waits = Waiting::Prefixed(true, false, scan);
-        let inner = Ask::Inner(waits, Kind::Definition(MACRO, expanded), None);
-        assert!(rt; frame.feed(named(MACRO)) == bare(inner));
-        let effect = Effect::SetMacro(MACRO, true, true);
-        assert!(rt; waits.feed_value(Value::Toks) == Ask::Act(effect));
+        assert!(rt; defines(number, expanded), "{number}");
     }
     Ok(())
 }
@@ -127,41 +174,52 @@ fn a_missing_name_is_inserted(rt: HostRuntime) -> Result<(), Fail> {
     let inaccessible = Name::Frozen(Frozen::Inaccessible);
     let letter = char_of(11, 120);
     let report = Report::MissingName;
-    assert!(rt; first_ask(Kind::Define(true)) == Ask::More(Want::Raw));
-    let mut frame = Frame::new(Kind::Define(true));
-    assert!(rt; frame.feed(char_of(10, 32)) == bare(Ask::More(Want::Raw)));
+    let raw = bare(Ask::More(Want::Raw));
     let inserts = Ask::Inserts(Token::Named(inaccessible), report, Some(letter));
-    assert!(rt; frame.feed(letter) == bare(inserts));
-    assert!(rt; frame.feed_told() == bare(Ask::More(Want::Raw)));
     let dropped = Ask::Inserts(Token::Named(inaccessible), report, None);
-    assert!(rt; frame.feed(named(Name::Frozen(Frozen::Relax))) == bare(dropped));
-    assert!(rt; frame.feed_told() == bare(Ask::More(Want::Raw)));
     let waits = Waiting::Define(true, DefineScan::Behind(inaccessible));
     let inner = Ask::Inner(waits, Kind::Definition(inaccessible, true), None);
-    assert!(rt; frame.feed(named(inaccessible)) == bare(inner));
+    let relax = named(Name::Frozen(Frozen::Relax));
+    let mut frame = Frame::new(Kind::Define(true));
+    assert!(rt; begins(Kind::Define(true), Ask::More(Want::Raw)));
+    assert!(rt;
+        answers(
+            &mut frame,
+            &[(char_of(10, 32), raw), (letter, bare(inserts))]
+        )
+    );
+    assert!(rt; goes_on(&mut frame, raw));
+    assert!(rt; answers(&mut frame, &[(relax, bare(dropped))]));
+    assert!(rt; goes_on(&mut frame, raw));
+    assert!(rt; answers(&mut frame, &[(named(inaccessible), bare(inner))]));
     Ok(())
 }
 
 #[test]
 fn a_macro_has_places_and_a_body(rt: HostRuntime) -> Result<(), Fail> {
     let character = char_of(6, 35);
+    let digit = char_of(12, 49);
     let open = char_of(1, 123);
     let close = char_of(2, 125);
     let raw = Ask::More(Want::Raw);
+    let rows = [
+        (character, bare(raw)),
+        (digit, grown(raw, Some(Token::Place(35)), None)),
+        (character, bare(raw)),
+        (open, grown(raw, Some(open.token), Some(Token::EndPlaces))),
+        (character, bare(raw)),
+        (digit, grown(raw, Some(Token::Number(1)), None)),
+        (character, bare(raw)),
+        (character, grown(raw, Some(character.token), None)),
+        (
+            close,
+            grown(Ask::Done(Value::Toks, None), Some(open.token), None),
+        ),
+    ];
     let mut frame = Frame::new(Kind::Definition(MACRO, false));
-    assert!(rt; first_ask(Kind::Definition(MACRO, false)) == raw);
+    assert!(rt; begins(Kind::Definition(MACRO, false), raw));
     assert!(rt; frame.scanned() == Some((Scanned::Definition, MACRO)));
-    assert!(rt; frame.feed(character) == bare(raw));
-    assert!(rt; frame.feed(char_of(12, 49)) == grown(raw, Some(Token::Place(35)), None));
-    assert!(rt; frame.feed(character) == bare(raw));
-    let brace = grown(raw, Some(open.token), Some(Token::EndPlaces));
-    assert!(rt; frame.feed(open) == brace);
-    assert!(rt; frame.feed(character) == bare(raw));
-    assert!(rt; frame.feed(char_of(12, 49)) == grown(raw, Some(Token::Number(1)), None));
-    assert!(rt; frame.feed(character) == bare(raw));
-    assert!(rt; frame.feed(character) == grown(raw, Some(character.token), None));
-    let done = Ask::Done(Value::Toks, None);
-    assert!(rt; frame.feed(close) == grown(done, Some(open.token), None));
+    assert!(rt; answers(&mut frame, &rows));
     Ok(())
 }
 
@@ -171,17 +229,19 @@ fn a_wrong_number_is_reported(rt: HostRuntime) -> Result<(), Fail> {
     let letter = char_of(11, 120);
     let raw = Ask::More(Want::Raw);
     let copied = Ask::More(Want::Copied);
-    let mut frame = Frame::new(Kind::Definition(MACRO, true));
-    assert!(rt; frame.feed(character) == bare(raw));
     let place = Ask::Tells(Report::NotConsecutive, Some(letter));
-    assert!(rt; frame.feed(letter) == bare(place));
-    assert!(rt; frame.feed_told() == grown(raw, Some(Token::Place(35)), None));
-    let open = char_of(1, 123);
-    assert!(rt; frame.feed(open) == grown(copied, Some(Token::EndPlaces), None));
-    assert!(rt; frame.feed(character) == bare(Ask::More(Want::Expanded)));
     let number = Ask::Tells(Report::IllegalNumber(MACRO), Some(letter));
-    assert!(rt; frame.feed(letter) == bare(number));
-    assert!(rt; frame.feed_told() == grown(copied, Some(character.token), None));
+    let parameters = [(character, bare(raw)), (letter, bare(place))];
+    let body = [
+        (char_of(1, 123), grown(copied, Some(Token::EndPlaces), None)),
+        (character, bare(Ask::More(Want::Expanded))),
+        (letter, bare(number)),
+    ];
+    let mut frame = Frame::new(Kind::Definition(MACRO, true));
+    assert!(rt; answers(&mut frame, &parameters));
+    assert!(rt; goes_on(&mut frame, grown(raw, Some(Token::Place(35)), None)));
+    assert!(rt; answers(&mut frame, &body));
+    assert!(rt; goes_on(&mut frame, grown(copied, Some(character.token), None)));
     Ok(())
 }
 
@@ -196,8 +256,13 @@ fn an_expansion_lies_above_a_text(rt: HostRuntime) -> Result<(), Fail> {
     outer.push(Beneath::Expands(text, Want::Expanded));
     outer.push(Beneath::Waits(number));
     assert!(rt; outer.scanned() == Some((Scanned::Text, name)));
-    assert!(rt; first_ask(Kind::Number) == Ask::Inner(Waiting::Number, Kind::Integer, None));
-    assert!(rt; number.feed_value(Value::Int(-7)) == Ask::Makes(Made::Number(-7)));
+    assert!(rt;
+        begins(
+            Kind::Number,
+            Ask::Inner(Waiting::Number, Kind::Integer, None)
+        )
+    );
+    assert!(rt; takes(&mut number, Value::Int(-7), Ask::Makes(Made::Number(-7))));
     Ok(())
 }
 
@@ -215,6 +280,6 @@ fn commands_wait(rt: HostRuntime) -> Result<(), Fail> {
     assert!(rt; outer.pop() == Some(Beneath::Waits(code)));
     assert!(rt; outer.pop() == None);
     let mut ended = message;
-    assert!(rt; ended.feed_value(Value::Toks) == Ask::Act(Effect::Say));
+    assert!(rt; takes(&mut ended, Value::Toks, Ask::Act(Effect::Say)));
     Ok(())
 }
