@@ -1,27 +1,54 @@
+ghost use Rattle.std.specs.Prelude.{◌≡◌, None};
+ghost use Rattle.cs_hash.specs.Names.{Knows};
+
 use cs_hash::{CsHash, NameNo};
 use prim_table::COUNT;
 use std::test::Fail;
 use string_pool::StringPool;
 use tex_defs::{Full, Table};
 
+/// Whether a name that is entered is answered so.
+fn answers(
+    hash: &mut CsHash,
+    pool: &mut StringPool,
+    name: &[u8],
+    wanted: Result<NameNo, Full>,
+) -> bool
+    requires knows { Knows hash.old pool.old.kept }
+    requires closed { pool.old.opened ≡ None }
+    ensures knows { Knows hash.new pool.new.kept }
+    ensures closed { pool.new.opened ≡ None }
+{
+    hash.enter(pool, name) == wanted
+}
+
+/// Whether the name numbered `k`, of three bytes, is entered behind the others, and the last is refused.
+fn is_entered(hash: &mut CsHash, pool: &mut StringPool, k: u16) -> bool
+    requires knows { Knows hash.old pool.old.kept }
+    requires closed { pool.old.opened ≡ None }
+    ensures knows { Knows hash.new pool.new.kept }
+    ensures closed { pool.new.opened ≡ None }
+{
+    let name = [(k / 676) as u8, (k / 26 % 26) as u8, (k % 26) as u8];
+    let wanted = if k < 1777 {
+        Ok(k + 1)
+    } else {
+        Err(full(Table::HashSize, 1777, 1777))
+    };
+    answers(hash, pool, &name, wanted)
+}
+
 #[test]
 fn fills_to_its_size(rt: HostRuntime) -> Result<(), Fail> {
     let mut pool = StringPool::new(rt.alloc(), 32000, 3000)?;
     let mut hash = CsHash::new(rt.alloc(), 1777)?;
     for k in 0u16..1778 {
-        let name = [(k / 676) as u8, (k / 26 % 26) as u8, (k % 26) as u8];
-        let full = Full {
-            table: Table::HashSize,
-            used: 1777,
-            size: 1777,
-        };
-        let wanted = if k < 1777 { Ok(k + 1) } else { Err(full) };
-        assert!(rt; hash.enter(&mut pool, &name) == wanted, "name {k}");
+        assert!(rt; is_entered(&mut hash, &mut pool, k), "name {k}");
     }
-    assert!(rt; hash.enter(&mut pool, &[0, 0, 7]) == Ok(8));
-    assert!(rt; hash.find(&pool, &[2, 16, 8]) == Some(1777));
-    assert!(rt; hash.find(&pool, &[2, 16, 9]).is_none());
-    assert!(rt; pool.used() == 5331);
+    assert!(rt; answers(&mut hash, &mut pool, &[0, 0, 7], Ok(8)));
+    let last = hash.find(&pool, &[2, 16, 8]);
+    let refused = hash.find(&pool, &[2, 16, 9]);
+    assert!(rt; last == Some(1777) && refused.is_none() && pool.used() == 5331);
     Ok(())
 }
 
