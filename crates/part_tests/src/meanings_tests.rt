@@ -95,31 +95,68 @@ fn lives(meanings: &mut Meanings, lists: &mut Lists) -> Option<[Told; 4]>
     Some([defined, shared, changed, same])
 }
 
+// The meaning of `\endwrite`, and what is told of a macro that `define_macro` makes.
+const OUTER: Meaning<()> = Meaning::Macro {
+    long: false,
+    outer: true,
+    list: (),
+};
+
+// Names, and what they mean at first.
+const FIRST_MEANINGS: [(Name, Meaning<()>); 6] = [
+    (Name::Word(35), Meaning::Prim(35)),
+    (Name::Word(29), Meaning::Prim(29)),
+    (Name::Word(30), Meaning::Undefined),
+    (Name::Word(187), Meaning::Undefined),
+    (Name::Frozen(Frozen::EndWrite), OUTER),
+    (Name::Frozen(Frozen::Inaccessible), Meaning::Undefined),
+];
+
+// Whether the names mean this.
+fn mean(meanings: &Meanings, rows: &[(Name, Meaning<()>)]) -> bool {
+    for (name, wanted) in rows {
+        if meanings.get(*name) != *wanted {
+            return false;
+        }
+    }
+    true
+}
+
 #[test]
 fn names_share_a_list(rt: HostRuntime) -> Result<(), Fail> {
     let mut lists = Lists::new(rt.alloc(), 4)?;
     let mut meanings = Meanings::new(rt.alloc(), &Sizes::DEFAULT)?;
     meanings.enter();
-    let primitive = meanings.get(Name::Word(35));
-    let definition = meanings.get(Name::Word(29));
-    let unknown = meanings.get(Name::Word(30));
-    let entered = meanings.get(Name::Word(187));
-    let frozen = meanings.get(Name::Frozen(Frozen::EndWrite));
-    let missing = meanings.get(Name::Frozen(Frozen::Inaccessible));
+    let same = mean(&meanings, &FIRST_MEANINGS);
     let told = lives(&mut meanings, &mut lists);
     meanings.close(&mut lists);
-    let outer = Meaning::Macro {
-        long: false,
-        outer: true,
-        list: (),
-    };
-    let wanted = [(outer, 2), (outer, 2), (Meaning::Prim(5), 2), (outer, 2)];
-    assert!(rt; primitive == Meaning::Prim(35) && definition == Meaning::Prim(29));
-    assert!(rt; unknown == Meaning::Undefined && entered == Meaning::Undefined);
-    assert!(rt; frozen == outer && missing == Meaning::Undefined);
-    assert!(rt; told == Some(wanted));
-    assert!(rt; lists.used() == 0);
+    let wanted = [(OUTER, 2), (OUTER, 2), (Meaning::Prim(5), 2), (OUTER, 2)];
+    assert!(rt; same && told == Some(wanted) && lists.used() == 0);
     Ok(())
+}
+
+// Names, and whether they are placed where the 186 names of the primitives and one more are entered.
+const PLACED: [(Name, bool); 10] = [
+    (Name::Word(187), true),
+    (Name::Word(188), false),
+    (Name::Word(0), false),
+    (Name::Active(0), true),
+    (Name::Single(255), true),
+    (Name::Empty, true),
+    (Name::Frozen(Frozen::Inaccessible), true),
+    (Name::Frozen(Frozen::Relax), false),
+    (Name::Frozen(Frozen::EndWrite), false),
+    (Name::Frozen(Frozen::Unknown), false),
+];
+
+// Whether just those of these names are placed of which this is told.
+fn are_placed(meanings: &Meanings, rows: &[(Name, bool)]) -> bool {
+    for (name, wanted) in rows {
+        if meanings.is_placed(*name) != *wanted {
+            return false;
+        }
+    }
+    true
 }
 
 // The 186 names of the primitives are entered at first, and behind them one more.
@@ -127,31 +164,11 @@ fn names_share_a_list(rt: HostRuntime) -> Result<(), Fail> {
 fn names_are_placed(rt: HostRuntime) -> Result<(), Fail> {
     let mut lists = Lists::new(rt.alloc(), 4)?;
     let mut meanings = Meanings::new(rt.alloc(), &Sizes::DEFAULT)?;
-    let before = (
-        meanings.is_placed(Name::Word(186)),
-        meanings.is_placed(Name::Word(187)),
-    );
+    let before = [(Name::Word(186), true), (Name::Word(187), false)];
+    let first = are_placed(&meanings, &before);
     meanings.enter();
-    let behind = (
-        meanings.is_placed(Name::Word(187)),
-        meanings.is_placed(Name::Word(188)),
-        meanings.is_placed(Name::Word(0)),
-    );
-    let short = (
-        meanings.is_placed(Name::Active(0)),
-        meanings.is_placed(Name::Single(255)),
-        meanings.is_placed(Name::Empty),
-    );
-    let missing = meanings.is_placed(Name::Frozen(Frozen::Inaccessible));
-    let frozen = (
-        meanings.is_placed(Name::Frozen(Frozen::Relax)),
-        meanings.is_placed(Name::Frozen(Frozen::EndWrite)),
-        meanings.is_placed(Name::Frozen(Frozen::Unknown)),
-    );
+    let behind = are_placed(&meanings, &PLACED);
     meanings.close(&mut lists);
-    assert!(rt; before == (true, false));
-    assert!(rt; behind == (true, false, false));
-    assert!(rt; short == (true, true, true));
-    assert!(rt; missing && frozen == (false, false, false));
+    assert!(rt; first && behind);
     Ok(())
 }
