@@ -1,12 +1,11 @@
 // Texts as TeX prints them.
 ghost use Rattle.token_lists.specs.Table.{IsHeld};
-ghost use Rattle.token_lists.specs.Ids.{build_id, IsBuilding};
-ghost use Rattle.token_show.specs.Views.{IsView};
+ghost use Rattle.token_lists.specs.Ids.{build_id, id_of, IsBuilding};
+ghost use Rattle.token_show.specs.Views.{IsView, HoldsList};
 ghost use Rattle.std.specs.Prelude.{◌≡◌};
 ghost use Rattle.cs_hash.specs.Names.{Knows};
 
 use crate::tables::Tables;
-use std::process::Abort;
 use std::test::Fail;
 use tex_defs::{Frozen, Full, Meaning, Name, RegisterKind, Token};
 use token_lists::{Build, ListRef, Lists};
@@ -79,18 +78,24 @@ const BRACKETS: [Token; 5] = [
 
 const HASH: Token = Token::Char { cat: 6, code: b'#' };
 
-fn expect(rt: &impl Abort, mut shown: Shown<'_>, wanted: &[u8]) {
+// Whether these bytes are shown, and then none.
+fn shows(mut shown: Shown<'_>, wanted: &[u8]) -> bool {
     for byte in wanted {
-        assert!(rt; shown.next() == Some(*byte));
+        if shown.next() != Some(*byte) {
+            return false;
+        }
     }
-    assert!(rt; shown.next().is_none());
+    shown.next().is_none()
 }
 
-fn expect_characters(rt: &impl Abort, mut characters: Characters<'_>, wanted: &[u8]) {
+// Whether these characters come, and then none.
+fn has(mut characters: Characters<'_>, wanted: &[u8]) -> bool {
     for c in wanted {
-        assert!(rt; characters.next() == Some(*c));
+        if characters.next() != Some(*c) {
+            return false;
+        }
     }
-    assert!(rt; characters.next().is_none());
+    characters.next().is_none()
 }
 
 fn append_all(lists: &mut Lists, build: &mut Build, tokens: &[Token]) -> Result<(), Full>
@@ -129,6 +134,19 @@ fn view_of<'a>(tables: &'a Tables, categories: &'a [u8; 256]) -> View<'a>
     }
 }
 
+// Whether a list is shown like this, and has these characters, where the letter b is the newline character.
+fn is_shown(tables: &Tables, list: &ListRef, shown: &[u8], characters: &[u8]) -> bool
+    requires knows { Knows tables.now.hash tables.now.pool.kept }
+    requires held { IsHeld tables.now.lists (id_of list.now) }
+{
+    let categories = categories();
+    let view = View {
+        newline: 98,
+        ..view_of(tables, &categories)
+    };
+    shows(show_list(view, list), shown) && has(Characters::of_list(view, list), characters)
+}
+
 #[test]
 fn lists(rt: HostRuntime) -> Result<(), Fail> {
     let mut tables = Tables::new(rt.alloc(), b"foo")?;
@@ -145,16 +163,20 @@ fn lists(rt: HostRuntime) -> Result<(), Fail> {
     ];
     let appended = append_all(&mut tables.lists, &mut build, &tokens);
     let list = tables.lists.finish(build);
-    let categories = categories();
-    let view = View {
-        newline: 98,
-        ..view_of(&tables, &categories)
-    };
-    expect(&rt, show_list(view, &list), b"->a####\n");
-    expect_characters(&rt, Characters::of_list(view, &list), b"->a####b");
+    let shown = is_shown(&tables, &list, b"->a####\n", b"->a####b");
     tables.lists.release(list);
-    assert!(rt; appended.is_ok());
+    assert!(rt; appended.is_ok() && shown);
     Ok(())
+}
+
+// Whether a macro's meaning, and its front up to the list, are shown like this.
+fn is_macro_shown(tables: &Tables, made: &Meaning<ListRef>, whole: &[u8], head: &[u8]) -> bool
+    requires knows { Knows tables.now.hash tables.now.pool.kept }
+    requires held { HoldsList tables.now.lists made.now }
+{
+    let categories = categories();
+    let view = view_of(tables, &categories);
+    shows(meaning(view, made), whole) && shows(meaning_head(view, made), head)
 }
 
 // A macro `\long\outer`, shown whole, and up to its list.
@@ -170,10 +192,8 @@ fn macros(rt: HostRuntime) -> Result<(), Fail> {
         outer: true,
         list: tables.lists.finish(build),
     };
-    let categories = categories();
-    let view = view_of(&tables, &categories);
-    expect(&rt, meaning(view, &made), b"\\long\\outer macro:#1->[#1]");
-    expect(&rt, meaning_head(view, &made), b"\\long\\outer macro:");
+    let whole = b"\\long\\outer macro:#1->[#1]";
+    let shown = is_macro_shown(&tables, &made, whole, b"\\long\\outer macro:");
     let Meaning::Macro {
         long: _,
         outer: _,
@@ -183,7 +203,7 @@ fn macros(rt: HostRuntime) -> Result<(), Fail> {
         unreachable!();
     };
     tables.lists.release(list);
-    assert!(rt; appended.is_ok());
+    assert!(rt; appended.is_ok() && shown);
     Ok(())
 }
 
@@ -203,23 +223,23 @@ static NAMES: [(Name, &[u8], &[u8], &[u8]); 7] = [
     (Name::Frozen(Frozen::Fi), b"\\fi", b"\\fi ", b"fi "),
 ];
 
-fn expect_name(rt: &impl Abort, view: View<'_>, row: &(Name, &[u8], &[u8], &[u8]))
+fn is_named(view: View<'_>, row: &(Name, &[u8], &[u8], &[u8])) -> bool
     requires { IsView view }
 {
     let (name, alone, in_list, without_escape) = *row;
     let silent = View { escape: -1, ..view };
-    expect(rt, name_text(view, name), alone);
-    expect(rt, show_token(view, Token::Named(name)), in_list);
-    expect(rt, show_token(silent, Token::Marked(name)), without_escape);
+    shows(name_text(view, name), alone)
+        && shows(show_token(view, Token::Named(name)), in_list)
+        && shows(show_token(silent, Token::Marked(name)), without_escape)
 }
 
-fn expect_bytes(rt: &impl Abort, view: View<'_>)
+fn shows_bytes(view: View<'_>) -> bool
     requires { IsView view }
 {
-    expect(rt, show_bytes(view, b"a\r"), b"a^^M");
-    expect_characters(rt, Characters::of_bytes(view, b"a\r"), b"a\r");
     let relax: Meaning<()> = Meaning::Prim(1);
-    expect(rt, meaning_head(view, &relax), b"\\relax");
+    shows(show_bytes(view, b"a\r"), b"a^^M")
+        && has(Characters::of_bytes(view, b"a\r"), b"a\r")
+        && shows(meaning_head(view, &relax), b"\\relax")
 }
 
 #[test]
@@ -228,11 +248,12 @@ fn names_and_meanings(rt: HostRuntime) -> Result<(), Fail> {
     let categories = categories();
     let view = view_of(&tables, &categories);
     for k in 0..7usize {
-        expect_name(&rt, view, &NAMES[k]);
+        assert!(rt; is_named(view, &NAMES[k]), "name {k}");
     }
-    expect_bytes(&rt, view);
+    assert!(rt; shows_bytes(view));
     for k in 0..17usize {
-        expect(&rt, meaning_head(view, &MEANINGS[k].0), MEANINGS[k].1);
+        let shown = shows(meaning_head(view, &MEANINGS[k].0), MEANINGS[k].1);
+        assert!(rt; shown, "meaning {k}");
     }
     Ok(())
 }
@@ -254,7 +275,7 @@ fn runaway(rt: HostRuntime) -> Result<(), Fail> {
             assert!(rt; shown.next() == Some(*byte));
         }
     }
-    expect(&rt, shown, b"\\ETC.");
+    assert!(rt; shows(shown, b"\\ETC."));
     let mut whole = show_built(view, &build);
     for _k in 0..68usize {
         assert!(rt; whole.next().is_some());
