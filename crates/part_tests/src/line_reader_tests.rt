@@ -1,27 +1,61 @@
-ghost use Rattle.std.specs.Prelude.{◌≡◌, ◌≢◌, ◌≤◌, [], length, true};
+ghost use Rattle.std.specs.Prelude.{◌≡◌, ◌≢◌, ◌≤◌, ◌<◌, [], length, true, IfOk, IfSome};
 ghost use Rattle.world_io.specs.Memory.{files_told};
 ghost use Rattle.line_reader.specs.Ahead.{with_ahead};
 ghost use Rattle.line_reader.specs.OpenLines.{most_readers};
 
 use line_reader::{Buffer, Edit, Reader, at_end, next_line};
+use std::alloc::{AllocError, Global};
 use std::test::Fail;
 use tex_defs::{Full, Sizes, Stop, Table};
 use world_io::{Fault, Files, InId, MemFiles};
 
-/// What the first call answers on a file with these bytes, where the buffer has 80.
+/// A file that is open, and a buffer that has none of its bytes.
+#[derive(Drop)]
+struct Opened {
+    files: MemFiles,
+    id: InId,
+    buffer: Buffer,
+}
+
+/// A file with these bytes, opened, and a buffer of these sizes. Each read gives at most so many bytes.
 #[tactic(auto, using(crate::proofs::Opened::still_open, crate::proofs::Opened::one_reader))]
-fn first_answer(rt: &HostRuntime, bytes: &[u8]) -> Result<Option<Result<bool, Stop>>, Fail> {
-    let mut files = MemFiles::new(rt.alloc());
+fn file_opened(
+    alloc: Global,
+    bytes: &[u8],
+    most: usize,
+    sizes: &Sizes,
+) -> Result<Option<Opened>, AllocError>
+    requires { 0 < most }
+    ensures open { IfOk result (λ r. IfSome r (λ o. (files_told o.files).reading o.id.number ≡ true)) }
+    ensures readers { IfOk result (λ r. IfSome r (λ o. length (with_ahead o.id.number [] o.buffer.ahead) ≤ most_readers o.buffer)) }
+    ensures none { IfOk result (λ r. IfSome r (λ o. o.buffer.tail ≡ [])) }
+{
+    let mut files = MemFiles::new(alloc);
     files.add(b"a", bytes)?;
+    files.limit_reads(most);
+    let buffer = Buffer::new(alloc, sizes)?;
+    match files.open_in(b"a") {
+        Ok(Some(id)) => Ok(Some(Opened { files, id, buffer })),
+        _ => Ok(None),
+    }
+}
+
+/// What the first call answers on a file with these bytes, where the buffer has 80.
+fn first_answer(alloc: Global, bytes: &[u8]) -> Result<Option<Result<bool, Stop>>, AllocError> {
     let sizes = Sizes {
         buffer_size: 80,
         ..Sizes::DEFAULT
     };
-    let mut buffer = Buffer::new(rt.alloc(), &sizes)?;
-    match files.open_in(b"a") {
-        Ok(Some(id)) => Ok(Some(next_line(&mut files, id, &mut buffer))),
-        _ => Ok(None),
-    }
+    let Some(mut opened) = file_opened(alloc, bytes, usize::MAX, &sizes)? else {
+        return Ok(None);
+    };
+    let answer = next_line(&mut opened.files, opened.id, &mut opened.buffer);
+    Ok(Some(answer))
+}
+
+/// Whether the first call answers this, where the buffer has 80 bytes.
+fn answers(alloc: Global, bytes: &[u8], wanted: Result<bool, Stop>) -> Result<bool, AllocError> {
+    Ok(first_answer(alloc, bytes)? == Some(wanted))
 }
 
 #[test]
@@ -31,16 +65,16 @@ fn lines_fill_the_buffer(rt: HostRuntime) -> Result<(), Fail> {
         used: 0,
         size: 80,
     };
-    let refused = Some(Err(Stop::Full(full)));
+    let refused = Err(Stop::Full(full));
     let mut bytes = [b'x'; 82];
-    assert!(rt; first_answer(&rt, &bytes[..80])? == refused);
+    assert!(rt; answers(rt.alloc(), &bytes[..80], refused)?);
     bytes[79] = b'\r';
-    assert!(rt; first_answer(&rt, &bytes[..80])? == refused);
+    assert!(rt; answers(rt.alloc(), &bytes[..80], refused)?);
     bytes[80] = b'\n';
-    assert!(rt; first_answer(&rt, &bytes[..81])? == Some(Ok(true)));
+    assert!(rt; answers(rt.alloc(), &bytes[..81], Ok(true))?);
     bytes[79] = b' ';
-    assert!(rt; first_answer(&rt, &bytes[..80])? == refused);
-    assert!(rt; first_answer(&rt, &bytes[..0])? == Some(Ok(false)));
+    assert!(rt; answers(rt.alloc(), &bytes[..80], refused)?);
+    assert!(rt; answers(rt.alloc(), &bytes[..0], Ok(false))?);
     Ok(())
 }
 
@@ -61,20 +95,30 @@ fn takes(files: &mut MemFiles, id: InId, buffer: &mut Buffer, line: &[u8]) -> bo
     same
 }
 
+/// Takes three lines, and tells whether they are these and the last of the file.
+fn takes_three(files: &mut MemFiles, id: InId, buffer: &mut Buffer, lines: [&[u8]; 3]) -> bool
+    requires open { (files_told files.old).reading id.number ≡ true }
+    requires readers { length (with_ahead id.number [] buffer.old.ahead) ≤ most_readers buffer.old }
+    requires none { buffer.old.tail ≡ [] }
+{
+    takes(files, id, buffer, lines[0])
+        && takes(files, id, buffer, lines[1])
+        && takes(files, id, buffer, lines[2])
+        && at_end(files, id, buffer) == Ok(true)
+}
+
 #[test]
 fn lines_come_in_turn(rt: HostRuntime) -> Result<(), Fail> {
-    let mut files = MemFiles::new(rt.alloc());
-    files.add(b"a", b"x  \r\n\n\ry\rz")?;
-    files.limit_reads(1);
-    let mut buffer = Buffer::new(rt.alloc(), &Sizes::DEFAULT)?;
-    let Ok(Some(id)) = files.open_in(b"a") else {
-        assert!(rt; false);
-        return Ok(());
+    let bytes = b"x  \r\n\n\ry\rz";
+    let Some(opened) = file_opened(rt.alloc(), bytes, 1, &Sizes::DEFAULT)? else {
+        return Ok(assert!(rt; false));
     };
-    assert!(rt; takes(&mut files, id, &mut buffer, b"x"));
-    assert!(rt; takes(&mut files, id, &mut buffer, b""));
-    assert!(rt; takes(&mut files, id, &mut buffer, b"\ry\rz"));
-    assert!(rt; at_end(&mut files, id, &mut buffer) == Ok(true));
+    let Opened {
+        mut files,
+        id,
+        mut buffer,
+    } = opened;
+    assert!(rt; takes_three(&mut files, id, &mut buffer, [b"x", b"", b"\ry\rz"]));
     buffer.forget(id);
     Ok(())
 }
@@ -141,21 +185,24 @@ fn sets_first(buffer: &mut Buffer, byte: u8) -> bool
     buffer.line()[0] == byte
 }
 
-#[test]
-fn a_line_is_changed(rt: HostRuntime) -> Result<(), Fail> {
-    let mut files = MemFiles::new(rt.alloc());
-    files.add(b"a", b"xy")?;
-    let mut buffer = Buffer::new(rt.alloc(), &Sizes::DEFAULT)?;
-    let Ok(Some(id)) = files.open_in(b"a") else {
-        assert!(rt; false);
-        return Ok(());
-    };
-    let Ok(true) = next_line(&mut files, id, &mut buffer) else {
-        assert!(rt; false);
-        return Ok(());
+/// Takes the line `xy`, and tells whether it is changed as it is edited, and then at its first byte.
+fn changes(files: &mut MemFiles, id: InId, buffer: &mut Buffer) -> bool
+    requires open { (files_told files.old).reading id.number ≡ true }
+    requires readers { length (with_ahead id.number [] buffer.old.ahead) ≤ most_readers buffer.old }
+    requires none { buffer.old.tail ≡ [] }
+{
+    let Ok(true) = next_line(files, id, buffer) else {
+        return false;
     };
     buffer.edit_line(&mut Turn);
-    assert!(rt; buffer.line() == b"yy".as_slice());
-    assert!(rt; sets_first(&mut buffer, b'w'));
+    buffer.line() == b"yy".as_slice() && sets_first(buffer, b'w')
+}
+
+#[test]
+fn a_line_is_changed(rt: HostRuntime) -> Result<(), Fail> {
+    let Some(mut opened) = file_opened(rt.alloc(), b"xy", usize::MAX, &Sizes::DEFAULT)? else {
+        return Ok(assert!(rt; false));
+    };
+    assert!(rt; changes(&mut opened.files, opened.id, &mut opened.buffer));
     Ok(())
 }
