@@ -70,7 +70,7 @@ const WHOLE_NUMBERS: [(i32, &[u8]); 3] = [
 #[test]
 fn whole_numbers(rt: HostRuntime) {
     for (n, wanted) in WHOLE_NUMBERS {
-        assert!(rt; int_text(n).bytes() == wanted);
+        assert!(rt; int_text(n).bytes() == wanted, "{n}");
     }
     assert!(rt; count_text(18446744073709551615).bytes() == b"18446744073709551615".as_slice());
 }
@@ -86,7 +86,7 @@ const HEXADECIMAL_NUMBERS: [(u32, &[u8]); 5] = [
 #[test]
 fn hexadecimal_numbers(rt: HostRuntime) {
     for (n, wanted) in HEXADECIMAL_NUMBERS {
-        assert!(rt; hex_text(n).bytes() == wanted);
+        assert!(rt; hex_text(n).bytes() == wanted, "{n}");
     }
 }
 
