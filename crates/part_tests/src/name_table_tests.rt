@@ -13,20 +13,23 @@ fn full(table: Table, used: u32, size: u32) -> Full {
     Full { table, used, size }
 }
 
+// Whether a string that is kept is no name before it is entered, and then the 187th.
+fn enters_after_keeping(table: &mut NameTable, name: &[u8]) -> bool {
+    table.keep(name).is_ok()
+        && table.find(name).is_none()
+        && table.enter(name) == Ok(187)
+        && table.find(name) == Some(187)
+        && table.count() == 187
+}
+
 #[test]
 fn numbers_names(rt: HostRuntime) -> Result<(), Fail> {
     let mut table = NameTable::new(rt.alloc(), &LEAST)?;
     assert!(rt; table.count() == 186);
-    assert!(rt; table.find(b"relax") == Some(1));
-    assert!(rt; table.find(b"errhelp") == Some(186));
-    assert!(rt; table.keep(b"cmr").is_ok());
-    assert!(rt; table.find(b"cmr").is_none());
-    assert!(rt; table.enter(b"cmr") == Ok(187));
-    assert!(rt; table.find(b"cmr") == Some(187));
-    assert!(rt; table.count() == 187);
+    assert!(rt; table.find(b"relax") == Some(1) && table.find(b"errhelp") == Some(186));
+    assert!(rt; enters_after_keeping(&mut table, b"cmr"));
     let (hash, pool) = table.parts();
-    assert!(rt; hash.find(pool, b"par") == Some(5));
-    assert!(rt; pool.count() == 188);
+    assert!(rt; hash.find(pool, b"par") == Some(5) && pool.count() == 188);
     Ok(())
 }
 
