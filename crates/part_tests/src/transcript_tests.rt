@@ -199,7 +199,19 @@ fn long_lists(rt: HostRuntime) -> Result<(), Fail> {
     Ok(())
 }
 
-// The second write fails: the column is that of the front that was written.
+/// Whether a report is written again whose second write fails at first: the column is that of the front that was
+/// written.
+fn is_written_again(sink: &mut MemSink, view: View<'_>) -> bool
+    requires { IsInitialView view }
+{
+    let mut in_line = false;
+    let report = Report::MissingNumber;
+    let failed = write_report(sink, &mut in_line, view, 1, report);
+    let front = in_line && sink.bytes() == b"! Missing number, treated as zero".as_slice();
+    let written = write_report(sink, &mut in_line, view, 1, report);
+    failed == Err(Fault::Failed) && front && written.is_ok()
+}
+
 #[test]
 fn faults(rt: HostRuntime) -> Result<(), Fail> {
     let tables = Tables::new(rt.alloc(), b"message")?;
@@ -207,13 +219,7 @@ fn faults(rt: HostRuntime) -> Result<(), Fail> {
     let view = initial_view(&tables.lists, &tables.hash, &tables.pool, &categories);
     let mut sink = MemSink::new(rt.alloc());
     sink.fail_at(2)?;
-    let mut in_line = false;
-    let report = Report::MissingNumber;
-    let failed = write_report(&mut sink, &mut in_line, view, 1, report);
-    assert!(rt; failed == Err(Fault::Failed) && in_line);
-    assert!(rt; sink.bytes() == b"! Missing number, treated as zero".as_slice());
-    let written = write_report(&mut sink, &mut in_line, view, 1, report);
-    assert!(rt; written.is_ok());
+    assert!(rt; is_written_again(&mut sink, view));
     let wanted = b"! Missing number, treated as zero\n! Missing number, treated as zero.\nl.1\n";
     assert!(rt; sink.bytes() == wanted.as_slice());
     Ok(())
