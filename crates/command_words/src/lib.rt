@@ -21,7 +21,7 @@ use tex_defs::Table;
 use thiserror::Error;
 
 /// What `init FILE` asks for: the job of a file, from INITEX's first state.
-#[derive(Debug, Drop)]
+#[derive(Drop)]
 pub struct Job {
     /// The file's name, with `.tex` where no `.` stood behind its area.
     pub file: Vec<u8>,

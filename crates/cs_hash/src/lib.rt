@@ -22,7 +22,7 @@ pub type NameNo = u16;
 ///
 /// The names of a bucket form a tree, whose next branch is told by the next bit of the name: a look-up passes at
 /// most nine other names for each byte of the name that is looked up, whatever names were entered.
-#[derive(Debug, Drop)]
+#[derive(Drop)]
 pub struct CsHash {
     /// Of each name the number of its string.
     strings: Vec<StrNo>,
@@ -45,7 +45,7 @@ impl Model for CsHash {
 }
 
 /// What a search comes to.
-#[derive(Clone, Copy, Debug)]
+#[derive(Clone, Copy)]
 enum Search {
     Entered(NameNo),
     /// The slot in which the name's number would stand.

@@ -7,14 +7,14 @@ use crate::broken::Broken;
 use tex_defs::{Fatal, Seen};
 
 /// How the machine stops.
-#[derive(Clone, Copy, Debug, PartialEq, Eq)]
+#[derive(Clone, Copy, PartialEq, Eq)]
 pub enum Outcome {
     Finished,
     Fatal(Fatal),
 }
 
 /// Where the machine stops of itself.
-#[derive(Clone, Copy, Debug, PartialEq, Eq)]
+#[derive(Clone, Copy, PartialEq, Eq)]
 pub enum Last {
     /// At `\\end`.
     End,

@@ -17,7 +17,7 @@ use tex_defs::{Frozen, Name, Seen, Token};
 use transcript::Report;
 
 /// Where a definition stands.
-#[derive(Clone, Copy, Debug, PartialEq, Eq)]
+#[derive(Clone, Copy, PartialEq, Eq)]
 pub enum DefineScan {
     /// Before the name.
     Start,

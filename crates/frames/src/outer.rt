@@ -11,7 +11,7 @@ use tex_defs::Name;
 use transcript::Scanned;
 
 /// An open reading beneath the innermost.
-#[derive(Clone, Copy, Debug, PartialEq, Eq)]
+#[derive(Clone, Copy, PartialEq, Eq)]
 pub enum Beneath {
     /// A command or an expansion that waits for an inner value.
     Waits(Waiting),
@@ -35,7 +35,7 @@ impl Beneath {
 }
 
 /// The readings beneath the innermost, the outermost first, with room for as many as the expansion depth.
-#[derive(Debug, Drop)]
+#[derive(Drop)]
 pub struct Outer {
     beneath: Vec<Beneath>,
     size: u32,

@@ -19,7 +19,6 @@ use tex_defs::Token;
 use token_lists::{ListRef, Lists};
 
 /// A macro's body that is being read, the argument whose level stands on it, and all arguments of the call.
-#[derive(Debug)]
 pub struct Call {
     body: Reader,
     argument: Option<Reader>,

@@ -9,14 +9,13 @@ use token_lists::{Build, ListRef, Lists};
 use world_io::InId;
 
 /// An open file, or a line of `\read`, which has no file, with the line that is being read.
-#[derive(Clone, Copy, Debug)]
+#[derive(Clone, Copy)]
 pub struct Source {
     pub id: Option<InId>,
     pub line: Line,
 }
 
 /// A level of input. An argument that is being read has a level of its own, which stands on that of its call.
-#[derive(Debug)]
 pub enum Level {
     List(Reader),
     Call(Call),
@@ -25,7 +24,6 @@ pub enum Level {
 
 /// What a refused push had made of its list.
 #[must_use]
-#[derive(Debug)]
 pub enum Begun {
     Nothing,
     Build(Build),
@@ -48,7 +46,7 @@ impl Begun {
 }
 
 /// What is pulled.
-#[derive(Clone, Copy, Debug, PartialEq, Eq)]
+#[derive(Clone, Copy, PartialEq, Eq)]
 pub enum Pulled {
     /// A token of a list.
     Token(Token),

@@ -5,7 +5,7 @@ ghost use Rattle.input_stack.specs.CallViews.{is_opening};
 use tex_defs::Token;
 
 /// What comes next of a call.
-#[derive(Clone, Copy, Debug)]
+#[derive(Clone, Copy)]
 pub enum Met {
     /// A token of the body.
     Text(Token),

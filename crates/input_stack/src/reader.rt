@@ -11,14 +11,13 @@ use tex_defs::Token;
 use token_lists::{ListRef, Lists};
 
 /// A place in a list: that of a token, or past the last, and how many tokens stand before it.
-#[derive(Clone, Copy, Debug)]
+#[derive(Clone, Copy)]
 pub struct Spot {
     at: Option<Place>,
     read: u32,
 }
 
 /// A holder of a list, the place of the list's next token, and how many tokens were read.
-#[derive(Debug)]
 pub struct Reader {
     list: ListRef,
     at: Option<Place>,

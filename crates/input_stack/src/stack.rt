@@ -32,7 +32,6 @@ use token_lists::{ListRef, Lists};
 use world_io::InId;
 
 /// The levels of input, innermost last, with room for the size of the input stack.
-#[derive(Debug)]
 pub struct InputStack {
     levels: Vec<Level>,
     // The levels of arguments, each on that of its call.

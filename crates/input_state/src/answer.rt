@@ -2,7 +2,7 @@ use line_lexer::Lexed;
 use tex_defs::Token;
 
 /// What a reading from what is pending gives.
-#[derive(Clone, Copy, Debug, PartialEq, Eq)]
+#[derive(Clone, Copy, PartialEq, Eq)]
 pub enum Pulled {
     /// A token of a list in front.
     Token(Token),
@@ -20,7 +20,7 @@ pub enum Pulled {
 }
 
 /// How a name is called.
-#[derive(Clone, Copy, Debug, PartialEq, Eq)]
+#[derive(Clone, Copy, PartialEq, Eq)]
 pub enum CallKind {
     /// It is no macro, or it means what the frozen `\endwrite` does.
     None,
@@ -31,7 +31,7 @@ pub enum CallKind {
 }
 
 /// What a call whose arguments are gathered answers to a token.
-#[derive(Clone, Copy, Debug, PartialEq, Eq)]
+#[derive(Clone, Copy, PartialEq, Eq)]
 pub enum CallTold {
     /// More tokens are needed.
     More,

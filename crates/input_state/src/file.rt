@@ -16,7 +16,7 @@ const WINDOW: usize = 256;
 const MOST: u64 = 1 << 62;
 
 /// How far a file is read: not at all, in its lines, or behind its last.
-#[derive(Clone, Copy, Debug, PartialEq, Eq)]
+#[derive(Clone, Copy, PartialEq, Eq)]
 pub enum Progress {
     NotBegun,
     Begun,
@@ -25,7 +25,7 @@ pub enum Progress {
 
 /// The bytes of the file that came and weren't dropped, how many of them were read, the number of the line, 0 where
 /// the file isn't open, and the buffer size.
-#[derive(Debug, Drop)]
+#[derive(Drop)]
 pub struct JobFile {
     bytes: Vec<u8>,
     next: usize,

@@ -23,7 +23,6 @@ use tex_defs::{Full, Name, Seen};
 use token_lists::{ListRef, Lists};
 
 /// A call of a macro, with what is gathered of its arguments.
-#[derive(Debug)]
 pub enum Gathering {
     /// None is gathered.
     None,

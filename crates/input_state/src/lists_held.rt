@@ -50,7 +50,6 @@ const JOB: InId = InId { number: 0 };
 /// The lists of a run, what the names mean, and the levels of input. A macro's list may have many holders, each other list
 /// is held in one place.
 #[must_use]
-#[derive(Debug)]
 pub struct Held {
     lists: Lists,
     stack: InputStack,

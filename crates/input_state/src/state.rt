@@ -47,7 +47,6 @@ use token_lists::{Build, Lists};
 ///
 /// It must be closed. *TeX: The Program*, parts 22 and 24.
 #[must_use]
-#[derive(Debug)]
 pub struct Input {
     held: Held,
     /// How many of the lists that are gathered wait: the outermost ones, for the readings beneath.

@@ -16,7 +16,7 @@ use heads::begin;
 use lex::lex;
 
 /// The state of a line's reading: at a new line, in the middle, or where blanks are skipped.
-#[derive(Clone, Copy, Debug, PartialEq, Eq)]
+#[derive(Clone, Copy, PartialEq, Eq)]
 pub enum LineState {
     NewLine,
     Middle,
@@ -25,7 +25,7 @@ pub enum LineState {
 
 /// A line that is being read: its rest stands in a buffer from the byte `at` to the byte before `end`, its
 /// end character among them if it has one.
-#[derive(Clone, Copy, Debug, PartialEq, Eq)]
+#[derive(Clone, Copy, PartialEq, Eq)]
 pub struct Line {
     pub at: usize,
     pub end: usize,
@@ -33,7 +33,7 @@ pub struct Line {
 }
 
 /// What the rest of a line gives.
-#[derive(Clone, Copy, Debug, PartialEq, Eq)]
+#[derive(Clone, Copy, PartialEq, Eq)]
 pub enum Lexed {
     /// A character with its category code.
     Char { cat: u8, code: u8 },
@@ -70,7 +70,7 @@ impl Lexed {
 }
 
 /// What a line will give next.
-#[derive(Clone, Copy, Debug, PartialEq, Eq)]
+#[derive(Clone, Copy, PartialEq, Eq)]
 pub enum Ahead {
     /// A character or a name.
     Token,

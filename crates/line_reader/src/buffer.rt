@@ -22,7 +22,7 @@ const STREAMS: usize = 16;
 ///
 /// It holds the open lines, each as it was taken, and behind them at most one thing more: a name that is being
 /// spelt, or the part of a line that a refused call has read. *TeX: The Program*, part 3.
-#[derive(Debug, Drop)]
+#[derive(Drop)]
 pub struct Buffer {
     bytes: Vec<u8>,
     /// Where each open line begins, the outermost first.

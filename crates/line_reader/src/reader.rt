@@ -8,7 +8,7 @@ use std::marker::Model;
 use world_io::{Fault, Files, InId};
 
 /// An open reader of a file, and whether the file's end has come. Behind the end the file isn't asked any more.
-#[derive(Debug, Drop)]
+#[derive(Drop)]
 pub struct Reader {
     id: InId,
     ended: bool,

@@ -11,7 +11,7 @@ use world_io::{Fault, Files, InId};
 const ROOM: usize = 256;
 
 /// A reader's number, and the bytes that have been read of it and not been used yet.
-#[derive(Debug, Drop)]
+#[derive(Drop)]
 pub struct Window {
     reader: u32,
     start: usize,

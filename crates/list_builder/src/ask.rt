@@ -3,7 +3,7 @@ use tex_defs::Name;
 use token_lists::ListRef;
 
 /// How the next token is read.
-#[derive(Clone, Copy, Debug, PartialEq, Eq)]
+#[derive(Clone, Copy, PartialEq, Eq)]
 pub enum Want {
     /// As it stands.
     Raw,
@@ -16,7 +16,7 @@ pub enum Want {
 }
 
 /// What is reported. *The TeXbook*, chapters 20 and 27.
-#[derive(Clone, Copy, Debug, PartialEq, Eq)]
+#[derive(Clone, Copy, PartialEq, Eq)]
 pub enum Report {
     /// "Parameters must be numbered consecutively".
     NotConsecutive,
@@ -29,7 +29,7 @@ pub enum Report {
 }
 
 /// What is due where a scanner stands: a token, or a report.
-#[derive(Clone, Copy, Debug, PartialEq, Eq)]
+#[derive(Clone, Copy, PartialEq, Eq)]
 pub enum Due {
     /// One more token is needed.
     More(Want),
@@ -39,7 +39,6 @@ pub enum Due {
 
 /// What a scanner answers.
 #[must_use]
-#[derive(Debug)]
 pub enum Ask {
     /// One more token is needed.
     More(Want),

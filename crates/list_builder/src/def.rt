@@ -16,7 +16,6 @@ use token_lists::{Build, ListRef, Lists};
 
 /// The scanner that builds a macro's list: the parameter text, its end mark, and the body. *The TeXbook*, chapter 20.
 #[must_use]
-#[derive(Debug)]
 pub struct DefScan {
     scan: ListScan,
 }

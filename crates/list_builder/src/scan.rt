@@ -20,7 +20,6 @@ use token_lists::{Build, ListRef, Lists};
 
 /// A scanner that builds a list.
 #[must_use]
-#[derive(Debug)]
 pub struct ListScan {
     manner: Manner,
     stage: Stage,

@@ -17,7 +17,6 @@ use token_lists::{Build, ListRef, Lists};
 
 /// The scanner that builds the list of a balanced text. *The TeXbook*, chapters 20 and 24 (general text).
 #[must_use]
-#[derive(Debug)]
 pub struct TextScan {
     scan: ListScan,
 }

@@ -9,7 +9,6 @@ use token_lists::{ListRef, Lists};
 ///
 /// *The TeXbook*, chapter 20. They must be spent: each list has a holder here.
 #[must_use]
-#[derive(Debug)]
 pub struct Args {
     /// The lists, one for each argument, and none behind the last.
     pub lists: [Option<ListRef>; 9],

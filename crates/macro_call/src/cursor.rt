@@ -10,7 +10,7 @@ use tex_defs::Token;
 use token_lists::{Build, ListRef, Lists};
 
 /// A place in a list of tokens: that of a token, or the end.
-#[derive(Clone, Copy, Debug)]
+#[derive(Clone, Copy)]
 pub struct Cursor {
     at: Option<Place>,
     index: usize,

@@ -4,7 +4,7 @@ ghost use Rattle.plain_state.specs.Arguments.{is_short, is_checked};
 ghost use Rattle.macro_call.specs.Modes.{par_mode};
 
 /// Whether a `\par` may stand in the arguments of a call. *The TeXbook*, chapter 20 (`\long`).
-#[derive(Clone, Copy, Debug, PartialEq, Eq)]
+#[derive(Clone, Copy, PartialEq, Eq)]
 pub enum ParMode {
     /// The macro is `\long`.
     Long,

@@ -23,7 +23,6 @@ use tex_defs::{Full, Token};
 use token_lists::{Build, ListRef, Lists};
 
 /// The argument that is being gathered.
-#[derive(Debug)]
 pub struct Present {
     build: Build,
     // How many tokens of the list stand in front of the last extra brace: no match begins there.
@@ -35,7 +34,7 @@ pub struct Present {
 }
 
 /// What a token was to the present argument.
-#[derive(Clone, Copy, Debug, PartialEq, Eq)]
+#[derive(Clone, Copy, PartialEq, Eq)]
 pub enum Step {
     /// It completed the argument.
     Argument,

@@ -23,7 +23,6 @@ use token_lists::{Build, ListRef, Lists};
 
 /// The scanner that gathers the arguments of a call.
 #[must_use]
-#[derive(Debug)]
 pub struct ArgScan {
     // In front of the first place: the token that must come next. In a place: its delimiter.
     cursor: Cursor,
@@ -36,7 +35,6 @@ pub struct ArgScan {
 
 /// What the scanner answers to a token.
 #[must_use]
-#[derive(Debug)]
 pub enum ArgAsk {
     /// More tokens are needed.
     More,

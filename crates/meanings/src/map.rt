@@ -24,7 +24,6 @@ use token_lists::{ListRef, Lists};
 /// The frozen names have fixed meanings, but for `\inaccessible`: a name that was missing where one is to be assigned
 /// is that.
 #[must_use]
-#[derive(Debug)]
 pub struct Meanings {
     // By the names' locations. There is room for all names that may be entered.
     cells: Vec<Kept>,

@@ -19,7 +19,7 @@ use string_pool::{StrNo, StringPool};
 use tex_defs::{Full, Sizes};
 
 /// The names entered, each with its number, and the other kept strings.
-#[derive(Debug, Drop)]
+#[derive(Drop)]
 pub struct NameTable {
     /// The bytes of all strings.
     pool: StringPool,

@@ -52,7 +52,7 @@ static STARTS: [u16; 187] = [
 pub const COUNT: u16 = 186;
 
 /// The rows of the table of primitives.
-#[derive(Clone, Copy, Debug, PartialEq, Eq)]
+#[derive(Clone, Copy, PartialEq, Eq)]
 pub enum Class {
     Command,
     Assignment,

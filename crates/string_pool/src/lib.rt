@@ -17,7 +17,7 @@ use tex_defs::{Full, Table};
 pub type StrNo = u32;
 
 /// The kept strings and, while one is open, the bytes that it has so far.
-#[derive(Debug, Drop)]
+#[derive(Drop)]
 pub struct StringPool {
     /// The bytes of all kept strings, and behind them those of the open one.
     bytes: Vec<u8>,

@@ -12,7 +12,7 @@ use transcript::put;
 use world_io::Sink;
 
 /// What a stop line tells.
-#[derive(Clone, Copy, Debug, PartialEq, Eq)]
+#[derive(Clone, Copy, PartialEq, Eq)]
 pub enum Telling {
     Usage,
     /// The table that has no room.

@@ -14,7 +14,7 @@ use token_show::{Shown, View, meaning_head, name_text, show_bytes};
 use world_io::{Fault, Sink};
 
 /// What is read where a file ends or the name of an `\outer` macro comes.
-#[derive(Clone, Copy, Debug, PartialEq, Eq)]
+#[derive(Clone, Copy, PartialEq, Eq)]
 pub enum Scanned {
     /// A macro's definition.
     Definition,
@@ -25,7 +25,7 @@ pub enum Scanned {
 }
 
 /// What is reported.
-#[derive(Clone, Copy, Debug, PartialEq, Eq)]
+#[derive(Clone, Copy, PartialEq, Eq)]
 pub enum Report {
     UndefinedName,
     InvalidCharacter,
