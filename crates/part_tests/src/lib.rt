@@ -11,31 +11,17 @@ mod command_words_tests;
 #[cfg(test)]
 mod cs_hash_tests;
 #[cfg(test)]
-mod frames_tests;
-#[cfg(test)]
 mod input_stack_tests;
-#[cfg(test)]
-mod input_state_tests;
-#[cfg(test)]
-mod line_lexer_tests;
 #[cfg(test)]
 mod line_reader_tests;
 #[cfg(test)]
 mod list_builder_tests;
 #[cfg(test)]
-mod macro_call_tests;
-#[cfg(test)]
 mod meanings_tests;
-#[cfg(test)]
-mod mem_words_tests;
-#[cfg(test)]
-mod name_table_tests;
 #[cfg(test)]
 mod prim_table_tests;
 #[cfg(test)]
 mod scaled_arith_tests;
-#[cfg(test)]
-mod string_pool_tests;
 #[cfg(test)]
 mod tables;
 #[cfg(test)]
@@ -44,7 +30,5 @@ mod tex_defs_tests;
 mod token_lists_tests;
 #[cfg(test)]
 mod token_show_tests;
-#[cfg(test)]
-mod transcript_tests;
 #[cfg(test)]
 mod world_io_tests;

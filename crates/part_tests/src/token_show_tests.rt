@@ -9,10 +9,7 @@ use crate::tables::Tables;
 use std::test::Fail;
 use tex_defs::{Frozen, Full, Meaning, Name, RegisterKind, Token};
 use token_lists::{Build, ListRef, Lists};
-use token_show::{
-    Characters, Shown, View, meaning, meaning_head, name_text, show_built, show_bytes, show_list,
-    show_runaway, show_token,
-};
+use token_show::{Characters, Shown, View, meaning, meaning_head, show_list, show_token};
 
 static MEANINGS: [(Meaning<ListRef>, &[u8]); 17] = [
     (Meaning::Undefined, b"undefined"),
@@ -207,39 +204,28 @@ fn macros(rt: HostRuntime) -> Result<(), Fail> {
     Ok(())
 }
 
-// Names, each alone, in a list and in a list without an escape character.
-static NAMES: [(Name, &[u8], &[u8], &[u8]); 7] = [
-    (Name::Word(1), b"\\foo", b"\\foo ", b"foo "),
-    (Name::Single(b'a'), b"\\a", b"\\a ", b"a "),
-    (Name::Single(b'+'), b"\\+", b"\\+", b"+"),
-    (Name::Single(13), b"\\^^M", b"\\^^M", b"^^M"),
-    (Name::Active(200), b"^^c8", b"^^c8", b"^^c8"),
+// Names, each in a list and in a list without an escape character.
+static NAMES: [(Name, &[u8], &[u8]); 7] = [
+    (Name::Word(1), b"\\foo ", b"foo "),
+    (Name::Single(b'a'), b"\\a ", b"a "),
+    (Name::Single(b'+'), b"\\+", b"+"),
+    (Name::Single(13), b"\\^^M", b"^^M"),
+    (Name::Active(200), b"^^c8", b"^^c8"),
     (
         Name::Empty,
-        b"\\csname\\endcsname",
         b"\\csname\\endcsname ",
         b"csnameendcsname ",
     ),
-    (Name::Frozen(Frozen::Fi), b"\\fi", b"\\fi ", b"fi "),
+    (Name::Frozen(Frozen::Fi), b"\\fi ", b"fi "),
 ];
 
-fn is_named(view: View<'_>, row: &(Name, &[u8], &[u8], &[u8])) -> bool
+fn is_named(view: View<'_>, row: &(Name, &[u8], &[u8])) -> bool
     requires { IsView view }
 {
-    let (name, alone, in_list, without_escape) = *row;
+    let (name, in_list, without_escape) = *row;
     let silent = View { escape: -1, ..view };
-    shows(name_text(view, name), alone)
-        && shows(show_token(view, Token::Named(name)), in_list)
+    shows(show_token(view, Token::Named(name)), in_list)
         && shows(show_token(silent, Token::Marked(name)), without_escape)
-}
-
-fn shows_bytes(view: View<'_>) -> bool
-    requires { IsView view }
-{
-    let relax: Meaning<()> = Meaning::Prim(1);
-    shows(show_bytes(view, b"a\r"), b"a^^M")
-        && has(Characters::of_bytes(view, b"a\r"), b"a\r")
-        && shows(meaning_head(view, &relax), b"\\relax")
 }
 
 #[test]
@@ -250,38 +236,9 @@ fn names_and_meanings(rt: HostRuntime) -> Result<(), Fail> {
     for k in 0..7usize {
         assert!(rt; is_named(view, &NAMES[k]), "name {k}");
     }
-    assert!(rt; shows_bytes(view));
     for k in 0..17usize {
         let shown = shows(meaning_head(view, &MEANINGS[k].0), MEANINGS[k].1);
         assert!(rt; shown, "meaning {k}");
     }
-    Ok(())
-}
-
-// A runaway text ends behind 64 bytes: the 16th character begins at the 61st.
-#[test]
-fn runaway(rt: HostRuntime) -> Result<(), Fail> {
-    let mut tables = Tables::new(rt.alloc(), b"foo")?;
-    let Ok(mut build) = tables.lists.begin() else {
-        return Ok(assert!(rt; false, "a word is there"));
-    };
-    let high = Token::Char { cat: 12, code: 255 };
-    let appended = append_all(&mut tables.lists, &mut build, &[high; 17]);
-    let categories = categories();
-    let view = view_of(&tables, &categories);
-    let mut shown = show_runaway(view, &build);
-    for _k in 0..16usize {
-        for byte in b"^^ff" {
-            assert!(rt; shown.next() == Some(*byte));
-        }
-    }
-    assert!(rt; shows(shown, b"\\ETC."));
-    let mut whole = show_built(view, &build);
-    for _k in 0..68usize {
-        assert!(rt; whole.next().is_some());
-    }
-    assert!(rt; whole.next().is_none());
-    tables.lists.abandon(build);
-    assert!(rt; appended.is_ok());
     Ok(())
 }

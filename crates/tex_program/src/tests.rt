@@ -25,12 +25,6 @@ const LEAST: Sizes = Sizes {
     delayed_writes: 1,
 };
 
-/// The last digits of the numbers from 1 to 13.
-const DIGITS: [u8; 13] = *b"1234567890123";
-
-/// The line that gives the braces their usual categories.
-const BRACES: &[u8] = b"\\catcode`\\{=1 \\catcode`\\}=2\n";
-
 /// Whether the job of this name and this text, within these sizes and without token lines, writes so.
 fn writes(
     alloc: Global,
@@ -61,70 +55,92 @@ fn copies(alloc: Global, byte: u8, count: usize) -> Result<Vec<u8>, AllocError> 
     Ok(all)
 }
 
+/// A job's text, what it writes, and its status.
+type Row = (&'static [u8], &'static [u8], u8);
+
+/// A message; a line of 79 bytes; a text of 99 tokens.
+const FITTING: [Row; 3] = [
+    (
+        b"\\catcode`\\{=1 \\catcode`\\}=2\n\\message{hi}\\end\n",
+        b"hi\n",
+        0,
+    ),
+    (
+        b"xxxxxxxxxxxxxxxxxxxxxxxxxxxxxxxxxxxxxxxxxxxxxxxxxxxxxxxxxxxxxxxxxxxxxxxxxxxxxxx\n\\end\n",
+        b"",
+        0,
+    ),
+    (
+        b"\\catcode`\\{=1 \\catcode`\\}=2\n\\message{aaaaaaaaaaaaaaaaaaaaaaaaaaaaaaaaaaaaaaaaaaaaaaaaa\naaaaaaaaaaaaaaaaaaaaaaaaaaaaaaaaaaaaaaaaaaaaaaaaa}\\end\n",
+        b"aaaaaaaaaaaaaaaaaaaaaaaaaaaaaaaaaaaaaaaaaaaaaaaaa aaaaaaaaaaaaaaaaaaaaaaaaaaaaaaaaaaaaaaaaaaaaaaaaa\n",
+        0,
+    ),
+];
+
+/// A line of one byte more; a text of one token more; a name behind thirteen that fill 200 strings with the job's and those of the
+/// 186 primitives.
+const FULL: [Row; 3] = [
+    (
+        LONG_LINE,
+        b"! TeX capacity exceeded, sorry [buffer size=80].\n",
+        3,
+    ),
+    (
+        b"\\catcode`\\{=1 \\catcode`\\}=2\n\\message{aaaaaaaaaaaaaaaaaaaaaaaaaaaaaaaaaaaaaaaaaaaaaaaaa\naaaaaaaaaaaaaaaaaaaaaaaaaaaaaaaaaaaaaaaaaaaaaaaaaa}\\end\n",
+        b"! TeX capacity exceeded, sorry [main memory size=100].\n",
+        3,
+    ),
+    (
+        b"\\catcode`\\xa 5\n\\catcode`\\xb 5\n\\catcode`\\xc 5\n\\catcode`\\xd 5\n\\catcode`\\xe 5\n\\catcode`\\xf 5\n\\catcode`\\xg 5\n\\catcode`\\xh 5\n\\catcode`\\xi 5\n\\catcode`\\xj 5\n\\catcode`\\xk 5\n\\catcode`\\xl 5\n\\catcode`\\xm 5\n\\catcode`\\xn 5 \\end\n",
+        b"! Improper alphabetic constant.\nl.1\n! Undefined control sequence.\nl.1\n\
+          ! Improper alphabetic constant.\nl.2\n! Undefined control sequence.\nl.2\n\
+          ! Improper alphabetic constant.\nl.3\n! Undefined control sequence.\nl.3\n\
+          ! Improper alphabetic constant.\nl.4\n! Undefined control sequence.\nl.4\n\
+          ! Improper alphabetic constant.\nl.5\n! Undefined control sequence.\nl.5\n\
+          ! Improper alphabetic constant.\nl.6\n! Undefined control sequence.\nl.6\n\
+          ! Improper alphabetic constant.\nl.7\n! Undefined control sequence.\nl.7\n\
+          ! Improper alphabetic constant.\nl.8\n! Undefined control sequence.\nl.8\n\
+          ! Improper alphabetic constant.\nl.9\n! Undefined control sequence.\nl.9\n\
+          ! Improper alphabetic constant.\nl.10\n! Undefined control sequence.\nl.10\n\
+          ! Improper alphabetic constant.\nl.11\n! Undefined control sequence.\nl.11\n\
+          ! Improper alphabetic constant.\nl.12\n! Undefined control sequence.\nl.12\n\
+          ! Improper alphabetic constant.\nl.13\n! Undefined control sequence.\nl.13\n\
+          ! TeX capacity exceeded, sorry [number of strings=200].\n",
+        3,
+    ),
+];
+
+/// A line of 80 bytes.
+const LONG_LINE: &[u8] =
+    b"xxxxxxxxxxxxxxxxxxxxxxxxxxxxxxxxxxxxxxxxxxxxxxxxxxxxxxxxxxxxxxxxxxxxxxxxxxxxxxxx\n\\end\n";
+
+/// Whether each of these jobs does so within the least sizes.
+fn rows_hold(alloc: Global, rows: &[Row]) -> Result<bool, AllocError> {
+    for row in rows {
+        if !writes(alloc, LEAST, b"job", row.0, row.1, row.2)? {
+            return Ok(false);
+        }
+    }
+    Ok(true)
+}
+
 #[test]
-fn a_job_runs_within_the_least_sizes(rt: HostRuntime) -> Result<(), Fail> {
-    let alloc = rt.alloc();
-    let mut text = Vec::from_slice(alloc, BRACES)?;
-    text.extend_from_slice(b"\\message{hi}\\end\n")?;
-    assert!(rt; writes(alloc, LEAST, b"job", text.as_slice(), b"hi\n", 0)?);
+fn the_least_sizes_hold_what_fits(rt: HostRuntime) -> Result<(), Fail> {
+    assert!(rt; rows_hold(rt.alloc(), &FITTING)?);
     Ok(())
 }
 
 #[test]
-fn a_line_too_long_for_the_buffer_is_refused(rt: HostRuntime) -> Result<(), Fail> {
+fn one_more_is_refused(rt: HostRuntime) -> Result<(), Fail> {
     let alloc = rt.alloc();
-    let mut text = copies(alloc, 120, 79)?;
-    text.extend_from_slice(b"\n\\end\n")?;
-    assert!(rt; writes(alloc, LEAST, b"job", text.as_slice(), b"", 0)?);
-    let mut text = copies(alloc, 120, 80)?;
-    text.extend_from_slice(b"\n\\end\n")?;
-    assert!(rt;
-        writes(
-            alloc,
-            LEAST,
-            b"job",
-            text.as_slice(),
-            b"! TeX capacity exceeded, sorry [buffer size=80].\n",
-            3
-        )?
-    );
-    // no list is held then
+    assert!(rt; rows_hold(alloc, &FULL)?);
+    // no list is held where the line is refused
     let full = Full {
         table: Table::BufferSize,
         used: 0,
         size: 80,
     };
-    assert!(rt; words_where_full(alloc, LEAST, text.as_slice(), full)? == Some(0));
-    Ok(())
-}
-
-#[test]
-fn a_list_too_long_for_the_main_memory_is_refused(rt: HostRuntime) -> Result<(), Fail> {
-    let alloc = rt.alloc();
-    let half = copies(alloc, 97, 49)?;
-    let mut text = Vec::from_slice(alloc, BRACES)?;
-    text.extend_from_slice(b"\\message{")?;
-    text.extend_from_slice(half.as_slice())?;
-    text.extend_from_slice(b"\n")?;
-    text.extend_from_slice(half.as_slice())?;
-    let mut more = Vec::from_slice(alloc, text.as_slice())?;
-    text.extend_from_slice(b"}\\end\n")?;
-    more.extend_from_slice(b"a}\\end\n")?;
-    let mut written = Vec::from_slice(alloc, half.as_slice())?;
-    written.extend_from_slice(b" ")?;
-    written.extend_from_slice(half.as_slice())?;
-    written.extend_from_slice(b"\n")?;
-    assert!(rt; writes(alloc, LEAST, b"job", text.as_slice(), written.as_slice(), 0)?);
-    assert!(rt;
-        writes(
-            alloc,
-            LEAST,
-            b"job",
-            more.as_slice(),
-            b"! TeX capacity exceeded, sorry [main memory size=100].\n",
-            3
-        )?
-    );
+    assert!(rt; words_where_full(alloc, LEAST, LONG_LINE, full)? == Some(0));
     Ok(())
 }
 
@@ -145,38 +161,6 @@ fn a_job_name_too_long_for_the_pool_is_refused(rt: HostRuntime) -> Result<(), Fa
             3
         )?
     );
-    Ok(())
-}
-
-#[test]
-fn a_name_too_many_is_refused(rt: HostRuntime) -> Result<(), Fail> {
-    let alloc = rt.alloc();
-    // 186 names of primitives, the job's name and 13 more fill 200 strings
-    let mut text = Vec::new(alloc);
-    let mut written = Vec::new(alloc);
-    for letter in b"abcdefghijklm" {
-        text.extend_from_slice(b"\\catcode`\\x")?;
-        text.push(*letter)?;
-        text.extend_from_slice(b" 5\n")?;
-    }
-    for line in 0..13 {
-        let mut place = Vec::from_slice(alloc, b".\nl.")?;
-        if line >= 9 {
-            place.push(49)?;
-        }
-        place.push(DIGITS[line])?;
-        place.push(10)?;
-        written.extend_from_slice(b"! Improper alphabetic constant")?;
-        written.extend_from_slice(place.as_slice())?;
-        written.extend_from_slice(b"! Undefined control sequence")?;
-        written.extend_from_slice(place.as_slice())?;
-    }
-    let mut more = Vec::from_slice(alloc, text.as_slice())?;
-    text.extend_from_slice(b"\\end\n")?;
-    assert!(rt; writes(alloc, LEAST, b"job", text.as_slice(), written.as_slice(), 1)?);
-    more.extend_from_slice(b"\\catcode`\\xn 5 \\end\n")?;
-    written.extend_from_slice(b"! TeX capacity exceeded, sorry [number of strings=200].\n")?;
-    assert!(rt; writes(alloc, LEAST, b"job", more.as_slice(), written.as_slice(), 3)?);
     Ok(())
 }
 
