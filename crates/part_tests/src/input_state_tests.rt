@@ -100,7 +100,7 @@ fn readings(input: &mut Input) -> ([Option<Pulled>; 8], u64, Option<[u8; 2]>) {
 fn give(input: &mut Input, bytes: &[u8]) -> bool
     requires { length bytes.now ≤ 256 }
 {
-    let needed = input.needs_bytes(&categories()) && input.counts_on();
+    let needed = input.needs_bytes(&categories());
     if needed {
         input.add_bytes(bytes);
     }
