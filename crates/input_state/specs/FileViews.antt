@@ -1,5 +1,5 @@
 -- A file that is read line by line, whose bytes come by pieces.
-use Rattle.std.specs.Prelude.{ℕ, ◌+◌, ◌-◌, ◌^◌, ◌≤◌, List, drop, length}
+use Rattle.std.specs.Prelude.{ℕ, ◌+◌, ◌≤◌, List, drop, length}
 use Rattle.plain_state.specs.Pending as plain
 use Rattle.input_state.specs.FileLeft.{FileLeft}
 use Rattle.input_state.specs.declared.file.Progress.{Progress}
@@ -13,14 +13,7 @@ progress_of Closed = plain.Closed
 abbrev pub left_of : List ℕ → ℕ → Progress → ℕ → ℕ → FileLeft
 left_of bytes next progress number size = record { rest = drop next bytes; file = progress_of progress; number = number; buffer_size = size }
 
--- each line but the first has a byte of the file
-abbrev pub first_lines : Progress → ℕ
-first_lines Begun = 1
-first_lines p = 0
-
-pub record IsWithin (bytes : List ℕ) (next : ℕ) (progress : Progress) (number size room : ℕ) : Type 0 where
+pub record IsWithin (bytes : List ℕ) (next size room : ℕ) : Type 0 where
   pub inside : next ≤ length bytes
-  -- as many lines as there are bytes can still be counted
-  pub counted : number + (length bytes - next) ≤ 2 ^ 62 + first_lines progress
   -- there is room for a window of 256 bytes behind a line
   pub reserved : size + 256 ≤ room

@@ -1,5 +1,5 @@
 -- What the file's bytes that came tell of the next reading.
-use Rattle.std.specs.Prelude.{◌≡◌, ◌≢◌, ℕ, ◌+◌, ◌^◌, ◌<◌, ◌≤◌, true, false, List, ◌++◌, length}
+use Rattle.std.specs.Prelude.{◌≡◌, ◌≢◌, ℕ, ◌<◌, ◌≤◌, true, false, List, ◌++◌, length}
 use Rattle.plain_state.specs.Lines.{has_feed}
 use Rattle.plain_state.specs.Pending.{Pending, Closed, pulled, takes_file}
 use Rattle.input_state.specs.Stored.{Stored}
@@ -22,7 +22,3 @@ pub record NeedsBytes (s : Stored) (categories : List ℕ) : Type 0 where
 -- these bytes of the file came
 abbrev pub with_bytes : List ℕ → Pending → Pending
 with_bytes bytes p = record p { rest = p.rest ++ bytes }
-
--- where so many bytes more come, the file's lines can still be counted
-abbrev pub CountsOn : ℕ → Pending → Type 0
-CountsOn count p = p.number + (length p.rest + count) ≤ 2 ^ 62

@@ -1,7 +1,7 @@
 // The job's file, whose bytes come by pieces.
-ghost use Rattle.std.specs.Prelude.{◌≡◌, ◌≢◌, ◌≤◌, ◌<◌, ◌+◌, ◌^◌, ◌++◌, [], length, drop, true, false, IfOk, nat_le, if◌then◌else◌};
+ghost use Rattle.std.specs.Prelude.{◌≡◌, ◌≤◌, ◌++◌, [], length, drop, true, false, IfOk, if◌then◌else◌};
 ghost use Rattle.plain_state.specs.Pending as pending;
-ghost use Rattle.plain_state.specs.Pending.{from_file};
+ghost use Rattle.plain_state.specs.Pending.{from_file, next_number};
 ghost use Rattle.input_state.specs.FileLeft.{lacks_line};
 ghost use Rattle.input_state.specs.Reads.{gives_step};
 
@@ -11,9 +11,6 @@ use std::marker::Model;
 
 /// How many bytes come at once.
 const WINDOW: usize = 256;
-
-/// The line's number and the count of the bytes that are left pass this together by no more than the first line.
-const MOST: u64 = 1 << 62;
 
 /// How far a file is read: not at all, in its lines, or behind its last.
 #[derive(Clone, Copy, PartialEq, Eq)]
@@ -44,7 +41,7 @@ impl Model for JobFile {
 
     ghost view = { λ f. left_of f.bytes.items f.next f.progress f.number f.buffer_size };
 
-    ghost invariant = { λ f. IsWithin f.bytes.items f.next f.progress f.number f.buffer_size (vec_capacity f.bytes) };
+    ghost invariant = { λ f. IsWithin f.bytes.items f.next f.buffer_size (vec_capacity f.bytes) };
 }
 
 impl JobFile {
@@ -113,18 +110,10 @@ impl JobFile {
         rest.len() <= self.buffer_size as usize && find_feed(rest) == rest.len()
     }
 
-    /// Whether the lines can still be counted where a window more comes.
-    pub fn counts_on(&self) -> bool
-        ensures { result ≡ nat_le (self.now.number + (length self.now.rest + 256)) (2 ^ 62) }
-    {
-        self.number + (self.rest().len() + WINDOW) as u64 <= MOST
-    }
-
     /// The next bytes came, and those of the lines that were taken go.
     pub fn add(&mut self, bytes: &[u8])
         requires room { length self.old.rest ≤ self.old.buffer_size }
         requires window { length bytes.now ≤ 256 }
-        requires counts { self.old.number + (length self.old.rest + length bytes.now) ≤ 2 ^ 62 }
         ensures { self.new ≡ record self.old { rest = self.old.rest ++ bytes.now } }
     {
         drop(self.bytes.drain(..self.next));
@@ -136,14 +125,12 @@ impl JobFile {
 
     /// A line was taken, which took up so many bytes.
     pub fn go_on(&mut self, used: usize)
-        requires within { used ≤ length self.old.rest }
-        requires some { self.old.file ≡ pending.Begun → 0 < used }
-        requires open { self.old.file ≢ pending.Closed }
-        ensures { self.new ≡ record { rest = drop used self.old.rest; file = pending.Begun; number = self.old.number + 1; buffer_size = self.old.buffer_size } }
+        requires { used ≤ length self.old.rest }
+        ensures { self.new ≡ record { rest = drop used self.old.rest; file = pending.Begun; number = next_number self.old.number; buffer_size = self.old.buffer_size } }
     {
         self.next += used;
         self.progress = Progress::Begun;
-        self.number += 1;
+        self.number = self.number.saturating_add(1);
     }
 
     /// The file goes.

@@ -27,7 +27,7 @@ ghost use Rattle.input_state.specs.CallFeeds.{IsTaking, Feeds, CutShort, growth,
 ghost use Rattle.macro_call.specs.PlainScans.{first_scan, cut_scan, settled_scan};
 ghost use Rattle.macro_call.specs.Modes.{mode_of};
 ghost use Rattle.input_state.specs.FileViews.{progress_of};
-ghost use Rattle.input_state.specs.NextBytes.{KnowsNext, NeedsBytes, CountsOn, with_bytes};
+ghost use Rattle.input_state.specs.NextBytes.{KnowsNext, NeedsBytes, with_bytes};
 ghost use Rattle.input_state.specs.Counted.{AreCounted};
 ghost use Rattle.input_state.specs.Stored.{KeepsMacros, call_refusal, put_refusal, words, unread, no_bytes, closed};
 ghost use Rattle.input_state.specs.Reads.{GivesTo, Pulls, pull_refusal, RefusesLine, gives_step};
@@ -472,19 +472,10 @@ impl Input {
         }
     }
 
-    /// Whether the lines of the file can still be counted where a window of 256 bytes more comes: the line's number and
-    /// the bytes that are left are at most 2^62 then.
-    pub fn counts_on(&self) -> bool
-        ensures { MatchBool result (CountsOn 256 self.now.pending) (CountsOn 256 self.now.pending → ⊥) }
-    {
-        self.file.counts_on()
-    }
-
     /// The next bytes of the file came, behind those that are left of it.
     pub fn add_bytes(&mut self, bytes: &[u8])
         requires room { length self.old.pending.rest ≤ self.old.sizes.buffer_size }
         requires window { length bytes.now ≤ 256 }
-        requires counts { CountsOn (length bytes.now) self.old.pending }
         ensures { self.new ≡ record self.old { pending = with_bytes bytes.now self.old.pending } }
     {
         self.file.add(bytes);

@@ -10,7 +10,7 @@ use Rattle.tex_defs.specs.declared.Table.TheVariants.{BufferSize}
 use Rattle.plain_state.specs.Lex.{Lexed, Gives, Invalid, UsedUp, NewLine, lexed}
 use Rattle.plain_state.specs.Lines.{end_char, has_feed, before_feed, behind_feed, without_last, trimmed, first_bytes}
 use Rattle.plain_state.specs.Puts.{Item, Put as PutList, passed}
-use Rattle.plain_state.specs.Pending.{Pending, Progress, NotBegun, Begun as BegunFile, Closed as ClosedFile, Pulled, TokenFrom, LexemeFrom, LineTaken, InvalidMet, FileOver, NothingLeft, taken_line, line_taken, from_file, from_line, from_list, from_front, pulled, takes_file}
+use Rattle.plain_state.specs.Pending.{Pending, Progress, NotBegun, Begun as BegunFile, Closed as ClosedFile, Pulled, TokenFrom, LexemeFrom, LineTaken, InvalidMet, FileOver, NothingLeft, taken_line, next_number, line_taken, from_file, from_line, from_list, from_front, pulled, takes_file}
 use Rattle.plain_state.specs.Tables.{lines_beneath, line_need, file_level, next_line, refused}
 use Rattle.plain_machine.specs.Extended.{extended_pending, IsReady, InFront, NoFile, HasLine, NoMore, TooLong}
 
@@ -146,7 +146,7 @@ no_line NothingLeft h k = false≢true k
 -- each line of a file, by its first bytes and the bytes behind it
 abbrev line_from : ℕ → List ℕ → List ℕ → Pulled
 line_from number first behind =
-    LineTaken (trimmed first ++ end_char ∷ []) (record { puts = []; line = trimmed first ++ end_char ∷ []; lex = NewLine; rest = behind; file = BegunFile; number = number + 1 })
+    LineTaken (trimmed first ++ end_char ∷ []) (record { puts = []; line = trimmed first ++ end_char ∷ []; lex = NewLine; rest = behind; file = BegunFile; number = next_number number })
 
 line_more : (number : ℕ) (xs ys : List ℕ) → has_feed xs ≡ true → line_taken number (xs ++ ys) ≡ extended_pulled ys (line_taken number xs)
 line_more number xs ys h = ap (λ (first : List ℕ). line_from number first (behind_feed (xs ++ ys))) (first_more xs ys h) ∙ ap (line_from number (first_bytes xs)) (behind_more xs ys h)

@@ -186,7 +186,7 @@ handed_same left page enters o onward NothingLeft = refl
 -- THE RULE
 
 -- It pulls nothing, or pulls and goes on without a pull.
-data Rules (left : List ℕ) (s : State) (ms' ms : List Move) : Type 0 where
+pub data Rules (left : List ℕ) (s : State) (ms' ms : List Move) : Type 0 where
   Still : ms' ≡ ms → pulls ms ≡ 0 → Rules left s ms' ms
   Pulling : (page : Page) → (enters : Bool) → (o : Option Scanning) → (onward : Seen → List Move) → ((x : Seen) → pulls (onward x) ≡ 0) →
       ms ≡ handed page enters o onward (pulled s.categories s.pending) → ms' ≡ handed page enters o onward (pulled s.categories (extended_pending left s.pending)) → Rules left s ms' ms
@@ -205,7 +205,7 @@ rules_answered left s work r (Fails report) = Still refl (failed_none (page_of s
 rules_answered left s work r (RunsAway report) = Still refl (failed_away_none (page_of s) report (scanning work s.gathered) r.fed)
 rules_answered left s work r Closes = Still refl refl
 
-rules : (left : List ℕ) (s : State) (work : List Reading) → Rules left s (planned (extended left s) work) (planned s work)
+pub rules : (left : List ℕ) (s : State) (work : List Reading) → Rules left s (planned (extended left s) work) (planned s work)
 rules left s [] = Pulling (page_of s) false None (stomach (page_of s)) (λ x. command_none (page_of s) x.token x.meaning) refl refl
 rules left s (r ∷ rs) = rules_answered left s (r ∷ rs) r (ask r.kind r.fed)
 

@@ -1,5 +1,5 @@
 -- What the program writes and answers, by the plain machine.
-use Rattle.std.specs.Prelude.{◌≡◌, ℕ, ◌+◌, ◌^◌, ◌<◌, ◌≤◌, Bool, true, false, nat_lt, List, [], ◌∷◌, ◌++◌, Option, Some, None, take, length, codes, decimal, ◌⊎◌}
+use Rattle.std.specs.Prelude.{◌≡◌, ℕ, ◌≤◌, Bool, true, false, nat_lt, List, [], ◌∷◌, ◌++◌, Option, Some, None, take, length, codes, decimal, ◌⊎◌}
 use Rattle.tex_defs.specs.declared.Fatal.{Fatal}
 use Rattle.tex_defs.specs.declared.Full.{Full}
 use Rattle.tex_defs.specs.declared.Sizes.{Sizes}
@@ -86,23 +86,18 @@ pub record CutShort (sizes : Sizes) (s : State) (n : ℕ) (w w' : World) (why : 
   pub cut : CutAt sizes s n t w between why
   pub last : Line between w' line
 
--- The file is so long that its lines can't be counted any more: the lines that were taken, the bytes that are left, and the 256 that
--- are read at once are together more than 2^62.
-abbrev pub IsUncountable : State → Type 0
-IsUncountable t = 2 ^ 62 < t.pending.number + (length t.pending.rest + 256)
-
--- The file's next bytes don't come only where the count of failed reads, or of wants, rose, or where its lines can't be counted.
-abbrev pub IsReadCause : Why → State → World → World → Type 0
-IsReadCause (IsFull full) t w w' = ⊥
-IsReadCause IsFault t w w' = Rose w.read_faults w'.read_faults
-IsReadCause IsWant t w w' = Rose w.file_wants w'.file_wants ⊎ IsUncountable t
+-- The file's next bytes don't come only where the count of failed reads, or of wants, rose.
+abbrev pub IsReadCause : Why → World → World → Type 0
+IsReadCause (IsFull full) w w' = ⊥
+IsReadCause IsFault w w' = Rose w.read_faults w'.read_faults
+IsReadCause IsWant w w' = Rose w.file_wants w'.file_wants
 
 -- A moment of the run is written at which its file's next bytes are needed and don't come, for a cause, and then a stop line.
 pub record Unread (sizes : Sizes) (s : State) (n : ℕ) (w w' : World) (why : Why) (line : List ℕ) : Type 0 where
   pub t : State
   pub between : World
   pub read : ReadAt sizes s n t w between
-  pub cause : IsReadCause why t w between
+  pub cause : IsReadCause why w between
   pub last : Line between w' line
 
 -- Nothing of the run is written, and then a stop line.

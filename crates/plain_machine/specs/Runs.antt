@@ -1,8 +1,8 @@
 -- Runs of the machine, and what they write.
-use Rattle.std.specs.Prelude.{◌≡◌, ◌⊎◌, ℕ, ◌+◌, ◌≤◌, Bool, List, [], ◌∷◌, ◌++◌, if◌then◌else◌}
+use Rattle.std.specs.Prelude.{◌≡◌, ◌⊎◌, ℕ, ◌+◌, ◌≤◌, ◌<◌, ◌^◌, Bool, List, [], ◌∷◌, ◌++◌, if◌then◌else◌, Option}
 use Rattle.tex_defs.specs.Places.{Place, File, World, Later, is_at, grown}
 use Rattle.plain_state.specs.States.{State, Move, Handed, Taken, Written, made, column_after}
-use Rattle.plain_machine.specs.Plan.{Ends, Goes, next}
+use Rattle.plain_machine.specs.Plan.{Ends, Goes, next, first_state}
 
 -- a token handed on and a line taken are the steps
 abbrev pub step_of : Move → ℕ
@@ -93,3 +93,14 @@ abbrev pub SumsOfSteps : Type 0
 SumsOfSteps =
     (s : State) (j k : ℕ) (ms : List Move) (t : State) →
     (Trace s (j + k) ms t → TwoRuns s j k ms t) × (TwoRuns s j k ms t → Trace s (j + k) ms t)
+
+-- where a rule begins, or a job
+pub data Begins (s : State) : Type 0 where
+  AtRule : s.due ≡ [] → Begins s
+  AtJob : (is_known : ℕ → Bool) → (categories : List ℕ) → (quiet : Bool) → (file : List ℕ) → (job : Option (List ℕ)) → s ≡ first_state is_known categories quiet file job → Begins s
+
+-- The number of the line rises by no more than the steps, and by one where a line is taken: within fewer than 2^64 steps of a job, whose
+-- first number is 0, no line's number stands still.
+pub record LinesAreCounted : Type 0 where
+  pub rises : (s t : State) (ms : List Move) → Begins s → Moves s ms t → t.pending.number ≤ s.pending.number + steps ms
+  pub counts : (s t u : State) (ms : List Move) (line : List ℕ) → Begins s → Moves s ms t → next t ≡ Goes (Taken line) u → s.pending.number + (steps ms + 1) < 2 ^ 64 → u.pending.number ≡ t.pending.number + 1

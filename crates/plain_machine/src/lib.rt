@@ -12,7 +12,7 @@ ghost use Rattle.tex_defs.specs.Sizes.{default_sizes};
 ghost use Rattle.plain_machine.specs.Rows.{Writes, Runs as RunsSo, Enters, Begins, RunsWithin, Fills, FillsWithin, Fits, RowsAreRuns, EndedRowsAreWhole, RefusalsAreRuns, first_line_usual};
 ghost use Rattle.plain_machine.specs.Numbers.{NumbersAreFree};
 ghost use Rattle.plain_machine.specs.Extended.{ExtensionIsFree};
-ghost use Rattle.plain_machine.specs.Runs.{RunsAreOne, EachHasRun, SumsOfSteps};
+ghost use Rattle.plain_machine.specs.Runs.{RunsAreOne, EachHasRun, SumsOfSteps, LinesAreCounted};
 ghost use Rattle.plain_machine.specs.Bounded.{BoundedRunsAreOne, EachHasBounded, BoundedIsFront};
 
 /// Two runs of one state with one bound are equal: their moves, and the state to which they lead.
@@ -28,6 +28,12 @@ pub fn each_has_run()
 /// A run within j + k steps is a run within j steps, and then one within k steps from where it led.
 pub fn sums_of_steps()
     ensures { SumsOfSteps }
+{}
+
+/// The number of the line rises by no more than the steps that are taken, and by one with each line that is taken, as long as the
+/// steps are fewer than 2^64: no run that short comes to where it stands still.
+pub fn lines_are_counted()
+    ensures { LinesAreCounted }
 {}
 
 /// Two runs of one state with one bound, within the same sizes, are equal and come to the same end.

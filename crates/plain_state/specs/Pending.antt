@@ -1,5 +1,5 @@
 -- What is still to be read: lists put in front, the rest of a line, the rest of a file.
-use Rattle.std.specs.Prelude.{ℕ, ◌+◌, Bool, true, false, List, [], ◌∷◌, ◌++◌}
+use Rattle.std.specs.Prelude.{ℕ, ◌+◌, Bool, true, false, List, [], ◌∷◌, ◌++◌, nat_lt, if◌then◌else◌}
 use Rattle.tex_defs.specs.declared.Token.{Token}
 use Rattle.plain_state.specs.Lines.{end_char, first_line, behind_feed}
 use Rattle.plain_state.specs.Puts.{Item, Put, settled, passed, with_put, item_token}
@@ -51,9 +51,13 @@ put_front x p = with_puts (with_put x p.puts) p
 abbrev pub taken_line : List ℕ → List ℕ
 taken_line bytes = first_line bytes ++ end_char ∷ []
 
+-- A line's number stands still at 2^64 - 1. A line is a step, so a run of fewer than 2^64 steps never gets there.
+abbrev pub next_number : ℕ → ℕ
+next_number n = if nat_lt n 18446744073709551615 then n + 1 else n
+
 abbrev pub line_taken : ℕ → List ℕ → Pulled
 line_taken number bytes =
-    LineTaken (taken_line bytes) (record { puts = []; line = taken_line bytes; lex = NewLine; rest = behind_feed bytes; file = Begun; number = number + 1 })
+    LineTaken (taken_line bytes) (record { puts = []; line = taken_line bytes; lex = NewLine; rest = behind_feed bytes; file = Begun; number = next_number number })
 
 -- the file goes
 abbrev pub file_over : Pulled

@@ -1,5 +1,5 @@
 -- Bytes of the file that are given to the engine, and what it knows of the next reading.
-use Rattle.std.proofs.Common.{◌≡◌, ℕ, ◌<◌, ◌≤◌, List, [], ◌++◌, length, refl, sym, ap, ◌∙◌, subst, append_assoc, inl, inr, true, arith}
+use Rattle.std.proofs.Common.{◌≡◌, ℕ, ◌<◌, List, [], ◌++◌, length, refl, sym, ap, ◌∙◌, subst, append_assoc, inl, inr, true, arith}
 use Rattle.std.proofs.lemmas.List.{append-nil}
 use Rattle.tex_defs.specs.Places.{World}
 use Rattle.tex_defs.specs.declared.Sizes.{Sizes}
@@ -9,7 +9,7 @@ use Rattle.plain_machine.specs.Bounded.{FitMoves}
 use Rattle.plain_machine.specs.Does.{ReadAt}
 use Rattle.plain_machine.specs.Extended.{IsReady, InFront, NoFile, HasLine, NoMore, TooLong}
 use Rattle.plain_machine.specs.Numbers.{pending_of, pulled_of}
-use Rattle.plain_machine.proofs.Doing.{rose_on, wrote_none}
+use Rattle.plain_machine.proofs.Doing.{wrote_none}
 use Rattle.plain_machine.proofs.Extending.{extended_takes}
 use Rattle.plain_machine.proofs.Renumbering.{pulled_same}
 use Rattle.input_state.specs.NextBytes.{KnowsNext, with_bytes}
@@ -21,7 +21,7 @@ use Rattle.engine_state.specs.Calls.{AllStand}
 use Rattle.engine_state.specs.Stands.{SameFrames, SameStore, state_of}
 use Rattle.engine_state.proofs.CallKept.{all_still}
 use Rattle.engine_state.proofs.Storing.{sound_still}
-use Rattle.stomach.specs.Ahead.{given, IsGiven, Knows, IsNext, HasEnded, WantsNone, IsAtFile, Wanted}
+use Rattle.stomach.specs.Ahead.{given, IsGiven, Knows, IsNext, HasEnded, WantsNone, IsAtFile}
 use Rattle.stomach.specs.Ran.{Came, UnreadBy, whole_state}
 use Rattle.stomach.specs.Read.{MayLeave}
 use Rattle.engine_state.specs.Steps.{all_want}
@@ -133,8 +133,3 @@ unread sizes e e' all left w n is at book stands =
       read = subst (λ (s : State). ReadAt sizes s n t w w) (sym (state_given sizes all left e e' is book)) (read_at sizes e' w left book n at);
       at = record { book' = book; stands = stands_given sizes all left e e' is book stands; same = refl };
     }
-
--- memory was wanted, and before that none was
-pub wanted_on : (a b c : ℕ) (e : Engine) → a ≤ b → Wanted b c e → Wanted a c e
-wanted_on a b c e le (inl h) = inl (rose_on a b c le h)
-wanted_on a b c e le (inr h) = inr h

@@ -1,9 +1,8 @@
 -- What an engine holds of the job's file, and whether it is enough.
-use Rattle.std.specs.Prelude.{◌≡◌, ◌≢◌, ℕ, ◌+◌, ◌-◌, Bool, true, false, List, ◌++◌, length, ◌⊎◌}
-use Rattle.tex_defs.specs.Places.{Rose}
+use Rattle.std.specs.Prelude.{◌≡◌, ◌≢◌, ℕ, ◌+◌, ◌-◌, Bool, true, false, List, ◌++◌, length}
 use Rattle.plain_state.specs.Pending.{Closed, pulled, takes_file}
 use Rattle.line_reader.specs.Readers.{OpenReader}
-use Rattle.input_state.specs.NextBytes.{KnowsNext, NeedsBytes, CountsOn, with_bytes}
+use Rattle.input_state.specs.NextBytes.{KnowsNext, NeedsBytes, with_bytes}
 use Rattle.engine_state.specs.declared.engine.Engine.{Engine}
 use Rattle.engine_state.specs.Steps.{all_want}
 
@@ -28,10 +27,6 @@ pub record IsAtFile (e : Engine) : Type 0 where
   pub wanted : all_want e.call e.top e.ask ≡ true
   pub file : takes_file (pulled e.categories e.input.pending) ≡ true
   pub not_closed : e.input.pending.file ≢ Closed
-
--- memory was wanted for it, or the lines of the file can't be counted where a window more comes
-abbrev pub Wanted : (before now : ℕ) → Engine → Type 0
-Wanted before now e = Rose before now ⊎ (CountsOn 256 e.input.pending → ⊥)
 
 -- it isn't known, and the file's end hasn't come
 pub record Needs (e : Engine) (r : OpenReader) : Type 0 where

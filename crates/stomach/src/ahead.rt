@@ -4,7 +4,7 @@ ghost use Rattle.tex_defs.specs.Places.{Rose};
 ghost use Rattle.world_io.specs.declared.traits.Fault.TheVariants.{Failed, NoMemory};
 ghost use Rattle.engine_state.specs.Steps.{all_want};
 ghost use Rattle.stomach.specs.Read.{ReadsTo};
-ghost use Rattle.stomach.specs.Ahead.{IsGiven, Knows, IsAtFile, Needs, Wanted, read_weight};
+ghost use Rattle.stomach.specs.Ahead.{IsGiven, Knows, IsAtFile, Needs, read_weight};
 
 use engine_state::Engine;
 use frames::Ask;
@@ -45,11 +45,8 @@ fn read_window<F: Files>(
     ensures less { OnOk result (read_weight engine.new reader.new < read_weight engine.old reader.old) }
     ensures at_file { OnErr result (IsAtFile engine.new) }
     ensures fault { IfErr result (λ e. e ≡ Failed → Rose (F.told files.old).read_faults (F.told files.new).read_faults) }
-    ensures want { IfErr result (λ e. e ≡ NoMemory → Wanted (F.told files.old).wants (F.told files.new).wants engine.new) }
+    ensures want { IfErr result (λ e. e ≡ NoMemory → Rose (F.told files.old).wants (F.told files.new).wants) }
 {
-    if !engine.input.counts_on() {
-        return Err(Fault::NoMemory);
-    }
     let mut window = [0; WINDOW];
     let count = reader.read(files, &mut window)?;
     engine.input.add_bytes(&window[..count]);
@@ -59,7 +56,7 @@ fn read_window<F: Files>(
 /// Reads on until the next rule's reading is known.
 ///
 /// # Errors
-/// A read failed or wanted memory, or the file is too long for its lines to be counted, where no line of it is whole.
+/// A read failed or wanted memory, where no line of the file is whole.
 pub fn read_ahead<F: Files>(
     engine: &mut Engine,
     reader: &mut Reader,
@@ -70,7 +67,7 @@ pub fn read_ahead<F: Files>(
     ensures knows { OnOk result (Knows engine.new reader.new) }
     ensures at_file { OnErr result (IsAtFile engine.new) }
     ensures fault { IfErr result (λ e. e ≡ Failed → Rose (F.told files.old).read_faults (F.told files.new).read_faults) }
-    ensures want { IfErr result (λ e. e ≡ NoMemory → Wanted (F.told files.old).wants (F.told files.new).wants engine.new) }
+    ensures want { IfErr result (λ e. e ≡ NoMemory → Rose (F.told files.old).wants (F.told files.new).wants) }
 {
     while needs_bytes(engine, reader) {
         read_window(engine, reader, files)?;

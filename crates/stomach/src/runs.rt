@@ -9,7 +9,7 @@ ghost use Rattle.engine_state.specs.Calls.{AllStand};
 ghost use Rattle.engine_state.specs.Rules.{world_of};
 ghost use Rattle.engine_state.specs.Steps.{stepping};
 ghost use Rattle.stomach.specs.declared.early.Early.TheVariants as early;
-ghost use Rattle.stomach.specs.Ahead.{Knows, Wanted};
+ghost use Rattle.stomach.specs.Ahead.{Knows};
 ghost use Rattle.stomach.specs.Read.{ReadsTo};
 ghost use Rattle.stomach.specs.Ran.{Settles, StoppedBy, RanTo, StoppedTo, whole_state};
 
@@ -53,7 +53,7 @@ fn settle<F: Files, S: Sink>(
         (λ e. (sizes : Sizes) (f : FilesTold) (book : Book) → AllStand sizes engine.old book →
         StoppedBy sizes (whole_state all engine.old book) 0 engine.new left (world_of f (S.told out.old) engine.old) (world_of f (S.told out.new) engine.new) e)) }
     ensures fault { IfErr result (λ e. e ≡ early.Unread Failed → Rose (F.told files.old).read_faults (F.told files.new).read_faults) }
-    ensures want { IfErr result (λ e. e ≡ early.Unread NoMemory → Wanted (F.told files.old).wants (F.told files.new).wants engine.new) }
+    ensures want { IfErr result (λ e. e ≡ early.Unread NoMemory → Rose (F.told files.old).wants (F.told files.new).wants) }
     ensures idle { OnOk result (engine.new.input.making ≡ None) }
 {
     loop {
@@ -91,7 +91,7 @@ pub fn run_steps<F: Files, S: Sink>(
         (λ ended. RanTo engine.old (S.told out.old) engine.new (S.told out.new) n ended all left)
         (λ e. StoppedTo engine.old (S.told out.old) engine.new (S.told out.new) n e all left)) }
     ensures fault { IfErr result (λ e. e ≡ early.Unread Failed → Rose (F.told files.old).read_faults (F.told files.new).read_faults) }
-    ensures want { IfErr result (λ e. e ≡ early.Unread NoMemory → Wanted (F.told files.old).wants (F.told files.new).wants engine.new) }
+    ensures want { IfErr result (λ e. e ≡ early.Unread NoMemory → Rose (F.told files.old).wants (F.told files.new).wants) }
     ensures idle { OnOk result (engine.new.input.making ≡ None) }
     ensures stopped { engine.new.stopped ≡ true }
 {
@@ -115,7 +115,7 @@ fn make_run<F: Files, S: Sink>(
         (λ ended. RanTo engine.old (S.told out.old) engine.new (S.told out.new) n ended all left)
         (λ e. StoppedTo engine.old (S.told out.old) engine.new (S.told out.new) n e all left)) }
     ensures fault { IfErr result (λ e. e ≡ early.Unread Failed → Rose (F.told files.old).read_faults (F.told files.new).read_faults) }
-    ensures want { IfErr result (λ e. e ≡ early.Unread NoMemory → Wanted (F.told files.old).wants (F.told files.new).wants engine.new) }
+    ensures want { IfErr result (λ e. e ≡ early.Unread NoMemory → Rose (F.told files.old).wants (F.told files.new).wants) }
     ensures idle { OnOk result (engine.new.input.making ≡ None) }
 {
     let mut taken = 0;

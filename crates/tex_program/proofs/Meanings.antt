@@ -14,7 +14,7 @@ use Rattle.plain_machine.specs.Plan.{no_file, job_due}
 use Rattle.plain_machine.specs.Runs.{Wrote, steps}
 use Rattle.plain_machine.specs.Bounded.{FitMoves}
 use Rattle.plain_machine.specs.Does.{Did, Cut, IsCause, Why, IsFault, CutAt, IsFull, IsWant, front_of}
-use Rattle.plain_machine.specs.Meaning.{First, Line, Whole, Ending, Status, IsFinished, IsFlawed, IsFatal, IsFullTable, IsSteps, IsReadFault, IsWriteFault, IsNoMemory, Says, IsJob, MeansRun, Means, sizes_of, steps_line, full_line, read_fault_line, write_fault_line, no_memory_line, IsReadCause}
+use Rattle.plain_machine.specs.Meaning.{First, Line, Whole, Ending, Status, IsFinished, IsFlawed, IsFatal, IsFullTable, IsSteps, IsReadFault, IsWriteFault, IsNoMemory, Says, IsJob, MeansRun, Means, sizes_of, steps_line, full_line, read_fault_line, write_fault_line, no_memory_line}
 use Rattle.plain_machine.proofs.Extending.{still_cut, still_did}
 use Rattle.plain_machine.proofs.Pulls.{pulls}
 use Rattle.plain_machine.proofs.Doing.{later_on, rose_to, did_join, due_did, due_cut, CutOff, full_end, full_wrote, wrote_none}
@@ -40,8 +40,7 @@ use Rattle.engine_state.specs.Stands.{Stands, FramesStand, SameFrames, state_of}
 use Rattle.engine_state.specs.Rules.{world_of, Halts, Cuts}
 use Rattle.stomach.specs.declared.early.Early.{Early}
 use Rattle.stomach.specs.declared.early.Early.TheVariants as early
-use Rattle.stomach.specs.Ran.{Came, Ran, CutBy, UnreadBy, StoppedBy, whole_state, IsAt}
-use Rattle.stomach.specs.Ahead.{Wanted}
+use Rattle.stomach.specs.Ran.{Came, Ran, CutBy, UnreadBy, StoppedBy, whole_state}
 use Rattle.stomach.specs.Read.{CameOn, MayLeave}
 use Rattle.tex_program.specs.Says.{SaysSo, end_status, ReadAlike, HasReadCause}
 use Rattle.engine_state.proofs.Bare.{all_of}
@@ -78,16 +77,8 @@ module _ (sizes : Sizes) (s : State) (n : ℕ) (w m w' : World) (e : Engine) (le
   pub unread_failed : UnreadBy sizes s n e left w m → Rose w.read_faults m.read_faults → Line m w' read_fault_line → SaysSo sizes s n w w' 5
   unread_failed h cause last = record { is = IsReadFault; says = inl (record { t = h.t; between = m; read = h.read; cause = cause; last = last }) }
 
-  -- the machine's file is the engine's, and goes on
-  want_cause : (t : State) → IsAt sizes e left t → Wanted w.file_wants m.file_wants e → IsReadCause IsWant t w m
-  want_cause t at (inl h) = inl h
-  want_cause t at (inr h) =
-      let number : t.pending.number ≡ e.input.pending.number = ap (λ (x : State). x.pending.number) at.same in
-      let rest : length t.pending.rest ≡ length (e.input.pending.rest ++ left) = ap (λ (x : State). length x.pending.rest) at.same in
-      inr (omega (arith, h, number, rest, length-append e.input.pending.rest left))
-
-  pub unread_want : UnreadBy sizes s n e left w m → Wanted w.file_wants m.file_wants e → Line m w' no_memory_line → SaysSo sizes s n w w' 7
-  unread_want h wanted last = record { is = IsNoMemory; says = inr (inl (record { t = h.t; between = m; read = h.read; cause = want_cause h.t h.at wanted; last = last })) }
+  pub unread_want : UnreadBy sizes s n e left w m → Rose w.file_wants m.file_wants → Line m w' no_memory_line → SaysSo sizes s n w w' 7
+  unread_want h cause last = record { is = IsNoMemory; says = inr (inl (record { t = h.t; between = m; read = h.read; cause = cause; last = last })) }
 
 -- why it stopped
 module _ (sizes : Sizes) (s : State) (n : ℕ) (w m : World) (e : Engine) (left : List ℕ) where
@@ -97,8 +88,8 @@ module _ (sizes : Sizes) (s : State) (n : ℕ) (w m : World) (e : Engine) (left 
   pub early_unread : (x : Early) (fault : Fault) → x ≡ early.Unread fault → StoppedBy sizes s n e left w m x → UnreadBy sizes s n e left w m
   early_unread x fault is h = subst (λ (y : Early). StoppedBy sizes s n e left w m y) is h
 
-  pub early_cause : (x : Early) (fault : Fault) → x ≡ early.Unread fault → HasReadCause x e w m → HasReadCause (early.Unread fault) e w m
-  early_cause x fault is h = subst (λ (y : Early). HasReadCause y e w m) is h
+  pub early_cause : (x : Early) (fault : Fault) → x ≡ early.Unread fault → HasReadCause x w m → HasReadCause (early.Unread fault) w m
+  early_cause x fault is h = subst (λ (y : Early). HasReadCause y w m) is h
 
 module _ (sizes : Sizes) (s : State) (n : ℕ) (w m w' : World) (e' : Engine) (left : List ℕ) where
   abbrev whole_of : (o : Outcome) (ran : Ran sizes s n e' left w w' (Halted o)) → Whole sizes s n w w' (outcome_of o)
@@ -334,12 +325,9 @@ module _ (a a' f f' : FilesTold) (alike : ReadAlike a a' f f') where
   pub says_alike : (sizes : Sizes) (s : State) (n : ℕ) (w : World) (x : SinkTold) (b : Bool) (status : ℕ) → SaysSo sizes s n w (world f x b) status → SaysSo sizes s n w (world f' x b) status
   says_alike sizes s n w x b status h = says_on sizes s n w (world f x b) (world f' x b) (alike_quiet x b) status h
 
-  pub cause_alike : (x : Early) (e : Engine) (s s' : SinkTold) (b b' : Bool) → (x ≡ early.Unread Failed → Rose a.read_faults a'.read_faults) → (x ≡ early.Unread NoMemory → Wanted a.wants a'.wants e) →
-      HasReadCause x e (world f s b) (world f' s' b')
-  cause_alike x e s s' b b' failed wanted = record { failed = λ h. alike.failed (failed h); wanted = λ h. wanted_alike (wanted h) } where
-    wanted_alike : Wanted a.wants a'.wants e → Wanted f.wants f'.wants e
-    wanted_alike (inl h) = inl (alike.wanted h)
-    wanted_alike (inr h) = inr h
+  pub cause_alike : (x : Early) (s s' : SinkTold) (b b' : Bool) → (x ≡ early.Unread Failed → Rose a.read_faults a'.read_faults) → (x ≡ early.Unread NoMemory → Rose a.wants a'.wants) →
+      HasReadCause x (world f s b) (world f' s' b')
+  cause_alike x s s' b b' failed wanted = record { failed = λ h. alike.failed (failed h); wanted = λ h. alike.wanted (wanted h) }
 
 -- WHAT THE WORDS MEAN
 

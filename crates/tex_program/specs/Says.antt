@@ -6,12 +6,10 @@ use Rattle.plain_state.specs.States.{State}
 use Rattle.plain_machine.specs.Meaning.{Status, Says}
 use Rattle.world_io.specs.Told.{FilesTold}
 use Rattle.world_io.specs.declared.traits.Fault.TheVariants.{Failed, NoMemory}
-use Rattle.engine_state.specs.declared.engine.Engine.{Engine}
 use Rattle.engine_state.specs.declared.outcome.Outcome.{Outcome}
 use Rattle.engine_state.specs.declared.outcome.Outcome.TheVariants.{Finished, Fatal}
 use Rattle.stomach.specs.declared.early.Early.{Early}
 use Rattle.stomach.specs.declared.early.Early.TheVariants.{Unread}
-use Rattle.stomach.specs.Ahead.{Wanted}
 
 -- the status is one of a run's, and what it says holds
 pub record SaysSo (sizes : Sizes) (s : State) (n : ℕ) (w w' : World) (status : ℕ) : Type 0 where
@@ -32,7 +30,7 @@ pub record ReadAlike (a a' f f' : FilesTold) : Type 0 where
   pub failed : Rose a.read_faults a'.read_faults → Rose f.read_faults f'.read_faults
   pub wanted : Rose a.wants a'.wants → Rose f.wants f'.wants
 
--- Where the run stopped because the file's next bytes didn't come, a read failed, or memory was wanted or the lines can't be counted.
-pub record HasReadCause (early : Early) (e : Engine) (w w' : World) : Type 0 where
+-- Where the run stopped because the file's next bytes didn't come, a read failed or memory was wanted.
+pub record HasReadCause (early : Early) (w w' : World) : Type 0 where
   pub failed : early ≡ Unread Failed → Rose w.read_faults w'.read_faults
-  pub wanted : early ≡ Unread NoMemory → Wanted w.file_wants w'.file_wants e
+  pub wanted : early ≡ Unread NoMemory → Rose w.file_wants w'.file_wants

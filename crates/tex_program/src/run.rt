@@ -52,7 +52,7 @@ fn tell_broken<S: Sink>(out: &mut S, in_line: bool, broken: Broken) -> Told
 /// Tells that the next bytes of the job's file were needed and didn't come.
 fn tell_unread<S: Sink>(out: &mut S, in_line: bool, fault: Fault) -> Told
     ensures says { (sizes : Sizes) (f : FilesTold) (s : State) (n : ℕ) (w : _) (e : Engine) (left : List ℕ) → UnreadBy sizes s n e left w (world f (S.told out.old) in_line) →
-        HasReadCause (Unread fault) e w (world f (S.told out.old) in_line) → SaysSo sizes s n w (world f (S.told out.new) result.in_line) result.status }
+        HasReadCause (Unread fault) w (world f (S.told out.old) in_line) → SaysSo sizes s n w (world f (S.told out.new) result.in_line) result.status }
     ensures read_fault { result.status ≡ 5 → fault ≡ Failed }
     ensures not_usage { result.status ≡ 9 → ⊥ }
 {
@@ -71,7 +71,7 @@ fn tell_unread<S: Sink>(out: &mut S, in_line: bool, fault: Fault) -> Told
 /// Tells of a run that stopped early.
 fn tell_early<S: Sink>(out: &mut S, in_line: bool, early: Early) -> Told
     ensures says { (sizes : Sizes) (f : FilesTold) (s : State) (n : ℕ) (w : _) (e : Engine) (left : List ℕ) → StoppedBy sizes s n e left w (world f (S.told out.old) in_line) early →
-        HasReadCause early e w (world f (S.told out.old) in_line) → SaysSo sizes s n w (world f (S.told out.new) result.in_line) result.status }
+        HasReadCause early w (world f (S.told out.old) in_line) → SaysSo sizes s n w (world f (S.told out.new) result.in_line) result.status }
     ensures read_fault { result.status ≡ 5 → early ≡ Unread Failed }
     ensures not_usage { result.status ≡ 9 → ⊥ }
 {

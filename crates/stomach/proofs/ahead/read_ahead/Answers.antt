@@ -2,7 +2,7 @@ use Rattle.std.proofs.Common.{ℕ, List}
 use Rattle.plain_machine.proofs.Doing.{rose_on}
 use Rattle.engine_state.proofs.Joining.{same_err}
 use Rattle.stomach.specs.Ahead.{IsGiven}
-use Rattle.stomach.proofs.Giving.{is_given_none, is_given_more, wanted_on}
+use Rattle.stomach.proofs.Giving.{is_given_none, is_given_more}
 use Rattle.stomach.proofs.Reading.{reads_none, reads_then, still_open}
 use Rattle.stomach.proofs.ahead.read_ahead.Goals as goal
 
@@ -37,7 +37,7 @@ returns-in_err-read_window-clause-fault g c =
 pub returns-in_err-read_window-clause-want : goal.returns-in_err-read_window-clause-want
 returns-in_err-read_window-clause-want g c =
     let i = c.in_err-read_window in
-    same_err c.from_residual.result i.field-0.0 _ c.from_residual.ensures.1 (λ is. wanted_on _ _ _ c.read_window.new.engine c.loop-engine.invariant.came.wants (i.ensures.want is))
+    same_err c.from_residual.result i.field-0.0 _ c.from_residual.ensures.1 (λ is. rose_on _ _ _ c.loop-engine.invariant.came.wants (i.ensures.want is))
 
 pub returns-clause-came : goal.returns-clause-came
 returns-clause-came g c = c.loop-engine.invariant

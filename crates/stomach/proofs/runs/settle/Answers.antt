@@ -7,7 +7,6 @@ use Rattle.engine_state.proofs.Joining.{same_err}
 use Rattle.stomach.specs.declared.early.Early.{Early}
 use Rattle.stomach.specs.declared.early.Early.TheVariants as early
 use Rattle.stomach.proofs.CallSteps.{plan_silent}
-use Rattle.stomach.proofs.Giving.{wanted_on}
 use Rattle.stomach.proofs.Running.{as_free, as_halted, when_free, when_halted}
 use Rattle.stomach.proofs.Reading.{reads_none, reads_map, still_open}
 use Rattle.stomach.specs.Ran.{StoppedTo}
@@ -41,7 +40,7 @@ returns-in_err-read_ahead-clause-fault g c =
 pub returns-in_err-read_ahead-clause-want : goal.returns-in_err-read_ahead-clause-want
 returns-in_err-read_ahead-clause-want g c =
     let i = c.in_err-read_ahead in
-    same_err c.from_residual.result (early.Unread i.field-0.0) _ c.from_residual.ensures.1 (λ is. wanted_on _ _ _ c.read_ahead.new.engine c.loop-engine.invariant.1.came.wants (i.ensures.want (same_fault i.field-0.0 NoMemory is)))
+    same_err c.from_residual.result (early.Unread i.field-0.0) _ c.from_residual.ensures.1 (λ is. rose_on _ _ _ c.loop-engine.invariant.1.came.wants (i.ensures.want (same_fault i.field-0.0 NoMemory is)))
 
 pub returns-then-needs_step-clause-run : goal.returns-then-needs_step-clause-run
 returns-then-needs_step-clause-run g c =

@@ -79,4 +79,4 @@ returns-in-Err-run_steps-clause-says g c =
     c.tell_early.ensures.says sizes f' first c.args.steps (world f a false) e' left
     (subst (λ (x : Bool). StoppedBy sizes first c.args.steps e' left (world f a false) (world f' b x) i.early) (sym c.is_in_line-in-Err-run_steps.ensures)
     (stopped_on (world f a false) (world_of f b e') (world_of f' b e') (alike_quiet _ _ f f' alike b e'.in_line) sizes first c.args.steps e' left i.early cut))
-    (cause_alike _ _ f f' alike i.early e' a b false c.is_in_line-in-Err-run_steps.result i.ensures.fault i.ensures.want))
+    (cause_alike _ _ f f' alike i.early a b false c.is_in_line-in-Err-run_steps.result i.ensures.fault i.ensures.want))
