@@ -1,5 +1,5 @@
-//! Tests of the crates that stand below the machine, a module for each crate: that calls with ample memory succeed, what the
-//! contracts leave open, and values that stand in *The TeXbook*.
+//! Tests of crates that stand below the machine, a module for each crate: that the calls which the program doesn't make succeed with
+//! ample memory, what the contracts leave open, and values that stand in *The TeXbook*.
 //!
 //! A crate with tests is proved twice, so that these stand here. This crate has nothing else.
 #![tactic(auto)]

@@ -597,7 +597,12 @@ fn numbers_are_expanded(rt: HostRuntime) -> Result<(), Fail> {
 }
 
 /// This text so many times, and then the other.
-fn repeated(alloc: Global, text: &[u8], count: usize, last: &[u8]) -> Result<Vec<u8>, AllocError> {
+pub fn repeated(
+    alloc: Global,
+    text: &[u8],
+    count: usize,
+    last: &[u8],
+) -> Result<Vec<u8>, AllocError> {
     let mut all = Vec::new(alloc);
     for _ in 0..count {
         all.extend_from_slice(text)?;

@@ -1,4 +1,7 @@
 // The program over files and a sink in memory.
+ghost use Rattle.std.specs.Prelude.{◌<◌};
+
+use crate::macro_tests::repeated;
 use std::alloc::{AllocError, Global};
 use std::test::Fail;
 use tex_program::top;
@@ -128,25 +131,33 @@ fn a_message_is_written(rt: HostRuntime) -> Result<(), Fail> {
 const HI: &[u8] =
     b"\\catcode`\\{=1 \\catcode`\\}=2 \\catcode`\\#=6 \\catcode`\\^=7\n\\message{hi}\\end\n";
 
-#[test]
-fn a_failed_read_is_told(rt: HostRuntime) -> Result<(), Fail> {
-    let alloc = rt.alloc();
+/// Whether `init job` does so over this file, where each read gives so many bytes at most, and these calls of the files and of
+/// the sink fail: the one of 0 is none.
+fn over(
+    alloc: Global,
+    text: &[u8],
+    most: usize,
+    failing: (u64, u64),
+    expected: Expected,
+) -> Result<bool, AllocError>
+    requires { 0 < most }
+{
     let mut files = MemFiles::new(alloc);
-    files.add(b"job.tex", HI)?;
-    files.fail_at(2)?;
-    let expected = Expected {
-        text: b"! Read fault.\n",
-        status: 5,
-    };
-    assert!(rt;
-        does(
-            alloc,
-            &["init", "job"],
-            &mut files,
-            MemSink::new(alloc),
-            expected
-        )?
-    );
+    let mut out = MemSink::new(alloc);
+    files.add(b"job.tex", text)?;
+    files.limit_reads(most);
+    files.fail_at(failing.0)?;
+    out.fail_at(failing.1)?;
+    does(alloc, &["init", "job"], &mut files, out, expected)
+}
+
+#[test]
+fn a_failed_call_is_told(rt: HostRuntime) -> Result<(), Fail> {
+    let alloc = rt.alloc();
+    let (text, status) = (b"! Read fault.\n".as_slice(), 5);
+    assert!(rt; over(alloc, HI, 256, (2, 0), Expected { text, status })?);
+    let (text, status) = (b"! Write fault.\n".as_slice(), 6);
+    assert!(rt; over(alloc, HI, 256, (0, 1), Expected { text, status })?);
     Ok(())
 }
 
@@ -157,59 +168,35 @@ const THREE_LINES: &[u8] =
 #[test]
 fn a_file_is_read_as_it_is_needed(rt: HostRuntime) -> Result<(), Fail> {
     let alloc = rt.alloc();
-    for most in [1, 8] {
-        let mut files = MemFiles::new(alloc);
-        files.add(b"job.tex", THREE_LINES)?;
-        files.limit_reads(most);
-        let expected = Expected {
-            text: b"hi\n",
-            status: 0,
-        };
-        let out = MemSink::new(alloc);
-        assert!(rt; does(alloc, &["init", "job"], &mut files, out, expected)?);
-    }
+    let (text, status) = (b"hi\n".as_slice(), 0);
+    assert!(rt; over(alloc, THREE_LINES, 1, (0, 0), Expected { text, status })?);
+    assert!(rt; over(alloc, THREE_LINES, 8, (0, 0), Expected { text, status })?);
     // the file is opened, its first line comes by six reads, and the next one fails
-    let mut files = MemFiles::new(alloc);
-    files.add(b"job.tex", THREE_LINES)?;
-    files.limit_reads(8);
-    files.fail_at(8)?;
-    let expected = Expected {
-        text: b"hi\n! Read fault.\n",
-        status: 5,
-    };
-    let out = MemSink::new(alloc);
-    assert!(rt; does(alloc, &["init", "job"], &mut files, out, expected)?);
+    let (text, status) = (b"hi\n! Read fault.\n".as_slice(), 5);
+    assert!(rt; over(alloc, THREE_LINES, 8, (8, 0), Expected { text, status })?);
     Ok(())
 }
 
-#[test]
-fn a_failed_write_is_told(rt: HostRuntime) -> Result<(), Fail> {
-    let alloc = rt.alloc();
-    let mut files = MemFiles::new(alloc);
-    files.add(b"job.tex", HI)?;
-    let mut out = MemSink::new(alloc);
-    out.fail_at(1)?;
-    let expected = Expected {
-        text: b"! Write fault.\n",
-        status: 6,
-    };
-    assert!(rt; does(alloc, &["init", "job"], &mut files, out, expected)?);
-    Ok(())
-}
+/// Words behind the program's name that are no command.
+const NO_COMMANDS: [&[&str]; 10] = [
+    &[],
+    &["--help"],
+    &["init", "-a"],
+    &["init", "a", "b"],
+    &["init", "--steps", "x", "a"],
+    &["init", "--steps=-1", "a"],
+    &["init", "--steps=1000000000000001", "a"],
+    &["init", "--mem", "99", "a"],
+    &["init", "--mem=16777217", "a"],
+    &["run", "--fmt", "a", "b"],
+];
 
 #[test]
 fn words_that_are_no_command_give_the_usage(rt: HostRuntime) -> Result<(), Fail> {
     let alloc = rt.alloc();
-    assert!(rt; usage(alloc, &[])?);
-    assert!(rt; usage(alloc, &["--help"])?);
-    assert!(rt; usage(alloc, &["init", "-a"])?);
-    assert!(rt; usage(alloc, &["init", "a", "b"])?);
-    assert!(rt; usage(alloc, &["init", "--steps", "x", "a"])?);
-    assert!(rt; usage(alloc, &["init", "--steps=-1", "a"])?);
-    assert!(rt; usage(alloc, &["init", "--steps=1000000000000001", "a"])?);
-    assert!(rt; usage(alloc, &["init", "--mem", "99", "a"])?);
-    assert!(rt; usage(alloc, &["init", "--mem=16777217", "a"])?);
-    assert!(rt; usage(alloc, &["run", "--fmt", "a", "b"])?);
+    for words in &NO_COMMANDS {
+        assert!(rt; usage(alloc, *words)?);
+    }
     Ok(())
 }
 
@@ -328,22 +315,11 @@ fn reports_are_written(rt: HostRuntime) -> Result<(), Fail> {
 }
 
 #[test]
-fn the_hundredth_report_ends_the_run(rt: HostRuntime) -> Result<(), Fail> {
+fn ninety_nine_reports_end_no_run(rt: HostRuntime) -> Result<(), Fail> {
     let alloc = rt.alloc();
-    let mut text = Vec::new(alloc);
-    let mut written = Vec::new(alloc);
-    for _ in 0..99 {
-        text.extend_from_slice(b"\\foo")?;
-        written.extend_from_slice(b"! Undefined control sequence.\nl.1\n")?;
-    }
-    text.extend_from_slice(b"\\end\n")?;
+    let text = repeated(alloc, b"\\foo", 99, b"\\end\n")?;
+    let written = repeated(alloc, b"! Undefined control sequence.\nl.1\n", 99, b"")?;
     assert!(rt; bare_job(alloc, text.as_slice(), written.as_slice(), 1)?);
-    let mut more = Vec::from_slice(alloc, b"\\foo")?;
-    more.extend_from_slice(text.as_slice())?;
-    written.extend_from_slice(
-        b"! Undefined control sequence.\nl.1\n(That makes 100 errors; please try again.)\n",
-    )?;
-    assert!(rt; bare_job(alloc, more.as_slice(), written.as_slice(), 2)?);
     Ok(())
 }
 
@@ -513,55 +489,50 @@ fn categories_are_followed(rt: HostRuntime) -> Result<(), Fail> {
     Ok(())
 }
 
-/// A text of a message of so many letters.
-fn message(alloc: Global, count: usize) -> Result<Vec<u8>, AllocError> {
-    let mut text = Vec::from_slice(alloc, b"\\message{")?;
-    for _ in 0..count {
-        text.push(97)?;
-    }
-    text.extend_from_slice(b"}\\end\n")?;
-    Ok(text)
-}
+/// Messages of 99, 100 and 200 letters.
+const LETTERS: [Row; 3] = [
+    (
+        b"\\message{aaaaaaaaaaaaaaaaaaaaaaaaaaaaaaaaaaaaaaaaaaaaaaaaaaaaaaaaaaaaaaaaaaaaaaaaaaaaaaaaaaaaaaaaaaaaaaaaaaa}\\end\n",
+        b"aaaaaaaaaaaaaaaaaaaaaaaaaaaaaaaaaaaaaaaaaaaaaaaaaaaaaaaaaaaaaaaaaaaaaaaaaaaaaaaaaaaaaaaaaaaaaaaaaaa\n",
+        0,
+    ),
+    (
+        b"\\message{aaaaaaaaaaaaaaaaaaaaaaaaaaaaaaaaaaaaaaaaaaaaaaaaaaaaaaaaaaaaaaaaaaaaaaaaaaaaaaaaaaaaaaaaaaaaaaaaaaaa}\\end\n",
+        b"! TeX capacity exceeded, sorry [main memory size=100].\n",
+        3,
+    ),
+    (
+        b"\\message{aaaaaaaaaaaaaaaaaaaaaaaaaaaaaaaaaaaaaaaaaaaaaaaaaaaaaaaaaaaaaaaaaaaaaaaaaaaaaaaaaaaaaaaaaaaaaaaaaaa\
+          aaaaaaaaaaaaaaaaaaaaaaaaaaaaaaaaaaaaaaaaaaaaaaaaaaaaaaaaaaaaaaaaaaaaaaaaaaaaaaaaaaaaaaaaaaaaaaaaaaaaa}\\end\n",
+        b"! TeX capacity exceeded, sorry [main memory size=100].\n",
+        3,
+    ),
+];
 
 #[test]
 fn a_full_main_memory_ends_the_run(rt: HostRuntime) -> Result<(), Fail> {
-    let alloc = rt.alloc();
     let words = ["init", "--mem", "100", "job"];
-    let mut written = Vec::new(alloc);
-    for _ in 0..99 {
-        written.push(97)?;
+    for row in &LETTERS {
+        assert!(rt; job_with(rt.alloc(), &words, row.0, row.1, row.2)?);
     }
-    written.push(10)?;
-    let text = message(alloc, 99)?;
-    assert!(rt; job_with(alloc, &words, text.as_slice(), written.as_slice(), 0)?);
-    let full = b"! TeX capacity exceeded, sorry [main memory size=100].\n".as_slice();
-    let text = message(alloc, 100)?;
-    assert!(rt; job_with(alloc, &words, text.as_slice(), full, 3)?);
-    let text = message(alloc, 200)?;
-    assert!(rt; job_with(alloc, &words, text.as_slice(), full, 3)?);
+    Ok(())
+}
+
+#[test]
+fn a_line_of_the_buffer_size_fits(rt: HostRuntime) -> Result<(), Fail> {
+    let alloc = rt.alloc();
+    let words = ["init", "--quiet", "job"];
+    let text = repeated(alloc, b"x", 499, b"\n\\end\n")?;
+    assert!(rt; job_with(alloc, &words, text.as_slice(), b"", 0)?);
     Ok(())
 }
 
 #[test]
 fn a_line_too_long_ends_the_run(rt: HostRuntime) -> Result<(), Fail> {
     let alloc = rt.alloc();
-    let mut text = Vec::new(alloc);
-    for _ in 0..499 {
-        text.push(120)?;
-    }
-    let mut more = Vec::from_slice(alloc, text.as_slice())?;
-    text.extend_from_slice(b"\n\\end\n")?;
-    more.extend_from_slice(b"x\n\\end\n")?;
     let words = ["init", "--quiet", "job"];
-    assert!(rt; job_with(alloc, &words, text.as_slice(), b"", 0)?);
-    assert!(rt;
-        job_with(
-            alloc,
-            &words,
-            more.as_slice(),
-            b"! TeX capacity exceeded, sorry [buffer size=500].\n",
-            3
-        )?
-    );
+    let text = repeated(alloc, b"x", 500, b"\n\\end\n")?;
+    let full = b"! TeX capacity exceeded, sorry [buffer size=500].\n";
+    assert!(rt; job_with(alloc, &words, text.as_slice(), full, 3)?);
     Ok(())
 }
