@@ -211,11 +211,7 @@ static NAMES: [(Name, &[u8], &[u8]); 7] = [
     (Name::Single(b'+'), b"\\+", b"+"),
     (Name::Single(13), b"\\^^M", b"^^M"),
     (Name::Active(200), b"^^c8", b"^^c8"),
-    (
-        Name::Empty,
-        b"\\csname\\endcsname ",
-        b"csnameendcsname ",
-    ),
+    (Name::Empty, b"\\csname\\endcsname ", b"csnameendcsname "),
     (Name::Frozen(Frozen::Fi), b"\\fi ", b"fi "),
 ];
 
