@@ -544,56 +544,47 @@ const NUMBERS: [Row; 12] = [
 
 #[test]
 fn definitions_are_read(rt: HostRuntime) -> Result<(), Fail> {
-    assert!(rt; rows_hold(rt.alloc(), &DEFINITIONS)?);
-    Ok(())
+    rows_hold(&rt, rt.alloc(), &DEFINITIONS)
 }
 
 #[test]
 fn expanded_definitions_are_read(rt: HostRuntime) -> Result<(), Fail> {
-    assert!(rt; rows_hold(rt.alloc(), &EXPANDED)?);
-    Ok(())
+    rows_hold(&rt, rt.alloc(), &EXPANDED)
 }
 
 #[test]
 fn bodies_are_put(rt: HostRuntime) -> Result<(), Fail> {
-    assert!(rt; rows_hold(rt.alloc(), &BODIES)?);
-    Ok(())
+    rows_hold(&rt, rt.alloc(), &BODIES)
 }
 
 #[test]
 fn arguments_are_gathered(rt: HostRuntime) -> Result<(), Fail> {
-    assert!(rt; rows_hold(rt.alloc(), &ARGUMENTS)?);
-    Ok(())
+    rows_hold(&rt, rt.alloc(), &ARGUMENTS)
 }
 
 #[test]
 fn calls_that_fail_are_reported(rt: HostRuntime) -> Result<(), Fail> {
-    assert!(rt; rows_hold(rt.alloc(), &CALLS)?);
-    Ok(())
+    rows_hold(&rt, rt.alloc(), &CALLS)
 }
 
 #[test]
 fn a_paragraph_ends_a_call(rt: HostRuntime) -> Result<(), Fail> {
-    assert!(rt; rows_hold(rt.alloc(), &PARAGRAPHS)?);
-    Ok(())
+    rows_hold(&rt, rt.alloc(), &PARAGRAPHS)
 }
 
 #[test]
 fn a_file_ends_what_is_scanned(rt: HostRuntime) -> Result<(), Fail> {
-    assert!(rt; rows_hold(rt.alloc(), &ENDS)?);
-    Ok(())
+    rows_hold(&rt, rt.alloc(), &ENDS)
 }
 
 #[test]
 fn outer_names_are_forbidden(rt: HostRuntime) -> Result<(), Fail> {
-    assert!(rt; rows_hold(rt.alloc(), &OUTER_NAMES)?);
-    Ok(())
+    rows_hold(&rt, rt.alloc(), &OUTER_NAMES)
 }
 
 #[test]
 fn numbers_are_expanded(rt: HostRuntime) -> Result<(), Fail> {
-    assert!(rt; rows_hold(rt.alloc(), NUMBERS.as_slice())?);
-    Ok(())
+    rows_hold(&rt, rt.alloc(), NUMBERS.as_slice())
 }
 
 /// This text so many times, and then the other.
@@ -632,8 +623,7 @@ const ENDLESS: [Row; 3] = [
 
 #[test]
 fn full_tables_end_calls_that_never_end(rt: HostRuntime) -> Result<(), Fail> {
-    assert!(rt; rows_hold(rt.alloc(), &ENDLESS)?);
-    Ok(())
+    rows_hold(&rt, rt.alloc(), &ENDLESS)
 }
 
 #[test]

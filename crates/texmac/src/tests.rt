@@ -3,6 +3,7 @@ ghost use Rattle.std.specs.Prelude.{◌<◌};
 
 use crate::macro_tests::repeated;
 use std::alloc::{AllocError, Global};
+use std::process::Abort;
 use std::test::Fail;
 use tex_program::top;
 use world_io::{MemFiles, MemSink};
@@ -46,17 +47,15 @@ pub fn job(alloc: Global, text: &[u8], written: &[u8], status: u8) -> Result<boo
 /// A file behind the line with the usual categories, what it writes, and its status.
 pub type Row = (&'static [u8], &'static [u8], u8);
 
-/// Whether each of the files does so.
-pub fn rows_hold(alloc: Global, rows: &[Row]) -> Result<bool, AllocError> {
-    for row in rows {
-        if !job(alloc, row.0, row.1, row.2)? {
-            return Ok(false);
-        }
+/// Each of the files does so; the row that doesn't is named.
+pub fn rows_hold(rt: &impl Abort, alloc: Global, rows: &[Row]) -> Result<(), Fail> {
+    for (k, row) in rows.iter().enumerate() {
+        assert!(rt; job(alloc, row.0, row.1, row.2)?, "row {k}");
     }
-    Ok(true)
+    Ok(())
 }
 
-/// The same for other words than `init job`.
+/// As `job`, for other words than `init job`.
 pub fn job_with(
     alloc: Global,
     words: &[&str],
@@ -310,8 +309,7 @@ fn reports_are_written(rt: HostRuntime) -> Result<(), Fail> {
             1
         )?
     );
-    assert!(rt; rows_hold(alloc, &REPORTS)?);
-    Ok(())
+    rows_hold(&rt, rt.alloc(), &REPORTS)
 }
 
 #[test]
@@ -357,8 +355,7 @@ const PARTED: [Row; 2] = [
 
 #[test]
 fn messages_are_parted_by_a_space(rt: HostRuntime) -> Result<(), Fail> {
-    assert!(rt; rows_hold(rt.alloc(), &PARTED)?);
-    Ok(())
+    rows_hold(&rt, rt.alloc(), &PARTED)
 }
 
 /// Texts with braces, and of several lines.
@@ -373,8 +370,7 @@ const BALANCED: [Row; 2] = [
 
 #[test]
 fn texts_are_balanced(rt: HostRuntime) -> Result<(), Fail> {
-    assert!(rt; rows_hold(rt.alloc(), &BALANCED)?);
-    Ok(())
+    rows_hold(&rt, rt.alloc(), &BALANCED)
 }
 
 /// Characters by `^^`, inside names too.
@@ -385,8 +381,7 @@ const HATS: [Row; 2] = [
 
 #[test]
 fn double_hats_stand_for_characters(rt: HostRuntime) -> Result<(), Fail> {
-    assert!(rt; rows_hold(rt.alloc(), &HATS)?);
-    Ok(())
+    rows_hold(&rt, rt.alloc(), &HATS)
 }
 
 /// Characters as they are printed: `\newlinechar` is 0.
@@ -401,8 +396,7 @@ const PRINTED: [Row; 2] = [
 
 #[test]
 fn characters_are_printed_as_tex_prints_them(rt: HostRuntime) -> Result<(), Fail> {
-    assert!(rt; rows_hold(rt.alloc(), &PRINTED)?);
-    Ok(())
+    rows_hold(&rt, rt.alloc(), &PRINTED)
 }
 
 /// Category codes, read in each form of a number.
@@ -419,8 +413,7 @@ const CODES: [Row; 4] = [
 
 #[test]
 fn category_codes_are_read_in_each_form(rt: HostRuntime) -> Result<(), Fail> {
-    assert!(rt; rows_hold(rt.alloc(), &CODES)?);
-    Ok(())
+    rows_hold(&rt, rt.alloc(), &CODES)
 }
 
 /// `\relax` by itself and before a text.
@@ -432,8 +425,7 @@ const RELAXED: [Row; 3] = [
 
 #[test]
 fn relax_does_nothing(rt: HostRuntime) -> Result<(), Fail> {
-    assert!(rt; rows_hold(rt.alloc(), &RELAXED)?);
-    Ok(())
+    rows_hold(&rt, rt.alloc(), &RELAXED)
 }
 
 /// Prefixes, with what is reported of them.
@@ -467,8 +459,7 @@ const PREFIXES: [Row; 5] = [
 
 #[test]
 fn prefixes_stand_before_assignments(rt: HostRuntime) -> Result<(), Fail> {
-    assert!(rt; rows_hold(rt.alloc(), &PREFIXES)?);
-    Ok(())
+    rows_hold(&rt, rt.alloc(), &PREFIXES)
 }
 
 /// An active, an ignored, a comment and an escape character.
@@ -485,8 +476,7 @@ const CATEGORIES: [Row; 4] = [
 
 #[test]
 fn categories_are_followed(rt: HostRuntime) -> Result<(), Fail> {
-    assert!(rt; rows_hold(rt.alloc(), &CATEGORIES)?);
-    Ok(())
+    rows_hold(&rt, rt.alloc(), &CATEGORIES)
 }
 
 /// Messages of 99, 100 and 200 letters.
