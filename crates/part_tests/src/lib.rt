@@ -19,6 +19,8 @@ mod list_builder_tests;
 #[cfg(test)]
 mod meanings_tests;
 #[cfg(test)]
+mod mem_words_tests;
+#[cfg(test)]
 mod prim_table_tests;
 #[cfg(test)]
 mod scaled_arith_tests;
