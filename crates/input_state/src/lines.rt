@@ -55,7 +55,6 @@ pub fn first_line(bytes: &[u8]) -> Cut
     ensures used_within { result.used ≤ length bytes.now }
     ensures kept { take result.kept bytes.now ≡ plain.first_line bytes.now }
     ensures used { drop result.used bytes.now ≡ behind_feed bytes.now }
-    ensures some { 0 < length bytes.now → 0 < result.used }
 {
     let feed = find_feed(bytes);
     if feed == bytes.len() {

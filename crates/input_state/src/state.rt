@@ -160,7 +160,7 @@ impl Input {
         &self.buffer
     }
 
-    /// The number of the line that is being read, 0 where no file is open.
+    /// The number of the line that is being read, 0 where no file is open. It stands still at 2^64 - 1.
     pub fn line_number(&self) -> u64
         ensures { result ≡ self.now.pending.number }
     {
@@ -373,7 +373,6 @@ impl Input {
         requires end { ahead_of categories.now self.old.pending ≡ ahead.End }
         requires settled { settle self.old.pending ≡ self.old.pending }
         requires open { self.old.pending.file ≢ Closed }
-        requires some { self.old.pending.file ≡ Begun → 0 < length self.old.pending.rest }
         ensures ok { OnOk result (line_taken self.old.pending.number self.old.pending.rest ≡ LineTaken (taken_line self.old.pending.rest) self.new.pending) }
         ensures refused { MatchResult result (λ _. refused self.old.sizes (next_line self.old.pending) ≡ None) (λ full. refused self.old.sizes (next_line self.old.pending) ≡ Some full) }
         ensures err { OnErr result (self.new.pending ≡ self.old.pending) }
