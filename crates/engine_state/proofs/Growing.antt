@@ -267,8 +267,8 @@ module _ (sizes : Sizes) (e : Engine) (f f' : Frame) (a : Answer) (x : Seen) (bo
       front = cut.front;
       grown = ap (λ (y : Engine). y.input.builds) cut.after ∙ token_same cut.front e.input.builds;
       leads = subst (λ (t : Option Frame). MayLead (broken.Full full) t cut.front) (sym (ap (λ (y : Engine). y.top) cut.after ∙ top)) (lead_by a.first a.second cut.front cut.next cut.rest cut.split one full);
-      stand = subst (λ (y : Engine). FramesIn y.call y e.input.builds book.work) (sym cut.after)
-          (subst (λ (c : Option Call). FramesIn c (listed e (grown_by cut.front e.input.builds) e'.input.lists) e.input.builds book.work) (sym h.stands.uncalled.none) h.stands.readings);
+      stand = subst (λ (y : Engine). FramesIn (broken.Full full) y.call y e.input.builds book.work) (sym cut.after)
+          (subst (λ (c : Option Call). FramesIn (broken.Full full) c (listed e (grown_by cut.front e.input.builds) e'.input.lists) e.input.builds book.work) (sym h.stands.uncalled.none) h.stands.readings);
     };
   } where
     at : (work : List Reading) → WorkStands e.ask (Some f) e.outer.items e.input.builds e.input.aside work → Cuts sizes (state_of e (with_work work book)) e' (with_work work book) w w (feeds_of work x) (broken.Full full)

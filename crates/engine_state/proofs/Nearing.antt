@@ -7,6 +7,7 @@ use Rattle.tex_defs.specs.Places.{World}
 use Rattle.plain_state.specs.States.{State, Reading, Move}
 use Rattle.plain_machine.specs.Does.{Did}
 use Rattle.world_io.specs.Told.{FilesTold, SinkTold, world}
+use Rattle.input_state.specs.Callings.{Calling}
 use Rattle.frames.specs.declared.scan.Ask.{Ask}
 use Rattle.frames.specs.declared.frame.Frame.{Frame}
 use Rattle.frames.specs.declared.outer.Beneath.{Beneath}
@@ -15,25 +16,25 @@ use Rattle.engine_state.specs.declared.call.Call.{Call}
 use Rattle.engine_state.specs.declared.engine.Engine.{Engine}
 use Rattle.engine_state.specs.Book.{Book}
 use Rattle.engine_state.specs.Calls.{AllStand, ReadingsStand}
-use Rattle.engine_state.specs.Near.{FramesIn, FramesNear, CutsIn, MayLead}
+use Rattle.engine_state.specs.Near.{AsFed, CallNear, FramesIn, FramesNear, CutsIn, MayLead}
 use Rattle.engine_state.specs.Rules.{world_of, Cuts}
 use Rattle.engine_state.specs.Stands.{Stands, FramesStand, WorkStands, SameFrames, state_of}
-use Rattle.engine_state.proofs.Bare.{all_of}
+use Rattle.engine_state.proofs.Bare.{all_of, call_reads}
 use Rattle.engine_state.proofs.Cutting.{first_cuts, later_cuts}
 
 -- THE OPEN READINGS
 
-frames_at : (e : Engine) (number : ℕ → ℕ) (c : Option Call) (work : List Reading) → ReadingsStand c e number work → FramesIn c e e.input.builds work
-frames_at e number None work h = h.0
-frames_at e number (Some c) [] h = h
-frames_at e number (Some c) (r ∷ rs) h = h.1.0
+frames_at : (b : Broken) (e : Engine) (number : ℕ → ℕ) (c : Option Call) (work : List Reading) → ReadingsStand c e number work → FramesIn b c e e.input.builds work
+frames_at b e number None work h = h.0
+frames_at b e number (Some c) [] h = h
+frames_at b e number (Some c) (r ∷ rs) h = (AsFed (call_reads e number c r h.0), h.1.0)
 
 pub near_all : (sizes : Sizes) (b : Broken) (e : Engine) (book : Book) → AllStand sizes e book → FramesNear b e book.work
-near_all sizes b e book st = record { lists = e.input.builds; front = None; grown = refl; leads = tt; stand = frames_at e book.number e.call book.work st.all }
+near_all sizes b e book st = record { lists = e.input.builds; front = None; grown = refl; leads = tt; stand = frames_at b e book.number e.call book.work st.all }
 
 -- where no call gathers its arguments
 pub near_none : (b : Broken) (e : Engine) (work : List Reading) → e.call ≡ None → FramesStand e work → FramesNear b e work
-near_none b e work none h = record { lists = e.input.builds; front = None; grown = refl; leads = tt; stand = subst (λ (c : Option Call). FramesIn c e e.input.builds work) (sym none) h }
+near_none b e work none h = record { lists = e.input.builds; front = None; grown = refl; leads = tt; stand = subst (λ (c : Option Call). FramesIn b c e e.input.builds work) (sym none) h }
 
 work_still : (e e' : Engine) (lists : List (List Token)) (work : List Reading) → SameFrames e e' → WorkStands e.ask e.top e.outer.items lists e.input.aside work → WorkStands e'.ask e'.top e'.outer.items lists e'.input.aside work
 work_still e e' lists work same h =
@@ -42,10 +43,10 @@ work_still e e' lists work same h =
     (subst (λ (x : Option Frame). WorkStands e'.ask x e.outer.items lists e.input.aside work) (sym same.top)
     (subst (λ (x : Ask). WorkStands x e.top e.outer.items lists e.input.aside work) (sym same.ask) h)))
 
-in_still : (e e' : Engine) (c : Option Call) (lists : List (List Token)) (work : List Reading) → SameFrames e e' → FramesIn c e lists work → FramesIn c e' lists work
-in_still e e' None lists work same h = work_still e e' lists work same h
-in_still e e' (Some c) lists [] same h = h
-in_still e e' (Some c) lists (r ∷ rs) same h = work_still e e' lists rs same h
+in_still : (b : Broken) (e e' : Engine) (c : Option Call) (lists : List (List Token)) (work : List Reading) → SameFrames e e' → FramesIn b c e lists work → FramesIn b c e' lists work
+in_still b e e' None lists work same h = work_still e e' lists work same h
+in_still b e e' (Some c) lists [] same h = h
+in_still b e e' (Some c) lists (r ∷ rs) same h = (subst (λ (k : Calling). CallNear b c k r) (sym same.calling) h.0, work_still e e' lists rs same h.1)
 
 -- they are as they were
 pub near_still : (b : Broken) (e e' : Engine) (work : List Reading) → SameFrames e e' → FramesNear b e work → FramesNear b e' work
@@ -54,7 +55,7 @@ near_still b e e' work same h = record {
   front = h.front;
   grown = same.lists ∙ h.grown;
   leads = subst (λ (t : Option Frame). MayLead b t h.front) (sym same.top) h.leads;
-  stand = subst (λ (c : Option Call). FramesIn c e' h.lists work) (sym same.call) (in_still e e' e.call h.lists work same h.stand);
+  stand = subst (λ (c : Option Call). FramesIn b c e' h.lists work) (sym same.call) (in_still b e e' e.call h.lists work same h.stand);
 }
 
 -- CUT OFF

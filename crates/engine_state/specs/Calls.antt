@@ -106,6 +106,18 @@ pub record CallStands (e : Engine) (number : ℕ → ℕ) (c : Call) (r : Readin
   pub last : GivesLast c.ask r.fed
   pub not_lent : r.lent ≡ false
 
+-- the call is this reading, over the list of its macro
+pub record CallReads (c : Call) (k : Calling) (r : Reading) : Type 0 where
+  pub long : Bool
+  pub number : ℕ
+  pub text : List Token
+  pub kind : r.kind ≡ reading.Arguments c.name long number text
+  pub asked : asks_of c k ≡ reading.ask r.kind r.fed
+  pub at : CallAt c.ask c.name long text k r.fed
+  pub holds : r.holds ≡ length (call_lists k)
+  pub last : GivesLast c.ask r.fed
+  pub not_lent : r.lent ≡ false
+
 -- a call begins where a token is wanted
 abbrev pub WantsToken : Option Frame → Ask → Type 0
 WantsToken None a = Unit {0}
@@ -124,11 +136,11 @@ pub record AllStand (sizes : Sizes) (e : Engine) (book : Book) : Type 0 where
   pub idle : e.input.making ≡ None
   pub all : ReadingsStand e.call e book.number book.work
 
--- the open readings, but for a call, are these
+-- the open readings are these
 abbrev pub FramesOf : Option Call → Engine → List Reading → Type 0
 FramesOf None e work = FramesStand e work
 FramesOf (Some c) e [] = ⊥
-FramesOf (Some c) e (r ∷ rs) = FramesStand e rs
+FramesOf (Some c) e (r ∷ rs) = CallReads c e.input.call r × FramesStand e rs
 
 -- AN ARGUMENT THAT RUNS AWAY
 

@@ -1,24 +1,75 @@
 -- Where a rule is cut off within what a token comes to.
-use Rattle.std.specs.Prelude.{◌≡◌, List, [], ◌∷◌, Option, Some, None}
+use Rattle.std.specs.Prelude.{◌≡◌, ℕ, Bool, false, List, [], ◌∷◌, ◌++◌, length, Option, Some, None}
 use Rattle.tex_defs.specs.Places.{World}
+use Rattle.tex_defs.specs.declared.Full.{Full}
+use Rattle.tex_defs.specs.declared.Seen.{Seen}
 use Rattle.tex_defs.specs.declared.Sizes.{Sizes}
 use Rattle.tex_defs.specs.declared.Token.{Token}
+use Rattle.plain_state.specs.Readings as reading
+use Rattle.plain_state.specs.Readings.{Fed, Tok}
 use Rattle.plain_state.specs.States.{Reading, State, Move, grow_first}
+use Rattle.macro_call.specs.PlainScans.{Scan}
+use Rattle.input_state.specs.CallFeeds.{IsCutInGrowth, IsCutBetween}
+use Rattle.input_state.specs.Callings.{Calling, Stopped, call_lists}
 use Rattle.frames.specs.declared.frame.Frame.{Frame}
 use Rattle.frames.specs.Resumes.{frame_kind, IsNoDefinition}
 use Rattle.engine_state.specs.declared.broken.Broken.{Broken}
 use Rattle.engine_state.specs.declared.broken.Broken.TheVariants as broken
 use Rattle.engine_state.specs.declared.call.Call.{Call}
+use Rattle.engine_state.specs.Calls.{Gathers, CallReads}
 use Rattle.engine_state.specs.declared.engine.Engine.{Engine}
 use Rattle.engine_state.specs.Book.{Book}
 use Rattle.engine_state.specs.Stands.{WorkStands}
 use Rattle.engine_state.specs.Rules.{Cuts}
 
--- the open readings, but for a call, are these, where they held these lists
-abbrev pub FramesIn : Option Call → Engine → (lists : List (List Token)) → List Reading → Type 0
-FramesIn None e lists work = WorkStands e.ask e.top e.outer.items lists e.input.aside work
-FramesIn (Some c) e lists [] = ⊥
-FramesIn (Some c) e lists (r ∷ rs) = WorkStands e.ask e.top e.outer.items lists e.input.aside rs
+-- A CALL THAT IS CUT OFF
+
+-- Its reading isn't fed with the token yet: of the tokens that go into the list in work because of it the first are there.
+pub record CutWithin (long : Bool) (text : List Token) (next : Scan) (fed : List Fed) : Type 0 where
+  pub scan : Scan
+  pub seen : Seen
+  pub gathers : Gathers long text scan fed
+  pub cut : IsCutInGrowth text seen.token scan next
+
+-- Its reading is fed with the token: no list is in work, since that of the place which is reached isn't begun.
+pub record CutBehind (long : Bool) (text : List Token) (next : Scan) (fed : List Fed) : Type 0 where
+  pub scan : Scan
+  pub before : List Fed
+  pub seen : Seen
+  pub gathers : Gathers long text scan before
+  pub last : fed ≡ before ++ Tok seen ∷ []
+  pub cut : IsCutBetween text seen.token scan next
+
+pub data CutScan (long : Bool) (text : List Token) (next : Scan) (fed : List Fed) : Type 0 where
+  Within : CutWithin long text next fed → CutScan long text next fed
+  Behind : CutBehind long text next fed → CutScan long text next fed
+
+-- the memory is full within what a token brings
+pub record CutFull (b : Broken) (c : Call) (k : Calling) (r : Reading) : Type 0 where
+  pub full : Full
+  pub is_full : b ≡ broken.Full full
+  pub long : Bool
+  pub number : ℕ
+  pub text : List Token
+  pub kind : r.kind ≡ reading.Arguments c.name long number text
+  pub holds : r.holds ≡ length (call_lists k)
+  pub not_lent : r.lent ≡ false
+  pub next : Scan
+  pub stopped : k ≡ Stopped c.name next
+  pub at : CutScan long text next r.fed
+
+-- the call is this reading, as it was fed or cut off
+pub data CallNear (b : Broken) (c : Call) (k : Calling) (r : Reading) : Type 0 where
+  AsFed : CallReads c k r → CallNear b c k r
+  CutOff : CutFull b c k r → CallNear b c k r
+
+-- ALL OPEN READINGS
+
+-- they are these, where the frames held these lists
+abbrev pub FramesIn : Broken → Option Call → Engine → (lists : List (List Token)) → List Reading → Type 0
+FramesIn b None e lists work = WorkStands e.ask e.top e.outer.items lists e.input.aside work
+FramesIn b (Some c) e lists [] = ⊥
+FramesIn b (Some c) e lists (r ∷ rs) = CallNear b c e.input.call r × WorkStands e.ask e.top e.outer.items lists e.input.aside rs
 
 -- the innermost list has one token more, or none
 abbrev pub with_token : Option Token → List (List Token) → List (List Token)
@@ -31,14 +82,14 @@ MayLead b top None = Unit {0}
 MayLead (broken.Full full) (Some f) (Some t) = IsNoDefinition (frame_kind f) → ⊥
 MayLead b top (Some t) = ⊥
 
--- The open readings, but for a call, are these. Only where a table is full: of two tokens that one token brings into a definition's
--- list, the first may be there.
+-- The open readings are these. Only where a table is full: of two tokens that one token brings into a definition's list, the first may be
+-- there, and a call may be cut off within what a token brings.
 pub record FramesNear (b : Broken) (e : Engine) (work : List Reading) : Type 0 where
   pub lists : List (List Token)
   pub front : Option Token
   pub grown : e.input.builds ≡ with_token front lists
   pub leads : MayLead b e.top front
-  pub stand : FramesIn e.call e lists work
+  pub stand : FramesIn b e.call e lists work
 
 -- The moves are cut off: the engine stands for the moment before the move that wasn't made, with these readings.
 pub record CutsIn (sizes : Sizes) (s : State) (e' : Engine) (w w' : World) (moves : List Move) (b : Broken) : Type 0 where

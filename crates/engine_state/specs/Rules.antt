@@ -211,3 +211,8 @@ pub record SameReadings (e e' : Engine) : Type 0 where
   pub lists : e'.input.builds ≡ e.input.builds
   pub aside : e'.input.aside ≡ e.input.aside
   pub call : e'.call ≡ e.call
+
+-- an open call has what it had
+abbrev pub CallStays : Option Call → Engine → Engine → Type 0
+CallStays None e e' = Unit {0}
+CallStays (Some c) e e' = e'.input.call ≡ e.input.call

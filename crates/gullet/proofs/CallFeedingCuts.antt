@@ -1,5 +1,5 @@
 -- A call that is fed with a token for which the main memory has no room.
-use Rattle.std.proofs.Common.{◌≡◌, ℕ, zero, suc, ◌+◌, ◌<◌, ◌≤◌, List, [], ◌∷◌, ◌++◌, length, drop, map, refl, sym, ap, subst, ◌∙◌, append_assoc, length-append, arith}
+use Rattle.std.proofs.Common.{◌≡◌, ℕ, zero, suc, false, ◌+◌, ◌<◌, ◌≤◌, List, [], ◌∷◌, ◌++◌, length, drop, map, refl, sym, ap, subst, ◌∙◌, append_assoc, length-append, arith}
 use Rattle.std.proofs.lemmas.List.{length-drop}
 use Rattle.std.proofs.lemmas.List.Sums.{sum_by-cons, sum_by-append}
 use Rattle.std.proofs.Math.Seq.{drop-append_seam}
@@ -31,7 +31,7 @@ use Rattle.engine_state.specs.declared.call.Call.{Call}
 use Rattle.engine_state.specs.declared.engine.Engine.{Engine}
 use Rattle.engine_state.specs.Book.{Book, with_work}
 use Rattle.engine_state.specs.Calls.{AllStand, ReadingsStand, CallStands, open_call}
-use Rattle.engine_state.specs.Near.{FramesIn, FramesNear, CutsIn}
+use Rattle.engine_state.specs.Near.{Within, Behind, CutOff, CutScan, CallNear, FramesIn, FramesNear, CutsIn}
 use Rattle.engine_state.specs.Stands.{IsSound, SameStore, state_of}
 use Rattle.engine_state.proofs.CallEnding.{here as here_call}
 use Rattle.gullet.proofs.CallFeeding.{scanner, text_is, answer_to, feeding_is, growth_is, lists_before}
@@ -127,39 +127,62 @@ module _ (sizes : Sizes) (e e2 : Engine) (book : Book) (r : Reading) (rs : List 
   no_more q lists same =
       ap (λ (u : State). refused sizes (memory 1 (words u) ∷ [])) (finish q lists same) ∙ words_more sizes e2 (with_work (q ∷ rs) book) 1 (Some full) sound refuses
 
-  frames_near : (q : Reading) → FramesNear (broken.Full full) e2 (q ∷ rs)
-  frames_near q = record {
+  frames_near : (q : Reading) → CallNear (broken.Full full) (open_call name) e2.input.call q → FramesNear (broken.Full full) e2 (q ∷ rs)
+  frames_near q near = record {
     lists = e2.input.builds;
     front = None;
     grown = refl;
     leads = tt;
-    stand = subst (λ (y : Engine). FramesIn y.call y y.input.builds (q ∷ rs)) (sym behind) (subst (λ (c : Option Call). FramesIn c (record e { input = record e.input { call = e2.input.call; lists = e2.input.lists } }) e.input.builds (q ∷ rs)) (sym is) stood.1.0);
+    stand = subst (λ (y : Engine). FramesIn (broken.Full full) y.call y y.input.builds (q ∷ rs)) (sym behind)
+        (subst (λ (c : Option Call). FramesIn (broken.Full full) c (record e { input = record e.input { call = e2.input.call; lists = e2.input.lists } }) e.input.builds (q ∷ rs)) (sym is) (near, stood.1.0));
   }
 
   -- the first moves are done, and the next one has no room
-  cut_at : (q : Reading) (lists : List (List Token)) (done : List Move) (m : Move) (rest : List Move) → call_lists e2.input.call ≡ lists →
+  cut_at : (q : Reading) (lists : List (List Token)) (done : List Move) (m : Move) (rest : List Move) → CallNear (broken.Full full) (open_call name) e2.input.call q → call_lists e2.input.call ≡ lists →
       argument_fed x (scan_work k.scan) complete (work_in a) ≡ done ++ m ∷ rest →
       Did sizes (state_at (state_of e W) (r ∷ rs) (lists_of k.scan.args (scan_work k.scan) ++ (e.input.builds ++ e.input.aside))) (state_at (state_of e W) (q ∷ rs) (lists ++ (e.input.builds ++ e.input.aside))) w w done →
       refusal sizes m (state_at (state_of e W) (q ∷ rs) (lists ++ (e.input.builds ++ e.input.aside))) ≡ Some full →
       CutsIn sizes (state_of e W) e2 w w (feeding r x) (broken.Full full)
-  cut_at q lists done m rest same moves did no_room = record {
+  cut_at q lists done m rest near same moves did no_room = record {
     book' = with_work (q ∷ rs) book;
     cuts = cuts_by sizes _ e2 (with_work (q ∷ rs) book) w w (done ++ m ∷ rest) (feeding r x) (broken.Full full) (feeding_is e book.number name r x h ∙ moves)
         (later_cuts sizes (state_of e W) (state_at (state_of e W) (q ∷ rs) (lists ++ (e.input.builds ++ e.input.aside))) e2 (with_work (q ∷ rs) book) w w w done (m ∷ rest) (broken.Full full)
         (subst (λ (u : State). Did sizes u (state_at (state_of e W) (q ∷ rs) (lists ++ (e.input.builds ++ e.input.aside))) w w done) start did)
         (full_cuts sizes _ e2 (with_work (q ∷ rs) book) w m rest full (broken.Full full) refl no_room (finish q lists same)));
-    frames = frames_near q;
+    frames = frames_near q near;
   }
 
+  -- the call is this reading
+  call_near : (q : Reading) (next : Scan) → q.kind ≡ r.kind → q.lent ≡ false → q.holds ≡ length (call_lists e2.input.call) → e2.input.call ≡ calls.Stopped name next → CutScan h.long text next q.fed →
+      CallNear (broken.Full full) (open_call name) e2.input.call q
+  call_near q next same not_lent holds now at = CutOff (record {
+    full = full;
+    is_full = refl;
+    long = h.long;
+    number = book.number h.id;
+    text = text;
+    kind = same ∙ h.kind;
+    holds = holds;
+    not_lent = not_lent;
+    next = next;
+    stopped = now;
+    at = at;
+  })
+
   -- WITHIN A GROWTH
-  growth_cut : (n : Name) (next : Scan) → e2.input.call ≡ calls.Stopped n next → IsCutInGrowth text x.token k.scan next → CutsIn sizes (state_of e W) e2 w w (feeding r x) (broken.Full full)
-  growth_cut n next now c = by_behind c.behind refl c.some where
+  growth_cut : (next : Scan) → e2.input.call ≡ calls.Stopped name next → IsCutInGrowth text x.token k.scan next → CutsIn sizes (state_of e W) e2 w w (feeding r x) (broken.Full full)
+  growth_cut next now c = by_behind c.behind refl c.some where
     same : call_lists e2.input.call ≡ (cut_lists c.was c.front k.scan.args)
     same = ap call_lists now ∙ ap (λ (s : Scan). option_to_list (scan_work s) ++ last_first s.args []) c.after
         ∙ ap (λ (o : Option (List Token)). option_to_list o ++ last_first k.scan.args []) (work_with k.scan k.scan.present c.was (c.was ++ c.front) refl c.before)
 
     whole : drop (length c.was) (target_by complete (work_in a)) ≡ c.front ++ c.behind
     whole = ap (λ (o : Option (List Token)). drop (length (unwrap_or o [])) (target_by complete (work_in a))) (sym c.before) ∙ sym (growth_is e book.number name r x h) ∙ c.whole
+
+    near : CallNear (broken.Full full) (open_call name) e2.input.call r
+    near = call_near r next refl h.not_lent
+        (h.holds ∙ ap (length {A = List Token}) (lists_before e book.number name r x h ∙ ap (lists_of k.scan.args) c.before) ∙ sym (ap (length {A = List Token}) same)) now
+        (Within (record { scan = k.scan; seen = x; gathers = k.gathers; cut = c }))
 
     moves : argument_fed x (scan_work k.scan) complete (work_in a) ≡ map Grows c.front ++ (map Grows c.behind ++ behind_growth x complete (work_in a))
     moves = ap (λ (o : Option (List Token)). argument_fed x o complete (work_in a)) c.before ∙ grows_first x c.was complete (work_in a)
@@ -175,12 +198,15 @@ module _ (sizes : Sizes) (e e2 : Engine) (book : Book) (r : Reading) (rs : List 
     by_behind : (ts : List Token) → c.behind ≡ ts → 0 < length ts → CutsIn sizes (state_of e W) e2 w w (feeding r x) (broken.Full full)
     by_behind [] left some = absurd (omega (arith, some))
     by_behind (t ∷ ts) left some =
-        cut_at r (cut_lists c.was c.front k.scan.args) (map Grows c.front) (Grows t) (map Grows ts ++ behind_growth x complete (work_in a)) same
+        cut_at r (cut_lists c.was c.front k.scan.args) (map Grows c.front) (Grows t) (map Grows ts ++ behind_growth x complete (work_in a)) near same
         (moves ∙ ap (λ (us : List Token). map Grows c.front ++ (map Grows us ++ behind_growth x complete (work_in a))) left) did (no_more r (cut_lists c.was c.front k.scan.args) same)
 
   -- IN FRONT OF A PLACE
-  between_cut : (n : Name) (next : Scan) → e2.input.call ≡ calls.Stopped n next → IsCutBetween text x.token k.scan next → CutsIn sizes (state_of e W) e2 w w (feeding r x) (broken.Full full)
-  between_cut n next now c = by_present k.scan.present refl where
+  between_cut : (next : Scan) → e2.input.call ≡ calls.Stopped name next → IsCutBetween text x.token k.scan next → CutsIn sizes (state_of e W) e2 w w (feeding r x) (broken.Full full)
+  between_cut next now c = by_present k.scan.present refl where
+    near : (n : ℕ) → n ≡ length (call_lists e2.input.call) → CallNear (broken.Full full) (open_call name) e2.input.call (fed_reading r x n)
+    near n holds = call_near (fed_reading r x n) next refl refl holds now (Behind (record { scan = k.scan; before = r.fed; seen = x; gathers = k.gathers; last = refl; cut = c }))
+
     -- what is answered is due
     due_args : arguments_in a ≡ next.args
     due_args = ap arguments_in c.due
@@ -203,7 +229,7 @@ module _ (sizes : Sizes) (e e2 : Engine) (book : Book) (r : Reading) (rs : List 
         let bare : k.scan.args ≡ [] = k.has_work none in
         let lists : call_lists e2.input.call ≡ [] = lists_now ∙ ap (λ (us : List (List Token)). last_first us []) (same ∙ bare) in
         let had : lists_of k.scan.args (scan_work k.scan) ≡ [] = ap (λ (o : Option (List Token)). lists_of k.scan.args o) none ∙ ap (λ (us : List (List Token)). lists_of us None) bare in
-        cut_at (fed_reading r x r.holds) [] (Feeds x ∷ []) Opened [] lists (moves None k.scan.args none same)
+        cut_at (fed_reading r x r.holds) [] (Feeds x ∷ []) Opened [] (near r.holds (h.holds ∙ ap (length {A = List Token}) (lists_before e book.number name r x h ∙ had ∙ sym lists))) lists (moves None k.scan.args none same)
         (subst (λ (l : List (List Token)). Did sizes (state_at (state_of e W) (r ∷ rs) (l ++ (e.input.builds ++ e.input.aside))) (state_at (state_of e W) (fed_reading r x r.holds ∷ rs) (e.input.builds ++ e.input.aside)) w w (Feeds x ∷ [])) (sym had) (feeds_did sizes (state_of e W) w r rs x (e.input.builds ++ e.input.aside)))
         (no_more (fed_reading r x r.holds) [] lists)
 
@@ -216,7 +242,7 @@ module _ (sizes : Sizes) (e e2 : Engine) (book : Book) (r : Reading) (rs : List 
         let had : lists_of k.scan.args (scan_work k.scan) ≡ was ∷ args = ap (lists_of k.scan.args) work in
         let holds : r.holds ≡ suc (length args) = h.holds ∙ ap (length {A = List Token}) (lists_before e book.number name r x h ∙ had) in
         let within_size = room q (list_of_tokens arg ++ args) lists in
-        cut_at q (list_of_tokens arg ++ args) (grown_to was arg ++ (Feeds x ∷ Completed arg ∷ [])) Opened [] lists
+        cut_at q (list_of_tokens arg ++ args) (grown_to was arg ++ (Feeds x ∷ Completed arg ∷ [])) Opened [] (near (length (list_of_tokens arg ++ args)) (sym (ap (length {A = List Token}) lists))) lists
         (moves (Some was) (k.scan.args ++ arg ∷ []) work same ∙ ap (λ (us : List (List Token)). argument_fed x (Some was) us (Some [])) (drop-append_seam k.scan.args (arg ∷ [])) ∙ sym (append_assoc (grown_to was arg) (Feeds x ∷ Completed arg ∷ []) (Opened ∷ [])))
         (subst (λ (l : List (List Token)). Did sizes (state_at (state_of e W) (r ∷ rs) (l ++ (e.input.builds ++ e.input.aside))) (state_at (state_of e W) (q ∷ rs) ((list_of_tokens arg ++ args) ++ (e.input.builds ++ e.input.aside))) w w (grown_to was arg ++ (Feeds x ∷ Completed arg ∷ []))) (sym had)
         (whole_did sizes (state_of e W) w r rs x arg was args (e.input.builds ++ e.input.aside) holds
@@ -233,9 +259,12 @@ module _ (sizes : Sizes) (e e2 : Engine) (book : Book) (r : Reading) (rs : List 
   by_new calls.NotCalling now c = absurd c
   by_new (calls.Gathering n next) now c = absurd c
   by_new (calls.Stopped n next) now c = by_cut c.1 where
+    own : e2.input.call ≡ calls.Stopped name next
+    own = now ∙ ap (λ (m : Name). calls.Stopped m next) c.0
+
     by_cut : IsCut text x.token k.scan next → CutsIn sizes (state_of e W) e2 w w (feeding r x) (broken.Full full)
-    by_cut (InGrowth g) = growth_cut n next now g
-    by_cut (Between b) = between_cut n next now b
+    by_cut (InGrowth g) = growth_cut next own g
+    by_cut (Between b) = between_cut next own b
   by_new (calls.Gathered n args) now c = absurd c
 
   pub fed_cut : CutShort (text_of e.input.lists e.input.meanings) x.token e.input.call e2.input.call → CutsIn sizes (state_of e W) e2 w w (feeding r x) (broken.Full full)

@@ -17,7 +17,7 @@ use Rattle.engine_state.specs.Begins.{outcome_of}
 use Rattle.engine_state.specs.Book.{Book}
 use Rattle.engine_state.specs.Calls.{AllStand}
 use Rattle.engine_state.specs.Near.{CutsIn}
-use Rattle.engine_state.specs.Rules.{world_of, plan_of, Went, Halts, SameReadings}
+use Rattle.engine_state.specs.Rules.{world_of, plan_of, Went, Halts, SameReadings, CallStays}
 use Rattle.engine_state.specs.Stands.{state_of}
 use Rattle.engine_state.specs.Steps.{weight, stepping, all_want}
 use Rattle.stomach.specs.declared.early.Early.{Early}
@@ -117,10 +117,10 @@ module _ (e0 e e' : Engine) (s0 s s' : SinkTold) (k : ℕ) (r : OpenReader) (kno
   came_rule n does sizes f book stands =
       came_on sizes (whole_state all e0 book) e e' left (world_of f s0 e0) (world_of f s e) (world_of f s' e') k (came sizes f book stands) (known_here sizes) n (λ w h. does sizes f w h)
 
-  pub came_end : (j : ℕ) (o : Outcome) → ((sizes : Sizes) (f : FilesTold) (book : Book) → AllStand sizes e book → Halts sizes (state_of e book) e' book (world_of f s e) (world_of f s' e') (plan_of e book) (outcome_of o) 1) → SameReadings e e' →
+  pub came_end : (j : ℕ) (o : Outcome) → ((sizes : Sizes) (f : FilesTold) (book : Book) → AllStand sizes e book → Halts sizes (state_of e book) e' book (world_of f s e) (world_of f s' e') (plan_of e book) (outcome_of o) 1) → SameReadings e e' → CallStays e.call e e' →
       ((sizes : Sizes) (book : Book) → AllStand sizes e book → steps (plan_of e book) ≡ j) → StopsTo e0 s0 e' s' (k + j) o all left
-  came_end j o does same count sizes f book stands =
-      came_halts sizes (whole_state all e0 book) e e' left (world_of f s0 e0) (world_of f s e) (world_of f s' e') k (came sizes f book stands) (known_here sizes) j o (λ w h. does sizes f w h) same (count sizes)
+  came_end j o does same stays count sizes f book stands =
+      came_halts sizes (whole_state all e0 book) e e' left (world_of f s0 e0) (world_of f s e) (world_of f s' e') k (came sizes f book stands) (known_here sizes) j o (λ w h. does sizes f w h) same stays (count sizes)
 
   pub came_cut : (j n : ℕ) (b : Broken) → k + j ≤ n → ((sizes : Sizes) (book : Book) → AllStand sizes e book → steps (plan_of e book) ≤ j) →
       ((sizes : Sizes) (f : FilesTold) (book : Book) → AllStand sizes e book → CutsIn sizes (state_of e book) e' (world_of f s e) (world_of f s' e') (plan_of e book) b) → StoppedTo e0 s0 e' s' n (early.Broken b) all left

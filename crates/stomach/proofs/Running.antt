@@ -26,14 +26,15 @@ use Rattle.engine_state.specs.declared.broken.Broken.{Broken}
 use Rattle.engine_state.specs.Begins.{outcome_of}
 use Rattle.engine_state.specs.Faults.{why_of}
 use Rattle.engine_state.specs.Book.{Book}
-use Rattle.engine_state.specs.Calls.{AllStand, FramesOf}
+use Rattle.engine_state.specs.Calls.{AllStand, CallReads, FramesOf}
 use Rattle.engine_state.specs.Stands.{SameFrames, state_of}
 use Rattle.engine_state.specs.Steps.{IsFree, IsHalted, StepsIf}
 use Rattle.engine_state.specs.Near.{CutsIn}
-use Rattle.engine_state.specs.Rules.{DoesRule, Went, Halts, IsMoment, SameReadings, CountsReports, plan_of}
+use Rattle.engine_state.specs.Rules.{DoesRule, Went, Halts, IsMoment, SameReadings, CallStays, CountsReports, plan_of}
 use Rattle.stomach.specs.declared.early.Early.{Early}
 use Rattle.stomach.specs.declared.early.Early.TheVariants as early
 use Rattle.stomach.specs.Ran.{Came, Stops, Settles, Ran, IsAt, CutBy, StoppedBy, whole_state, end_of}
+use Rattle.input_state.specs.Callings.{Calling}
 use Rattle.engine_state.specs.declared.call.Call.{Call}
 use Rattle.engine_state.proofs.Bare.{frames_all}
 use Rattle.engine_state.proofs.CallKept.{all_still}
@@ -65,12 +66,12 @@ pub came_none : (sizes : Sizes) (e : Engine) (left : List ℕ) (book : Book) (w 
 came_none sizes e left book w stands = record { ms = []; book' = book; stands = stands; moves = refl; count = refl; written = wrote_none w }
 
 -- the frames are as they were
-frames_after : (sizes : Sizes) (e e' : Engine) (book : Book) → SameReadings e e' → AllStand sizes e book → FramesOf e'.call e' book.work
-frames_after sizes e e' book same st = subst (λ (c : Option Call). FramesOf c e' book.work) (sym same.call) (at e.call book.work (frames_all sizes e book st)) where
-  at : (c : Option Call) (work : List Reading) → FramesOf c e work → FramesOf c e' work
-  at None work h = readings_still e e' work same h
-  at (Some c) [] h = h
-  at (Some c) (r ∷ rs) h = readings_still e e' rs same h
+frames_after : (sizes : Sizes) (e e' : Engine) (book : Book) → SameReadings e e' → CallStays e.call e e' → AllStand sizes e book → FramesOf e'.call e' book.work
+frames_after sizes e e' book same stays st = subst (λ (c : Option Call). FramesOf c e' book.work) (sym same.call) (at e.call book.work stays (frames_all sizes e book st)) where
+  at : (c : Option Call) (work : List Reading) → CallStays c e e' → FramesOf c e work → FramesOf c e' work
+  at None work is h = readings_still e e' work same h
+  at (Some c) [] is h = h
+  at (Some c) (r ∷ rs) is h = (subst (λ (k : Calling). CallReads c k r) (sym is) h.0, readings_still e e' rs same h.1)
 
 -- behind this much of a run
 module _ (sizes : Sizes) (s : State) (e e' : Engine) (left : List ℕ) (w w' w'' : World) (k : ℕ) (came : Came sizes s e left w w' k) where
@@ -90,9 +91,9 @@ module _ (sizes : Sizes) (s : State) (e e' : Engine) (left : List ℕ) (w w' w''
           written = wrote_join w w' w'' came.ms plan came.written did.written;
         }
 
-    pub came_halts : (j : ℕ) (o : Outcome) → ((book : Book) → AllStand sizes e book → Halts sizes (state_of e book) e' book w' w'' (plan_of e book) (outcome_of o) 1) → SameReadings e e' →
+    pub came_halts : (j : ℕ) (o : Outcome) → ((book : Book) → AllStand sizes e book → Halts sizes (state_of e book) e' book w' w'' (plan_of e book) (outcome_of o) 1) → SameReadings e e' → CallStays e.call e e' →
         ((book : Book) → AllStand sizes e book → steps (plan_of e book) ≡ j) → Stops sizes s e' left w w'' (k + j) o
-    came_halts j o does same count =
+    came_halts j o does same stays count =
         let halts = does came.book' came.stands in
         let ready = known came.book' came.stands in
         let did = known_did sizes e left came.book' ready halts.t w' w'' halts.did in
@@ -105,7 +106,7 @@ module _ (sizes : Sizes) (s : State) (e e' : Engine) (left : List ℕ) (w w' w''
           ends = stopped_ends (extended left halts.t) (outcome_of o) halts.due halts.stopped;
           stopped = halts.stopped;
           reports = counts_on (outcome_of o) halts.t halts.reports;
-          stands = record { book' = came.book'; frames = frames_after sizes e e' came.book' same came.stands; same = ap (extended left) (halts.same came.stands.sound.sized.few_reports) };
+          stands = record { book' = came.book'; frames = frames_after sizes e e' came.book' same stays came.stands; same = ap (extended left) (halts.same came.stands.sound.sized.few_reports) };
           written = wrote_join w w' w'' came.ms plan came.written did.written;
         } where
           counts_on : (x : MachineOutcome) (t : State) → CountsReports x t e' → CountsReports x (extended left t) e'

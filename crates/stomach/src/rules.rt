@@ -23,7 +23,7 @@ ghost use Rattle.engine_state.specs.Turns.{DoesPlan, CutsPlan};
 ghost use Rattle.engine_state.specs.Steps.{stepping, stops_run, IsStep, IsFree, IsHalted, StepsIf, pending_weight, frame_weight, weight};
 ghost use Rattle.stomach.specs.Reactions.{FitsOnward, onward_moves};
 ghost use Rattle.gullet.specs.Stepping.{Stays};
-ghost use Rattle.engine_state.specs.Rules.{SameReadings, next_moves};
+ghost use Rattle.engine_state.specs.Rules.{SameReadings, CallStays, next_moves};
 
 use crate::define::set_macro;
 use crate::reactions::{Onward, obey, react};
@@ -289,6 +289,7 @@ pub(crate) fn rule<S: Sink>(engine: &mut Engine, out: &mut S) -> Result<Ruled, B
     ensures rule { IfOk result (λ ruled. DoesPlan engine.old engine.new (S.told out.old) (S.told out.new) ruled) }
     ensures err { IfErr result (λ b. CutsPlan engine.old engine.new (S.told out.old) (S.told out.new) b) }
     ensures halts { IfOk result (λ ruled. IsHalted ruled → SameReadings engine.old engine.new) }
+    ensures call { IfOk result (λ ruled. IsHalted ruled → CallStays engine.old.call engine.old engine.new) }
     ensures idle { OnOk result (engine.new.input.making ≡ None) }
     ensures stopped { MatchResult result (λ ruled. engine.new.stopped ≡ stops_run ruled) (λ _. engine.new.stopped ≡ true) }
 {

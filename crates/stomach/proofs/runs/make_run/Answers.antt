@@ -120,7 +120,7 @@ returns-in-Halted-clause-run g c =
     let room : l.taken + 1 ≤ n = omega (arith, l.invariant.0, c.if-taken-n.false) in
     reads_map (CameTo e0 s0 e s l.taken) c.args.reader.now r _ _ (RanTo e0 s0 e' s' n (ended.Halted o)) came
     (λ all left may a. stops_ran e0 e' s0 s' (l.taken + 1) n o all left room (came_end e0 e e' s0 s s' l.taken r knows all left may a 1 o
-    (λ sizes f w h. as_halted sizes _ e' w _ _ _ _ o c.in-Halted.is (i.rule sizes f w h)) (i.halts (when_halted _ o c.in-Halted.is)) (λ sizes w h. plan_one sizes e (k.ensures.waits none) w h)))
+    (λ sizes f w h. as_halted sizes _ e' w _ _ _ _ o c.in-Halted.is (i.rule sizes f w h)) (i.halts (when_halted _ o c.in-Halted.is)) (i.call (when_halted _ o c.in-Halted.is)) (λ sizes w h. plan_one sizes e (k.ensures.waits none) w h)))
 
 pub loop-outcome-preserved : goal.loop-outcome-preserved
 loop-outcome-preserved g c =

@@ -94,7 +94,7 @@ returns-in-Halted-clause-run g c =
     reads_map (CameTo e0 s0 e s 0) c.args.reader.now r _ _ (StopsTo e0 s0 e' s' 0 o)
     (reads_given e0 c.loop-engine.engine e s0 s 0 c.args.reader.now c.loop-engine.reader r _ _ _ c.loop-engine.invariant.1 c.in_ok-read_ahead.ensures.came)
     (λ all left may came. came_end e0 e e' s0 s s' 0 r c.in_ok-read_ahead.ensures.knows all left may came 0 o
-    (λ sizes f w h. as_halted sizes _ e' w _ _ _ _ o c.in-Halted.is (i.rule sizes f w h)) (i.halts (when_halted _ o c.in-Halted.is)) (λ sizes w h. plan_silent sizes e silent w h))
+    (λ sizes f w h. as_halted sizes _ e' w _ _ _ _ o c.in-Halted.is (i.rule sizes f w h)) (i.halts (when_halted _ o c.in-Halted.is)) (i.call (when_halted _ o c.in-Halted.is)) (λ sizes w h. plan_silent sizes e silent w h))
 
 pub loop-engine-smaller : goal.loop-engine-smaller
 loop-engine-smaller g c =
