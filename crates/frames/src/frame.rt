@@ -19,7 +19,7 @@ use tex_defs::{Name, Seen};
 use transcript::{Report, Scanned};
 
 /// Where the reading of `\catcode` stands.
-#[derive(Clone, Copy, PartialEq, Eq)]
+#[derive(Clone, Copy)]
 pub enum CodeScan {
     /// Before the character's code.
     Start,
@@ -37,7 +37,7 @@ pub enum CodeScan {
 pub const NUMBER: u16 = 57;
 
 /// A command or an expansion that may wait for an inner value.
-#[derive(Clone, Copy, PartialEq, Eq)]
+#[derive(Clone, Copy)]
 pub enum Waiting {
     Catcode(CodeScan),
     /// `\message`, with its name as it was written.
@@ -51,7 +51,7 @@ pub enum Waiting {
 }
 
 /// An open reading.
-#[derive(Clone, Copy, PartialEq, Eq)]
+#[derive(Clone, Copy)]
 pub enum Frame {
     Waits(Waiting),
     Integer(NumberScan),

@@ -11,7 +11,7 @@ use tex_defs::Name;
 use transcript::Scanned;
 
 /// An open reading beneath the innermost.
-#[derive(Clone, Copy, PartialEq, Eq)]
+#[derive(Clone, Copy)]
 pub enum Beneath {
     /// A command or an expansion that waits for an inner value.
     Waits(Waiting),

@@ -44,7 +44,7 @@ pub const XDEF: u16 = 29;
 pub const CATCODE: u16 = 35;
 
 /// The first prefix: whether it is `\long`, and whether it is `\outer`.
-#[derive(Clone, Copy, PartialEq, Eq)]
+#[derive(Clone, Copy)]
 pub struct First {
     pub long: bool,
     pub outer: bool,
@@ -60,7 +60,7 @@ impl First {
 }
 
 /// Where the reading of a command with prefixes stands.
-#[derive(Clone, Copy, PartialEq, Eq)]
+#[derive(Clone, Copy)]
 pub enum PrefixScan {
     /// Behind prefixes: whether `\long` and `\outer` are among them.
     Prefixes(bool, bool),

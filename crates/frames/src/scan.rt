@@ -19,7 +19,7 @@ use tex_defs::{Meaning, Name, Seen, Token};
 use transcript::Report;
 
 /// The kinds of readings; a name is that of the command, as it was written.
-#[derive(Clone, Copy, PartialEq, Eq)]
+#[derive(Clone, Copy)]
 pub enum Kind {
     Catcode,
     Message(Name),
@@ -37,7 +37,7 @@ pub enum Kind {
 
 /// How a token is read: as it stands, by expansion, by expansion with spaces skipped, or with spaces and `\relax` skipped,
 /// or by expansion where the tokens of a token list come as they are.
-#[derive(Clone, Copy, PartialEq, Eq)]
+#[derive(Clone, Copy)]
 pub enum Want {
     Raw,
     Expanded,
@@ -47,7 +47,7 @@ pub enum Want {
 }
 
 /// The value of a reading.
-#[derive(Clone, Copy, PartialEq, Eq)]
+#[derive(Clone, Copy)]
 pub enum Value {
     Int(i32),
     /// The tokens of the list that the reading holds.
@@ -57,7 +57,7 @@ pub enum Value {
 }
 
 /// What a command does once it has been read.
-#[derive(Clone, Copy, PartialEq, Eq)]
+#[derive(Clone, Copy)]
 pub enum Effect {
     /// A character's code, and its category code from now on.
     SetCategory(u8, u8),
@@ -68,14 +68,14 @@ pub enum Effect {
 }
 
 /// A text that an expansion makes.
-#[derive(Clone, Copy, PartialEq, Eq)]
+#[derive(Clone, Copy)]
 pub enum Made {
     /// The decimal digits of a number, behind `-` where it is negative.
     Number(i32),
 }
 
 /// What a reading asks for.
-#[derive(Clone, Copy, PartialEq, Eq)]
+#[derive(Clone, Copy)]
 pub enum Ask {
     More(Want),
     /// An inner reading, while the command waits, and the token with which it begins.
@@ -93,7 +93,7 @@ pub enum Ask {
 
 /// What a reading answers, and the tokens that go onto its list, in this order.
 #[must_use]
-#[derive(Clone, Copy, PartialEq, Eq)]
+#[derive(Clone, Copy)]
 pub struct Answer {
     pub ask: Ask,
     pub first: Option<Token>,
@@ -125,7 +125,7 @@ impl Answer {
 }
 
 /// The base of a number's digits.
-#[derive(Clone, Copy, PartialEq, Eq)]
+#[derive(Clone, Copy)]
 pub enum Radix {
     Octal,
     Decimal,
@@ -133,7 +133,7 @@ pub enum Radix {
 }
 
 /// Where an integer's reading stands; each begins with whether the integer is negative.
-#[derive(Clone, Copy, PartialEq, Eq)]
+#[derive(Clone, Copy)]
 pub enum NumberScan {
     /// Among the signs.
     Signs(bool),

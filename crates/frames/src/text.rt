@@ -12,7 +12,7 @@ use tex_defs::Seen;
 use transcript::Report;
 
 /// Where a text's reading stands; its list is built by whoever feeds it.
-#[derive(Clone, Copy, PartialEq, Eq)]
+#[derive(Clone, Copy)]
 pub enum TextScan {
     /// Before the first brace.
     First,

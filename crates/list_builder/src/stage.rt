@@ -14,7 +14,7 @@ use crate::ask::{Ask, Due, Report, Want};
 use tex_defs::{Meaning, Name, Seen, Token};
 
 /// How a list is read, from its first token to its last.
-#[derive(Clone, Copy, PartialEq, Eq)]
+#[derive(Clone, Copy)]
 pub struct Manner {
     /// The name that is defined, which a report tells; the empty one for a text.
     pub name: Name,
@@ -23,7 +23,7 @@ pub struct Manner {
 }
 
 /// What a body is, that of a macro or that of a balanced text.
-#[derive(Clone, Copy, PartialEq, Eq)]
+#[derive(Clone, Copy)]
 pub struct Body {
     /// How many places a macro has; none in a balanced text, which has no parameters.
     pub places: Option<u8>,
@@ -36,7 +36,7 @@ pub struct Body {
 /// A definition begins at `Parameters(0)`, behind the name that is defined, and a balanced text at `First`. Whoever has
 /// the list elsewhere goes on from stage to stage by [`Stage::took`] and [`Stage::told`], and asks by [`Stage::due`].
 /// *The TeXbook*, chapters 20 and 24; *TeX: The Program*, part 27 (`scan_toks`).
-#[derive(Clone, Copy, PartialEq, Eq)]
+#[derive(Clone, Copy)]
 pub enum Stage {
     /// In front of a text's first brace.
     First,
@@ -61,7 +61,7 @@ pub enum Stage {
 }
 
 /// Where a scanner goes.
-#[derive(Clone, Copy, PartialEq, Eq)]
+#[derive(Clone, Copy)]
 pub enum Next {
     /// To this stage.
     On(Stage),
@@ -70,7 +70,7 @@ pub enum Next {
 }
 
 /// What a token, or the note that a report was written, comes to.
-#[derive(Clone, Copy, PartialEq, Eq)]
+#[derive(Clone, Copy)]
 pub struct Step {
     /// The token that goes into the list.
     pub first: Option<Token>,
