@@ -16,7 +16,7 @@ use Rattle.frames.specs.Resumes.{frame_kind, IsNoDefinition}
 use Rattle.engine_state.specs.declared.broken.Broken.{Broken}
 use Rattle.engine_state.specs.declared.broken.Broken.TheVariants as broken
 use Rattle.engine_state.specs.declared.call.Call.{Call}
-use Rattle.engine_state.specs.Calls.{Gathers, CallReads}
+use Rattle.engine_state.specs.Calls.{Gathers, CallReads, asks_of}
 use Rattle.engine_state.specs.declared.engine.Engine.{Engine}
 use Rattle.engine_state.specs.Book.{Book}
 use Rattle.engine_state.specs.Stands.{WorkStands}
@@ -52,6 +52,7 @@ pub record CutFull (b : Broken) (c : Call) (k : Calling) (r : Reading) : Type 0 
   pub number : ℕ
   pub text : List Token
   pub kind : r.kind ≡ reading.Arguments c.name long number text
+  pub asked : asks_of c k ≡ reading.ask r.kind r.fed
   pub holds : r.holds ≡ length (call_lists k)
   pub not_lent : r.lent ≡ false
   pub next : Scan

@@ -64,7 +64,7 @@ says_ask (told.ParEnded false) name x next a k is = rw is refl
 says_ask (told.ParEnded true) name x next a k is = rw is refl
 
 -- a call that was fed asks by its answer
-asked_of : (name : Name) (long : Bool) (text : List Token) (fed : List Fed) (x : Fed) → arguments_ask name long text (fed ++ x ∷ []) ≡ call_ask name (gathered_by long text (fed ++ x ∷ []))
+pub asked_of : (name : Name) (long : Bool) (text : List Token) (fed : List Fed) (x : Fed) → arguments_ask name long text (fed ++ x ∷ []) ≡ call_ask name (gathered_by long text (fed ++ x ∷ []))
 asked_of name long text [] x = refl
 asked_of name long text (y ∷ fed) x = refl
 

@@ -11,8 +11,10 @@ use Rattle.tex_defs.specs.declared.Sizes.{Sizes}
 use Rattle.tex_defs.specs.declared.Token.{Token}
 use Rattle.tex_defs.specs.Places.{World}
 use Rattle.plain_state.specs.Arguments.{Answer, arguments_in, work_in}
-use Rattle.plain_state.specs.Readings.{list_of_tokens}
+use Rattle.plain_state.specs.Readings as reading
+use Rattle.plain_state.specs.Readings.{Tok, call_ask, list_of_tokens}
 use Rattle.plain_state.specs.States.{State, Reading, Move, Grows, Feeds, Completed, Opened}
+use Rattle.plain_state.specs.Tokens.{Raw}
 use Rattle.plain_state.specs.Tables.{list_words, lists_words, memory, refused, refusal, words}
 use Rattle.plain_machine.specs.Plan.{feeding, argument_fed, grown_to, opened}
 use Rattle.plain_machine.specs.Does.{Did}
@@ -30,12 +32,12 @@ use Rattle.engine_state.specs.declared.broken.Broken.TheVariants as broken
 use Rattle.engine_state.specs.declared.call.Call.{Call}
 use Rattle.engine_state.specs.declared.engine.Engine.{Engine}
 use Rattle.engine_state.specs.Book.{Book, with_work}
-use Rattle.engine_state.specs.Calls.{AllStand, ReadingsStand, CallStands, open_call}
+use Rattle.engine_state.specs.Calls.{AllStand, ReadingsStand, CallStands, Gathers, open_call}
 use Rattle.engine_state.specs.Near.{Within, Behind, CutOff, CutScan, CallNear, FramesIn, FramesNear, CutsIn}
 use Rattle.engine_state.specs.Stands.{IsSound, SameStore, state_of}
 use Rattle.engine_state.proofs.CallEnding.{here as here_call}
 use Rattle.gullet.proofs.CallFeeding.{scanner, text_is, answer_to, feeding_is, growth_is, lists_before}
-use Rattle.gullet.proofs.CallFeedingAnswers.{Taking}
+use Rattle.gullet.proofs.CallFeedingAnswers.{Taking, asked_of}
 use Rattle.gullet.proofs.CallFeedingMoves.{lists_of, fed_reading, state_at, other_words, words_at, last_more, grows_did, feeds_did, whole_did}
 use Rattle.engine_state.proofs.Counting.{words_more}
 use Rattle.engine_state.proofs.Cutting.{later_cuts, full_cuts, cuts_by}
@@ -153,15 +155,16 @@ module _ (sizes : Sizes) (e e2 : Engine) (book : Book) (r : Reading) (rs : List 
   }
 
   -- the call is this reading
-  call_near : (q : Reading) (next : Scan) → q.kind ≡ r.kind → q.lent ≡ false → q.holds ≡ length (call_lists e2.input.call) → e2.input.call ≡ calls.Stopped name next → CutScan h.long text next q.fed →
+  call_near : (q : Reading) (next : Scan) → q.kind ≡ r.kind → reading.More Raw ≡ reading.ask q.kind q.fed → q.lent ≡ false → q.holds ≡ length (call_lists e2.input.call) → e2.input.call ≡ calls.Stopped name next → CutScan h.long text next q.fed →
       CallNear (broken.Full full) (open_call name) e2.input.call q
-  call_near q next same not_lent holds now at = CutOff (record {
+  call_near q next same asked not_lent holds now at = CutOff (record {
     full = full;
     is_full = refl;
     long = h.long;
     number = book.number h.id;
     text = text;
     kind = same ∙ h.kind;
+    asked = asked;
     holds = holds;
     not_lent = not_lent;
     next = next;
@@ -180,7 +183,7 @@ module _ (sizes : Sizes) (e e2 : Engine) (book : Book) (r : Reading) (rs : List 
     whole = ap (λ (o : Option (List Token)). drop (length (unwrap_or o [])) (target_by complete (work_in a))) (sym c.before) ∙ sym (growth_is e book.number name r x h) ∙ c.whole
 
     near : CallNear (broken.Full full) (open_call name) e2.input.call r
-    near = call_near r next refl h.not_lent
+    near = call_near r next refl h.asked h.not_lent
         (h.holds ∙ ap (length {A = List Token}) (lists_before e book.number name r x h ∙ ap (lists_of k.scan.args) c.before) ∙ sym (ap (length {A = List Token}) same)) now
         (Within (record { scan = k.scan; seen = x; gathers = k.gathers; cut = c }))
 
@@ -204,8 +207,13 @@ module _ (sizes : Sizes) (e e2 : Engine) (book : Book) (r : Reading) (rs : List 
   -- IN FRONT OF A PLACE
   between_cut : (next : Scan) → e2.input.call ≡ calls.Stopped name next → IsCutBetween text x.token k.scan next → CutsIn sizes (state_of e W) e2 w w (feeding r x) (broken.Full full)
   between_cut next now c = by_present k.scan.present refl where
+    asked : reading.More Raw ≡ reading.ask r.kind (r.fed ++ Tok x ∷ [])
+    asked =
+        let g : Gathers h.long text k.scan r.fed = k.gathers in
+        sym (ap (λ (kind : reading.Kind). reading.ask kind (r.fed ++ Tok x ∷ [])) h.kind ∙ asked_of name h.long text r.fed (Tok x) ∙ ap (call_ask name) (g.goes_on (Tok x ∷ []) ∙ c.due))
+
     near : (n : ℕ) → n ≡ length (call_lists e2.input.call) → CallNear (broken.Full full) (open_call name) e2.input.call (fed_reading r x n)
-    near n holds = call_near (fed_reading r x n) next refl refl holds now (Behind (record { scan = k.scan; before = r.fed; seen = x; gathers = k.gathers; last = refl; cut = c }))
+    near n holds = call_near (fed_reading r x n) next refl asked refl holds now (Behind (record { scan = k.scan; before = r.fed; seen = x; gathers = k.gathers; last = refl; cut = c }))
 
     -- what is answered is due
     due_args : arguments_in a ≡ next.args
