@@ -349,7 +349,18 @@ fn stages_tell_what_is_due(rt: HostRuntime) -> Result<(), Fail> {
     let character = Token::Char { cat: 6, code: 35 };
     let behind = Stage::Reference(body, 2, character);
     let illegal = Stage::Illegal(body, 2, character);
-    assert!(rt; deeper == Next::On(Stage::InBody(body, 2)));
+    assert!(rt;
+        matches!(
+            deeper,
+            Next::On(Stage::InBody(
+                Body {
+                    places: Some(1),
+                    brace: None
+                },
+                2
+            ))
+        )
+    );
     assert!(rt;
         first.depth() == 0 && inside.depth() == 1 && behind.depth() == 2 && illegal.depth() == 2
     );
