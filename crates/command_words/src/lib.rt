@@ -177,17 +177,15 @@ fn init_command<'a>(alloc: Global) -> Result<clap::Command<'a>, AllocError>
     ensures shape { IfOk result (λ c. shape_of c ≡ spec.init) }
     ensures local { IfOk result (λ c. (fields_of c).has_globals ≡ false) }
 {
-    let file = Arg::new(alloc, "file").required(true);
-    let steps = number_option(alloc, "steps", 0, 1_000_000_000_000_000, "10000000");
-    let mem = number_option(alloc, "mem", 100, 16_777_216, "30000");
-    let quiet = Arg::new(alloc, "quiet")
-        .long("quiet")
-        .action(ArgAction::SetTrue);
     clap::Command::new(alloc, "init")
-        .arg(file)?
-        .arg(steps)?
-        .arg(mem)?
-        .arg(quiet)
+        .arg(Arg::new(alloc, "file").required(true))?
+        .arg(number_option(alloc, "steps", 0, 1_000_000_000_000_000, "10000000"))?
+        .arg(number_option(alloc, "mem", 100, 16_777_216, "30000"))?
+        .arg(
+            Arg::new(alloc, "quiet")
+                .long("quiet")
+                .action(ArgAction::SetTrue),
+        )
 }
 
 /// The command line of the program.

@@ -1,5 +1,5 @@
 -- The next rule has a step exactly where the engine says so.
-use Rattle.std.proofs.Common.{◌≡◌, ℕ, List, [], ◌∷◌, ◌++◌, length, drop, map, slice_index_or, refl, sym, ap, ◌∙◌, arith, Bool, true, false}
+use Rattle.std.proofs.Common.{◌≡◌, ℕ, List, [], ◌∷◌, ◌++◌, length, drop, map, slice_index_or, refl, sym, ap, ◌∙◌, arith, Bool, true, false, true≢false}
 use Rattle.std.specs.Prelude.{Option, Some, None, if◌then◌else◌, ◌&&◌, ◌||◌, is_some, nat_eq, nat_lt}
 use Rattle.tex_defs.specs.declared.Seen.{Seen}
 use Rattle.tex_defs.specs.declared.Sizes.{Sizes}
@@ -268,14 +268,18 @@ frame_steps e book h = steps_at e e.top book book.work h
 
 -- A STEP COMES
 
+-- where none does (`cc` would go through the whole plan)
+pub no : {A : Type 0} → false ≡ true → A
+no h = absurd (true≢false (sym h))
+
 module _ (sizes : Sizes) where
   needs_of : (s : State) (page : Page) (enters : Bool) (o : Option Scanning) (onward : Seen → List Move) (p : Pulled) → s.due ≡ [] → plan s s.stopped ≡ handed page enters o onward p → gives_step p ≡ true → StepComes sizes s
   needs_of s page enters o onward (TokenFrom t q) e f g = plan_needs sizes s (Handed t) _ e f refl
   needs_of s page enters o onward (LexemeFrom x q) e f g = plan_needs sizes s (Handed (token_of enters page.names x)) _ e f refl
   needs_of s page enters o onward (LineTaken l q) e f g = plan_needs sizes s (Taken l) _ e f refl
-  needs_of s page enters o onward (InvalidMet q) e f g = cc
-  needs_of s page enters o onward (FileOver q) e f g = cc
-  needs_of s page enters o onward NothingLeft e f g = cc
+  needs_of s page enters o onward (InvalidMet q) e f g = no g
+  needs_of s page enters o onward (FileOver q) e f g = no g
+  needs_of s page enters o onward NothingLeft e f g = no g
 
   pub pulled_needs : (e : Engine) (book : Book) (page : Page) (enters : Bool) (o : Option Scanning) (onward : Seen → List Move) → plan_of e book ≡ handed page enters o onward (pulled e.categories (pending_of book.number e.input.pending)) →
       gives_step (pulled e.categories e.input.pending) ≡ true → StepComes sizes (state_of e book)
@@ -286,12 +290,12 @@ module _ (sizes : Sizes) where
       (wants_token (Some f) a && gives_step (pulled e.categories e.input.pending)) ≡ true → StepComes sizes (state_of e book)
   answer_needs e book r f (More w) h g = let page = page_of (state_of e book) in
       pulled_needs e book page (enters_names (want_of w)) (scanning book.work (gathered e.input)) (λ x. wanted page (want_of w) (feeding r x) x) h g
-  answer_needs e book r f (Inner waits k begins) h g = cc
-  answer_needs e book r f (Done v back) h g = cc
-  answer_needs e book r f (Act ef) h g = cc
-  answer_needs e book r f (Tells report back) h g = cc
-  answer_needs e book r f (Inserts t report back) h g = cc
-  answer_needs e book r f (Makes n) h g = cc
+  answer_needs e book r f (Inner waits k begins) h g = no g
+  answer_needs e book r f (Done v back) h g = no g
+  answer_needs e book r f (Act ef) h g = no g
+  answer_needs e book r f (Tells report back) h g = no g
+  answer_needs e book r f (Inserts t report back) h g = no g
+  answer_needs e book r f (Makes n) h g = no g
 
   needs_at : (e : Engine) (x : Option Frame) (book : Book) (work : List Reading) → WorkStands e.ask x e.outer.items e.input.builds e.input.aside work → (wants_token x e.ask && gives_step (pulled e.categories e.input.pending)) ≡ true → StepComes sizes (state_of e (with_work work book))
   needs_at e None book [] h g = let page = page_of (state_of e (with_work [] book)) in pulled_needs e (with_work [] book) page false None (stomach page) refl g

@@ -21,7 +21,7 @@ use Rattle.engine_state.specs.Calls.{AllStand, ReadingsStand, asks_by}
 use Rattle.engine_state.specs.Stands.{state_of}
 use Rattle.engine_state.specs.Steps.{stepping, all_want, call_asks_more}
 use Rattle.engine_state.specs.Rules.{plan_of}
-use Rattle.engine_state.proofs.Stepping.{one_if, kind_none, handed_now, wanted_none, pulled_needs, frame_steps, frame_needs}
+use Rattle.engine_state.proofs.Stepping.{no, one_if, kind_none, handed_now, wanted_none, pulled_needs, frame_steps, frame_needs}
 use Rattle.stomach.proofs.Unread.{call_unread}
 
 -- A RULE'S STEPS
@@ -56,10 +56,10 @@ plan_one sizes e g book h = plan_steps sizes e book h ∙ ap one_if g
 call_needs : (sizes : Sizes) (e : Engine) (book : Book) (r : Reading) (name : Name) (a : CallAsk) → plan_of e book ≡ answered (state_of e book) book.work r (asks_by name a e.input.call) →
     (call_asks_more a && gives_step (pulled e.categories e.input.pending)) ≡ true → StepComes sizes (state_of e book)
 call_needs sizes e book r name call.More h g = let page = page_of (state_of e book) in pulled_needs sizes e book page true (scanning book.work (gathered e.input)) (λ x. wanted page Raw (feeding r x) x) h g
-call_needs sizes e book r name (call.ExtraBrace x) h g = cc
-call_needs sizes e book r name call.Gathered h g = cc
-call_needs sizes e book r name call.Mismatch h g = cc
-call_needs sizes e book r name (call.ParEnded x) h g = cc
+call_needs sizes e book r name (call.ExtraBrace x) h g = no g
+call_needs sizes e book r name call.Gathered h g = no g
+call_needs sizes e book r name call.Mismatch h g = no g
+call_needs sizes e book r name (call.ParEnded x) h g = no g
 
 needs_at : (sizes : Sizes) (e : Engine) (c : Option Call) (book : Book) (work : List Reading) → ReadingsStand c e book.number work → (all_want c e.top e.ask && gives_step (pulled e.categories e.input.pending)) ≡ true → StepComes sizes (state_of e (with_work work book))
 needs_at sizes e None book work h g = frame_needs sizes e (with_work work book) h.0 g

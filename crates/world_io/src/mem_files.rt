@@ -193,10 +193,7 @@ impl Files for MemFiles {
         if self.calls.begin() {
             return Err(raise(Fault::Failed, &mut self.read_faults, &mut self.wants));
         }
-        if piece.len() <= self.beyond_first {
-            return Ok(self.readers[id.number as usize].take(piece));
-        }
-        let most = self.beyond_first + 1;
+        let most = piece.len().min(self.beyond_first.saturating_add(1));
         Ok(self.readers[id.number as usize].take(&mut piece[..most]))
     }
 

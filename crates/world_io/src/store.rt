@@ -29,7 +29,6 @@ impl Model for Store {
     ghost view = { λ s. s.files.items };
 }
 
-#[tactic(auto, using(crate::proofs::Stored::look_up_none, crate::proofs::Stored::look_up_first, crate::proofs::Stored::look_up_put, crate::proofs::Stored::look_up_push, crate::proofs::Stored::look_up_append, crate::proofs::Stored::look_up_unheld, crate::proofs::Stored::look_up_empty))]
 impl Store {
     pub(crate) fn new(alloc: Global) -> Self
         ensures { result ≡ [] }
@@ -39,6 +38,7 @@ impl Store {
         }
     }
 
+    #[tactic(auto, using(crate::proofs::Stored::look_up_none))]
     /// The place of the first file of this name.
     fn find(&self, name: &[u8]) -> Option<usize>
         ensures { MatchOption result (look_up self.now name.now ≡ NotHeld) (λ i. IsFirst self.now name.now i) }
@@ -51,6 +51,7 @@ impl Store {
         None
     }
 
+    #[tactic(auto, using(crate::proofs::Stored::look_up_first))]
     pub(crate) fn bytes(&self, name: &[u8]) -> Option<&[u8]>
         ensures { MatchOption result (look_up self.now name.now ≡ NotHeld) (λ bytes. look_up self.now name.now ≡ Holds bytes.now) }
     {
@@ -58,6 +59,7 @@ impl Store {
         Some(self.files[i].bytes.as_slice())
     }
 
+    #[tactic(auto, using(crate::proofs::Stored::look_up_put, crate::proofs::Stored::look_up_push))]
     /// Makes these the bytes of the file of this name.
     pub(crate) fn put(&mut self, alloc: Global, name: &[u8], bytes: &[u8]) -> Result<(), AllocError>
         ensures ok { OnOk result ((n : List ℕ) → look_up self.new n ≡ (if bytes_eq n name.now then Holds bytes.now else look_up self.old n)) }
@@ -74,6 +76,7 @@ impl Store {
         Ok(())
     }
 
+    #[tactic(auto, using(crate::proofs::Stored::look_up_empty))]
     /// Leaves an empty file of this name.
     pub(crate) fn empty(&mut self, alloc: Global, name: &[u8]) -> Result<(), AllocError>
         ensures ok { OnOk result ((n : List ℕ) → look_up self.new n ≡ (if bytes_eq n name.now then emptied (look_up self.old n) else look_up self.old n)) }
@@ -82,6 +85,7 @@ impl Store {
         self.put(alloc, name, b"")
     }
 
+    #[tactic(auto, using(crate::proofs::Stored::look_up_append, crate::proofs::Stored::look_up_unheld))]
     /// Writes the piece behind the bytes of the file of this name, if there is one.
     pub(crate) fn append(&mut self, name: &[u8], piece: &[u8]) -> Result<(), AllocError>
         ensures ok { OnOk result ((n : List ℕ) → look_up self.new n ≡ (if bytes_eq n name.now then grown (look_up self.old n) piece.now else look_up self.old n)) }
