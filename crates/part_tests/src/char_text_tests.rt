@@ -42,6 +42,7 @@ fn is_roman(n: i32, letters: &[u8]) -> bool {
     numeral.next().is_none()
 }
 
+// Among them 1in, .5in, the largest dimension and 1sp.
 const SCALED_NUMBERS: [(i32, &[u8]); 8] = [
     (4736286, b"72.26999"),
     (2368143, b"36.135"),
@@ -53,12 +54,14 @@ const SCALED_NUMBERS: [(i32, &[u8]); 8] = [
     (i32::MIN, b"-32768.0"),
 ];
 
-// Among them 1in, .5in, the largest dimension and 1sp.
-#[test]
-fn scaled_numbers(rt: HostRuntime) {
-    for (s, wanted) in SCALED_NUMBERS {
-        assert!(rt; scaled_text(s).bytes() == wanted, "{s}sp");
+// Whether these numbers have these texts.
+fn are_scaled(rows: &[(i32, &[u8])]) -> bool {
+    for (s, wanted) in rows {
+        if scaled_text(*s).bytes() != *wanted {
+            return false;
+        }
     }
+    true
 }
 
 const WHOLE_NUMBERS: [(i32, &[u8]); 3] = [
@@ -67,12 +70,13 @@ const WHOLE_NUMBERS: [(i32, &[u8]); 3] = [
     (2147483647, b"2147483647"),
 ];
 
-#[test]
-fn whole_numbers(rt: HostRuntime) {
-    for (n, wanted) in WHOLE_NUMBERS {
-        assert!(rt; int_text(n).bytes() == wanted, "{n}");
+fn are_whole(rows: &[(i32, &[u8])]) -> bool {
+    for (n, wanted) in rows {
+        if int_text(*n).bytes() != *wanted {
+            return false;
+        }
     }
-    assert!(rt; count_text(18446744073709551615).bytes() == b"18446744073709551615".as_slice());
+    true
 }
 
 const HEXADECIMAL_NUMBERS: [(u32, &[u8]); 5] = [
@@ -83,11 +87,13 @@ const HEXADECIMAL_NUMBERS: [(u32, &[u8]); 5] = [
     (u32::MAX, b"FFFFFFFF"),
 ];
 
-#[test]
-fn hexadecimal_numbers(rt: HostRuntime) {
-    for (n, wanted) in HEXADECIMAL_NUMBERS {
-        assert!(rt; hex_text(n).bytes() == wanted, "{n}");
+fn are_hexadecimal(rows: &[(u32, &[u8])]) -> bool {
+    for (n, wanted) in rows {
+        if hex_text(*n).bytes() != *wanted {
+            return false;
+        }
     }
+    true
 }
 
 const ROMAN_NUMERALS: [(i32, &[u8]); 6] = [
@@ -99,11 +105,23 @@ const ROMAN_NUMERALS: [(i32, &[u8]); 6] = [
     (-5, b""),
 ];
 
-#[test]
-fn roman_numerals(rt: HostRuntime) {
-    for (n, letters) in ROMAN_NUMERALS {
-        assert!(rt; is_roman(n, letters), "{n}");
+fn are_roman(rows: &[(i32, &[u8])]) -> bool {
+    for (n, letters) in rows {
+        if !is_roman(*n, *letters) {
+            return false;
+        }
     }
+    true
+}
+
+#[test]
+fn numbers_have_their_texts(rt: HostRuntime) {
+    let count = count_text(18446744073709551615);
+    assert!(rt; are_scaled(&SCALED_NUMBERS));
+    assert!(rt; are_whole(&WHOLE_NUMBERS));
+    assert!(rt; count.bytes() == b"18446744073709551615".as_slice());
+    assert!(rt; are_hexadecimal(&HEXADECIMAL_NUMBERS));
+    assert!(rt; are_roman(&ROMAN_NUMERALS));
 }
 
 #[test]

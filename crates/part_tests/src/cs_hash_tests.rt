@@ -38,17 +38,29 @@ fn is_entered(hash: &mut CsHash, pool: &mut StringPool, k: u16) -> bool
     answers(hash, pool, &name, wanted)
 }
 
+/// Whether names are entered until none has room, and stay.
+fn is_filled(hash: &mut CsHash, pool: &mut StringPool) -> bool
+    requires knows { Knows hash.old pool.old.kept }
+    requires closed { pool.old.opened ≡ None }
+    ensures knows { Knows hash.new pool.new.kept }
+    ensures closed { pool.new.opened ≡ None }
+{
+    for k in 0u16..1778 {
+        if !is_entered(hash, pool, k) {
+            return false;
+        }
+    }
+    answers(hash, pool, &[0, 0, 7], Ok(8))
+        && hash.find(pool, &[2, 16, 8]) == Some(1777)
+        && hash.find(pool, &[2, 16, 9]).is_none()
+        && pool.used() == 5331
+}
+
 #[test]
 fn fills_to_its_size(rt: HostRuntime) -> Result<(), Fail> {
     let mut pool = StringPool::new(rt.alloc(), 32000, 3000)?;
     let mut hash = CsHash::new(rt.alloc(), 1777)?;
-    for k in 0u16..1778 {
-        assert!(rt; is_entered(&mut hash, &mut pool, k), "name {k}");
-    }
-    assert!(rt; answers(&mut hash, &mut pool, &[0, 0, 7], Ok(8)));
-    let last = hash.find(&pool, &[2, 16, 8]);
-    let refused = hash.find(&pool, &[2, 16, 9]);
-    assert!(rt; last == Some(1777) && refused.is_none() && pool.used() == 5331);
+    assert!(rt; is_filled(&mut hash, &mut pool));
     Ok(())
 }
 
@@ -72,22 +84,38 @@ fn full(table: Table, used: u32, size: u32) -> Full {
     Full { table, used, size }
 }
 
+/// Whether the names of the primitives get their numbers in turn.
+fn are_numbered(hash: &mut CsHash, pool: &mut StringPool) -> bool
+    requires knows { Knows hash.old pool.old.kept }
+    requires closed { pool.old.opened ≡ None }
+    ensures knows { Knows hash.new pool.new.kept }
+{
+    for j in 1..COUNT + 1 {
+        if !answers(hash, pool, prim_table::name(j), Ok(j)) {
+            return false;
+        }
+    }
+    true
+}
+
+/// Whether the names of the primitives are found.
+fn are_found(hash: &CsHash, pool: &StringPool) -> bool
+    requires { Knows hash.now pool.now.kept }
+{
+    for j in 1..COUNT + 1 {
+        if hash.find(pool, prim_table::name(j)) != Some(j) {
+            return false;
+        }
+    }
+    true
+}
+
 #[test]
 fn numbers_the_primitives(rt: HostRuntime) -> Result<(), Fail> {
     let mut pool = StringPool::new(rt.alloc(), 4000, 200)?;
     let mut hash = CsHash::new(rt.alloc(), 1777)?;
-    for j in 1..COUNT + 1 {
-        assert!(rt;
-            hash.enter(&mut pool, prim_table::name(j)) == Ok(j),
-            "name {j}"
-        );
-    }
-    for j in 1..COUNT + 1 {
-        assert!(rt;
-            hash.find(&pool, prim_table::name(j)) == Some(j),
-            "name {j}"
-        );
-    }
+    assert!(rt; are_numbered(&mut hash, &mut pool));
+    assert!(rt; are_found(&hash, &pool));
     assert!(rt; hash.count() == 186);
     assert!(rt; hash.name(hash.in_order(186)) == 185);
     Ok(())

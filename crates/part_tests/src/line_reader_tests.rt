@@ -1,10 +1,10 @@
-ghost use Rattle.std.specs.Prelude.{◌≡◌, ◌≢◌, ◌≤◌, ◌<◌, [], length, true, IfOk, IfSome};
+ghost use Rattle.std.specs.Prelude.{◌≡◌, ◌≢◌, ◌≤◌, ◌<◌, [], length, true, IfSome};
 ghost use Rattle.world_io.specs.Memory.{files_told};
 ghost use Rattle.line_reader.specs.Ahead.{with_ahead};
 ghost use Rattle.line_reader.specs.OpenLines.{most_readers};
 
 use line_reader::{Buffer, Edit, Reader, at_end, next_line};
-use std::alloc::{AllocError, Global};
+use std::alloc::Global;
 use std::test::Fail;
 use tex_defs::{Full, Sizes, Stop, Table};
 use world_io::{Fault, Files, InId, MemFiles};
@@ -19,63 +19,55 @@ struct Opened {
 
 /// A file with these bytes, opened, and a buffer of these sizes. Each read gives at most so many bytes.
 #[tactic(auto, using(crate::proofs::Opened::still_open, crate::proofs::Opened::one_reader))]
-fn file_opened(
-    alloc: Global,
-    bytes: &[u8],
-    most: usize,
-    sizes: &Sizes,
-) -> Result<Option<Opened>, AllocError>
+fn file_opened(alloc: Global, bytes: &[u8], most: usize, sizes: &Sizes) -> Option<Opened>
     requires { 0 < most }
-    ensures open { IfOk result (λ r. IfSome r (λ o. (files_told o.files).reading o.id.number ≡ true)) }
-    ensures readers { IfOk result (λ r. IfSome r (λ o. length (with_ahead o.id.number [] o.buffer.ahead) ≤ most_readers o.buffer)) }
-    ensures none { IfOk result (λ r. IfSome r (λ o. o.buffer.tail ≡ [])) }
+    ensures open { IfSome result (λ o. (files_told o.files).reading o.id.number ≡ true) }
+    ensures readers { IfSome result (λ o. length (with_ahead o.id.number [] o.buffer.ahead) ≤ most_readers o.buffer) }
+    ensures none { IfSome result (λ o. o.buffer.tail ≡ []) }
 {
+    let Ok(buffer) = Buffer::new(alloc, sizes) else {
+        return None;
+    };
     let mut files = MemFiles::new(alloc);
-    files.add(b"a", bytes)?;
+    let added = files.add(b"a", bytes).is_ok();
     files.limit_reads(most);
-    let buffer = Buffer::new(alloc, sizes)?;
     match files.open_in(b"a") {
-        Ok(Some(id)) => Ok(Some(Opened { files, id, buffer })),
-        _ => Ok(None),
+        Ok(Some(id)) if added => Some(Opened { files, id, buffer }),
+        _ => None,
     }
 }
 
-/// What the first call answers on a file with these bytes, where the buffer has 80.
-fn first_answer(alloc: Global, bytes: &[u8]) -> Result<Option<Result<bool, Stop>>, AllocError> {
+/// Whether the first call on a file with these bytes answers this, where the buffer has 80.
+fn answers(alloc: Global, bytes: &[u8], wanted: Result<bool, Stop>) -> bool {
     let sizes = Sizes {
         buffer_size: 80,
         ..Sizes::DEFAULT
     };
-    let Some(mut opened) = file_opened(alloc, bytes, usize::MAX, &sizes)? else {
-        return Ok(None);
+    let Some(mut opened) = file_opened(alloc, bytes, usize::MAX, &sizes) else {
+        return false;
     };
-    let answer = next_line(&mut opened.files, opened.id, &mut opened.buffer);
-    Ok(Some(answer))
-}
-
-/// Whether the first call answers this, where the buffer has 80 bytes.
-fn answers(alloc: Global, bytes: &[u8], wanted: Result<bool, Stop>) -> Result<bool, AllocError> {
-    Ok(first_answer(alloc, bytes)? == Some(wanted))
+    next_line(&mut opened.files, opened.id, &mut opened.buffer) == wanted
 }
 
 #[test]
-fn lines_fill_the_buffer(rt: HostRuntime) -> Result<(), Fail> {
+fn lines_fill_the_buffer(rt: HostRuntime) {
     let full = Full {
         table: Table::BufferSize,
         used: 0,
         size: 80,
     };
     let refused = Err(Stop::Full(full));
+    let alloc = rt.alloc();
     let mut bytes = [b'x'; 82];
-    assert!(rt; answers(rt.alloc(), &bytes[..80], refused)?);
+    let letters = answers(alloc, &bytes[..80], refused);
     bytes[79] = b'\r';
-    assert!(rt; answers(rt.alloc(), &bytes[..80], refused)?);
+    let returned = answers(alloc, &bytes[..80], refused);
     bytes[80] = b'\n';
-    assert!(rt; answers(rt.alloc(), &bytes[..81], Ok(true))?);
+    let ended = answers(alloc, &bytes[..81], Ok(true));
     bytes[79] = b' ';
-    assert!(rt; answers(rt.alloc(), &bytes[..80], refused)?);
-    assert!(rt; answers(rt.alloc(), &bytes[..0], Ok(false))?);
-    Ok(())
+    let blank = answers(alloc, &bytes[..80], refused);
+    let none = answers(alloc, &bytes[..0], Ok(false));
+    assert!(rt; letters && returned && ended && blank && none);
 }
 
 /// Takes a line, tells whether it is this one, and drops it.
@@ -108,10 +100,10 @@ fn takes_three(files: &mut MemFiles, id: InId, buffer: &mut Buffer, lines: [&[u8
 }
 
 #[test]
-fn lines_come_in_turn(rt: HostRuntime) -> Result<(), Fail> {
+fn lines_come_in_turn(rt: HostRuntime) {
     let bytes = b"x  \r\n\n\ry\rz";
-    let Some(opened) = file_opened(rt.alloc(), bytes, 1, &Sizes::DEFAULT)? else {
-        return Ok(assert!(rt; false));
+    let Some(opened) = file_opened(rt.alloc(), bytes, 1, &Sizes::DEFAULT) else {
+        return assert!(rt; false);
     };
     let Opened {
         mut files,
@@ -120,28 +112,27 @@ fn lines_come_in_turn(rt: HostRuntime) -> Result<(), Fail> {
     } = opened;
     assert!(rt; takes_three(&mut files, id, &mut buffer, [b"x", b"", b"\ry\rz"]));
     buffer.forget(id);
-    Ok(())
+}
+
+/// Whether `xy` comes to the front of a window of other bytes, and then the end.
+fn comes_by_pieces(files: &mut MemFiles, id: InId) -> Result<bool, Fault>
+    requires { (files_told files.old).reading id.number ≡ true }
+{
+    let mut reader = Reader::new(id);
+    let mut window = [b'z'; 256];
+    let first = reader.read(files, &mut window)?;
+    let moved = first == 2 && !reader.is_ended() && &window[..3] == b"xyz".as_slice();
+    let second = reader.read(files, &mut window)?;
+    Ok(moved && second == 0 && reader.is_ended())
 }
 
 #[test]
-fn bytes_come_by_pieces(rt: HostRuntime) -> Result<(), Fail> {
-    let mut files = MemFiles::new(rt.alloc());
-    files.add(b"a", b"xy")?;
-    let Ok(Some(id)) = files.open_in(b"a") else {
-        assert!(rt; false);
-        return Ok(());
+fn bytes_come_by_pieces(rt: HostRuntime) {
+    let Some(mut opened) = file_opened(rt.alloc(), b"xy", usize::MAX, &Sizes::DEFAULT) else {
+        return assert!(rt; false);
     };
-    let mut reader = Reader::new(id);
-    let mut window = [b'z'; 256];
-    let Ok(first) = reader.read(&mut files, &mut window) else {
-        assert!(rt; false);
-        return Ok(());
-    };
-    assert!(rt; first == 2 && !reader.is_ended());
-    assert!(rt; &window[..3] == b"xyz".as_slice());
-    assert!(rt; reader.read(&mut files, &mut window) == Ok(0));
-    assert!(rt; reader.is_ended());
-    Ok(())
+    let come = matches!(comes_by_pieces(&mut opened.files, opened.id), Ok(true));
+    assert!(rt; come);
 }
 
 #[test]
@@ -199,10 +190,9 @@ fn changes(files: &mut MemFiles, id: InId, buffer: &mut Buffer) -> bool
 }
 
 #[test]
-fn a_line_is_changed(rt: HostRuntime) -> Result<(), Fail> {
-    let Some(mut opened) = file_opened(rt.alloc(), b"xy", usize::MAX, &Sizes::DEFAULT)? else {
-        return Ok(assert!(rt; false));
+fn a_line_is_changed(rt: HostRuntime) {
+    let Some(mut opened) = file_opened(rt.alloc(), b"xy", usize::MAX, &Sizes::DEFAULT) else {
+        return assert!(rt; false);
     };
     assert!(rt; changes(&mut opened.files, opened.id, &mut opened.buffer));
-    Ok(())
 }

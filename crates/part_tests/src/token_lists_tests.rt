@@ -179,22 +179,20 @@ fn told(lists: &Lists, list: &ListRef) -> (u32, u32, u32, u32, Option<Token>)
     )
 }
 
-// A word in braces loses them, is shared and marked, and its last holder frees it.
-#[test]
-fn last_holder_frees(rt: HostRuntime) -> Result<(), Fail> {
-    let mut lists = Lists::new(rt.alloc(), 4)?;
+// Whether a word in braces loses them, is shared and marked, and its last holder frees it.
+fn is_freed_by_its_last_holder(lists: &mut Lists) -> bool {
     let Ok(mut build) = lists.begin() else {
-        return Ok(assert!(rt; false, "a word is there"));
+        return false;
     };
-    let braced = append_braced(&mut lists, &mut build);
+    let braced = append_braced(lists, &mut build);
     let full = lists.append(&mut build, Token::EndPlaces);
-    drop_braces(&mut lists, &mut build);
+    drop_braces(lists, &mut build);
     let list = lists.finish(build);
     let other = lists.share(&list);
     lists.set_mark(&other, 7);
-    let shared = told(&lists, &list);
+    let shared = told(lists, &list);
     lists.release(list);
-    let alone = told(&lists, &other);
+    let alone = told(lists, &other);
     lists.release(other);
     let word = Some(Token::Named(Name::Word(65535)));
     let refusal = Full {
@@ -202,9 +200,16 @@ fn last_holder_frees(rt: HostRuntime) -> Result<(), Fail> {
         used: 4,
         size: 4,
     };
-    assert!(rt; braced.is_ok() && full == Err(refusal));
-    assert!(rt; shared == (2, 2, 1, 7, word));
-    assert!(rt; alone == (2, 1, 1, 7, word));
+    braced.is_ok()
+        && full == Err(refusal)
+        && shared == (2, 2, 1, 7, word)
+        && alone == (2, 1, 1, 7, word)
+}
+
+#[test]
+fn last_holder_frees(rt: HostRuntime) -> Result<(), Fail> {
+    let mut lists = Lists::new(rt.alloc(), 4)?;
+    assert!(rt; is_freed_by_its_last_holder(&mut lists));
     assert!(rt; lists.used() == 0 && lists.size() == 4);
     Ok(())
 }

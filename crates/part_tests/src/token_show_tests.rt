@@ -224,17 +224,36 @@ fn is_named(view: View<'_>, row: &(Name, &[u8], &[u8])) -> bool
         && shows(show_token(silent, Token::Marked(name)), without_escape)
 }
 
+// Whether the names are shown like this.
+fn are_named(view: View<'_>) -> bool
+    requires { IsView view }
+{
+    for k in 0..7usize {
+        if !is_named(view, &NAMES[k]) {
+            return false;
+        }
+    }
+    true
+}
+
+// Whether the meanings are shown like this.
+fn are_meant(view: View<'_>) -> bool
+    requires { IsView view }
+{
+    for k in 0..17usize {
+        if !shows(meaning_head(view, &MEANINGS[k].0), MEANINGS[k].1) {
+            return false;
+        }
+    }
+    true
+}
+
 #[test]
 fn names_and_meanings(rt: HostRuntime) -> Result<(), Fail> {
     let tables = Tables::new(rt.alloc(), b"foo")?;
     let categories = categories();
     let view = view_of(&tables, &categories);
-    for k in 0..7usize {
-        assert!(rt; is_named(view, &NAMES[k]), "name {k}");
-    }
-    for k in 0..17usize {
-        let shown = shows(meaning_head(view, &MEANINGS[k].0), MEANINGS[k].1);
-        assert!(rt; shown, "meaning {k}");
-    }
+    assert!(rt; are_named(view));
+    assert!(rt; are_meant(view));
     Ok(())
 }

@@ -1,4 +1,5 @@
 // What the contracts leave open: that calls succeed, and what real files do.
+use std::alloc::Global;
 use std::fs;
 use std::test::Fail;
 use world_io::{
@@ -20,10 +21,10 @@ fn write_in_two<F: Files>(files: &mut F, name: &[u8]) -> Result<(), Fault> {
 }
 
 #[tactic(auto, using(world_io::proofs::Reading::still_open))]
-/// Reads a file in three pieces of two bytes, and a fourth time at its end.
-fn read_in_three<F: Files>(files: &mut F, name: &[u8]) -> Result<Option<[[u8; 2]; 3]>, Fault> {
+/// Whether a file has the bytes `abcdef`, read in three pieces of two bytes, and a fourth time at its end.
+fn reads_in_three<F: Files>(files: &mut F, name: &[u8]) -> Result<bool, Fault> {
     let Some(id) = files.open_in(name)? else {
-        return Ok(None);
+        return Ok(false);
     };
     let mut first = [0; 2];
     let mut second = [0; 2];
@@ -34,25 +35,60 @@ fn read_in_three<F: Files>(files: &mut F, name: &[u8]) -> Result<Option<[[u8; 2]
     count &= files.read(id, &mut third)? == 2;
     count &= files.read(id, &mut rest)? == 0;
     files.close_in(id);
-    if count {
-        Ok(Some([first, second, third]))
-    } else {
-        Ok(None)
-    }
+    Ok(count && first == *b"ab" && second == *b"cd" && third == *b"ef")
+}
+
+/// Whether there is no file of this name.
+fn is_absent<F: Files>(files: &mut F, name: &[u8]) -> bool {
+    matches!(files.open_in(name), Ok(None))
+}
+
+/// Whether a file that is written in two pieces is read in three.
+fn is_written_and_read<F: Files>(files: &mut F, name: &[u8]) -> bool {
+    write_in_two(files, name).is_ok() && matches!(reads_in_three(files, name), Ok(true))
+}
+
+/// Whether a file can't be written.
+fn is_refused<F: Files>(files: &mut F, name: &[u8]) -> bool {
+    matches!(write_in_two(files, name), Err(Fault::Failed))
+}
+
+/// Whether no bytes are written.
+fn writes_nothing<S: Sink>(sink: &mut S) -> bool {
+    matches!(sink.write(b""), Ok(0))
 }
 
 #[test]
 fn real_files_are_written_and_read(rt: HostRuntime) -> Result<(), Fail> {
     let mut files = RealFiles::new(&rt);
-    assert!(rt; write_in_two(&mut files, b"two_pieces.txt").is_ok());
-    let read = read_in_three(&mut files, b"two_pieces.txt");
+    assert!(rt; is_written_and_read(&mut files, b"two_pieces.txt"));
     fs::remove_file(&rt, "two_pieces.txt")?;
-    assert!(rt; read == Ok(Some([*b"ab", *b"cd", *b"ef"])));
-    assert!(rt; read_in_three(&mut files, b"two_pieces.txt") == Ok(None));
-    assert!(rt; read_in_three(&mut files, b"\xff") == Ok(None));
-    assert!(rt; write_in_two(&mut files, b"\xff") == Err(Fault::Failed));
-    assert!(rt; RealSink::new(&rt).write(b"") == Ok(0));
+    assert!(rt; is_absent(&mut files, b"two_pieces.txt"));
+    assert!(rt; is_absent(&mut files, b"\xff"));
+    assert!(rt; is_refused(&mut files, b"\xff"));
+    assert!(rt; writes_nothing(&mut RealSink::new(&rt)));
     Ok(())
+}
+
+/// Whether a file is written beside another and read again, in nine calls.
+fn stands_beside(files: &mut MemFiles) -> bool {
+    is_absent(files, b"a")
+        && is_written_and_read(files, b"a")
+        && files.bytes(b"a.tex").unwrap_or(b"") == b"xy".as_slice()
+        && files.calls() == 9
+}
+
+/// Whether the first of two pieces is refused, and the second one written.
+fn is_half_written(files: &mut MemFiles) -> bool {
+    is_refused(files, b"a") && files.bytes(b"a").unwrap_or(b"") == b"def".as_slice()
+}
+
+/// Whether a file has these bytes, read whole.
+fn is_read_whole(alloc: Global, files: &mut MemFiles, name: &[u8], wanted: &[u8]) -> bool {
+    match read_file(alloc, files, name) {
+        Ok(Some(bytes)) => bytes.as_slice() == wanted,
+        _ => false,
+    }
 }
 
 #[test]
@@ -60,31 +96,28 @@ fn files_in_memory_are_written_and_read(rt: HostRuntime) -> Result<(), Fail> {
     let alloc = rt.alloc();
     let mut files = MemFiles::new(alloc);
     files.add(b"a.tex", b"xy")?;
-    assert!(rt; read_in_three(&mut files, b"a") == Ok(None));
-    assert!(rt; write_in_two(&mut files, b"a").is_ok());
-    assert!(rt; read_in_three(&mut files, b"a") == Ok(Some([*b"ab", *b"cd", *b"ef"])));
-    assert!(rt; files.bytes(b"a.tex").unwrap_or(b"") == b"xy".as_slice());
-    assert!(rt; files.calls() == 9);
+    assert!(rt; stands_beside(&mut files));
     files.fail_at(11)?;
-    assert!(rt; write_in_two(&mut files, b"a") == Err(Fault::Failed));
-    assert!(rt; files.bytes(b"a").unwrap_or(b"") == b"def".as_slice());
+    assert!(rt; is_half_written(&mut files));
     files.limit_reads(2);
-    match read_file(alloc, &mut files, b"a") {
-        Ok(Some(bytes)) => assert!(rt; bytes.as_slice() == b"def".as_slice()),
-        _ => assert!(rt; false),
-    }
+    assert!(rt; is_read_whole(alloc, &mut files, b"a", b"def"));
     Ok(())
+}
+
+/// Whether the second of three writes is refused.
+fn is_written_but_once(sink: &mut MemSink) -> bool {
+    let fault = Fault::Failed;
+    write_all(sink, b"ab").is_ok()
+        && write_all(sink, b"cd") == Err(Unfinished { fault, written: 0 })
+        && write_all(sink, b"e").is_ok()
+        && sink.bytes() == b"abe".as_slice()
+        && sink.calls() == 3
 }
 
 #[test]
 fn a_sink_in_memory_is_written(rt: HostRuntime) -> Result<(), Fail> {
     let mut sink = MemSink::new(rt.alloc());
     sink.fail_at(2)?;
-    assert!(rt; write_all(&mut sink, b"ab").is_ok());
-    let fault = Fault::Failed;
-    assert!(rt; write_all(&mut sink, b"cd") == Err(Unfinished { fault, written: 0 }));
-    assert!(rt; write_all(&mut sink, b"e").is_ok());
-    assert!(rt; sink.bytes() == b"abe".as_slice());
-    assert!(rt; sink.calls() == 3);
+    assert!(rt; is_written_but_once(&mut sink));
     Ok(())
 }

@@ -1,9 +1,9 @@
 use Rattle.std.proofs.Common.{◌≡◌, None}
 use Rattle.cs_hash.specs.Names.{Knows}
-use Rattle.part_tests.proofs.cs_hash_tests.numbers_the_primitives.Given as goal
+use Rattle.part_tests.proofs.cs_hash_tests.are_numbered.Given as goal
 
 abbrev pub invariant-loop-j : goal.invariant-loop-j
-invariant-loop-j g l = record {
+invariant-loop-j l = record {
   knows : Knows l.hash l.pool.kept;
   closed : l.pool.opened ≡ None;
 }
