@@ -1,4 +1,4 @@
-use Rattle.std.proofs.Common.{◌≡◌, ◌∙◌, ◌+◌, ◌-◌, ◌++◌, ◌∷◌, [], length, take, sym, ap, arith, false, ◌&&◌}
+use Rattle.std.proofs.Common.{◌≡◌, ℕ, ◌≤◌, ◌<◌, ◌∙◌, ◌+◌, ◌-◌, ◌++◌, ◌∷◌, [], length, take, sym, ap, arith, false, ◌&&◌}
 use Rattle.std.specs.Prelude.{◌==◌}
 use Rattle.token_lists.specs.Ids.{id_of}
 use Rattle.plain_state.specs.Arguments.{is_prefix}
@@ -26,3 +26,33 @@ loop-i-preserved c = (
   omega (arith, c.behind-groups.ensures, behind_bound c.loop-i.groups c.delimiting-d.result.0),
   past_next _ _ _ _ _ _ _ _ _ c.behind-groups.ensures c.loop-i.invariant.3 (take_head (c.args.matched - c.loop-i.i) (c.args.matched - (c.loop-i.i + 1)) _ _ _ c.args.x (omega arith) c.delimiting-d.ensures.0) (fails c),
 )
+
+pub returns-then-fits-clause-within : goal.returns-then-fits-clause-within
+returns-then-fits-clause-within c = below_next _ _ c.loop-i-test.true where
+  below_next : (i m : ℕ) → i < m → i ≤ m + 1
+  below_next i m h = omega arith
+
+pub returns-then-fits-2-clause-within : goal.returns-then-fits-2-clause-within
+returns-then-fits-2-clause-within c = to_next c.args.matched where
+  to_next : (m : ℕ) → m ≤ m + 1
+  to_next m = omega arith
+
+pub returns-clause-within : goal.returns-clause-within
+returns-clause-within c = to_itself c.args.matched where
+  to_itself : (m : ℕ) → m + 1 ≤ m + 1
+  to_itself m = omega arith
+
+pub fits-requires : goal.fits-requires
+fits-requires c = record { on = c.requires.on; from_on = c.loop-i.invariant.0; inside = fewer _ _ _ c.requires.inside; from_inside = c.loop-i.invariant.1 } where
+  fewer : (m i n : ℕ) → m < n → m - i < n
+  fewer m i n h = omega arith
+
+pub delimiting-d-requires : goal.delimiting-d-requires
+delimiting-d-requires c = record { on = c.loop-i.invariant.0; some = some_left _ _ _ c.loop-i-test.true c.loop-i.invariant.1 } where
+  some_left : (i m n : ℕ) → i < m → m - i ≤ n → 0 < n
+  some_left i m n h k = omega arith
+
+pub behind-groups-requires : goal.behind-groups-requires
+behind-groups-requires c = countable _ _ _ _ c.loop-i.invariant.2 c.loop-i-test.true c.requires.shallow where
+  countable : (g d i m : ℕ) → g ≤ d + i → i < m → d + m + 1 < 18446744073709551616 → g + 1 < 18446744073709551616
+  countable g d i m h k l = omega arith
