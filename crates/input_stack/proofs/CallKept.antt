@@ -1,7 +1,7 @@
 -- A call stays where its lists are held.
 use Rattle.std.proofs.Common.{zero, suc, ◌≡◌, ℕ, ◌+◌, ◌<◌, ◌≤◌, List, [], ◌∷◌, ◌++◌, map, length, drop, take, Option, None, Some, true, refl, sym, ap, ap₂, ◌∙◌, subst, arith}
 use Rattle.std.specs.Prelude.{slice_get, slice_index_or, IsSome, IfSome, ◌↔◌, ◌==◌}
-use Rattle.std.proofs.lemmas.Bool.Decides.{nat_tests}
+use Rattle.std.proofs.lemmas.Bool.{eq-eqb}
 use Rattle.std.proofs.lemmas.List.Sums.{sum_by-cons}
 use Rattle.tex_defs.specs.declared.Token.{Token}
 use Rattle.token_lists.specs.declared.ListRef.{ListRef}
@@ -20,7 +20,7 @@ use Rattle.input_stack.specs.CallViews.{argument_in, arguments_in, arguments_hol
 
 pub holds_itself : (n : ℕ) → holds n n ≡ 1
 holds_itself n =
-    let e : (n == n) ≡ true = grind (arith, nat_tests) in
+    let e : (n == n) ≡ true = eq-eqb n n refl in
     rw e refl
 
 abbrev Same : (old new : List (Option Entry)) → (ℕ → ℕ) → Type 0

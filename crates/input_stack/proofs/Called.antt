@@ -62,7 +62,7 @@ module _ (old : List (Option Entry)) (f : ℕ → ℕ) (body : ListRef) (args : 
   pub holds_are : (h : ℕ) → call_holds call h ≡ pushed_holds body args h
   holds_are h = omega (arith, ap (λ (c : Call). call_holds c h) is, ap (λ (n : ℕ). holds n h) same, filled_holds args h filled)
 
-  stands_old : IsCall old call
+  pub stands_old : IsCall old call
   stands_old = subst (IsCall old) (sym is) (record { body = at; argument = tt; filled = filled; held = λ h some. omega (arith, some, covers h, filled_holds args h filled) })
 
   -- a call without a body

@@ -1,11 +1,12 @@
 -- A list in front.
-use Rattle.std.proofs.Common.{◌≡◌, ℕ, ◌+◌, ◌<◌, List, [], ◌∷◌, length, map, Option, None, Some, Bool, true, false, not, refl, sym, ap, ap₂, ◌∙◌, subst, arith}
-use Rattle.std.specs.Prelude.{IsSome, ◌↔◌, is_some, nat_lt}
+use Rattle.std.proofs.Common.{◌≡◌, ℕ, ◌+◌, ◌<◌, ◌≤◌, List, [], ◌∷◌, length, map, Option, None, Some, Bool, true, false, not, refl, sym, ap, ap₂, ◌∙◌, subst, arith}
+use Rattle.std.specs.Prelude.{IsSome, ◌↔◌, is_some, nat_lt, nat_le}
 use Rattle.std.proofs.lemmas.Bool.Decides.{nat_tests}
 use Rattle.std.proofs.lemmas.List.{length-reverse}
 use Rattle.std.proofs.lemmas.List.Elements.{All-cons}
 use Rattle.std.proofs.lemmas.Option.{none-some}
 use Rattle.tex_defs.specs.declared.Token.{Token}
+use Rattle.tex_defs.specs.declared.Full.{Full}
 use Rattle.token_lists.specs.Table.{Entry, tokens_at}
 use Rattle.token_lists.specs.Accounts.{holds, none, Moves, Keeps, Covers}
 use Rattle.input_stack.specs.Puts.{Text}
@@ -14,7 +15,7 @@ use Rattle.input_stack.specs.declared.level.Level.{Level}
 use Rattle.input_stack.specs.declared.level.Level.TheVariants as level
 use Rattle.input_stack.specs.declared.stack.InputStack.{InputStack}
 use Rattle.input_stack.specs.Rest.{number, rest}
-use Rattle.input_stack.specs.Pending.{Pending, settle, put, plain_put, refusal, room, used_levels, used_parameters}
+use Rattle.input_stack.specs.Pending.{Pending, settle, put, plain_put, refusal, room, parameter_room, either, used_levels, used_parameters}
 use Rattle.input_stack.specs.View.{pending_in, put_of, in_front, innermost, level_holds, held_in}
 use Rattle.input_stack.specs.Standing.{IsLevel, AreUnfinished, AreRead, Fits}
 use Rattle.input_stack.proofs.Kept.{Stay, leaves, pending_stays, read_stays, held_cons, holds_itself}
@@ -65,6 +66,20 @@ room_test size used false k is =
 
 pub room_left : (size used : ℕ) → room size used ≡ None → used < size
 room_left size used is = room_test size used (nat_lt used size) refl is
+
+parameters_test : (size used count : ℕ) (b : Bool) → nat_le (used + count) size ≡ b → parameter_room size used count ≡ None → used + count ≤ size
+parameters_test size used count true k is = grind (arith, nat_tests)
+parameters_test size used count false k is =
+    let e = rw k at is in
+    absurd (none-some _ (sym e))
+
+pub parameters_left : (size used count : ℕ) → parameter_room size used count ≡ None → used + count ≤ size
+parameters_left size used count is = parameters_test size used count (nat_le (used + count) size) refl is
+
+-- where neither of two refuses
+pub neither : (a b : Option Full) → either a b ≡ None → (a ≡ None) × (b ≡ None)
+neither None b is = (refl, is)
+neither (Some full) b is = absurd (none-some full (sym is))
 
 -- the tokens of a list that is put, once the finished lists have gone
 pub put_tokens : (old mid : List (Option Entry)) (n : ℕ) (f : ℕ → ℕ) → Covers old (λ h. holds n h + f h) → Keeps old mid f → tokens_at mid n ≡ tokens_at old n

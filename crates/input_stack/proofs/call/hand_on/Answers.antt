@@ -1,13 +1,48 @@
-use Rattle.std.proofs.Common.{◌∙◌, sym, ap, ap₂, refl, subst, List, ℕ, map, None, Some, arith}
+use Rattle.std.proofs.Common.{◌≡◌, true≢false, ◌∙◌, sym, ap, ap₂, refl, subst, List, [], ℕ, Option, map, None, Some, arith}
 use Rattle.tex_defs.specs.declared.Token.{Token}
-use Rattle.tex_defs.specs.declared.Token.TheVariants.{Number}
+use Rattle.tex_defs.specs.declared.Token.TheVariants.{Char, Named, Marked, Place, Number, EndPlaces}
 use Rattle.token_lists.specs.Ids.{id_of}
-use Rattle.token_lists.specs.Table.{tokens_at}
+use Rattle.token_lists.specs.Table.{Entry, tokens_at}
 use Rattle.token_lists.specs.Accounts.{holds}
-use Rattle.input_stack.specs.Puts.{Item, Later, first}
-use Rattle.input_stack.specs.CallViews.{HandsOn, is_gap}
-use Rattle.input_stack.proofs.CallItems.{item_is, item_past, first_met, empty_met}
+use Rattle.input_stack.specs.Puts.{Item, Text, Later, first}
+use Rattle.input_stack.specs.Calls.{Argument, token_items}
+use Rattle.input_stack.specs.CallViews.{Hands, HandsOn, IsCountable, arguments_in, is_gap}
+use Rattle.input_stack.proofs.CallItems.{argument_counts, item_is, item_past, first_met, empty_met}
 use Rattle.input_stack.proofs.call.hand_on.Goals as goal
+
+-- a token that stands for itself is handed on
+itself : (table : List (Option Entry)) (t : Token) → Hands table table (Text t) [] t None
+itself table t = record {
+  token = refl;
+  left = refl;
+  reading = refl;
+  levels = refl;
+  at_next = tt;
+  holds = λ h. refl;
+  shares = record { size = refl; tokens = λ h. refl; places = λ h. refl; holders = λ h. omega arith; held = λ h some. absurd (omega (arith, some)) };
+}
+
+no_number : (table : List (Option Entry)) (args : List (Option Argument)) (t : Token) → ((n : ℕ) → t ≡ Number n → ⊥) → HandsOn table table (token_items args t) t None
+no_number table args (Char cat code) not = itself table (Char cat code)
+no_number table args (Named name) not = itself table (Named name)
+no_number table args (Marked name) not = itself table (Marked name)
+no_number table args (Place c) not = itself table (Place c)
+no_number table args (Number n) not = absurd (not n refl)
+no_number table args EndPlaces not = itself table EndPlaces
+
+pub first_of-requires : goal.first_of-requires
+first_of-requires c = c.requires.held (id_of c.in-Some.list) (argument_counts c.args.args.now c.saturating_sub-place.result c.in-Some.list c.requires.filled c.if-place-args.true c.in-Some.is)
+
+pub opened-requires-clause-held : goal.opened-requires-clause-held
+opened-requires-clause-held c = c.requires.held (id_of c.in-Some.list) (argument_counts c.args.args.now c.saturating_sub-place.result c.in-Some.list c.requires.filled c.if-place-args.true c.in-Some.is)
+
+pub opened-requires-clause-countable : goal.opened-requires-clause-countable
+opened-requires-clause-countable c =
+    let t = c.args.lists.now in
+    let n = id_of c.in-Some.list in
+    let e = item_is t c.args.args.now c.args.token c.in-Number.n c.saturating_sub-place.result (Some c.in-Some.list) c.requires.filled c.if-place-args.true c.saturating_sub-place.ensures c.in-Number.is c.in-Some.is in
+    let f = first_met n (tokens_at t n) c.in-Some-first_of.first (sym c.in-Some-first_of.is ∙ c.first_of.ensures) in
+    subst (λ (xs : List Item). IsCountable t (first xs)) (e ∙ f) c.requires.countable
 
 pub returns-in-Some-first_of : goal.returns-in-Some-first_of
 returns-in-Some-first_of c =
@@ -32,25 +67,20 @@ returns-in_default-first_of c =
     let e = item_is t c.args.args.now c.args.token c.in-Number.n c.saturating_sub-place.result (Some c.in-Some.list) c.requires.filled c.if-place-args.true c.saturating_sub-place.ensures c.in-Number.is c.in-Some.is in
     let f = empty_met n (tokens_at t n) (sym c.in_default-first_of.is ∙ c.first_of.ensures) in
     let g = ap (λ (xs : List Item). is_gap (first xs)) (sym (e ∙ f)) ∙ c.requires.some in
-    cc
+    absurd (true≢false g)
 
 pub returns-in_default-lists : goal.returns-in_default-lists
 returns-in_default-lists c =
     let t = c.args.lists.now in
     let e = item_is t c.args.args.now c.args.token c.in-Number.n c.saturating_sub-place.result None c.requires.filled c.if-place-args.true c.saturating_sub-place.ensures c.in-Number.is c.in_default-lists.is in
     let g = ap (λ (xs : List Item). is_gap (first xs)) (sym e) ∙ c.requires.some in
-    cc
+    absurd (true≢false g)
 
 pub returns-else-place-args : goal.returns-else-place-args
 returns-else-place-args c =
     let t = c.args.lists.now in
     let e = item_past t c.args.args.now c.args.token c.in-Number.n c.saturating_sub-place.result c.if-place-args.false c.saturating_sub-place.ensures c.in-Number.is in
-    subst (λ (xs : List Item). HandsOn t t xs (Number c.in-Number.n) None) (sym e) (record {
-      token = refl;
-      left = refl;
-      reading = refl;
-      levels = refl;
-      at_next = tt;
-      holds = λ h. refl;
-      shares = record { size = refl; tokens = λ h. refl; places = λ h. refl; holders = λ h. omega arith; held = λ h some. absurd (omega (arith, some)) };
-    })
+    subst (λ (xs : List Item). HandsOn t t xs (Number c.in-Number.n) None) (sym e) (itself t (Number c.in-Number.n))
+
+pub returns-in_default : goal.returns-in_default
+returns-in_default c = no_number c.args.lists.now (arguments_in c.args.lists.now c.args.args.now) c.args.token c.in_default.not-Number

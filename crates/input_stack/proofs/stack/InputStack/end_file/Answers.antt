@@ -14,3 +14,15 @@ returns-clause-stands c = λ table stands.
       read = source_under table x (innermost s) _ (popped s.levels.items c.pop.new.self.items (level.Source x) i) stands.read;
       fits = fits_popped s _ x i refl refl (record { size = refl; parameter_size = refl; capacity = c.in-Some.ensures.capacity }) stands.fits;
     }
+
+pub returns-in_default-clause-size : goal.returns-in_default-clause-size
+returns-in_default-clause-size c = refl
+
+pub returns-in_default-clause-parameter_size : goal.returns-in_default-clause-parameter_size
+returns-in_default-clause-parameter_size c = refl
+
+pub returns-clause-size : goal.returns-clause-size
+returns-clause-size c = refl
+
+pub returns-clause-parameter_size : goal.returns-clause-parameter_size
+returns-clause-parameter_size c = refl

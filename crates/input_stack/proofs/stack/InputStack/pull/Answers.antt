@@ -1,12 +1,92 @@
-use Rattle.std.proofs.Common.{◌+◌, ◌∙◌, sym, ap, arith, length, ℕ, Option, cond, None}
+use Rattle.std.proofs.Common.{List, subst, ◌+◌, ◌∙◌, sym, ap, arith, length, ℕ, Option, cond, None}
 use Rattle.input_stack.specs.Puts.{Item, next_item}
-use Rattle.input_stack.specs.CallViews.{opened}
-use Rattle.input_stack.specs.Pending.{room}
+use Rattle.input_stack.specs.CallViews.{is_opening, met, opened}
+use Rattle.input_stack.specs.Pending.{Pending, Below, room}
+use Rattle.input_stack.specs.Pulls.{IsInBuffer}
 use Rattle.input_stack.specs.View.{pending}
 use Rattle.input_stack.proofs.Pushed.{used_is, room_left}
 use Rattle.input_stack.proofs.Tops.{true_is}
 use Rattle.input_stack.proofs.Given.{pull_ok, pull_err, countable_stays, next_same, lasts_but, has_room}
 use Rattle.input_stack.proofs.stack.InputStack.pull.Goals as goal
+
+pub drop_finished-requires : goal.drop_finished-requires
+drop_finished-requires c = c.requires.stands
+
+pub is_opening-opening-requires : goal.is_opening-opening-requires
+is_opening-opening-requires c = c.drop_finished.ensures.stands
+
+pub opening_full-requires : goal.opening_full-requires
+opening_full-requires c = c.drop_finished.ensures.stands.fits
+
+pub pass_gaps-requires-clause-stands : goal.pass_gaps-requires-clause-stands
+pass_gaps-requires-clause-stands c = c.drop_finished.ensures.stands
+
+pub pass_gaps-requires-clause-unfinished : goal.pass_gaps-requires-clause-unfinished
+pass_gaps-requires-clause-unfinished c = c.drop_finished.ensures.unfinished
+
+pub pull_top-requires-clause-opening : goal.pull_top-requires-clause-opening
+pull_top-requires-clause-opening c = c.is_opening-opening.ensures ∙ ap (λ (o : Option Item). is_opening (met o)) (sym c.pass_gaps.ensures.same.next)
+
+pub pull_top-requires-clause-stands : goal.pull_top-requires-clause-stands
+pull_top-requires-clause-stands c = c.pass_gaps.ensures.stands
+
+pub pull_top-requires-clause-unfinished : goal.pull_top-requires-clause-unfinished
+pull_top-requires-clause-unfinished c = c.pass_gaps.ensures.unfinished
+
+pub pull_top-requires-clause-passed : goal.pull_top-requires-clause-passed
+pull_top-requires-clause-passed c = c.pass_gaps.ensures.passed
+
+pub pull_top-requires-clause-in_buffer : goal.pull_top-requires-clause-in_buffer
+pull_top-requires-clause-in_buffer c = subst (λ (z : List Below). IsInBuffer z (length c.args.bytes.now)) (sym (c.pass_gaps.ensures.same.sources ∙ ap (λ (p : Pending). p.sources) c.drop_finished.ensures.after)) c.requires.in_buffer
+
+pub returns-in-Some-clause-in_buffer : goal.returns-in-Some-clause-in_buffer
+returns-in-Some-clause-in_buffer c = subst (λ (z : List Below). IsInBuffer z (length c.args.bytes.now)) (sym (ap (λ (p : Pending). p.sources) c.drop_finished.ensures.after)) c.requires.in_buffer
+
+pub returns-in-Some-clause-size : goal.returns-in-Some-clause-size
+returns-in-Some-clause-size c = c.drop_finished.ensures.size
+
+pub returns-in-Some-clause-parameter_size : goal.returns-in-Some-clause-parameter_size
+returns-in-Some-clause-parameter_size c = c.drop_finished.ensures.parameter_size
+
+pub returns-clause-size : goal.returns-clause-size
+returns-clause-size c = c.pull_top.ensures.sizes.size ∙ c.pass_gaps.ensures.sizes.size ∙ c.drop_finished.ensures.size
+
+pub returns-clause-parameter_size : goal.returns-clause-parameter_size
+returns-clause-parameter_size c = c.pull_top.ensures.sizes.parameter_size ∙ c.pass_gaps.ensures.sizes.parameter_size ∙ c.drop_finished.ensures.parameter_size
+
+pub returns-in-Some-clause-stands : goal.returns-in-Some-clause-stands
+returns-in-Some-clause-stands c = c.drop_finished.ensures.stands
+
+pub returns-in-Some-clause-account : goal.returns-in-Some-clause-account
+returns-in-Some-clause-account c = c.drop_finished.ensures.account
+
+pub returns-in-Some-clause-kept : goal.returns-in-Some-clause-kept
+returns-in-Some-clause-kept c = c.drop_finished.ensures.kept
+
+pub returns-in-Some-clause-lasting : goal.returns-in-Some-clause-lasting
+returns-in-Some-clause-lasting c =
+    let l = c.drop_finished.ensures.lasting in
+    record {
+      size = l.size;
+      fewer = λ h. omega (arith, l.fewer h);
+      tokens = l.tokens;
+    }
+
+pub returns-clause-stands : goal.returns-clause-stands
+returns-clause-stands c = c.pull_top.ensures.stands
+
+pub returns-clause-account : goal.returns-clause-account
+returns-clause-account c = λ h. omega (arith, c.drop_finished.ensures.account h, c.pass_gaps.ensures.account h, c.pull_top.ensures.shares.holders h, c.pull_top.ensures.held h)
+
+pub returns-clause-kept : goal.returns-clause-kept
+returns-clause-kept c =
+    let e = c.drop_finished.ensures in
+    let g = c.pass_gaps.ensures.kept in
+    let x = c.pull_top.ensures.shares in
+    record {
+      tokens = λ h less. x.tokens h ∙ g.tokens h (omega (arith, less, e.account h)) ∙ e.kept.tokens h less;
+      places = λ h less. x.places h ∙ g.places h (omega (arith, less, e.account h)) ∙ e.kept.places h less;
+    }
 
 pub returns-in-Some-clause-pulls : goal.returns-in-Some-clause-pulls
 returns-in-Some-clause-pulls c =

@@ -1,13 +1,109 @@
-use Rattle.std.proofs.Common.{◌≡◌, ◌+◌, ◌∙◌, ap, refl, arith, length, ℕ, None}
+use Rattle.std.proofs.Common.{◌≡◌, ◌+◌, ◌∙◌, sym, ap, refl, arith, length, ℕ, None}
 use Rattle.token_lists.specs.Ids.{id_of}
 use Rattle.token_lists.specs.Table.{tokens_at}
+use Rattle.input_stack.specs.declared.call.Call.{Call}
 use Rattle.input_stack.specs.declared.level.Level.TheVariants as level
 use Rattle.input_stack.specs.Calls.{body_of}
+use Rattle.input_stack.specs.CallViews.{call_open}
+use Rattle.input_stack.specs.Pending.{room, parameter_room}
 use Rattle.input_stack.specs.Rest.{number, rest}
 use Rattle.input_stack.specs.View.{innermost, pending, held}
-use Rattle.input_stack.proofs.Pushed.{used_is, parameters_are, put_read, put_moves}
-use Rattle.input_stack.proofs.Called.{holds_are, empty_read, empty_ok, empty_refused, empty_moves, empty_keeps, full_refused, call_level, call_pending}
+use Rattle.input_stack.proofs.Kept.{holds_itself}
+use Rattle.input_stack.proofs.Pushed.{used_is, parameters_are, room_left, parameters_left, neither, put_read, put_moves}
+use Rattle.input_stack.proofs.Called.{holds_are, stands_old, empty_read, empty_ok, empty_refused, empty_moves, empty_keeps, full_refused, call_level, call_pending}
 use Rattle.input_stack.proofs.stack.InputStack.push_macro.Goals as goal
+
+pub new-reader-requires : goal.new-reader-requires
+new-reader-requires c = omega (arith, c.requires.held (id_of c.args.body), holds_itself (id_of c.args.body))
+
+pub skip_places-requires : goal.skip_places-requires
+skip_places-requires c = c.new-reader.ensures.at_front
+
+pub peek-requires : goal.peek-requires
+peek-requires c = c.skip_places.ensures.at_next
+
+pub drop_finished-requires : goal.drop_finished-requires
+drop_finished-requires c = c.requires.stands
+
+pub overflow_cast-args : goal.overflow_cast-args
+overflow_cast-args c = omega (arith, c.requires.filled.few, c.args.args.nine)
+
+pub call_full-requires-clause-fits : goal.call_full-requires-clause-fits
+call_full-requires-clause-fits c = c.drop_finished.ensures.stands.fits
+
+pub put-requires-clause-fits : goal.put-requires-clause-fits
+put-requires-clause-fits c = c.drop_finished.ensures.stands.fits
+
+pub returns-then-is_none-clause-err : goal.returns-then-is_none-clause-err
+returns-then-is_none-clause-err c = tt
+
+pub returns-then-is_none-clause-size : goal.returns-then-is_none-clause-size
+returns-then-is_none-clause-size c = refl
+
+pub returns-then-is_none-clause-parameter_size : goal.returns-then-is_none-clause-parameter_size
+returns-then-is_none-clause-parameter_size c = refl
+
+pub returns-in-Some-clause-ok : goal.returns-in-Some-clause-ok
+returns-in-Some-clause-ok c = tt
+
+pub returns-in-Some-clause-err : goal.returns-in-Some-clause-err
+returns-in-Some-clause-err c = c.drop_finished.ensures.after
+
+pub returns-in-Some-clause-lasting : goal.returns-in-Some-clause-lasting
+returns-in-Some-clause-lasting c = c.drop_finished.ensures.lasting
+
+pub returns-in-Some-clause-size : goal.returns-in-Some-clause-size
+returns-in-Some-clause-size c = c.drop_finished.ensures.size
+
+pub returns-in-Some-clause-parameter_size : goal.returns-in-Some-clause-parameter_size
+returns-in-Some-clause-parameter_size c = c.drop_finished.ensures.parameter_size
+
+pub returns-clause-err : goal.returns-clause-err
+returns-clause-err c = tt
+
+pub returns-clause-size : goal.returns-clause-size
+returns-clause-size c = c.put.ensures.sizes.size ∙ c.drop_finished.ensures.size
+
+pub returns-clause-parameter_size : goal.returns-clause-parameter_size
+returns-clause-parameter_size c = c.put.ensures.sizes.parameter_size ∙ c.drop_finished.ensures.parameter_size
+
+pub call_full-requires-clause-few : goal.call_full-requires-clause-few
+call_full-requires-clause-few c = omega (arith, c.requires.filled.few, c.args.args.nine)
+
+pub release-requires-clause-level : goal.release-requires-clause-level
+release-requires-clause-level c =
+    let old = c.args.lists.now in
+    let s = c.args.self.now in
+    let f = held s in
+    let r = c.skip_places.new.self in
+    let same : number r ≡ id_of c.args.body = c.skip_places.ensures.same ∙ c.new-reader.ensures.same in
+    let left : rest old r ≡ body_of (tokens_at old (id_of c.args.body)) = c.skip_places.ensures.body ∙ ap body_of c.new-reader.ensures.whole in
+    stands_old old f c.args.body c.args.args r c.new.result c.new.ensures same left c.skip_places.ensures.at_next c.requires.filled c.requires.held
+
+pub release-requires-clause-held : goal.release-requires-clause-held
+release-requires-clause-held c = λ h.
+    let old = c.args.lists.now in
+    let s = c.args.self.now in
+    let f = held s in
+    let r = c.skip_places.new.self in
+    let same : number r ≡ id_of c.args.body = c.skip_places.ensures.same ∙ c.new-reader.ensures.same in
+    let left : rest old r ≡ body_of (tokens_at old (id_of c.args.body)) = c.skip_places.ensures.body ∙ ap body_of c.new-reader.ensures.whole in
+    omega (arith, c.requires.held h, holds_are old f c.args.body c.args.args r c.new.result c.new.ensures same left c.skip_places.ensures.at_next c.requires.filled c.requires.held h)
+
+pub put-requires-clause-room : goal.put-requires-clause-room
+put-requires-clause-room c =
+    let s = c.drop_finished.new.self in
+    let n = neither (parameter_room s.parameter_size s.arguments c.args.args.count) (room s.size (length s.levels.items + s.argument_levels)) (sym c.call_full.ensures ∙ c.in_default.is) in
+    room_left s.size (length s.levels.items + s.argument_levels) n.1
+
+pub put-requires-clause-few : goal.put-requires-clause-few
+put-requires-clause-few c =
+    let s = c.drop_finished.new.self in
+    let n = neither (parameter_room s.parameter_size s.arguments c.args.args.count) (room s.size (length s.levels.items + s.argument_levels)) (sym c.call_full.ensures ∙ c.in_default.is) in
+    omega (arith, parameters_left s.parameter_size s.arguments c.args.args.count n.0, ap (λ (x : Call). x.args.count) c.new-2.ensures)
+
+pub put-requires-clause-closed : goal.put-requires-clause-closed
+put-requires-clause-closed c = ap call_open c.new-2.ensures
 
 pub returns-then-is_none-clause-stands : goal.returns-then-is_none-clause-stands
 returns-then-is_none-clause-stands c =
@@ -139,3 +235,26 @@ returns-clause-account c = λ h.
     let t = c.drop_finished.new.self in
     let p = pending old s in
     omega (arith, put_moves old mid (level.Call c.new-2.result) (innermost c.put.new.self) (innermost t) f c.put.ensures.list e.account h, holds_are old f c.args.body c.args.args r c.new-2.result c.new-2.ensures same left c.skip_places.ensures.at_next c.requires.filled c.requires.held h)
+
+pub returns-clause-kept : goal.returns-clause-kept
+returns-clause-kept c =
+    let k = c.drop_finished.ensures.kept in
+    record {
+      tokens = λ h less. k.tokens h (omega (arith, less));
+      places = λ h less. k.places h (omega (arith, less));
+    }
+
+pub returns-clause-lasting : goal.returns-clause-lasting
+returns-clause-lasting c = c.drop_finished.ensures.lasting
+
+pub returns-in-Some-clause-stands : goal.returns-in-Some-clause-stands
+returns-in-Some-clause-stands c = c.drop_finished.ensures.stands
+
+pub returns-in-Some-clause-account : goal.returns-in-Some-clause-account
+returns-in-Some-clause-account c = c.drop_finished.ensures.account
+
+pub returns-in-Some-clause-kept : goal.returns-in-Some-clause-kept
+returns-in-Some-clause-kept c = c.drop_finished.ensures.kept
+
+pub returns-then-is_none-clause-lasting : goal.returns-then-is_none-clause-lasting
+returns-then-is_none-clause-lasting c = c.release.ensures.lasting
