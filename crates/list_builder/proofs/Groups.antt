@@ -1,8 +1,8 @@
 -- Groups in lists.
-use Rattle.std.proofs.Common.{◌≡◌, ℕ, ◌+◌, ◌-◌, Bool, true, false, not, List, [], ◌∷◌, ◌++◌, Option, Some, None, refl, sym, ap, ◌∙◌, arith}
+use Rattle.std.proofs.Common.{zero, suc, ◌≡◌, ℕ, ◌+◌, ◌-◌, Bool, true, false, not, List, [], ◌∷◌, ◌++◌, Option, Some, None, refl, sym, ap, ◌∙◌, arith}
 use Rattle.std.specs.Prelude.{if◌then◌else◌, ◌==◌, ◌&&◌}
-use Rattle.std.proofs.lemmas.Bool.{true≢false}
-use Rattle.std.proofs.lemmas.Bool.Decides.{nat_tests}
+use Rattle.std.proofs.lemmas.Bool.{true≢false, eqb-true, eq-eqb, ne_eqb}
+use Rattle.std.proofs.lemmas.Option.{none-some}
 use Rattle.tex_defs.specs.declared.Token.{Token}
 use Rattle.tex_defs.specs.declared.Token.TheVariants.{Char, Named, Marked, Place, Number, EndPlaces}
 use Rattle.plain_state.specs.Categories.{begin_group, end_group}
@@ -31,7 +31,7 @@ not_true true e = sym e
 not_true false e = refl
 
 categories_apart : (category : ℕ) → (category == 2) ≡ true → (category == 1) ≡ false
-categories_apart category e = grind (arith, nat_tests)
+categories_apart category e = ne_eqb category 1 (λ a. omega (arith, eqb-true category 2 e))
 
 -- a `}` is no `{`
 pub end_begins_not : (t : Token) → has_category end_group t ≡ true → has_category begin_group t ≡ false
@@ -58,18 +58,19 @@ closes_append n k [] ys e = ap (λ (o : Option ℕ). by o) e
 closes_append n k (x ∷ xs) ys e =
     pick (has_category begin_group x) _ _ _ _ (closes k ys) (Some k) (λ c h. closes_append (n + 1) k xs ys h)
     (λ c g. pick (has_category end_group x) _ _ _ _ (closes k ys) (Some k)
-    (λ d h. pick (n == 0) _ _ _ _ (closes k ys) (Some k) (λ z i. cc) (λ z i. closes_append (n - 1) k xs ys i) h)
+    (λ d h. pick (n == 0) _ _ _ _ (closes k ys) (Some k) (λ z i. absurd (none-some k i)) (λ z i. closes_append (n - 1) k xs ys i) h)
     (λ d h. closes_append n k xs ys h) g) e
 
 not_zero : (d n : ℕ) → (n == 0) ≡ false → ((d + n) == 0) ≡ false
-not_zero d n e = grind (arith, nat_tests)
+not_zero d n e = ne_eqb (d + n) 0 (λ a. true≢false (sym (eq-eqb n 0 (omega arith)) ∙ e))
 
 one_less : (d n : ℕ) → (n == 0) ≡ false → d + n - 1 ≡ d + (n - 1)
-one_less d n e = grind (arith, nat_tests)
+one_less d zero e = absurd (true≢false e)
+one_less d (suc n) e = omega arith
 
 shift_end : (d n k : ℕ) (xs : List Token) (z : Bool) → (n == 0) ≡ z → (if z then None else closes (n - 1) xs) ≡ Some k → (closes (n - 1) xs ≡ Some k → closes (d + (n - 1)) xs ≡ Some (d + k)) →
     (if (d + n) == 0 then None else closes (d + n - 1) xs) ≡ Some (d + k)
-shift_end d n k xs true z e then_on = cc
+shift_end d n k xs true z e then_on = absurd (none-some k e)
 shift_end d n k xs false z e then_on = rw (not_zero d n z) (ap (λ (j : ℕ). closes j xs) (one_less d n z) ∙ then_on e)
 
 shifted : (d n k : ℕ) (xs : List Token) → closes n xs ≡ Some k → closes (d + n) xs ≡ Some (d + k)

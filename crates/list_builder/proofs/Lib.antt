@@ -4,3 +4,5 @@ pub mod Groups
 pub mod Themselves
 pub mod Bodies
 pub mod Formed
+pub mod Feeding
+pub mod Going
