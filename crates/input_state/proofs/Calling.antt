@@ -1,5 +1,5 @@
 -- What a call puts.
-use Rattle.std.proofs.Common.{◌≡◌, ℕ, List, [], ◌∷◌, map, Option, None, Some, Bool, true, not, refl, sym, ap, ◌∙◌}
+use Rattle.std.proofs.Common.{◌≡◌, ℕ, List, [], ◌∷◌, map, Option, None, Some, Bool, true, false, not, refl, sym, ap, ◌∙◌}
 use Rattle.std.specs.Prelude.{slice_get, if◌then◌else◌}
 use Rattle.std.proofs.lemmas.Option.{none-some, same_Some}
 use Rattle.tex_defs.specs.declared.Token.{Token}
@@ -35,7 +35,7 @@ first_decides (u ∷ us) t is = sym (ap (λ (x : Token). not (is_end_mark x)) (s
 
 -- HOW A NAME IS CALLED
 
-kind_none : (lists : List (List Token)) (m : Meaning (Option ℕ)) → list_of m ≡ None → call_kind lists m ≡ kind.None
+pub kind_none : (lists : List (List Token)) (m : Meaning (Option ℕ)) → list_of m ≡ None → call_kind lists m ≡ kind.None
 kind_none lists means.Undefined is = refl
 kind_none lists means.RelaxMarked is = refl
 kind_none lists (means.Char category code) is = refl
@@ -63,6 +63,20 @@ kind_some lists (means.Prim number) id b is same = absurd (none-some id is)
 kind_some lists (means.Macro long outer None) id b is same = absurd (none-some id is)
 kind_some lists (means.Macro long outer (Some i)) id b is same =
     ap (λ (x : Bool). if x then kind.Gathers else kind.AtOnce) (same ∙ ap (λ (k : ℕ). has_parameters (list_at lists k)) (sym (same_Some i id is)))
+
+-- nor are its arguments gathered
+pub not_gathered : (lists : List (List Token)) (m : Meaning (Option ℕ)) → list_of m ≡ None → call_kind lists m ≡ kind.Gathers → ⊥
+not_gathered lists m none gathers =
+    let e : kind.None ≡ kind.Gathers = sym (kind_none lists m none) ∙ gathers in
+    cc
+
+if_gathers : (b : Bool) → (if b then kind.Gathers else kind.AtOnce) ≡ kind.Gathers → b ≡ true
+if_gathers true is = refl
+if_gathers false is = cc
+
+-- where arguments are gathered, the list has a parameter text
+pub gathers_some : (lists : List (List Token)) (m : Meaning (Option ℕ)) (id : ℕ) → list_of m ≡ Some id → call_kind lists m ≡ kind.Gathers → has_parameters (list_at lists id) ≡ true
+gathers_some lists m id is gathers = if_gathers (has_parameters (list_at lists id)) (kind_some lists m id (has_parameters (list_at lists id)) is refl ∙ gathers)
 
 -- WHAT IS PUT, WITHOUT ARGUMENTS
 

@@ -13,6 +13,7 @@ pub mod AllHolders
 pub mod Refusing
 pub mod ListViews
 pub mod Sounds
+pub mod FileLines
 pub mod Growing
 pub mod Recalling
 pub mod Called
@@ -27,4 +28,5 @@ pub mod Pulling
 pub mod PullKept
 pub mod Readies
 pub mod Files
+pub mod TakenLines
 pub mod Asides

@@ -7,7 +7,8 @@ use Rattle.tex_defs.specs.declared.Sizes.{Sizes}
 use Rattle.plain_state.specs.Puts as plain
 use Rattle.line_lexer.specs.declared.Line.{Line}
 use Rattle.token_lists.specs.declared.Build.{Build}
-use Rattle.token_lists.specs.Table.{Entry}
+use Rattle.token_lists.specs.Table.{Entry, tokens_at}
+use Rattle.token_lists.specs.Ids.{build_id}
 use Rattle.meanings.specs.Map.{Map}
 use Rattle.input_stack.specs.Pending.{Pending}
 use Rattle.input_stack.specs.View.{pending, held}
@@ -54,6 +55,16 @@ module _ (old new : List (Option Entry)) (stack : InputStack) (m : Named) (sizes
       same_lists _ _ _ _ _ _ _ _ _ _ m.map sizes (texts new) (puts_now (option_to_list making) (b ∷ []) (reverse rest) c) (made_same old new making c.before) (call_now (option_to_list making) (b ∷ []) (reverse rest) c)
       (ap (map (text new)) (reverse_push items rest b is) ∙ ap₂ (λ (us : List Token) (vs : List (List Token)). us ∷ vs) tokens c.behind)
       (line_now (option_to_list making) (b ∷ []) (reverse rest) c)
+
+  -- another list of the same tokens stands for the innermost one
+  pub same_first : (making : Option Build) (items others rest : List Build) (a b : Build) (v : HeldLists) → new ≡ old → items ≡ rest ++ a ∷ [] → others ≡ rest ++ b ∷ [] → build_id b ≡ build_id a → lists_of old (pending old stack) making items m sizes ≡ v → lists_of new (pending new stack) making others m sizes ≡ v
+  same_first making items others rest a b v still was now same is =
+      let first : text old b ≡ text old a = ap (tokens_at old) same in
+      let all : map (text old) (reverse others) ≡ map (text old) (reverse items) =
+      ap (map (text old)) (reverse_push others rest b now) ∙ ap (λ (ts : List Token). ts ∷ map (text old) (reverse rest)) first ∙ sym (ap (map (text old)) (reverse_push items rest a was)) in
+      ap (λ (table : List (Option Entry)). lists_of table (pending table stack) making others m sizes) still
+      ∙ ap (λ (ts : List (List Token)). held_lists (fronts old (pending old stack).puts) (made_text old making) (calling_of old m.call) ts (line_of (pending old stack).sources) m.map sizes (texts old)) all
+      ∙ is
 
   -- it goes
   pub rest_view : (making : Option Build) (rest : List Build) → Changed old new stack m (option_to_list making) [] (reverse rest) →

@@ -1,5 +1,5 @@
 -- The list that was made is put in front.
-use Rattle.std.proofs.Common.{◌≡◌, ℕ, ◌+◌, ◌<◌, List, [], false, ◌∷◌, map, reverse, Option, None, Some, refl, sym, ap, ◌∙◌, subst, arith}
+use Rattle.std.proofs.Common.{◌≡◌, ℕ, ◌+◌, ◌<◌, ◌≤◌, List, [], false, ◌∷◌, map, reverse, Option, None, Some, refl, sym, ap, ◌∙◌, subst, arith}
 use Rattle.std.proofs.lemmas.Option.{none-some}
 use Rattle.tex_defs.specs.declared.Token.{Token}
 use Rattle.tex_defs.specs.declared.Full.{Full}
@@ -33,6 +33,10 @@ use Rattle.input_state.proofs.Refusing.{levels_refused}
 module _ (old new : List (Option Entry)) (s t : InputStack) (a : Build) (gathered : List Build) (m : Named) (sizes : Sizes) (n capacity : ℕ) (making : Option Build) (some : making ≡ Some a) (sound : IsSound old s making gathered m sizes capacity) (same : n ≡ build_id a) where
   shared_now : IsShared old s (a ∷ reverse gathered) m
   shared_now = subst (λ (x : Option Build). IsShared old s (all_builds x gathered) m) some sound.shared
+
+  -- the list that was made is held, beside the lists of the levels
+  pub put_held : (h : ℕ) → holds n h + held s h ≤ holders_at old h
+  put_held h = omega (arith, shared_now.counted h, built_cons a (reverse gathered) h, ap (λ (k : ℕ). holds k h) same)
 
   module _ (stands : Stands new t) (after : pending new t ≡ put (plain_put n (tokens_at old n)) (pending old s)) (moves : Moves old new (λ h. holds n h + held s h) (held t)) (keeps : Keeps old new (λ h. holds n h + held s h)) (lasts : Lasts old new) (size : t.size ≡ s.size) (parameters : t.parameter_size ≡ s.parameter_size) where
     own_now : (h : ℕ) → built (a ∷ []) h ≡ holds n h

@@ -1,6 +1,6 @@
 -- All stands after one list has changed, or the levels have.
 use Rattle.std.proofs.Common.{◌≡◌, ℕ, ◌+◌, ◌<◌, ◌≤◌, List, [], ◌∷◌, ◌++◌, length, map, reverse, replicate, zero, suc, Option, None, Some, Result, Ok, Err, refl, sym, ap, ◌∙◌, subst, arith}
-use Rattle.std.specs.Prelude.{option_to_list, OnOk, IfErr, MatchResult}
+use Rattle.std.specs.Prelude.{option_to_list, OnOk, OnErr, IfErr, MatchResult}
 use Rattle.std.proofs.lemmas.List.Sums.{sum_by-append}
 use Rattle.std.proofs.lemmas.List.Elements.{All-head, All-cons, All-nil}
 use Rattle.tex_defs.specs.declared.Sizes.{Sizes}
@@ -119,6 +119,10 @@ match_of (Err e) A P B Q a b f g = g e b
 pub ok_of : {T : Type 0} (r : Result T Full) (A P : Type 0) → OnOk r A → (A → P) → OnOk r P
 ok_of (Ok x) A P a f = f a
 ok_of (Err e) A P a f = tt
+
+pub err_of : {T E : Type 0} (r : Result T E) (A P : Type 0) → OnErr r A → (A → P) → OnErr r P
+err_of (Ok x) A P a f = tt
+err_of (Err e) A P a f = f a
 
 -- THE LEVELS
 

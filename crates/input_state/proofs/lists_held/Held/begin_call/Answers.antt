@@ -4,18 +4,35 @@ use Rattle.token_lists.specs.Table.{tokens_at}
 use Rattle.token_lists.specs.Ids.{id_of}
 use Rattle.macro_call.specs.Modes.{mode_of}
 use Rattle.macro_call.specs.PlainScans.{first_scan}
-use Rattle.plain_state.specs.Arguments.{begins_with_place}
+use Rattle.plain_state.specs.Arguments.{has_parameters, begins_with_place}
+use Rattle.plain_state.specs.Meanings.{name_meaning}
 use Rattle.plain_state.specs.Tables.{lists_words}
 use Rattle.input_state.specs.HeldLists.{HeldLists}
-use Rattle.input_state.specs.Calls.{text_of}
+use Rattle.input_state.specs.Calls.{call_kind, text_of}
 use Rattle.input_state.specs.Callings.{Calling, Gathering, call_lists}
 use Rattle.input_state.specs.HeldViews.{named, texts}
 use Rattle.input_state.specs.declared.gathering.Gathering.TheVariants as call
+use Rattle.input_state.proofs.Sharing.{text_at}
+use Rattle.input_state.proofs.Calling.{not_gathered, gathers_some}
 use Rattle.input_state.proofs.Defining.{no_call}
 use Rattle.input_state.proofs.Recalling.{recalls_sound, recalls_view, recalls_macros, recalls_words}
 use Rattle.input_state.proofs.Sounds.{full_now}
 use Rattle.input_state.proofs.Called.{named_text, begun_fits, begun_full}
 use Rattle.input_state.proofs.lists_held.Held.begin_call.Goals as goal
+
+pub unreachable-requires : goal.unreachable-requires
+unreachable-requires c =
+    let i = c.self.inside in
+    not_gathered (texts i.lists) (name_meaning i.meanings.cells c.args.name) c.in_default.ensures.list
+    (ap (λ (w : HeldLists). call_kind w.lists (name_meaning w.meanings c.args.name)) c.self.view_is ∙ c.requires.gathers)
+
+pub begin-requires-clause-gathers : goal.begin-requires-clause-gathers
+begin-requires-clause-gathers c =
+    let i = c.self.inside in
+    let id = id_of c.in-Some.list.now in
+    ap has_parameters (sym (text_at i.lists id))
+    ∙ gathers_some (texts i.lists) (name_meaning i.meanings.cells c.args.name) id c.in-Some.ensures.list
+    (ap (λ (w : HeldLists). call_kind w.lists (name_meaning w.meanings c.args.name)) c.self.view_is ∙ c.requires.gathers)
 
 pub invariant_of-self : goal.invariant_of-self
 invariant_of-self c =

@@ -6,7 +6,7 @@ use Rattle.input_state.specs.HeldLists.{HeldLists}
 use Rattle.input_state.specs.HeldViews.{texts}
 use Rattle.input_state.specs.Calls.{call_kind}
 use Rattle.input_state.proofs.Sharing.{text_at}
-use Rattle.input_state.proofs.Calling.{kind_some}
+use Rattle.input_state.proofs.Calling.{kind_none, kind_some}
 use Rattle.input_state.proofs.lists_held.Held.call_kind.Goals as goal
 
 pub returns-then-has_parameters : goal.returns-then-has_parameters
@@ -23,4 +23,10 @@ returns-else-has_parameters c =
     let id = id_of c.in-Some.list.now in
     let b = sym c.if-has_parameters.false ∙ c.has_parameters.ensures ∙ ap has_parameters (sym (text_at i.lists id)) in
     kind_some (texts i.lists) (name_meaning i.meanings.cells c.args.name) id false c.in-Some.ensures.list b
+    ∙ ap (λ (w : HeldLists). call_kind w.lists (name_meaning w.meanings c.args.name)) c.self.view_is
+
+pub returns-in_default : goal.returns-in_default
+returns-in_default c =
+    let i = c.self.inside in
+    sym (kind_none (texts i.lists) (name_meaning i.meanings.cells c.args.name) c.in_default.ensures.list)
     ∙ ap (λ (w : HeldLists). call_kind w.lists (name_meaning w.meanings c.args.name)) c.self.view_is

@@ -1,14 +1,24 @@
-use Rattle.std.proofs.Common.{◌≡◌, ◌∙◌, [], refl, ap}
+use Rattle.std.proofs.Common.{◌≡◌, ◌∙◌, [], length, refl, sym, ap, subst}
 use Rattle.plain_state.specs.Pending.{NotBegun}
 use Rattle.line_lexer.specs.declared.Ahead.TheVariants as ahead
 use Rattle.input_stack.specs.Pulls.{looks}
 use Rattle.input_stack.specs.View.{innermost, pending}
-use Rattle.input_state.specs.HeldLists.{HeldLists, pending_of, ahead_of}
+use Rattle.input_state.specs.HeldLists.{HeldLists, pending_of, ahead_of, IsLineIn}
 use Rattle.input_state.specs.HeldViews.{named, lists_of}
 use Rattle.input_state.proofs.Pulling.{looks_are, none_left, countable_item}
 use Rattle.input_state.proofs.PullKept.{pulled_sound, pulled_macros, pulled_levels, passed_view}
+use Rattle.input_state.proofs.FileLines.{in_buffer, line_inside}
 use Rattle.input_state.proofs.CallKept.{countable_now}
 use Rattle.input_state.proofs.lists_held.Held.drop_front.Goals as goal
+
+pub pull-given-requires-clause-in_buffer : goal.pull-given-requires-clause-in_buffer
+pull-given-requires-clause-in_buffer c =
+    let i = c.self.inside in
+    let n = length c.args.bytes.now in
+    in_buffer (pending i.lists i.stack).sources n c.self.invariant.shared.simple.single (subst (λ (w : HeldLists). IsLineIn w.line n) (sym c.self.view_is) c.requires.in_buffer)
+
+pub returns-clause-in_buffer : goal.returns-clause-in_buffer
+returns-clause-in_buffer c = line_inside (pending c.pull-given.new.lists c.pull-given.new.self).sources (length c.pull-given.new.bytes) c.pull-given.ensures.in_buffer
 
 pub pull-given-requires-clause-countable : goal.pull-given-requires-clause-countable
 pull-given-requires-clause-countable c =

@@ -11,8 +11,8 @@ use Rattle.token_lists.specs.Table.{tokens_at}
 use Rattle.input_stack.specs.View.{pending}
 use Rattle.input_state.specs.HeldLists.{HeldLists, words_held}
 use Rattle.input_state.specs.HeldViews.{named, calling_of, text, lists_of, fronts, made_text, line_of, texts}
-use Rattle.input_state.proofs.ListViews.{first_view, macros_view, held_lists, reverse_push}
-use Rattle.input_state.proofs.Sounds.{grown, push_builds, push_shared, push_building, changed_sound, fits_now, full_now, match_of, ok_of}
+use Rattle.input_state.proofs.ListViews.{first_view, same_first, macros_view, held_lists, reverse_push}
+use Rattle.input_state.proofs.Sounds.{grown, push_builds, push_shared, push_building, changed_sound, fits_now, full_now, match_of, ok_of, err_of}
 use Rattle.input_state.proofs.lists_held.Held.grow_list.Goals as goal
 
 pub append-grown-requires : goal.append-grown-requires
@@ -61,6 +61,13 @@ returns-clause-ok c =
     ok_of c.append-grown.result (tokens_at new (build_id a) ≡ ts) _ e.grown (λ is.
     first_view i.lists new i.stack (named i.meanings i.call) i.sizes i.making c.push_reserved.new.self.items rest b ts changed c.push_reserved.ensures.items (ap (tokens_at new) e.same ∙ is)
     ∙ ap (λ (v : HeldLists). record v { builds = grow_first c.args.token v.builds; lists = texts new }) (sym first ∙ c.self.view_is))
+
+pub returns-clause-err : goal.returns-clause-err
+returns-clause-err c =
+    let i = c.self.inside in
+    let e = c.append-grown.ensures in
+    err_of c.append-grown.result (c.append-grown.new.lists ≡ i.lists) _ e.err (λ still.
+    same_first i.lists c.append-grown.new.lists i.stack (named i.meanings i.call) i.sizes i.making i.builds.items c.push_reserved.new.self.items c.pop.new.self.items c.in-Some.build c.append-grown.new.build c.args.self.now still c.in-Some.ensures.items c.push_reserved.ensures.items e.same c.self.view_is)
 
 pub returns-clause-macros : goal.returns-clause-macros
 returns-clause-macros c =

@@ -8,12 +8,22 @@ use Rattle.input_state.specs.HeldLists.{HeldLists, pending_of, ahead_of, line_le
 use Rattle.input_state.specs.HeldViews.{named, lists_of, texts}
 use Rattle.input_state.proofs.Pulling.{pull_reads, pull_refused, told_more, told_settles, told_gives, told_refused, countable_item}
 use Rattle.input_state.proofs.PullKept.{pulled_sound, pulled_view, pulled_others, pulled_macros, pulled_levels, refused_view}
+use Rattle.input_state.proofs.FileLines.{in_buffer, line_inside}
 use Rattle.input_state.proofs.CallKept.{countable_now}
 use Rattle.input_state.proofs.lists_held.Held.pull.Goals as goal
 
 on_err : {T U : Type 0} {A B : Type 0} (r : Result T U) → OnErr r A → (A → B) → OnErr r B
 on_err (Ok x) a f = tt
 on_err (Err e) a f = f a
+
+pub pull-requires-clause-in_buffer : goal.pull-requires-clause-in_buffer
+pull-requires-clause-in_buffer c =
+    let i = c.self.inside in
+    let n = length c.args.bytes.now in
+    in_buffer (pending i.lists i.stack).sources n c.self.invariant.shared.simple.single (subst (λ (w : HeldLists). IsLineIn w.line n) (sym c.self.view_is) c.requires.in_buffer)
+
+pub returns-clause-in_buffer : goal.returns-clause-in_buffer
+returns-clause-in_buffer c = line_inside (pending c.pull.new.lists c.pull.new.self).sources (length c.pull.new.bytes) c.pull.ensures.in_buffer
 
 pub pull-requires-clause-countable : goal.pull-requires-clause-countable
 pull-requires-clause-countable c =

@@ -3,7 +3,7 @@ use Rattle.std.proofs.lemmas.List.Elements.{All-head}
 use Rattle.token_lists.specs.declared.Build.{Build}
 use Rattle.token_lists.specs.Ids.{id_of, IsBuilding}
 use Rattle.input_state.specs.HeldViews.{named, all_builds, IsShared}
-use Rattle.input_state.proofs.Putting.{put_sound, put_view, put_macros, put_fits}
+use Rattle.input_state.proofs.Putting.{put_held, put_sound, put_view, put_macros, put_fits}
 use Rattle.input_state.proofs.lists_held.Held.put_made.Goals as goal
 
 pub finish-list-requires : goal.finish-list-requires
@@ -14,6 +14,13 @@ finish-list-requires c =
     let some : i.making ≡ Some a = sym c.take.ensures.value ∙ c.in-Some.is in
     let shared : IsShared i.lists i.stack (a ∷ ys) (named i.meanings i.call) = subst (λ (m : Option Build). IsShared i.lists i.stack (all_builds m i.builds.items) (named i.meanings i.call)) some c.self.invariant.shared in
     All-head (IsBuilding i.lists) a ys shared.building
+
+pub push_list-requires-clause-held : goal.push_list-requires-clause-held
+push_list-requires-clause-held c =
+    let i = c.self.inside in
+    let a = c.in-Some.build in
+    let some : i.making ≡ Some a = sym c.take.ensures.value ∙ c.in-Some.is in
+    put_held i.lists i.lists i.stack i.stack a i.builds.items (named i.meanings i.call) i.sizes (id_of c.finish-list.result) _ i.making some c.self.invariant c.finish-list.ensures.same
 
 pub unreachable-requires-in-Err : goal.unreachable-requires-in-Err
 unreachable-requires-in-Err c =
