@@ -42,6 +42,7 @@ use Rattle.engine_state.proofs.CallKept.{all_still, meant_by}
 use Rattle.engine_state.proofs.Cutting.{later_cuts, full_cuts, cuts_by}
 use Rattle.engine_state.proofs.Joining.{quiet_here, went_by}
 use Rattle.engine_state.proofs.Storing.{sound_still, store_scan}
+use Rattle.gullet.proofs.Ending.{none_found}
 
 -- WHERE SOMETHING CAME OUT WELL
 
@@ -302,7 +303,7 @@ module _ (sizes : Sizes) (e : Engine) (book : Book) (t : Token) (name : Name) (i
   body_cuts : (e2 : Engine) (w : World) (full : Full) → e2 ≡ record e { input = record e.input { pending = settle e.input.pending; lists = e2.input.lists } } → call_refusal p e.input ≡ Some full → Cuts sizes (state_of e book) e2 book w w (body_put P p.items) (broken.Full full)
   body_cuts e2 w full after refuses = by_items p.items refl where
     by_items : (xs : List Item) → p.items ≡ xs → Cuts sizes (state_of e book) e2 book w w (body_put P xs) (broken.Full full)
-    by_items [] none = let nothing : refused e.input.sizes [] ≡ Some full = sym (ap (λ (ys : List Item). refused e.input.sizes (when_called ys (level (settle e.input.pending)))) none) ∙ refuses in cc
+    by_items [] none = let nothing : refused e.input.sizes [] ≡ Some full = sym (ap (λ (ys : List Item). refused e.input.sizes (when_called ys (level (settle e.input.pending)))) none) ∙ refuses in absurd (none_found full nothing)
     by_items (x ∷ xs) some =
         later_cuts sizes _ settled_state e2 book w w w (Settled ∷ []) (Called P ∷ []) (broken.Full full) (did_settled w)
         (full_cuts sizes settled_state e2 book w (Called P) [] full (broken.Full full) refl (level_asked (Some full) x xs some refuses)

@@ -38,6 +38,7 @@ use Rattle.engine_state.proofs.CallKept.{meant_by}
 use Rattle.engine_state.proofs.Cutting.{later_cuts, full_cuts, cuts_by}
 use Rattle.engine_state.proofs.Joining.{quiet_here, quiet_wrote, went_by}
 use Rattle.engine_state.proofs.Storing.{sound_still}
+use Rattle.gullet.proofs.Ending.{none_found}
 
 -- WHAT IS PUT
 
@@ -91,7 +92,7 @@ module _ (sizes : Sizes) (e : Engine) (book : Book) (r : Reading) (rs : List Rea
   pub put_cuts : (e2 : Engine) (w : World) (full : Full) → e2 ≡ record e { input = record e.input { pending = settle e.input.pending; lists = e2.input.lists } } → put_refusal p e.input ≡ Some full → Cuts sizes (state_of e W) e2 W w w (arguments_put P p.items) (broken.Full full)
   put_cuts e2 w full after refuses = by_items p.items refl where
     by_items : (xs : List Item) → p.items ≡ xs → Cuts sizes (state_of e W) e2 W w w (arguments_put P xs) (broken.Full full)
-    by_items [] none = let nothing : refused e.input.sizes [] ≡ Some full = sym (ap (λ (ys : List Item). refused e.input.sizes (when_put ys (parameters p (settle e.input.pending) ∷ level (settle e.input.pending) ∷ []))) none) ∙ refuses in cc
+    by_items [] none = let nothing : refused e.input.sizes [] ≡ Some full = sym (ap (λ (ys : List Item). refused e.input.sizes (when_put ys (parameters p (settle e.input.pending) ∷ level (settle e.input.pending) ∷ []))) none) ∙ refuses in absurd (none_found full nothing)
     by_items (x ∷ xs) some =
         later_cuts sizes _ settled_state e2 W w w w (Settled ∷ []) (CalledWith P ∷ []) (broken.Full full) (did_settled w)
         (full_cuts sizes settled_state e2 W w (CalledWith P) [] full (broken.Full full) refl (demands_same (Some full) x xs some refuses)

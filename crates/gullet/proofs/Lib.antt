@@ -7,5 +7,7 @@ pub mod CallFeedingMoves
 pub mod CallFeedingTurns
 pub mod CallPutting
 pub mod CallRules
+pub mod Ending
 pub mod Expanding
 pub mod Handing
+pub mod Weighing

@@ -11,3 +11,4 @@ pub mod Making
 pub mod Running
 pub mod Stopping
 pub mod Unread
+pub mod Weighing

@@ -7,6 +7,7 @@ use Rattle.engine_state.specs.declared.broken.Broken.TheVariants as broken
 use Rattle.engine_state.specs.declared.call.CallAsk.TheVariants as asked
 use Rattle.engine_state.specs.Book.{with_work}
 use Rattle.engine_state.specs.Calls.{brace_call}
+use Rattle.engine_state.specs.declared.engine.Engine.{Engine}
 use Rattle.engine_state.specs.Near.{CutsIn}
 use Rattle.engine_state.specs.Stands.{state_of, page_of}
 use Rattle.engine_state.specs.Rules.{world_of, DoesRule, Cuts, Went}
@@ -17,7 +18,9 @@ use Rattle.gullet.proofs.CallRules.{asks_this, away_is, call_wants}
 use Rattle.engine_state.proofs.Cutting.{cuts_by}
 use Rattle.engine_state.proofs.Joining.{ok_to, err_to, err_both, same_err}
 use Rattle.engine_state.proofs.Nearing.{cuts_in, column_in}
-use Rattle.engine_state.proofs.Standing.{list_frames}
+use Rattle.engine_state.proofs.Standing.{list_frames, same_engine}
+use Rattle.gullet.proofs.Ending.{no_ok, no_on}
+use Rattle.gullet.proofs.Weighing.{call_steps, steps_as_one, free_steps, closed_lighter}
 use Rattle.gullet.proofs.gathering.call_rule.Goals as goal
 
 pub returns-in-More-clause-rule : goal.returns-in-More-clause-rule
@@ -91,3 +94,110 @@ returns-in_err-put_call-in-Gathered-clause-err g c = let e = c.args.engine.now i
     (by_call sizes e _ (λ book plan. Cuts sizes (state_of e book) n.new.engine book (world_of f told e) (world_of f told e) plan (broken.Full i.field-0.0)) is
     (λ book r rs st k. put_cut sizes e n.new.engine book r rs c.args.call.name is st k i.ensures.err i.field-0.0 i.ensures.refused (world_of f told e)) book st)
     (list_frames e n.new.engine (settle e.input.pending) i.ensures.err) st))
+
+-- WHAT BECOMES LIGHTER, WHETHER THERE IS A STEP, AND WHAT STAYS
+
+pub returns-in-More-clause-light : goal.returns-in-More-clause-light
+returns-in-More-clause-light g c = c.take.ensures.light
+
+pub returns-in-More-clause-step : goal.returns-in-More-clause-step
+returns-in-More-clause-step g c =
+    steps_as_one c.take.result _ _ (sym (call_steps c.args.engine.now _ (asks_this c.args.engine.now c.args.call asked.More c.requires.call c.in-More.is))) c.take.ensures.step
+
+pub returns-in-More-clause-halts : goal.returns-in-More-clause-halts
+returns-in-More-clause-halts g c = c.take.ensures.halts
+
+pub returns-in-More-clause-idle : goal.returns-in-More-clause-idle
+returns-in-More-clause-idle g c = c.take.ensures.idle
+
+pub returns-in-ExtraBrace-clause-light : goal.returns-in-ExtraBrace-clause-light
+returns-in-ExtraBrace-clause-light g c =
+    ok_to c.settle_brace.result (λ ruled h free. h free (asks_this c.args.engine.now c.args.call (asked.ExtraBrace c.in-ExtraBrace.seen) c.requires.call c.in-ExtraBrace.is)) c.settle_brace.ensures.light
+
+pub returns-in-ExtraBrace-clause-step : goal.returns-in-ExtraBrace-clause-step
+returns-in-ExtraBrace-clause-step g c =
+    free_steps c.settle_brace.result _ (call_steps c.args.engine.now _ (asks_this c.args.engine.now c.args.call (asked.ExtraBrace c.in-ExtraBrace.seen) c.requires.call c.in-ExtraBrace.is)) c.settle_brace.ensures.step
+
+pub returns-in-ExtraBrace-clause-halts : goal.returns-in-ExtraBrace-clause-halts
+returns-in-ExtraBrace-clause-halts g c = c.settle_brace.ensures.halts
+
+pub returns-in-ExtraBrace-clause-idle : goal.returns-in-ExtraBrace-clause-idle
+returns-in-ExtraBrace-clause-idle g c = c.settle_brace.ensures.idle
+
+pub returns-in-Mismatch-clause-light : goal.returns-in-Mismatch-clause-light
+returns-in-Mismatch-clause-light g c =
+    ok_to c.fail_call.result (λ ruled h free. h free c.args.call c.requires.call) c.fail_call.ensures.light
+
+pub returns-in-Mismatch-clause-step : goal.returns-in-Mismatch-clause-step
+returns-in-Mismatch-clause-step g c =
+    free_steps c.fail_call.result _ (call_steps c.args.engine.now _ (asks_this c.args.engine.now c.args.call asked.Mismatch c.requires.call c.in-Mismatch.is)) c.fail_call.ensures.step
+
+pub returns-in-Mismatch-clause-halts : goal.returns-in-Mismatch-clause-halts
+returns-in-Mismatch-clause-halts g c = c.fail_call.ensures.halts
+
+pub returns-in-Mismatch-clause-idle : goal.returns-in-Mismatch-clause-idle
+returns-in-Mismatch-clause-idle g c = c.fail_call.ensures.idle
+
+pub returns-in-Some-clause-light : goal.returns-in-Some-clause-light
+returns-in-Some-clause-light g c =
+    ok_to c.run_away_call.result (λ ruled h free. h free c.args.call c.requires.call) c.run_away_call.ensures.light
+
+pub returns-in-Some-clause-step : goal.returns-in-Some-clause-step
+returns-in-Some-clause-step g c =
+    free_steps c.run_away_call.result _ (call_steps c.args.engine.now _ (asks_this c.args.engine.now c.args.call (asked.ParEnded (Some c.in-Some.seen)) c.requires.call (c.in-ParEnded.is ∙ ap asked.ParEnded c.in-Some.is))) c.run_away_call.ensures.step
+
+pub returns-in-Some-clause-halts : goal.returns-in-Some-clause-halts
+returns-in-Some-clause-halts g c = c.run_away_call.ensures.halts
+
+pub returns-in-Some-clause-idle : goal.returns-in-Some-clause-idle
+returns-in-Some-clause-idle g c = c.run_away_call.ensures.idle
+
+pub returns-in_err-put_call-in-Gathered-clause-light : goal.returns-in_err-put_call-in-Gathered-clause-light
+returns-in_err-put_call-in-Gathered-clause-light g c = no_ok _ _ c.from_residual.result c.from_residual.ensures.1
+
+pub returns-in_err-put_call-in-Gathered-clause-step : goal.returns-in_err-put_call-in-Gathered-clause-step
+returns-in_err-put_call-in-Gathered-clause-step g c = no_ok _ _ c.from_residual.result c.from_residual.ensures.1
+
+pub returns-in_err-put_call-in-Gathered-clause-rule : goal.returns-in_err-put_call-in-Gathered-clause-rule
+returns-in_err-put_call-in-Gathered-clause-rule g c = no_ok _ _ c.from_residual.result c.from_residual.ensures.1
+
+pub returns-in_err-put_call-in-Gathered-clause-halts : goal.returns-in_err-put_call-in-Gathered-clause-halts
+returns-in_err-put_call-in-Gathered-clause-halts g c = no_ok _ _ c.from_residual.result c.from_residual.ensures.1
+
+pub returns-in_err-put_call-in-Gathered-clause-idle : goal.returns-in_err-put_call-in-Gathered-clause-idle
+returns-in_err-put_call-in-Gathered-clause-idle g c = no_on _ _ c.from_residual.result c.from_residual.ensures.1
+
+pub returns-in_ok-put_call-in-Gathered-clause-light : goal.returns-in_ok-put_call-in-Gathered-clause-light
+returns-in_ok-put_call-in-Gathered-clause-light g c free =
+    c.in_ok-put_call-in-Gathered.ensures.light c.args.call c.requires.call
+
+pub returns-in_ok-put_call-in-Gathered-clause-step : goal.returns-in_ok-put_call-in-Gathered-clause-step
+returns-in_ok-put_call-in-Gathered-clause-step g c =
+    call_steps c.args.engine.now _ (asks_this c.args.engine.now c.args.call asked.Gathered c.requires.call c.in-Gathered.is)
+
+pub returns-in_ok-put_call-in-Gathered-clause-err : goal.returns-in_ok-put_call-in-Gathered-clause-err
+returns-in_ok-put_call-in-Gathered-clause-err g c = tt
+
+pub returns-in_ok-put_call-in-Gathered-clause-halts : goal.returns-in_ok-put_call-in-Gathered-clause-halts
+returns-in_ok-put_call-in-Gathered-clause-halts g c halted = absurd halted
+
+pub returns-in_ok-put_call-in-Gathered-clause-idle : goal.returns-in_ok-put_call-in-Gathered-clause-idle
+returns-in_ok-put_call-in-Gathered-clause-idle g c = c.put_call.ensures.idle ∙ c.requires.idle
+
+pub returns-in-None-clause-light : goal.returns-in-None-clause-light
+returns-in-None-clause-light g c free =
+    closed_lighter c.args.engine.now c.args.engine.now c.close_call.new.engine _ c.args.call (same_engine c.args.engine.now c.args.engine.now refl) refl c.close_call.ensures.after c.requires.call
+
+pub returns-in-None-clause-step : goal.returns-in-None-clause-step
+returns-in-None-clause-step g c =
+    call_steps c.args.engine.now _ (asks_this c.args.engine.now c.args.call (asked.ParEnded None) c.requires.call (c.in-ParEnded.is ∙ ap asked.ParEnded c.in-None.is))
+
+pub returns-in-None-clause-err : goal.returns-in-None-clause-err
+returns-in-None-clause-err g c = tt
+
+pub returns-in-None-clause-halts : goal.returns-in-None-clause-halts
+returns-in-None-clause-halts g c halted = absurd halted
+
+pub returns-in-None-clause-idle : goal.returns-in-None-clause-idle
+returns-in-None-clause-idle g c =
+    ap (λ (y : Engine). y.input.making) c.close_call.ensures.after ∙ c.requires.idle

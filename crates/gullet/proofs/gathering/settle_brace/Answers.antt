@@ -1,11 +1,16 @@
-use Rattle.std.proofs.Common.{◌≡◌, ◌∷◌, [], refl, ◌∙◌, arith, true, false}
+use Rattle.std.proofs.Common.{◌≡◌, ◌∷◌, [], refl, ap, ◌∙◌, arith, true, false}
 use Rattle.std.proofs.lemmas.Grind.{common_steps}
 use Rattle.tex_defs.specs.declared.Fatal.TheVariants as fatal
 use Rattle.plain_state.specs.States.{Noted, AtFatal}
+use Rattle.input_state.specs.Stored.{Stored}
+use Rattle.engine_state.specs.declared.engine.Engine.{Engine}
 use Rattle.engine_state.specs.Book.{with_work}
+use Rattle.engine_state.specs.Steps.{pending_weight}
 use Rattle.gullet.proofs.CallBraces.{first_full, second_full, brace_cuts, brace_halts, brace_went}
 use Rattle.engine_state.proofs.CallEnding.{put_stands, call_counts, reported_stands}
 use Rattle.engine_state.proofs.Joining.{same_err}
+use Rattle.gullet.proofs.Ending.{no_ok, no_on}
+use Rattle.gullet.proofs.Weighing.{on_err, frames_join, brace_lighter}
 use Rattle.gullet.proofs.gathering.settle_brace.Goals as goal
 
 pub returns-in_err-put_one-clause-err : goal.returns-in_err-put_one-clause-err
@@ -40,3 +45,111 @@ returns-clause-rule g c = let e = c.args.engine.now in let e1 = c.put_one.new.se
     λ sizes f book r rs is st. let W = with_work (r ∷ rs) book in let st1 = put_stands sizes e e1 W p.frames p.others p.store c.in_ok-put_one.ensures.idle st in let st2 = put_stands sizes e1 e2 W q.frames q.others q.store c.in_ok-put_one-2.ensures.idle st1 in
     brace_went sizes e e1 e2 f _ c.args.name c.args.seen book r rs (p.page W) (q.page W) (λ w. c.in_ok-put_one.ensures.did sizes w W (call_counts sizes e W st) st.idle) (λ w. c.in_ok-put_one-2.ensures.did sizes w W (call_counts sizes e1 W st1) st1.idle) e3 _ c.go_on_behind_brace.new.engine
     (t.frames.call ∙ q.frames.call ∙ p.frames.call ∙ is) (reported_stands sizes e2 e3 W t.frames t.input (c.in_ok-report.ensures.sized yes sizes) st2) c.go_on_behind_brace.ensures (c.in_ok-report.ensures.on yes sizes f W (Noted ∷ []))
+
+-- WHAT BECOMES LIGHTER, WHETHER THERE IS A STEP, AND WHAT STAYS
+
+pub returns-in_err-put_one-clause-rule : goal.returns-in_err-put_one-clause-rule
+returns-in_err-put_one-clause-rule g c = no_ok _ _ c.from_residual.result c.from_residual.ensures.1
+
+pub returns-in_err-put_one-clause-step : goal.returns-in_err-put_one-clause-step
+returns-in_err-put_one-clause-step g c = no_ok _ _ c.from_residual.result c.from_residual.ensures.1
+
+pub returns-in_err-put_one-clause-light : goal.returns-in_err-put_one-clause-light
+returns-in_err-put_one-clause-light g c = no_ok _ _ c.from_residual.result c.from_residual.ensures.1
+
+pub returns-in_err-put_one-clause-halts : goal.returns-in_err-put_one-clause-halts
+returns-in_err-put_one-clause-halts g c = no_ok _ _ c.from_residual.result c.from_residual.ensures.1
+
+pub returns-in_err-put_one-clause-idle : goal.returns-in_err-put_one-clause-idle
+returns-in_err-put_one-clause-idle g c = no_on _ _ c.from_residual.result c.from_residual.ensures.1
+
+pub returns-in_err-put_one-clause-frames : goal.returns-in_err-put_one-clause-frames
+returns-in_err-put_one-clause-frames g c = on_err c.from_residual.result c.put_one.ensures.frames
+
+pub returns-in_err-put_one-2-clause-rule : goal.returns-in_err-put_one-2-clause-rule
+returns-in_err-put_one-2-clause-rule g c =
+    no_ok _ _ c.from_residual-in_err-put_one-2.result c.from_residual-in_err-put_one-2.ensures.1
+
+pub returns-in_err-put_one-2-clause-step : goal.returns-in_err-put_one-2-clause-step
+returns-in_err-put_one-2-clause-step g c =
+    no_ok _ _ c.from_residual-in_err-put_one-2.result c.from_residual-in_err-put_one-2.ensures.1
+
+pub returns-in_err-put_one-2-clause-light : goal.returns-in_err-put_one-2-clause-light
+returns-in_err-put_one-2-clause-light g c =
+    no_ok _ _ c.from_residual-in_err-put_one-2.result c.from_residual-in_err-put_one-2.ensures.1
+
+pub returns-in_err-put_one-2-clause-halts : goal.returns-in_err-put_one-2-clause-halts
+returns-in_err-put_one-2-clause-halts g c =
+    no_ok _ _ c.from_residual-in_err-put_one-2.result c.from_residual-in_err-put_one-2.ensures.1
+
+pub returns-in_err-put_one-2-clause-idle : goal.returns-in_err-put_one-2-clause-idle
+returns-in_err-put_one-2-clause-idle g c =
+    no_on _ _ c.from_residual-in_err-put_one-2.result c.from_residual-in_err-put_one-2.ensures.1
+
+pub returns-in_err-put_one-2-clause-frames : goal.returns-in_err-put_one-2-clause-frames
+returns-in_err-put_one-2-clause-frames g c =
+    on_err c.from_residual-in_err-put_one-2.result (frames_join c.args.engine.now c.put_one.new.self c.put_one-2.new.self c.put_one.ensures.frames c.put_one-2.ensures.frames)
+
+pub returns-in_err-report-clause-rule : goal.returns-in_err-report-clause-rule
+returns-in_err-report-clause-rule g c =
+    no_ok _ _ c.from_residual-in_err-report.result c.from_residual-in_err-report.ensures.1
+
+pub returns-in_err-report-clause-step : goal.returns-in_err-report-clause-step
+returns-in_err-report-clause-step g c =
+    no_ok _ _ c.from_residual-in_err-report.result c.from_residual-in_err-report.ensures.1
+
+pub returns-in_err-report-clause-light : goal.returns-in_err-report-clause-light
+returns-in_err-report-clause-light g c =
+    no_ok _ _ c.from_residual-in_err-report.result c.from_residual-in_err-report.ensures.1
+
+pub returns-in_err-report-clause-halts : goal.returns-in_err-report-clause-halts
+returns-in_err-report-clause-halts g c =
+    no_ok _ _ c.from_residual-in_err-report.result c.from_residual-in_err-report.ensures.1
+
+pub returns-in_err-report-clause-idle : goal.returns-in_err-report-clause-idle
+returns-in_err-report-clause-idle g c =
+    no_on _ _ c.from_residual-in_err-report.result c.from_residual-in_err-report.ensures.1
+
+pub returns-in_err-report-clause-frames : goal.returns-in_err-report-clause-frames
+returns-in_err-report-clause-frames g c =
+    on_err c.from_residual-in_err-report.result (frames_join c.args.engine.now c.put_one.new.self c.report.new.self c.put_one.ensures.frames (frames_join c.put_one.new.self c.put_one-2.new.self c.report.new.self c.put_one-2.ensures.frames c.report.ensures.frames))
+
+pub returns-then-not-branch-clause-step : goal.returns-then-not-branch-clause-step
+returns-then-not-branch-clause-step g c stepped = absurd stepped
+
+pub returns-then-not-branch-clause-light : goal.returns-then-not-branch-clause-light
+returns-then-not-branch-clause-light g c free = absurd free
+
+pub returns-then-not-branch-clause-err : goal.returns-then-not-branch-clause-err
+returns-then-not-branch-clause-err g c = tt
+
+pub returns-then-not-branch-clause-frames : goal.returns-then-not-branch-clause-frames
+returns-then-not-branch-clause-frames g c = tt
+
+pub returns-then-not-branch-clause-halts : goal.returns-then-not-branch-clause-halts
+returns-then-not-branch-clause-halts g c halted =
+    frames_join c.args.engine.now c.put_one.new.self c.report.new.self c.put_one.ensures.frames (frames_join c.put_one.new.self c.put_one-2.new.self c.report.new.self c.put_one-2.ensures.frames c.report.ensures.frames)
+
+pub returns-then-not-branch-clause-idle : goal.returns-then-not-branch-clause-idle
+returns-then-not-branch-clause-idle g c =
+    ap (λ (x : Stored). x.making) c.report.ensures.input ∙ c.in_ok-put_one-2.ensures.idle
+
+pub returns-clause-step : goal.returns-clause-step
+returns-clause-step g c stepped = absurd stepped
+
+pub returns-clause-light : goal.returns-clause-light
+returns-clause-light g c free is =
+    brace_lighter c.args.engine.now c.report.new.self c.go_on_behind_brace.new.engine _ c.args.name c.args.seen (frames_join c.args.engine.now c.put_one.new.self c.report.new.self c.put_one.ensures.frames (frames_join c.put_one.new.self c.put_one-2.new.self c.report.new.self c.put_one-2.ensures.frames c.report.ensures.frames)) (ap (λ (x : Stored). pending_weight x.pending) c.report.ensures.input ∙ (c.put_one-2.ensures.light ∙ c.put_one.ensures.light)) c.go_on_behind_brace.ensures is
+
+pub returns-clause-err : goal.returns-clause-err
+returns-clause-err g c = tt
+
+pub returns-clause-frames : goal.returns-clause-frames
+returns-clause-frames g c = tt
+
+pub returns-clause-halts : goal.returns-clause-halts
+returns-clause-halts g c halted = absurd halted
+
+pub returns-clause-idle : goal.returns-clause-idle
+returns-clause-idle g c =
+    ap (λ (y : Engine). y.input.making) c.go_on_behind_brace.ensures ∙ (ap (λ (x : Stored). x.making) c.report.ensures.input ∙ c.in_ok-put_one-2.ensures.idle)
