@@ -146,19 +146,24 @@ fn reported(lists: &mut Lists, tokens: &[Seen]) -> Result<Option<(Report, bool)>
 #[test]
 fn reports_come_at_their_tokens(rt: HostRuntime) -> Result<(), Fail> {
     let mut lists = Lists::new(rt.alloc(), 2)?;
-    let number = reported(&mut lists, &[read(6, 35), read(12, 50)]);
-    let body = reported(&mut lists, &[read(2, 125)]);
-    let illegal = reported(&mut lists, &[read(1, 123), read(6, 35), read(12, 49)]);
-    let refused = reported(&mut lists, &[read(1, 123), read(11, 120)]);
-    assert!(rt; number == Ok(Some((Report::NotConsecutive, true))));
-    assert!(rt; body == Ok(Some((Report::MissingBrace, false))));
-    assert!(rt; illegal == Ok(Some((Report::IllegalNumber(Name::Single(97)), true))));
+    let told = [
+        reported(&mut lists, &[read(6, 35), read(12, 50)]),
+        reported(&mut lists, &[read(2, 125)]),
+        reported(&mut lists, &[read(1, 123), read(6, 35), read(12, 49)]),
+        reported(&mut lists, &[read(1, 123), read(11, 120)]),
+    ];
     let full = Full {
         table: Table::MainMemorySize,
         used: 2,
         size: 2,
     };
-    assert!(rt; refused == Err(full) && lists.used() == 0);
+    let wanted = [
+        Ok(Some((Report::NotConsecutive, true))),
+        Ok(Some((Report::MissingBrace, false))),
+        Ok(Some((Report::IllegalNumber(Name::Single(97)), true))),
+        Err(full),
+    ];
+    assert!(rt; told == wanted && lists.used() == 0);
     Ok(())
 }
 
@@ -361,22 +366,33 @@ fn stages_tell_what_is_due(rt: HostRuntime) -> Result<(), Fail> {
             ))
         )
     );
-    assert!(rt;
-        first.depth() == 0 && inside.depth() == 1 && behind.depth() == 2 && illegal.depth() == 2
-    );
-    assert!(rt;
-        first.due(manner) == Due::More(Want::Raw)
-            && Stage::First.due(raw) == Due::More(Want::Command)
-    );
-    assert!(rt;
-        inside.due(manner) == Due::More(Want::Copied) && inside.due(raw) == Due::More(Want::Raw)
-    );
-    assert!(rt;
-        behind.due(manner) == Due::More(Want::Expanded) && behind.due(raw) == Due::More(Want::Raw)
-    );
-    assert!(rt;
-        Stage::Tenth(9).due(manner) == Due::Tells(Report::AlreadyNine, false)
-            && illegal.due(raw) == Due::Tells(Report::IllegalNumber(Name::Single(97)), true)
-    );
+    let depths = [
+        first.depth(),
+        inside.depth(),
+        behind.depth(),
+        illegal.depth(),
+    ];
+    assert!(rt; depths == [0, 1, 2, 2]);
+    let dues = [
+        first.due(manner),
+        Stage::First.due(raw),
+        inside.due(manner),
+        inside.due(raw),
+        behind.due(manner),
+        behind.due(raw),
+        Stage::Tenth(9).due(manner),
+        illegal.due(raw),
+    ];
+    let wanted = [
+        Due::More(Want::Raw),
+        Due::More(Want::Command),
+        Due::More(Want::Copied),
+        Due::More(Want::Raw),
+        Due::More(Want::Expanded),
+        Due::More(Want::Raw),
+        Due::Tells(Report::AlreadyNine, false),
+        Due::Tells(Report::IllegalNumber(Name::Single(97)), true),
+    ];
+    assert!(rt; dues == wanted);
     Ok(())
 }

@@ -1,28 +1,34 @@
 use mem_words::Mem;
 use std::test::Fail;
 
-// Words are handed out until all are used, keep what is written, and come back.
-#[test]
-fn takes_and_gives(rt: HostRuntime) -> Result<(), Fail> {
-    let mut mem = Mem::new(rt.alloc(), 2)?;
-    assert!(rt; mem.size() == 2);
+// Whether two words are handed out and no third, keep what is written, and come back.
+fn takes_and_gives(mem: &mut Mem) -> bool {
     let (Some(first), Some(second)) = (mem.take(), mem.take()) else {
-        return Ok(assert!(rt; false, "a word is left"));
+        return false;
     };
-    assert!(rt; mem.take().is_none());
+    if mem.take().is_some() {
+        return false;
+    }
     mem.set_info(first, 7);
     mem.set_link(first, 9);
     mem.set_info(second, 8);
-    assert!(rt;
-        mem.info(first) == 7
-            && mem.link(first) == 9
-            && mem.info(second) == 8
-            && mem.link(second) == 0
-    );
+    let kept = [
+        mem.info(first),
+        mem.link(first),
+        mem.info(second),
+        mem.link(second),
+    ];
     mem.give(second);
-    assert!(rt; mem.used() == 1);
-    assert!(rt; mem.take().is_some());
+    let used = mem.used();
+    let again = mem.take();
     mem.recall_avail();
-    assert!(rt; mem.used() == 2);
+    kept == [7, 9, 8, 0] && used == 1 && again.is_some() && mem.used() == 2
+}
+
+// Words are handed out until all are used, keep what is written, and come back.
+#[test]
+fn words_come_back(rt: HostRuntime) -> Result<(), Fail> {
+    let mut mem = Mem::new(rt.alloc(), 2)?;
+    assert!(rt; mem.size() == 2 && takes_and_gives(&mut mem));
     Ok(())
 }
