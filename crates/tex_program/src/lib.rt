@@ -4,7 +4,5 @@
 mod program;
 mod run;
 mod tell;
-#[cfg(test)]
-mod tests;
 
 pub use program::top;

@@ -1,5 +1,5 @@
 // Macros, over files in memory: what real TeX writes of them, token lines aside.
-use crate::tests::{Row, job, job_with, rows_hold};
+use crate::tests::{INIT, Row, job_with, rows_hold};
 use std::alloc::{AllocError, Global};
 use std::test::Fail;
 
@@ -626,21 +626,32 @@ fn full_tables_end_calls_that_never_end(rt: HostRuntime) -> Result<(), Fail> {
     rows_hold(&rt, rt.alloc(), &ENDLESS)
 }
 
+/// Whether a job of these words writes a text so many times, and then the other.
+fn repeats(
+    alloc: Global,
+    words: &[&str],
+    job: &[u8],
+    text: &[u8],
+    count: usize,
+    last: &[u8],
+    status: u8,
+) -> Result<bool, AllocError> {
+    let written = repeated(alloc, text, count, last)?;
+    job_with(alloc, words, job, written.as_slice(), status)
+}
+
 #[test]
 fn steps_bound_a_call_that_never_ends(rt: HostRuntime) -> Result<(), Fail> {
-    let alloc = rt.alloc();
-    let written = repeated(
-        alloc,
-        b"{the letter x}\n",
-        482,
-        b"! Step limit reached [steps=1000].\n",
-    )?;
+    let words = ["texmac", "init", "--steps", "1000", "job"];
+    let last = b"! Step limit reached [steps=1000].\n";
     assert!(rt;
-        job_with(
-            alloc,
-            &["init", "--steps", "1000", "job"],
+        repeats(
+            rt.alloc(),
+            &words,
             b"\\def\\a{x\\a}\\a\n",
-            written.as_slice(),
+            b"{the letter x}\n",
+            482,
+            last,
             4
         )?
     );
@@ -649,26 +660,30 @@ fn steps_bound_a_call_that_never_ends(rt: HostRuntime) -> Result<(), Fail> {
 
 #[test]
 fn the_hundredth_report_ends_a_call_that_never_ends(rt: HostRuntime) -> Result<(), Fail> {
-    let alloc = rt.alloc();
-    let written = repeated(
-        alloc,
-        b"! Undefined control sequence.\nl.2\n",
-        100,
-        b"(That makes 100 errors; please try again.)\n",
-    )?;
-    assert!(rt; job(alloc, b"\\def\\a{\\foo\\a}\\a\n", written.as_slice(), 2)?);
-    Ok(())
-}
-
-#[test]
-fn a_file_ends_within_a_call(rt: HostRuntime) -> Result<(), Fail> {
+    let text = b"! Undefined control sequence.\nl.2\n";
+    let last = b"(That makes 100 errors; please try again.)\n";
     assert!(rt;
-        job(
+        repeats(
             rt.alloc(),
-            b"\\def\\a#1{}\n\\a{x\n",
-            b"{blank space  }\nRunaway argument?\n{x \n! File ended while scanning use of \\a.\nl.0\n! Emergency stop.\n*** (job aborted, no legal \\end found)\n",
+            INIT,
+            b"\\def\\a{\\foo\\a}\\a\n",
+            text,
+            100,
+            last,
             2
         )?
     );
     Ok(())
+}
+
+/// A file that ends within a call, a line behind its macro.
+const WITHIN_A_CALL: [Row; 1] = [(
+    b"\\def\\a#1{}\n\\a{x\n",
+    b"{blank space  }\nRunaway argument?\n{x \n! File ended while scanning use of \\a.\nl.0\n! Emergency stop.\n*** (job aborted, no legal \\end found)\n",
+    2,
+)];
+
+#[test]
+fn a_file_ends_within_a_call(rt: HostRuntime) -> Result<(), Fail> {
+    rows_hold(&rt, rt.alloc(), &WITHIN_A_CALL)
 }

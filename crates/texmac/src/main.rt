@@ -7,6 +7,8 @@
 #[cfg(test)]
 mod macro_tests;
 #[cfg(test)]
+mod size_tests;
+#[cfg(test)]
 mod tests;
 
 use std::env;

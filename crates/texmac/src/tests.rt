@@ -1,6 +1,4 @@
 // The program over files and a sink in memory.
-ghost use Rattle.std.specs.Prelude.{◌<◌};
-
 use crate::macro_tests::repeated;
 use std::alloc::{AllocError, Global};
 use std::process::Abort;
@@ -15,33 +13,75 @@ struct Expected<'a> {
     status: u8,
 }
 
-/// The program's words, its own name in front.
+/// The one file that is held, and what fails.
+#[derive(Drop)]
+struct Setting<'a> {
+    /// The file's name, and its bytes.
+    file: (&'a [u8], &'a [u8]),
+    /// The most bytes that a read gives; 0 sets no bound.
+    most: usize,
+    /// The calls of the files and of the sink that fail; the one of 0 is none.
+    failing: (u64, u64),
+}
+
+impl Setting<'_> {
+    /// A file of this name and text, and nothing fails.
+    fn of<'a>(name: &'a [u8], text: &'a [u8]) -> Setting<'a> {
+        Setting {
+            file: (name, text),
+            most: 0,
+            failing: (0, 0),
+        }
+    }
+}
+
+/// The words that run job.tex.
+pub const INIT: &[&str] = &["texmac", "init", "job"];
+
+/// The words, each by itself.
 fn words_of(alloc: Global, words: &[&str]) -> Result<Vec<String>, AllocError> {
     let mut all = Vec::new(alloc);
-    all.push(String::from_str(alloc, "texmac")?)?;
     for word in words {
         all.push(String::from_str(alloc, word)?)?;
     }
     Ok(all)
 }
 
-/// Whether the program does so over these files and this sink.
-fn does(
+/// Sets up the files and the sink.
+fn set_up(setting: &Setting, files: &mut MemFiles, out: &mut MemSink) -> Result<(), AllocError> {
+    files.add(setting.file.0, setting.file.1)?;
+    if setting.most > 0 {
+        files.limit_reads(setting.most);
+    }
+    files.fail_at(setting.failing.0)?;
+    out.fail_at(setting.failing.1)
+}
+
+/// Whether the program does so over these files and this sink, once they are set up.
+fn does_over(
     alloc: Global,
     words: &[&str],
+    setting: &Setting,
+    expected: &Expected,
     files: &mut MemFiles,
-    mut out: MemSink,
-    expected: Expected,
+    out: &mut MemSink,
 ) -> Result<bool, AllocError> {
+    set_up(setting, files, out)?;
     let words = words_of(alloc, words)?;
-    let status = top(alloc, words.as_slice(), files, &mut out);
+    let status = top(alloc, words.as_slice(), files, out);
     Ok(status == expected.status && out.bytes() == expected.text)
 }
 
-/// Whether `init job` does so, where job.tex has this text behind a line that gives `{`, `}`, `#` and `^` their usual
-/// categories.
-pub fn job(alloc: Global, text: &[u8], written: &[u8], status: u8) -> Result<bool, AllocError> {
-    job_with(alloc, &["init", "job"], text, written, status)
+/// Whether the program does so, by these words in this setting.
+fn does(
+    alloc: Global,
+    words: &[&str],
+    setting: &Setting,
+    expected: &Expected,
+) -> Result<bool, AllocError> {
+    let mut files = MemFiles::new(alloc);
+    let mut out = MemSink::new(alloc);
+    does_over(alloc, words, setting, expected, &mut files, &mut out)
 }
 
 /// A file behind the line with the usual categories, what it writes, and its status.
@@ -55,6 +95,12 @@ pub fn rows_hold(rt: &impl Abort, alloc: Global, rows: &[Row]) -> Result<(), Fai
     Ok(())
 }
 
+/// Whether `init job` does so, where job.tex has this text behind a line that gives `{`, `}`, `#` and `^` their usual
+/// categories.
+pub fn job(alloc: Global, text: &[u8], written: &[u8], status: u8) -> Result<bool, AllocError> {
+    job_with(alloc, INIT, text, written, status)
+}
+
 /// As `job`, for other words than `init job`.
 pub fn job_with(
     alloc: Global,
@@ -63,61 +109,24 @@ pub fn job_with(
     written: &[u8],
     status: u8,
 ) -> Result<bool, AllocError> {
-    let mut whole = Vec::from_slice(
-        alloc,
-        b"\\catcode`\\{=1 \\catcode`\\}=2 \\catcode`\\#=6 \\catcode`\\^=7\n",
-    )?;
-    whole.extend_from_slice(text)?;
-    let mut files = MemFiles::new(alloc);
-    files.add(b"job.tex", whole.as_slice())?;
+    let usual = b"\\catcode`\\{=1 \\catcode`\\}=2 \\catcode`\\#=6 \\catcode`\\^=7\n";
+    let whole = repeated(alloc, usual, 1, text)?;
+    let setting = Setting::of(b"job.tex", whole.as_slice());
     let expected = Expected {
         text: written,
         status,
     };
-    does(alloc, words, &mut files, MemSink::new(alloc), expected)
+    does(alloc, words, &setting, &expected)
 }
 
 /// Whether `init job` does so, where job.tex has this text alone.
 fn bare_job(alloc: Global, text: &[u8], written: &[u8], status: u8) -> Result<bool, AllocError> {
-    let mut files = MemFiles::new(alloc);
-    files.add(b"job.tex", text)?;
+    let setting = Setting::of(b"job.tex", text);
     let expected = Expected {
         text: written,
         status,
     };
-    does(
-        alloc,
-        &["init", "job"],
-        &mut files,
-        MemSink::new(alloc),
-        expected,
-    )
-}
-
-/// Whether these words give the usage line.
-fn usage(alloc: Global, words: &[&str]) -> Result<bool, AllocError> {
-    let mut files = MemFiles::new(alloc);
-    files.add(b"-a.tex", b"\\end\n")?;
-    let text = b"usage: texmac init FILE, run --fmt NAME FILE, drill SEED SIZE\n".as_slice();
-    let expected = Expected { text, status: 9 };
-    does(alloc, words, &mut files, MemSink::new(alloc), expected)
-}
-
-/// Whether this word finds a file of this name.
-fn finds(alloc: Global, word: &str, name: &[u8]) -> Result<bool, AllocError> {
-    let mut files = MemFiles::new(alloc);
-    files.add(name, b"\\end\n")?;
-    let expected = Expected {
-        text: b"",
-        status: 0,
-    };
-    does(
-        alloc,
-        &["init", word],
-        &mut files,
-        MemSink::new(alloc),
-        expected,
-    )
+    does(alloc, INIT, &setting, &expected)
 }
 
 #[test]
@@ -126,11 +135,7 @@ fn a_message_is_written(rt: HostRuntime) -> Result<(), Fail> {
     Ok(())
 }
 
-/// The file that writes `hi`.
-const HI: &[u8] =
-    b"\\catcode`\\{=1 \\catcode`\\}=2 \\catcode`\\#=6 \\catcode`\\^=7\n\\message{hi}\\end\n";
-
-/// Whether `init job` does so over this file, where each read gives so many bytes at most, and these calls of the files and of
+/// Whether `init job` does so over this text, where each read gives so many bytes at most, and these calls of the files and of
 /// the sink fail: the one of 0 is none.
 fn over(
     alloc: Global,
@@ -138,17 +143,18 @@ fn over(
     most: usize,
     failing: (u64, u64),
     expected: Expected,
-) -> Result<bool, AllocError>
-    requires { 0 < most }
-{
-    let mut files = MemFiles::new(alloc);
-    let mut out = MemSink::new(alloc);
-    files.add(b"job.tex", text)?;
-    files.limit_reads(most);
-    files.fail_at(failing.0)?;
-    out.fail_at(failing.1)?;
-    does(alloc, &["init", "job"], &mut files, out, expected)
+) -> Result<bool, AllocError> {
+    let setting = Setting {
+        file: (b"job.tex", text),
+        most,
+        failing,
+    };
+    does(alloc, INIT, &setting, &expected)
 }
+
+/// The text that writes `hi`.
+const HI: &[u8] =
+    b"\\catcode`\\{=1 \\catcode`\\}=2 \\catcode`\\#=6 \\catcode`\\^=7\n\\message{hi}\\end\n";
 
 #[test]
 fn a_failed_call_is_told(rt: HostRuntime) -> Result<(), Fail> {
@@ -176,19 +182,26 @@ fn a_file_is_read_as_it_is_needed(rt: HostRuntime) -> Result<(), Fail> {
     Ok(())
 }
 
-/// Words behind the program's name that are no command.
+/// Words that are no command.
 const NO_COMMANDS: [&[&str]; 10] = [
-    &[],
-    &["--help"],
-    &["init", "-a"],
-    &["init", "a", "b"],
-    &["init", "--steps", "x", "a"],
-    &["init", "--steps=-1", "a"],
-    &["init", "--steps=1000000000000001", "a"],
-    &["init", "--mem", "99", "a"],
-    &["init", "--mem=16777217", "a"],
-    &["run", "--fmt", "a", "b"],
+    &["texmac"],
+    &["texmac", "--help"],
+    &["texmac", "init", "-a"],
+    &["texmac", "init", "a", "b"],
+    &["texmac", "init", "--steps", "x", "a"],
+    &["texmac", "init", "--steps=-1", "a"],
+    &["texmac", "init", "--steps=1000000000000001", "a"],
+    &["texmac", "init", "--mem", "99", "a"],
+    &["texmac", "init", "--mem=16777217", "a"],
+    &["texmac", "run", "--fmt", "a", "b"],
 ];
+
+/// Whether these words give the usage line.
+fn usage(alloc: Global, words: &[&str]) -> Result<bool, AllocError> {
+    let setting = Setting::of(b"-a.tex", b"\\end\n");
+    let text = b"usage: texmac init FILE, run --fmt NAME FILE, drill SEED SIZE\n".as_slice();
+    does(alloc, words, &setting, &Expected { text, status: 9 })
+}
 
 #[test]
 fn words_that_are_no_command_give_the_usage(rt: HostRuntime) -> Result<(), Fail> {
@@ -199,6 +212,16 @@ fn words_that_are_no_command_give_the_usage(rt: HostRuntime) -> Result<(), Fail>
     Ok(())
 }
 
+/// Whether this word finds a file of this name.
+fn finds(alloc: Global, word: &str, name: &[u8]) -> Result<bool, AllocError> {
+    let setting = Setting::of(name, b"\\end\n");
+    let expected = Expected {
+        text: b"",
+        status: 0,
+    };
+    does(alloc, &["texmac", "init", word], &setting, &expected)
+}
+
 #[test]
 fn a_file_has_its_extension_behind_the_area(rt: HostRuntime) -> Result<(), Fail> {
     let alloc = rt.alloc();
@@ -207,71 +230,63 @@ fn a_file_has_its_extension_behind_the_area(rt: HostRuntime) -> Result<(), Fail>
     Ok(())
 }
 
-#[test]
-fn a_missing_file_is_fatal(rt: HostRuntime) -> Result<(), Fail> {
-    let alloc = rt.alloc();
-    let mut files = MemFiles::new(alloc);
-    let expected = Expected {
-        text: b"! I can't find file `job.tex'.\nl.0\n! Emergency stop.\n*** (job aborted, file error in nonstop mode)\n",
-        status: 2,
-    };
-    assert!(rt;
-        does(
-            alloc,
-            &["init", "job"],
-            &mut files,
-            MemSink::new(alloc),
-            expected
-        )?
-    );
-    Ok(())
+/// Whether `init job` ends so where another file alone is held.
+fn misses(alloc: Global, text: &[u8], status: u8) -> Result<bool, AllocError> {
+    let setting = Setting::of(b"job", b"\\end\n");
+    does(alloc, INIT, &setting, &Expected { text, status })
 }
 
 #[test]
-fn a_run_without_end_is_fatal(rt: HostRuntime) -> Result<(), Fail> {
-    let alloc = rt.alloc();
-    assert!(rt;
-        bare_job(
-            alloc,
-            b"",
-            b"{\\par}\n! Emergency stop.\n*** (job aborted, no legal \\end found)\n",
-            2
-        )?
-    );
-    assert!(rt;
-        job(
-            alloc,
-            b"\\message{abcdefghijklmnopqrstuvwxyzabcdefghijklmnopqrstuvwxyz0123456789xyz",
-            b"Runaway text?\nabcdefghijklmnopqrstuvwxyzabcdefghijklmnopqrstuvwxyz0123456789\\ETC.\n! File ended while scanning text of \\message.\nl.0\nabcdefghijklmnopqrstuvwxyzabcdefghijklmnopqrstuvwxyz0123456789xyz \n! Emergency stop.\n*** (job aborted, no legal \\end found)\n",
-            2
-        )?
-    );
+fn a_missing_file_is_fatal(rt: HostRuntime) -> Result<(), Fail> {
+    let text =
+        b"! I can't find file `job.tex'.\nl.0\n! Emergency stop.\n*** (job aborted, file error in nonstop mode)\n";
+    assert!(rt; misses(rt.alloc(), text, 2)?);
     Ok(())
 }
+
+/// A text that runs away.
+const WITHOUT_END: [Row; 1] = [(
+    b"\\message{abcdefghijklmnopqrstuvwxyzabcdefghijklmnopqrstuvwxyz0123456789xyz",
+    b"Runaway text?\nabcdefghijklmnopqrstuvwxyzabcdefghijklmnopqrstuvwxyz0123456789\\ETC.\n! File ended while scanning text of \\message.\nl.0\nabcdefghijklmnopqrstuvwxyzabcdefghijklmnopqrstuvwxyz0123456789xyz \n! Emergency stop.\n*** (job aborted, no legal \\end found)\n",
+    2,
+)];
+
+#[test]
+fn a_run_without_end_is_fatal(rt: HostRuntime) -> Result<(), Fail> {
+    let written = b"{\\par}\n! Emergency stop.\n*** (job aborted, no legal \\end found)\n";
+    assert!(rt; bare_job(rt.alloc(), b"", written, 2)?);
+    rows_hold(&rt, rt.alloc(), &WITHOUT_END)
+}
+
+/// A message and a letter.
+const LETTER: &[u8] = b"\\message{hi}x\\end\n";
+
+/// Lines that end in a carriage return and a line feed.
+const CARRIAGE_RETURNS: &[u8] =
+    b"\\catcode`\\{=1 \\catcode`\\}=2 \\catcode`\\#=6 \\catcode`\\^=7\r\n\\message{x}\r\n\\end\r\n";
+
+/// A character of each category that has a line.
+const TYPESET: [Row; 1] = [(
+    b"{}#^1\\catcode`$=3 \\catcode`&=4 \\catcode`_=8 $&_\\par\\end\n",
+    b"{begin-group character {}\n{end-group character }}\n{macro parameter character #}\n{superscript character ^}\n{the character 1}\n{math shift character $}\n{alignment tab character &}\n{subscript character _}\n{\\par}\n",
+    0,
+)];
 
 #[test]
 fn tokens_of_typesetting_have_lines(rt: HostRuntime) -> Result<(), Fail> {
     let alloc = rt.alloc();
-    let text = b"\\message{hi}x\\end\n".as_slice();
-    assert!(rt; job(alloc, text, b"hi\n{the letter x}\n", 0)?);
-    assert!(rt; job_with(alloc, &["init", "--quiet", "job"], text, b"hi\n", 0)?);
+    assert!(rt; job(alloc, LETTER, b"hi\n{the letter x}\n", 0)?);
     assert!(rt;
-        bare_job(
+        job_with(
             alloc,
-            b"\\catcode`\\{=1 \\catcode`\\}=2 \\catcode`\\#=6 \\catcode`\\^=7\r\n\\message{x}\r\n\\end\r\n",
-            b"x\n{blank space  }\n",
+            &["texmac", "init", "--quiet", "job"],
+            LETTER,
+            b"hi\n",
             0
         )?
     );
-    assert!(rt;
-        job(
-            alloc,
-            b"{}#^1\\catcode`$=3 \\catcode`&=4 \\catcode`_=8 $&_\\par\\end\n",
-            b"{begin-group character {}\n{end-group character }}\n{macro parameter character #}\n{superscript character ^}\n{the character 1}\n{math shift character $}\n{alignment tab character &}\n{subscript character _}\n{\\par}\n",
-            0
-        )?
-    );
-    Ok(())
+    assert!(rt; bare_job(alloc, CARRIAGE_RETURNS, b"x\n{blank space  }\n", 0)?);
+    rows_hold(&rt, alloc, &TYPESET)
 }
 
 /// Texts that are reported.
@@ -300,50 +315,44 @@ const REPORTS: [Row; 4] = [
 
 #[test]
 fn reports_are_written(rt: HostRuntime) -> Result<(), Fail> {
-    let alloc = rt.alloc();
-    assert!(rt;
-        bare_job(
-            alloc,
-            b"\\foo\\end\n",
-            b"! Undefined control sequence.\nl.1\n",
-            1
-        )?
-    );
+    let written = b"! Undefined control sequence.\nl.1\n";
+    assert!(rt; bare_job(rt.alloc(), b"\\foo\\end\n", written, 1)?);
     rows_hold(&rt, rt.alloc(), &REPORTS)
+}
+
+/// Whether 99 reports end no run.
+fn goes_on(alloc: Global) -> Result<bool, AllocError> {
+    let text = repeated(alloc, b"\\foo", 99, b"\\end\n")?;
+    let written = repeated(alloc, b"! Undefined control sequence.\nl.1\n", 99, b"")?;
+    bare_job(alloc, text.as_slice(), written.as_slice(), 1)
 }
 
 #[test]
 fn ninety_nine_reports_end_no_run(rt: HostRuntime) -> Result<(), Fail> {
-    let alloc = rt.alloc();
-    let text = repeated(alloc, b"\\foo", 99, b"\\end\n")?;
-    let written = repeated(alloc, b"! Undefined control sequence.\nl.1\n", 99, b"")?;
-    assert!(rt; bare_job(alloc, text.as_slice(), written.as_slice(), 1)?);
+    assert!(rt; goes_on(rt.alloc())?);
     Ok(())
 }
 
+/// Words with a bound, what a run that ends at step 36 writes under it, and its status.
+const BOUNDS: [(&[&str], &[u8], u8); 3] = [
+    (
+        &["texmac", "init", "--steps", "34", "job"],
+        b"! Step limit reached [steps=34].\n",
+        4,
+    ),
+    (
+        &["texmac", "init", "job", "--steps=35"],
+        b"hi\n! Step limit reached [steps=35].\n",
+        4,
+    ),
+    (&["texmac", "init", "--steps", "36", "job"], b"hi\n", 0),
+];
+
 #[test]
 fn a_run_stops_at_its_bound(rt: HostRuntime) -> Result<(), Fail> {
-    let alloc = rt.alloc();
-    let text = b"\\message{hi}\\end\n".as_slice();
-    assert!(rt;
-        job_with(
-            alloc,
-            &["init", "--steps", "34", "job"],
-            text,
-            b"! Step limit reached [steps=34].\n",
-            4
-        )?
-    );
-    assert!(rt;
-        job_with(
-            alloc,
-            &["init", "job", "--steps=35"],
-            text,
-            b"hi\n! Step limit reached [steps=35].\n",
-            4
-        )?
-    );
-    assert!(rt; job_with(alloc, &["init", "--steps", "36", "job"], text, b"hi\n", 0)?);
+    for row in &BOUNDS {
+        assert!(rt; job_with(rt.alloc(), row.0, b"\\message{hi}\\end\n", row.1, row.2)?);
+    }
     Ok(())
 }
 
@@ -501,28 +510,29 @@ const LETTERS: [Row; 3] = [
 
 #[test]
 fn a_full_main_memory_ends_the_run(rt: HostRuntime) -> Result<(), Fail> {
-    let words = ["init", "--mem", "100", "job"];
+    let words = ["texmac", "init", "--mem", "100", "job"];
     for row in &LETTERS {
         assert!(rt; job_with(rt.alloc(), &words, row.0, row.1, row.2)?);
     }
     Ok(())
 }
 
+/// Whether a line of so many bytes does so.
+fn line(alloc: Global, count: usize, written: &[u8], status: u8) -> Result<bool, AllocError> {
+    let words = ["texmac", "init", "--quiet", "job"];
+    let text = repeated(alloc, b"x", count, b"\n\\end\n")?;
+    job_with(alloc, &words, text.as_slice(), written, status)
+}
+
 #[test]
 fn a_line_of_the_buffer_size_fits(rt: HostRuntime) -> Result<(), Fail> {
-    let alloc = rt.alloc();
-    let words = ["init", "--quiet", "job"];
-    let text = repeated(alloc, b"x", 499, b"\n\\end\n")?;
-    assert!(rt; job_with(alloc, &words, text.as_slice(), b"", 0)?);
+    assert!(rt; line(rt.alloc(), 499, b"", 0)?);
     Ok(())
 }
 
 #[test]
 fn a_line_too_long_ends_the_run(rt: HostRuntime) -> Result<(), Fail> {
-    let alloc = rt.alloc();
-    let words = ["init", "--quiet", "job"];
-    let text = repeated(alloc, b"x", 500, b"\n\\end\n")?;
     let full = b"! TeX capacity exceeded, sorry [buffer size=500].\n";
-    assert!(rt; job_with(alloc, &words, text.as_slice(), full, 3)?);
+    assert!(rt; line(rt.alloc(), 500, full, 3)?);
     Ok(())
 }

@@ -1,0 +1,262 @@
+// Runs within tables of given sizes.
+ghost use Rattle.std.specs.Prelude.{◌≡◌, None, false};
+
+use crate::macro_tests::repeated;
+use engine_state::{Broken, Engine, Outcome};
+use line_reader::Reader;
+use std::alloc::{AllocError, Global};
+use std::test::Fail;
+use stomach::{Early, Ended, run_steps};
+use tex_defs::{Full, Sizes, Table};
+use world_io::{Fault, Files, MemFiles, MemSink};
+
+/// The least size of each table.
+const LEAST: Sizes = Sizes {
+    pool_size: 4000,
+    number_of_strings: 200,
+    hash_size: 1777,
+    main_memory_size: 100,
+    save_size: 2,
+    input_stack_size: 4,
+    parameter_stack_size: 9,
+    text_input_levels: 1,
+    buffer_size: 80,
+    grouping_levels: 1,
+    condition_stack_size: 1,
+    expansion_depth: 8,
+    delayed_writes: 1,
+};
+
+/// Runs the file of this name.
+fn run(
+    engine: &mut Engine,
+    name: &[u8],
+    files: &mut MemFiles,
+    out: &mut MemSink,
+) -> Result<Ended, Early>
+    requires idle { engine.old.input.making ≡ None }
+    requires running { engine.old.stopped ≡ false }
+{
+    let Some(id) = files.open_in(name)? else {
+        return Err(Early::Unread(Fault::Failed));
+    };
+    engine.keep_name(name)?;
+    run_steps(engine, &mut Reader::new(id), files, out, 1000000)
+}
+
+/// Whether the run came to where this table is full, or else to its end without a report.
+fn came(engine: &Engine, ended: Result<Ended, Early>, full: Option<Full>) -> bool {
+    match ended {
+        Ok(Ended::Halted(Outcome::Finished)) => full.is_none() && engine.reports() == 0,
+        Err(Early::Broken(Broken::Full(found))) => full == Some(found) && engine.stopped(),
+        _ => false,
+    }
+}
+
+/// A job's name, and its text.
+type Job<'a> = (&'a [u8], &'a [u8]);
+
+/// As `words_at`, over these files and this sink.
+fn words_over(
+    alloc: Global,
+    sizes: &Sizes,
+    job: Job,
+    expected: (&[u8], Option<Full>),
+    files: &mut MemFiles,
+    out: &mut MemSink,
+) -> Result<Option<u32>, AllocError> {
+    if sizes.check().is_err() {
+        return Ok(None);
+    }
+    files.add(job.0, job.1)?;
+    let mut engine = Engine::new(alloc, sizes, true)?;
+    let ended = run(&mut engine, job.0, files, out);
+    let came = came(&engine, ended, expected.1) && out.bytes() == expected.0;
+    let words = engine.words();
+    engine.close();
+    Ok(came.then_some(words))
+}
+
+/// The words of main memory that are used where the job's run within these sizes, without token lines, has ended, if it has
+/// written so and came to where this table is full, or else to its end without a report.
+fn words_at(
+    alloc: Global,
+    sizes: &Sizes,
+    job: Job,
+    written: &[u8],
+    full: Option<Full>,
+) -> Result<Option<u32>, AllocError> {
+    let mut files = MemFiles::new(alloc);
+    let mut out = MemSink::new(alloc);
+    words_over(alloc, sizes, job, (written, full), &mut files, &mut out)
+}
+
+/// A message; a line of 79 bytes; a text of 99 tokens: each with what it writes.
+const FITTING: [(&[u8], &[u8]); 3] = [
+    (
+        b"\\catcode`\\{=1 \\catcode`\\}=2\n\\message{hi}\\end\n",
+        b"hi\n",
+    ),
+    (
+        b"xxxxxxxxxxxxxxxxxxxxxxxxxxxxxxxxxxxxxxxxxxxxxxxxxxxxxxxxxxxxxxxxxxxxxxxxxxxxxxx\n\\end\n",
+        b"",
+    ),
+    (
+        b"\\catcode`\\{=1 \\catcode`\\}=2\n\\message{aaaaaaaaaaaaaaaaaaaaaaaaaaaaaaaaaaaaaaaaaaaaaaaaa\naaaaaaaaaaaaaaaaaaaaaaaaaaaaaaaaaaaaaaaaaaaaaaaaa}\\end\n",
+        b"aaaaaaaaaaaaaaaaaaaaaaaaaaaaaaaaaaaaaaaaaaaaaaaaa aaaaaaaaaaaaaaaaaaaaaaaaaaaaaaaaaaaaaaaaaaaaaaaaa\n",
+    ),
+];
+
+#[test]
+fn the_least_sizes_hold_what_fits(rt: HostRuntime) -> Result<(), Fail> {
+    for row in &FITTING {
+        assert!(rt; words_at(rt.alloc(), &LEAST, (b"job", row.0), row.1, None)?.is_some());
+    }
+    Ok(())
+}
+
+/// A text of one token more; a name behind thirteen that fill 200 strings with the job's and those of the 186 primitives: each
+/// with what it writes, and the table that is full.
+const FULL: [(&[u8], &[u8], Full); 2] = [
+    (
+        b"\\catcode`\\{=1 \\catcode`\\}=2\n\\message{aaaaaaaaaaaaaaaaaaaaaaaaaaaaaaaaaaaaaaaaaaaaaaaaa\naaaaaaaaaaaaaaaaaaaaaaaaaaaaaaaaaaaaaaaaaaaaaaaaaa}\\end\n",
+        b"",
+        Full {
+            table: Table::MainMemorySize,
+            used: 100,
+            size: 100,
+        },
+    ),
+    (
+        b"\\catcode`\\xa 5\n\\catcode`\\xb 5\n\\catcode`\\xc 5\n\\catcode`\\xd 5\n\\catcode`\\xe 5\n\\catcode`\\xf 5\n\\catcode`\\xg 5\n\\catcode`\\xh 5\n\\catcode`\\xi 5\n\\catcode`\\xj 5\n\\catcode`\\xk 5\n\\catcode`\\xl 5\n\\catcode`\\xm 5\n\\catcode`\\xn 5 \\end\n",
+        b"! Improper alphabetic constant.\nl.1\n! Undefined control sequence.\nl.1\n\
+          ! Improper alphabetic constant.\nl.2\n! Undefined control sequence.\nl.2\n\
+          ! Improper alphabetic constant.\nl.3\n! Undefined control sequence.\nl.3\n\
+          ! Improper alphabetic constant.\nl.4\n! Undefined control sequence.\nl.4\n\
+          ! Improper alphabetic constant.\nl.5\n! Undefined control sequence.\nl.5\n\
+          ! Improper alphabetic constant.\nl.6\n! Undefined control sequence.\nl.6\n\
+          ! Improper alphabetic constant.\nl.7\n! Undefined control sequence.\nl.7\n\
+          ! Improper alphabetic constant.\nl.8\n! Undefined control sequence.\nl.8\n\
+          ! Improper alphabetic constant.\nl.9\n! Undefined control sequence.\nl.9\n\
+          ! Improper alphabetic constant.\nl.10\n! Undefined control sequence.\nl.10\n\
+          ! Improper alphabetic constant.\nl.11\n! Undefined control sequence.\nl.11\n\
+          ! Improper alphabetic constant.\nl.12\n! Undefined control sequence.\nl.12\n\
+          ! Improper alphabetic constant.\nl.13\n! Undefined control sequence.\nl.13\n",
+        Full {
+            table: Table::NumberOfStrings,
+            used: 200,
+            size: 200,
+        },
+    ),
+];
+
+/// A line of 80 bytes.
+const LONG_LINE: &[u8] =
+    b"xxxxxxxxxxxxxxxxxxxxxxxxxxxxxxxxxxxxxxxxxxxxxxxxxxxxxxxxxxxxxxxxxxxxxxxxxxxxxxxx\n\\end\n";
+
+#[test]
+fn one_more_is_refused(rt: HostRuntime) -> Result<(), Fail> {
+    let alloc = rt.alloc();
+    for row in &FULL {
+        assert!(rt; words_at(alloc, &LEAST, (b"job", row.0), row.1, Some(row.2))?.is_some());
+    }
+    // no list is held where the line is refused
+    let full = Full {
+        table: Table::BufferSize,
+        used: 0,
+        size: 80,
+    };
+    assert!(rt; words_at(alloc, &LEAST, (b"job", LONG_LINE), b"", Some(full))? == Some(0));
+    Ok(())
+}
+
+/// Whether a job's name of so many bytes finds the pool so.
+fn is_named(alloc: Global, count: usize, full: Option<Full>) -> Result<bool, AllocError> {
+    let name = repeated(alloc, b"a", count, b"")?;
+    Ok(words_at(alloc, &LEAST, (name.as_slice(), b"\\end\n"), b"", full)?.is_some())
+}
+
+#[test]
+fn a_job_name_too_long_for_the_pool_is_refused(rt: HostRuntime) -> Result<(), Fail> {
+    // the names of the primitives have 1689 bytes
+    let full = Full {
+        table: Table::PoolSize,
+        used: 1689,
+        size: 4000,
+    };
+    assert!(rt; is_named(rt.alloc(), 2311, None)?);
+    assert!(rt; is_named(rt.alloc(), 2312, Some(full))?);
+    Ok(())
+}
+
+/// The words that are used where the run of this text, within these sizes, comes to where this table is full.
+fn words_where_full(
+    alloc: Global,
+    sizes: &Sizes,
+    text: &[u8],
+    table: Table,
+    size: u32,
+) -> Result<Option<u32>, AllocError> {
+    let full = Full {
+        table,
+        used: size,
+        size,
+    };
+    words_at(alloc, sizes, (b"job", text), b"", Some(full))
+}
+
+/// A list that doubles without end.
+const DOUBLED: &[u8] =
+    b"\\catcode`\\{=1 \\catcode`\\}=2 \\def\\b{xxxxxxxxxx}\\def\\a{\\edef\\b{\\b\\b}\\a}\\a";
+
+#[test]
+fn a_full_memory_is_full_of_what_is_held(rt: HostRuntime) -> Result<(), Fail> {
+    let alloc = rt.alloc();
+    let words = words_where_full(
+        alloc,
+        &Sizes::DEFAULT,
+        DOUBLED,
+        Table::MainMemorySize,
+        30000,
+    )?;
+    assert!(rt; words == Some(30000));
+    let words = words_where_full(alloc, &LEAST, DOUBLED, Table::MainMemorySize, 100)?;
+    assert!(rt; words == Some(100));
+    Ok(())
+}
+
+/// Nine arguments at most.
+const NINE_ARGUMENTS: Sizes = Sizes {
+    parameter_stack_size: 9,
+    ..Sizes::DEFAULT
+};
+
+/// Calls without end, with the table that they fill and its size.
+const CALLS: [(Sizes, &[u8], Table, u32); 3] = [
+    (
+        LEAST,
+        b"\\catcode`\\{=1 \\catcode`\\}=2 \\def\\a{\\a x}\\a",
+        Table::InputStackSize,
+        4,
+    ),
+    (
+        LEAST,
+        b"\\catcode`\\{=1 \\catcode`\\}=2 \\def\\a{\\number\\a}\\a",
+        Table::ExpansionDepth,
+        8,
+    ),
+    (
+        NINE_ARGUMENTS,
+        b"\\catcode`\\{=1 \\catcode`\\}=2 \\catcode`\\#=6 \\def\\a#1{\\a{#1}x}\\a y",
+        Table::ParameterStackSize,
+        9,
+    ),
+];
+
+#[test]
+fn levels_and_arguments_are_refused_at_their_least_sizes(rt: HostRuntime) -> Result<(), Fail> {
+    for row in &CALLS {
+        assert!(rt; words_where_full(rt.alloc(), &row.0, row.1, row.2, row.3)?.is_some());
+    }
+    Ok(())
+}
