@@ -114,14 +114,19 @@ fn are_roman(rows: &[(i32, &[u8])]) -> bool {
     true
 }
 
+// Whether the numbers in all forms have their texts.
+fn have_their_texts() -> bool {
+    let count = count_text(18446744073709551615);
+    are_scaled(&SCALED_NUMBERS)
+        && are_whole(&WHOLE_NUMBERS)
+        && count.bytes() == b"18446744073709551615".as_slice()
+        && are_hexadecimal(&HEXADECIMAL_NUMBERS)
+        && are_roman(&ROMAN_NUMERALS)
+}
+
 #[test]
 fn numbers_have_their_texts(rt: HostRuntime) {
-    let count = count_text(18446744073709551615);
-    assert!(rt; are_scaled(&SCALED_NUMBERS));
-    assert!(rt; are_whole(&WHOLE_NUMBERS));
-    assert!(rt; count.bytes() == b"18446744073709551615".as_slice());
-    assert!(rt; are_hexadecimal(&HEXADECIMAL_NUMBERS));
-    assert!(rt; are_roman(&ROMAN_NUMERALS));
+    assert!(rt; have_their_texts());
 }
 
 #[test]

@@ -1,9 +1,10 @@
-ghost use Rattle.std.specs.Prelude.{◌≡◌, None};
+ghost use Rattle.std.specs.Prelude.{◌≡◌, ◌<◌, None};
+ghost use Rattle.std.specs.Borrow.{MutBor};
 ghost use Rattle.cs_hash.specs.Names.{Knows};
 
 use cs_hash::{CsHash, NameNo};
 use prim_table::COUNT;
-use std::test::Fail;
+use std::alloc::Global;
 use string_pool::StringPool;
 use tex_defs::{Full, Table};
 
@@ -56,28 +57,54 @@ fn is_filled(hash: &mut CsHash, pool: &mut StringPool) -> bool
         && pool.used() == 5331
 }
 
-#[test]
-fn fills_to_its_size(rt: HostRuntime) -> Result<(), Fail> {
-    let mut pool = StringPool::new(rt.alloc(), 32000, 3000)?;
-    let mut hash = CsHash::new(rt.alloc(), 1777)?;
-    assert!(rt; is_filled(&mut hash, &mut pool));
-    Ok(())
+/// Whether a check holds of a hash with room for so many names, and of a pool of these sizes.
+fn holds<F: FnOnce(&mut CsHash, &mut StringPool) -> bool>(
+    alloc: Global,
+    bytes: u32,
+    strings: u32,
+    names: u32,
+    check: F,
+) -> bool
+    requires positive { 0 < names }
+    requires small { names < 65536 }
+    requires callable { (hash : MutBor _) (pool : MutBor _) → Knows hash.now pool.now.kept → pool.now.opened ≡ None → F.pre check hash pool }
+{
+    let Ok(mut pool) = StringPool::new(alloc, bytes, strings) else {
+        return false;
+    };
+    let Ok(mut hash) = CsHash::new(alloc, names) else {
+        return false;
+    };
+    check(&mut hash, &mut pool)
 }
 
 #[test]
-fn refuses_in_order(rt: HostRuntime) -> Result<(), Fail> {
-    let mut pool = StringPool::new(rt.alloc(), 5, 1)?;
-    let mut hash = CsHash::new(rt.alloc(), 1)?;
-    let wanted: [(&[u8], Result<NameNo, Full>); 4] = [
+fn fills_to_its_size(rt: HostRuntime) {
+    assert!(rt; holds(rt.alloc(), 32000, 3000, 1777, is_filled));
+}
+
+/// Whether names are entered and refused in turn.
+fn are_refused(hash: &mut CsHash, pool: &mut StringPool) -> bool
+    requires knows { Knows hash.old pool.old.kept }
+    requires closed { pool.old.opened ≡ None }
+{
+    let rows: [(&[u8], Result<NameNo, Full>); 4] = [
         (b"abc", Ok(1)),
         (b"xyz", Err(full(Table::PoolSize, 3, 5))),
         (b"xy", Err(full(Table::NumberOfStrings, 1, 1))),
         (b"abc", Ok(1)),
     ];
-    for (name, answer) in wanted {
-        assert!(rt; hash.enter(&mut pool, name) == answer);
+    for (name, wanted) in rows {
+        if !answers(hash, pool, name, wanted) {
+            return false;
+        }
     }
-    Ok(())
+    true
+}
+
+#[test]
+fn refuses_in_order(rt: HostRuntime) {
+    assert!(rt; holds(rt.alloc(), 5, 1, 1, are_refused));
 }
 
 fn full(table: Table, used: u32, size: u32) -> Full {
@@ -110,13 +137,18 @@ fn are_found(hash: &CsHash, pool: &StringPool) -> bool
     true
 }
 
+/// Whether the primitives are the names that were entered, by their numbers.
+fn are_primitives(hash: &mut CsHash, pool: &mut StringPool) -> bool
+    requires knows { Knows hash.old pool.old.kept }
+    requires closed { pool.old.opened ≡ None }
+{
+    are_numbered(hash, pool)
+        && are_found(hash, pool)
+        && hash.count() == 186
+        && hash.name(hash.in_order(186)) == 185
+}
+
 #[test]
-fn numbers_the_primitives(rt: HostRuntime) -> Result<(), Fail> {
-    let mut pool = StringPool::new(rt.alloc(), 4000, 200)?;
-    let mut hash = CsHash::new(rt.alloc(), 1777)?;
-    assert!(rt; are_numbered(&mut hash, &mut pool));
-    assert!(rt; are_found(&hash, &pool));
-    assert!(rt; hash.count() == 186);
-    assert!(rt; hash.name(hash.in_order(186)) == 185);
-    Ok(())
+fn numbers_the_primitives(rt: HostRuntime) {
+    assert!(rt; holds(rt.alloc(), 4000, 200, 1777, are_primitives));
 }

@@ -3,7 +3,7 @@
 ghost use Rattle.input_stack.specs.Standing.{Stands};
 
 use input_stack::{InputStack, line_in};
-use std::test::Fail;
+use std::alloc::Global;
 use tex_defs::{Sizes, Token};
 use token_lists::Lists;
 
@@ -21,22 +21,29 @@ fn put_back(stack: &mut InputStack, lists: &mut Lists) -> Option<(u32, u32)>
     Some((stack.levels(), stack.arguments()))
 }
 
-#[test]
-fn token_is_put_back(rt: HostRuntime) -> Result<(), Fail> {
-    let mut lists = Lists::new(rt.alloc(), 20)?;
-    let mut stack = InputStack::new(rt.alloc(), &Sizes::DEFAULT)?;
+// Whether a stack isn't ready until a token is put back on it, which is then a list of one token.
+fn is_put_back(alloc: Global) -> bool {
+    let Ok(mut lists) = Lists::new(alloc, 20) else {
+        return false;
+    };
+    let Ok(mut stack) = InputStack::new(alloc, &Sizes::DEFAULT) else {
+        return false;
+    };
     let ready = stack.ready(&lists, &[], &[12; 256]);
     let told = put_back(&mut stack, &mut lists);
     let held = lists.used();
     stack.close(&mut lists);
-    assert!(rt; !ready && told == Some((1, 0)) && held == 2);
-    Ok(())
+    !ready && told == Some((1, 0)) && held == 2
 }
 
 #[test]
-fn line_has_its_end_character(rt: HostRuntime) -> Result<(), Fail> {
+fn token_is_put_back(rt: HostRuntime) {
+    assert!(rt; is_put_back(rt.alloc()));
+}
+
+#[test]
+fn line_has_its_end_character(rt: HostRuntime) {
     let mut bytes = [97, 98, 0];
     let line = line_in(&mut bytes, 0, 2, Some(13));
     assert!(rt; line.at == 0 && line.end == 3 && bytes == [97, 98, 13]);
-    Ok(())
 }

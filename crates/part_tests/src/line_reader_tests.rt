@@ -1,39 +1,36 @@
-ghost use Rattle.std.specs.Prelude.{◌≡◌, ◌≢◌, ◌≤◌, ◌<◌, [], length, true, IfSome};
+ghost use Rattle.std.specs.Prelude.{◌≡◌, ◌≢◌, ◌≤◌, ◌<◌, [], length, true};
+ghost use Rattle.std.specs.Borrow.{MutBor};
 ghost use Rattle.world_io.specs.Memory.{files_told};
 ghost use Rattle.line_reader.specs.Ahead.{with_ahead};
 ghost use Rattle.line_reader.specs.OpenLines.{most_readers};
 
 use line_reader::{Buffer, Edit, Reader, at_end, next_line};
 use std::alloc::Global;
-use std::test::Fail;
 use tex_defs::{Full, Sizes, Stop, Table};
-use world_io::{Fault, Files, InId, MemFiles};
+use world_io::{Files, InId, MemFiles};
 
-/// A file that is open, and a buffer that has none of its bytes.
-#[derive(Drop)]
-struct Opened {
-    files: MemFiles,
-    id: InId,
-    buffer: Buffer,
-}
-
-/// A file with these bytes, opened, and a buffer of these sizes. Each read gives at most so many bytes.
+/// Whether a check holds of a file with these bytes, which is open, and of a buffer of these sizes, which has none of
+/// them. Each read gives at most so many bytes.
 #[tactic(auto, using(crate::proofs::Opened::still_open, crate::proofs::Opened::one_reader))]
-fn file_opened(alloc: Global, bytes: &[u8], most: usize, sizes: &Sizes) -> Option<Opened>
-    requires { 0 < most }
-    ensures open { IfSome result (λ o. (files_told o.files).reading o.id.number ≡ true) }
-    ensures readers { IfSome result (λ o. length (with_ahead o.id.number [] o.buffer.ahead) ≤ most_readers o.buffer) }
-    ensures none { IfSome result (λ o. o.buffer.tail ≡ []) }
+fn holds<F: FnOnce(&mut MemFiles, InId, &mut Buffer) -> bool>(
+    alloc: Global,
+    bytes: &[u8],
+    most: usize,
+    sizes: &Sizes,
+    check: F,
+) -> bool
+    requires most { 0 < most }
+    requires callable { (files : MutBor _) (id : _) (buffer : MutBor _) → (files_told files.now).reading id.number ≡ true → length (with_ahead id.number [] buffer.now.ahead) ≤ most_readers buffer.now → buffer.now.tail ≡ [] → F.pre check files id buffer }
 {
-    let Ok(buffer) = Buffer::new(alloc, sizes) else {
-        return None;
+    let Ok(mut buffer) = Buffer::new(alloc, sizes) else {
+        return false;
     };
     let mut files = MemFiles::new(alloc);
     let added = files.add(b"a", bytes).is_ok();
     files.limit_reads(most);
     match files.open_in(b"a") {
-        Ok(Some(id)) if added => Some(Opened { files, id, buffer }),
-        _ => None,
+        Ok(Some(id)) if added => check(&mut files, id, &mut buffer),
+        _ => false,
     }
 }
 
@@ -43,10 +40,17 @@ fn answers(alloc: Global, bytes: &[u8], wanted: Result<bool, Stop>) -> bool {
         buffer_size: 80,
         ..Sizes::DEFAULT
     };
-    let Some(mut opened) = file_opened(alloc, bytes, usize::MAX, &sizes) else {
-        return false;
-    };
-    next_line(&mut opened.files, opened.id, &mut opened.buffer) == wanted
+    holds(
+        alloc,
+        bytes,
+        usize::MAX,
+        &sizes,
+        |files, id, buffer|
+            requires open { (files_told files.old).reading id.number ≡ true }
+            requires readers { length (with_ahead id.number [] buffer.old.ahead) ≤ most_readers buffer.old }
+            requires none { buffer.old.tail ≡ [] }
+        { next_line(files, id, buffer) == wanted },
+    )
 }
 
 #[test]
@@ -67,7 +71,7 @@ fn lines_fill_the_buffer(rt: HostRuntime) {
     bytes[79] = b' ';
     let blank = answers(alloc, &bytes[..80], refused);
     let none = answers(alloc, &bytes[..0], Ok(false));
-    assert!(rt; letters && returned && ended && blank && none);
+    assert!(rt; [letters, returned, ended, blank, none] == [true; 5]);
 }
 
 /// Takes a line, tells whether it is this one, and drops it.
@@ -87,63 +91,65 @@ fn takes(files: &mut MemFiles, id: InId, buffer: &mut Buffer, line: &[u8]) -> bo
     same
 }
 
-/// Takes three lines, and tells whether they are these and the last of the file.
-fn takes_three(files: &mut MemFiles, id: InId, buffer: &mut Buffer, lines: [&[u8]; 3]) -> bool
+/// Whether the lines come, and then the end of the file, which is forgotten.
+fn come_in_turn(files: &mut MemFiles, id: InId, buffer: &mut Buffer) -> bool
     requires open { (files_told files.old).reading id.number ≡ true }
     requires readers { length (with_ahead id.number [] buffer.old.ahead) ≤ most_readers buffer.old }
     requires none { buffer.old.tail ≡ [] }
 {
-    takes(files, id, buffer, lines[0])
-        && takes(files, id, buffer, lines[1])
-        && takes(files, id, buffer, lines[2])
-        && at_end(files, id, buffer) == Ok(true)
+    let come = takes(files, id, buffer, b"x")
+        && takes(files, id, buffer, b"")
+        && takes(files, id, buffer, b"\ry\rz")
+        && at_end(files, id, buffer) == Ok(true);
+    buffer.forget(id);
+    come
 }
 
 #[test]
 fn lines_come_in_turn(rt: HostRuntime) {
     let bytes = b"x  \r\n\n\ry\rz";
-    let Some(opened) = file_opened(rt.alloc(), bytes, 1, &Sizes::DEFAULT) else {
-        return assert!(rt; false);
-    };
-    let Opened {
-        mut files,
-        id,
-        mut buffer,
-    } = opened;
-    assert!(rt; takes_three(&mut files, id, &mut buffer, [b"x", b"", b"\ry\rz"]));
-    buffer.forget(id);
+    assert!(rt; holds(rt.alloc(), bytes, 1, &Sizes::DEFAULT, come_in_turn));
 }
 
 /// Whether `xy` comes to the front of a window of other bytes, and then the end.
-fn comes_by_pieces(files: &mut MemFiles, id: InId) -> Result<bool, Fault>
+fn comes_by_pieces(files: &mut MemFiles, id: InId, _: &mut Buffer) -> bool
     requires { (files_told files.old).reading id.number ≡ true }
 {
     let mut reader = Reader::new(id);
     let mut window = [b'z'; 256];
-    let first = reader.read(files, &mut window)?;
-    let moved = first == 2 && !reader.is_ended() && &window[..3] == b"xyz".as_slice();
-    let second = reader.read(files, &mut window)?;
-    Ok(moved && second == 0 && reader.is_ended())
+    reader.read(files, &mut window) == Ok(2)
+        && !reader.is_ended()
+        && &window[..3] == b"xyz".as_slice()
+        && reader.read(files, &mut window) == Ok(0)
+        && reader.is_ended()
 }
 
 #[test]
 fn bytes_come_by_pieces(rt: HostRuntime) {
-    let Some(mut opened) = file_opened(rt.alloc(), b"xy", usize::MAX, &Sizes::DEFAULT) else {
-        return assert!(rt; false);
-    };
-    let come = matches!(comes_by_pieces(&mut opened.files, opened.id), Ok(true));
+    let come = holds(
+        rt.alloc(),
+        b"xy",
+        usize::MAX,
+        &Sizes::DEFAULT,
+        comes_by_pieces,
+    );
     assert!(rt; come);
 }
 
-#[test]
-fn names_are_spelt(rt: HostRuntime) -> Result<(), Fail> {
-    let mut buffer = Buffer::new(rt.alloc(), &Sizes::DEFAULT)?;
-    assert!(rt; buffer.spell(b'a').is_ok());
-    assert!(rt; buffer.spelt() == b"a".as_slice());
+/// Whether a name of one byte is spelt and dropped, and an empty line is opened.
+fn is_spelt(_: &mut MemFiles, _: InId, buffer: &mut Buffer) -> bool
+    requires { buffer.old.tail ≡ [] }
+{
+    if buffer.spell(b'a').is_err() || buffer.spelt() != b"a".as_slice() {
+        return false;
+    }
     buffer.drop_spelt();
-    assert!(rt; buffer.empty_line().is_ok());
-    assert!(rt; buffer.used() == 1);
-    Ok(())
+    buffer.empty_line().is_ok() && buffer.used() == 1
+}
+
+#[test]
+fn names_are_spelt(rt: HostRuntime) {
+    assert!(rt; holds(rt.alloc(), b"", usize::MAX, &Sizes::DEFAULT, is_spelt));
 }
 
 /// Writes the last byte of a line over the first.
@@ -191,8 +197,5 @@ fn changes(files: &mut MemFiles, id: InId, buffer: &mut Buffer) -> bool
 
 #[test]
 fn a_line_is_changed(rt: HostRuntime) {
-    let Some(mut opened) = file_opened(rt.alloc(), b"xy", usize::MAX, &Sizes::DEFAULT) else {
-        return assert!(rt; false);
-    };
-    assert!(rt; changes(&mut opened.files, opened.id, &mut opened.buffer));
+    assert!(rt; holds(rt.alloc(), b"xy", usize::MAX, &Sizes::DEFAULT, changes));
 }
