@@ -1,16 +1,21 @@
 use command_words::{Job, Unread, job_name, read_words};
-use std::alloc::Global;
-use std::test::Fail;
+use std::alloc::{AllocError, Global};
 
-/// Words in one text, parted by `|`.
-fn read(alloc: Global, text: &str) -> Result<Result<Job, Unread>, Fail> {
+/// The words of one text, parted by `|`.
+fn words_of(alloc: Global, text: &str) -> Result<Vec<String>, AllocError> {
     let mut words = Vec::new(alloc);
     if text.len() > 0 {
         for word in text.split('|') {
             words.push(String::from_str(alloc, word)?)?;
         }
     }
-    Ok(read_words(alloc, words.as_slice()))
+    Ok(words)
+}
+
+/// What the words of a text say.
+fn read(alloc: Global, text: &str) -> Result<Job, Unread> {
+    let words = words_of(alloc, text)?;
+    read_words(alloc, words.as_slice())
 }
 
 // The words of a command, its file, its most steps, the size of main memory and whether it is quiet.
@@ -52,27 +57,26 @@ static JOBS: [(&str, &str, u64, u32, bool); 17] = [
     ("t|init|init", "init.tex", 10_000_000, 30000, false),
 ];
 
-// Whether these words are this job.
-fn is_read(alloc: Global, row: &(&str, &str, u64, u32, bool)) -> Result<bool, Fail> {
-    let (text, name, steps, size, quiet) = *row;
-    let Ok(job) = read(alloc, text)? else {
-        return Ok(false);
-    };
-    Ok(
-        job.file.as_slice() == name.as_bytes()
-            && job.steps == steps
-            && job.main_memory_size == size
-            && job.quiet == quiet,
-    )
+// Whether a job is the one of this row.
+fn is_job(job: &Job, row: &(&str, &str, u64, u32, bool)) -> bool {
+    let (_, name, steps, size, quiet) = *row;
+    let numbers = (job.steps, job.main_memory_size, job.quiet);
+    job.file.as_slice() == name.as_bytes() && numbers == (steps, size, quiet)
+}
+
+// Whether the words of this row are its job.
+fn is_read(alloc: Global, row: &(&str, &str, u64, u32, bool)) -> bool {
+    match read(alloc, row.0) {
+        Ok(job) => is_job(&job, row),
+        Err(_) => false,
+    }
 }
 
 #[test]
-fn reads_commands(rt: HostRuntime) -> Result<(), Fail> {
+fn reads_commands(rt: HostRuntime) {
     for k in 0..17usize {
-        let same = is_read(rt.alloc(), &JOBS[k])?;
-        assert!(rt; same, "row {k}");
+        assert!(rt; is_read(rt.alloc(), &JOBS[k]), "row {k}");
     }
-    Ok(())
 }
 
 // Files, and the names of their jobs.
@@ -144,11 +148,14 @@ static OTHERS: [&str; 37] = [
     "t|init|a|--version",
 ];
 
+// Whether the words of this text are no command.
+fn is_refused(alloc: Global, text: &str) -> bool {
+    matches!(read(alloc, text), Err(Unread::Usage))
+}
+
 #[test]
-fn refuses_other_words(rt: HostRuntime) -> Result<(), Fail> {
+fn refuses_other_words(rt: HostRuntime) {
     for k in 0..37usize {
-        let refused = matches!(read(rt.alloc(), OTHERS[k])?, Err(Unread::Usage));
-        assert!(rt; refused, "row {k}");
+        assert!(rt; is_refused(rt.alloc(), OTHERS[k]), "row {k}");
     }
-    Ok(())
 }

@@ -5,8 +5,8 @@ ghost use Rattle.token_lists.specs.Accounts.{Moves, none, cell_holds};
 ghost use Rattle.token_lists.specs.Ids.{id_of};
 ghost use Rattle.list_builder.specs.Scans.{IsSound, IsOpen, IsSpent, Owns, handed, scan_holds};
 
+use crate::token_lists_tests::release_cell;
 use list_builder::{Ask, Body, DefScan, Due, Manner, Next, Report, Stage, TextScan, Want};
-use std::test::Fail;
 use tex_defs::{Full, Meaning, Name, Seen, Table, Token};
 use token_lists::{ListRef, Lists};
 
@@ -45,9 +45,7 @@ fn behind(scan: &mut DefScan, lists: &mut Lists, x: Seen) -> Result<Ask, Full>
 {
     match scan.feed(lists, x) {
         Ok(Ask::Tells(_, _)) => scan.feed_told(lists),
-        Ok(Ask::More(want)) => Ok(Ask::More(want)),
-        Ok(Ask::Done(cell)) => Ok(Ask::Done(cell)),
-        Err(full) => Err(full),
+        answer => answer,
     }
 }
 
@@ -80,10 +78,8 @@ fn defined(lists: &mut Lists, tokens: &[Seen]) -> Option<ListRef>
     None
 }
 
-// `#1#2{#2#1}` has five tokens, in six words.
-#[test]
-fn definition_is_built(rt: HostRuntime) -> Result<(), Fail> {
-    let mut lists = Lists::new(rt.alloc(), 20)?;
+// Whether `#1#2{#2#1}` has five tokens, in six words, which are freed.
+fn is_built(lists: &mut Lists) -> bool {
     let tokens = [
         read(6, 35),
         read(12, 49),
@@ -96,8 +92,8 @@ fn definition_is_built(rt: HostRuntime) -> Result<(), Fail> {
         read(12, 49),
         read(2, 125),
     ];
-    let Some(list) = defined(&mut lists, &tokens) else {
-        return Ok(assert!(rt; false, "the list is complete"));
+    let Some(list) = defined(lists, &tokens) else {
+        return false;
     };
     let wanted = [
         Token::Place(35),
@@ -106,10 +102,18 @@ fn definition_is_built(rt: HostRuntime) -> Result<(), Fail> {
         Token::Number(2),
         Token::Number(1),
     ];
-    let told = (spells(&lists, &list, &wanted), lists.used());
+    let told = (spells(lists, &list, &wanted), lists.used());
     lists.release(list);
-    assert!(rt; told == (true, 6) && lists.used() == 0);
-    Ok(())
+    told == (true, 6) && lists.used() == 0
+}
+
+#[test]
+fn definition_is_built(rt: HostRuntime) {
+    let built = match Lists::new(rt.alloc(), 20) {
+        Ok(mut lists) => is_built(&mut lists),
+        Err(_) => false,
+    };
+    assert!(rt; built);
 }
 
 // The first report of a definition of which these tokens are read, and whether the last token is put back.
@@ -127,9 +131,7 @@ fn reported(lists: &mut Lists, tokens: &[Seen]) -> Result<Option<(Report, bool)>
             }
             Ok(Ask::Done(cell)) => {
                 scan.abandon(lists);
-                if let Some(list) = cell {
-                    lists.release(list);
-                }
+                release_cell(lists, cell);
                 return Ok(None);
             }
             Err(full) => {
@@ -142,15 +144,13 @@ fn reported(lists: &mut Lists, tokens: &[Seen]) -> Result<Option<(Report, bool)>
     Ok(None)
 }
 
-// `#2`, `x}` and `{#1` are reported, and a full memory refuses what comes behind `{`.
-#[test]
-fn reports_come_at_their_tokens(rt: HostRuntime) -> Result<(), Fail> {
-    let mut lists = Lists::new(rt.alloc(), 2)?;
+// Whether `#2`, `x}` and `{#1` are reported, and a full memory refuses what comes behind `{`.
+fn are_reported(lists: &mut Lists) -> bool {
     let told = [
-        reported(&mut lists, &[read(6, 35), read(12, 50)]),
-        reported(&mut lists, &[read(2, 125)]),
-        reported(&mut lists, &[read(1, 123), read(6, 35), read(12, 49)]),
-        reported(&mut lists, &[read(1, 123), read(11, 120)]),
+        reported(lists, &[read(6, 35), read(12, 50)]),
+        reported(lists, &[read(2, 125)]),
+        reported(lists, &[read(1, 123), read(6, 35), read(12, 49)]),
+        reported(lists, &[read(1, 123), read(11, 120)]),
     ];
     let full = Full {
         table: Table::MainMemorySize,
@@ -163,8 +163,16 @@ fn reports_come_at_their_tokens(rt: HostRuntime) -> Result<(), Fail> {
         Ok(Some((Report::IllegalNumber(Name::Single(97)), true))),
         Err(full),
     ];
-    assert!(rt; told == wanted && lists.used() == 0);
-    Ok(())
+    told == wanted && lists.used() == 0
+}
+
+#[test]
+fn reports_come_at_their_tokens(rt: HostRuntime) {
+    let reported = match Lists::new(rt.alloc(), 2) {
+        Ok(mut lists) => are_reported(&mut lists),
+        Err(_) => false,
+    };
+    assert!(rt; reported);
 }
 
 // The scanner of a text behind a token, where it goes on.
@@ -183,9 +191,7 @@ fn on(scan: TextScan, lists: &mut Lists, x: Seen) -> Option<TextScan>
         }
         Ok(Ask::Done(cell)) => {
             scan.abandon(lists);
-            if let Some(list) = cell {
-                lists.release(list);
-            }
+            release_cell(lists, cell);
             None
         }
         Err(_) => {
@@ -207,11 +213,7 @@ fn ended(scan: TextScan, lists: &mut Lists, x: Seen) -> (Option<ListRef>, bool)
             scan.abandon(lists);
             (cell, true)
         }
-        Ok(Ask::More(_)) => {
-            scan.abandon(lists);
-            (None, false)
-        }
-        Ok(Ask::Tells(_, _)) => {
+        Ok(Ask::More(_) | Ask::Tells(_, _)) => {
             scan.abandon(lists);
             (None, false)
         }
@@ -236,20 +238,23 @@ fn nothing(lists: &mut Lists) -> (Option<ListRef>, bool)
     }
 }
 
-// A text without tokens has no list.
+// Whether a text without tokens has no list.
+fn has_no_list(lists: &mut Lists) -> bool {
+    let (cell, complete) = nothing(lists);
+    if let Some(list) = cell {
+        lists.release(list);
+        return false;
+    }
+    complete && lists.used() == 0
+}
+
 #[test]
-fn empty_text_has_no_list(rt: HostRuntime) -> Result<(), Fail> {
-    let mut lists = Lists::new(rt.alloc(), 8)?;
-    let (cell, complete) = nothing(&mut lists);
-    let none = match cell {
-        Some(list) => {
-            lists.release(list);
-            false
-        }
-        None => true,
+fn empty_text_has_no_list(rt: HostRuntime) {
+    let none = match Lists::new(rt.alloc(), 8) {
+        Ok(mut lists) => has_no_list(&mut lists),
+        Err(_) => false,
     };
-    assert!(rt; complete && none && lists.used() == 0);
-    Ok(())
+    assert!(rt; none);
 }
 
 // The text `{`, this list's tokens, `}`, by expansion.
@@ -273,9 +278,7 @@ fn copied(lists: &mut Lists, list: &ListRef) -> (Option<ListRef>, bool)
         }
         Ok(Ask::Done(cell)) => {
             scan.abandon(lists);
-            if let Some(other) = cell {
-                lists.release(other);
-            }
+            release_cell(lists, cell);
             (None, false)
         }
         Err(_) => {
@@ -285,35 +288,38 @@ fn copied(lists: &mut Lists, list: &ListRef) -> (Option<ListRef>, bool)
     }
 }
 
-// The tokens of a token list enter a text as they are, a parameter character among them.
-#[test]
-fn token_list_is_copied(rt: HostRuntime) -> Result<(), Fail> {
-    let mut lists = Lists::new(rt.alloc(), 8)?;
+// Whether the tokens of a token list enter a text as they are, a parameter character among them.
+fn is_copied(lists: &mut Lists) -> bool {
     let body = [read(1, 123), read(6, 35), read(6, 35), read(2, 125)];
-    let Some(list) = defined(&mut lists, &body) else {
-        return Ok(assert!(rt; false, "the list is complete"));
+    let Some(list) = defined(lists, &body) else {
+        return false;
     };
-    let (cell, complete) = copied(&mut lists, &list);
+    let (cell, complete) = copied(lists, &list);
     let Some(copy) = cell else {
         lists.release(list);
-        return Ok(assert!(rt; false, "the text has tokens"));
+        return false;
     };
     let wanted = [Token::EndPlaces, Token::Char { cat: 6, code: 35 }];
-    let told = (spells(&lists, &copy, &wanted), complete, lists.used());
+    let told = (spells(lists, &copy, &wanted), complete, lists.used());
     lists.release(copy);
     let left = lists.used();
     lists.release(list);
-    assert!(rt; told == (true, true, 6) && left == 3);
-    Ok(())
+    told == (true, true, 6) && left == 3
 }
 
-// The list in work is lent from the beginning, and freed where the reading is given up.
 #[test]
-fn list_in_work_is_lent(rt: HostRuntime) -> Result<(), Fail> {
-    let mut lists = Lists::new(rt.alloc(), 8)?;
-    let scan = match TextScan::new(&mut lists, true) {
-        Ok(scan) => scan,
-        Err(_) => return Ok(assert!(rt; false, "words are there")),
+fn token_list_is_copied(rt: HostRuntime) {
+    let copied = match Lists::new(rt.alloc(), 8) {
+        Ok(mut lists) => is_copied(&mut lists),
+        Err(_) => false,
+    };
+    assert!(rt; copied);
+}
+
+// Whether the list in work is lent from the beginning, and freed where the reading is given up.
+fn is_lent(lists: &mut Lists) -> bool {
+    let Ok(scan) = TextScan::new(lists, true) else {
+        return false;
     };
     let begun = scan.built().is_some();
     let used = lists.used();
@@ -321,78 +327,113 @@ fn list_in_work_is_lent(rt: HostRuntime) -> Result<(), Fail> {
         Ask::More(want) => Some(want),
         Ask::Tells(_, _) => None,
         Ask::Done(cell) => {
-            if let Some(list) = cell {
-                lists.release(list);
-            }
+            release_cell(lists, cell);
             None
         }
     };
-    scan.abandon(&mut lists);
-    assert!(rt; begun && used == 1 && wants == Some(Want::Command));
-    assert!(rt; lists.used() == 0);
-    Ok(())
+    scan.abandon(lists);
+    begun && used == 1 && wants == Some(Want::Command) && lists.used() == 0
+}
+
+#[test]
+fn list_in_work_is_lent(rt: HostRuntime) {
+    let lent = match Lists::new(rt.alloc(), 8) {
+        Ok(mut lists) => is_lent(&mut lists),
+        Err(_) => false,
+    };
+    assert!(rt; lent);
+}
+
+const EXPANDED: Manner = Manner {
+    name: Name::Single(97),
+    expanded: true,
+};
+
+const RAW: Manner = Manner {
+    name: Name::Single(97),
+    expanded: false,
+};
+
+// A body of a macro with one place.
+const BODY: Body = Body {
+    places: Some(1),
+    brace: None,
+};
+
+const CHARACTER: Token = Token::Char { cat: 6, code: 35 };
+
+// Stages, and how many braces are open there.
+const DEPTHS: [(Stage, usize); 4] = [
+    (Stage::Parameters(0), 0),
+    (Stage::InBody(BODY, 1), 1),
+    (Stage::Reference(BODY, 2, CHARACTER), 2),
+    (Stage::Illegal(BODY, 2, CHARACTER), 2),
+];
+
+// Stages, and what is due there.
+const DUES: [(Stage, Manner, Due); 8] = [
+    (Stage::Parameters(0), EXPANDED, Due::More(Want::Raw)),
+    (Stage::First, RAW, Due::More(Want::Command)),
+    (Stage::InBody(BODY, 1), EXPANDED, Due::More(Want::Copied)),
+    (Stage::InBody(BODY, 1), RAW, Due::More(Want::Raw)),
+    (
+        Stage::Reference(BODY, 2, CHARACTER),
+        EXPANDED,
+        Due::More(Want::Expanded),
+    ),
+    (
+        Stage::Reference(BODY, 2, CHARACTER),
+        RAW,
+        Due::More(Want::Raw),
+    ),
+    (
+        Stage::Tenth(9),
+        EXPANDED,
+        Due::Tells(Report::AlreadyNine, false),
+    ),
+    (
+        Stage::Illegal(BODY, 2, CHARACTER),
+        RAW,
+        Due::Tells(Report::IllegalNumber(Name::Single(97)), true),
+    ),
+];
+
+// Whether a brace opens a group of a body.
+fn opens_group() -> bool {
+    matches!(
+        Stage::InBody(BODY, 1).took(read(1, 123)).next,
+        Next::On(Stage::InBody(
+            Body {
+                places: Some(1),
+                brace: None
+            },
+            2
+        ))
+    )
+}
+
+// Whether as many braces are open at these stages.
+fn are_as_deep(rows: &[(Stage, usize)]) -> bool {
+    for (stage, depth) in rows {
+        if stage.depth() != *depth {
+            return false;
+        }
+    }
+    true
+}
+
+// Whether this is due at these stages.
+fn are_due(rows: &[(Stage, Manner, Due)]) -> bool {
+    for (stage, manner, due) in rows {
+        if stage.due(*manner) != *due {
+            return false;
+        }
+    }
+    true
 }
 
 // In front of a definition, and in a body and two groups of it, a stage tells what is due.
 #[test]
-fn stages_tell_what_is_due(rt: HostRuntime) -> Result<(), Fail> {
-    let manner = Manner {
-        name: Name::Single(97),
-        expanded: true,
-    };
-    let raw = Manner {
-        expanded: false,
-        ..manner
-    };
-    let body = Body {
-        places: Some(1),
-        brace: None,
-    };
-    let first = Stage::Parameters(0);
-    let inside = Stage::InBody(body, 1);
-    let deeper = inside.took(read(1, 123)).next;
-    let character = Token::Char { cat: 6, code: 35 };
-    let behind = Stage::Reference(body, 2, character);
-    let illegal = Stage::Illegal(body, 2, character);
-    assert!(rt;
-        matches!(
-            deeper,
-            Next::On(Stage::InBody(
-                Body {
-                    places: Some(1),
-                    brace: None
-                },
-                2
-            ))
-        )
-    );
-    let depths = [
-        first.depth(),
-        inside.depth(),
-        behind.depth(),
-        illegal.depth(),
-    ];
-    assert!(rt; depths == [0, 1, 2, 2]);
-    let dues = [
-        first.due(manner),
-        Stage::First.due(raw),
-        inside.due(manner),
-        inside.due(raw),
-        behind.due(manner),
-        behind.due(raw),
-        Stage::Tenth(9).due(manner),
-        illegal.due(raw),
-    ];
-    let wanted = [
-        Due::More(Want::Raw),
-        Due::More(Want::Command),
-        Due::More(Want::Copied),
-        Due::More(Want::Raw),
-        Due::More(Want::Expanded),
-        Due::More(Want::Raw),
-        Due::Tells(Report::AlreadyNine, false),
-        Due::Tells(Report::IllegalNumber(Name::Single(97)), true),
-    ];
-    assert!(rt; dues == wanted);
-    Ok(())
+fn stages_tell_what_is_due(rt: HostRuntime) {
+    assert!(rt; opens_group() && are_as_deep(&DEPTHS) && are_due(&DUES));
 }

@@ -7,7 +7,7 @@ ghost use Rattle.meanings.specs.Map.{meaning_of, IsAssignable, defined};
 ghost use Rattle.meanings.specs.Holding.{held, list_of};
 
 use meanings::{Kept, Meanings};
-use std::test::Fail;
+use std::alloc::Global;
 use tex_defs::{Frozen, Meaning, Name, Sizes, Token};
 use token_lists::Lists;
 
@@ -122,17 +122,26 @@ fn mean(meanings: &Meanings, rows: &[(Name, Meaning<()>)]) -> bool {
     true
 }
 
-#[test]
-fn names_share_a_list(rt: HostRuntime) -> Result<(), Fail> {
-    let mut lists = Lists::new(rt.alloc(), 4)?;
-    let mut meanings = Meanings::new(rt.alloc(), &Sizes::DEFAULT)?;
+// Whether the first meanings are right, and two names share a list, which is freed in the end.
+fn is_shared(alloc: Global, lists: &mut Lists) -> bool {
+    let Ok(mut meanings) = Meanings::new(alloc, &Sizes::DEFAULT) else {
+        return false;
+    };
     meanings.enter();
     let same = mean(&meanings, &FIRST_MEANINGS);
-    let told = lives(&mut meanings, &mut lists);
-    meanings.close(&mut lists);
+    let told = lives(&mut meanings, lists);
+    meanings.close(lists);
     let wanted = [(OUTER, 2), (OUTER, 2), (Meaning::Prim(5), 2), (OUTER, 2)];
-    assert!(rt; same && told == Some(wanted) && lists.used() == 0);
-    Ok(())
+    same && told == Some(wanted) && lists.used() == 0
+}
+
+#[test]
+fn names_share_a_list(rt: HostRuntime) {
+    let shared = match Lists::new(rt.alloc(), 4) {
+        Ok(mut lists) => is_shared(rt.alloc(), &mut lists),
+        Err(_) => false,
+    };
+    assert!(rt; shared);
 }
 
 // Names, and whether they are placed where the 186 names of the primitives and one more are entered.
@@ -159,16 +168,24 @@ fn are_placed(meanings: &Meanings, rows: &[(Name, bool)]) -> bool {
     true
 }
 
-// The 186 names of the primitives are entered at first, and behind them one more.
-#[test]
-fn names_are_placed(rt: HostRuntime) -> Result<(), Fail> {
-    let mut lists = Lists::new(rt.alloc(), 4)?;
-    let mut meanings = Meanings::new(rt.alloc(), &Sizes::DEFAULT)?;
+// Whether the 186 names of the primitives are entered at first, and behind them one more.
+fn is_entered(alloc: Global, lists: &mut Lists) -> bool {
+    let Ok(mut meanings) = Meanings::new(alloc, &Sizes::DEFAULT) else {
+        return false;
+    };
     let before = [(Name::Word(186), true), (Name::Word(187), false)];
     let first = are_placed(&meanings, &before);
     meanings.enter();
     let behind = are_placed(&meanings, &PLACED);
-    meanings.close(&mut lists);
-    assert!(rt; first && behind);
-    Ok(())
+    meanings.close(lists);
+    first && behind
+}
+
+#[test]
+fn names_are_placed(rt: HostRuntime) {
+    let entered = match Lists::new(rt.alloc(), 4) {
+        Ok(mut lists) => is_entered(rt.alloc(), &mut lists),
+        Err(_) => false,
+    };
+    assert!(rt; entered);
 }

@@ -1,5 +1,4 @@
 use mem_words::Mem;
-use std::test::Fail;
 
 // Whether two words are handed out and no third, keep what is written, and come back.
 fn takes_and_gives(mem: &mut Mem) -> bool {
@@ -27,8 +26,10 @@ fn takes_and_gives(mem: &mut Mem) -> bool {
 
 // Words are handed out until all are used, keep what is written, and come back.
 #[test]
-fn words_come_back(rt: HostRuntime) -> Result<(), Fail> {
-    let mut mem = Mem::new(rt.alloc(), 2)?;
-    assert!(rt; mem.size() == 2 && takes_and_gives(&mut mem));
-    Ok(())
+fn words_come_back(rt: HostRuntime) {
+    let back = match Mem::new(rt.alloc(), 2) {
+        Ok(mut mem) => mem.size() == 2 && takes_and_gives(&mut mem),
+        Err(_) => false,
+    };
+    assert!(rt; back);
 }

@@ -4,23 +4,27 @@ use tex_defs::{Full, Sizes, Stop, Table};
 #[test]
 fn checks_sizes(rt: HostRuntime) {
     let d = Sizes::DEFAULT;
-    assert!(rt; d.check().is_ok());
     let small = Sizes {
         buffer_size: 79,
         ..d
     };
-    assert!(rt; small.check() == Err(Table::BufferSize));
     let first = Sizes {
         pool_size: 3999,
         hash_size: 65536,
         ..d
     };
-    assert!(rt; first.check() == Err(Table::PoolSize));
     let large = Sizes {
         delayed_writes: 1000001,
         ..d
     };
-    assert!(rt; large.check() == Err(Table::DelayedWrites));
+    let told = [d.check(), small.check(), first.check(), large.check()];
+    let wanted = [
+        Ok(()),
+        Err(Table::BufferSize),
+        Err(Table::PoolSize),
+        Err(Table::DelayedWrites),
+    ];
+    assert!(rt; told == wanted);
 }
 
 #[test]

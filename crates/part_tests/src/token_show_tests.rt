@@ -6,7 +6,6 @@ ghost use Rattle.std.specs.Prelude.{◌≡◌};
 ghost use Rattle.cs_hash.specs.Names.{Knows};
 
 use crate::tables::Tables;
-use std::test::Fail;
 use tex_defs::{Frozen, Full, Meaning, Name, RegisterKind, Token};
 use token_lists::{Build, ListRef, Lists};
 use token_show::{Characters, Shown, View, meaning, meaning_head, show_list, show_token};
@@ -144,11 +143,12 @@ fn is_shown(tables: &Tables, list: &ListRef, shown: &[u8], characters: &[u8]) ->
     shows(show_list(view, list), shown) && has(Characters::of_list(view, list), characters)
 }
 
-#[test]
-fn lists(rt: HostRuntime) -> Result<(), Fail> {
-    let mut tables = Tables::new(rt.alloc(), b"foo")?;
+// Whether a list of letters and parameter characters is shown.
+fn is_list_shown(tables: &mut Tables) -> bool
+    requires { Knows tables.old.hash tables.old.pool.kept }
+{
     let Ok(mut build) = tables.lists.begin() else {
-        return Ok(assert!(rt; false, "a word is there"));
+        return false;
     };
     let a = Token::Char { cat: 11, code: 97 };
     let tokens = [
@@ -160,10 +160,18 @@ fn lists(rt: HostRuntime) -> Result<(), Fail> {
     ];
     let appended = append_all(&mut tables.lists, &mut build, &tokens);
     let list = tables.lists.finish(build);
-    let shown = is_shown(&tables, &list, b"->a####\n", b"->a####b");
+    let shown = is_shown(tables, &list, b"->a####\n", b"->a####b");
     tables.lists.release(list);
-    assert!(rt; appended.is_ok() && shown);
-    Ok(())
+    appended.is_ok() && shown
+}
+
+#[test]
+fn lists(rt: HostRuntime) {
+    let shown = match Tables::new(rt.alloc(), b"foo") {
+        Ok(mut tables) => is_list_shown(&mut tables),
+        Err(_) => false,
+    };
+    assert!(rt; shown);
 }
 
 // Whether a macro's meaning, and its front up to the list, are shown like this.
@@ -176,12 +184,12 @@ fn is_macro_shown(tables: &Tables, made: &Meaning<ListRef>, whole: &[u8], head: 
     shows(meaning(view, made), whole) && shows(meaning_head(view, made), head)
 }
 
-// A macro `\long\outer`, shown whole, and up to its list.
-#[test]
-fn macros(rt: HostRuntime) -> Result<(), Fail> {
-    let mut tables = Tables::new(rt.alloc(), b"foo")?;
+// Whether a macro `\long\outer` is shown, whole, and up to its list.
+fn is_long_outer_shown(tables: &mut Tables) -> bool
+    requires { Knows tables.old.hash tables.old.pool.kept }
+{
     let Ok(mut build) = tables.lists.begin() else {
-        return Ok(assert!(rt; false, "a word is there"));
+        return false;
     };
     let appended = append_all(&mut tables.lists, &mut build, &BRACKETS);
     let made = Meaning::Macro {
@@ -190,7 +198,7 @@ fn macros(rt: HostRuntime) -> Result<(), Fail> {
         list: tables.lists.finish(build),
     };
     let whole = b"\\long\\outer macro:#1->[#1]";
-    let shown = is_macro_shown(&tables, &made, whole, b"\\long\\outer macro:");
+    let shown = is_macro_shown(tables, &made, whole, b"\\long\\outer macro:");
     let Meaning::Macro {
         long: _,
         outer: _,
@@ -200,8 +208,16 @@ fn macros(rt: HostRuntime) -> Result<(), Fail> {
         unreachable!();
     };
     tables.lists.release(list);
-    assert!(rt; appended.is_ok() && shown);
-    Ok(())
+    appended.is_ok() && shown
+}
+
+#[test]
+fn macros(rt: HostRuntime) {
+    let shown = match Tables::new(rt.alloc(), b"foo") {
+        Ok(mut tables) => is_long_outer_shown(&mut tables),
+        Err(_) => false,
+    };
+    assert!(rt; shown);
 }
 
 // Names, each in a list and in a list without an escape character.
@@ -248,12 +264,20 @@ fn are_meant(view: View<'_>) -> bool
     true
 }
 
-#[test]
-fn names_and_meanings(rt: HostRuntime) -> Result<(), Fail> {
-    let tables = Tables::new(rt.alloc(), b"foo")?;
+// Whether the names and the meanings are shown like this.
+fn are_shown(tables: &Tables) -> bool
+    requires { Knows tables.now.hash tables.now.pool.kept }
+{
     let categories = categories();
-    let view = view_of(&tables, &categories);
-    assert!(rt; are_named(view));
-    assert!(rt; are_meant(view));
-    Ok(())
+    let view = view_of(tables, &categories);
+    are_named(view) && are_meant(view)
+}
+
+#[test]
+fn names_and_meanings(rt: HostRuntime) {
+    let shown = match Tables::new(rt.alloc(), b"foo") {
+        Ok(tables) => are_shown(&tables),
+        Err(_) => false,
+    };
+    assert!(rt; shown);
 }

@@ -1,7 +1,7 @@
 // What the contracts leave open: that calls succeed, and what real files do.
 use std::alloc::Global;
-use std::fs;
-use std::test::Fail;
+use std::io::Print;
+use std::{fs, rt};
 use world_io::{
     Fault, Files, MemFiles, MemSink, RealFiles, RealSink, Sink, Unfinished, read_file, write_all,
     write_file,
@@ -53,21 +53,28 @@ fn is_refused<F: Files>(files: &mut F, name: &[u8]) -> bool {
     matches!(write_in_two(files, name), Err(Fault::Failed))
 }
 
+/// Whether the removed file is absent, and one whose name is no text is absent and can't be written.
+fn are_missing<F: Files>(files: &mut F) -> bool {
+    is_absent(files, b"two_pieces.txt") && is_absent(files, b"\xff") && is_refused(files, b"\xff")
+}
+
 /// Whether no bytes are written.
 fn writes_nothing<S: Sink>(sink: &mut S) -> bool {
     matches!(sink.write(b""), Ok(0))
 }
 
+/// Whether a real file is written, read and removed, and nothing is printed.
+fn are_real<R: rt::Files + AllocGlobal + Print>(rt: &R) -> bool {
+    let mut files = RealFiles::new(rt);
+    is_written_and_read(&mut files, b"two_pieces.txt")
+        && fs::remove_file(rt, "two_pieces.txt").is_ok()
+        && are_missing(&mut files)
+        && writes_nothing(&mut RealSink::new(rt))
+}
+
 #[test]
-fn real_files_are_written_and_read(rt: HostRuntime) -> Result<(), Fail> {
-    let mut files = RealFiles::new(&rt);
-    assert!(rt; is_written_and_read(&mut files, b"two_pieces.txt"));
-    fs::remove_file(&rt, "two_pieces.txt")?;
-    assert!(rt; is_absent(&mut files, b"two_pieces.txt"));
-    assert!(rt; is_absent(&mut files, b"\xff"));
-    assert!(rt; is_refused(&mut files, b"\xff"));
-    assert!(rt; writes_nothing(&mut RealSink::new(&rt)));
-    Ok(())
+fn real_files_are_written_and_read(rt: HostRuntime) {
+    assert!(rt; are_real(&rt));
 }
 
 /// Whether a file is written beside another and read again, in nine calls.
@@ -91,17 +98,18 @@ fn is_read_whole(alloc: Global, files: &mut MemFiles, name: &[u8], wanted: &[u8]
     }
 }
 
-#[test]
-fn files_in_memory_are_written_and_read(rt: HostRuntime) -> Result<(), Fail> {
-    let alloc = rt.alloc();
-    let mut files = MemFiles::new(alloc);
-    files.add(b"a.tex", b"xy")?;
-    assert!(rt; stands_beside(&mut files));
-    files.fail_at(11)?;
-    assert!(rt; is_half_written(&mut files));
+/// Whether a file is written beside another, written again but for its first piece, and read whole.
+fn are_kept(alloc: Global, files: &mut MemFiles) -> bool {
+    let beside = files.add(b"a.tex", b"xy").is_ok() && stands_beside(files);
+    let half = files.fail_at(11).is_ok() && is_half_written(files);
     files.limit_reads(2);
-    assert!(rt; is_read_whole(alloc, &mut files, b"a", b"def"));
-    Ok(())
+    beside && half && is_read_whole(alloc, files, b"a", b"def")
+}
+
+#[test]
+fn files_in_memory_are_written_and_read(rt: HostRuntime) {
+    let mut files = MemFiles::new(rt.alloc());
+    assert!(rt; are_kept(rt.alloc(), &mut files));
 }
 
 /// Whether the second of three writes is refused.
@@ -115,9 +123,7 @@ fn is_written_but_once(sink: &mut MemSink) -> bool {
 }
 
 #[test]
-fn a_sink_in_memory_is_written(rt: HostRuntime) -> Result<(), Fail> {
+fn a_sink_in_memory_is_written(rt: HostRuntime) {
     let mut sink = MemSink::new(rt.alloc());
-    sink.fail_at(2)?;
-    assert!(rt; is_written_but_once(&mut sink));
-    Ok(())
+    assert!(rt; sink.fail_at(2).is_ok() && is_written_but_once(&mut sink));
 }
