@@ -119,7 +119,7 @@ fn comes_by_pieces(files: &mut MemFiles, id: InId, _: &mut Buffer) -> bool
     let mut window = [b'z'; 256];
     reader.read(files, &mut window) == Ok(2)
         && !reader.is_ended()
-        && &window[..3] == b"xyz".as_slice()
+        && window.starts_with(b"xyz")
         && reader.read(files, &mut window) == Ok(0)
         && reader.is_ended()
 }
