@@ -67,3 +67,9 @@ returns-in-Err-NoMemory-clause-means g c = λ sizes quiet begins.
     let f' = g.F.Files.told c.open_in.new.self in
     let s = g.S.Sink.told c.args.out.now in
     means_no_room sizes quiet name (f.file name) c.args.steps (world f s false) (world f' s false) (world f' (g.S.Sink.told t.new.out) t.result) (read_quiet f f' s false i.err.file i.cause.later i.writes i.cause.later_wants) (t.ensures.line f')
+
+pub run_engine-told-requires-clause-idle : goal.run_engine-told-requires-clause-idle
+run_engine-told-requires-clause-idle g c = c.requires.idle
+
+pub run_engine-told-requires-clause-running : goal.run_engine-told-requires-clause-running
+run_engine-told-requires-clause-running g c = c.requires.running
