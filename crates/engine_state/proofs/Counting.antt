@@ -83,6 +83,10 @@ pub words_more : (sizes : Sizes) (e : Engine) (book : Book) (need : ℕ) (o : Op
 words_more sizes e book need o sound h =
     ap (λ (n : ℕ). refused sizes (memory need n ∷ [])) (words_are sizes e book sound) ∙ (ap (λ (s : Sizes). refused s (memory need (stored_words e.input) ∷ [])) (sym sound.sized.input) ∙ h)
 
+-- one reading more
+pub has_room : (used size : ℕ) → used < size → None ≡ depth_full used size
+has_room used size less = grind (arith, nat_tests)
+
 -- no reading more
 pub no_room : (used size u s : ℕ) → size ≤ used → u ≡ used → s ≡ size → Some (record { table = ExpansionDepth; used = u; size = s }) ≡ depth_full used size
 no_room used size u s le same_used same_size = grind (arith, nat_tests)

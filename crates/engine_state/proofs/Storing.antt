@@ -1,5 +1,5 @@
 -- The macros that the input holds keep their numbers.
-use Rattle.std.proofs.Common.{◌≡◌, ℕ, zero, suc, ◌+◌, ◌<◌, List, [], ◌∷◌, length, Option, None, inl, inr, refl, sym, ap, ◌∙◌, subst, true, arith}
+use Rattle.std.proofs.Common.{◌≡◌, ℕ, zero, suc, ◌+◌, ◌<◌, ◌≤◌, List, [], ◌∷◌, length, Option, None, inl, inr, refl, sym, ap, ◌∙◌, subst, true, arith}
 use Rattle.std.specs.Prelude.{slice_index_or}
 use Rattle.std.proofs.lemmas.Bool.{cases_lt}
 use Rattle.std.proofs.lemmas.List.{get_or_past}
@@ -10,14 +10,16 @@ use Rattle.plain_state.specs.Puts.{token_put}
 use Rattle.plain_state.specs.Pending.{Pending, settle, put_front}
 use Rattle.plain_state.specs.Tables.{is_meant, is_put, words}
 use Rattle.plain_machine.specs.Numbers.{IsHeld, Tied}
+use Rattle.plain_machine.specs.Plan.{reports_room}
 use Rattle.plain_machine.proofs.MacroWords.{all_words_tied}
 use Rattle.plain_machine.proofs.Ties.{put_settled, put_with_put, held_more}
+use Rattle.frames.specs.Stack.{Stack}
 use Rattle.name_table.specs.Strings.{Strings}
 use Rattle.input_state.specs.Callings.{Calling}
 use Rattle.input_state.specs.Stored.{Stored, KeepsMacros, gathered, words as stored_words}
 use Rattle.engine_state.specs.declared.engine.Engine.{Engine}
 use Rattle.engine_state.specs.Book.{Book, AreBodies}
-use Rattle.engine_state.specs.Stands.{IsSized, IsSound, SameStore, SameState, SameOthers, state_of}
+use Rattle.engine_state.specs.Stands.{IsSized, IsSound, OnlyColumn, SameStore, SameState, SameOthers, state_of}
 
 -- WHAT STAYS OF THE INPUT
 
@@ -120,6 +122,19 @@ sized_still sizes e e' own outer names reports store h = record {
   names = ap (λ (n : Strings). n.sizes) names ∙ h.names;
   hash = store.hash ∙ h.hash;
   located = ap (length {A = Meaning (Option ℕ)}) store.meanings ∙ h.located ∙ ap (λ (n : Strings). 514 + length n.names) (sym names);
+}
+
+-- only the column changed, and then the count of reports
+pub counted_sized : (sizes : Sizes) (e e' : Engine) (n : ℕ) → OnlyColumn e e' → n ≤ reports_room → IsSized sizes e → IsSized sizes (record e' { reports = n })
+counted_sized sizes e e' n only few h = record {
+  few_reports = few;
+  small = h.small;
+  own = only.sizes ∙ h.own;
+  outer = ap (λ (o : Stack). o.size) only.outer ∙ h.outer;
+  input = ap (λ (i : Stored). i.sizes) only.input ∙ h.input;
+  names = ap (λ (s : Strings). s.sizes) only.names ∙ h.names;
+  hash = ap (λ (i : Stored). i.hash_size) only.input ∙ h.hash;
+  located = ap (λ (i : Stored). length i.meanings) only.input ∙ h.located ∙ ap (λ (s : Strings). 514 + length s.names) (sym only.names);
 }
 
 module _ (sizes : Sizes) (e e' : Engine) (number : ℕ → ℕ) (macros : List (List Token)) where
