@@ -28,9 +28,8 @@ impl Text {
     pub(crate) fn new(alloc: Global, bytes: &[u8]) -> Result<Text, AllocError>
         ensures { IfOk result (λ t. t ≡ bytes.now) }
     {
-        let mut own = Vec::new(alloc);
-        own.extend_from_slice(bytes)?;
-        Ok(Text { bytes: own })
+        let bytes = Vec::from_slice(alloc, bytes)?;
+        Ok(Text { bytes })
     }
 
     pub(crate) fn as_slice(&self) -> &[u8]
@@ -66,9 +65,8 @@ impl Reader {
     pub(crate) fn new(alloc: Global, bytes: &[u8]) -> Result<Reader, AllocError>
         ensures { IfOk result (λ r. r ≡ bytes.now) }
     {
-        let mut own = Vec::new(alloc);
-        own.extend_from_slice(bytes)?;
-        Ok(Reader { bytes: own, at: 0 })
+        let bytes = Vec::from_slice(alloc, bytes)?;
+        Ok(Reader { bytes, at: 0 })
     }
 
     /// Moves the first bytes that are left to the front of the piece, as many as it has room for.

@@ -66,7 +66,6 @@ pub fn write_file<F: Files>(files: &mut F, id: OutId, bytes: &[u8]) -> Result<()
 /// The most bytes that a file read whole may have.
 const MOST: usize = 4294967296;
 
-#[tactic(auto, using(crate::proofs::Reading::so_far_none, crate::proofs::Reading::so_far_read, crate::proofs::Reading::so_far_whole, crate::proofs::Reading::only_reads_none, crate::proofs::Reading::only_reads_on, crate::proofs::Reading::only_reads_same))]
 /// Reads what an open reader has left.
 fn read_rest<F: Files>(alloc: Global, files: &mut F, id: InId) -> Result<Vec<u8>, Fault>
     requires { (F.told files.old).reading id.number ≡ true }
@@ -93,7 +92,6 @@ fn read_rest<F: Files>(alloc: Global, files: &mut F, id: InId) -> Result<Vec<u8>
     }
 }
 
-#[tactic(auto, using(crate::proofs::Reading::still_open, crate::proofs::Reading::closed_again, crate::proofs::Reading::opened_content))]
 /// Reads a file whole: its bytes, or `None` where there is no file of this name. Its reader is closed afterwards.
 ///
 /// # Errors
