@@ -1,6 +1,6 @@
 -- What a window's bytes make of what stands behind the lines.
 use Rattle.std.proofs.Common.{◌≡◌, ℕ, ◌+◌, ◌-◌, ◌<◌, ◌≤◌, Bool, false, true, List, [], ◌∷◌, ◌++◌, length, take, drop, set, get_or, refl, ap, sym, ◌∙◌, subst, arith}
-use Rattle.std.specs.Prelude.{Option, Some, Result, Ok, Err, IfOk, OnErr}
+use Rattle.std.specs.Prelude.{Option, None, Some, Result, Ok, Err, IfOk, OnErr}
 use Rattle.std.proofs.lemmas.List.{length-append, take_rest}
 use Rattle.std.proofs.lemmas.Grind.{common_steps}
 use Rattle.plain_state.specs.Lines.{has_feed, before_feed, behind_feed, without_last}
@@ -13,6 +13,11 @@ use Rattle.line_reader.specs.Reading.{CameIn}
 use Rattle.line_reader.proofs.AheadOf.{ahead-with, with-same}
 use Rattle.line_reader.proofs.LineEnds.{without_short}
 use Rattle.line_reader.proofs.Views.{grown_is, grown_sound, tail_view, size_view, used_view, length_tail}
+
+-- what is no value at all is none
+pub is_none : {T : Type 0} (o : Option T) → ((x : T) → o ≡ Some x → ⊥) → o ≡ None
+is_none None h = refl
+is_none (Some x) h = absurd (h x refl)
 
 before_none : (ys : List ℕ) → has_feed (before_feed ys) ≡ false
 before_none [] = refl
