@@ -5,7 +5,6 @@ use crate::macro_tests::repeated;
 use engine_state::{Broken, Engine, Outcome};
 use line_reader::Reader;
 use std::alloc::{AllocError, Global};
-use std::test::Fail;
 use stomach::{Early, Ended, run_steps};
 use tex_defs::{Full, Sizes, Table};
 use world_io::{Fault, Files, MemFiles, MemSink};
@@ -85,10 +84,11 @@ fn words_at(
     job: Job,
     written: &[u8],
     full: Option<Full>,
-) -> Result<Option<u32>, AllocError> {
+) -> Option<u32> {
     let mut files = MemFiles::new(alloc);
     let mut out = MemSink::new(alloc);
-    words_over(alloc, sizes, job, (written, full), &mut files, &mut out)
+    let words = words_over(alloc, sizes, job, (written, full), &mut files, &mut out);
+    words.unwrap_or(None)
 }
 
 /// A message; a line of 79 bytes; a text of 99 tokens: each with what it writes.
@@ -108,11 +108,10 @@ const FITTING: [(&[u8], &[u8]); 3] = [
 ];
 
 #[test]
-fn the_least_sizes_hold_what_fits(rt: HostRuntime) -> Result<(), Fail> {
+fn the_least_sizes_hold_what_fits(rt: HostRuntime) {
     for row in &FITTING {
-        assert!(rt; words_at(rt.alloc(), &LEAST, (b"job", row.0), row.1, None)?.is_some());
+        assert!(rt; words_at(rt.alloc(), &LEAST, (b"job", row.0), row.1, None).is_some());
     }
-    Ok(())
 }
 
 /// A text of one token more; a name behind thirteen that fill 200 strings with the job's and those of the 186 primitives: each
@@ -155,10 +154,10 @@ const LONG_LINE: &[u8] =
     b"xxxxxxxxxxxxxxxxxxxxxxxxxxxxxxxxxxxxxxxxxxxxxxxxxxxxxxxxxxxxxxxxxxxxxxxxxxxxxxxx\n\\end\n";
 
 #[test]
-fn one_more_is_refused(rt: HostRuntime) -> Result<(), Fail> {
+fn one_more_is_refused(rt: HostRuntime) {
     let alloc = rt.alloc();
     for row in &FULL {
-        assert!(rt; words_at(alloc, &LEAST, (b"job", row.0), row.1, Some(row.2))?.is_some());
+        assert!(rt; words_at(alloc, &LEAST, (b"job", row.0), row.1, Some(row.2)).is_some());
     }
     // no list is held where the line is refused
     let full = Full {
@@ -166,27 +165,27 @@ fn one_more_is_refused(rt: HostRuntime) -> Result<(), Fail> {
         used: 0,
         size: 80,
     };
-    assert!(rt; words_at(alloc, &LEAST, (b"job", LONG_LINE), b"", Some(full))? == Some(0));
-    Ok(())
+    assert!(rt; words_at(alloc, &LEAST, (b"job", LONG_LINE), b"", Some(full)) == Some(0));
 }
 
 /// Whether a job's name of so many bytes finds the pool so.
-fn is_named(alloc: Global, count: usize, full: Option<Full>) -> Result<bool, AllocError> {
-    let name = repeated(alloc, b"a", count, b"")?;
-    Ok(words_at(alloc, &LEAST, (name.as_slice(), b"\\end\n"), b"", full)?.is_some())
+fn is_named(alloc: Global, count: usize, full: Option<Full>) -> bool {
+    let Ok(name) = repeated(alloc, b"a", count, b"") else {
+        return false;
+    };
+    words_at(alloc, &LEAST, (name.as_slice(), b"\\end\n"), b"", full).is_some()
 }
 
 #[test]
-fn a_job_name_too_long_for_the_pool_is_refused(rt: HostRuntime) -> Result<(), Fail> {
+fn a_job_name_too_long_for_the_pool_is_refused(rt: HostRuntime) {
     // the names of the primitives have 1689 bytes
     let full = Full {
         table: Table::PoolSize,
         used: 1689,
         size: 4000,
     };
-    assert!(rt; is_named(rt.alloc(), 2311, None)?);
-    assert!(rt; is_named(rt.alloc(), 2312, Some(full))?);
-    Ok(())
+    assert!(rt; is_named(rt.alloc(), 2311, None));
+    assert!(rt; is_named(rt.alloc(), 2312, Some(full)));
 }
 
 /// The words that are used where the run of this text, within these sizes, comes to where this table is full.
@@ -196,7 +195,7 @@ fn words_where_full(
     text: &[u8],
     table: Table,
     size: u32,
-) -> Result<Option<u32>, AllocError> {
+) -> Option<u32> {
     let full = Full {
         table,
         used: size,
@@ -210,7 +209,7 @@ const DOUBLED: &[u8] =
     b"\\catcode`\\{=1 \\catcode`\\}=2 \\def\\b{xxxxxxxxxx}\\def\\a{\\edef\\b{\\b\\b}\\a}\\a";
 
 #[test]
-fn a_full_memory_is_full_of_what_is_held(rt: HostRuntime) -> Result<(), Fail> {
+fn a_full_memory_is_full_of_what_is_held(rt: HostRuntime) {
     let alloc = rt.alloc();
     let words = words_where_full(
         alloc,
@@ -218,11 +217,10 @@ fn a_full_memory_is_full_of_what_is_held(rt: HostRuntime) -> Result<(), Fail> {
         DOUBLED,
         Table::MainMemorySize,
         30000,
-    )?;
+    );
     assert!(rt; words == Some(30000));
-    let words = words_where_full(alloc, &LEAST, DOUBLED, Table::MainMemorySize, 100)?;
+    let words = words_where_full(alloc, &LEAST, DOUBLED, Table::MainMemorySize, 100);
     assert!(rt; words == Some(100));
-    Ok(())
 }
 
 /// Nine arguments at most.
@@ -254,9 +252,8 @@ const CALLS: [(Sizes, &[u8], Table, u32); 3] = [
 ];
 
 #[test]
-fn levels_and_arguments_are_refused_at_their_least_sizes(rt: HostRuntime) -> Result<(), Fail> {
+fn levels_and_arguments_are_refused_at_their_least_sizes(rt: HostRuntime) {
     for row in &CALLS {
-        assert!(rt; words_where_full(rt.alloc(), &row.0, row.1, row.2, row.3)?.is_some());
+        assert!(rt; words_where_full(rt.alloc(), &row.0, row.1, row.2, row.3).is_some());
     }
-    Ok(())
 }

@@ -2,7 +2,6 @@
 use crate::macro_tests::repeated;
 use std::alloc::{AllocError, Global};
 use std::process::Abort;
-use std::test::Fail;
 use tex_program::top;
 use world_io::{MemFiles, MemSink};
 
@@ -72,45 +71,36 @@ fn does_over(
     Ok(status == expected.status && out.bytes() == expected.text)
 }
 
-/// Whether the program does so, by these words in this setting.
-fn does(
-    alloc: Global,
-    words: &[&str],
-    setting: &Setting,
-    expected: &Expected,
-) -> Result<bool, AllocError> {
+/// Whether the program does so, by these words in this setting. Where memory is wanted it doesn't.
+fn does(alloc: Global, words: &[&str], setting: &Setting, expected: &Expected) -> bool {
     let mut files = MemFiles::new(alloc);
     let mut out = MemSink::new(alloc);
-    does_over(alloc, words, setting, expected, &mut files, &mut out)
+    let done = does_over(alloc, words, setting, expected, &mut files, &mut out);
+    matches!(done, Ok(true))
 }
 
 /// A file behind the line with the usual categories, what it writes, and its status.
 pub type Row = (&'static [u8], &'static [u8], u8);
 
 /// Each of the files does so; the row that doesn't is named.
-pub fn rows_hold(rt: &impl Abort, alloc: Global, rows: &[Row]) -> Result<(), Fail> {
+pub fn rows_hold(rt: &impl Abort, alloc: Global, rows: &[Row]) {
     for (k, row) in rows.iter().enumerate() {
-        assert!(rt; job(alloc, row.0, row.1, row.2)?, "row {k}");
+        assert!(rt; job(alloc, row.0, row.1, row.2), "row {k}");
     }
-    Ok(())
 }
 
 /// Whether `init job` does so, where job.tex has this text behind a line that gives `{`, `}`, `#` and `^` their usual
 /// categories.
-pub fn job(alloc: Global, text: &[u8], written: &[u8], status: u8) -> Result<bool, AllocError> {
+pub fn job(alloc: Global, text: &[u8], written: &[u8], status: u8) -> bool {
     job_with(alloc, INIT, text, written, status)
 }
 
 /// As `job`, for other words than `init job`.
-pub fn job_with(
-    alloc: Global,
-    words: &[&str],
-    text: &[u8],
-    written: &[u8],
-    status: u8,
-) -> Result<bool, AllocError> {
+pub fn job_with(alloc: Global, words: &[&str], text: &[u8], written: &[u8], status: u8) -> bool {
     let usual = b"\\catcode`\\{=1 \\catcode`\\}=2 \\catcode`\\#=6 \\catcode`\\^=7\n";
-    let whole = repeated(alloc, usual, 1, text)?;
+    let Ok(whole) = repeated(alloc, usual, 1, text) else {
+        return false;
+    };
     let setting = Setting::of(b"job.tex", whole.as_slice());
     let expected = Expected {
         text: written,
@@ -120,7 +110,7 @@ pub fn job_with(
 }
 
 /// Whether `init job` does so, where job.tex has this text alone.
-fn bare_job(alloc: Global, text: &[u8], written: &[u8], status: u8) -> Result<bool, AllocError> {
+fn bare_job(alloc: Global, text: &[u8], written: &[u8], status: u8) -> bool {
     let setting = Setting::of(b"job.tex", text);
     let expected = Expected {
         text: written,
@@ -130,20 +120,13 @@ fn bare_job(alloc: Global, text: &[u8], written: &[u8], status: u8) -> Result<bo
 }
 
 #[test]
-fn a_message_is_written(rt: HostRuntime) -> Result<(), Fail> {
-    assert!(rt; job(rt.alloc(), b"\\message{hi}\\end\n", b"hi\n", 0)?);
-    Ok(())
+fn a_message_is_written(rt: HostRuntime) {
+    assert!(rt; job(rt.alloc(), b"\\message{hi}\\end\n", b"hi\n", 0));
 }
 
 /// Whether `init job` does so over this text, where each read gives so many bytes at most, and these calls of the files and of
 /// the sink fail: the one of 0 is none.
-fn over(
-    alloc: Global,
-    text: &[u8],
-    most: usize,
-    failing: (u64, u64),
-    expected: Expected,
-) -> Result<bool, AllocError> {
+fn over(alloc: Global, text: &[u8], most: usize, failing: (u64, u64), expected: Expected) -> bool {
     let setting = Setting {
         file: (b"job.tex", text),
         most,
@@ -157,13 +140,12 @@ const HI: &[u8] =
     b"\\catcode`\\{=1 \\catcode`\\}=2 \\catcode`\\#=6 \\catcode`\\^=7\n\\message{hi}\\end\n";
 
 #[test]
-fn a_failed_call_is_told(rt: HostRuntime) -> Result<(), Fail> {
+fn a_failed_call_is_told(rt: HostRuntime) {
     let alloc = rt.alloc();
     let (text, status) = (b"! Read fault.\n".as_slice(), 5);
-    assert!(rt; over(alloc, HI, 256, (2, 0), Expected { text, status })?);
+    assert!(rt; over(alloc, HI, 256, (2, 0), Expected { text, status }));
     let (text, status) = (b"! Write fault.\n".as_slice(), 6);
-    assert!(rt; over(alloc, HI, 256, (0, 1), Expected { text, status })?);
-    Ok(())
+    assert!(rt; over(alloc, HI, 256, (0, 1), Expected { text, status }));
 }
 
 /// A line of 42 bytes that writes `hi`, and two more.
@@ -171,15 +153,14 @@ const THREE_LINES: &[u8] =
     b"\\catcode`\\{=1 \\catcode`\\}=2 \\message{hi}%\n%a second line here\n\\end\n";
 
 #[test]
-fn a_file_is_read_as_it_is_needed(rt: HostRuntime) -> Result<(), Fail> {
+fn a_file_is_read_as_it_is_needed(rt: HostRuntime) {
     let alloc = rt.alloc();
     let (text, status) = (b"hi\n".as_slice(), 0);
-    assert!(rt; over(alloc, THREE_LINES, 1, (0, 0), Expected { text, status })?);
-    assert!(rt; over(alloc, THREE_LINES, 8, (0, 0), Expected { text, status })?);
+    assert!(rt; over(alloc, THREE_LINES, 1, (0, 0), Expected { text, status }));
+    assert!(rt; over(alloc, THREE_LINES, 8, (0, 0), Expected { text, status }));
     // the file is opened, its first line comes by six reads, and the next one fails
     let (text, status) = (b"hi\n! Read fault.\n".as_slice(), 5);
-    assert!(rt; over(alloc, THREE_LINES, 8, (8, 0), Expected { text, status })?);
-    Ok(())
+    assert!(rt; over(alloc, THREE_LINES, 8, (8, 0), Expected { text, status }));
 }
 
 /// Words that are no command.
@@ -197,23 +178,22 @@ const NO_COMMANDS: [&[&str]; 10] = [
 ];
 
 /// Whether these words give the usage line.
-fn usage(alloc: Global, words: &[&str]) -> Result<bool, AllocError> {
+fn usage(alloc: Global, words: &[&str]) -> bool {
     let setting = Setting::of(b"-a.tex", b"\\end\n");
     let text = b"usage: texmac init FILE, run --fmt NAME FILE, drill SEED SIZE\n".as_slice();
     does(alloc, words, &setting, &Expected { text, status: 9 })
 }
 
 #[test]
-fn words_that_are_no_command_give_the_usage(rt: HostRuntime) -> Result<(), Fail> {
+fn words_that_are_no_command_give_the_usage(rt: HostRuntime) {
     let alloc = rt.alloc();
     for words in &NO_COMMANDS {
-        assert!(rt; usage(alloc, *words)?);
+        assert!(rt; usage(alloc, *words));
     }
-    Ok(())
 }
 
 /// Whether this word finds a file of this name.
-fn finds(alloc: Global, word: &str, name: &[u8]) -> Result<bool, AllocError> {
+fn finds(alloc: Global, word: &str, name: &[u8]) -> bool {
     let setting = Setting::of(name, b"\\end\n");
     let expected = Expected {
         text: b"",
@@ -223,25 +203,23 @@ fn finds(alloc: Global, word: &str, name: &[u8]) -> Result<bool, AllocError> {
 }
 
 #[test]
-fn a_file_has_its_extension_behind_the_area(rt: HostRuntime) -> Result<(), Fail> {
+fn a_file_has_its_extension_behind_the_area(rt: HostRuntime) {
     let alloc = rt.alloc();
-    assert!(rt; finds(alloc, "a.b/job", b"a.b/job.tex")?);
-    assert!(rt; finds(alloc, "job.txt", b"job.txt")?);
-    Ok(())
+    assert!(rt; finds(alloc, "a.b/job", b"a.b/job.tex"));
+    assert!(rt; finds(alloc, "job.txt", b"job.txt"));
 }
 
 /// Whether `init job` ends so where another file alone is held.
-fn misses(alloc: Global, text: &[u8], status: u8) -> Result<bool, AllocError> {
+fn misses(alloc: Global, text: &[u8], status: u8) -> bool {
     let setting = Setting::of(b"job", b"\\end\n");
     does(alloc, INIT, &setting, &Expected { text, status })
 }
 
 #[test]
-fn a_missing_file_is_fatal(rt: HostRuntime) -> Result<(), Fail> {
+fn a_missing_file_is_fatal(rt: HostRuntime) {
     let text =
         b"! I can't find file `job.tex'.\nl.0\n! Emergency stop.\n*** (job aborted, file error in nonstop mode)\n";
-    assert!(rt; misses(rt.alloc(), text, 2)?);
-    Ok(())
+    assert!(rt; misses(rt.alloc(), text, 2));
 }
 
 /// A text that runs away.
@@ -252,10 +230,10 @@ const WITHOUT_END: [Row; 1] = [(
 )];
 
 #[test]
-fn a_run_without_end_is_fatal(rt: HostRuntime) -> Result<(), Fail> {
+fn a_run_without_end_is_fatal(rt: HostRuntime) {
     let written = b"{\\par}\n! Emergency stop.\n*** (job aborted, no legal \\end found)\n";
-    assert!(rt; bare_job(rt.alloc(), b"", written, 2)?);
-    rows_hold(&rt, rt.alloc(), &WITHOUT_END)
+    assert!(rt; bare_job(rt.alloc(), b"", written, 2));
+    rows_hold(&rt, rt.alloc(), &WITHOUT_END);
 }
 
 /// A message and a letter.
@@ -273,9 +251,9 @@ const TYPESET: [Row; 1] = [(
 )];
 
 #[test]
-fn tokens_of_typesetting_have_lines(rt: HostRuntime) -> Result<(), Fail> {
+fn tokens_of_typesetting_have_lines(rt: HostRuntime) {
     let alloc = rt.alloc();
-    assert!(rt; job(alloc, LETTER, b"hi\n{the letter x}\n", 0)?);
+    assert!(rt; job(alloc, LETTER, b"hi\n{the letter x}\n", 0));
     assert!(rt;
         job_with(
             alloc,
@@ -283,10 +261,10 @@ fn tokens_of_typesetting_have_lines(rt: HostRuntime) -> Result<(), Fail> {
             LETTER,
             b"hi\n",
             0
-        )?
+        )
     );
-    assert!(rt; bare_job(alloc, CARRIAGE_RETURNS, b"x\n{blank space  }\n", 0)?);
-    rows_hold(&rt, alloc, &TYPESET)
+    assert!(rt; bare_job(alloc, CARRIAGE_RETURNS, b"x\n{blank space  }\n", 0));
+    rows_hold(&rt, alloc, &TYPESET);
 }
 
 /// Texts that are reported.
@@ -314,23 +292,22 @@ const REPORTS: [Row; 4] = [
 ];
 
 #[test]
-fn reports_are_written(rt: HostRuntime) -> Result<(), Fail> {
+fn reports_are_written(rt: HostRuntime) {
     let written = b"! Undefined control sequence.\nl.1\n";
-    assert!(rt; bare_job(rt.alloc(), b"\\foo\\end\n", written, 1)?);
-    rows_hold(&rt, rt.alloc(), &REPORTS)
+    assert!(rt; bare_job(rt.alloc(), b"\\foo\\end\n", written, 1));
+    rows_hold(&rt, rt.alloc(), &REPORTS);
 }
 
 /// Whether 99 reports end no run.
 fn goes_on(alloc: Global) -> Result<bool, AllocError> {
     let text = repeated(alloc, b"\\foo", 99, b"\\end\n")?;
     let written = repeated(alloc, b"! Undefined control sequence.\nl.1\n", 99, b"")?;
-    bare_job(alloc, text.as_slice(), written.as_slice(), 1)
+    Ok(bare_job(alloc, text.as_slice(), written.as_slice(), 1))
 }
 
 #[test]
-fn ninety_nine_reports_end_no_run(rt: HostRuntime) -> Result<(), Fail> {
-    assert!(rt; goes_on(rt.alloc())?);
-    Ok(())
+fn ninety_nine_reports_end_no_run(rt: HostRuntime) {
+    assert!(rt; matches!(goes_on(rt.alloc()), Ok(true)));
 }
 
 /// Words with a bound, what a run that ends at step 36 writes under it, and its status.
@@ -349,11 +326,10 @@ const BOUNDS: [(&[&str], &[u8], u8); 3] = [
 ];
 
 #[test]
-fn a_run_stops_at_its_bound(rt: HostRuntime) -> Result<(), Fail> {
+fn a_run_stops_at_its_bound(rt: HostRuntime) {
     for row in &BOUNDS {
-        assert!(rt; job_with(rt.alloc(), row.0, b"\\message{hi}\\end\n", row.1, row.2)?);
+        assert!(rt; job_with(rt.alloc(), row.0, b"\\message{hi}\\end\n", row.1, row.2));
     }
-    Ok(())
 }
 
 /// Messages, with a space between them.
@@ -363,8 +339,8 @@ const PARTED: [Row; 2] = [
 ];
 
 #[test]
-fn messages_are_parted_by_a_space(rt: HostRuntime) -> Result<(), Fail> {
-    rows_hold(&rt, rt.alloc(), &PARTED)
+fn messages_are_parted_by_a_space(rt: HostRuntime) {
+    rows_hold(&rt, rt.alloc(), &PARTED);
 }
 
 /// Texts with braces, and of several lines.
@@ -378,8 +354,8 @@ const BALANCED: [Row; 2] = [
 ];
 
 #[test]
-fn texts_are_balanced(rt: HostRuntime) -> Result<(), Fail> {
-    rows_hold(&rt, rt.alloc(), &BALANCED)
+fn texts_are_balanced(rt: HostRuntime) {
+    rows_hold(&rt, rt.alloc(), &BALANCED);
 }
 
 /// Characters by `^^`, inside names too.
@@ -389,8 +365,8 @@ const HATS: [Row; 2] = [
 ];
 
 #[test]
-fn double_hats_stand_for_characters(rt: HostRuntime) -> Result<(), Fail> {
-    rows_hold(&rt, rt.alloc(), &HATS)
+fn double_hats_stand_for_characters(rt: HostRuntime) {
+    rows_hold(&rt, rt.alloc(), &HATS);
 }
 
 /// Characters as they are printed: `\newlinechar` is 0.
@@ -404,8 +380,8 @@ const PRINTED: [Row; 2] = [
 ];
 
 #[test]
-fn characters_are_printed_as_tex_prints_them(rt: HostRuntime) -> Result<(), Fail> {
-    rows_hold(&rt, rt.alloc(), &PRINTED)
+fn characters_are_printed_as_tex_prints_them(rt: HostRuntime) {
+    rows_hold(&rt, rt.alloc(), &PRINTED);
 }
 
 /// Category codes, read in each form of a number.
@@ -421,8 +397,8 @@ const CODES: [Row; 4] = [
 ];
 
 #[test]
-fn category_codes_are_read_in_each_form(rt: HostRuntime) -> Result<(), Fail> {
-    rows_hold(&rt, rt.alloc(), &CODES)
+fn category_codes_are_read_in_each_form(rt: HostRuntime) {
+    rows_hold(&rt, rt.alloc(), &CODES);
 }
 
 /// `\relax` by itself and before a text.
@@ -433,8 +409,8 @@ const RELAXED: [Row; 3] = [
 ];
 
 #[test]
-fn relax_does_nothing(rt: HostRuntime) -> Result<(), Fail> {
-    rows_hold(&rt, rt.alloc(), &RELAXED)
+fn relax_does_nothing(rt: HostRuntime) {
+    rows_hold(&rt, rt.alloc(), &RELAXED);
 }
 
 /// Prefixes, with what is reported of them.
@@ -467,8 +443,8 @@ const PREFIXES: [Row; 5] = [
 ];
 
 #[test]
-fn prefixes_stand_before_assignments(rt: HostRuntime) -> Result<(), Fail> {
-    rows_hold(&rt, rt.alloc(), &PREFIXES)
+fn prefixes_stand_before_assignments(rt: HostRuntime) {
+    rows_hold(&rt, rt.alloc(), &PREFIXES);
 }
 
 /// An active, an ignored, a comment and an escape character.
@@ -484,8 +460,8 @@ const CATEGORIES: [Row; 4] = [
 ];
 
 #[test]
-fn categories_are_followed(rt: HostRuntime) -> Result<(), Fail> {
-    rows_hold(&rt, rt.alloc(), &CATEGORIES)
+fn categories_are_followed(rt: HostRuntime) {
+    rows_hold(&rt, rt.alloc(), &CATEGORIES);
 }
 
 /// Messages of 99, 100 and 200 letters.
@@ -509,30 +485,29 @@ const LETTERS: [Row; 3] = [
 ];
 
 #[test]
-fn a_full_main_memory_ends_the_run(rt: HostRuntime) -> Result<(), Fail> {
+fn a_full_main_memory_ends_the_run(rt: HostRuntime) {
     let words = ["texmac", "init", "--mem", "100", "job"];
     for row in &LETTERS {
-        assert!(rt; job_with(rt.alloc(), &words, row.0, row.1, row.2)?);
+        assert!(rt; job_with(rt.alloc(), &words, row.0, row.1, row.2));
     }
-    Ok(())
 }
 
 /// Whether a line of so many bytes does so.
-fn line(alloc: Global, count: usize, written: &[u8], status: u8) -> Result<bool, AllocError> {
+fn line(alloc: Global, count: usize, written: &[u8], status: u8) -> bool {
     let words = ["texmac", "init", "--quiet", "job"];
-    let text = repeated(alloc, b"x", count, b"\n\\end\n")?;
+    let Ok(text) = repeated(alloc, b"x", count, b"\n\\end\n") else {
+        return false;
+    };
     job_with(alloc, &words, text.as_slice(), written, status)
 }
 
 #[test]
-fn a_line_of_the_buffer_size_fits(rt: HostRuntime) -> Result<(), Fail> {
-    assert!(rt; line(rt.alloc(), 499, b"", 0)?);
-    Ok(())
+fn a_line_of_the_buffer_size_fits(rt: HostRuntime) {
+    assert!(rt; line(rt.alloc(), 499, b"", 0));
 }
 
 #[test]
-fn a_line_too_long_ends_the_run(rt: HostRuntime) -> Result<(), Fail> {
+fn a_line_too_long_ends_the_run(rt: HostRuntime) {
     let full = b"! TeX capacity exceeded, sorry [buffer size=500].\n";
-    assert!(rt; line(rt.alloc(), 500, full, 3)?);
-    Ok(())
+    assert!(rt; line(rt.alloc(), 500, full, 3));
 }
