@@ -1,6 +1,7 @@
 //! The outside: where text is written, and files are read and written.
 #![tactic(auto)]
 
+mod again;
 mod calls;
 mod counts;
 mod mem_files;

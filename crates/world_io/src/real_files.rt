@@ -1,12 +1,14 @@
 // Real files: part of the trusted edge.
+use crate::again::{open_again, read_again, write_again};
 use crate::counts::{fault_of, raise};
 use crate::numbers::place;
 use crate::text::Text;
 use crate::{Fault, Files, InId, OutId};
 use slab::Slab;
 use std::alloc::Global;
-use std::io::{ErrorKind, Read, Write};
-use std::{fs, rt};
+use std::fs::OpenOptions;
+use std::io::ErrorKind;
+use std::rt;
 
 /// An open file and its name.
 #[derive(Drop)]
@@ -15,7 +17,7 @@ struct Writer<F> {
     file: F,
 }
 
-/// The files of a runtime. Nothing is told of what they hold.
+/// The files of a runtime. Nothing is told of what they hold. A call that a signal interrupts is made again.
 #[derive(Drop)]
 pub struct RealFiles<'a, R: rt::Files> {
     rt: &'a R,
@@ -59,7 +61,9 @@ impl<R: rt::Files> RealFiles<'_, R> {
         let Ok(name) = Text::new(self.alloc, name) else {
             return Err(Fault::NoMemory);
         };
-        match fs::create(self.rt, path) {
+        let mut how = OpenOptions::new();
+        how.write(true).create(true).truncate(true);
+        match open_again(self.rt, &how, path) {
             Ok(file) => Ok(Writer { name, file }),
             Err(error) => Err(fault_of(&error)),
         }
@@ -86,7 +90,9 @@ impl<R: rt::Files> Files for RealFiles<'_, R> {
         let Ok(path) = str::from_utf8(name) else {
             return Ok(None);
         };
-        let fault = match fs::open(self.rt, path) {
+        let mut how = OpenOptions::new();
+        how.read(true);
+        let fault = match open_again(self.rt, &how, path) {
             Ok(file) => match place(&mut self.readers, file) {
                 Ok(number) => return Ok(Some(InId { number })),
                 Err(_) => Fault::NoMemory,
@@ -98,9 +104,9 @@ impl<R: rt::Files> Files for RealFiles<'_, R> {
     }
 
     fn read(&mut self, id: InId, piece: &mut [u8]) -> Result<usize, Fault> {
-        match self.readers[id.number as usize].read(piece) {
+        match read_again(&mut self.readers[id.number as usize], piece) {
             Ok(n) => Ok(n),
-            Err(error) => Err(raise(fault_of(&error), &mut self.read_faults, &mut self.wants)),
+            Err(fault) => Err(raise(fault, &mut self.read_faults, &mut self.wants)),
         }
     }
 
@@ -122,12 +128,10 @@ impl<R: rt::Files> Files for RealFiles<'_, R> {
 
     /// `Failed` also where the system takes nothing of a piece that isn't empty.
     fn write(&mut self, id: OutId, piece: &[u8]) -> Result<usize, Fault> {
-        let fault = match self.writers[id.number as usize].file.write(piece) {
-            Ok(n) if n > 0 || piece.is_empty() => return Ok(n),
-            Ok(_) => Fault::Failed,
-            Err(error) => fault_of(&error),
-        };
-        Err(raise(fault, &mut self.write_faults, &mut self.wants))
+        match write_again(&mut self.writers[id.number as usize].file, piece) {
+            Ok(n) => Ok(n),
+            Err(fault) => Err(raise(fault, &mut self.write_faults, &mut self.wants)),
+        }
     }
 
     fn close_out(&mut self, id: OutId) {

@@ -1,9 +1,11 @@
 // Standard output: part of the trusted edge.
-use crate::counts::{fault_of, raise};
+use crate::again::write_again;
+use crate::counts::raise;
 use crate::{Fault, Sink};
-use std::io::Print;
+use std::io::{Print, writer};
 
-/// Standard output, or another place where a runtime prints. Nothing is told of what it holds.
+/// Standard output, or another place where a runtime prints. Nothing is told of what it holds. A write that a signal interrupts
+/// is made again.
 #[derive(Drop)]
 pub struct RealSink<'a, P> {
     rt: &'a P,
@@ -34,11 +36,9 @@ impl<P: Print> Sink for RealSink<'_, P> {
 
     /// `Failed` also where the system takes nothing of a piece that isn't empty.
     fn write(&mut self, piece: &[u8]) -> Result<usize, Fault> {
-        let fault = match self.rt.write_some(piece) {
-            Ok(n) if n > 0 || piece.is_empty() => return Ok(n),
-            Ok(_) => Fault::Failed,
-            Err(error) => fault_of(&error),
-        };
-        Err(raise(fault, &mut self.faults, &mut self.wants))
+        match write_again(&mut writer(self.rt), piece) {
+            Ok(n) => Ok(n),
+            Err(fault) => Err(raise(fault, &mut self.faults, &mut self.wants)),
+        }
     }
 }

@@ -14,8 +14,8 @@ returns-in-Ok-clause-written g c =
       writer = seen_alike (option_map {T = Writer g.row.R-File.Denot} (λ w. w.name)) _ _ _ _ c.index_mut.ensures.value refl;
     }
 
-pub returns-clause-err : goal.returns-clause-err
-returns-clause-err g c = record {
+pub returns-in-Err-clause-err : goal.returns-in-Err-clause-err
+returns-in-Err-clause-err g c = record {
   file = λ n. refl;
   reading = λ i. refl;
   rest = λ i. refl;
