@@ -3,7 +3,7 @@
 use Rattle.std.proofs.Common.{◌≡◌, ℕ, ◌+◌, ◌-◌, ◌*◌, ◌/◌, ◌%◌, ◌<◌, ◌≤◌, nat_le, List, [], ◌∷◌, length, All, arith}
 use Rattle.std.proofs.lemmas.Bool.{cond_both, leb-true, leb-false}
 use Rattle.std.proofs.lemmas.List.Elements.{All-nil, All-cons}
-use Rattle.plain_state.specs.Numerals.{digits_until, fraction_digits}
+use Rattle.plain_tokens.specs.Numerals.{digits_until, fraction_digits}
 use Rattle.scaled_arith.specs.Scaled.{fraction_of}
 
 abbrev IsDigit : ℕ → Type 0

@@ -6,7 +6,7 @@ use Rattle.std.proofs.lemmas.Bool.{eq-eqb, ne_eqb, cond-true, cond-false}
 use Rattle.std.proofs.Math.ListN.{set}
 use Rattle.std.proofs.lemmas.List.{drop-set}
 use Rattle.std.proofs.Math.Seq.{take-length}
-use Rattle.plain_state.specs.Numerals.{hexadecimal}
+use Rattle.plain_tokens.specs.Numerals.{hexadecimal}
 
 -- writing at place i - 1 puts the byte before those from place i on
 pub drop_written : (digits : List ℕ) (i x : ℕ) → 0 < i → i ≤ length digits → drop (i - 1) (set digits (i - 1) x) ≡ x ∷ drop i digits

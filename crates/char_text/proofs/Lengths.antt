@@ -6,7 +6,7 @@ use Rattle.std.proofs.Math.Nat.{pow-suc}
 use Rattle.std.proofs.lemmas.Fmt.{length-decimal-le}
 use Rattle.std.proofs.lemmas.List.{length-map}
 use Rattle.std.proofs.lemmas.Bool.{cond-true, cond_both, le-leb, eqb-false}
-use Rattle.plain_state.specs.Numerals.{digits_until, fraction_digits, unsigned_scaled, scaled, hexadecimal}
+use Rattle.plain_tokens.specs.Numerals.{digits_until, fraction_digits, unsigned_scaled, scaled, hexadecimal}
 use Rattle.char_text.proofs.Fractions.{printed_reads}
 use Rattle.char_text.proofs.Hexadecimal.{hex_some_place}
 

@@ -3,7 +3,7 @@ use Rattle.std.proofs.Common.{◌≡◌, ℕ, zero, suc, ◌+◌, ◌-◌, ◌/�
 use Rattle.std.specs.Prelude.{bytes_eq}
 use Rattle.std.proofs.lemmas.Bool.{and_parts, cases_lt}
 use Rattle.std.proofs.lemmas.Slice.Eq.{bytes_eq-Decides}
-use Rattle.plain_state.specs.Numerals.{roman_numeral, roman_digit}
+use Rattle.plain_tokens.specs.Numerals.{roman_numeral, roman_digit}
 
 -- the numerals of the count numbers from low on begin with the letter, and go on as the numeral of the number changed
 abbrev all_begin : ℕ → (ℕ → ℕ) → ℕ → ℕ → Bool

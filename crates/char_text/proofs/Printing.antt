@@ -2,7 +2,7 @@
 use Rattle.std.proofs.Common.{◌≡◌, ℕ, zero, suc, ◌+◌, ◌-◌, ◌*◌, ◌/◌, ◌%◌, ◌<◌, ◌≤◌, nat_le, nat_lt, cond, List, [], ◌∷◌, ◌++◌, length, ap, sym, ◌∙◌, arith, append_assoc, length-append}
 use Rattle.std.proofs.lemmas.Bool.{cond-true, cond-false, le-leb, lt-leb, lt-ltb, le-ltb}
 use Rattle.char_text.specs.Readings.{characters}
-use Rattle.plain_state.specs.Numerals.{digits_until}
+use Rattle.plain_tokens.specs.Numerals.{digits_until}
 
 -- t, or t with 32768 - 50000 added where d passes 65536
 abbrev pub kept_part : ℕ → ℕ → ℕ

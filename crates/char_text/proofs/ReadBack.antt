@@ -5,7 +5,7 @@ use Rattle.std.proofs.Math.Nat.{pow-suc}
 use Rattle.std.proofs.lemmas.Fmt.{decimal_by_steps}
 use Rattle.std.proofs.lemmas.List.Elements.{All-nil, All-cons, All-push}
 use Rattle.std.specs.Fmt.{decimal}
-use Rattle.plain_state.specs.Numerals.{scaled, unsigned_scaled, fraction_digits}
+use Rattle.plain_tokens.specs.Numerals.{scaled, unsigned_scaled, fraction_digits}
 use Rattle.scaled_arith.specs.Scaled.{spelled_number, fraction_of}
 use Rattle.char_text.specs.Readings.{characters, SpellsDimension}
 use Rattle.char_text.proofs.Fractions.{AllNine, printed_reads}

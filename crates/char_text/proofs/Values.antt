@@ -3,7 +3,7 @@ use Rattle.std.proofs.Common.{◌≡◌, ℕ, zero, suc, ◌+◌, ◌-◌, ◌*�
 use Rattle.std.specs.Prelude.{◌==◌}
 use Rattle.std.proofs.lemmas.Bool.{agree_below_at, eqb-true, cond_both, cond-false, le-ltb, cases_lt}
 use Rattle.std.proofs.lemmas.Int.{ints}
-use Rattle.plain_state.specs.Numerals.{roman, roman_numeral, letter_value, first_value, roman_value}
+use Rattle.plain_tokens.specs.Numerals.{roman, roman_numeral, letter_value, first_value, roman_value}
 use Rattle.char_text.specs.Readings.{repeats_little}
 use Rattle.char_text.proofs.Letters.{begins_m}
 

@@ -1,7 +1,7 @@
 // The laws of the texts: functions that do nothing, each with a law as its contract.
 ghost use Rattle.std.specs.Prelude.{◌≡◌, ◌+◌, ◌*◌, ◌≤◌, ◌<◌, ◌^◌, ◌++◌, ◌∷◌, [], pos, ◌+ℤ◌, ◌<ℤ◌, ◌≤ℤ◌, length, codes, unsigned_abs, IsTrue};
 ghost use Rattle.std.specs.Fmt.{decimal};
-ghost use Rattle.plain_state.specs.Numerals.{whole_number, hexadecimal, digits_until, fraction_digits, scaled, roman, roman_value};
+ghost use Rattle.plain_tokens.specs.Numerals.{whole_number, hexadecimal, digits_until, fraction_digits, scaled, roman, roman_value};
 ghost use Rattle.char_text.specs.Readings.{SpellsDimension, repeats_little};
 
 /// A printed dimension reads back as itself: the bytes that `put_scaled` puts for `v` sp, with the unit `pt`,

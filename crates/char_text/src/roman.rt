@@ -1,6 +1,6 @@
 // Roman numerals, letter by letter.
 ghost use Rattle.std.specs.Prelude.{◌≡◌, ℕ, ◌<◌, List, [], ◌∷◌, MatchOption};
-ghost use Rattle.plain_state.specs.Numerals.{roman_numeral, roman};
+ghost use Rattle.plain_tokens.specs.Numerals.{roman_numeral, roman};
 
 use std::marker::Model;
 

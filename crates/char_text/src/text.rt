@@ -1,7 +1,7 @@
 // The text, and what is put into it.
 ghost use Rattle.std.specs.Prelude.{◌≡◌, ℕ, ◌+◌, ◌≤◌, ◌<◌, true, List, [], ◌∷◌, ◌++◌, length, map};
 ghost use Rattle.std.specs.Fmt.{decimal, digit_glyph};
-ghost use Rattle.plain_state.specs.Numerals.{whole_number, hexadecimal, fraction_digits, scaled};
+ghost use Rattle.plain_tokens.specs.Numerals.{whole_number, hexadecimal, fraction_digits, scaled};
 
 use arrayvec::ArrayVec;
 use itoa::Buffer;

@@ -6,9 +6,10 @@ use Rattle.tex_defs.specs.declared.Full.{Full}
 use Rattle.tex_defs.specs.Places.{World}
 use Rattle.tex_defs.specs.declared.Token.{Token}
 use Rattle.plain_state.specs.States.{State, Reading, Move, Grows, made, fed_with}
-use Rattle.plain_state.specs.States as machine
+use Rattle.plain_tokens.specs.Puts as puts
 use Rattle.plain_state.specs.Readings.{Fed}
-use Rattle.plain_state.specs.Tables.{memory, refused, refusal}
+use Rattle.plain_tokens.specs.Tables.{memory, refused}
+use Rattle.plain_state.specs.Demands.{refusal}
 use Rattle.plain_machine.specs.Does.{Did}
 use Rattle.plain_machine.proofs.Doing.{did_join, did_none, did_one}
 use Rattle.input_state.specs.Callings.{NotCalling}
@@ -61,12 +62,12 @@ cut_second answer full e e1 e' is some list fits r same =
 
 -- WHAT THE MACHINE DOES
 
-pub same_growth : (t : Token) (lists : List (List Token)) → machine.grow_first t lists ≡ grow_first t lists
+pub same_growth : (t : Token) (lists : List (List Token)) → puts.grow_first t lists ≡ grow_first t lists
 same_growth t [] = refl
 same_growth t (ts ∷ lists) = refl
 
 -- where lists that are set aside stand behind it
-first_growth : (t : Token) (lists aside : List (List Token)) → (lists ≡ [] → ⊥) → machine.grow_first t (lists ++ aside) ≡ grow_first t lists ++ aside
+first_growth : (t : Token) (lists aside : List (List Token)) → (lists ≡ [] → ⊥) → puts.grow_first t (lists ++ aside) ≡ grow_first t lists ++ aside
 first_growth t [] aside list = absurd (list refl)
 first_growth t (ts ∷ lists) aside list = refl
 
@@ -89,7 +90,7 @@ module _ (sizes : Sizes) (book : Book) (w : World) where
       Did sizes (state_of e book) (state_of e' book) w w (Grows t ∷ [])
   grow_did e e' t is list none sound fits =
       let grown : Engine = listed e (grow_first t e.input.builds) e'.input.lists in
-      let lists : machine.grow_first t (gathered e.input) ≡ gathered grown.input = ap (machine.grow_first t) (bare e.input none) ∙ first_growth t e.input.builds e.input.aside list ∙ sym (bare grown.input none) in
+      let lists : puts.grow_first t (gathered e.input) ≡ gathered grown.input = ap (puts.grow_first t) (bare e.input none) ∙ first_growth t e.input.builds e.input.aside list ∙ sym (bare grown.input none) in
       did_one sizes (Grows t) (state_of e book) (state_of e' book) w w (words_more sizes e book 1 None sound fits)
       (ap (λ (l : List (List Token)). record (state_of e book) { gathered = l }) lists ∙ ap (λ (x : Engine). state_of x book) (sym is)) (quiet_here (Grows t) w tt)
 

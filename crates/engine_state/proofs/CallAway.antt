@@ -1,14 +1,17 @@
 -- An argument that runs away: it is shown, a token put in front, and a report comes.
 use Rattle.std.proofs.Common.{◌≡◌, ℕ, List, [], ◌∷◌, ◌++◌, refl, sym, ap, subst, ◌∙◌, Bool}
 use Rattle.std.specs.Prelude.{Option, Some, None}
+use Rattle.tex_syntax.specs.declared.words.Report.{Report}
+use Rattle.tex_syntax.specs.declared.words.Scanned.TheVariants as scanned
 use Rattle.tex_defs.specs.declared.Sizes.{Sizes}
 use Rattle.tex_defs.specs.declared.Token.{Token}
 use Rattle.tex_defs.specs.Places.{World, Transcript}
-use Rattle.plain_state.specs.Reports.{Report, OfUse, runaway_bytes}
+use Rattle.plain_tokens.specs.Printed.{initial_style}
+use Rattle.plain_state.specs.Reports.{runaway_bytes}
 use Rattle.plain_state.specs.Readings.{list_or_none}
 use Rattle.token_lists.specs.Table.{Entry, tokens_at}
 use Rattle.plain_state.specs.States as machine
-use Rattle.plain_state.specs.States.{State, Move, Written, Closed}
+use Rattle.plain_state.specs.States.{State, Move, Written}
 use Rattle.plain_machine.specs.Plan.{Page, page_behind, put_one, failed}
 use Rattle.plain_machine.specs.Does.{Did}
 use Rattle.plain_machine.specs.Runs.{steps}
@@ -20,7 +23,6 @@ use Rattle.engine_state.specs.declared.broken.Broken.{Broken}
 use Rattle.engine_state.specs.declared.engine.Engine.{Engine}
 use Rattle.engine_state.specs.declared.outcome.Ruled.{Ruled}
 use Rattle.engine_state.specs.declared.outcome.Ruled.TheVariants.{Step, Free, Halted}
-use Rattle.engine_state.specs.Begins.{outcome_of}
 use Rattle.engine_state.specs.Book.{Book}
 use Rattle.engine_state.specs.Calls.{call_away_moves}
 use Rattle.engine_state.specs.Stands.{OnlyColumn, state_of, page_of}
@@ -33,7 +35,7 @@ use Rattle.engine_state.proofs.Joining.{went_on, halts_on}
 pub free_join : (sizes : Sizes) (s u : State) (e' : Engine) (book : Book) (w v w' : World) (ms ns : List Move) (ruled : Ruled) → u.reports ≡ s.reports → Did sizes s u w v ms → steps ms ≡ 0 → (IsStep ruled → ⊥) → DoesRule sizes u e' book v w' ns ruled → DoesRule sizes s e' book w w' (ms ++ ns) ruled
 free_join sizes s u e' book w v w' ms ns Step l d n none_here h = absurd (none_here tt)
 free_join sizes s u e' book w v w' ms ns Free l d n none_here h = went_on sizes s u e' w v w' ms ns 0 0 d n h
-free_join sizes s u e' book w v w' ms ns (Halted o) l d n none_here h = halts_on sizes s u e' book w v w' ms ns (outcome_of o) 0 1 l d n h
+free_join sizes s u e' book w v w' ms ns (Halted o) l d n none_here h = halts_on sizes s u e' book w v w' ms ns o 0 1 l d n h
 
 module _ (sizes : Sizes) (e e1 e2 : Engine) (f : FilesTold) (s0 s1 : SinkTold) (text : List ℕ) (t : Token) (report : Report) (book : Book) (only : OnlyColumn e e1) (page : page_of e2 book ≡ page_of e1 book)
     (shown : Did sizes (state_of e book) (state_of e1 book) (world_of f s0 e) (world_of f s1 e1) (Written Transcript text ∷ [])) where
@@ -78,5 +80,5 @@ pub work_is : (table held : List (Option Entry)) (id : ℕ) (o : Option (List To
 work_is table held id o t is = ap (λ (x : List (Option Entry)). tokens_at x id) t ∙ ap list_or_none (sym is)
 
 -- an argument without a list
-pub empty_is : (categories : List ℕ) (names : List (List ℕ)) (b : Bool) (text : List ℕ) (o : Option (List Token)) → o ≡ None → text ≡ runaway_bytes OfUse categories names b [] → text ≡ runaway_bytes OfUse categories names b (list_or_none o)
-empty_is categories names b text o none is = is ∙ ap (λ (x : Option (List Token)). runaway_bytes OfUse categories names b (list_or_none x)) (sym none)
+pub empty_is : (categories : List ℕ) (names : List (List ℕ)) (b : Bool) (text : List ℕ) (o : Option (List Token)) → o ≡ None → text ≡ runaway_bytes scanned.Use (initial_style categories names) b [] → text ≡ runaway_bytes scanned.Use (initial_style categories names) b (list_or_none o)
+empty_is categories names b text o none is = is ∙ ap (λ (x : Option (List Token)). runaway_bytes scanned.Use (initial_style categories names) b (list_or_none x)) (sym none)

@@ -1,12 +1,14 @@
 -- A call that ends.
 use Rattle.std.proofs.Common.{◌≡◌, ℕ, ◌+◌, ◌<◌, List, [], ◌∷◌, ◌++◌, length, drop, refl, sym, ap, subst, ◌∙◌, arith}
 use Rattle.std.specs.Prelude.{Option, Some, None}
+use Rattle.tex_syntax.specs.declared.words.Report.{Report}
+use Rattle.tex_syntax.specs.declared.words.Outcome.{Outcome}
 use Rattle.tex_defs.specs.declared.Sizes.{Sizes}
 use Rattle.tex_defs.specs.declared.Token.{Token}
 use Rattle.tex_defs.specs.Places.{World, Transcript}
 use Rattle.plain_state.specs.Readings as reading
-use Rattle.plain_state.specs.Reports.{Report, report_bytes}
-use Rattle.plain_state.specs.States.{State, Reading, Move, Outcome, Closed, Written, Reported, made}
+use Rattle.plain_state.specs.Reports.{plain_style, report_bytes}
+use Rattle.plain_state.specs.States.{State, Reading, Move, Closed, Written, Reported, made}
 use Rattle.plain_machine.specs.Plan.{answered, failed, reported}
 use Rattle.plain_machine.specs.Does.{Did}
 use Rattle.plain_machine.specs.Runs.{steps}
@@ -101,7 +103,7 @@ pub failed_went : (sizes : Sizes) (e e1 e2 : Engine) (book : Book) (r : Reading)
     Reports sizes (state_of e (with_work (r ∷ rs) book)) (state_of e1 (with_work (r ∷ rs) book)) (world_of f s0 e) (world_of f s1 e1) (page_of e book) report (Closed ∷ []) →
     Went sizes (state_of e (with_work (r ∷ rs) book)) e2 (world_of f s0 e) (world_of f s1 e2) (failed (page_of e book) report) 0
 failed_went sizes e e1 e2 book r rs c f s0 s1 report is st same input sized after macros h =
-    let written : List Move = Written Transcript (report_bytes e.names.names e.in_line e.input.pending.number report) ∷ Reported ∷ [] in
+    let written : List Move = Written Transcript (report_bytes (plain_style e.names.names) e.in_line e.input.pending.number report) ∷ Reported ∷ [] in
     went_by sizes _ e2 _ _ (written ++ Closed ∷ []) (failed (page_of e book) report) 0 h.moves
     (closed_went sizes e1 e2 book r rs c (same.call ∙ is) (reported_stands sizes e e1 (with_work (r ∷ rs) book) same input sized st) after macros _ f s1 _ written h.did refl)
 

@@ -10,12 +10,11 @@ use Rattle.tex_defs.specs.declared.Name.TheVariants as name
 use Rattle.tex_defs.specs.declared.Frozen.TheVariants as frozen
 use Rattle.tex_defs.specs.declared.Meaning.{Meaning}
 use Rattle.tex_defs.specs.declared.Meaning.TheVariants as means
-use Rattle.plain_state.specs.Arguments.{has_parameters}
-use Rattle.plain_state.specs.Meanings.{name_meaning, looked_up, location, fixed_meaning}
+use Rattle.plain_tokens.specs.Arguments.{has_parameters}
+use Rattle.plain_tokens.specs.Meanings.{name_meaning, looked_up, location, fixed_meaning}
 use Rattle.plain_state.specs.Readings as reading
-use Rattle.plain_state.specs.Readings.{Fed}
 use Rattle.plain_state.specs.States.{Reading}
-use Rattle.plain_state.specs.Tables.{is_meant, is_put, means_macro}
+use Rattle.plain_tokens.specs.Tables.{is_meant, is_put, means_macro}
 use Rattle.input_state.specs.Callings.{Calling, call_lists}
 use Rattle.input_state.specs.Macros.{list_at, is_macro}
 use Rattle.input_state.specs.Stored.{Stored}

@@ -9,11 +9,11 @@ use Rattle.tex_defs.specs.declared.Token.TheVariants as token
 use Rattle.tex_defs.specs.declared.Meaning.{Meaning}
 use Rattle.tex_defs.specs.declared.Meaning.TheVariants as means
 use Rattle.prim_table.specs.Primitives.{primitive_names, command_names, assignment_names, expandable_names, conditional_names, integer_names, dimension_names, glue_names, token_names}
-use Rattle.plain_state.specs.Names.{is_known}
-use Rattle.plain_state.specs.Tokens.{is_outer}
-use Rattle.plain_state.specs.Lex.{Lexeme, Character, ActiveName, SingleName, WordName, EmptyName, ParName}
-use Rattle.plain_state.specs.Lookup.{token_of, name_among, number_of, numbered, joins, new_among, new_name}
-use Rattle.plain_state.specs.Meanings.{fixed_locations, location, fixed_meaning, looked_up, name_meaning, seen_as, seen, first_meanings}
+use Rattle.plain_tokens.specs.Names.{is_known}
+use Rattle.plain_tokens.specs.Tokens.{is_outer}
+use Rattle.plain_tokens.specs.Lex.{Lexeme, Character, ActiveName, SingleName, WordName, EmptyName, ParName}
+use Rattle.plain_tokens.specs.Lookup.{token_of, name_among, number_of, numbered, joins, new_among, new_name}
+use Rattle.plain_tokens.specs.Meanings.{fixed_locations, location, fixed_meaning, looked_up, name_meaning, seen_as, seen, first_meanings}
 
 abbrev Cell : Type 0
 Cell = Meaning (Option ℕ)

@@ -1,15 +1,17 @@
 -- The chain of open readings: what is defined is the list of a definition.
 use Rattle.std.proofs.Common.{◌≡◌, ℤ, ℕ, ◌+◌, ◌*◌, Bool, true, false, List, [], ◌∷◌, ◌++◌, Option, Some, None, subst, sym}
 use Rattle.std.specs.Prelude.{◌≢◌, pos, not, ◌||◌, nat_le, if◌then◌else◌}
+use Rattle.tex_syntax.specs.declared.words.Want.{Want}
+use Rattle.tex_syntax.specs.declared.words.Report.{Report}
+use Rattle.tex_syntax.specs.declared.words.Report.TheVariants.{MissingNumber}
 use Rattle.tex_defs.specs.declared.Name.{Name}
 use Rattle.tex_defs.specs.declared.Token.{Token}
 use Rattle.tex_defs.specs.declared.Seen.{Seen}
 use Rattle.tex_defs.specs.declared.Meaning.{Meaning}
-use Rattle.plain_state.specs.Categories.{begin_group}
-use Rattle.plain_state.specs.Tokens.{Want, is_other, is_space_token, means_category}
-use Rattle.plain_state.specs.Arguments as call
+use Rattle.plain_tokens.specs.Categories.{begin_group}
+use Rattle.plain_tokens.specs.Tokens.{is_other, is_space_token, means_category}
+use Rattle.plain_tokens.specs.Arguments as call
 use Rattle.plain_state.specs.Definitions as build
-use Rattle.plain_state.specs.Reports.{Report, MissingNumber}
 use Rattle.plain_state.specs.Readings.{Kind, number, Catcode, Message, Prefixed, Define, Number, Integer, Text, Definition, Arguments, Value, Int, Toks, Flag, Fed, Tok, Val, Told, Cut, Effect, SetCategory, SetMacro, Ask, More, Inner, Done, Act, ask, is_minus, is_plus, is_digit, digit_of_token, greatest_integer, number_ended, behind_number, digits_dropped, too_big, digits, missing, first_digit, code_of, behind_code, constant, unsigned, integer, closes_at, text_done, brace_missing, text, greatest_category, is_at_most, natural, bad_category, category_behind, behind_equals, equals_behind, greatest_character, bad_code, catcode, message, name_to_assign, definition_behind, define, name_behind, build_ask, manner, build_fed, is_long, is_outer_prefix, is_global, is_raw_definition, is_expanded_definition, is_assignment, prefix_refused, limit_refused, behind_prefixes, prefixed, call_ask, gathered_by, arguments_ask}
 use Rattle.plain_state.specs.States.{Reading, fresh, begun_at, fed_with, lending, holding, without_one, ended_with}
 use Rattle.engine_state.specs.Begins.{IsNoExpansion}

@@ -1,12 +1,13 @@
 -- A definition is done only with a list that has a token.
 use Rattle.std.proofs.Common.{◌≡◌, ℕ, ◌+◌, ◌-◌, Bool, true, false, List, [], ◌∷◌, ◌++◌, Option, Some, None, subst}
 use Rattle.std.specs.Prelude.{◌≢◌, ◌==◌, nat_le, if◌then◌else◌}
+use Rattle.tex_syntax.specs.declared.words.Manner.{Manner}
 use Rattle.tex_defs.specs.declared.Name.{Name}
 use Rattle.tex_defs.specs.declared.Token.{Token}
 use Rattle.tex_defs.specs.declared.Token.TheVariants.{Place, Number, EndPlaces}
-use Rattle.plain_state.specs.Categories.{begin_group, end_group}
-use Rattle.plain_state.specs.Tokens.{has_category}
-use Rattle.plain_state.specs.Definitions.{Manner, Body, Fed, Tok, Told, Given, Answer, More, Tells, Done, is_parameter, character_of, is_digit, is_number, number_of, is_reference, count_of, with_cell, body, reference, illegal, macro_body, no_body, parameters, place, tenth, misnumbered, definition}
+use Rattle.plain_tokens.specs.Categories.{begin_group, end_group}
+use Rattle.plain_tokens.specs.Tokens.{has_category}
+use Rattle.plain_state.specs.Definitions.{Body, Fed, Tok, Told, Given, Answer, More, Tells, Done, is_parameter, character_of, is_digit, is_number, number_of, is_reference, count_of, with_cell, body, reference, illegal, macro_body, no_body, parameters, place, tenth, misnumbered, definition}
 use Rattle.plain_state.specs.Readings as reading
 use Rattle.plain_state.specs.Readings.{build_ask, build_fed, manner}
 

@@ -2,18 +2,17 @@
 use Rattle.std.proofs.Common.{◌≡◌, ℕ, zero, suc, List, [], ◌∷◌, ◌++◌, length, take, drop, refl, sym, ap, subst, ◌∙◌, reverse, Bool}
 use Rattle.std.proofs.lemmas.List.{take-append-drop}
 use Rattle.std.specs.Prelude.{Option, Some, None, IsSome, IfSome, MatchOption, option_to_list}
+use Rattle.tex_syntax.specs.declared.words.Scanned.{Scanned}
+use Rattle.tex_syntax.specs.declared.words.Want.{Want}
+use Rattle.tex_syntax.specs.declared.words.Scanned.TheVariants as scanned
 use Rattle.tex_defs.specs.declared.Name.{Name}
 use Rattle.tex_defs.specs.declared.Sizes.{Sizes}
 use Rattle.tex_defs.specs.declared.Token.{Token}
 use Rattle.plain_state.specs.Readings as reading
 use Rattle.plain_state.specs.Readings.{Fed, list_or_none}
-use Rattle.plain_state.specs.Reports as reports
 use Rattle.plain_state.specs.States.{Reading}
 use Rattle.plain_machine.specs.Plan.{Scanning, scanning, scanning_kind, first_of}
 use Rattle.macro_call.specs.PlainScans.{Scan, scan_work}
-use Rattle.transcript.specs.Reported.{scanned_of}
-use Rattle.transcript.specs.declared.report.Scanned.{Scanned}
-use Rattle.transcript.specs.declared.report.Scanned.TheVariants as scan
 use Rattle.input_state.specs.CallFeeds.{IsTaking as IsTakingCall, call_work}
 use Rattle.input_state.specs.Callings as calls
 use Rattle.input_state.specs.Callings.{Calling, call_lists, last_first}
@@ -24,7 +23,6 @@ use Rattle.frames.specs.declared.outer.Beneath.{Beneath}
 use Rattle.frames.specs.declared.outer.Beneath.TheVariants as beneath
 use Rattle.frames.specs.declared.scan.Ask.{Ask}
 use Rattle.frames.specs.declared.scan.Ask.TheVariants.{More}
-use Rattle.frames.specs.declared.scan.Want.{Want as ScanWant}
 use Rattle.frames.specs.declared.frame.Frame.{Frame}
 use Rattle.frames.specs.declared.frame.Frame.TheVariants as frame
 use Rattle.frames.specs.declared.frame.Waiting.{Waiting}
@@ -43,7 +41,7 @@ use Rattle.engine_state.proofs.Bare.{bare, framed}
 -- what is scanned under this name, with this list, or else what is beneath
 abbrev pub first_scan : Option (Scanned × Name) → List Token → Option Scanning → Option Scanning
 first_scan None list o = o
-first_scan (Some s) list o = Some (record { what = scanned_of s.0; name = s.1; list = list })
+first_scan (Some s) list o = Some (record { what = s.0; name = s.1; list = list })
 
 -- commands that wait build no list
 kind_beneath : (w : Waiting) (list : List Token) (o : Option Scanning) → scanning_kind (waiting_kind w) list o ≡ o
@@ -148,7 +146,7 @@ abbrev pub scans_of : Option Frame → List Beneath → Option (Scanned × Name)
 scans_of None outer = None
 scans_of (Some f) outer = first_scanned (frame_scans f) (beneath_scans (reverse outer))
 
-work_scanning : (t : Option Frame) (a : Ask) (want : ScanWant) (outer : List Beneath) (lists aside : List (List Token)) (work : List Reading) → a ≡ More want → WorkStands a t outer lists aside work →
+work_scanning : (t : Option Frame) (a : Ask) (want : Want) (outer : List Beneath) (lists aside : List (List Token)) (work : List Reading) → a ≡ More want → WorkStands a t outer lists aside work →
     scanning work (lists ++ aside) ≡ first_scan (scans_of t outer) (first_list (lists ++ aside)) None
 work_scanning None a want outer lists aside [] is h = refl
 work_scanning None a want outer lists aside (r ∷ rs) is h = absurd h
@@ -160,7 +158,7 @@ work_scanning (Some f) a want outer lists aside (r ∷ rs) is h =
     ∙ scan_twice (frame_scans f) (beneath_scans (reverse outer)) (first_list (lists ++ aside)) (first_list aside) None (λ none. sym (ap (λ (l : List (List Token)). first_list (l ++ aside)) (none_owned f lists none below.owns)))
 
 -- where no list is held, nothing is scanned
-work_bare : (t : Option Frame) (a : Ask) (want : ScanWant) (outer : List Beneath) (lists aside : List (List Token)) (work : List Reading) → a ≡ More want → lists ++ aside ≡ [] → WorkStands a t outer lists aside work → scanning work (lists ++ aside) ≡ None
+work_bare : (t : Option Frame) (a : Ask) (want : Want) (outer : List Beneath) (lists aside : List (List Token)) (work : List Reading) → a ≡ More want → lists ++ aside ≡ [] → WorkStands a t outer lists aside work → scanning work (lists ++ aside) ≡ None
 work_bare None a want outer lists aside [] is none h = refl
 work_bare None a want outer lists aside (r ∷ rs) is none h = absurd h
 work_bare (Some f) a want outer lists aside [] is none h = absurd h
@@ -183,7 +181,7 @@ work_none (Some g) a outer lists aside work none h = absurd cc
 -- frames scan texts and definitions
 abbrev pub IsListed : Option (Scanned × Name) → Type 0
 IsListed None = Unit {0}
-IsListed (Some s) = s.0 ≡ scan.Use → ⊥
+IsListed (Some s) = s.0 ≡ scanned.Use → ⊥
 
 listed_first : (o p : Option (Scanned × Name)) → IsListed o → IsListed p → IsListed (first_scanned o p)
 listed_first None p h i = i
@@ -212,57 +210,57 @@ module _ (e : Engine) where
   abbrev lists : List (List Token)
   lists = e.input.builds ++ e.input.aside
 
-  asked_as : (s : Scanned) → (s ≡ scan.Use → ⊥) → (lists ≡ [] → ⊥) → IsScanned (scanned_of s) e
-  asked_as scan.Use other some = absurd (other refl)
-  asked_as scan.Text other some = some
-  asked_as scan.Definition other some = some
+  asked_as : (s : Scanned) → (s ≡ scanned.Use → ⊥) → (lists ≡ [] → ⊥) → IsScanned s e
+  asked_as scanned.Use other some = absurd (other refl)
+  asked_as scanned.Text other some = some
+  asked_as scanned.Definition other some = some
 
   -- a list is held then
-  pub frame_asked : (o : Option (Scanned × Name)) → o ≡ scans_of e.top e.outer.items → (lists ≡ [] → ⊥) → IfSome o (λ s. IsScanned (scanned_of s.0) e)
+  pub frame_asked : (o : Option (Scanned × Name)) → o ≡ scans_of e.top e.outer.items → (lists ≡ [] → ⊥) → IfSome o (λ s. IsScanned s.0 e)
   frame_asked o is some = by_listed o (subst IsListed (sym is) (listed_all e.top e.outer.items)) where
-    by_listed : (o : Option (Scanned × Name)) → IsListed o → IfSome o (λ s. IsScanned (scanned_of s.0) e)
+    by_listed : (o : Option (Scanned × Name)) → IsListed o → IfSome o (λ s. IsScanned s.0 e)
     by_listed None h = tt
     by_listed (Some s) h = asked_as s.0 h some
 
   abbrev as_scanned : Scanned → Name → List Token → Option Scanning
-  as_scanned s name list = Some (record { what = scanned_of s; name = name; list = list })
+  as_scanned s name list = Some (record { what = s; name = name; list = list })
 
-  scan_as : (s : Scanned) (name : Name) → (s ≡ scan.Use → ⊥) → as_scanned s name (first_list lists) ≡ as_scanned s name (scanned_list (scanned_of s) e)
-  scan_as scan.Use name other = absurd (other refl)
-  scan_as scan.Text name other = refl
-  scan_as scan.Definition name other = refl
+  scan_as : (s : Scanned) (name : Name) → (s ≡ scanned.Use → ⊥) → as_scanned s name (first_list lists) ≡ as_scanned s name (scanned_list s e)
+  scan_as scanned.Use name other = absurd (other refl)
+  scan_as scanned.Text name other = refl
+  scan_as scanned.Definition name other = refl
 
   -- without a call
   module _ (sizes : Sizes) (book : Book) (uncalled : e.call ≡ None) where
-    here : (want : Option ScanWant) → Takes sizes want e book → WantsHere None want e
+    here : (want : Option Want) → Takes sizes want e book → WantsHere None want e
     here want t = subst (λ (c : Option Call). WantsHere c want e) uncalled t.0
 
-    stood : (want : Option ScanWant) → Takes sizes want e book → Stands sizes e book
+    stood : (want : Option Want) → Takes sizes want e book → Stands sizes e book
     stood want t = framed sizes e book uncalled t.1
 
-    lists_here : (want : Option ScanWant) → Takes sizes want e book → scanning_of e book.work ≡ scanning book.work lists
+    lists_here : (want : Option Want) → Takes sizes want e book → scanning_of e book.work ≡ scanning book.work lists
     lists_here want t = ap (scanning book.work) (bare e.input (stood want t).uncalled.input)
 
-    scanned_here : (want : ScanWant) → Takes sizes (Some want) e book → scanning_of e book.work ≡ first_scan (scans_of e.top e.outer.items) (first_list lists) None
+    scanned_here : (want : Want) → Takes sizes (Some want) e book → scanning_of e book.work ≡ first_scan (scans_of e.top e.outer.items) (first_list lists) None
     scanned_here want t = lists_here (Some want) t ∙ work_scanning e.top e.ask want e.outer.items e.input.builds e.input.aside book.work (here (Some want) t) (stood (Some want) t).readings
 
     none_here : Takes sizes None e book → scanning_of e book.work ≡ None
     none_here t = lists_here None t ∙ work_none e.top e.ask e.outer.items e.input.builds e.input.aside book.work (here None t) (stood None t).readings
 
-    frame_scan : (s : Scanned × Name) → Some s ≡ scans_of e.top e.outer.items → IsSome e.top → (want : Option ScanWant) → Takes sizes want e book → Scans (scanned_of s.0, s.1) e book × IsSome want
+    frame_scan : (s : Scanned × Name) → Some s ≡ scans_of e.top e.outer.items → IsSome e.top → (want : Option Want) → Takes sizes want e book → Scans (s.0, s.1) e book × IsSome want
     frame_scan s is some None t = absurd (none_open e.top (here None t) some)
     frame_scan s is some (Some want) t =
         (scanned_here want t ∙ ap (λ (o : Option (Scanned × Name)). first_scan o (first_list lists) None) (sym is) ∙ scan_as s.0 s.1 (subst IsListed (sym is) (listed_all e.top e.outer.items)), refl)
 
-    pub frames_skip : None ≡ scans_of e.top e.outer.items → (want : Option ScanWant) → Takes sizes want e book → scanning_of e book.work ≡ None
+    pub frames_skip : None ≡ scans_of e.top e.outer.items → (want : Option Want) → Takes sizes want e book → scanning_of e book.work ≡ None
     frames_skip is None t = none_here t
     frames_skip is (Some want) t = scanned_here want t ∙ ap (λ (o : Option (Scanned × Name)). first_scan o (first_list lists) None) (sym is)
 
-    pub bare_skip : lists ≡ [] → (want : Option ScanWant) → Takes sizes want e book → scanning_of e book.work ≡ None
+    pub bare_skip : lists ≡ [] → (want : Option Want) → Takes sizes want e book → scanning_of e book.work ≡ None
     bare_skip none None t = none_here t
     bare_skip none (Some want) t = lists_here (Some want) t ∙ work_bare e.top e.ask want e.outer.items e.input.builds e.input.aside book.work (here (Some want) t) none (stood (Some want) t).readings
 
-  pub frames_scan : e.call ≡ None → (o : Option (Scanned × Name)) → o ≡ scans_of e.top e.outer.items → IsSome e.top → IfSome o (λ s. (sizes : Sizes) (book : Book) (want : Option ScanWant) → Takes sizes want e book → Scans (scanned_of s.0, s.1) e book × IsSome want)
+  pub frames_scan : e.call ≡ None → (o : Option (Scanned × Name)) → o ≡ scans_of e.top e.outer.items → IsSome e.top → IfSome o (λ s. (sizes : Sizes) (book : Book) (want : Option Want) → Takes sizes want e book → Scans (s.0, s.1) e book × IsSome want)
   frames_scan uncalled None is some = tt
   frames_scan uncalled (Some s) is some = λ sizes book want t. frame_scan sizes book uncalled s is some want t
 
@@ -297,7 +295,7 @@ is_taking name long text (calls.Stopped m scan) fed h = absurd h
 is_taking name long text (calls.Gathered m args) fed h = absurd h
 
 -- a call that takes tokens is the innermost reading
-pub record Using (sizes : Sizes) (e : Engine) (c : Call) (want : Option ScanWant) (book : Book) : Type 0 where
+pub record Using (sizes : Sizes) (e : Engine) (c : Call) (want : Option Want) (book : Book) : Type 0 where
   pub r : Reading
   pub rs : List Reading
   pub work : book.work ≡ r ∷ rs
@@ -305,7 +303,7 @@ pub record Using (sizes : Sizes) (e : Engine) (c : Call) (want : Option ScanWant
   pub readings : ReadingsStand (Some (open_call c.name)) e book.number (r ∷ rs)
   pub wants : IsSome want
 
-pub using : (sizes : Sizes) (e : Engine) (c : Call) (want : Option ScanWant) (book : Book) → e.call ≡ Some c → Takes sizes want e book → Using sizes e c want book
+pub using : (sizes : Sizes) (e : Engine) (c : Call) (want : Option Want) (book : Book) → e.call ≡ Some c → Takes sizes want e book → Using sizes e c want book
 using sizes e c None book is t = absurd (subst (λ (o : Option Call). WantsHere o None e) is t.0)
 using sizes e c (Some want) book is t = by_work book.work refl where
   wants : WantsHere (Some c) (Some want) e
@@ -321,18 +319,18 @@ using sizes e c (Some want) book is t = by_work book.work refl where
   by_work [] none = absurd (subst (λ (rs : List Reading). ReadingsStand (Some (open_call c.name)) e book.number rs) none all)
   by_work (r ∷ rs) is = record { r = r; rs = rs; work = is; opened = opened; readings = subst (λ (rs : List Reading). ReadingsStand (Some (open_call c.name)) e book.number rs) is all; wants = refl }
 
-module _ (sizes : Sizes) (e : Engine) (c : Call) (want : Option ScanWant) (book : Book) (is : e.call ≡ Some c) (t : Takes sizes want e book) where
+module _ (sizes : Sizes) (e : Engine) (c : Call) (want : Option Want) (book : Book) (is : e.call ≡ Some c) (t : Takes sizes want e book) where
   u : Using sizes e c want book
   u = using sizes e c want book is t
 
   h : CallStands e book.number (open_call c.name) u.r
   h = u.readings.0
 
-  pub use_scans : Scans (reports.OfUse, c.name) e book × IsSome want
+  pub use_scans : Scans (scanned.Use, c.name) e book × IsSome want
   use_scans = (
     ap (λ (work : List Reading). scanning work (gathered e.input)) u.work
         ∙ ap (λ (k : reading.Kind). scanning_kind k (first_of u.r.holds (gathered e.input)) (scanning u.rs (drop u.r.holds (gathered e.input)))) h.kind
-        ∙ ap (λ (ts : List Token). Some (record { what = reports.OfUse; name = c.name; list = ts })) (taking_list c.name h.long _ e.input.call u.r.fed (e.input.builds ++ e.input.aside) u.r.holds h.at h.holds),
+        ∙ ap (λ (ts : List Token). Some (record { what = scanned.Use; name = c.name; list = ts })) (taking_list c.name h.long _ e.input.call u.r.fed (e.input.builds ++ e.input.aside) u.r.holds h.at h.holds),
     u.wants,
   )
 

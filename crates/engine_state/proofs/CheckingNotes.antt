@@ -2,16 +2,16 @@
 use Rattle.std.proofs.Common.{◌≡◌, ℕ, List, [], ◌∷◌, ◌++◌, length, drop, refl, sym, ap, append_assoc, subst, ◌∙◌, Bool, true, false}
 use Rattle.std.proofs.lemmas.List.{append-nil}
 use Rattle.std.specs.Prelude.{Option, Some, None, not, ◌||◌, take}
+use Rattle.tex_syntax.specs.declared.words.Want.TheVariants.{Raw}
 use Rattle.tex_defs.specs.declared.Name.{Name}
 use Rattle.tex_defs.specs.declared.Seen.{Seen}
 use Rattle.tex_defs.specs.declared.Sizes.{Sizes}
 use Rattle.tex_defs.specs.declared.Token.{Token}
-use Rattle.plain_state.specs.Arguments as call
-use Rattle.plain_state.specs.Arguments.{ParMode, Answer, arguments_in, work_in, start_of, places_of, delimiters_of, is_nil, is_some_place, is_par, has_parameters, gathering}
+use Rattle.plain_tokens.specs.Arguments as call
+use Rattle.plain_tokens.specs.Arguments.{ParMode, Answer, arguments_in, work_in, start_of, places_of, delimiters_of, is_nil, is_some_place, is_par, has_parameters}
 use Rattle.plain_state.specs.Readings as reading
 use Rattle.plain_state.specs.Readings.{Fed, Tok, Cut, gathered_by, call_fed, call_ask, mode_of}
 use Rattle.plain_state.specs.States.{Reading, Checked, fed_with, made}
-use Rattle.plain_state.specs.Tokens.{Raw}
 use Rattle.plain_machine.specs.Plan.{feeding, feeding_kind, argument_fed}
 use Rattle.plain_machine.specs.Does.{Did}
 use Rattle.plain_machine.proofs.Doing.{did_one}

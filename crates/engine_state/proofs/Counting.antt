@@ -10,7 +10,8 @@ use Rattle.tex_defs.specs.Sizes.{first_out_of_range, first_out_among, is_in_rang
 use Rattle.tex_defs.specs.declared.Table.{Table}
 use Rattle.plain_state.specs.States.{Reading, Begun}
 use Rattle.plain_state.specs.Readings.{Kind, own_lists}
-use Rattle.plain_state.specs.Tables.{memory, lists_words, refused, refusal, words}
+use Rattle.plain_tokens.specs.Tables.{memory, lists_words, refused}
+use Rattle.plain_state.specs.Demands.{refusal, words}
 use Rattle.input_state.specs.Stored.{Stored, words as stored_words}
 use Rattle.tex_defs.specs.declared.Full.{Full}
 use Rattle.frames.specs.declared.scan.Ask.{Ask}

@@ -5,7 +5,7 @@ use Rattle.tex_defs.specs.declared.Sizes.{Sizes}
 use Rattle.tex_defs.specs.declared.Full.{Full}
 use Rattle.tex_defs.specs.Places.{World, Place, Transcript, OfFile, grown}
 use Rattle.plain_state.specs.States.{State, Move, Written}
-use Rattle.plain_state.specs.Tables.{refusal}
+use Rattle.plain_state.specs.Demands.{refusal}
 use Rattle.plain_machine.specs.Runs.{Wrote, after}
 use Rattle.plain_machine.specs.Does.{Did, IsFault, IsWant}
 use Rattle.plain_machine.proofs.Doing.{did_one, cut_first, cut_later, cut_in, cut_full}

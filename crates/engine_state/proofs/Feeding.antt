@@ -2,6 +2,7 @@
 use Rattle.std.proofs.Common.{◌≡◌, ℕ, ◌+◌, Bool, false, List, [], ◌∷◌, ◌++◌, length, take, drop, refl, sym, ap, ◌∙◌, append_assoc, subst, reverse, arith}
 use Rattle.std.specs.Prelude.{Option, Some, None}
 use Rattle.std.proofs.lemmas.List.{append-nil, reverse-append}
+use Rattle.tex_syntax.specs.declared.words.Want.{Want}
 use Rattle.tex_defs.specs.declared.Seen.{Seen}
 use Rattle.tex_defs.specs.declared.Token.{Token}
 use Rattle.tex_defs.specs.declared.Name.{Name}
@@ -20,7 +21,6 @@ use Rattle.frames.specs.declared.frame.Waiting.{Waiting}
 use Rattle.frames.specs.declared.frame.Waiting.TheVariants.{Catcode, Message, Prefixed, Define, Number}
 use Rattle.frames.specs.declared.outer.Beneath.{Beneath}
 use Rattle.frames.specs.declared.outer.Beneath.TheVariants as under
-use Rattle.frames.specs.declared.scan.Want.{Want}
 use Rattle.frames.specs.declared.scan.Value.TheVariants as values
 use Rattle.frames.specs.declared.scan.Value.{Value as EngineValue}
 use Rattle.frames.specs.declared.text.TextScan.{TextScan}

@@ -3,6 +3,8 @@ use Rattle.std.proofs.Common.{◌≡◌, ◌+◌, ◌*◌, ◌<◌, ◌≤◌, B
 use Rattle.std.specs.Prelude.{Option, Some, None, IsSome, option_to_list}
 use Rattle.std.proofs.lemmas.List.{append-nil}
 use Rattle.std.proofs.lemmas.List.Sums.{sum_by-cons, sum_by-append}
+use Rattle.tex_syntax.specs.declared.words.Manner.{Manner}
+use Rattle.tex_syntax.specs.declared.words.Want.{Want}
 use Rattle.tex_defs.specs.declared.Seen.{Seen}
 use Rattle.tex_defs.specs.declared.Sizes.{Sizes}
 use Rattle.tex_defs.specs.declared.Full.{Full}
@@ -12,25 +14,23 @@ use Rattle.tex_defs.specs.declared.Name.{Name}
 use Rattle.list_builder.specs.Stages as stages
 use Rattle.list_builder.specs.declared.stage.Stage.{Stage}
 use Rattle.list_builder.specs.declared.stage.Stage.TheVariants as stage
-use Rattle.plain_state.specs.Definitions.{Manner}
 use Rattle.plain_state.specs.Readings.{Fed, Tok, Told, own_lists}
 use Rattle.plain_state.specs.Readings as reading
 use Rattle.plain_state.specs.States.{Move, Reading, Grows, Feeds, Noted, fed_with}
-use Rattle.plain_state.specs.Tables.{list_words, lists_words}
+use Rattle.plain_tokens.specs.Tables.{list_words, lists_words}
 use Rattle.plain_machine.specs.Plan.{feeding, feeding_kind, noting, grown_to}
 use Rattle.plain_machine.specs.Does.{Did}
 use Rattle.input_state.specs.Callings.{call_lists}
 use Rattle.input_state.specs.Stored.{KeepsMacros, words as stored_words}
 use Rattle.frames.specs.declared.scan.Ask.TheVariants.{More}
 use Rattle.frames.specs.declared.scan.Answer.{Answer}
-use Rattle.frames.specs.declared.scan.Want.{Want}
 use Rattle.frames.specs.declared.scan.Kind.{Kind}
 use Rattle.frames.specs.declared.frame.Frame.{Frame}
 use Rattle.frames.specs.declared.frame.Frame.TheVariants.{Waits, Integer, Text, Definition}
 use Rattle.frames.specs.declared.frame.Waiting.TheVariants as waiting
 use Rattle.frames.specs.declared.text.TextScan.{TextScan}
 use Rattle.frames.specs.declared.text.TextScan.TheVariants.{First, BraceMissing, Inside}
-use Rattle.frames.specs.Sees.{ask_of, first_list, want_of, kind_of}
+use Rattle.frames.specs.Sees.{ask_of, first_list, kind_of}
 use Rattle.frames.specs.Texts.{depth_of, IsTaking}
 use Rattle.frames.specs.Definitions.{resume_stage, HasMacro}
 use Rattle.frames.specs.Resumes.{resume, grown_by, lists_behind, frame_kind, frame_list, IsOpen, IsUntold, GivesBack, GivesNone, BeginsBare, GrowsNone, Builds, IsShallow, Owns, MayFeed, HasList, TakesTokens, IsNoDefinition}
@@ -124,7 +124,7 @@ module _ (f : Frame) (a : Answer) (lists : List (List Token)) (r : Reading) (bel
 -- THE FRAME THAT IS FED
 
 -- a frame that asks for a token takes it
-takes_stage : (m : Manner) (scan : Stage) (list : List Token) (want : Want) → reading.More (want_of want) ≡ resume_stage m scan list [] → stages.IsTelling scan → ⊥
+takes_stage : (m : Manner) (scan : Stage) (list : List Token) (want : Want) → reading.More want ≡ resume_stage m scan list [] → stages.IsTelling scan → ⊥
 takes_stage m stage.First list want h t = t
 takes_stage m stage.FirstMissing list want h t = cc
 takes_stage m (stage.Parameters count) list want h t = t
@@ -136,7 +136,7 @@ takes_stage m (stage.InBody b depth) list want h t = t
 takes_stage m (stage.Reference b depth character) list want h t = t
 takes_stage m (stage.Illegal b depth character) list want h t = cc
 
-takes_at : (f : Frame) (lists : List (List Token)) (want : Want) → reading.More (want_of want) ≡ resume f lists [] → TakesTokens f
+takes_at : (f : Frame) (lists : List (List Token)) (want : Want) → reading.More want ≡ resume f lists [] → TakesTokens f
 takes_at (Waits w) lists want h = tt
 takes_at (Integer scan) lists want h = tt
 takes_at (Text name First) lists want h = tt

@@ -1,10 +1,10 @@
 -- What the engine does, one thing after another.
 use Rattle.std.proofs.Common.{◌≡◌, ℕ, ◌+◌, ◌≤◌, List, [], ◌∷◌, ◌++◌, refl, sym, ◌∙◌, subst, Bool, arith}
 use Rattle.std.specs.Prelude.{Result, Ok, Err, IfOk, IfErr, OnOk, OnErr, IsErrAnd}
+use Rattle.tex_syntax.specs.declared.words.Outcome.{Outcome}
 use Rattle.tex_defs.specs.declared.Sizes.{Sizes}
 use Rattle.tex_defs.specs.Places.{World}
-use Rattle.plain_state.specs.States as machine
-use Rattle.plain_state.specs.States.{State, Reading, Move, Handed, Written, Reported, Stopped, AtFatal, made}
+use Rattle.plain_state.specs.States.{State, Move, Handed, Written}
 use Rattle.plain_machine.specs.Plan.{reports_room}
 use Rattle.plain_machine.specs.Runs.{Wrote, steps}
 use Rattle.plain_machine.specs.Does.{Did}
@@ -14,7 +14,6 @@ use Rattle.world_io.specs.Told.{FilesTold, SinkTold, world}
 use Rattle.engine_state.specs.declared.engine.Engine.{Engine}
 use Rattle.engine_state.specs.declared.outcome.Ruled.{Ruled}
 use Rattle.engine_state.specs.declared.outcome.Ruled.TheVariants.{Step, Free, Halted}
-use Rattle.engine_state.specs.Begins.{outcome_of}
 use Rattle.engine_state.specs.Book.{Book}
 use Rattle.engine_state.specs.Calls.{AllStand}
 use Rattle.engine_state.specs.Stands.{state_of}
@@ -86,7 +85,7 @@ on_both (Err x) f h k = tt
 pub onward_by : (sizes : Sizes) (s : State) (e' : Engine) (book : Book) (w w' : World) (ms ns : List Move) (ruled : Ruled) → ns ≡ ms → DoesOnward sizes s e' book w w' ms ruled → DoesOnward sizes s e' book w w' ns ruled
 onward_by sizes s e' book w w' ms ns ruled e h = subst (λ (x : List Move). DoesOnward sizes s e' book w w' x ruled) (sym e) h
 
-pub halts_few : (sizes : Sizes) (s u : State) (e' : Engine) (book : Book) (w v w' : World) (ms ns : List Move) (o : machine.Outcome) (k j : ℕ) → (s.reports ≤ reports_room → u.reports ≤ reports_room) → Did sizes s u w v ms → steps ms ≡ k →
+pub halts_few : (sizes : Sizes) (s u : State) (e' : Engine) (book : Book) (w v w' : World) (ms ns : List Move) (o : Outcome) (k j : ℕ) → (s.reports ≤ reports_room → u.reports ≤ reports_room) → Did sizes s u w v ms → steps ms ≡ k →
     Halts sizes u e' book v w' ns o j → Halts sizes s e' book w w' (ms ++ ns) o (k + j)
 halts_few sizes s u e' book w v w' ms ns o k j few d n h = record {
   t = h.t;
@@ -98,7 +97,7 @@ halts_few sizes s u e' book w v w' ms ns o k j few d n h = record {
   count = omega (arith, steps_join ms ns, n, h.count);
 }
 
-pub halts_on : (sizes : Sizes) (s u : State) (e' : Engine) (book : Book) (w v w' : World) (ms ns : List Move) (o : machine.Outcome) (k j : ℕ) → u.reports ≡ s.reports → Did sizes s u w v ms → steps ms ≡ k →
+pub halts_on : (sizes : Sizes) (s u : State) (e' : Engine) (book : Book) (w v w' : World) (ms ns : List Move) (o : Outcome) (k j : ℕ) → u.reports ≡ s.reports → Did sizes s u w v ms → steps ms ≡ k →
     Halts sizes u e' book v w' ns o j → Halts sizes s e' book w w' (ms ++ ns) o (k + j)
 halts_on sizes s u e' book w v w' ms ns o k j same d n h = halts_few sizes s u e' book w v w' ms ns o k j (λ room. omega (arith, room, same)) d n h
 
@@ -110,7 +109,7 @@ went_on sizes s u e' w v w' ms ns k j d n h = record {
   count = steps_join ms ns ∙ omega (arith, n, h.count);
 }
 
-pub halts_least : (sizes : Sizes) (s : State) (e' : Engine) (book : Book) (w w' : World) (ms : List Move) (o : machine.Outcome) (k j : ℕ) → k ≤ j → Halts sizes s e' book w w' ms o k → Halts sizes s e' book w w' ms o j
+pub halts_least : (sizes : Sizes) (s : State) (e' : Engine) (book : Book) (w w' : World) (ms : List Move) (o : Outcome) (k j : ℕ) → k ≤ j → Halts sizes s e' book w w' ms o k → Halts sizes s e' book w w' ms o j
 halts_least sizes s e' book w w' ms o k j le h = record { t = h.t; did = h.did; stopped = h.stopped; due = h.due; reports = h.reports; same = h.same; count = omega (arith, le, h.count) }
 
 pub same_went : (sizes : Sizes) (s : State) (e' : Engine) (w w' : World) (ms : List Move) (k j : ℕ) → k ≡ j → Went sizes s e' w w' ms k → Went sizes s e' w w' ms j
@@ -120,28 +119,28 @@ same_went sizes s e' w w' ms k j is h = subst (λ (x : ℕ). Went sizes s e' w w
 pub onward_join : (sizes : Sizes) (s u : State) (e' : Engine) (book : Book) (w v w' : World) (ms ns : List Move) (ruled : Ruled) → u.reports ≡ s.reports → Did sizes s u w v ms → steps ms ≡ 0 → DoesOnward sizes u e' book v w' ns ruled → DoesOnward sizes s e' book w w' (ms ++ ns) ruled
 onward_join sizes s u e' book w v w' ms ns Step l d n h = went_on sizes s u e' w v w' ms ns 0 0 d n h
 onward_join sizes s u e' book w v w' ms ns Free l d n h = h
-onward_join sizes s u e' book w v w' ms ns (Halted o) l d n h = halts_on sizes s u e' book w v w' ms ns (outcome_of o) 0 0 l d n h
+onward_join sizes s u e' book w v w' ms ns (Halted o) l d n h = halts_on sizes s u e' book w v w' ms ns o 0 0 l d n h
 
 -- behind which there is room for a report
 pub onward_counted : (sizes : Sizes) (s u : State) (e' : Engine) (book : Book) (w v w' : World) (ms ns : List Move) (ruled : Ruled) → u.reports ≤ reports_room → Did sizes s u w v ms → steps ms ≡ 0 → DoesOnward sizes u e' book v w' ns ruled → DoesOnward sizes s e' book w w' (ms ++ ns) ruled
 onward_counted sizes s u e' book w v w' ms ns Step few d n h = went_on sizes s u e' w v w' ms ns 0 0 d n h
 onward_counted sizes s u e' book w v w' ms ns Free few d n h = h
-onward_counted sizes s u e' book w v w' ms ns (Halted o) few d n h = halts_few sizes s u e' book w v w' ms ns (outcome_of o) 0 0 (λ room. few) d n h
+onward_counted sizes s u e' book w v w' ms ns (Halted o) few d n h = halts_few sizes s u e' book w v w' ms ns o 0 0 (λ room. few) d n h
 
 -- a step, and then moves without one
 pub step_join : (sizes : Sizes) (s u : State) (e' : Engine) (book : Book) (w v w' : World) (ms ns : List Move) (ruled : Ruled) → u.reports ≡ s.reports → Did sizes s u w v ms → steps ms ≡ 1 → DoesOnward sizes u e' book v w' ns ruled → DoesRule sizes s e' book w w' (ms ++ ns) ruled
 step_join sizes s u e' book w v w' ms ns Step l d n h = went_on sizes s u e' w v w' ms ns 1 0 d n h
 step_join sizes s u e' book w v w' ms ns Free l d n h = absurd h
-step_join sizes s u e' book w v w' ms ns (Halted o) l d n h = halts_on sizes s u e' book w v w' ms ns (outcome_of o) 1 0 l d n h
+step_join sizes s u e' book w v w' ms ns (Halted o) l d n h = halts_on sizes s u e' book w v w' ms ns o 1 0 l d n h
 
 -- moves without a step alone
 pub free_rule : (sizes : Sizes) (s : State) (e' : Engine) (book : Book) (w w' : World) (ms : List Move) (ruled : Ruled) → DoesOnward sizes s e' book w w' ms ruled → DoesRule sizes s e' book w w' ms (freed ruled)
 free_rule sizes s e' book w w' ms Step h = h
 free_rule sizes s e' book w w' ms Free h = absurd h
-free_rule sizes s e' book w w' ms (Halted o) h = halts_least sizes s e' book w w' ms (outcome_of o) 0 1 (omega arith) h
+free_rule sizes s e' book w w' ms (Halted o) h = halts_least sizes s e' book w w' ms o 0 1 (omega arith) h
 
 -- moves without a step that end the run
 pub none_rule : (sizes : Sizes) (s : State) (e' : Engine) (book : Book) (w w' : World) (ms : List Move) (ruled : Ruled) → (IsFree ruled → ⊥) → (ruled ≡ Step → ⊥) → DoesOnward sizes s e' book w w' ms ruled → DoesRule sizes s e' book w w' ms ruled
 none_rule sizes s e' book w w' ms Step f g h = absurd (g refl)
 none_rule sizes s e' book w w' ms Free f g h = absurd h
-none_rule sizes s e' book w w' ms (Halted o) f g h = halts_least sizes s e' book w w' ms (outcome_of o) 0 1 (omega arith) h
+none_rule sizes s e' book w w' ms (Halted o) f g h = halts_least sizes s e' book w w' ms o 0 1 (omega arith) h

@@ -4,6 +4,10 @@ use Rattle.std.specs.Prelude.{Option, Some, None, codes, nat_le, ◌||◌, if◌
 use Rattle.std.proofs.lemmas.List.{append-nil, length-append, length-map}
 use Rattle.std.proofs.lemmas.Bool.Decides.{nat_tests}
 use Rattle.std.proofs.lemmas.List.Sums.{sum_by-cons}
+use Rattle.tex_syntax.specs.declared.words.Want.{Want}
+use Rattle.tex_syntax.specs.declared.words.Outcome.{Outcome}
+use Rattle.tex_syntax.specs.declared.words.Report.TheVariants as reports
+use Rattle.tex_syntax.specs.declared.words.Want.TheVariants as asks
 use Rattle.tex_defs.specs.declared.Token.{Token}
 use Rattle.tex_defs.specs.declared.Seen.{Seen}
 use Rattle.tex_defs.specs.declared.Sizes.{Sizes}
@@ -11,17 +15,17 @@ use Rattle.tex_defs.specs.declared.Full.{Full}
 use Rattle.tex_defs.specs.declared.Table.TheVariants.{InputStackSize}
 use Rattle.tex_defs.specs.Sizes.{size_of}
 use Rattle.tex_defs.specs.Places.{World}
-use Rattle.plain_state.specs.Puts.{Item, Text, First, Later, Gap, Put as PutList, settled, settled_top, passed, next_item, top_item, first_item, put_levels, levels_of}
-use Rattle.plain_state.specs.Pending.{Pending, Progress, NotBegun, Begun as BegunFile, Closed, Pulled, TokenFrom, LexemeFrom, LineTaken, InvalidMet, FileOver, NothingLeft, settle, pulled, after_pull, taken_line, from_front, from_list, from_line, from_file}
-use Rattle.plain_state.specs.Lex.{Lexeme, WordName, ParName, Lexed, Gives, Invalid, UsedUp, lexed}
-use Rattle.plain_state.specs.Lookup.{number_of, token_of, joins, new_among, new_name}
+use Rattle.plain_tokens.specs.Puts.{Item, Text, First, Later, Gap, Put as PutList, settled, settled_top, passed, next_item, top_item, first_item, put_levels, levels_of}
+use Rattle.plain_tokens.specs.Pending.{Pending, Progress, NotBegun, Begun as BegunFile, Closed, Pulled, TokenFrom, LexemeFrom, LineTaken, InvalidMet, FileOver, NothingLeft, settle, pulled, after_pull, taken_line, from_front, from_list, from_line, from_file}
+use Rattle.plain_tokens.specs.Lex.{Lexeme, WordName, ParName, Lexed, Gives, Invalid, UsedUp, lexed}
+use Rattle.plain_tokens.specs.Lookup.{number_of, token_of, joins, new_among, new_name}
 use Rattle.tex_defs.specs.declared.Meaning.{Meaning}
 use Rattle.tex_defs.specs.declared.Meaning.TheVariants as means
-use Rattle.plain_state.specs.Tokens.{is_outer}
-use Rattle.plain_state.specs.Meanings.{seen}
-use Rattle.plain_state.specs.Reports as reports
+use Rattle.plain_tokens.specs.Tokens.{is_outer}
+use Rattle.plain_tokens.specs.Meanings.{seen}
 use Rattle.plain_state.specs.States.{State, Reading, Move, Handed, Taken, Settled, Skipped, FileClosed, Entered, made}
-use Rattle.plain_state.specs.Tables.{means_macro, is_meant, is_put, Demand, level, opened_level, file_levels, file_level, buffer, next_line, refused, refusal, full, string, hash, new_name as name_demands}
+use Rattle.plain_tokens.specs.Tables.{means_macro, is_meant, is_put, Demand, level, opened_level, file_levels, file_level, buffer, next_line, refused, full, string, hash, new_name as name_demands}
+use Rattle.plain_state.specs.Demands.{refusal}
 use Rattle.plain_machine.specs.Plan.{Page, handed, met, entered, without_file, Scanning, scanning, checked, reported}
 use Rattle.plain_machine.specs.Numbers.{pending_of, pulled_of}
 use Rattle.plain_machine.specs.Runs.{steps}
@@ -40,15 +44,12 @@ use Rattle.input_state.specs.declared.answer.Pulled as answers
 use Rattle.input_state.specs.declared.answer.Pulled.TheVariants as answer
 use Rattle.line_lexer.specs.declared.Lexed as answered
 use Rattle.frames.specs.Weights.{ask_weight}
-use Rattle.frames.specs.declared.scan.Want.{Want as ScanWant}
-use Rattle.frames.specs.declared.scan.Want.TheVariants as asks
 use Rattle.engine_state.specs.declared.broken.Broken.{Broken}
 use Rattle.engine_state.specs.declared.broken.Broken.TheVariants as broken
 use Rattle.engine_state.specs.declared.call.Call.{Call}
 use Rattle.engine_state.specs.declared.engine.Engine.{Engine}
 use Rattle.engine_state.specs.declared.outcome.Ruled.{Ruled}
 use Rattle.engine_state.specs.declared.outcome.Ruled.TheVariants.{Step, Free, Halted}
-use Rattle.engine_state.specs.declared.outcome.Outcome.{Outcome}
 use Rattle.engine_state.specs.declared.outcome.Last.TheVariants as last
 use Rattle.engine_state.specs.Begins.{last_moves}
 use Rattle.engine_state.specs.Steps.{IsHalted, IsSkipped, IsOver, NextStepsIf, next_met, next_free, pending_weight, call_weight, weight}
@@ -79,7 +80,7 @@ pub counts_still : (sizes : Sizes) (e e' : Engine) (book : Book) → SameFrames 
 counts_still sizes e e' book same sound h = record { sound = sound; depth = h.depth ∙ sym (same_frames e e' same) }
 
 -- a token is wanted where it was
-wants_by : (e e' : Engine) (c : Option Call) (want : Option ScanWant) → e'.top ≡ e.top → e'.ask ≡ e.ask → WantsHere c want e → WantsHere c want e'
+wants_by : (e e' : Engine) (c : Option Call) (want : Option Want) → e'.top ≡ e.top → e'.ask ≡ e.ask → WantsHere c want e → WantsHere c want e'
 wants_by e e' None None top ask h = top ∙ h
 wants_by e e' None (Some want) top ask h = ask ∙ h
 wants_by e e' (Some c) None top ask h = h
@@ -228,10 +229,10 @@ module _ (sizes : Sizes) (e : Engine) (book : Book) where
   readings_names new (Some c) [] h = h
   readings_names new (Some c) (r ∷ rs) h = (call_names new c r h.0, h.1)
 
-  pub takes_names : (want : Option ScanWant) (new : List (List ℕ)) → Takes sizes want e book → Takes sizes want (with_names new e) book
+  pub takes_names : (want : Option Want) (new : List (List ℕ)) → Takes sizes want e book → Takes sizes want (with_names new e) book
   takes_names want new h = (wants_by e (with_names new e) e.call want refl refl h.0, record { sound = sound_names new h.1.sound; idle = h.1.idle; all = readings_names new e.call book.work h.1.all })
 
-  module _ (want : Option ScanWant) (x : Lexeme) (t : Token) (is : t ≡ token_of (enters_of want) e.names.names x) (sound : IsSound sizes e book.number book.macros) where
+  module _ (want : Option Want) (x : Lexeme) (t : Token) (is : t ≡ token_of (enters_of want) e.names.names x) (sound : IsSound sizes e book.number book.macros) where
     abbrev new : List (List ℕ)
     new = new_name (enters_of want) e.names.names x
 
@@ -251,7 +252,7 @@ module _ (sizes : Sizes) (e : Engine) (book : Book) where
       by_enters true some = refl
       by_enters false some = absurd (some (none_new e.names.names x))
 
-    raw_onward : (p q : Page) (w : Option ScanWant) (y : Seen) → enters_of w ≡ true → onward_of p w book.work y ≡ onward_of q w book.work y
+    raw_onward : (p q : Page) (w : Option Want) (y : Seen) → enters_of w ≡ true → onward_of p w book.work y ≡ onward_of q w book.work y
     raw_onward p q None y h = cc
     raw_onward p q (Some asks.Raw) y h = refl
     raw_onward p q (Some asks.Expanded) y h = cc
@@ -301,7 +302,7 @@ module _ (sizes : Sizes) (e : Engine) (book : Book) where
         (in_by sizes _ e2 (world_of f s e) w' _ _ b (moves_now e1 after) here)
 
   -- the name has no room
-  pub name_full : (want : Option ScanWant) (scanned : Option Scanning) (x : Lexeme) (e1 : Engine) (f : FilesTold) (s : SinkTold) (full : Full) → IsSized sizes e → e1 ≡ e → EntryRefused e.names (new_name (enters_of want) e.names.names x) full →
+  pub name_full : (want : Option Want) (scanned : Option Scanning) (x : Lexeme) (e1 : Engine) (f : FilesTold) (s : SinkTold) (full : Full) → IsSized sizes e → e1 ≡ e → EntryRefused e.names (new_name (enters_of want) e.names.names x) full →
       Cuts sizes (state_of e book) e1 book (world_of f s e) (world_of f s e1) (name_moves (page_of e book) scanned (enters_of want) (onward_of (page_of e book) want book.work) x) (broken.Full full)
   name_full want scanned x e1 f s full sized same r =
       subst (λ (y : Engine). Cuts sizes (state_of e book) y book (world_of f s e) (world_of f s y) (name_moves (page_of e book) scanned (enters_of want) (onward_of (page_of e book) want book.work) x) (broken.Full full)) (sym same)
@@ -458,7 +459,7 @@ module _ (sizes : Sizes) (e : Engine) (i : Stored) (others : i ≡ record e.inpu
   pub stands_now : (book : Book) → SameStore e.input i → AllStand sizes e book → AllStand sizes now book
   stands_now book store st = all_still sizes e now book (frames_now e i others) store (sound_still sizes e now book.number book.macros refl refl refl refl store st.sound) (ap (λ (x : Stored). x.making) others ∙ st.idle) st
 
-  pub takes_still : (want : Option ScanWant) (book : Book) → SameStore e.input i → Takes sizes want e book → Takes sizes want now book
+  pub takes_still : (want : Option Want) (book : Book) → SameStore e.input i → Takes sizes want e book → Takes sizes want now book
   takes_still want book store h = (wants_by e now e.call want refl refl h.0, stands_now book store h.1)
 
   -- the text that is read is the same
@@ -483,12 +484,12 @@ module _ (sizes : Sizes) (e : Engine) (i : Stored) (others : i ≡ record e.inpu
       ap (λ (x : Stored). page_of (record e { input = x }) book) others ∙ ap (λ (n : ℕ). record (page_of e book) { line = n }) number
 
   -- what becomes of what was pulled
-  pub token_moves_still : (book : Book) (want : Option ScanWant) (t : Token) → page_of now book ≡ page_of e book →
+  pub token_moves_still : (book : Book) (want : Option Want) (t : Token) → page_of now book ≡ page_of e book →
       token_moves (page_of e book) (scanning_of e book.work) (onward_of (page_of e book) want book.work) t ≡ token_moves (page_of now book) (scanning_of now book.work) (onward_of (page_of now book) want book.work) t
   token_moves_still book want t page =
       ap (λ (p : Page). token_moves p (scanning_of e book.work) (onward_of p want book.work) t) (sym page) ∙ ap (λ (o : Option Scanning). token_moves (page_of now book) o (onward_of (page_of now book) want book.work) t) (sym (scanning_still book.work))
 
-  pub name_moves_still : (book : Book) (want : Option ScanWant) (x : Lexeme) → page_of now book ≡ page_of e book →
+  pub name_moves_still : (book : Book) (want : Option Want) (x : Lexeme) → page_of now book ≡ page_of e book →
       name_moves (page_of e book) (scanning_of e book.work) (enters_of want) (onward_of (page_of e book) want book.work) x ≡ name_moves (page_of now book) (scanning_of now book.work) (enters_of want) (onward_of (page_of now book) want book.work) x
   name_moves_still book want x page =
       ap (λ (p : Page). name_moves p (scanning_of e book.work) (enters_of want) (onward_of p want book.work) x) (sym page)
@@ -521,7 +522,7 @@ module _ (sizes : Sizes) (e : Engine) (i : Stored) (others : i ≡ record e.inpu
         let onto : next ≡ after_pull (settle here) (pulled e.categories (settle here)) = sym (ap (after_pull (settle here)) (pulled_settled e.categories here ∙ is) ∙ after) in
         did_join sizes _ _ _ w w w (Settled ∷ []) (m ∷ []) did_settled (did_one sizes m _ _ w w fits (makes ∙ at_behind _ onto) (quiet_here m w q))
 
-    module _ (page : Page) (want : Option ScanWant) (scanned : Option Scanning) (onward : Seen → List Move) where
+    module _ (page : Page) (want : Option Want) (scanned : Option Scanning) (onward : Seen → List Move) where
       abbrev plan : List Move
       plan = handed page (enters_of want) scanned onward (pulled e.categories here)
 

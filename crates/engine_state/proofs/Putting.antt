@@ -1,17 +1,20 @@
 -- A token that is put in front, and a string that is kept; where a reading ends or reports.
 use Rattle.std.proofs.Common.{◌≡◌, ℕ, List, [], ◌∷◌, ◌++◌, length, drop, map, refl, sym, ap, ◌∙◌, append_assoc, subst, arith}
 use Rattle.std.specs.Prelude.{Option, Some, None, Bool, true, false, is_some}
+use Rattle.tex_syntax.specs.declared.words.Report.{Report}
+use Rattle.tex_syntax.specs.declared.words.Outcome.{Outcome}
 use Rattle.tex_defs.specs.declared.Token.{Token}
 use Rattle.tex_defs.specs.declared.Seen.{Seen}
 use Rattle.tex_defs.specs.declared.Sizes.{Sizes}
 use Rattle.tex_defs.specs.declared.Full.{Full}
 use Rattle.tex_defs.specs.Places.{World, Transcript}
-use Rattle.plain_state.specs.Puts.{Item, Put as PutList, token_put, settled, settled_top}
-use Rattle.plain_state.specs.Pending.{Pending, settle, put_front}
-use Rattle.plain_state.specs.Reports.{Report, report_bytes}
+use Rattle.plain_tokens.specs.Puts.{Item, Put as PutList, token_put, settled, settled_top, grown_by}
+use Rattle.plain_tokens.specs.Pending.{Pending, settle, put_front}
+use Rattle.plain_state.specs.Reports.{plain_style, report_bytes}
 use Rattle.plain_state.specs.Readings.{Fed, Told, Value, value_lists, so_far}
-use Rattle.plain_state.specs.States.{State, Reading, Move, Settled, Kept, Grows, Noted, ListBegun, ListGrown, Put, Written, Ended, Reported, Outcome, grown_by, made, fed_with, ended_with, beneath}
-use Rattle.plain_state.specs.Tables.{Demand, refusal, refused, memory, level, string}
+use Rattle.plain_state.specs.States.{State, Reading, Move, Settled, Kept, Grows, Noted, ListBegun, ListGrown, Put, Written, Ended, Reported, made, fed_with, ended_with, beneath}
+use Rattle.plain_tokens.specs.Tables.{Demand, refused, memory, level, string}
+use Rattle.plain_state.specs.Demands.{refusal}
 use Rattle.plain_machine.specs.Plan.{Page, put_one, put_all, put_inserted, given_back, last_seen, reported, told, is_told, noting}
 use Rattle.plain_machine.specs.Numbers.{pending_of}
 use Rattle.plain_machine.specs.Runs.{Wrote, steps}
@@ -248,7 +251,7 @@ module _ (sizes : Sizes) (e : Engine) (f : FilesTold) (s0 : SinkTold) (book : Bo
     on_page rep = subst (λ (p : Page). Reports sizes (state_of e1 (with_work (r ∷ rs) book)) (state_of e2 (with_work (r ∷ rs) book)) (world f s0 p.in_line) (world_of f s2 e2) p report (noting r)) page rep
 
     abbrev written : List Move
-    written = Written Transcript (report_bytes e.names.names e.in_line e.input.pending.number report) ∷ Reported ∷ []
+    written = Written Transcript (report_bytes (plain_style e.names.names) e.in_line e.input.pending.number report) ∷ Reported ∷ []
 
     whole_is : Reports sizes (state_of e1 (with_work (r ∷ rs) book)) (state_of e2 (with_work (r ∷ rs) book)) (world_of f s0 e) (world_of f s2 e2) (page_of e book) report (noting r) → told (page_of e book) report inserted back r ≡ fronts inserted back r ++ (written ++ noting r)
     whole_is h = told_is (page_of e book) report inserted back r once ∙ ap (λ (x : List Move). fronts inserted back r ++ x) h.moves

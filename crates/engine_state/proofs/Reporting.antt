@@ -1,6 +1,10 @@
 -- Texts, reports and ends that the engine writes.
 use Rattle.std.proofs.Common.{◌≡◌, ℕ, ◌+◌, ◌≤◌, List, [], ◌∷◌, ◌++◌, length, refl, sym, ap, ◌∙◌, subst, Bool, true, false, reverse, arith}
 use Rattle.std.specs.Prelude.{Option, Some, None, Result, Ok, Err, IfErr, IsErrAnd, nat_lt, if◌then◌else◌}
+use Rattle.tex_syntax.specs.declared.words.Outcome.{Outcome}
+use Rattle.tex_syntax.specs.declared.words.Outcome.TheVariants.{AtFatal, Finished}
+use Rattle.tex_syntax.specs.declared.words.Want.{Want}
+use Rattle.tex_syntax.specs.declared.words.Report.{Report}
 use Rattle.tex_defs.specs.declared.Sizes.{Sizes}
 use Rattle.tex_defs.specs.declared.Token.{Token}
 use Rattle.tex_defs.specs.declared.Meaning.{Meaning}
@@ -9,12 +13,12 @@ use Rattle.tex_defs.specs.declared.Fatal.{Fatal}
 use Rattle.tex_defs.specs.declared.Fatal.TheVariants as fatal
 use Rattle.prim_table.specs.Primitives.{primitive_names}
 use Rattle.tex_defs.specs.Places.{World, Transcript}
+use Rattle.plain_tokens.specs.Printed.{Style, initial_style}
 use Rattle.plain_state.specs.Readings as reading
 use Rattle.plain_state.specs.Reports as reports
-use Rattle.plain_state.specs.Reports.{report_bytes, hundred_line, token_line_bytes}
-use Rattle.plain_state.specs.States as machine
-use Rattle.plain_state.specs.States.{State, Reading, Move, Written, Ended, Reported, Stopped, AtFatal, made, ended_with, beneath, fresh}
-use Rattle.plain_state.specs.Tables.{refusal}
+use Rattle.plain_state.specs.Reports.{plain_style, report_bytes, hundred_line, token_line_bytes, missing_file_bytes}
+use Rattle.plain_state.specs.States.{State, Reading, Move, Written, Ended, Reported, Stopped, made, ended_with, beneath, fresh}
+use Rattle.plain_state.specs.Demands.{refusal}
 use Rattle.plain_machine.specs.Plan.{Page, reported, reports_room, token_line, no_file, effect}
 use Rattle.plain_machine.specs.Numbers.{pending_of, meanings_of}
 use Rattle.plain_machine.specs.Runs.{Wrote, steps, step_of}
@@ -24,10 +28,7 @@ use Rattle.plain_machine.proofs.Joins.{steps_join}
 use Rattle.world_io.specs.Told.{FilesTold, SinkTold, world}
 use Rattle.world_io.specs.declared.traits.Fault.{Fault}
 use Rattle.transcript.specs.Taken.{Took, TookFront}
-use Rattle.transcript.specs.Initial.{names_of}
-use Rattle.cs_hash.specs.Names.{Names, entered}
 use Rattle.string_pool.specs.Pool.{Pool}
-use Rattle.token_show.specs.declared.view.View.{View}
 use Rattle.token_lists.specs.Table.{Entry, tokens_at}
 use Rattle.input_state.specs.HeldLists.{first_list as first_held}
 use Rattle.input_state.specs.Stored.{gathered}
@@ -35,7 +36,6 @@ use Rattle.frames.specs.Stack.{Stack}
 use Rattle.frames.specs.Sees.{first_list}
 use Rattle.frames.specs.declared.scan.Ask.{Ask}
 use Rattle.frames.specs.declared.scan.Ask.TheVariants.{More}
-use Rattle.frames.specs.declared.scan.Want.{Want as ScanWant}
 use Rattle.frames.specs.declared.frame.Frame.{Frame}
 use Rattle.frames.specs.declared.outer.Beneath.{Beneath}
 use Rattle.engine_state.specs.declared.broken.Broken.{Broken}
@@ -45,7 +45,7 @@ use Rattle.engine_state.specs.declared.broken.Broken.TheVariants as broken
 use Rattle.engine_state.specs.declared.outcome.Last.{Last}
 use Rattle.engine_state.specs.declared.outcome.Last.TheVariants as last
 use Rattle.engine_state.specs.Faults.{broken_by}
-use Rattle.engine_state.specs.Begins.{outcome_of, outcome_of_last, last_moves, last_bytes, IsCommand}
+use Rattle.engine_state.specs.Begins.{outcome_of_last, last_moves, last_bytes, IsCommand}
 use Rattle.engine_state.specs.Book.{Book, with_work}
 use Rattle.engine_state.specs.Calls.{AllStand, WantsToken}
 use Rattle.engine_state.specs.Chained.{HasBody}
@@ -58,14 +58,13 @@ use Rattle.engine_state.proofs.Storing.{store_is, sound_sized, sound_still}
 
 -- WRITES
 
--- the names of a view
-pub names_is : (v : View) (hash : Names) (pool : Pool) (names : List (List ℕ)) → v.hash.now ≡ hash → v.pool.now ≡ pool → entered hash pool.kept ≡ names → names_of v ≡ names
-names_is v hash pool names h p n = rw (h, p) n
+-- the style of a view
+pub style_is : (style : Style) (categories : List ℕ) (found names : List (List ℕ)) → style ≡ initial_style categories found → found ≡ names → style ≡ initial_style categories names
+style_is style categories found names h n = h ∙ ap (λ (x : List (List ℕ)). initial_style categories x) n
 
--- and its category codes
-pub shown_is : (text : List ℕ → List (List ℕ) → List Token → List ℕ) (v : View) (categories : List ℕ) (names : List (List ℕ)) (ts us : List Token) →
-    v.categories.now ≡ categories → names_of v ≡ names → ts ≡ us → text v.categories.now (names_of v) ts ≡ text categories names us
-shown_is text v categories names ts us c n t = cc
+-- and a text of tokens in it
+pub shown_is : (text : Style → List Token → List ℕ) (style style' : Style) (ts us : List Token) → style ≡ style' → ts ≡ us → text style ts ≡ text style' us
+shown_is text style style' ts us s t = cc
 
 first_same : (lists : List (List Token)) → first_held lists ≡ first_list lists
 first_same [] = refl
@@ -93,13 +92,13 @@ module _ (s s' : SinkTold) (e : Engine) (b' : Bool) (text shown : List ℕ) (is 
       cut_out sizes f s s' e (record e { in_line = b' }) book only_column b fault text more h (subst (λ (bs : List ℕ). TookFront s s' e.in_line b' bs fault) is front)
 
 -- a token line that is written
-pub loud : (page : Page) (m : Meaning Unit) → page.quiet ≡ false → token_line page m ≡ Written Transcript (token_line_bytes page.names page.in_line m) ∷ []
+pub loud : (page : Page) (m : Meaning Unit) → page.quiet ≡ false → token_line page m ≡ Written Transcript (token_line_bytes (plain_style page.names) page.in_line m) ∷ []
 loud page m e = rw e refl
 
 -- and that is cut off
 pub loud_cuts : {T : Type 0} → (r : Result T Broken) (s s' : SinkTold) (e e' : Engine) (m : Meaning Unit) → e.quiet ≡ false →
     IfErr r (λ b. (sizes : Sizes) (f : FilesTold) (book : Book) (more : List Move) →
-    Cuts sizes (state_of e book) e' book (world_of f s e) (world_of f s' e') (Written Transcript (token_line_bytes e.names.names e.in_line m) ∷ more) b) →
+    Cuts sizes (state_of e book) e' book (world_of f s e) (world_of f s' e') (Written Transcript (token_line_bytes (plain_style e.names.names) e.in_line m) ∷ more) b) →
     IfErr r (λ b. (sizes : Sizes) (f : FilesTold) (book : Book) → Cuts sizes (state_of e book) e' book (world_of f s e) (world_of f s' e') (token_line (page_of e book) m) b)
 loud_cuts (Ok x) s s' e e' m q h = tt
 loud_cuts (Err b) s s' e e' m q h = λ sizes f book. cuts_by sizes _ e' book _ _ _ _ b (loud (page_of e book) m q) (h sizes f book [])
@@ -107,21 +106,21 @@ loud_cuts (Err b) s s' e e' m q h = λ sizes f book. cuts_by sizes _ e' book _ _
 -- REPORTS
 
 abbrev no_file_lines : List ℕ
-no_file_lines = reports.emergency ++ reports.no_file_line
+no_file_lines = reports.emergency (plain_style []) ++ reports.no_file_line (plain_style [])
 
-abbrev first_text : Page → reports.Report → List ℕ
-first_text page report = report_bytes page.names page.in_line page.line report
+abbrev first_text : Page → Report → List ℕ
+first_text page report = report_bytes (plain_style page.names) page.in_line page.line report
 
-report_on : (page : Page) (report : reports.Report) (rest : List Move) → nat_lt page.reports reports_room ≡ true →
+report_on : (page : Page) (report : Report) (rest : List Move) → nat_lt page.reports reports_room ≡ true →
     reported page report rest ≡ Written Transcript (first_text page report) ∷ Reported ∷ rest
 report_on page report rest e = rw e refl
 
-report_last : (page : Page) (report : reports.Report) (rest : List Move) → nat_lt page.reports reports_room ≡ false →
-    reported page report rest ≡ Written Transcript (first_text page report) ∷ Reported ∷ Written Transcript hundred_line ∷ Stopped (AtFatal fatal.HundredErrors) ∷ []
+report_last : (page : Page) (report : Report) (rest : List Move) → nat_lt page.reports reports_room ≡ false →
+    reported page report rest ≡ Written Transcript (first_text page report) ∷ Reported ∷ Written Transcript (hundred_line (plain_style page.names)) ∷ Stopped (AtFatal fatal.HundredErrors) ∷ []
 report_last page report rest e = rw e refl
 
 -- the machine stops behind its last text
-stops_did : (sizes : Sizes) (s : State) (w w' : World) (bs : List ℕ) (o : machine.Outcome) → Wrote w w' (Written Transcript bs ∷ []) →
+stops_did : (sizes : Sizes) (s : State) (w w' : World) (bs : List ℕ) (o : Outcome) → Wrote w w' (Written Transcript bs ∷ []) →
     Did sizes s (made (Stopped o) (made (Written Transcript bs) s)) w w' (Written Transcript bs ∷ Stopped o ∷ [])
 stops_did sizes s w w' bs o wrote = record {
   state = refl;
@@ -130,11 +129,11 @@ stops_did sizes s w w' bs o wrote = record {
 }
 
 -- and the engine stands for its state, but for how it stopped
-stops_at : (sizes : Sizes) (s : State) (e' : Engine) (book : Book) (w w' : World) (bs : List ℕ) (o : machine.Outcome) → Did sizes s (state_of e' book) w w' (Written Transcript bs ∷ []) →
+stops_at : (sizes : Sizes) (s : State) (e' : Engine) (book : Book) (w w' : World) (bs : List ℕ) (o : Outcome) → Did sizes s (state_of e' book) w w' (Written Transcript bs ∷ []) →
     record (made (Stopped o) (made (Written Transcript bs) s)) { stopped = None } ≡ state_of e' book
 stops_at sizes s e' book w w' bs o d = ap (λ (x : State). record x { stopped = None }) d.state
 
-stops : (sizes : Sizes) (s : State) (e' : Engine) (book : Book) (w w' : World) (bs : List ℕ) (o : machine.Outcome) → s.due ≡ [] → CountsReports o s e' → Did sizes s (state_of e' book) w w' (Written Transcript bs ∷ []) →
+stops : (sizes : Sizes) (s : State) (e' : Engine) (book : Book) (w w' : World) (bs : List ℕ) (o : Outcome) → s.due ≡ [] → CountsReports o s e' → Did sizes s (state_of e' book) w w' (Written Transcript bs ∷ []) →
     Halts sizes s e' book w w' (Written Transcript bs ∷ Stopped o ∷ []) o 0
 stops sizes s e' book w w' bs o due counts d = record {
   t = made (Stopped o) (made (Written Transcript bs) s);
@@ -145,13 +144,13 @@ stops sizes s e' book w w' bs o due counts d = record {
   same = λ few. stops_at sizes s e' book w w' bs o d;
   count = omega arith;
 } where
-  by_outcome : (o : machine.Outcome) → CountsReports o s e' → CountsReports o (made (Stopped o) (made (Written Transcript bs) s)) e'
-  by_outcome machine.Finished h = h
+  by_outcome : (o : Outcome) → CountsReports o s e' → CountsReports o (made (Stopped o) (made (Written Transcript bs) s)) e'
+  by_outcome Finished h = h
   by_outcome (AtFatal f) h = tt
 
 -- where the machine stops of itself
 pub last_is : (sizes : Sizes) (st : State) (e' : Engine) (book : Book) (w w' : World) (b : Bool) (l : Last) → st.due ≡ [] → e'.reports ≡ st.reports → Did sizes st (state_of e' book) w w' (Written Transcript (last_bytes b l) ∷ []) →
-    Halts sizes st e' book w w' (last_moves b l) (outcome_of (outcome_of_last l)) 0
+    Halts sizes st e' book w w' (last_moves b l) (outcome_of_last l) 0
 last_is sizes st e' book w w' b last.End due is d = stops sizes st e' book w w' _ _ due (sym is) d
 last_is sizes st e' book w w' b last.NoEnd due is d = stops sizes st e' book w w' _ _ due tt d
 
@@ -186,7 +185,7 @@ module _ (sizes : Sizes) (s u : State) (w w1 : World) (text : List ℕ) (first :
         later_cuts sizes s v e' book w w1 w2 (Written Transcript text ∷ Reported ∷ []) (Written Transcript line ∷ Stopped (AtFatal f) ∷ []) b
         (subst (λ (x : State). Did sizes s x w w1 (Written Transcript text ∷ Reported ∷ [])) is counted_first) (h (Stopped (AtFatal f) ∷ []))
 
-module _ (sizes : Sizes) (page : Page) (report : reports.Report) (rest : List Move) (s u : State) (w w1 : World) (first : Did sizes s u w w1 (Written Transcript (first_text page report) ∷ [])) where
+module _ (sizes : Sizes) (page : Page) (report : Report) (rest : List Move) (s u : State) (w w1 : World) (first : Did sizes s u w w1 (Written Transcript (first_text page report) ∷ [])) where
   pub reports_on : (s' : State) → nat_lt page.reports reports_room ≡ true → made Reported u ≡ s' → Reports sizes s s' w w1 page report rest
   reports_on s' room is = record {
     moves = report_on page report rest room;
@@ -195,39 +194,39 @@ module _ (sizes : Sizes) (page : Page) (report : reports.Report) (rest : List Mo
 
   -- the hundredth
   module _ (w2 : World) (full : nat_lt page.reports reports_room ≡ false) where
-    pub hundredth : (v : State) (e' : Engine) (book : Book) → u.due ≡ [] → Did sizes v (state_of e' book) w1 w2 (Written Transcript hundred_line ∷ []) → (s.reports ≤ reports_room → made Reported u ≡ v) →
+    pub hundredth : (v : State) (e' : Engine) (book : Book) → u.due ≡ [] → Did sizes v (state_of e' book) w1 w2 (Written Transcript (hundred_line (plain_style page.names)) ∷ []) → (s.reports ≤ reports_room → made Reported u ≡ v) →
         Halts sizes s e' book w w2 (reported page report rest) (AtFatal fatal.HundredErrors) 0
     hundredth v e' book due second is =
         subst (λ (ms : List Move). Halts sizes s e' book w w2 ms (AtFatal fatal.HundredErrors) 0) (sym (report_last page report rest full))
-        (ends_behind sizes s u w w1 (first_text page report) first w2 hundred_line fatal.HundredErrors v e' book due second is)
+        (ends_behind sizes s u w w1 (first_text page report) first w2 (hundred_line (plain_style page.names)) fatal.HundredErrors v e' book due second is)
 
-    pub hundred_cuts : (v : State) (e' : Engine) (book : Book) (b : Broken) → made Reported u ≡ v → ((more : List Move) → Cuts sizes v e' book w1 w2 (Written Transcript hundred_line ∷ more) b) →
+    pub hundred_cuts : (v : State) (e' : Engine) (book : Book) (b : Broken) → made Reported u ≡ v → ((more : List Move) → Cuts sizes v e' book w1 w2 (Written Transcript (hundred_line (plain_style page.names)) ∷ more) b) →
         Cuts sizes s e' book w w2 (reported page report rest) b
-    hundred_cuts v e' book b is h = cuts_by sizes s e' book w w2 _ _ b (report_last page report rest full) (cuts_behind sizes s u w w1 (first_text page report) first w2 hundred_line fatal.HundredErrors v e' book b is h)
+    hundred_cuts v e' book b is h = cuts_by sizes s e' book w w2 _ _ b (report_last page report rest full) (cuts_behind sizes s u w w1 (first_text page report) first w2 (hundred_line (plain_style page.names)) fatal.HundredErrors v e' book b is h)
 
 -- a job whose file isn't held
 no_file_is : (file : List ℕ) (names : List (List ℕ)) (b : Bool) → names ≡ primitive_names → b ≡ false →
-    no_file file ≡ Written Transcript (report_bytes names b 0 (reports.NoSuchFile file)) ∷ Reported ∷ Written Transcript no_file_lines ∷ Stopped (AtFatal fatal.NoFile) ∷ []
+    no_file file ≡ Written Transcript (missing_file_bytes (plain_style names) b 0 file) ∷ Reported ∷ Written Transcript no_file_lines ∷ Stopped (AtFatal fatal.NoFile) ∷ []
 no_file_is file names b n c =
     ap (λ (bs : List ℕ). Written Transcript bs ∷ Reported ∷ Written Transcript no_file_lines ∷ Stopped (AtFatal fatal.NoFile) ∷ [])
-    (ap (λ (x : List (List ℕ)). report_bytes x false 0 (reports.NoSuchFile file)) (sym n) ∙ ap (λ (x : Bool). report_bytes names x 0 (reports.NoSuchFile file)) (sym c))
+    (ap (λ (x : List (List ℕ)). missing_file_bytes (plain_style x) false 0 file) (sym n) ∙ ap (λ (x : Bool). missing_file_bytes (plain_style names) x 0 file) (sym c))
 
 module _ (sizes : Sizes) (file : List ℕ) (names : List (List ℕ)) (b : Bool) (names_are : names ≡ primitive_names) (column : b ≡ false) (s : State) where
   -- the first text is cut off
-  pub missing_cuts : (e' : Engine) (book : Book) (w w' : World) (k : Broken) → ((more : List Move) → Cuts sizes s e' book w w' (Written Transcript (report_bytes names b 0 (reports.NoSuchFile file)) ∷ more) k) →
+  pub missing_cuts : (e' : Engine) (book : Book) (w w' : World) (k : Broken) → ((more : List Move) → Cuts sizes s e' book w w' (Written Transcript (missing_file_bytes (plain_style names) b 0 file) ∷ more) k) →
       Cuts sizes s e' book w w' (no_file file) k
   missing_cuts e' book w w' k h = cuts_by sizes s e' book w w' _ _ k (no_file_is file names b names_are column) (h (Reported ∷ Written Transcript no_file_lines ∷ Stopped (AtFatal fatal.NoFile) ∷ []))
 
-  module _ (u : State) (w w1 w2 : World) (first : Did sizes s u w w1 (Written Transcript (report_bytes names b 0 (reports.NoSuchFile file)) ∷ [])) where
+  module _ (u : State) (w w1 w2 : World) (first : Did sizes s u w w1 (Written Transcript (missing_file_bytes (plain_style names) b 0 file) ∷ [])) where
     pub job_halts : (v : State) (e' : Engine) (book : Book) → u.due ≡ [] → Did sizes v (state_of e' book) w1 w2 (Written Transcript no_file_lines ∷ []) → (s.reports ≤ reports_room → made Reported u ≡ v) →
         Halts sizes s e' book w w2 (no_file file) (AtFatal fatal.NoFile) 0
     job_halts v e' book due second is =
         subst (λ (ms : List Move). Halts sizes s e' book w w2 ms (AtFatal fatal.NoFile) 0) (sym (no_file_is file names b names_are column))
-        (ends_behind sizes s u w w1 (report_bytes names b 0 (reports.NoSuchFile file)) first w2 no_file_lines fatal.NoFile v e' book due second is)
+        (ends_behind sizes s u w w1 (missing_file_bytes (plain_style names) b 0 file) first w2 no_file_lines fatal.NoFile v e' book due second is)
 
     pub job_cuts : (v : State) (e' : Engine) (book : Book) (k : Broken) → made Reported u ≡ v → ((more : List Move) → Cuts sizes v e' book w1 w2 (Written Transcript no_file_lines ∷ more) k) → Cuts sizes s e' book w w2 (no_file file) k
     job_cuts v e' book k is h = cuts_by sizes s e' book w w2 _ _ k (no_file_is file names b names_are column)
-        (cuts_behind sizes s u w w1 (report_bytes names b 0 (reports.NoSuchFile file)) first w2 no_file_lines fatal.NoFile v e' book k is h)
+        (cuts_behind sizes s u w w1 (missing_file_bytes (plain_style names) b 0 file) first w2 no_file_lines fatal.NoFile v e' book k is h)
 
 -- the engine counts a report
 pub counted_last : (e : Engine) (book : Book) (n : ℕ) → e.reports + 1 ≡ n → made Reported (state_of e book) ≡ state_of (record e { reports = n }) book
@@ -294,7 +293,7 @@ reads_now e e' book work same = let h = same.others in
     cc (pending, meanings, same.making, h.names, h.categories, h.in_line, h.reports, h.quiet)
 
 -- a report alone
-pub reports_went : (sizes : Sizes) (e e' : Engine) (book : Book) (w w' : World) (report : reports.Report) → AllStand sizes e' book → Reports sizes (state_of e book) (state_of e' book) w w' (page_of e book) report [] →
+pub reports_went : (sizes : Sizes) (e e' : Engine) (book : Book) (w w' : World) (report : Report) → AllStand sizes e' book → Reports sizes (state_of e book) (state_of e' book) w w' (page_of e book) report [] →
     Went sizes (state_of e book) e' w w' (reported (page_of e book) report []) 0
 reports_went sizes e e' book w w' report st h = record {
   book' = book;
@@ -359,7 +358,7 @@ column_sound sizes e e' number macros only h = sound_still sizes e e' number mac
 -- a token's line alone
 line_silent : (page : Page) (m : Meaning Unit) → steps (token_line page m) ≡ 0
 line_silent page m = silent page.quiet where
-  silent : (b : Bool) → steps (if b then [] else Written Transcript (token_line_bytes page.names page.in_line m) ∷ []) ≡ 0
+  silent : (b : Bool) → steps (if b then [] else Written Transcript (token_line_bytes (plain_style page.names) page.in_line m) ∷ []) ≡ 0
   silent true = refl
   silent false = refl
 
@@ -372,17 +371,17 @@ token_first : (e : Engine) → e.top ≡ None → WantsToken e.top e.ask
 token_first e top = subst (λ (t : Option Frame). WantsToken t e.ask) (sym top) tt
 
 -- a frame that wants a token
-token_more : (t : Option Frame) (want : ScanWant) → WantsToken t (More want)
+token_more : (t : Option Frame) (want : Want) → WantsToken t (More want)
 token_more None want = tt
 token_more (Some f) want = tt
 
-token_wanted : (e : Engine) (want : ScanWant) → e.ask ≡ More want → WantsToken e.top e.ask
+token_wanted : (e : Engine) (want : Want) → e.ask ≡ More want → WantsToken e.top e.ask
 token_wanted e want asks = subst (WantsToken e.top) (sym asks) (token_more e.top want)
 
 -- where no call gathers its arguments, the frames want it
-pub token_here : (sizes : Sizes) (e : Engine) (want : Option ScanWant) (book : Book) → e.call ≡ None → Takes sizes want e book → WantsToken e.top e.ask × Stands sizes e book
+pub token_here : (sizes : Sizes) (e : Engine) (want : Option Want) (book : Book) → e.call ≡ None → Takes sizes want e book → WantsToken e.top e.ask × Stands sizes e book
 token_here sizes e want book none t = (by_want want (subst (λ (c : Option Call). WantsHere c want e) none t.0), framed sizes e book none t.1) where
-  by_want : (want : Option ScanWant) → WantsHere None want e → WantsToken e.top e.ask
+  by_want : (want : Option Want) → WantsHere None want e → WantsToken e.top e.ask
   by_want None h = token_first e h
   by_want (Some w) h = token_wanted e w h
 

@@ -1,7 +1,7 @@
 -- An engine that has written, or that has the same input.
 use Rattle.std.proofs.Common.{◌≡◌, ap, ◌∙◌}
 use Rattle.tex_defs.specs.declared.Sizes.{Sizes}
-use Rattle.plain_state.specs.Pending.{Pending}
+use Rattle.plain_tokens.specs.Pending.{Pending}
 use Rattle.input_state.specs.Stored.{Stored}
 use Rattle.engine_state.specs.declared.engine.Engine.{Engine}
 use Rattle.engine_state.specs.Book.{Book}

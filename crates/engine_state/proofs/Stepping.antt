@@ -1,6 +1,13 @@
 -- The next rule has a step exactly where the engine says so.
 use Rattle.std.proofs.Common.{◌≡◌, ℕ, List, [], ◌∷◌, ◌++◌, length, drop, map, slice_index_or, refl, sym, ap, ◌∙◌, arith, Bool, true, false, true≢false}
 use Rattle.std.specs.Prelude.{Option, Some, None, if◌then◌else◌, ◌&&◌, ◌||◌, is_some, nat_eq, nat_lt}
+use Rattle.tex_syntax.specs.declared.words.Want.{Want}
+use Rattle.tex_syntax.specs.declared.words.Want.TheVariants.{Raw, Expanded, Copied, Nonblank, Command}
+use Rattle.tex_syntax.specs.declared.words.Outcome.TheVariants.{AtFatal}
+use Rattle.tex_syntax.specs.declared.words.Scanned.{Scanned}
+use Rattle.tex_syntax.specs.declared.words.Report.{Report}
+use Rattle.tex_syntax.specs.declared.words.Scanned.TheVariants as scanned
+use Rattle.tex_syntax.specs.declared.words.Report.TheVariants as reports
 use Rattle.tex_defs.specs.declared.Seen.{Seen}
 use Rattle.tex_defs.specs.declared.Sizes.{Sizes}
 use Rattle.tex_defs.specs.declared.Meaning.{Meaning}
@@ -9,17 +16,16 @@ use Rattle.tex_defs.specs.declared.Token.{Token}
 use Rattle.tex_defs.specs.declared.Fatal.TheVariants.{HundredErrors}
 use Rattle.tex_defs.specs.Places.{Transcript}
 use Rattle.tex_defs.specs.declared.Name.{Name}
-use Rattle.plain_state.specs.Names.{name_of, means_relax, relax_primitive, catcode_primitive, message_primitive, end_primitive, long_primitive, outer_primitive, global_primitive, def_primitive, gdef_primitive, edef_primitive, xdef_primitive, number_primitive}
-use Rattle.plain_state.specs.Tokens.{Want, Raw, Expanded, Copied, Nonblank, Command, is_space, is_outer, space_token, made_text}
-use Rattle.plain_state.specs.Meanings.{name_meaning, seen}
-use Rattle.plain_state.specs.Puts.{Item, Put as PutList, call_put}
-use Rattle.plain_state.specs.Arguments.{has_parameters, arguments_in, work_in}
-use Rattle.plain_state.specs.Lookup.{token_of, new_name}
+use Rattle.plain_tokens.specs.Names.{name_of, means_relax, relax_primitive, catcode_primitive, message_primitive, end_primitive, long_primitive, outer_primitive, global_primitive, def_primitive, gdef_primitive, edef_primitive, xdef_primitive, number_primitive}
+use Rattle.plain_tokens.specs.Tokens.{is_space, is_outer, space_token, made_text}
+use Rattle.plain_tokens.specs.Meanings.{name_meaning, seen}
+use Rattle.plain_tokens.specs.Puts.{Item, Put as PutList, call_put}
+use Rattle.plain_tokens.specs.Arguments.{has_parameters, arguments_in, work_in}
+use Rattle.plain_tokens.specs.Lookup.{token_of, new_name}
 use Rattle.plain_state.specs.Readings as reading
-use Rattle.plain_state.specs.Pending.{Pending, Pulled, TokenFrom, LexemeFrom, LineTaken, InvalidMet, FileOver, NothingLeft, pulled}
-use Rattle.plain_state.specs.States.{State, Move, Reading, Handed, Taken, Grows, Feeds, Noted, Completed, ListGrown, Put, Begun, Ended, Closed, Written, Stopped, AtFatal}
-use Rattle.plain_state.specs.Reports as reports
-use Rattle.plain_state.specs.Reports.{Scanned, hundred_line}
+use Rattle.plain_tokens.specs.Pending.{Pending, Pulled, TokenFrom, LexemeFrom, LineTaken, InvalidMet, FileOver, NothingLeft, pulled}
+use Rattle.plain_state.specs.States.{State, Move, Reading, Handed, Taken, Grows, Feeds, Noted, Completed, ListGrown, Put, Begun, Ended, Closed, Written, Stopped}
+use Rattle.plain_state.specs.Reports.{plain_style, hundred_line, token_line_bytes}
 use Rattle.plain_machine.specs.Plan.{put_text, unless_expanded, Page, page_of, plan, handed, met, met_outer, entered, enters_names, Scanning, scanning, checked, check_noted, ran_away, away_text, without_file, page_behind, reported, reports_room, told, put_inserted, is_told, noting, token_line, finish, stomach, command, primitive, called, called_meaning, called_list, put_body, body_put, wanted, expanded, expanded_as, feeding, feeding_kind, grown_to, opened, in_place, argument_fed, answered, begun, begun_with, last_seen, given_back, put_all, effect}
 use Rattle.plain_machine.specs.Numbers.{pending_of, pulled_of}
 use Rattle.plain_machine.specs.Runs.{steps}
@@ -28,8 +34,7 @@ use Rattle.plain_machine.proofs.Renumbering.{pulled_same}
 use Rattle.frames.specs.declared.scan.Ask.{Ask}
 use Rattle.frames.specs.declared.scan.Ask.TheVariants.{More, Inner, Done, Act, Tells, Inserts, Makes}
 use Rattle.frames.specs.declared.frame.Frame.{Frame}
-use Rattle.frames.specs.Sees.{made_of, ask_of, want_of, effect_of, value_of, kind_of}
-use Rattle.transcript.specs.Reported.{report_of}
+use Rattle.frames.specs.Sees.{made_of, ask_of, effect_of, value_of, kind_of}
 use Rattle.input_state.specs.Reads.{gives_step}
 use Rattle.input_state.specs.Stored.{gathered}
 use Rattle.engine_state.specs.declared.engine.Engine.{Engine}
@@ -63,14 +68,14 @@ entered_none : (names : List (List ℕ)) → steps (entered names) ≡ 0
 entered_none [] = refl
 entered_none (name ∷ names) = refl
 
-pub reported_none : (page : Page) (report : reports.Report) (rest : List Move) → steps rest ≡ 0 → steps (reported page report rest) ≡ 0
+pub reported_none : (page : Page) (report : Report) (rest : List Move) → steps rest ≡ 0 → steps (reported page report rest) ≡ 0
 reported_none page report rest h =
-    let last : steps (if nat_lt page.reports reports_room then rest else Written Transcript hundred_line ∷ Stopped (AtFatal HundredErrors) ∷ []) ≡ 0 =
-    none_if (nat_lt page.reports reports_room) rest (Written Transcript hundred_line ∷ Stopped (AtFatal HundredErrors) ∷ []) h refl in
+    let last : steps (if nat_lt page.reports reports_room then rest else Written Transcript (hundred_line (plain_style page.names)) ∷ Stopped (AtFatal HundredErrors) ∷ []) ≡ 0 =
+    none_if (nat_lt page.reports reports_room) rest (Written Transcript (hundred_line (plain_style page.names)) ∷ Stopped (AtFatal HundredErrors) ∷ []) h refl in
     omega (arith, last)
 
 line_none : (page : Page) (m : Meaning Unit) → steps (token_line page m) ≡ 0
-line_none page m = none_if page.quiet [] (Written Transcript (reports.token_line_bytes page.names page.in_line m) ∷ []) refl refl
+line_none page m = none_if page.quiet [] (Written Transcript (token_line_bytes (plain_style page.names) page.in_line m) ∷ []) refl refl
 
 -- a list that grows, and how a reading is fed
 grown_none : (ts : List Token) → steps (map Grows ts) ≡ 0
@@ -179,11 +184,11 @@ wanted_none page Command feeds x h = none_if (is_space x || means_relax x.meanin
 
 -- checks
 noted_none : (what : Scanned) (rest : List Move) → steps rest ≡ 0 → steps (check_noted what rest) ≡ 0
-noted_none reports.OfUse rest h = omega (arith, h)
-noted_none reports.OfDefinition rest h = h
-noted_none reports.OfText rest h = h
+noted_none scanned.Use rest h = omega (arith, h)
+noted_none scanned.Definition rest h = h
+noted_none scanned.Text rest h = h
 
-away_none : (page : Page) (report : reports.Report) (s : Scanning) (rest : List Move) → steps rest ≡ 0 → steps (ran_away page report s rest) ≡ 0
+away_none : (page : Page) (report : Report) (s : Scanning) (rest : List Move) → steps rest ≡ 0 → steps (ran_away page report s rest) ≡ 0
 away_none page report s rest h = omega (arith, reported_none (page_behind page (away_text page s)) report (check_noted s.what rest) (noted_none s.what rest h))
 
 checked_none : (page : Page) (o : Option Scanning) → steps (checked page o) ≡ 0
@@ -201,7 +206,7 @@ inserted_none : (o : Option Token) → steps (put_inserted o) ≡ 0
 inserted_none None = refl
 inserted_none (Some t) = refl
 
-pub told_none : (page : Page) (report : reports.Report) (inserted : Option Token) (back : Bool) (r : Reading) → steps (told page report inserted back r) ≡ 0
+pub told_none : (page : Page) (report : Report) (inserted : Option Token) (back : Bool) (r : Reading) → steps (told page report inserted back r) ≡ 0
 told_none page report inserted back r =
     none_if (is_told r.fed) (Ended (reading.Flag false) ∷ []) (given_back back r.fed ++ (put_inserted inserted ++ reported page report (noting r))) refl
     (steps_join (given_back back r.fed) (put_inserted inserted ++ reported page report (noting r))
@@ -248,13 +253,13 @@ handed_now e book page enters o onward h = handed_steps page enters o onward (pu
 answer_steps : (e : Engine) (book : Book) (r : Reading) (f : Frame) (a : Ask) →
     steps (answered (state_of e book) book.work r (ask_of e.input.builds a)) ≡ one_if (wants_token (Some f) a && gives_step (pulled e.categories e.input.pending))
 answer_steps e book r f (More w) = let page = page_of (state_of e book) in
-    handed_now e book page (enters_names (want_of w)) (scanning book.work (gathered e.input)) (λ x. wanted page (want_of w) (feeding r x) x) (λ x. wanted_none page (want_of w) (feeding r x) x (kind_none r.kind r.fed x))
+    handed_now e book page (enters_names w) (scanning book.work (gathered e.input)) (λ x. wanted page w (feeding r x) x) (λ x. wanted_none page w (feeding r x) x (kind_none r.kind r.fed x))
 answer_steps e book r f (Inner waits k begins) = begun_none (kind_of k) (is_some begins) r
 answer_steps e book r f (Done v back) = steps_join (given_back (is_some back) r.fed) (Ended (value_of e.input.builds v) ∷ []) ∙ omega (arith, back_none (is_some back) r.fed)
 answer_steps e book r f (Act ef) =
     steps_join (effect (state_of e book) (effect_of e.input.builds ef)) (Ended (reading.Flag true) ∷ []) ∙ omega (arith, effect_none (state_of e book) (effect_of e.input.builds ef))
-answer_steps e book r f (Tells report back) = told_none (page_of (state_of e book)) (report_of report) None (is_some back) r
-answer_steps e book r f (Inserts t report back) = told_none (page_of (state_of e book)) (report_of report) (Some t) (is_some back) r
+answer_steps e book r f (Tells report back) = told_none (page_of (state_of e book)) report None (is_some back) r
+answer_steps e book r f (Inserts t report back) = told_none (page_of (state_of e book)) report (Some t) (is_some back) r
 answer_steps e book r f (Makes n) = steps_join (put_text (made_text (made_of n))) (Closed ∷ []) ∙ omega (arith, text_none (made_text (made_of n)))
 
 steps_at : (e : Engine) (x : Option Frame) (book : Book) (work : List Reading) → WorkStands e.ask x e.outer.items e.input.builds e.input.aside work → steps (plan_of e (with_work work book)) ≡ one_if (wants_token x e.ask && gives_step (pulled e.categories e.input.pending))
@@ -289,7 +294,7 @@ module _ (sizes : Sizes) where
   answer_needs : (e : Engine) (book : Book) (r : Reading) (f : Frame) (a : Ask) → plan_of e book ≡ answered (state_of e book) book.work r (ask_of e.input.builds a) →
       (wants_token (Some f) a && gives_step (pulled e.categories e.input.pending)) ≡ true → StepComes sizes (state_of e book)
   answer_needs e book r f (More w) h g = let page = page_of (state_of e book) in
-      pulled_needs e book page (enters_names (want_of w)) (scanning book.work (gathered e.input)) (λ x. wanted page (want_of w) (feeding r x) x) h g
+      pulled_needs e book page (enters_names w) (scanning book.work (gathered e.input)) (λ x. wanted page w (feeding r x) x) h g
   answer_needs e book r f (Inner waits k begins) h g = no g
   answer_needs e book r f (Done v back) h g = no g
   answer_needs e book r f (Act ef) h g = no g

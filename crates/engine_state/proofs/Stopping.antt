@@ -1,13 +1,14 @@
 -- An engine that has noted whether it has stopped: all else is as it was.
 use Rattle.std.proofs.Common.{ℕ, refl}
 use Rattle.std.specs.Prelude.{Bool, List, Option, Some, None}
+use Rattle.tex_syntax.specs.declared.words.Outcome.TheVariants.{Finished, AtFatal}
+use Rattle.tex_syntax.specs.declared.words.Outcome.{Outcome}
+use Rattle.tex_syntax.specs.declared.words.Want.{Want}
 use Rattle.tex_defs.specs.declared.Seen.{Seen}
 use Rattle.tex_defs.specs.declared.Sizes.{Sizes}
 use Rattle.tex_defs.specs.Places.{World}
-use Rattle.plain_state.specs.States as machine
 use Rattle.plain_state.specs.States.{State, Move}
 use Rattle.world_io.specs.Told.{SinkTold}
-use Rattle.frames.specs.declared.scan.Want.{Want as ScanWant}
 use Rattle.engine_state.specs.declared.broken.Broken.{Broken}
 use Rattle.engine_state.specs.declared.call.Call.{Call}
 use Rattle.engine_state.specs.declared.engine.Engine.{Engine}
@@ -15,7 +16,6 @@ use Rattle.engine_state.specs.declared.outcome.Next.{Next}
 use Rattle.engine_state.specs.declared.outcome.Next.TheVariants as next
 use Rattle.engine_state.specs.declared.outcome.Ruled.{Ruled}
 use Rattle.engine_state.specs.declared.outcome.Ruled.TheVariants as ruled
-use Rattle.engine_state.specs.Begins.{outcome_of}
 use Rattle.engine_state.specs.Book.{Book}
 use Rattle.engine_state.specs.Calls.{AllStand}
 use Rattle.engine_state.specs.Near.{FramesNear, CutsIn}
@@ -41,18 +41,18 @@ noted_frames b e e' h = record { outer = h.outer; top = h.top; ask = h.ask; list
 pub noted_readings : (b : Bool) (e e' : Engine) → SameReadings e e' → SameReadings e (noted b e')
 noted_readings b e e' h = record { outer = h.outer; top = h.top; ask = h.ask; lists = h.lists; aside = h.aside; call = h.call }
 
-wants_noted : (b : Bool) (e : Engine) (c : Option Call) (want : Option ScanWant) → WantsHere c want e → WantsHere c want (noted b e)
+wants_noted : (b : Bool) (e : Engine) (c : Option Call) (want : Option Want) → WantsHere c want e → WantsHere c want (noted b e)
 wants_noted b e None None h = h
 wants_noted b e None (Some w) h = h
 wants_noted b e (Some c) None h = h
 wants_noted b e (Some c) (Some w) h = h
 
-pub noted_takes : (b : Bool) (sizes : Sizes) (want : Option ScanWant) (e : Engine) (book : Book) → Takes sizes want e book → Takes sizes want (noted b e) book
+pub noted_takes : (b : Bool) (sizes : Sizes) (want : Option Want) (e : Engine) (book : Book) → Takes sizes want e book → Takes sizes want (noted b e) book
 noted_takes b sizes want e book t = (wants_noted b e e.call want t.0, noted_stands b sizes e book t.1)
 
-pub noted_counts : (b : Bool) (o : machine.Outcome) (t : State) (e : Engine) → CountsReports o t e → CountsReports o t (noted b e)
-noted_counts b machine.Finished t e h = h
-noted_counts b (machine.AtFatal f) t e h = h
+pub noted_counts : (b : Bool) (o : Outcome) (t : State) (e : Engine) → CountsReports o t e → CountsReports o t (noted b e)
+noted_counts b Finished t e h = h
+noted_counts b (AtFatal f) t e h = h
 
 pub noted_near : (b : Bool) (x : Broken) (e : Engine) (book : Book) → FramesNear x e book.work → FramesNear x (noted b e) book.work
 noted_near b x e book h = near_still x e (noted b e) book.work (only_frames e (noted b e) (noted_only b e)) h
@@ -61,7 +61,7 @@ module _ (b : Bool) (sizes : Sizes) (s : State) (e : Engine) (w w' : World) (mov
   pub noted_went : (k : ℕ) → Went sizes s e w w' moves k → Went sizes s (noted b e) w w' moves k
   noted_went k h = record { book' = h.book'; stands = noted_stands b sizes e h.book' h.stands; did = h.did; count = h.count }
 
-  pub noted_halts : (book : Book) (o : machine.Outcome) (k : ℕ) → Halts sizes s e book w w' moves o k → Halts sizes s (noted b e) book w w' moves o k
+  pub noted_halts : (book : Book) (o : Outcome) (k : ℕ) → Halts sizes s e book w w' moves o k → Halts sizes s (noted b e) book w w' moves o k
   noted_halts book o k h = record { t = h.t; did = h.did; stopped = h.stopped; due = h.due; reports = noted_counts b o h.t e h.reports; same = h.same; count = h.count }
 
   pub noted_cuts : (book : Book) (x : Broken) → Cuts sizes s e book w w' moves x → Cuts sizes s (noted b e) book w w' moves x
@@ -70,19 +70,19 @@ module _ (b : Bool) (sizes : Sizes) (s : State) (e : Engine) (w w' : World) (mov
   pub noted_in : (x : Broken) → CutsIn sizes s e w w' moves x → CutsIn sizes s (noted b e) w w' moves x
   noted_in x h = record { book' = h.book'; cuts = noted_cuts h.book' x h.cuts; frames = noted_near b x e h.book' h.frames }
 
-  pub noted_comes : (want : Option ScanWant) (book : Book) (x : Seen) (k : ℕ) → Comes sizes want s e book w w' moves x k → Comes sizes want s (noted b e) book w w' moves x k
+  pub noted_comes : (want : Option Want) (book : Book) (x : Seen) (k : ℕ) → Comes sizes want s e book w w' moves x k → Comes sizes want s (noted b e) book w w' moves x k
   noted_comes want book x k h = record { book' = h.book'; still = h.still; takes = noted_takes b sizes want e h.book' h.takes; front = h.front; did = h.did; whole = h.whole; count = h.count }
 
-  noted_nexts : (want : Option ScanWant) (book : Book) (n : Next) → Nexts sizes want s e book w w' moves n → Nexts sizes want s (noted b e) book w w' moves n
+  noted_nexts : (want : Option Want) (book : Book) (n : Next) → Nexts sizes want s e book w w' moves n → Nexts sizes want s (noted b e) book w w' moves n
   noted_nexts want book (next.Token x) h = noted_comes want book x 1 h
   noted_nexts want book next.Line h = noted_went 1 h
   noted_nexts want book next.Skipped h = noted_went 0 h
-  noted_nexts want book (next.Over o) h = noted_halts book (outcome_of o) 1 h
+  noted_nexts want book (next.Over o) h = noted_halts book o 1 h
 
   noted_does : (book : Book) (r : Ruled) → DoesRule sizes s e book w w' moves r → DoesRule sizes s (noted b e) book w w' moves r
   noted_does book ruled.Step h = noted_went 1 h
   noted_does book ruled.Free h = noted_went 0 h
-  noted_does book (ruled.Halted o) h = noted_halts book (outcome_of o) 1 h
+  noted_does book (ruled.Halted o) h = noted_halts book o 1 h
 
 -- ONE RULE
 

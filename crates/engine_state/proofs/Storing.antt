@@ -6,9 +6,10 @@ use Rattle.std.proofs.lemmas.List.{get_or_past}
 use Rattle.tex_defs.specs.declared.Token.{Token}
 use Rattle.tex_defs.specs.declared.Meaning.{Meaning}
 use Rattle.tex_defs.specs.declared.Sizes.{Sizes}
-use Rattle.plain_state.specs.Puts.{token_put}
-use Rattle.plain_state.specs.Pending.{Pending, settle, put_front}
-use Rattle.plain_state.specs.Tables.{is_meant, is_put, words}
+use Rattle.plain_tokens.specs.Puts.{token_put}
+use Rattle.plain_tokens.specs.Pending.{Pending, settle, put_front}
+use Rattle.plain_tokens.specs.Tables.{is_meant, is_put}
+use Rattle.plain_state.specs.Demands.{words}
 use Rattle.plain_machine.specs.Numbers.{IsHeld, Tied}
 use Rattle.plain_machine.specs.Plan.{reports_room}
 use Rattle.plain_machine.proofs.MacroWords.{all_words_tied}

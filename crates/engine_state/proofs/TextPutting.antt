@@ -7,11 +7,12 @@ use Rattle.tex_defs.specs.declared.Token.{Token}
 use Rattle.tex_defs.specs.declared.Sizes.{Sizes}
 use Rattle.tex_defs.specs.declared.Full.{Full}
 use Rattle.tex_defs.specs.Places.{World}
-use Rattle.plain_state.specs.Puts.{token_put}
-use Rattle.plain_state.specs.Pending.{Pending, settle, put_front}
-use Rattle.plain_state.specs.Tokens.{made_token, made_text}
-use Rattle.plain_state.specs.States.{State, Move, Settled, ListBegun, ListGrown, Put, grown_by, made}
-use Rattle.plain_state.specs.Tables.{Demand, refusal, refused, memory, level}
+use Rattle.plain_tokens.specs.Puts.{token_put, grown_by}
+use Rattle.plain_tokens.specs.Pending.{Pending, settle, put_front}
+use Rattle.plain_tokens.specs.Tokens.{made_token, made_text}
+use Rattle.plain_state.specs.States.{State, Move, Settled, ListBegun, ListGrown, Put, made}
+use Rattle.plain_tokens.specs.Tables.{Demand, refused, memory, level}
+use Rattle.plain_state.specs.Demands.{refusal}
 use Rattle.plain_machine.specs.Plan.{put_text}
 use Rattle.plain_machine.specs.Numbers.{pending_of}
 use Rattle.plain_machine.specs.Does.{Did}

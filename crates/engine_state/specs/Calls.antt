@@ -1,18 +1,22 @@
 -- A call that gathers its arguments: the innermost reading of all.
 use Rattle.std.specs.Prelude.{◌≡◌, ℕ, Bool, true, false, List, [], ◌∷◌, ◌++◌, length, Option, Some, None}
+use Rattle.tex_syntax.specs.declared.words.Want.TheVariants.{Raw}
+use Rattle.tex_syntax.specs.declared.words.Report.{Report}
+use Rattle.tex_syntax.specs.declared.words.Scanned.TheVariants as scanned
+use Rattle.tex_syntax.specs.declared.words.Report.TheVariants as reports
 use Rattle.tex_defs.specs.Places.{Transcript}
 use Rattle.tex_defs.specs.declared.Seen.{Seen}
 use Rattle.tex_defs.specs.declared.Sizes.{Sizes}
 use Rattle.tex_defs.specs.declared.Token.{Token}
 use Rattle.tex_defs.specs.declared.Name.{Name}
 use Rattle.tex_defs.specs.declared.Meaning.TheVariants.{Macro}
-use Rattle.plain_state.specs.Arguments.{arguments_in, work_in, has_parameters}
-use Rattle.plain_state.specs.Meanings.{name_meaning}
+use Rattle.plain_tokens.specs.Arguments.{arguments_in, work_in, has_parameters}
+use Rattle.plain_tokens.specs.Meanings.{name_meaning}
+use Rattle.plain_tokens.specs.Printed.{initial_style}
 use Rattle.plain_state.specs.Readings as reading
 use Rattle.plain_state.specs.Readings.{Fed, gathered_by, call_fed, par_token, list_or_none}
-use Rattle.plain_state.specs.Reports as reports
+use Rattle.plain_state.specs.Reports as texts
 use Rattle.plain_state.specs.States.{Reading, Move, Written}
-use Rattle.plain_state.specs.Tokens.{Raw}
 use Rattle.plain_machine.specs.Plan.{Page, is_told, last_seen, put_one, failed, page_behind}
 use Rattle.macro_call.specs.PlainScans.{Scan, resume_scan, scan_work}
 use Rattle.input_state.specs.CallFeeds.{call_work}
@@ -146,10 +150,10 @@ FramesOf (Some c) e (r ∷ rs) = CallReads c e.input.call r × FramesStand e rs
 
 -- what is shown of it: the list in work, if a place is reached
 abbrev pub argument_bytes : Engine → List ℕ
-argument_bytes e = reports.runaway_bytes reports.OfUse e.categories e.names.names e.in_line (list_or_none (call_work e.input.call))
+argument_bytes e = texts.runaway_bytes scanned.Use (initial_style e.categories e.names.names) e.in_line (list_or_none (call_work e.input.call))
 
 -- it is shown, the token put back, and the call reports and ends
-abbrev pub call_away_moves : Page → (text : List ℕ) → Token → reports.Report → List Move
+abbrev pub call_away_moves : Page → (text : List ℕ) → Token → Report → List Move
 call_away_moves page text t report = Written Transcript text ∷ (put_one t ++ failed (page_behind page text) report)
 
 -- the call that takes tokens

@@ -2,7 +2,7 @@
 use Rattle.std.specs.Prelude.{◌≡◌, ℕ, List, [], ◌∷◌, ◌++◌, map, Some, None}
 use Rattle.tex_defs.specs.declared.Full.{Full}
 use Rattle.tex_defs.specs.declared.Meaning.TheVariants as means
-use Rattle.plain_state.specs.Tables.{new_name, refused}
+use Rattle.plain_tokens.specs.Tables.{new_name, refused}
 use Rattle.name_table.specs.Strings.{Strings}
 use Rattle.input_state.specs.Stored.{Stored}
 use Rattle.engine_state.specs.declared.engine.Engine.{Engine}

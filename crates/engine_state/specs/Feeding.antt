@@ -2,7 +2,7 @@
 use Rattle.std.specs.Prelude.{◌≡◌, List, [], ◌∷◌, ◌++◌, Option, Some, None, IsSome, option_to_list}
 use Rattle.tex_defs.specs.declared.Full.{Full}
 use Rattle.tex_defs.specs.declared.Token.{Token}
-use Rattle.plain_state.specs.Tables.{memory, refused}
+use Rattle.plain_tokens.specs.Tables.{memory, refused}
 use Rattle.frames.specs.declared.scan.Answer.{Answer}
 use Rattle.frames.specs.Resumes.{grown_by}
 use Rattle.input_state.specs.Stored.{Stored, KeepsMacros, words}

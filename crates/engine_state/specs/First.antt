@@ -2,8 +2,8 @@
 use Rattle.std.specs.Prelude.{◌≡◌, ℕ, Bool, false, List, [], Option, Some}
 use Rattle.tex_defs.specs.declared.Sizes.{Sizes}
 use Rattle.prim_table.specs.Primitives.{primitive_names}
-use Rattle.plain_state.specs.Categories.{initial_categories}
-use Rattle.plain_state.specs.Names.{is_known}
+use Rattle.plain_tokens.specs.Categories.{initial_categories}
+use Rattle.plain_tokens.specs.Names.{is_known}
 use Rattle.plain_machine.specs.Plan.{first_state, job_due}
 use Rattle.input_state.specs.Stored.{unread}
 use Rattle.engine_state.specs.declared.engine.Engine.{Engine}

@@ -7,7 +7,8 @@ use Rattle.tex_defs.specs.declared.Sizes.{Sizes}
 use Rattle.tex_defs.specs.declared.Token.{Token}
 use Rattle.plain_state.specs.Readings as reading
 use Rattle.plain_state.specs.Readings.{Fed, Tok}
-use Rattle.plain_state.specs.States.{Reading, State, Move, grow_first}
+use Rattle.plain_tokens.specs.Puts.{grow_first}
+use Rattle.plain_state.specs.States.{Reading, State, Move}
 use Rattle.macro_call.specs.PlainScans.{Scan}
 use Rattle.input_state.specs.CallFeeds.{IsCutInGrowth, IsCutBetween}
 use Rattle.input_state.specs.Callings.{Calling, Stopped, call_lists}

@@ -1,20 +1,27 @@
 -- What the engine does for one rule of the machine.
 use Rattle.std.specs.Prelude.{◌≡◌, ℕ, ◌≤◌, Bool, false, List, [], ◌∷◌, ◌++◌, Option, Some, None}
+use Rattle.tex_syntax.specs.declared.words.Outcome.TheVariants.{Finished, AtFatal}
+use Rattle.tex_syntax.specs.declared.words.Outcome.{Outcome}
+use Rattle.tex_syntax.specs.declared.words.Scanned.{Scanned}
+use Rattle.tex_syntax.specs.declared.words.Want.{Want}
+use Rattle.tex_syntax.specs.declared.words.Want.TheVariants.{Raw}
+use Rattle.tex_syntax.specs.declared.words.Report.{Report}
+use Rattle.tex_syntax.specs.declared.words.Scanned.TheVariants as scanned
 use Rattle.tex_defs.specs.Places.{World, Transcript}
 use Rattle.tex_defs.specs.declared.Seen.{Seen}
 use Rattle.tex_defs.specs.declared.Token.{Token as PlainToken}
 use Rattle.tex_defs.specs.declared.Sizes.{Sizes}
-use Rattle.plain_state.specs.Reports as reports
-use Rattle.plain_state.specs.Reports.{Scanned, report_bytes, runaway_bytes}
+use Rattle.plain_tokens.specs.Printed.{initial_style}
+use Rattle.plain_state.specs.Reports.{plain_style, report_bytes, runaway_bytes}
 use Rattle.plain_state.specs.Readings.{list_or_none}
 use Rattle.tex_defs.specs.declared.Name.{Name}
-use Rattle.plain_state.specs.Lex.{Lexeme}
-use Rattle.plain_state.specs.Lookup.{new_name, token_of}
-use Rattle.plain_state.specs.Meanings.{seen}
-use Rattle.plain_state.specs.Tokens.{space_token}
+use Rattle.plain_tokens.specs.Lex.{Lexeme}
+use Rattle.plain_tokens.specs.Lookup.{new_name, token_of}
+use Rattle.plain_tokens.specs.Meanings.{seen}
+use Rattle.plain_tokens.specs.Tokens.{space_token}
 use Rattle.plain_state.specs.States.{Reading, State, Move, Written, Reported}
 use Rattle.plain_state.specs.States as machine
-use Rattle.plain_state.specs.Pending.{pulled}
+use Rattle.plain_tokens.specs.Pending.{pulled}
 use Rattle.plain_machine.specs.Numbers.{pending_of}
 use Rattle.plain_machine.specs.Plan.{Page, planned, stomach, wanted, feeding, scanning, Scanning, handed, met, reported, entered, enters_names, reports_room}
 use Rattle.plain_machine.specs.Runs.{steps}
@@ -27,12 +34,9 @@ use Rattle.engine_state.specs.declared.outcome.Ruled.TheVariants.{Step, Free, Ha
 use Rattle.engine_state.specs.declared.outcome.Next.{Next}
 use Rattle.engine_state.specs.declared.outcome.Next.TheVariants.{Token, Line, Skipped, Over}
 use Rattle.tex_defs.specs.declared.Fatal.TheVariants.{HundredErrors}
-use Rattle.engine_state.specs.Begins.{outcome_of}
 use Rattle.engine_state.specs.Faults.{why_of}
 use Rattle.frames.specs.declared.scan.Ask.TheVariants.{More}
-use Rattle.frames.specs.declared.scan.Want.{Want as ScanWant}
-use Rattle.frames.specs.declared.scan.Want.TheVariants.{Raw}
-use Rattle.frames.specs.Sees.{want_of, first_list}
+use Rattle.frames.specs.Sees.{first_list}
 use Rattle.input_state.specs.Stored.{gathered}
 use Rattle.engine_state.specs.Book.{Book}
 use Rattle.engine_state.specs.Calls.{AllStand}
@@ -57,13 +61,13 @@ pub record Went (sizes : Sizes) (s : State) (e' : Engine) (w w' : World) (moves 
   pub count : steps moves ≡ k
 
 -- where a run has ended at `\end`, the engine has counted its reports
-abbrev pub CountsReports : machine.Outcome → State → Engine → Type 0
-CountsReports machine.Finished t e = t.reports ≡ e.reports
-CountsReports (machine.AtFatal f) t e = Unit {0}
+abbrev pub CountsReports : Outcome → State → Engine → Type 0
+CountsReports Finished t e = t.reports ≡ e.reports
+CountsReports (AtFatal f) t e = Unit {0}
 
 -- The machine has stopped, behind at most k steps. The engine stands for its last state, but for how it stopped, with the same
 -- readings, where its reports were no more than a run may have before its last.
-pub record Halts (sizes : Sizes) (s : State) (e' : Engine) (book : Book) (w w' : World) (moves : List Move) (o : machine.Outcome) (k : ℕ) : Type 0 where
+pub record Halts (sizes : Sizes) (s : State) (e' : Engine) (book : Book) (w w' : World) (moves : List Move) (o : Outcome) (k : ℕ) : Type 0 where
   pub t : State
   pub did : Did sizes s t w w' moves
   pub stopped : t.stopped ≡ Some o
@@ -73,9 +77,9 @@ pub record Halts (sizes : Sizes) (s : State) (e' : Engine) (book : Book) (w w' :
   pub count : steps moves ≤ k
 
 -- A report is written and counted, behind which the rule goes on.
-pub record Reports (sizes : Sizes) (s s' : State) (w w' : World) (page : Page) (report : reports.Report) (rest : List Move) : Type 0 where
-  pub moves : reported page report rest ≡ Written Transcript (report_bytes page.names page.in_line page.line report) ∷ Reported ∷ rest
-  pub did : Did sizes s s' w w' (Written Transcript (report_bytes page.names page.in_line page.line report) ∷ Reported ∷ [])
+pub record Reports (sizes : Sizes) (s s' : State) (w w' : World) (page : Page) (report : Report) (rest : List Move) : Type 0 where
+  pub moves : reported page report rest ≡ Written Transcript (report_bytes (plain_style page.names) page.in_line page.line report) ∷ Reported ∷ rest
+  pub did : Did sizes s s' w w' (Written Transcript (report_bytes (plain_style page.names) page.in_line page.line report) ∷ Reported ∷ [])
 
 -- how the innermost reading, if there is one, is fed with a token
 abbrev pub feeds_of : List Reading → Seen → List Move
@@ -83,13 +87,13 @@ feeds_of [] x = []
 feeds_of (r ∷ rs) x = feeding r x
 
 -- where a token goes that a reading wants, and where it goes that none does
-abbrev pub onward_of : Page → Option ScanWant → List Reading → Seen → List Move
+abbrev pub onward_of : Page → Option Want → List Reading → Seen → List Move
 onward_of page None work = stomach page
-onward_of page (Some want) work = λ x. wanted page (want_of want) (feeds_of work x) x
+onward_of page (Some want) work = λ x. wanted page want (feeds_of work x) x
 
-abbrev pub enters_of : Option ScanWant → Bool
+abbrev pub enters_of : Option Want → Bool
 enters_of None = false
-enters_of (Some want) = enters_names (want_of want)
+enters_of (Some want) = enters_names want
 
 -- the text that is read, if one is
 abbrev pub scanning_of : Engine → List Reading → Option Scanning
@@ -105,16 +109,16 @@ name_moves page scanned enters onward x = entered (new_name enters page.names x)
 
 -- the list of what is scanned: of a call the present argument, if a place is reached, and else the innermost list that frames hold
 abbrev pub scanned_list : Scanned → Engine → List PlainToken
-scanned_list reports.OfUse e = list_or_none (call_work e.input.call)
+scanned_list scanned.Use e = list_or_none (call_work e.input.call)
 scanned_list what e = first_list (e.input.builds ++ e.input.aside)
 
 -- what is shown of it where it runs away
 abbrev pub away_text : Scanned → Engine → List ℕ
-away_text what e = runaway_bytes what e.categories e.names.names e.in_line (scanned_list what e)
+away_text what e = runaway_bytes what (initial_style e.categories e.names.names) e.in_line (scanned_list what e)
 
 -- a call takes tokens, or a list is held
 abbrev pub IsScanned : Scanned → Engine → Type 0
-IsScanned reports.OfUse e = IsTaking e.input.call
+IsScanned scanned.Use e = IsTaking e.input.call
 IsScanned what e = e.input.builds ++ e.input.aside ≡ [] → ⊥
 
 -- such a thing is scanned, under this name
@@ -122,22 +126,22 @@ abbrev pub Scans : (Scanned × Name) → Engine → Book → Type 0
 Scans s e book = scanning_of e book.work ≡ Some (record { what = s.0; name = s.1; list = scanned_list s.0 e })
 
 -- such a token is wanted: by a call that takes tokens, as it stands, by the innermost frame, or where no reading is open
-abbrev pub WantsHere : Option Call → Option ScanWant → Engine → Type 0
+abbrev pub WantsHere : Option Call → Option Want → Engine → Type 0
 WantsHere None None e = e.top ≡ None
 WantsHere None (Some want) e = e.ask ≡ More want
 WantsHere (Some c) None e = ⊥
 WantsHere (Some c) (Some want) e = (c.ask ≡ call.More) × (want ≡ Raw)
 
 -- the engine is where such a token is wanted
-abbrev pub Takes : Sizes → Option ScanWant → Engine → Book → Type 0
+abbrev pub Takes : Sizes → Option Want → Engine → Book → Type 0
 Takes sizes want e book = WantsHere e.call want e × AllStand sizes e book
 
 -- the engine is where some token is wanted
 abbrev pub Wants : Sizes → Engine → Book → Type 0
-Wants sizes e book = (want : Option ScanWant) × Takes sizes want e book
+Wants sizes e book = (want : Option Want) × Takes sizes want e book
 
 -- a space is handed on to where it is wanted, if it is
-abbrev pub space_moves : Page → Option ScanWant → List Reading → List Move
+abbrev pub space_moves : Page → Option Want → List Reading → List Move
 space_moves page None work = []
 space_moves page (Some want) work = onward_of page (Some want) work (seen page.meanings space_token)
 
@@ -157,23 +161,23 @@ pub record Cuts (sizes : Sizes) (s : State) (e' : Engine) (book : Book) (w w' : 
 abbrev pub DoesRule : Sizes → State → Engine → Book → World → World → List Move → Ruled → Type 0
 DoesRule sizes s e' book w w' moves Step = Went sizes s e' w w' moves 1
 DoesRule sizes s e' book w w' moves Free = Went sizes s e' w w' moves 0
-DoesRule sizes s e' book w w' moves (Halted o) = Halts sizes s e' book w w' moves (outcome_of o) 1
+DoesRule sizes s e' book w w' moves (Halted o) = Halts sizes s e' book w w' moves o 1
 
 -- of moves without a step
 abbrev pub DoesOnward : Sizes → State → Engine → Book → World → World → List Move → Ruled → Type 0
 DoesOnward sizes s e' book w w' moves Step = Went sizes s e' w w' moves 0
 DoesOnward sizes s e' book w w' moves Free = ⊥
-DoesOnward sizes s e' book w w' moves (Halted o) = Halts sizes s e' book w w' moves (outcome_of o) 0
+DoesOnward sizes s e' book w w' moves (Halted o) = Halts sizes s e' book w w' moves o 0
 
 -- THE NEXT READING
 
 -- its moves, for what wants it
-abbrev pub next_moves : Option ScanWant → Engine → Book → List Move
+abbrev pub next_moves : Option Want → Engine → Book → List Move
 next_moves want e book = handed (page_of e book) (enters_of want) (scanning_of e book.work) (onward_of (page_of e book) want book.work) (pulled e.categories (pending_of book.number e.input.pending))
 
 -- The machine has come, behind k steps, to where this token is handed on to what wants it: the moves go on with what becomes of it.
 -- The open readings are as they were, but that a call may have noted a check.
-pub record Comes (sizes : Sizes) (want : Option ScanWant) (s : State) (e' : Engine) (book : Book) (w w' : World) (moves : List Move) (x : Seen) (k : ℕ) : Type 0 where
+pub record Comes (sizes : Sizes) (want : Option Want) (s : State) (e' : Engine) (book : Book) (w w' : World) (moves : List Move) (x : Seen) (k : ℕ) : Type 0 where
   pub book' : Book
   pub still : e'.call ≡ None → book' ≡ book
   pub takes : Takes sizes want e' book'
@@ -183,18 +187,18 @@ pub record Comes (sizes : Sizes) (want : Option ScanWant) (s : State) (e' : Engi
   pub count : steps front ≡ k
 
 -- of a token that was met: it is handed on, or another in its place; or the run has ended at the hundredth report
-abbrev pub Meets : Sizes → Option ScanWant → State → Engine → Book → World → World → List Move → Option Seen → Type 0
+abbrev pub Meets : Sizes → Option Want → State → Engine → Book → World → World → List Move → Option Seen → Type 0
 Meets sizes want s e' book w w' moves (Some x) = Comes sizes want s e' book w w' moves x 0
-Meets sizes want s e' book w w' moves None = Halts sizes s e' book w w' moves (machine.AtFatal HundredErrors) 0
+Meets sizes want s e' book w w' moves None = Halts sizes s e' book w w' moves (AtFatal HundredErrors) 0
 
-abbrev pub Nexts : Sizes → Option ScanWant → State → Engine → Book → World → World → List Move → Next → Type 0
+abbrev pub Nexts : Sizes → Option Want → State → Engine → Book → World → World → List Move → Next → Type 0
 Nexts sizes want s e' book w w' moves (Token x) = Comes sizes want s e' book w w' moves x 1
 Nexts sizes want s e' book w w' moves Line = Went sizes s e' w w' moves 1
 Nexts sizes want s e' book w w' moves Skipped = Went sizes s e' w w' moves 0
-Nexts sizes want s e' book w w' moves (Over o) = Halts sizes s e' book w w' moves (outcome_of o) 1
+Nexts sizes want s e' book w w' moves (Over o) = Halts sizes s e' book w w' moves o 1
 
 -- Behind these moves the engine stands for its state with this book, and a space follows, if one does.
-pub record Behind (sizes : Sizes) (want space : Option ScanWant) (s : State) (e' : Engine) (book : Book) (page : Page) (w w' : World) (moves : List Move) : Type 0 where
+pub record Behind (sizes : Sizes) (want space : Option Want) (s : State) (e' : Engine) (book : Book) (page : Page) (w w' : World) (moves : List Move) : Type 0 where
   pub book2 : Book
   pub still : e'.call ≡ None → book2 ≡ book
   pub takes : Takes sizes want e' book2

@@ -1,5 +1,6 @@
 -- What an engine stands for: a state of the machine, once its open readings are named.
 use Rattle.std.specs.Prelude.{◌≡◌, ℕ, ◌+◌, ◌<◌, ◌≤◌, true, false, List, [], ◌∷◌, ◌++◌, length, reverse, take, drop, nat_lt, if◌then◌else◌, Option, Some, None}
+use Rattle.tex_syntax.specs.declared.words.Want.{Want}
 use Rattle.tex_defs.specs.declared.Seen.{Seen}
 use Rattle.tex_defs.specs.declared.Token.{Token}
 use Rattle.tex_defs.specs.declared.Sizes.{Sizes}
@@ -7,14 +8,13 @@ use Rattle.tex_defs.specs.declared.Full.{Full}
 use Rattle.tex_defs.specs.declared.Table.TheVariants.{ExpansionDepth}
 use Rattle.plain_state.specs.Readings as reading
 use Rattle.plain_state.specs.Readings.{Fed}
-use Rattle.plain_state.specs.Meanings.{fixed_locations}
+use Rattle.plain_tokens.specs.Meanings.{fixed_locations}
 use Rattle.plain_state.specs.States.{Reading, State, fed_with, ended_with}
 use Rattle.plain_machine.specs.Plan.{Page, last_seen, is_told, reports_room}
 use Rattle.plain_machine.specs.Numbers.{Tied, pending_of, meanings_of}
 use Rattle.input_state.specs.Stored.{Stored, KeepsMacros, gathered}
 use Rattle.input_state.specs.Callings.{NotCalling}
-use Rattle.plain_state.specs.Tables.{is_put}
-use Rattle.frames.specs.declared.scan.Want.{Want}
+use Rattle.plain_tokens.specs.Tables.{is_put}
 use Rattle.frames.specs.declared.scan.Value.{Value}
 use Rattle.frames.specs.declared.scan.Value.TheVariants.{Toks}
 use Rattle.frames.specs.declared.scan.Ask.{Ask}

@@ -1,6 +1,7 @@
 -- Whether the next rule needs a step, and how many rules without a step may follow.
 use Rattle.std.specs.Prelude.{◌≡◌, ℕ, ◌+◌, ◌*◌, length, Bool, true, false, ◌&&◌, Option, Some, None}
-use Rattle.plain_state.specs.Pending.{Pending, Progress, Closed, pulled}
+use Rattle.tex_syntax.specs.declared.words.Outcome.TheVariants.{AtFatal}
+use Rattle.plain_tokens.specs.Pending.{Pending, Progress, Closed, pulled}
 use Rattle.input_state.specs.Reads.{gives_step}
 use Rattle.frames.specs.Weights.{ask_weight}
 use Rattle.frames.specs.declared.scan.Ask.{Ask}
@@ -14,7 +15,6 @@ use Rattle.engine_state.specs.declared.outcome.Ruled.{Ruled}
 use Rattle.engine_state.specs.declared.outcome.Ruled.TheVariants.{Step, Free, Halted}
 use Rattle.engine_state.specs.declared.outcome.Next.{Next}
 use Rattle.engine_state.specs.declared.outcome.Next.TheVariants.{Token, Line, Skipped, Over}
-use Rattle.engine_state.specs.declared.outcome.Outcome.TheVariants.{Fatal}
 use Rattle.tex_defs.specs.declared.Fatal.TheVariants.{HundredErrors}
 use Rattle.tex_defs.specs.declared.Seen.{Seen}
 use Rattle.engine_state.specs.Stands.{frames}
@@ -119,7 +119,7 @@ NextStepsIf (Over o) b = Unit {0}
 -- a token that was met, and moves without a step
 abbrev pub next_met : Option Seen → Next
 next_met (Some x) = Token x
-next_met None = Over (Fatal HundredErrors)
+next_met None = Over (AtFatal HundredErrors)
 
 abbrev pub next_free : Ruled → Next
 next_free Step = Skipped

@@ -1,15 +1,17 @@
 // The checks: where a file has ended, or the name of an `\outer` macro has come, while something is scanned.
 // *The TeXbook*, chapter 20; *TeX: The Program*, part 24 (`check_outer_validity`).
 ghost use Rattle.std.specs.Prelude.{◌≡◌, ◌≤◌, ◌+◌, List, [], ◌∷◌, ◌++◌, IfOk, IfErr, IfSome, OnOk, OnErr, Option, Some, None, true, false, IsSome};
+ghost use Rattle.tex_syntax.specs.declared.words.Report.TheVariants.{Forbidden};
+ghost use Rattle.tex_syntax.specs.declared.words.Outcome.TheVariants.{AtFatal};
+ghost use Rattle.tex_syntax.specs.declared.words.Want.{Want};
+ghost use Rattle.tex_syntax.specs.declared.words.Scanned.TheVariants as scanned;
 ghost use Rattle.tex_defs.specs.Places.{Transcript};
 ghost use Rattle.tex_defs.specs.declared.Sizes.{Sizes};
 ghost use Rattle.tex_defs.specs.declared.Fatal.TheVariants as fatal;
-ghost use Rattle.plain_state.specs.Reports.{Forbidden, OfUse};
-ghost use Rattle.plain_state.specs.States.{Move, Written, AtFatal};
+ghost use Rattle.plain_state.specs.States.{Move, Written};
 ghost use Rattle.plain_machine.specs.Plan.{Page, put_one, reported, reports_room, checked, check_noted, inserted_at};
 ghost use Rattle.plain_machine.specs.Does.{Did};
 ghost use Rattle.world_io.specs.Told.{FilesTold};
-ghost use Rattle.transcript.specs.Reported.{report_of, scanned_of};
 ghost use Rattle.engine_state.specs.Book.{Book};
 ghost use Rattle.engine_state.specs.Calls.{AllStand};
 ghost use Rattle.engine_state.specs.Near.{CutsIn};
@@ -19,22 +21,21 @@ ghost use Rattle.engine_state.specs.Rules.{world_of, onward_of, token_moves, spa
 ghost use Rattle.engine_state.specs.Steps.{IsFree, IsHalted, weight};
 ghost use Rattle.input_state.specs.CallFeeds.{with_scan};
 ghost use Rattle.macro_call.specs.PlainScans.{cut_scan};
-ghost use Rattle.frames.specs.declared.scan.Want.{Want as ScanWant};
 
 use crate::broken::Broken;
 use crate::engine::Engine;
 use crate::meaning::is_outer;
-use crate::outcome::{Outcome, Ruled};
+use crate::outcome::Ruled;
 use tex_defs::{Fatal, Name, Seen, Sizes, Token};
-use transcript::{Report, Scanned};
+use tex_syntax::{Outcome, Report, Scanned};
 use world_io::Sink;
 
 impl Engine {
     /// What is scanned, with the name of the macro or the command: a call that takes tokens, or a text or a definition.
     fn scanned(&self) -> Option<(Scanned, Name)>
-        ensures is { IfSome result (λ s. IsScanned (scanned_of s.0) self.now) }
-        ensures some { IfSome result (λ s. (sizes : Sizes) (book : Book) (want : Option ScanWant) → Takes sizes want self.now book → Scans (scanned_of s.0, s.1) self.now book × IsSome want) }
-        ensures none { result ≡ None → (sizes : Sizes) (book : Book) (want : Option ScanWant) → Takes sizes want self.now book → scanning_of self.now book.work ≡ None }
+        ensures is { IfSome result (λ s. IsScanned s.0 self.now) }
+        ensures some { IfSome result (λ s. (sizes : Sizes) (book : Book) (want : Option Want) → Takes sizes want self.now book → Scans (s.0, s.1) self.now book × IsSome want) }
+        ensures none { result ≡ None → (sizes : Sizes) (book : Book) (want : Option Want) → Takes sizes want self.now book → scanning_of self.now book.work ≡ None }
     {
         match self.call {
             Some(call) if self.input.is_taking() => Some((Scanned::Use, call.name)),
@@ -46,9 +47,9 @@ impl Engine {
     /// What the innermost of the frames scans that scans something, where a list is held.
     fn scanned_frame(&self) -> Option<(Scanned, Name)>
         requires { self.now.call ≡ None }
-        ensures is { IfSome result (λ s. IsScanned (scanned_of s.0) self.now) }
-        ensures some { IfSome result (λ s. (sizes : Sizes) (book : Book) (want : Option ScanWant) → Takes sizes want self.now book → Scans (scanned_of s.0, s.1) self.now book × IsSome want) }
-        ensures none { result ≡ None → (sizes : Sizes) (book : Book) (want : Option ScanWant) → Takes sizes want self.now book → scanning_of self.now book.work ≡ None }
+        ensures is { IfSome result (λ s. IsScanned s.0 self.now) }
+        ensures some { IfSome result (λ s. (sizes : Sizes) (book : Book) (want : Option Want) → Takes sizes want self.now book → Scans (s.0, s.1) self.now book × IsSome want) }
+        ensures none { result ≡ None → (sizes : Sizes) (book : Book) (want : Option Want) → Takes sizes want self.now book → scanning_of self.now book.work ≡ None }
     {
         let Some(frame) = &self.top else {
             return None;
@@ -64,9 +65,9 @@ impl Engine {
 
     /// Writes what is shown of what is scanned.
     fn write_scanned<S: Sink>(&mut self, out: &mut S, what: Scanned) -> Result<(), Broken>
-        requires { IsScanned (scanned_of what) self.old }
-        ensures did { OnOk result ((sizes : Sizes) (f : FilesTold) (book : Book) → Did sizes (state_of self.old book) (state_of self.new book) (world_of f (S.told out.old) self.old) (world_of f (S.told out.new) self.new) (Written Transcript (away_text (scanned_of what) self.old) ∷ [])) }
-        ensures err { IfErr result (λ b. (sizes : Sizes) (f : FilesTold) (book : Book) (more : List Move) → Cuts sizes (state_of self.old book) self.new book (world_of f (S.told out.old) self.old) (world_of f (S.told out.new) self.new) (Written Transcript (away_text (scanned_of what) self.old) ∷ more) b) }
+        requires { IsScanned what self.old }
+        ensures did { OnOk result ((sizes : Sizes) (f : FilesTold) (book : Book) → Did sizes (state_of self.old book) (state_of self.new book) (world_of f (S.told out.old) self.old) (world_of f (S.told out.new) self.new) (Written Transcript (away_text what self.old) ∷ [])) }
+        ensures err { IfErr result (λ b. (sizes : Sizes) (f : FilesTold) (book : Book) (more : List Move) → Cuts sizes (state_of self.old book) self.new book (world_of f (S.told out.old) self.old) (world_of f (S.told out.new) self.new) (Written Transcript (away_text what self.old) ∷ more) b) }
         ensures only { OnlyColumn self.old self.new }
     {
         match what {
@@ -77,8 +78,8 @@ impl Engine {
 
     /// A call, where it is what is scanned, notes the check.
     fn note_check(&mut self, what: Scanned)
-        ensures in_call { scanned_of what ≡ OfUse → self.new ≡ record self.old { input = record self.old.input { call = with_scan cut_scan self.old.input.call } } }
-        ensures elsewhere { (scanned_of what ≡ OfUse → ⊥) → self.new ≡ self.old }
+        ensures in_call { what ≡ scanned.Use → self.new ≡ record self.old { input = record self.old.input { call = with_scan cut_scan self.old.input.call } } }
+        ensures elsewhere { (what ≡ scanned.Use → ⊥) → self.new ≡ self.old }
     {
         if what == Scanned::Use && self.input.is_taking() {
             self.input.cut_call();
@@ -93,13 +94,13 @@ impl Engine {
         report: Report,
     ) -> Result<bool, Broken>
         requires idle { self.old.input.making ≡ None }
-        requires asked { IsScanned (scanned_of what) self.old }
-        ensures on { IfOk result (λ on. on ≡ true → (sizes : Sizes) (f : FilesTold) (book : Book) (want space : Option ScanWant) (page : Page) → Takes sizes want self.old book →
-            Behind sizes want space (state_of self.old book) self.new book page (world_of f (S.told out.old) self.old) (world_of f (S.told out.new) self.new) (reported (page_of self.old book) (report_of report) (check_noted (scanned_of what) (space_moves page space book.work)))) }
+        requires asked { IsScanned what self.old }
+        ensures on { IfOk result (λ on. on ≡ true → (sizes : Sizes) (f : FilesTold) (book : Book) (want space : Option Want) (page : Page) → Takes sizes want self.old book →
+            Behind sizes want space (state_of self.old book) self.new book page (world_of f (S.told out.old) self.old) (world_of f (S.told out.new) self.new) (reported (page_of self.old book) report (check_noted what (space_moves page space book.work)))) }
         ensures last { IfOk result (λ on. on ≡ false → (sizes : Sizes) (f : FilesTold) (book : Book) (rest : List Move) →
-            Halts sizes (state_of self.old book) self.new book (world_of f (S.told out.old) self.old) (world_of f (S.told out.new) self.new) (reported (page_of self.old book) (report_of report) rest) (AtFatal fatal.HundredErrors) 0) }
+            Halts sizes (state_of self.old book) self.new book (world_of f (S.told out.old) self.old) (world_of f (S.told out.new) self.new) (reported (page_of self.old book) report rest) (AtFatal fatal.HundredErrors) 0) }
         ensures err { IfErr result (λ b. (sizes : Sizes) (f : FilesTold) (book : Book) (rest : List Move) → self.old.reports ≤ reports_room →
-            Cuts sizes (state_of self.old book) self.new book (world_of f (S.told out.old) self.old) (world_of f (S.told out.new) self.new) (reported (page_of self.old book) (report_of report) rest) b) }
+            Cuts sizes (state_of self.old book) self.new book (world_of f (S.told out.old) self.old) (world_of f (S.told out.new) self.new) (reported (page_of self.old book) report rest) b) }
         ensures halts { IfOk result (λ on. on ≡ false → SameFrames self.old self.new) }
         ensures frames { OnErr result (SameFrames self.old self.new) }
         ensures still { OnOk result (weight self.new ≡ weight self.old) }
@@ -121,13 +122,13 @@ impl Engine {
         report: Report,
     ) -> Result<bool, Broken>
         requires idle { self.old.input.making ≡ None }
-        requires asked { IsScanned (scanned_of what) self.old }
-        ensures on { IfOk result (λ on. on ≡ true → (sizes : Sizes) (f : FilesTold) (book : Book) (want space : Option ScanWant) (page : Page) → Takes sizes want self.old book →
-            Behind sizes want space (state_of self.old book) self.new book page (world_of f (S.told out.old) self.old) (world_of f (S.told out.new) self.new) (away_moves (page_of self.old book) (scanned_of what) (away_text (scanned_of what) self.old) (report_of report) (space_moves page space book.work))) }
+        requires asked { IsScanned what self.old }
+        ensures on { IfOk result (λ on. on ≡ true → (sizes : Sizes) (f : FilesTold) (book : Book) (want space : Option Want) (page : Page) → Takes sizes want self.old book →
+            Behind sizes want space (state_of self.old book) self.new book page (world_of f (S.told out.old) self.old) (world_of f (S.told out.new) self.new) (away_moves (page_of self.old book) what (away_text what self.old) report (space_moves page space book.work))) }
         ensures last { IfOk result (λ on. on ≡ false → (sizes : Sizes) (f : FilesTold) (book : Book) (rest : List Move) → AllStand sizes self.old book →
-            Halts sizes (state_of self.old book) self.new book (world_of f (S.told out.old) self.old) (world_of f (S.told out.new) self.new) (away_moves (page_of self.old book) (scanned_of what) (away_text (scanned_of what) self.old) (report_of report) rest) (AtFatal fatal.HundredErrors) 0) }
+            Halts sizes (state_of self.old book) self.new book (world_of f (S.told out.old) self.old) (world_of f (S.told out.new) self.new) (away_moves (page_of self.old book) what (away_text what self.old) report rest) (AtFatal fatal.HundredErrors) 0) }
         ensures err { IfErr result (λ b. (sizes : Sizes) (f : FilesTold) (book : Book) (rest : List Move) → AllStand sizes self.old book →
-            CutsIn sizes (state_of self.old book) self.new (world_of f (S.told out.old) self.old) (world_of f (S.told out.new) self.new) (away_moves (page_of self.old book) (scanned_of what) (away_text (scanned_of what) self.old) (report_of report) rest) b) }
+            CutsIn sizes (state_of self.old book) self.new (world_of f (S.told out.old) self.old) (world_of f (S.told out.new) self.new) (away_moves (page_of self.old book) what (away_text what self.old) report rest) b) }
         ensures halts { IfOk result (λ on. on ≡ false → SameFrames self.old self.new) }
         ensures still { OnOk result (weight self.new ≡ weight self.old) }
         ensures readings { SameReadings self.old self.new }
@@ -148,11 +149,11 @@ impl Engine {
         name: Name,
     ) -> Result<Option<Seen>, Broken>
         requires idle { self.old.input.making ≡ None }
-        requires asked { IsScanned (scanned_of what) self.old }
-        ensures rule { IfOk result (λ met. (sizes : Sizes) (f : FilesTold) (book : Book) (want : ScanWant) → Takes sizes (Some want) self.old book →
-            Meets sizes (Some want) (state_of self.old book) self.new book (world_of f (S.told out.old) self.old) (world_of f (S.told out.new) self.new) (put_one token ++ away_moves (page_of self.old book) (scanned_of what) (away_text (scanned_of what) self.old) (Forbidden (scanned_of what) name) (space_moves (page_of self.old book) (Some want) book.work)) met) }
+        requires asked { IsScanned what self.old }
+        ensures rule { IfOk result (λ met. (sizes : Sizes) (f : FilesTold) (book : Book) (want : Want) → Takes sizes (Some want) self.old book →
+            Meets sizes (Some want) (state_of self.old book) self.new book (world_of f (S.told out.old) self.old) (world_of f (S.told out.new) self.new) (put_one token ++ away_moves (page_of self.old book) what (away_text what self.old) (Forbidden what name) (space_moves (page_of self.old book) (Some want) book.work)) met) }
         ensures err { IfErr result (λ b. (sizes : Sizes) (f : FilesTold) (book : Book) (rest : List Move) → AllStand sizes self.old book →
-            CutsIn sizes (state_of self.old book) self.new (world_of f (S.told out.old) self.old) (world_of f (S.told out.new) self.new) (put_one token ++ away_moves (page_of self.old book) (scanned_of what) (away_text (scanned_of what) self.old) (Forbidden (scanned_of what) name) rest) b) }
+            CutsIn sizes (state_of self.old book) self.new (world_of f (S.told out.old) self.old) (world_of f (S.told out.new) self.new) (put_one token ++ away_moves (page_of self.old book) what (away_text what self.old) (Forbidden what name) rest) b) }
         ensures halts { IfOk result (λ met. met ≡ None → SameFrames self.old self.new) }
         ensures readings { SameReadings self.old self.new }
         ensures idle { OnOk result (self.new.input.making ≡ None) }
@@ -172,9 +173,9 @@ impl Engine {
         token: Token,
     ) -> Result<Option<Seen>, Broken>
         requires idle { self.old.input.making ≡ None }
-        ensures rule { IfOk result (λ met. (sizes : Sizes) (f : FilesTold) (book : Book) (want : Option ScanWant) → Takes sizes want self.old book →
+        ensures rule { IfOk result (λ met. (sizes : Sizes) (f : FilesTold) (book : Book) (want : Option Want) → Takes sizes want self.old book →
             Meets sizes want (state_of self.old book) self.new book (world_of f (S.told out.old) self.old) (world_of f (S.told out.new) self.new) (token_moves (page_of self.old book) (scanning_of self.old book.work) (onward_of (page_of self.old book) want book.work) token) met) }
-        ensures err { IfErr result (λ b. (sizes : Sizes) (f : FilesTold) (book : Book) (want : Option ScanWant) → Takes sizes want self.old book →
+        ensures err { IfErr result (λ b. (sizes : Sizes) (f : FilesTold) (book : Book) (want : Option Want) → Takes sizes want self.old book →
             CutsIn sizes (state_of self.old book) self.new (world_of f (S.told out.old) self.old) (world_of f (S.told out.new) self.new) (token_moves (page_of self.old book) (scanning_of self.old book.work) (onward_of (page_of self.old book) want book.work) token) b) }
         ensures halts { IfOk result (λ met. met ≡ None → SameFrames self.old self.new) }
         ensures readings { SameReadings self.old self.new }
@@ -208,7 +209,7 @@ impl Engine {
                 if self.run_away(out, what, Report::FileEnded(what, name))? {
                     return Ok(Ruled::Step);
                 }
-                Ok(Ruled::Halted(Outcome::Fatal(Fatal::HundredErrors)))
+                Ok(Ruled::Halted(Outcome::AtFatal(Fatal::HundredErrors)))
             }
             None => Ok(Ruled::Step),
         }
@@ -226,7 +227,7 @@ const SPACE: Token = Token::Char { cat: 10, code: 32 };
 
 /// What is inserted where such a thing runs away.
 fn inserted(what: Scanned) -> Token
-    ensures { result ≡ inserted_at (scanned_of what) }
+    ensures { result ≡ inserted_at what }
 {
     match what {
         Scanned::Use => PAR,

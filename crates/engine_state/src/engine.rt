@@ -1,34 +1,32 @@
 // The engine: what it keeps of the machine's state.
 ghost use Rattle.std.specs.Prelude.{◌≡◌, List, [], ◌∷◌, IfOk, IfErr, OnOk, MatchResult, Some, None, false, true};
+ghost use Rattle.tex_syntax.specs.declared.words.Outcome.TheVariants as outcomes;
 ghost use Rattle.tex_defs.specs.Places.{Transcript, World};
 ghost use Rattle.tex_defs.specs.Sizes.{first_out_of_range};
 ghost use Rattle.tex_defs.specs.declared.Sizes.{Sizes};
 ghost use Rattle.tex_defs.specs.declared.Fatal.TheVariants as fatal;
-ghost use Rattle.plain_state.specs.Categories.{initial_categories as first_categories};
-ghost use Rattle.plain_state.specs.Names as names;
+ghost use Rattle.plain_tokens.specs.Categories.{initial_categories as first_categories};
 ghost use Rattle.prim_table.specs.Primitives.{primitive_names};
-ghost use Rattle.plain_state.specs.Reports.{NoSuchFile, report_bytes};
-ghost use Rattle.plain_state.specs.Tables.{words};
+ghost use Rattle.plain_state.specs.Reports.{plain_style, missing_file_bytes};
+ghost use Rattle.plain_state.specs.Demands.{words};
 ghost use Rattle.plain_state.specs.States.{Move, Kept, Written};
 ghost use Rattle.plain_machine.specs.Plan.{no_file};
 ghost use Rattle.plain_machine.specs.Does.{Did};
 ghost use Rattle.world_io.specs.Told.{FilesTold};
 ghost use Rattle.engine_state.specs.Book.{Book};
-ghost use Rattle.engine_state.specs.Begins.{outcome_of};
 ghost use Rattle.engine_state.specs.Stands.{Stands, IsSized, IsSound, SameFrames, OnlyColumn, state_of};
 ghost use Rattle.engine_state.specs.Rules.{world_of, Cuts, Halts};
 ghost use Rattle.engine_state.specs.First.{Begins, IsUnread};
-ghost use Rattle.engine_state.specs.declared.outcome.Outcome.TheVariants as outcomes;
 
 use crate::broken::Broken;
 use crate::call::Call;
-use crate::outcome::Outcome;
 use crate::writing::REPORTS_ROOM;
-use frames::{Ask, Frame, Outer, Want};
+use frames::{Ask, Frame, Outer};
 use input_state::Input;
 use name_table::NameTable;
 use std::alloc::{AllocError, Global};
 use tex_defs::{Fatal, Sizes};
+use tex_syntax::{Outcome, Want};
 use transcript::{initial_view, write_missing_file};
 use world_io::Sink;
 
@@ -72,7 +70,7 @@ const INITIAL: [u8; 256] = [
 ];
 
 /// The category codes of INITEX's first state.
-#[tactic(auto, unfolding(plain_state::specs::Categories::initial_categories))]
+#[tactic(auto, unfolding(plain_tokens::specs::Categories::initial_categories))]
 fn initial_categories() -> [u8; 256]
     ensures { result ≡ first_categories }
 {
@@ -200,11 +198,11 @@ impl Engine {
     /// A write failed or wanted memory: a front of the text was written.
     pub fn refuse_job<S: Sink>(&mut self, out: &mut S, file: &[u8]) -> Result<Outcome, Broken>
         ensures run { IfOk result (λ o. (sizes : Sizes) (f : FilesTold) (book : Book) → self.old.in_line ≡ false → self.old.names.names ≡ primitive_names →
-            Halts sizes (state_of self.old book) self.new book (world_of f (S.told out.old) self.old) (world_of f (S.told out.new) self.new) (no_file file.now) (outcome_of o) 0) }
+            Halts sizes (state_of self.old book) self.new book (world_of f (S.told out.old) self.old) (world_of f (S.told out.new) self.new) (no_file file.now) o 0) }
         ensures err { IfErr result (λ b. (sizes : Sizes) (f : FilesTold) (book : Book) → self.old.in_line ≡ false → self.old.names.names ≡ primitive_names → self.old.reports ≡ 0 →
             Cuts sizes (state_of self.old book) self.new book (world_of f (S.told out.old) self.old) (world_of f (S.told out.new) self.new) (no_file file.now) b) }
         ensures frames { SameFrames self.old self.new }
-        ensures no_file { IfOk result (λ o. o ≡ outcomes.Fatal fatal.NoFile) }
+        ensures no_file { IfOk result (λ o. o ≡ outcomes.AtFatal fatal.NoFile) }
         ensures stopped { self.new.stopped ≡ true }
     {
         let refused = self.write_refusal(out, file);
@@ -215,22 +213,22 @@ impl Engine {
     /// Writes and counts the report that a job's file isn't held, and writes what comes behind it.
     fn write_refusal<S: Sink>(&mut self, out: &mut S, file: &[u8]) -> Result<Outcome, Broken>
         ensures run { IfOk result (λ o. (sizes : Sizes) (f : FilesTold) (book : Book) → self.old.in_line ≡ false → self.old.names.names ≡ primitive_names →
-            Halts sizes (state_of self.old book) self.new book (world_of f (S.told out.old) self.old) (world_of f (S.told out.new) self.new) (no_file file.now) (outcome_of o) 0) }
+            Halts sizes (state_of self.old book) self.new book (world_of f (S.told out.old) self.old) (world_of f (S.told out.new) self.new) (no_file file.now) o 0) }
         ensures err { IfErr result (λ b. (sizes : Sizes) (f : FilesTold) (book : Book) → self.old.in_line ≡ false → self.old.names.names ≡ primitive_names → self.old.reports ≡ 0 →
             Cuts sizes (state_of self.old book) self.new book (world_of f (S.told out.old) self.old) (world_of f (S.told out.new) self.new) (no_file file.now) b) }
         ensures frames { SameFrames self.old self.new }
-        ensures no_file { IfOk result (λ o. o ≡ outcomes.Fatal fatal.NoFile) }
+        ensures no_file { IfOk result (λ o. o ≡ outcomes.AtFatal fatal.NoFile) }
     {
         self.write_missing(out, file)?;
         self.reports = self.reports.min(REPORTS_ROOM) + 1;
         self.write_text(out, NO_FILE_LINES)?;
-        Ok(Outcome::Fatal(Fatal::NoFile))
+        Ok(Outcome::AtFatal(Fatal::NoFile))
     }
 
     /// Writes the report that a file isn't held.
     fn write_missing<S: Sink>(&mut self, out: &mut S, file: &[u8]) -> Result<(), Broken>
-        ensures did { OnOk result ((sizes : Sizes) (f : FilesTold) (book : Book) → Did sizes (state_of self.old book) (state_of self.new book) (world_of f (S.told out.old) self.old) (world_of f (S.told out.new) self.new) (Written Transcript (report_bytes self.old.names.names self.old.in_line 0 (NoSuchFile file.now)) ∷ [])) }
-        ensures err { IfErr result (λ b. (sizes : Sizes) (f : FilesTold) (book : Book) (more : List Move) → Cuts sizes (state_of self.old book) self.new book (world_of f (S.told out.old) self.old) (world_of f (S.told out.new) self.new) (Written Transcript (report_bytes self.old.names.names self.old.in_line 0 (NoSuchFile file.now)) ∷ more) b) }
+        ensures did { OnOk result ((sizes : Sizes) (f : FilesTold) (book : Book) → Did sizes (state_of self.old book) (state_of self.new book) (world_of f (S.told out.old) self.old) (world_of f (S.told out.new) self.new) (Written Transcript (missing_file_bytes (plain_style self.old.names.names) self.old.in_line 0 file.now) ∷ [])) }
+        ensures err { IfErr result (λ b. (sizes : Sizes) (f : FilesTold) (book : Book) (more : List Move) → Cuts sizes (state_of self.old book) self.new book (world_of f (S.told out.old) self.old) (world_of f (S.told out.new) self.new) (Written Transcript (missing_file_bytes (plain_style self.old.names.names) self.old.in_line 0 file.now) ∷ more) b) }
         ensures only { OnlyColumn self.old self.new }
     {
         let (hash, pool) = self.names.parts();

@@ -23,4 +23,4 @@ pub use call::{Call, CallAsk};
 pub use check::PAR;
 pub use engine::Engine;
 pub use meaning::name_of;
-pub use outcome::{Last, Next, Outcome, Ruled, stops};
+pub use outcome::{Last, Next, Ruled, stops};

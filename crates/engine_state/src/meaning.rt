@@ -1,7 +1,7 @@
 // What tokens mean.
 ghost use Rattle.std.specs.Prelude.{◌≡◌};
-ghost use Rattle.plain_state.specs.Names as names;
-ghost use Rattle.plain_state.specs.Tokens as tokens;
+ghost use Rattle.plain_tokens.specs.Names as names;
+ghost use Rattle.plain_tokens.specs.Tokens as tokens;
 
 use tex_defs::{Meaning, Name, Seen, Token};
 

@@ -1,7 +1,7 @@
 // The names and characters that a line gives, as tokens.
 ghost use Rattle.std.specs.Prelude.{◌≡◌, IfOk, IfErr, OnOk, OnErr};
-ghost use Rattle.plain_state.specs.Lex.{Lexeme};
-ghost use Rattle.plain_state.specs.Lookup.{name_among, new_among, token_of, new_name};
+ghost use Rattle.plain_tokens.specs.Lex.{Lexeme};
+ghost use Rattle.plain_tokens.specs.Lookup.{name_among, new_among, token_of, new_name};
 ghost use Rattle.input_state.specs.Reads.{IsLexeme};
 ghost use Rattle.engine_state.specs.Entering.{joined, EntryFits, EntryRefused};
 

@@ -1,11 +1,12 @@
 // The next token.
 ghost use Rattle.std.specs.Prelude.{◌≡◌, ◌<◌, IfOk, IfErr, OnOk, OnErr, MatchResult, Option, None, false, true};
+ghost use Rattle.tex_syntax.specs.declared.words.Want.{Want};
 ghost use Rattle.tex_defs.specs.declared.Sizes.{Sizes};
-ghost use Rattle.plain_state.specs.Pending.{pulled};
-ghost use Rattle.plain_state.specs.Lex.{Lexeme};
+ghost use Rattle.plain_tokens.specs.Pending.{pulled};
+ghost use Rattle.plain_tokens.specs.Lex.{Lexeme};
 ghost use Rattle.world_io.specs.Told.{FilesTold};
 ghost use Rattle.input_state.specs.Reads.{gives_step, IsLexeme};
-ghost use Rattle.plain_state.specs.Lookup.{token_of, new_name};
+ghost use Rattle.plain_tokens.specs.Lookup.{token_of, new_name};
 ghost use Rattle.engine_state.specs.Book.{Book};
 ghost use Rattle.engine_state.specs.Near.{CutsIn};
 ghost use Rattle.engine_state.specs.Entering.{with_names, EntryFits, EntryRefused};
@@ -13,16 +14,15 @@ ghost use Rattle.engine_state.specs.Stands.{IsSized, SameFrames, state_of, page_
 ghost use Rattle.engine_state.specs.Rules.{world_of, onward_of, enters_of, name_moves, scanning_of, Takes, Meets, SameReadings};
 ghost use Rattle.engine_state.specs.Turns.{ReadsNext, CutsNext};
 ghost use Rattle.engine_state.specs.Steps.{weight, IsSkipped, IsOver, NextStepsIf, ends_run, next_met, next_free};
-ghost use Rattle.frames.specs.declared.scan.Want.{Want as ScanWant};
 
 use crate::broken::Broken;
 use crate::engine::Engine;
 use crate::names::resolve;
-use crate::outcome::{Last, Next, Outcome, Ruled};
+use crate::outcome::{Last, Next, Ruled};
 use input_state::Pulled;
 use line_lexer::Lexed;
 use tex_defs::{Fatal, Full, Seen, Sizes, Token};
-use transcript::Report;
+use tex_syntax::{Outcome, Report};
 use world_io::Sink;
 
 impl Engine {
@@ -53,9 +53,9 @@ impl Engine {
         lexed: Lexed,
     ) -> Result<Option<Seen>, Broken>
         requires idle { self.old.input.making ≡ None }
-        ensures rule { IfOk result (λ met. (sizes : Sizes) (f : FilesTold) (book : Book) (want : Option ScanWant) (x : Lexeme) → enters ≡ enters_of want → IsLexeme self.old.input.buffer lexed x → Takes sizes want self.old book →
+        ensures rule { IfOk result (λ met. (sizes : Sizes) (f : FilesTold) (book : Book) (want : Option Want) (x : Lexeme) → enters ≡ enters_of want → IsLexeme self.old.input.buffer lexed x → Takes sizes want self.old book →
             Meets sizes want (state_of self.old book) self.new book (world_of f (S.told out.old) self.old) (world_of f (S.told out.new) self.new) (name_moves (page_of self.old book) (scanning_of self.old book.work) (enters_of want) (onward_of (page_of self.old book) want book.work) x) met) }
-        ensures err { IfErr result (λ b. (sizes : Sizes) (f : FilesTold) (book : Book) (want : Option ScanWant) (x : Lexeme) → enters ≡ enters_of want → IsLexeme self.old.input.buffer lexed x → Takes sizes want self.old book →
+        ensures err { IfErr result (λ b. (sizes : Sizes) (f : FilesTold) (book : Book) (want : Option Want) (x : Lexeme) → enters ≡ enters_of want → IsLexeme self.old.input.buffer lexed x → Takes sizes want self.old book →
             CutsIn sizes (state_of self.old book) self.new (world_of f (S.told out.old) self.old) (world_of f (S.told out.new) self.new) (name_moves (page_of self.old book) (scanning_of self.old book.work) (enters_of want) (onward_of (page_of self.old book) want book.work) x) b) }
         ensures halts { IfOk result (λ met. met ≡ None → SameFrames self.old self.new) }
         ensures readings { SameReadings self.old self.new }
@@ -137,7 +137,7 @@ fn met_next(met: Option<Seen>) -> Next
 {
     match met {
         Some(seen) => Next::Token(seen),
-        None => Next::Over(Outcome::Fatal(Fatal::HundredErrors)),
+        None => Next::Over(Outcome::AtFatal(Fatal::HundredErrors)),
     }
 }
 

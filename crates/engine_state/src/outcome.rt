@@ -5,13 +5,7 @@ ghost use Rattle.engine_state.specs.Steps.{stops_run};
 
 use crate::broken::Broken;
 use tex_defs::{Fatal, Seen};
-
-/// How the machine stops.
-#[derive(Clone, Copy, PartialEq, Eq)]
-pub enum Outcome {
-    Finished,
-    Fatal(Fatal),
-}
+use tex_syntax::Outcome;
 
 /// Where the machine stops of itself.
 #[derive(Clone, Copy, PartialEq, Eq)]
@@ -29,7 +23,7 @@ impl Last {
     {
         match self {
             Last::End => Outcome::Finished,
-            Last::NoEnd => Outcome::Fatal(Fatal::NoEnd),
+            Last::NoEnd => Outcome::AtFatal(Fatal::NoEnd),
         }
     }
 }

@@ -2,7 +2,8 @@
 ghost use Rattle.std.specs.Prelude.{◌≡◌, ◌≤◌, ◌<◌, ◌+◌, ◌*◌, List, [], ◌∷◌, ◌++◌, IfErr, OnOk, OnErr, Some, None, IsSome, option_to_list, length, take, drop};
 ghost use Rattle.tex_defs.specs.Places.{World};
 ghost use Rattle.tex_defs.specs.declared.Sizes.{Sizes};
-ghost use Rattle.plain_state.specs.Tables.{refusal, refused, memory, lists_words};
+ghost use Rattle.plain_tokens.specs.Tables.{refused, memory, lists_words};
+ghost use Rattle.plain_state.specs.Demands.{refusal};
 ghost use Rattle.plain_state.specs.Readings.{Tok, Told, rank, own_lists, value_lists};
 ghost use Rattle.plain_state.specs.States.{Reading, Begun, BegunWith, Closed, fresh, fed_with, ended_with, beneath, made};
 ghost use Rattle.plain_machine.specs.Plan.{noting};
@@ -23,8 +24,9 @@ ghost use Rattle.engine_state.specs.Steps.{pending_weight, frame_weight};
 ghost use Rattle.engine_state.specs.declared.broken.Broken.TheVariants as broken;
 
 use crate::engine::Engine;
-use frames::{Answer, Ask, Beneath, Frame, Kind, Made, Value, Waiting, Want, first_ask};
+use frames::{Answer, Ask, Beneath, Frame, Kind, Made, Value, Waiting, first_ask};
 use tex_defs::{Full, Seen, Sizes, Table, Token};
+use tex_syntax::Want;
 
 impl Engine {
     /// How many readings are open.

@@ -3,7 +3,7 @@ ghost use Rattle.std.specs.Prelude.{◌≡◌, List, [], ◌++◌, map, IfErr, O
 ghost use Rattle.tex_defs.specs.Places.{World};
 ghost use Rattle.tex_defs.specs.declared.Sizes.{Sizes};
 ghost use Rattle.plain_state.specs.States.{Move, ListGrown};
-ghost use Rattle.plain_state.specs.Tokens.{made_token, made_text};
+ghost use Rattle.plain_tokens.specs.Tokens.{made_token, made_text};
 ghost use Rattle.plain_machine.specs.Plan.{put_text};
 ghost use Rattle.plain_machine.specs.Does.{Did};
 ghost use Rattle.input_state.specs.Stored.{KeepsMacros};

@@ -1,16 +1,17 @@
 // What the engine writes.
 ghost use Rattle.std.specs.Prelude.{◌≡◌, ◌≤◌, ℕ, List, [], ◌∷◌, ◌++◌, IfOk, IfErr, OnOk, None, true, false};
+ghost use Rattle.tex_syntax.specs.declared.words.Outcome.TheVariants.{AtFatal};
+ghost use Rattle.tex_syntax.specs.declared.words.Scanned.TheVariants as scanned;
 ghost use Rattle.tex_defs.specs.Places.{Transcript};
 ghost use Rattle.tex_defs.specs.declared.Sizes.{Sizes};
 ghost use Rattle.tex_defs.specs.declared.Fatal.TheVariants as fatal;
-ghost use Rattle.plain_state.specs.Names as names;
-ghost use Rattle.plain_state.specs.Reports.{report_bytes, message_bytes, runaway_bytes, OfUse};
-ghost use Rattle.plain_state.specs.States.{Move, Written, AtFatal};
+ghost use Rattle.plain_tokens.specs.Printed.{initial_style};
+ghost use Rattle.plain_state.specs.Reports.{plain_style, report_bytes, message_bytes, runaway_bytes};
+ghost use Rattle.plain_state.specs.States.{Move, Written};
 ghost use Rattle.plain_machine.specs.Plan.{reported, token_line, reports_room};
 ghost use Rattle.plain_machine.specs.Does.{Did};
 ghost use Rattle.world_io.specs.Told.{FilesTold};
 ghost use Rattle.frames.specs.Sees.{first_list};
-ghost use Rattle.transcript.specs.Reported.{report_of, scanned_of};
 ghost use Rattle.engine_state.specs.Book.{Book};
 ghost use Rattle.engine_state.specs.Calls.{AllStand, argument_bytes};
 ghost use Rattle.engine_state.specs.Begins.{outcome_of_last, last_moves, last_bytes};
@@ -21,12 +22,10 @@ ghost use Rattle.engine_state.specs.declared.outcome.Ruled.TheVariants.{Halted};
 
 use crate::broken::Broken;
 use crate::engine::Engine;
-use crate::outcome::{Last, Outcome, Ruled};
+use crate::outcome::{Last, Ruled};
 use tex_defs::{Fatal, Meaning, Sizes};
-use transcript::{
-    Report, Scanned, initial_view, put, write_message, write_report, write_runaway,
-    write_token_line,
-};
+use tex_syntax::{Outcome, Report, Scanned};
+use transcript::{initial_view, put, write_message, write_report, write_runaway, write_token_line};
 use world_io::Sink;
 
 /// The reports that a run may have, but for the last.
@@ -48,8 +47,8 @@ impl Engine {
     /// # Errors
     /// A write failed or wanted memory: a front of the text was written.
     pub fn write_message<S: Sink>(&mut self, out: &mut S) -> Result<(), Broken>
-        ensures did { OnOk result ((sizes : Sizes) (f : FilesTold) (book : Book) → Did sizes (state_of self.old book) (state_of self.new book) (world_of f (S.told out.old) self.old) (world_of f (S.told out.new) self.new) (Written Transcript (message_bytes self.old.categories self.old.names.names self.old.in_line (first_list self.old.input.builds)) ∷ [])) }
-        ensures err { IfErr result (λ b. (sizes : Sizes) (f : FilesTold) (book : Book) (more : List Move) → Cuts sizes (state_of self.old book) self.new book (world_of f (S.told out.old) self.old) (world_of f (S.told out.new) self.new) (Written Transcript (message_bytes self.old.categories self.old.names.names self.old.in_line (first_list self.old.input.builds)) ∷ more) b) }
+        ensures did { OnOk result ((sizes : Sizes) (f : FilesTold) (book : Book) → Did sizes (state_of self.old book) (state_of self.new book) (world_of f (S.told out.old) self.old) (world_of f (S.told out.new) self.new) (Written Transcript (message_bytes (initial_style self.old.categories self.old.names.names) self.old.in_line (first_list self.old.input.builds)) ∷ [])) }
+        ensures err { IfErr result (λ b. (sizes : Sizes) (f : FilesTold) (book : Book) (more : List Move) → Cuts sizes (state_of self.old book) self.new book (world_of f (S.told out.old) self.old) (world_of f (S.told out.new) self.new) (Written Transcript (message_bytes (initial_style self.old.categories self.old.names.names) self.old.in_line (first_list self.old.input.builds)) ∷ more) b) }
         ensures only { OnlyColumn self.old self.new }
     {
         let (hash, pool) = self.names.parts();
@@ -71,8 +70,8 @@ impl Engine {
         what: Scanned,
     ) -> Result<(), Broken>
         requires { self.old.input.builds ++ self.old.input.aside ≡ [] → ⊥ }
-        ensures did { OnOk result ((sizes : Sizes) (f : FilesTold) (book : Book) → Did sizes (state_of self.old book) (state_of self.new book) (world_of f (S.told out.old) self.old) (world_of f (S.told out.new) self.new) (Written Transcript (runaway_bytes (scanned_of what) self.old.categories self.old.names.names self.old.in_line (first_list (self.old.input.builds ++ self.old.input.aside))) ∷ [])) }
-        ensures err { IfErr result (λ b. (sizes : Sizes) (f : FilesTold) (book : Book) (more : List Move) → Cuts sizes (state_of self.old book) self.new book (world_of f (S.told out.old) self.old) (world_of f (S.told out.new) self.new) (Written Transcript (runaway_bytes (scanned_of what) self.old.categories self.old.names.names self.old.in_line (first_list (self.old.input.builds ++ self.old.input.aside))) ∷ more) b) }
+        ensures did { OnOk result ((sizes : Sizes) (f : FilesTold) (book : Book) → Did sizes (state_of self.old book) (state_of self.new book) (world_of f (S.told out.old) self.old) (world_of f (S.told out.new) self.new) (Written Transcript (runaway_bytes what (initial_style self.old.categories self.old.names.names) self.old.in_line (first_list (self.old.input.builds ++ self.old.input.aside))) ∷ [])) }
+        ensures err { IfErr result (λ b. (sizes : Sizes) (f : FilesTold) (book : Book) (more : List Move) → Cuts sizes (state_of self.old book) self.new book (world_of f (S.told out.old) self.old) (world_of f (S.told out.new) self.new) (Written Transcript (runaway_bytes what (initial_style self.old.categories self.old.names.names) self.old.in_line (first_list (self.old.input.builds ++ self.old.input.aside))) ∷ more) b) }
         ensures only { OnlyColumn self.old self.new }
     {
         let (hash, pool) = self.names.parts();
@@ -128,11 +127,11 @@ impl Engine {
     /// last line written, which comes behind the hundredth.
     pub fn report<S: Sink>(&mut self, out: &mut S, report: Report) -> Result<bool, Broken>
         ensures on { IfOk result (λ on. on ≡ true → (sizes : Sizes) (f : FilesTold) (book : Book) (rest : List Move) →
-            Reports sizes (state_of self.old book) (state_of self.new book) (world_of f (S.told out.old) self.old) (world_of f (S.told out.new) self.new) (page_of self.old book) (report_of report) rest) }
+            Reports sizes (state_of self.old book) (state_of self.new book) (world_of f (S.told out.old) self.old) (world_of f (S.told out.new) self.new) (page_of self.old book) report rest) }
         ensures last { IfOk result (λ on. on ≡ false → (sizes : Sizes) (f : FilesTold) (book : Book) (rest : List Move) →
-            Halts sizes (state_of self.old book) self.new book (world_of f (S.told out.old) self.old) (world_of f (S.told out.new) self.new) (reported (page_of self.old book) (report_of report) rest) (AtFatal fatal.HundredErrors) 0) }
+            Halts sizes (state_of self.old book) self.new book (world_of f (S.told out.old) self.old) (world_of f (S.told out.new) self.new) (reported (page_of self.old book) report rest) (AtFatal fatal.HundredErrors) 0) }
         ensures err { IfErr result (λ b. (sizes : Sizes) (f : FilesTold) (book : Book) (rest : List Move) → self.old.reports ≤ reports_room →
-            Cuts sizes (state_of self.old book) self.new book (world_of f (S.told out.old) self.old) (world_of f (S.told out.new) self.new) (reported (page_of self.old book) (report_of report) rest) b) }
+            Cuts sizes (state_of self.old book) self.new book (world_of f (S.told out.old) self.old) (world_of f (S.told out.new) self.new) (reported (page_of self.old book) report rest) b) }
         ensures frames { SameFrames self.old self.new }
         ensures input { self.new.input ≡ self.old.input }
         ensures sized { IfOk result (λ on. on ≡ true → (sizes : Sizes) → IsSized sizes self.old → IsSized sizes self.new) }
@@ -149,8 +148,8 @@ impl Engine {
 
     /// Writes a report.
     fn write_report<S: Sink>(&mut self, out: &mut S, report: Report) -> Result<(), Broken>
-        ensures did { OnOk result ((sizes : Sizes) (f : FilesTold) (book : Book) → Did sizes (state_of self.old book) (state_of self.new book) (world_of f (S.told out.old) self.old) (world_of f (S.told out.new) self.new) (Written Transcript (report_bytes self.old.names.names self.old.in_line self.old.input.pending.number (report_of report)) ∷ [])) }
-        ensures err { IfErr result (λ b. (sizes : Sizes) (f : FilesTold) (book : Book) (more : List Move) → Cuts sizes (state_of self.old book) self.new book (world_of f (S.told out.old) self.old) (world_of f (S.told out.new) self.new) (Written Transcript (report_bytes self.old.names.names self.old.in_line self.old.input.pending.number (report_of report)) ∷ more) b) }
+        ensures did { OnOk result ((sizes : Sizes) (f : FilesTold) (book : Book) → Did sizes (state_of self.old book) (state_of self.new book) (world_of f (S.told out.old) self.old) (world_of f (S.told out.new) self.new) (Written Transcript (report_bytes (plain_style self.old.names.names) self.old.in_line self.old.input.pending.number report) ∷ [])) }
+        ensures err { IfErr result (λ b. (sizes : Sizes) (f : FilesTold) (book : Book) (more : List Move) → Cuts sizes (state_of self.old book) self.new book (world_of f (S.told out.old) self.old) (world_of f (S.told out.new) self.new) (Written Transcript (report_bytes (plain_style self.old.names.names) self.old.in_line self.old.input.pending.number report) ∷ more) b) }
         ensures only { OnlyColumn self.old self.new }
     {
         let line = self.input.line_number();
@@ -167,9 +166,9 @@ impl Engine {
     pub fn report_only<S: Sink>(&mut self, out: &mut S, report: Report) -> Result<Ruled, Broken>
         requires idle { self.old.input.making ≡ None }
         ensures rule { IfOk result (λ ruled. (sizes : Sizes) (f : FilesTold) (book : Book) → AllStand sizes self.old book →
-            DoesOnward sizes (state_of self.old book) self.new book (world_of f (S.told out.old) self.old) (world_of f (S.told out.new) self.new) (reported (page_of self.old book) (report_of report) []) ruled) }
+            DoesOnward sizes (state_of self.old book) self.new book (world_of f (S.told out.old) self.old) (world_of f (S.told out.new) self.new) (reported (page_of self.old book) report []) ruled) }
         ensures err { IfErr result (λ b. (sizes : Sizes) (f : FilesTold) (book : Book) → self.old.reports ≤ reports_room →
-            Cuts sizes (state_of self.old book) self.new book (world_of f (S.told out.old) self.old) (world_of f (S.told out.new) self.new) (reported (page_of self.old book) (report_of report) []) b) }
+            Cuts sizes (state_of self.old book) self.new book (world_of f (S.told out.old) self.old) (world_of f (S.told out.new) self.new) (reported (page_of self.old book) report []) b) }
         ensures frames { SameFrames self.old self.new }
         ensures input { self.new.input ≡ self.old.input }
         ensures on { IfOk result (λ ruled. IsFree ruled → ⊥) }
@@ -178,7 +177,7 @@ impl Engine {
         if self.report(out, report)? {
             Ok(Ruled::Step)
         } else {
-            Ok(Ruled::Halted(Outcome::Fatal(Fatal::HundredErrors)))
+            Ok(Ruled::Halted(Outcome::AtFatal(Fatal::HundredErrors)))
         }
     }
 
@@ -217,7 +216,7 @@ fn last_text(in_line: bool, last: Last) -> &'static [u8]
 
 /// What is shown of an argument that runs away before it has a list.
 fn empty_argument(in_line: bool) -> &'static [u8]
-    ensures { (categories : List ℕ) (names : List (List ℕ)) → result.now ≡ runaway_bytes OfUse categories names in_line [] }
+    ensures { (categories : List ℕ) (names : List (List ℕ)) → result.now ≡ runaway_bytes scanned.Use (initial_style categories names) in_line [] }
 {
     if in_line {
         b"\nRunaway argument?\n"

@@ -1,8 +1,9 @@
 -- What a step of a definition's list comes to: the reading's one list is grown by its tokens.
 use Rattle.std.proofs.Common.{◌≡◌, ℕ, ◌+◌, ◌≤◌, List, [], ◌∷◌, Option, Some, None, length, length-append, subst, refl, ap, ◌∙◌, arith}
+use Rattle.tex_syntax.specs.declared.words.Manner.{Manner}
 use Rattle.tex_defs.specs.declared.Token.{Token}
 use Rattle.plain_state.specs.Readings.{built}
-use Rattle.plain_state.specs.Definitions.{Manner, Fed, Answer, with_cell}
+use Rattle.plain_state.specs.Definitions.{Fed, Answer, with_cell}
 use Rattle.list_builder.specs.Stages.{resume, grown, goes, goes_by, growth, depth_of, depth_after, cell_count}
 use Rattle.list_builder.specs.declared.stage.Stage.{Stage}
 use Rattle.list_builder.specs.declared.stage.Stage.TheVariants as stage

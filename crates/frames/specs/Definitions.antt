@@ -1,8 +1,8 @@
 -- Where a definition stands: before its name, and in the list of its macro.
 use Rattle.std.specs.Prelude.{◌<◌, ◌+◌, ◌^◌, Bool, List, [], ◌∷◌, None}
+use Rattle.tex_syntax.specs.declared.words.Manner.{Manner}
 use Rattle.tex_defs.specs.declared.Token.{Token}
 use Rattle.plain_state.specs.Readings.{Ask, Fed, define, name_behind, definition_behind, build_fed, build_ask, built}
-use Rattle.plain_state.specs.Definitions.{Manner}
 use Rattle.list_builder.specs.declared.stage.Stage.{Stage}
 use Rattle.list_builder.specs.Stages.{depth_of, IsTelling}
 use Rattle.list_builder.specs.Stages as stages

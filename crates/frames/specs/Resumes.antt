@@ -1,10 +1,11 @@
 -- What a frame will answer on what is still to come, and the list that is built then.
 use Rattle.std.specs.Prelude.{◌≡◌, ◌≤◌, ℕ, length, false, List, [], ◌∷◌, ◌++◌, Option, Some, None, min}
+use Rattle.tex_syntax.specs.declared.words.Scanned.{Scanned}
+use Rattle.tex_syntax.specs.declared.words.Scanned.TheVariants as scanned
 use Rattle.tex_defs.specs.declared.Token.{Token}
 use Rattle.tex_defs.specs.declared.Seen.{Seen}
 use Rattle.tex_defs.specs.declared.Name.{Name}
 use Rattle.plain_state.specs.Readings.{Ask, Fed, integer, constant, first_digit, digits, digits_dropped, too_big, missing, greatest_integer, behind_number, catcode, bad_code, bad_category, equals_behind, behind_equals, message, number, prefixed, prefix_refused, limit_refused, manner, own_lists}
-use Rattle.plain_state.specs.Reports.{OfText, OfDefinition}
 use Rattle.plain_state.specs.Readings as reading
 use Rattle.frames.specs.declared.scan.Radix.{Radix}
 use Rattle.frames.specs.declared.scan.Radix.TheVariants.{Octal, Decimal, Hexadecimal}
@@ -22,9 +23,6 @@ use Rattle.frames.specs.declared.frame.Frame.TheVariants.{Waits, Integer, Text, 
 use Rattle.frames.specs.declared.scan.Ask as engine
 use Rattle.frames.specs.declared.scan.Ask.TheVariants.{More, Inner, Done, Act, Tells, Inserts, Makes}
 use Rattle.frames.specs.declared.scan.Answer.{Answer}
-use Rattle.transcript.specs.Reported.{report_of, scanned_of}
-use Rattle.transcript.specs.declared.report.Scanned.{Scanned}
-use Rattle.transcript.specs.declared.report.Scanned.TheVariants as scanned
 use Rattle.frames.specs.declared.outer.Beneath.{Beneath}
 use Rattle.frames.specs.declared.outer.Beneath.TheVariants as beneath
 use Rattle.list_builder.specs.Stages as stages
@@ -50,7 +48,7 @@ resume_number (Digits negative r value) fed = digits negative (radix r) (min val
 resume_number (TooBig negative r) fed = too_big negative (radix r) fed
 resume_number (Dropped negative r) fed = digits_dropped negative (radix r) fed
 resume_number (Behind negative value) fed = behind_number negative value fed
-resume_number (Missing value report) fed = missing value (report_of report) fed
+resume_number (Missing value report) fed = missing value report fed
 
 abbrev pub resume_code : CodeScan → List Fed → Ask
 resume_code Start fed = catcode fed
@@ -135,8 +133,8 @@ IsNoDefinition k = Unit {0}
 
 -- what is scanned, for the checks: a text or a definition, of this name
 abbrev pub IsScanned : Scanned → Name → reading.Kind → Type 0
-IsScanned what name (reading.Text own) = (scanned_of what ≡ OfText) × (name ≡ own)
-IsScanned what name (reading.Definition own expanded) = (scanned_of what ≡ OfDefinition) × (name ≡ own)
+IsScanned what name (reading.Text own) = (what ≡ scanned.Text) × (name ≡ own)
+IsScanned what name (reading.Definition own expanded) = (what ≡ scanned.Definition) × (name ≡ own)
 IsScanned what name k = ⊥
 
 -- neither a text nor a definition

@@ -2,11 +2,8 @@
 use Rattle.std.specs.Prelude.{ℕ, List, [], ◌∷◌, is_some}
 use Rattle.tex_defs.specs.declared.Token.{Token}
 use Rattle.plain_state.specs.Readings as reading
-use Rattle.plain_state.specs.Tokens as tokens
 use Rattle.frames.specs.declared.scan.Value.{Value}
 use Rattle.frames.specs.declared.scan.Value.TheVariants.{Int, Toks, Flag}
-use Rattle.frames.specs.declared.scan.Want.{Want}
-use Rattle.frames.specs.declared.scan.Want.TheVariants.{Raw, Expanded, Nonblank, Command, Copied}
 use Rattle.frames.specs.declared.scan.Kind.{Kind}
 use Rattle.frames.specs.declared.scan.Kind.TheVariants.{Catcode, Message, Prefixed, Define, Number, Integer, Text, Definition}
 use Rattle.frames.specs.declared.scan.Made.{Made}
@@ -15,8 +12,7 @@ use Rattle.frames.specs.declared.scan.Effect.{Effect}
 use Rattle.frames.specs.declared.scan.Effect.TheVariants.{SetCategory, Say, SetMacro}
 use Rattle.frames.specs.declared.scan.Ask.{Ask}
 use Rattle.frames.specs.declared.scan.Ask.TheVariants.{More, Inner, Done, Act, Tells, Inserts, Makes}
-use Rattle.transcript.specs.Reported.{report_of}
-use Rattle.plain_state.specs.Numerals.{whole_number}
+use Rattle.plain_tokens.specs.Numerals.{whole_number}
 
 -- the first of the lists that the innermost reading holds
 abbrev pub first_list : List (List Token) → List Token
@@ -39,13 +35,6 @@ kind_of Integer = reading.Integer
 kind_of (Text name) = reading.Text name
 kind_of (Definition name expanded) = reading.Definition name expanded
 
-abbrev pub want_of : Want → tokens.Want
-want_of Raw = tokens.Raw
-want_of Expanded = tokens.Expanded
-want_of Nonblank = tokens.Nonblank
-want_of Command = tokens.Command
-want_of Copied = tokens.Copied
-
 abbrev pub effect_of : List (List Token) → Effect → reading.Effect
 effect_of lists (SetCategory code category) = reading.SetCategory code category
 effect_of lists Say = reading.Say (first_list lists)
@@ -56,10 +45,10 @@ made_of (makes.Number n) = whole_number n
 
 -- A token given back, and one with which an inner reading begins, is one that the reading was fed with last.
 abbrev pub ask_of : List (List Token) → Ask → reading.Ask
-ask_of lists (More want) = reading.More (want_of want)
+ask_of lists (More want) = reading.More want
 ask_of lists (Inner waits kind begins) = reading.Inner (kind_of kind) (is_some begins)
 ask_of lists (Done v back) = reading.Done (value_of lists v) (is_some back)
 ask_of lists (Act e) = reading.Act (effect_of lists e)
-ask_of lists (Tells report back) = reading.Tells (report_of report) (is_some back)
-ask_of lists (Inserts t report back) = reading.Inserts t (report_of report) (is_some back)
+ask_of lists (Tells report back) = reading.Tells report (is_some back)
+ask_of lists (Inserts t report back) = reading.Inserts t report (is_some back)
 ask_of lists (Makes made) = reading.Makes (made_of made)

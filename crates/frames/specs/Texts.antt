@@ -2,8 +2,8 @@
 use Rattle.std.specs.Prelude.{◌≡◌, ◌<◌, ℕ, ◌==◌, ◌&&◌, Bool, true, false, not, List, [], ◌++◌, Option, Some, None}
 use Rattle.tex_defs.specs.declared.Token.{Token}
 use Rattle.tex_defs.specs.declared.Seen.{Seen}
-use Rattle.plain_state.specs.Categories.{end_group}
-use Rattle.plain_state.specs.Tokens.{has_category}
+use Rattle.plain_tokens.specs.Categories.{end_group}
+use Rattle.plain_tokens.specs.Tokens.{has_category}
 use Rattle.plain_state.specs.Readings.{Ask, Fed, text, text_done, text_so_far, tokens_of, brace_missing, closes_at, closed_or}
 use Rattle.frames.specs.declared.text.TextScan.{TextScan}
 use Rattle.frames.specs.declared.text.TextScan.TheVariants.{First, BraceMissing, Inside}

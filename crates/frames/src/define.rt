@@ -1,7 +1,7 @@
 // The name that a definition assigns. *The TeXbook*, chapter 24; *TeX: The Program*, part 49 (`get_r_token`).
 ghost use Rattle.std.specs.Prelude.{◌≡◌, ◌≤◌, List, [], ◌∷◌, Bool};
 ghost use Rattle.tex_defs.specs.declared.Token.{Token};
-ghost use Rattle.plain_state.specs.Tokens.{is_space_token};
+ghost use Rattle.plain_tokens.specs.Tokens.{is_space_token};
 ghost use Rattle.plain_state.specs.Readings.{Fed, Tok, Val, Told};
 ghost use Rattle.plain_state.specs.Readings as reading;
 ghost use Rattle.frames.specs.Sees.{value_of, ask_of};
@@ -12,9 +12,9 @@ ghost use Rattle.frames.specs.declared.frame.Waiting.TheVariants.{Define};
 ghost use Rattle.frames.specs.declared.frame.Frame.TheVariants.{Waits};
 
 use crate::frame::Waiting;
-use crate::scan::{Ask, Effect, Kind, Value, Want, senseless};
+use crate::scan::{Ask, Effect, Kind, Value, senseless};
 use tex_defs::{Frozen, Name, Seen, Token};
-use transcript::Report;
+use tex_syntax::{Report, Want};
 
 /// Where a definition stands.
 #[derive(Clone, Copy, PartialEq, Eq)]

@@ -2,79 +2,53 @@
 ghost use Rattle.std.specs.Prelude.{◌≡◌, ◌≤◌, ◌<◌, ◌+◌, ◌^◌, List, [], ◌∷◌, length, None};
 ghost use Rattle.tex_defs.specs.declared.Token.{Token};
 ghost use Rattle.plain_state.specs.Readings.{Fed, Tok, Told};
-ghost use Rattle.list_builder.specs.Plain.{manner_of, want_of as built_want, report_of as built_report};
 ghost use Rattle.list_builder.specs.Stages.{depth_of, IsTelling};
-ghost use Rattle.transcript.specs.Reported.{report_of};
-ghost use Rattle.frames.specs.Sees.{want_of, ask_of, first_list};
+ghost use Rattle.frames.specs.Sees.{ask_of, first_list};
 ghost use Rattle.frames.specs.Definitions.{resume_stage, stage_list, IsFed};
 ghost use Rattle.frames.specs.Weights.{ask_weight};
 ghost use Rattle.frames.specs.Resumes.{IsOpen, IsUntold, IsNoInner, GivesBack, GivesNone, lists_behind};
 
-use crate::scan::{Answer, Ask, Value, Want, senseless};
-use list_builder::{Due, Manner, Next, Stage, Step};
+use crate::scan::{Answer, Ask, Value, senseless};
+use list_builder::{Due, Next, Stage, Step};
 use tex_defs::Seen;
-use transcript::Report;
-
-/// How the list's scanner wants the next token.
-fn want(want: list_builder::Want) -> Want
-    ensures { want_of result ≡ built_want want }
-{
-    match want {
-        list_builder::Want::Raw => Want::Raw,
-        list_builder::Want::Expanded => Want::Expanded,
-        list_builder::Want::Copied => Want::Copied,
-        list_builder::Want::Command => Want::Command,
-    }
-}
-
-/// What the list's scanner reports.
-fn report(report: list_builder::Report) -> Report
-    ensures { report_of result ≡ built_report report }
-{
-    match report {
-        list_builder::Report::NotConsecutive => Report::NotConsecutive,
-        list_builder::Report::AlreadyNine => Report::AlreadyNine,
-        list_builder::Report::IllegalNumber(name) => Report::IllegalNumber(name),
-        list_builder::Report::MissingBrace => Report::MissingBrace,
-    }
-}
+use tex_syntax::{Manner, Report, Want};
 
 /// What is asked for behind this token.
 fn asked(stage: Stage, manner: Manner, x: Seen) -> Ask
-    ensures answer { (lists : List (List Token)) → ask_of lists result ≡ resume_stage (manner_of manner) stage (first_list lists) [] }
+    ensures answer { (lists : List (List Token)) → ask_of lists result ≡ resume_stage manner stage (first_list lists) [] }
     ensures back { GivesBack result x }
     ensures light { ask_weight result ≤ 7 }
     ensures no_inner { IsNoInner result }
 {
     match stage.due(manner) {
-        Due::More(wanted) => Ask::More(want(wanted)),
+        Due::More(wanted) => Ask::More(wanted),
         Due::Tells(reported, back) => {
             let back = if back { Some(x) } else { None };
-            Ask::Tells(report(reported), back)
+            Ask::Tells(reported, back)
         }
     }
 }
 
 /// What is asked for where no report is due.
 fn wanted(stage: Stage, manner: Manner) -> Ask
-    ensures answer { (IsTelling stage → ⊥) → (lists : List (List Token)) → ask_of lists result ≡ resume_stage (manner_of manner) stage (first_list lists) [] }
+    ensures answer { (IsTelling stage → ⊥) → (lists : List (List Token)) → ask_of lists result ≡ resume_stage manner stage (first_list lists) [] }
     ensures none { GivesNone result }
     ensures light { ask_weight result ≤ 6 }
     ensures untold { IsUntold result }
     ensures no_inner { IsNoInner result }
 {
     match stage.due(manner) {
-        Due::More(wanted) => Ask::More(want(wanted)),
+        Due::More(wanted) => Ask::More(wanted),
         Due::Tells(..) => senseless(),
     }
 }
 
 /// Takes one token; nothing comes of it where more groups are open than can be counted.
 pub fn feed(stage: &mut Stage, manner: Manner, x: Seen) -> Answer
-    ensures answer { (ts : List Token) → IsFed stage.old → ask_of (lists_behind result (ts ∷ [])) result.ask ≡ resume_stage (manner_of manner) stage.old ts (Tok x ∷ []) }
-    ensures goes_on { IsOpen result.ask → (ts : List Token) (fed : List Fed) → IsFed stage.old → resume_stage (manner_of manner) stage.old ts (Tok x ∷ fed) ≡ resume_stage (manner_of manner) stage.new (first_list (lists_behind result (ts ∷ []))) fed }
-    ensures list { IsOpen result.ask → (ts : List Token) (fed : List Fed) → IsFed stage.old → stage_list (manner_of manner) stage.old ts (Tok x ∷ fed) ≡ stage_list (manner_of manner) stage.new (first_list (lists_behind result (ts ∷ []))) fed }
-    ensures builds { (ts : List Token) → IsFed stage.old → lists_behind result (ts ∷ []) ≡ stage_list (manner_of manner) stage.old ts (Tok x ∷ []) ∷ [] }
+    ensures answer { (ts : List Token) → IsFed stage.old → ask_of (lists_behind result (ts ∷ [])) result.ask ≡ resume_stage manner stage.old ts (Tok x ∷ []) }
+    ensures goes_on { IsOpen result.ask → (ts : List Token) (fed : List Fed) → IsFed stage.old → resume_stage manner stage.old ts (Tok x ∷ fed) ≡ resume_stage manner stage.new (first_list (lists_behind result (ts ∷ []))) fed }
+    ensures list { IsOpen result.ask → (ts : List Token) (fed : List Fed) → IsFed stage.old → stage_list manner stage.old ts (Tok x ∷ fed) ≡ stage_list manner stage.new (first_list (lists_behind result (ts ∷ []))) fed }
+    ensures builds { (ts : List Token) → IsFed stage.old → lists_behind result (ts ∷ []) ≡ stage_list manner stage.old ts (Tok x ∷ []) ∷ [] }
     ensures shallow { (ts : List Token) → IsFed stage.old → depth_of stage.old ≤ length ts → depth_of stage.new ≤ length (first_list (lists_behind result (ts ∷ []))) }
     ensures back { GivesBack result.ask x }
     ensures light { ask_weight result.ask ≤ 7 }
@@ -100,10 +74,10 @@ pub fn feed(stage: &mut Stage, manner: Manner, x: Seen) -> Answer
 
 /// Goes on behind its report.
 pub fn feed_told(stage: &mut Stage, manner: Manner) -> Answer
-    ensures answer { (ts : List Token) → ask_of (lists_behind result (ts ∷ [])) result.ask ≡ resume_stage (manner_of manner) stage.old ts (Told ∷ []) }
-    ensures goes_on { IsOpen result.ask → (ts : List Token) (fed : List Fed) → resume_stage (manner_of manner) stage.old ts (Told ∷ fed) ≡ resume_stage (manner_of manner) stage.new (first_list (lists_behind result (ts ∷ []))) fed }
-    ensures list { IsOpen result.ask → (ts : List Token) (fed : List Fed) → stage_list (manner_of manner) stage.old ts (Told ∷ fed) ≡ stage_list (manner_of manner) stage.new (first_list (lists_behind result (ts ∷ []))) fed }
-    ensures builds { (ts : List Token) → lists_behind result (ts ∷ []) ≡ stage_list (manner_of manner) stage.old ts (Told ∷ []) ∷ [] }
+    ensures answer { (ts : List Token) → ask_of (lists_behind result (ts ∷ [])) result.ask ≡ resume_stage manner stage.old ts (Told ∷ []) }
+    ensures goes_on { IsOpen result.ask → (ts : List Token) (fed : List Fed) → resume_stage manner stage.old ts (Told ∷ fed) ≡ resume_stage manner stage.new (first_list (lists_behind result (ts ∷ []))) fed }
+    ensures list { IsOpen result.ask → (ts : List Token) (fed : List Fed) → stage_list manner stage.old ts (Told ∷ fed) ≡ stage_list manner stage.new (first_list (lists_behind result (ts ∷ []))) fed }
+    ensures builds { (ts : List Token) → lists_behind result (ts ∷ []) ≡ stage_list manner stage.old ts (Told ∷ []) ∷ [] }
     ensures no_deeper { depth_of stage.new ≤ depth_of stage.old }
     ensures one { result.second ≡ None }
     ensures none { GivesNone result.ask }

@@ -12,11 +12,11 @@ ghost use Rattle.frames.specs.declared.frame.Frame.TheVariants.{Waits};
 use crate::define::DefineScan;
 use crate::definition;
 use crate::prefix::{First, PrefixScan};
-use crate::scan::{Answer, Ask, Effect, Kind, Made, NumberScan, Value, Want, is_other, senseless};
+use crate::scan::{Answer, Ask, Effect, Kind, Made, NumberScan, Value, is_other, senseless};
 use crate::text::TextScan;
-use list_builder::{Manner, Stage};
+use list_builder::Stage;
 use tex_defs::{Name, Seen};
-use transcript::{Report, Scanned};
+use tex_syntax::{Manner, Report, Scanned, Want};
 
 /// Where the reading of `\catcode` stands.
 #[derive(Clone, Copy)]

@@ -17,5 +17,5 @@ pub use define::DefineScan;
 pub use frame::{CodeScan, Frame, NUMBER, Waiting, first_ask};
 pub use outer::{Beneath, Outer};
 pub use prefix::{CATCODE, DEF, EDEF, First, GDEF, GLOBAL, LONG, OUTER, PrefixScan, XDEF};
-pub use scan::{Answer, Ask, Effect, Kind, Made, NumberScan, Radix, Value, Want};
+pub use scan::{Answer, Ask, Effect, Kind, Made, NumberScan, Radix, Value};
 pub use text::TextScan;

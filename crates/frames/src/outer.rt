@@ -4,11 +4,10 @@ ghost use Rattle.frames.specs.Stack.{Stack};
 ghost use Rattle.frames.specs.Resumes.{beneath_scans, reading_scans};
 
 use crate::frame::{Frame, Waiting};
-use crate::scan::Want;
 use std::alloc::{AllocError, Global};
 use std::marker::Model;
 use tex_defs::Name;
-use transcript::Scanned;
+use tex_syntax::{Scanned, Want};
 
 /// An open reading beneath the innermost.
 #[derive(Clone, Copy)]

@@ -2,7 +2,7 @@
 ghost use Rattle.std.specs.Prelude.{◌≡◌, ◌≤◌, true, List, [], ◌∷◌};
 ghost use Rattle.tex_defs.specs.declared.Token.{Token};
 ghost use Rattle.tex_defs.specs.declared.Seen.{Seen};
-ghost use Rattle.plain_state.specs.Names.{means_primitive};
+ghost use Rattle.plain_tokens.specs.Names.{means_primitive};
 ghost use Rattle.plain_state.specs.Readings.{Fed, Tok, Val, Told, value_lists, prefixed, behind_prefixes};
 ghost use Rattle.frames.specs.Sees.{value_of, ask_of};
 ghost use Rattle.frames.specs.Weights.{ask_weight};
@@ -11,13 +11,12 @@ ghost use Rattle.frames.specs.declared.frame.Waiting.TheVariants.{Prefixed};
 ghost use Rattle.frames.specs.declared.frame.Frame.TheVariants.{Waits};
 ghost use Rattle.frames.specs.declared.frame.CodeScan.TheVariants.{Start};
 ghost use Rattle.frames.specs.declared.prefix.PrefixScan.TheVariants.{Code, Defines};
-ghost use Rattle.frames.specs.declared.define.DefineScan.TheVariants as defines;
 
 use crate::define::DefineScan;
 use crate::frame::{CodeScan, Waiting};
-use crate::scan::{Ask, Kind, Value, Want, senseless};
+use crate::scan::{Ask, Kind, Value, senseless};
 use tex_defs::{Meaning, Seen};
-use transcript::Report;
+use tex_syntax::{Report, Want};
 
 /// The number of `\long`.
 pub const LONG: u16 = 23;

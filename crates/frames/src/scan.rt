@@ -1,22 +1,21 @@
 // What the readings ask for, and the scanner of an integer.
 // *The TeXbook*, chapter 24; *TeX: The Program*, part 26.
 ghost use Rattle.std.specs.Prelude.{◌≡◌, ◌≤◌, ◌+◌, ◌*◌, List, [], ◌∷◌, MatchOption, None, Some, true, false, nat_le, if◌then◌else◌};
+ghost use Rattle.tex_syntax.specs.declared.words.Report.TheVariants as reports;
 ghost use Rattle.tex_defs.specs.declared.Seen.{Seen};
 ghost use Rattle.tex_defs.specs.declared.Token.{Token};
-ghost use Rattle.plain_state.specs.Tokens.{has_category, is_other, means_category};
-ghost use Rattle.plain_state.specs.Tokens as tokens;
+ghost use Rattle.plain_tokens.specs.Tokens.{has_category, is_other, means_category};
+ghost use Rattle.tex_syntax.specs.declared.words.Want.TheVariants as want;
 ghost use Rattle.plain_state.specs.Readings.{Fed, Tok, Told, is_digit, digit_of_token, number_ended, greatest_integer};
 ghost use Rattle.plain_state.specs.Readings as reading;
-ghost use Rattle.plain_state.specs.Reports as reports;
 ghost use Rattle.frames.specs.Sees.{ask_of};
-ghost use Rattle.transcript.specs.Reported.{report_of};
 ghost use Rattle.frames.specs.Weights.{ask_weight};
 ghost use Rattle.frames.specs.declared.scan.NumberScan.TheVariants.{Digits, TooBig, Missing};
 ghost use Rattle.frames.specs.Resumes.{radix, resume_number, IsOpen, IsUntold, IsNoInner, GivesBack, GivesNone};
 
 use crate::frame::Waiting;
 use tex_defs::{Meaning, Name, Seen, Token};
-use transcript::Report;
+use tex_syntax::{Report, Want};
 
 /// The kinds of readings; a name is that of the command, as it was written.
 #[derive(Clone, Copy)]
@@ -33,17 +32,6 @@ pub enum Kind {
     Text(Name),
     /// The list of the macro of this name, and whether its body is expanded.
     Definition(Name, bool),
-}
-
-/// How a token is read: as it stands, by expansion, by expansion with spaces skipped, or with spaces and `\relax` skipped,
-/// or by expansion where the tokens of a token list come as they are.
-#[derive(Clone, Copy)]
-pub enum Want {
-    Raw,
-    Expanded,
-    Nonblank,
-    Command,
-    Copied,
 }
 
 /// The value of a reading.
@@ -324,7 +312,7 @@ impl NumberScan {
 
     /// Where a number is missing: the token is given back, and the report comes.
     fn miss(&mut self, value: i32, report: Report, x: Seen) -> Ask
-        ensures answer { (lists : List (List Token)) → ask_of lists result ≡ reading.Tells (report_of report) true }
+        ensures answer { (lists : List (List Token)) → ask_of lists result ≡ reading.Tells report true }
         ensures now { self.new ≡ Missing value report }
         ensures back { GivesBack result x }
         ensures light { ask_weight result ≤ 7 }
@@ -390,7 +378,7 @@ impl NumberScan {
 
     /// Takes a digit behind digits of this value.
     fn take_digit(&mut self, negative: bool, base: Radix, value: u32, d: u8) -> Ask
-        ensures answer { (lists : List (List Token)) → ask_of lists result ≡ (if nat_le (value * radix base + d) greatest_integer then reading.More tokens.Expanded else reading.Tells reports.NumberTooBig false) }
+        ensures answer { (lists : List (List Token)) → ask_of lists result ≡ (if nat_le (value * radix base + d) greatest_integer then reading.More want.Expanded else reading.Tells reports.NumberTooBig false) }
         ensures goes_on { self.new ≡ (if nat_le (value * radix base + d) greatest_integer then Digits negative base (value * radix base + d) else TooBig negative base) }
         ensures none { GivesNone result }
         ensures light { ask_weight result ≤ 7 }

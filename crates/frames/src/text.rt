@@ -7,9 +7,9 @@ ghost use Rattle.frames.specs.Texts.{depth_of, resume_text, text_list, IsReady};
 ghost use Rattle.frames.specs.Weights.{ask_weight};
 ghost use Rattle.frames.specs.Resumes.{IsOpen, IsUntold, IsNoInner, GivesBack, GivesNone, lists_behind};
 
-use crate::scan::{Answer, Ask, Value, Want, has_category, means_category, senseless};
+use crate::scan::{Answer, Ask, Value, has_category, means_category, senseless};
 use tex_defs::Seen;
-use transcript::Report;
+use tex_syntax::{Report, Want};
 
 /// Where a text's reading stands; its list is built by whoever feeds it.
 #[derive(Clone, Copy)]
@@ -39,9 +39,9 @@ impl TextScan {
             TextScan::First => senseless(),
             TextScan::BraceMissing => {
                 *self = TextScan::Inside(0);
-                Ask::More(Want::Expanded)
+                Ask::More(Want::Copied)
             }
-            TextScan::Inside(_) => Ask::More(Want::Expanded),
+            TextScan::Inside(_) => Ask::More(Want::Copied),
         }
     }
 
@@ -57,7 +57,7 @@ impl TextScan {
     {
         if means_category(x, 1) {
             *self = TextScan::Inside(0);
-            return Ask::More(Want::Expanded);
+            return Ask::More(Want::Copied);
         }
         *self = TextScan::BraceMissing;
         Ask::Tells(Report::MissingBrace, Some(x))
@@ -88,6 +88,6 @@ impl TextScan {
             }
             *self = TextScan::Inside(depth - 1);
         }
-        Answer::with(x.token, Ask::More(Want::Expanded))
+        Answer::with(x.token, Ask::More(Want::Copied))
     }
 }

@@ -8,15 +8,16 @@ use Rattle.tex_defs.specs.declared.Name.{Name}
 use Rattle.tex_defs.specs.declared.Sizes.{Sizes}
 use Rattle.tex_defs.specs.declared.Token.{Token}
 use Rattle.tex_defs.specs.Places.{World}
-use Rattle.plain_state.specs.Arguments.{ParMode, arguments_in, work_in, call, start_of, delimiters_of, is_nil, is_some_place, begins_with_place, has_parameters, gathering}
-use Rattle.plain_state.specs.Meanings.{name_meaning}
-use Rattle.plain_state.specs.Names.{name_of}
-use Rattle.plain_state.specs.Pending.{Pending, put_front, settle, with_puts}
-use Rattle.plain_state.specs.Puts.{Item, Put, call_put, put_top, settled}
+use Rattle.plain_tokens.specs.Arguments.{ParMode, arguments_in, work_in, call, start_of, delimiters_of, is_nil, is_some_place, begins_with_place, has_parameters, gathering}
+use Rattle.plain_tokens.specs.Meanings.{name_meaning}
+use Rattle.plain_tokens.specs.Names.{name_of}
+use Rattle.plain_tokens.specs.Pending.{Pending, put_front, settle, with_puts}
+use Rattle.plain_tokens.specs.Puts.{Item, Put, call_put, put_top, settled}
 use Rattle.plain_state.specs.Readings as reading
-use Rattle.plain_state.specs.Readings.{Fed, call_fed}
+use Rattle.plain_state.specs.Readings.{call_fed}
 use Rattle.plain_state.specs.States.{State, Settled, Called, Begun, fresh, made}
-use Rattle.plain_state.specs.Tables.{Demand, level, refused, refusal, is_meant, is_put}
+use Rattle.plain_tokens.specs.Tables.{Demand, level, refused, is_meant, is_put}
+use Rattle.plain_state.specs.Demands.{refusal}
 use Rattle.plain_machine.specs.Does.{Did}
 use Rattle.plain_machine.specs.Numbers.{IsHeld, meaning_of, pending_of, put_of as numbered}
 use Rattle.plain_machine.specs.Plan.{Page, body_put, called, called_by, called_meaning}

@@ -2,19 +2,20 @@
 use Rattle.std.proofs.Common.{◌≡◌, ℕ, ◌<◌, List, [], ◌∷◌, ◌++◌, length, drop, map, refl, sym, ap, append_assoc, subst, ◌∙◌, Bool, true, false, arith}
 use Rattle.std.proofs.lemmas.List.{append-nil}
 use Rattle.std.specs.Prelude.{Option, Some, None, option_map}
+use Rattle.tex_syntax.specs.declared.words.Outcome.{Outcome}
+use Rattle.tex_syntax.specs.declared.words.Want.TheVariants.{Raw}
+use Rattle.tex_syntax.specs.declared.words.Report.TheVariants as reports
 use Rattle.tex_defs.specs.declared.Seen.{Seen}
 use Rattle.tex_defs.specs.declared.Sizes.{Sizes}
 use Rattle.tex_defs.specs.declared.Token.{Token}
 use Rattle.tex_defs.specs.declared.Name.{Name}
 use Rattle.tex_defs.specs.Places.{World, Transcript}
-use Rattle.plain_state.specs.Arguments as call
-use Rattle.plain_state.specs.Arguments.{arguments_in, work_in, start_of, in_work}
+use Rattle.plain_tokens.specs.Arguments as call
+use Rattle.plain_tokens.specs.Arguments.{arguments_in, work_in, start_of, in_work}
 use Rattle.plain_state.specs.Readings as reading
 use Rattle.plain_state.specs.Readings.{Fed, Told, gathered_by, call_fed, call_ask, list_or_none, par_token}
-use Rattle.plain_state.specs.Reports as reports
-use Rattle.plain_state.specs.Reports.{report_bytes}
-use Rattle.plain_state.specs.States.{Reading, Move, Outcome, Grows, Noted, Written, Reported, fed_with, made}
-use Rattle.plain_state.specs.Tokens.{Raw}
+use Rattle.plain_state.specs.Reports.{plain_style, report_bytes}
+use Rattle.plain_state.specs.States.{Reading, Move, Grows, Noted, Written, Reported, fed_with, made}
 use Rattle.plain_machine.specs.Plan.{Page, told, noting, grown_to, given_back, put_all, put_one, reported}
 use Rattle.plain_machine.specs.Does.{Did}
 use Rattle.plain_machine.proofs.Doing.{did_join, did_one}
@@ -207,7 +208,7 @@ module _ (sizes : Sizes) (e e1 e2 : Engine) (f : FilesTold) (s0 : SinkTold) (nam
             subst (λ (p : Page). Reports sizes (state_of e2 W) (state_of e3 W) (world_of f s0 e2) (world_of f s3 e3) p (reports.ExtraBrace name) (Noted ∷ [])) page_same rep in
             let k : ReadingsStand (Some (brace_call name x)) e3 book.number (r ∷ rs) = here_call sizes e3 book (brace_call name x) r rs is st in
             let b : Braced e3 book.number name r e3.input.call = braced e3 book.number name x r k.0 in
-            let written : List Move = Written Transcript (report_bytes e.names.names e.in_line e.input.pending.number (reports.ExtraBrace name)) ∷ Reported ∷ [] in
+            let written : List Move = Written Transcript (report_bytes (plain_style e.names.names) e.in_line e.input.pending.number (reports.ExtraBrace name)) ∷ Reported ∷ [] in
             let whole : moves ≡ (put_one x.token ++ put_one par_token) ++ (written ++ Noted ∷ []) = ap (λ (ms : List Move). put_one x.token ++ (put_one par_token ++ ms)) h.moves in
             let work : List Reading = fed_with Told (r ∷ rs) in
             let made_now : made Noted (state_of e3 W) ≡ state_of e4 (with_work work book) =

@@ -6,12 +6,13 @@ use Rattle.tex_defs.specs.declared.Seen.{Seen}
 use Rattle.tex_defs.specs.declared.Sizes.{Sizes}
 use Rattle.tex_defs.specs.declared.Token.{Token}
 use Rattle.tex_defs.specs.Places.{World}
-use Rattle.plain_state.specs.Arguments as call
-use Rattle.plain_state.specs.Arguments.{Answer, arguments_in, work_in, has_parameters}
+use Rattle.plain_tokens.specs.Arguments as call
+use Rattle.plain_tokens.specs.Arguments.{Answer, arguments_in, work_in, has_parameters}
 use Rattle.plain_state.specs.Readings as reading
-use Rattle.plain_state.specs.Readings.{Fed, Tok, gathered_by}
+use Rattle.plain_state.specs.Readings.{Tok, gathered_by}
 use Rattle.plain_state.specs.States.{State, Reading, Move}
-use Rattle.plain_state.specs.Tables.{lists_words, words}
+use Rattle.plain_tokens.specs.Tables.{lists_words}
+use Rattle.plain_state.specs.Demands.{words}
 use Rattle.plain_machine.specs.Plan.{feeding, feeding_kind, argument_fed}
 use Rattle.plain_machine.specs.Does.{Did}
 use Rattle.macro_call.specs.Growths.{target_by}

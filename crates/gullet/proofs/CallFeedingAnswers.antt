@@ -5,8 +5,8 @@ use Rattle.std.specs.Prelude.{Option, Some, None, option_to_list}
 use Rattle.tex_defs.specs.declared.Seen.{Seen}
 use Rattle.tex_defs.specs.declared.Token.{Token}
 use Rattle.tex_defs.specs.declared.Name.{Name}
-use Rattle.plain_state.specs.Arguments as call
-use Rattle.plain_state.specs.Arguments.{Answer, arguments_in, work_in}
+use Rattle.plain_tokens.specs.Arguments as call
+use Rattle.plain_tokens.specs.Arguments.{Answer, arguments_in, work_in}
 use Rattle.plain_state.specs.Readings.{Fed, Tok, gathered_by, call_fed, call_ask, arguments_ask}
 use Rattle.macro_call.specs.PlainScans.{Scan, resume_scan, scan_work}
 use Rattle.macro_call.specs.Scans.{args_left}

@@ -4,18 +4,20 @@ use Rattle.std.proofs.lemmas.List.{length-drop}
 use Rattle.std.proofs.lemmas.List.Sums.{sum_by-cons, sum_by-append}
 use Rattle.std.proofs.Math.Seq.{drop-append_seam}
 use Rattle.std.specs.Prelude.{Option, Some, None, option_map, option_to_list, unwrap_or}
+use Rattle.tex_syntax.specs.declared.words.Want.TheVariants.{Raw}
 use Rattle.tex_defs.specs.declared.Full.{Full}
 use Rattle.tex_defs.specs.declared.Name.{Name}
 use Rattle.tex_defs.specs.declared.Seen.{Seen}
 use Rattle.tex_defs.specs.declared.Sizes.{Sizes}
 use Rattle.tex_defs.specs.declared.Token.{Token}
 use Rattle.tex_defs.specs.Places.{World}
-use Rattle.plain_state.specs.Arguments.{Answer, arguments_in, work_in}
+use Rattle.plain_tokens.specs.Arguments.{Answer, arguments_in, work_in}
 use Rattle.plain_state.specs.Readings as reading
-use Rattle.plain_state.specs.Readings.{Tok, call_ask, list_of_tokens}
+use Rattle.plain_tokens.specs.Puts.{list_of_tokens}
+use Rattle.plain_state.specs.Readings.{Tok, call_ask}
 use Rattle.plain_state.specs.States.{State, Reading, Move, Grows, Feeds, Completed, Opened}
-use Rattle.plain_state.specs.Tokens.{Raw}
-use Rattle.plain_state.specs.Tables.{list_words, lists_words, memory, refused, refusal, words}
+use Rattle.plain_tokens.specs.Tables.{list_words, lists_words, memory, refused}
+use Rattle.plain_state.specs.Demands.{refusal, words}
 use Rattle.plain_machine.specs.Plan.{feeding, argument_fed, grown_to, opened}
 use Rattle.plain_machine.specs.Does.{Did}
 use Rattle.macro_call.specs.Growths.{target_by, target_of}

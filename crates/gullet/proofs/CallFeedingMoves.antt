@@ -9,10 +9,12 @@ use Rattle.tex_defs.specs.declared.Seen.{Seen}
 use Rattle.tex_defs.specs.declared.Sizes.{Sizes}
 use Rattle.tex_defs.specs.declared.Token.{Token}
 use Rattle.tex_defs.specs.Places.{World}
-use Rattle.plain_state.specs.Arguments.{Answer, arguments_in, work_in}
-use Rattle.plain_state.specs.Readings.{Tok, list_of_tokens}
+use Rattle.plain_tokens.specs.Arguments.{Answer, arguments_in, work_in}
+use Rattle.plain_tokens.specs.Puts.{list_of_tokens}
+use Rattle.plain_state.specs.Readings.{Tok}
 use Rattle.plain_state.specs.States.{State, Reading, Move, Grows, Feeds, Completed, Opened}
-use Rattle.plain_state.specs.Tables.{list_words, lists_words, macro_words, put_words, made_words, memory, refused, words}
+use Rattle.plain_tokens.specs.Tables.{list_words, lists_words, macro_words, put_words, made_words, memory, refused}
+use Rattle.plain_state.specs.Demands.{words}
 use Rattle.plain_machine.specs.Plan.{argument_fed, grown_to}
 use Rattle.plain_machine.specs.Does.{Did}
 use Rattle.plain_machine.proofs.Doing.{did_none, did_join, did_one}

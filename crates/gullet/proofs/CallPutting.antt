@@ -7,12 +7,13 @@ use Rattle.tex_defs.specs.declared.Name.{Name}
 use Rattle.tex_defs.specs.declared.Sizes.{Sizes}
 use Rattle.tex_defs.specs.declared.Token.{Token}
 use Rattle.tex_defs.specs.Places.{World}
-use Rattle.plain_state.specs.Meanings.{name_meaning}
-use Rattle.plain_state.specs.Pending.{Pending, put_front, settle, with_puts}
-use Rattle.plain_state.specs.Puts.{Item, Put, call_put, put_top, settled}
+use Rattle.plain_tokens.specs.Meanings.{name_meaning}
+use Rattle.plain_tokens.specs.Pending.{Pending, put_front, settle, with_puts}
+use Rattle.plain_tokens.specs.Puts.{Item, Put, call_put, put_top, settled}
 use Rattle.plain_state.specs.Readings as reading
 use Rattle.plain_state.specs.States.{State, Reading, Settled, CalledWith, made}
-use Rattle.plain_state.specs.Tables.{Demand, level, parameters, refused, refusal, is_meant, is_put}
+use Rattle.plain_tokens.specs.Tables.{Demand, level, parameters, refused, is_meant, is_put}
+use Rattle.plain_state.specs.Demands.{refusal}
 use Rattle.plain_machine.specs.Numbers.{pending_of, put_of as numbered}
 use Rattle.plain_machine.specs.Plan.{arguments_put, called_with}
 use Rattle.plain_machine.specs.Does.{Did}

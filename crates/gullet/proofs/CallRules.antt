@@ -1,13 +1,15 @@
 -- The rule of a call, by what it asks for.
 use Rattle.std.proofs.Common.{◌≡◌, ℕ, List, [], ◌∷◌, ◌++◌, length, drop, refl, sym, ap, subst, ◌∙◌, Bool}
 use Rattle.std.specs.Prelude.{Option, Some, None, option_to_list}
+use Rattle.tex_syntax.specs.declared.words.Want.TheVariants.{Raw}
+use Rattle.tex_syntax.specs.declared.words.Scanned.TheVariants as scanned
+use Rattle.tex_syntax.specs.declared.words.Report.TheVariants as reports
 use Rattle.tex_defs.specs.declared.Name.{Name}
 use Rattle.tex_defs.specs.declared.Seen.{Seen}
 use Rattle.tex_defs.specs.declared.Token.{Token}
 use Rattle.tex_defs.specs.Places.{Transcript}
 use Rattle.plain_state.specs.Readings as reading
-use Rattle.plain_state.specs.Readings.{Fed, list_or_none}
-use Rattle.plain_state.specs.Reports as reports
+use Rattle.plain_state.specs.Readings.{list_or_none}
 use Rattle.plain_state.specs.States.{Reading, Written}
 use Rattle.plain_machine.specs.Plan.{Scanning, scanning, scanning_kind, first_of, failed, failed_away, page_behind, put_all}
 use Rattle.input_state.specs.CallFeeds.{call_work}
@@ -22,7 +24,6 @@ use Rattle.engine_state.specs.declared.engine.Engine.{Engine}
 use Rattle.engine_state.specs.Book.{Book}
 use Rattle.engine_state.specs.Calls.{CallStands, IsStopped, HasWork, open_call, argument_bytes, call_away_moves}
 use Rattle.engine_state.specs.Rules.{WantsHere}
-use Rattle.frames.specs.declared.scan.Want.TheVariants.{Raw}
 use Rattle.engine_state.specs.Stands.{page_of}
 
 -- what the call is, where it asks for this
@@ -49,9 +50,9 @@ stopped_list name (calls.Stopped m scan) builds n h is = first_work (scan_work s
 stopped_list name (calls.Gathered m args) builds n h is = absurd h
 
 call_scanned : (e : Engine) (r : Reading) (rs : List Reading) (name : Name) (long : Bool) (number : ℕ) (ts list : List Token) → r.kind ≡ reading.Arguments name long number ts → first_of r.holds (gathered e.input) ≡ list →
-    scanning (r ∷ rs) (gathered e.input) ≡ Some (record { what = reports.OfUse; name = name; list = list })
+    scanning (r ∷ rs) (gathered e.input) ≡ Some (record { what = scanned.Use; name = name; list = list })
 call_scanned e r rs name long number ts list kind is =
-    ap (λ (k : reading.Kind). scanning_kind k (first_of r.holds (gathered e.input)) (scanning rs (drop r.holds (gathered e.input)))) kind ∙ ap (λ (l : List Token). Some (record { what = reports.OfUse; name = name; list = l })) is
+    ap (λ (k : reading.Kind). scanning_kind k (first_of r.holds (gathered e.input)) (scanning rs (drop r.holds (gathered e.input)))) kind ∙ ap (λ (l : List Token). Some (record { what = scanned.Use; name = name; list = l })) is
 
 pub away_is : (e : Engine) (book : Book) (number : ℕ → ℕ) (name : Name) (x : Seen) (r : Reading) (rs : List Reading) → CallStands e number (record { name = name; ask = asked.ParEnded (Some x) }) r →
     failed_away (page_of e book) (reports.ParagraphEnded name) (scanning (r ∷ rs) (gathered e.input)) r.fed ≡ call_away_moves (page_of e book) (argument_bytes e) x.token (reports.ParagraphEnded name)

@@ -1,19 +1,18 @@
 -- One step of expansion.
 use Rattle.std.proofs.Common.{◌≡◌, List, [], ◌∷◌, ◌++◌, refl, sym, ap, append_assoc, subst, ◌∙◌, arith}
 use Rattle.std.specs.Prelude.{Bool, Option, None}
+use Rattle.tex_syntax.specs.declared.words.Want.{Want}
 use Rattle.tex_defs.specs.declared.Seen.{Seen}
 use Rattle.tex_defs.specs.declared.Sizes.{Sizes}
 use Rattle.tex_defs.specs.Places.{World}
 use Rattle.plain_state.specs.Readings.{Kind}
-use Rattle.plain_state.specs.Tables.{refusal}
+use Rattle.plain_state.specs.Demands.{refusal}
 use Rattle.plain_state.specs.States.{State, Move, Begun, fresh, made}
 use Rattle.plain_machine.proofs.Doing.{did_join, did_none, did_one}
 use Rattle.plain_machine.proofs.Joins.{steps_join}
-use Rattle.frames.specs.declared.scan.Want.{Want as ScanWant}
 use Rattle.engine_state.specs.declared.engine.Engine.{Engine}
 use Rattle.engine_state.specs.declared.outcome.Ruled.{Ruled}
 use Rattle.engine_state.specs.declared.outcome.Ruled.TheVariants as ruled
-use Rattle.engine_state.specs.Begins.{outcome_of}
 use Rattle.engine_state.specs.Book.{Book, with_work}
 use Rattle.engine_state.specs.Stands.{SameFrames, Stands, state_of, page_of}
 use Rattle.engine_state.proofs.Bare.{all_of}
@@ -29,7 +28,7 @@ use Rattle.gullet.specs.Stepping.{Expands, Steps, Stays, stepped_by}
 -- A TOKEN IS EXPANDED
 
 -- a report
-pub expands_by : (sizes : Sizes) (want : Option ScanWant) (s : State) (e' : Engine) (book : Book) (w w' : World) (ms ns : List Move) (x : Seen) (r : Ruled) (n : Stepped) → ns ≡ ms → n ≡ stepped_by r → DoesOnward sizes s e' book w w' ms r → Expands sizes want s e' book w w' ns x n
+pub expands_by : (sizes : Sizes) (want : Option Want) (s : State) (e' : Engine) (book : Book) (w w' : World) (ms ns : List Move) (x : Seen) (r : Ruled) (n : Stepped) → ns ≡ ms → n ≡ stepped_by r → DoesOnward sizes s e' book w w' ms r → Expands sizes want s e' book w w' ns x n
 expands_by sizes want s e' book w w' ms ns x r n moves is h = subst (λ (l : List Move). Expands sizes want s e' book w w' l x n) (sym moves) (subst (λ (y : Stepped). Expands sizes want s e' book w w' ms x y) (sym is) (by_rule r h)) where
   by_rule : (r : Ruled) → DoesOnward sizes s e' book w w' ms r → Expands sizes want s e' book w w' ms x (stepped_by r)
   by_rule ruled.Step h = h
@@ -37,7 +36,7 @@ expands_by sizes want s e' book w w' ms ns x r n moves is h = subst (λ (l : Lis
   by_rule (ruled.Halted o) h = h
 
 -- it stays
-pub expands_none : (sizes : Sizes) (want : Option ScanWant) (e : Engine) (book : Book) (w : World) (x : Seen) → Takes sizes want e book → Stays want x → Expands sizes want (state_of e book) e book w w (onward_of (page_of e book) want book.work x) x (Unexpandable x)
+pub expands_none : (sizes : Sizes) (want : Option Want) (e : Engine) (book : Book) (w : World) (x : Seen) → Takes sizes want e book → Stays want x → Expands sizes want (state_of e book) e book w w (onward_of (page_of e book) want book.work x) x (Unexpandable x)
 expands_none sizes want e book w x takes stays = (record { book' = book; still = λ none. refl; takes = takes; front = []; did = did_none sizes (state_of e book) w; whole = refl; count = refl }, stays)
 
 -- the reading of its expansion begins
@@ -52,7 +51,7 @@ expansion_went sizes e e' book f s k fits is column st = record {
 
 -- BEHIND A STEP
 
-module _ (sizes : Sizes) (want : Option ScanWant) (s : State) (e1 e2 : Engine) (book : Book) (w v w' : World) (moves : List Move) (x : Seen) (c : Comes sizes want s e1 book w v moves x 1) (none : e1.call ≡ None) where
+module _ (sizes : Sizes) (want : Option Want) (s : State) (e1 e2 : Engine) (book : Book) (w v w' : World) (moves : List Move) (x : Seen) (c : Comes sizes want s e1 book w v moves x 1) (none : e1.call ≡ None) where
   abbrev onward : List Move
   onward = onward_of (page_of e1 c.book') want c.book'.work x
 
@@ -71,14 +70,14 @@ module _ (sizes : Sizes) (want : Option ScanWant) (s : State) (e1 e2 : Engine) (
   steps_on More h = comes_went sizes want s e1 e2 book w v w' moves x 1 c 0 h
   steps_on Skipped h = absurd h
   steps_on (Unexpandable y) h = (comes_on y h.0, h.1)
-  steps_on (Over o) h = comes_halts sizes want s e1 e2 book w v w' moves x 1 c (outcome_of o) 0 none h
+  steps_on (Over o) h = comes_halts sizes want s e1 e2 book w v w' moves x 1 c o 0 none h
 
 -- whether the run has stopped is noted
-pub noted_steps : (b : Bool) (sizes : Sizes) (want : Option ScanWant) (s : State) (e : Engine) (book : Book) (w w' : World) (moves : List Move) (n : Stepped) → Steps sizes want s e book w w' moves n → Steps sizes want s (noted b e) book w w' moves n
+pub noted_steps : (b : Bool) (sizes : Sizes) (want : Option Want) (s : State) (e : Engine) (book : Book) (w w' : World) (moves : List Move) (n : Stepped) → Steps sizes want s e book w w' moves n → Steps sizes want s (noted b e) book w w' moves n
 noted_steps b sizes want s e book w w' moves More h = noted_went b sizes s e w w' moves 1 h
 noted_steps b sizes want s e book w w' moves Skipped h = noted_went b sizes s e w w' moves 0 h
 noted_steps b sizes want s e book w w' moves (Unexpandable x) h = (noted_comes b sizes s e w w' moves want book x 1 h.0, h.1)
-noted_steps b sizes want s e book w w' moves (Over o) h = noted_halts b sizes s e w w' moves book (outcome_of o) 1 h
+noted_steps b sizes want s e book w w' moves (Over o) h = noted_halts b sizes s e w w' moves book o 1 h
 
 -- THE OPEN READINGS
 

@@ -1,11 +1,11 @@
 -- A call is fed with a token.
 use Rattle.std.proofs.Common.{◌≡◌, List, [], ◌∷◌, subst}
 use Rattle.std.specs.Prelude.{Option, Some}
+use Rattle.tex_syntax.specs.declared.words.Want.TheVariants.{Raw}
 use Rattle.tex_defs.specs.declared.Seen.{Seen}
 use Rattle.tex_defs.specs.declared.Sizes.{Sizes}
 use Rattle.plain_state.specs.States.{Reading, Move}
 use Rattle.plain_machine.specs.Plan.{feeding}
-use Rattle.frames.specs.declared.scan.Want.TheVariants.{Raw}
 use Rattle.engine_state.specs.declared.call.Call.{Call}
 use Rattle.engine_state.specs.declared.engine.Engine.{Engine}
 use Rattle.engine_state.specs.Book.{Book, with_work}

@@ -3,7 +3,7 @@ use Rattle.std.proofs.Common.{◌≡◌, ◌+◌, ◌*◌, ◌<◌, ap, ◌∙�
 use Rattle.std.specs.Prelude.{Option, Some, None, Result, Ok, Err, IfOk, OnErr, ◌&&◌}
 use Rattle.tex_defs.specs.declared.Name.{Name}
 use Rattle.tex_defs.specs.declared.Seen.{Seen}
-use Rattle.plain_state.specs.Pending.{pulled}
+use Rattle.plain_tokens.specs.Pending.{pulled}
 use Rattle.frames.specs.Weights.{ask_weight}
 use Rattle.input_state.specs.Reads.{gives_step}
 use Rattle.input_state.specs.Stored.{Stored}

@@ -3,10 +3,10 @@ ghost use Rattle.std.specs.Prelude.{◌≡◌, ℕ, Bool, Some, None, IfErr, OnO
 ghost use Rattle.tex_defs.specs.declared.Sizes.{Sizes};
 ghost use Rattle.tex_defs.specs.declared.Meaning.TheVariants.{Macro};
 ghost use Rattle.tex_defs.specs.Places.{World};
-ghost use Rattle.plain_state.specs.Meanings.{name_meaning};
+ghost use Rattle.plain_tokens.specs.Meanings.{name_meaning};
 ghost use Rattle.plain_state.specs.Readings.{Arguments};
 ghost use Rattle.plain_state.specs.States.{Begun};
-ghost use Rattle.plain_state.specs.Tables.{refusal};
+ghost use Rattle.plain_state.specs.Demands.{refusal};
 ghost use Rattle.plain_machine.specs.Plan.{called};
 ghost use Rattle.macro_call.specs.Modes.{mode_of};
 ghost use Rattle.macro_call.specs.PlainScans.{first_scan};

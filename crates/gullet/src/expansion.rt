@@ -2,7 +2,7 @@
 // *The TeXbook*, chapter 20; *TeX: The Program*, part 25 (`get_x_token`, `expand`).
 ghost use Rattle.std.specs.Prelude.{◌≡◌, ◌<◌, IfOk, IfErr, OnOk, MatchResult, List, None, false, true};
 ghost use Rattle.tex_defs.specs.declared.Sizes.{Sizes};
-ghost use Rattle.plain_state.specs.Pending.{pulled};
+ghost use Rattle.plain_tokens.specs.Pending.{pulled};
 ghost use Rattle.plain_state.specs.States.{Reading};
 ghost use Rattle.plain_machine.specs.Plan.{Page};
 ghost use Rattle.world_io.specs.Told.{FilesTold};
@@ -15,10 +15,10 @@ ghost use Rattle.engine_state.specs.Steps.{weight};
 ghost use Rattle.gullet.specs.Stepping.{IsBare, ExpandsTo, Expands, Steps, StepStepsIf, IsSkipped, IsKept, IsOver, ends_run, stepped_by};
 
 use crate::call_name::call_name;
-use engine_state::{Broken, Engine, Next, Outcome, Ruled};
-use frames::{Kind, NUMBER, Want};
+use engine_state::{Broken, Engine, Next, Ruled};
+use frames::{Kind, NUMBER};
 use tex_defs::{Meaning, Seen};
-use transcript::Report;
+use tex_syntax::{Outcome, Report, Want};
 use world_io::Sink;
 
 /// What a step came to.

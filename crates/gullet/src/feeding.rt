@@ -3,7 +3,7 @@ ghost use Rattle.std.specs.Prelude.{◌≡◌, ◌+◌, ◌≤◌, List, [], ◌
 ghost use Rattle.tex_defs.specs.Places.{World};
 ghost use Rattle.tex_defs.specs.declared.Sizes.{Sizes};
 ghost use Rattle.plain_state.specs.States.{Reading};
-ghost use Rattle.plain_state.specs.Tables.{memory, refused};
+ghost use Rattle.plain_tokens.specs.Tables.{memory, refused};
 ghost use Rattle.plain_machine.specs.Plan.{feeding};
 ghost use Rattle.input_state.specs.Calls.{text_of};
 ghost use Rattle.input_state.specs.CallFeeds.{IsTaking, Feeds, CutShort, growth};

@@ -1,15 +1,15 @@
 // A call that gathers its arguments.
 ghost use Rattle.std.specs.Prelude.{◌≡◌, ◌++◌, ◌∷◌, ◌<◌, [], List, None, Some, IfOk, IfErr, OnOk, OnErr, MatchResult, false, true};
+ghost use Rattle.tex_syntax.specs.declared.words.Report.TheVariants.{ParagraphEnded, ExtraBrace};
+ghost use Rattle.tex_syntax.specs.declared.words.Want.TheVariants.{Raw};
 ghost use Rattle.tex_defs.specs.declared.Sizes.{Sizes};
 ghost use Rattle.plain_state.specs.Readings.{par_token};
-ghost use Rattle.plain_state.specs.Reports.{ParagraphEnded, ExtraBrace};
 ghost use Rattle.plain_state.specs.States.{Reading, Noted};
 ghost use Rattle.plain_machine.specs.Plan.{failed, put_one, reported};
 ghost use Rattle.world_io.specs.Told.{FilesTold};
-ghost use Rattle.transcript.specs.Reported.{report_of};
 ghost use Rattle.macro_call.specs.PlainScans.{settled_scan};
 ghost use Rattle.input_state.specs.CallFeeds.{with_scan};
-ghost use Rattle.plain_state.specs.Pending.{settle};
+ghost use Rattle.plain_tokens.specs.Pending.{settle};
 ghost use Rattle.input_state.specs.Callings.{NotCalling, IsComplete};
 ghost use Rattle.input_state.specs.Calls.{after_call, put_of};
 ghost use Rattle.input_state.specs.Stored.{KeepsMacros, put_refusal};
@@ -20,16 +20,15 @@ ghost use Rattle.engine_state.specs.Stands.{SameFrames, state_of, page_of};
 ghost use Rattle.engine_state.specs.Rules.{world_of, next_moves, Takes, Cuts, DoesRule};
 ghost use Rattle.engine_state.specs.declared.call.CallAsk.TheVariants.{More as AsksMore};
 ghost use Rattle.input_state.specs.Reads.{gives_step};
-ghost use Rattle.plain_state.specs.Pending.{pulled};
+ghost use Rattle.plain_tokens.specs.Pending.{pulled};
 ghost use Rattle.engine_state.specs.Steps.{stepping, stops_run, IsStep, IsFree, IsHalted, StepsIf, weight};
 ghost use Rattle.engine_state.specs.Turns.{DoesPlan, CutsPlan};
 ghost use Rattle.engine_state.specs.declared.call.Call.{Call};
-ghost use Rattle.frames.specs.declared.scan.Want.TheVariants.{Raw};
 
 use crate::feeding::feed_call;
-use engine_state::{Broken, Call, CallAsk, Engine, Next, Outcome, PAR, Ruled, stops};
+use engine_state::{Broken, Call, CallAsk, Engine, Next, PAR, Ruled, stops};
 use tex_defs::{Fatal, Full, Name, Seen};
-use transcript::Report;
+use tex_syntax::{Outcome, Report};
 use world_io::Sink;
 
 /// Does the rule of the call that gathers its arguments, the innermost reading of all: at most one step.
@@ -131,9 +130,9 @@ fn put_call(engine: &mut Engine) -> Result<(), Full>
 fn fail_call<S: Sink>(engine: &mut Engine, out: &mut S, report: Report) -> Result<Ruled, Broken>
     requires idle { engine.old.input.making ≡ None }
     ensures rule { IfOk result (λ ruled. (sizes : Sizes) (f : FilesTold) (book : Book) (r : Reading) (rs : List Reading) (call : Call) → engine.old.call ≡ Some call → AllStand sizes engine.old (with_work (r ∷ rs) book) →
-        DoesRule sizes (state_of engine.old (with_work (r ∷ rs) book)) engine.new (with_work (r ∷ rs) book) (world_of f (S.told out.old) engine.old) (world_of f (S.told out.new) engine.new) (failed (page_of engine.old book) (report_of report)) ruled) }
+        DoesRule sizes (state_of engine.old (with_work (r ∷ rs) book)) engine.new (with_work (r ∷ rs) book) (world_of f (S.told out.old) engine.old) (world_of f (S.told out.new) engine.new) (failed (page_of engine.old book) report) ruled) }
     ensures err { IfErr result (λ b. (sizes : Sizes) (f : FilesTold) (book : Book) (r : Reading) (rs : List Reading) → AllStand sizes engine.old (with_work (r ∷ rs) book) →
-        Cuts sizes (state_of engine.old (with_work (r ∷ rs) book)) engine.new (with_work (r ∷ rs) book) (world_of f (S.told out.old) engine.old) (world_of f (S.told out.new) engine.new) (failed (page_of engine.old book) (report_of report)) b) }
+        Cuts sizes (state_of engine.old (with_work (r ∷ rs) book)) engine.new (with_work (r ∷ rs) book) (world_of f (S.told out.old) engine.old) (world_of f (S.told out.new) engine.new) (failed (page_of engine.old book) report) b) }
     ensures step { IfOk result (λ ruled. IsStep ruled → ⊥) }
     ensures light { IfOk result (λ ruled. IsFree ruled → (call : Call) → engine.old.call ≡ Some call → weight engine.new < weight engine.old) }
     ensures frames { OnErr result (SameFrames engine.old engine.new) }
@@ -141,7 +140,7 @@ fn fail_call<S: Sink>(engine: &mut Engine, out: &mut S, report: Report) -> Resul
     ensures idle { OnOk result (engine.new.input.making ≡ None) }
 {
     if !engine.report(out, report)? {
-        return Ok(Ruled::Halted(Outcome::Fatal(Fatal::HundredErrors)));
+        return Ok(Ruled::Halted(Outcome::AtFatal(Fatal::HundredErrors)));
     }
     close_call(engine);
     Ok(Ruled::Free)
@@ -191,7 +190,7 @@ fn settle_brace<S: Sink>(
     engine.put_one(seen.token)?;
     engine.put_one(PAR)?;
     if !engine.report(out, Report::ExtraBrace(name))? {
-        return Ok(Ruled::Halted(Outcome::Fatal(Fatal::HundredErrors)));
+        return Ok(Ruled::Halted(Outcome::AtFatal(Fatal::HundredErrors)));
     }
     go_on_behind_brace(engine, name);
     Ok(Ruled::Free)

@@ -6,7 +6,7 @@ use Rattle.std.proofs.lemmas.List.Elements.{All-head, All-tail}
 use Rattle.std.proofs.lemmas.Option.{none-some, same_Some}
 use Rattle.std.proofs.Math.Seq.{take-suc}
 use Rattle.tex_defs.specs.declared.Token.{Token}
-use Rattle.plain_state.specs.Lex as plain
+use Rattle.plain_tokens.specs.Lex as plain
 use Rattle.line_lexer.specs.Answers.{looks_of}
 use Rattle.token_lists.specs.Table.{Entry}
 use Rattle.input_stack.specs.declared.level.Level.{Level}

@@ -1,6 +1,6 @@
 -- What one level gives.
 use Rattle.std.specs.Prelude.{◌≡◌, ℕ, ◌≤◌, List, [], ◌∷◌, Option, None, Some, Bool, true, false, map}
-use Rattle.plain_state.specs.Lex as plain
+use Rattle.plain_tokens.specs.Lex as plain
 use Rattle.line_lexer.specs.Answers.{state_of, rest_of, looks_of}
 use Rattle.line_lexer.specs.declared.Ahead.{Ahead}
 use Rattle.line_lexer.specs.declared.Ahead.TheVariants as ahead

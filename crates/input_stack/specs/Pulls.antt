@@ -4,7 +4,7 @@ use Rattle.tex_defs.specs.declared.Token.{Token}
 use Rattle.tex_defs.specs.declared.Token.TheVariants.{EndPlaces}
 use Rattle.tex_defs.specs.declared.Full.{Full}
 use Rattle.world_io.specs.declared.traits.InId.{InId}
-use Rattle.plain_state.specs.Lex as plain
+use Rattle.plain_tokens.specs.Lex as plain
 use Rattle.input_stack.specs.Puts.{Item, Text, First, Later, Gap, next_item, pulled}
 use Rattle.line_lexer.specs.declared.Lexed.{Lexed}
 use Rattle.line_lexer.specs.declared.Lexed.TheVariants.{End}

@@ -7,8 +7,8 @@ use Rattle.std.proofs.lemmas.List.Elements.{All-head, All-tail}
 use Rattle.std.proofs.lemmas.List.Sums.{sum_by-cons}
 use Rattle.tex_defs.specs.declared.Token.{Token}
 use Rattle.tex_defs.specs.declared.Meaning.{Meaning}
-use Rattle.plain_state.specs.Puts as plain
-use Rattle.plain_state.specs.Readings.{list_of_tokens}
+use Rattle.plain_tokens.specs.Puts as plain
+use Rattle.plain_tokens.specs.Puts.{list_of_tokens}
 use Rattle.token_lists.specs.declared.Build.{Build}
 use Rattle.token_lists.specs.Ids.{build_id}
 use Rattle.token_lists.specs.Table.{Entry, tokens_at}

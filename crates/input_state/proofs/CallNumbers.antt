@@ -9,7 +9,7 @@ use Rattle.token_lists.specs.declared.ListRef.{ListRef}
 use Rattle.token_lists.specs.Ids.{build_id, id_of}
 use Rattle.token_lists.specs.Table.{Entry, tokens_at}
 use Rattle.token_lists.specs.Accounts.{cell_holds, cells_hold}
-use Rattle.plain_state.specs.Readings.{list_of_tokens}
+use Rattle.plain_tokens.specs.Puts.{list_of_tokens}
 use Rattle.macro_args.specs.declared.args.Args.{Args}
 use Rattle.macro_args.specs.Args.{args_in, args_hold, cell_tokens, IsFilled}
 use Rattle.macro_call.specs.declared.present.Present.{Present}

@@ -10,7 +10,7 @@ use Rattle.token_lists.specs.declared.ListRef.{ListRef}
 use Rattle.token_lists.specs.Ids.{id_of, build_id, IsBuilding}
 use Rattle.token_lists.specs.Table.{Entry, tokens_at, places_at, holders_at, last_or}
 use Rattle.token_lists.specs.Accounts.{cell_holds, cells_hold}
-use Rattle.plain_state.specs.Arguments.{start_of}
+use Rattle.plain_tokens.specs.Arguments.{start_of}
 use Rattle.macro_args.specs.declared.args.Args.{Args}
 use Rattle.macro_args.specs.Args.{args_in, args_hold, cell_tokens}
 use Rattle.macro_args.proofs.Releases.{holds_own}

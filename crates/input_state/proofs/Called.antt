@@ -9,9 +9,9 @@ use Rattle.tex_defs.specs.declared.Full.{Full}
 use Rattle.tex_defs.specs.declared.Sizes.{Sizes}
 use Rattle.tex_defs.specs.declared.Meaning.{Meaning}
 use Rattle.tex_defs.specs.declared.Meaning.TheVariants as means
-use Rattle.plain_state.specs.Arguments.{ParMode, begins_with_place, start_of}
-use Rattle.plain_state.specs.Meanings.{name_meaning}
-use Rattle.plain_state.specs.Tables.{lists_words, list_words, memory, refused}
+use Rattle.plain_tokens.specs.Arguments.{ParMode, begins_with_place, start_of}
+use Rattle.plain_tokens.specs.Meanings.{name_meaning}
+use Rattle.plain_tokens.specs.Tables.{lists_words, list_words, memory, refused}
 use Rattle.token_lists.specs.declared.Build.{Build}
 use Rattle.token_lists.specs.Table.{Entry, tokens_at}
 use Rattle.token_lists.specs.Refusals.{IsFull}

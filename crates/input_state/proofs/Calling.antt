@@ -6,8 +6,8 @@ use Rattle.tex_defs.specs.declared.Token.{Token}
 use Rattle.tex_defs.specs.declared.Token.TheVariants as token
 use Rattle.tex_defs.specs.declared.Meaning.{Meaning}
 use Rattle.tex_defs.specs.declared.Meaning.TheVariants as means
-use Rattle.plain_state.specs.Arguments.{has_parameters}
-use Rattle.plain_state.specs.Puts as plain
+use Rattle.plain_tokens.specs.Arguments.{has_parameters}
+use Rattle.plain_tokens.specs.Puts as plain
 use Rattle.token_lists.specs.Table.{Entry}
 use Rattle.meanings.specs.Holding.{list_of}
 use Rattle.input_stack.specs.Puts.{Put, Item, Text, put_in_front}

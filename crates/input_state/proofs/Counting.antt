@@ -5,8 +5,8 @@ use Rattle.std.proofs.lemmas.Bool.{ne_eqb, cases_eq}
 use Rattle.std.proofs.lemmas.List.{get_or-set_same, get_or-set_other}
 use Rattle.std.proofs.lemmas.List.Sums.{sum_by-cons, sum_by-set, sum_by-append}
 use Rattle.tex_defs.specs.declared.Meaning.{Meaning}
-use Rattle.plain_state.specs.Puts.{Put}
-use Rattle.plain_state.specs.Tables.{list_words, macro_words}
+use Rattle.plain_tokens.specs.Puts.{Put}
+use Rattle.plain_tokens.specs.Tables.{list_words, macro_words}
 use Rattle.token_lists.specs.Table.{Entry, entry_at, words, words_of, tokens_at, tokens_of, holders_at, holders_of}
 use Rattle.token_lists.specs.Accounts.{holds}
 use Rattle.token_lists.proofs.Counts.{held_below}

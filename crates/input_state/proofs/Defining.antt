@@ -9,7 +9,7 @@ use Rattle.tex_defs.specs.declared.Name.{Name}
 use Rattle.tex_defs.specs.declared.Meaning.{Meaning}
 use Rattle.tex_defs.specs.declared.Meaning.TheVariants as means
 use Rattle.tex_defs.specs.declared.Sizes.{Sizes}
-use Rattle.plain_state.specs.Meanings.{location, fixed_meaning, looked_up, set_at, name_meaning}
+use Rattle.plain_tokens.specs.Meanings.{location, fixed_meaning, looked_up, set_at, name_meaning}
 use Rattle.token_lists.specs.declared.Build.{Build}
 use Rattle.token_lists.specs.Ids.{build_id, IsBuilding}
 use Rattle.token_lists.specs.Table.{Entry, tokens_at, holders_at}

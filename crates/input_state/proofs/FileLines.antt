@@ -2,7 +2,7 @@
 use Rattle.std.proofs.Common.{◌≡◌, ℕ, List, [], ◌∷◌, Option, None, Some, true≢false, refl, sym, ap, ◌∙◌, subst}
 use Rattle.std.specs.Prelude.{IsSome}
 use Rattle.tex_defs.specs.declared.Sizes.{Sizes}
-use Rattle.plain_state.specs.Puts as plain
+use Rattle.plain_tokens.specs.Puts as plain
 use Rattle.line_lexer.specs.declared.Line.{Line}
 use Rattle.world_io.specs.declared.traits.InId.{InId}
 use Rattle.token_lists.specs.declared.Build.{Build}

@@ -6,10 +6,10 @@ use Rattle.tex_defs.specs.declared.Token.{Token}
 use Rattle.tex_defs.specs.declared.Full.{Full}
 use Rattle.tex_defs.specs.declared.Sizes.{Sizes}
 use Rattle.tex_defs.specs.declared.Table.TheVariants.{InputStackSize}
-use Rattle.plain_state.specs.Puts.{Item, Put, settled, settled_top, passed, passed_top, without_gaps, top_item, put_levels, levels_of}
-use Rattle.plain_state.specs.Pending.{Pending, Progress, NotBegun, Begun, Closed, settle, with_puts, pulled, from_file}
-use Rattle.plain_state.specs.Pending as plain
-use Rattle.plain_state.specs.Tables.{is_meant, is_put, Demand, file_levels, file_level, next_line, opened_level, buffer, refused}
+use Rattle.plain_tokens.specs.Puts.{Item, Put, settled, settled_top, passed, passed_top, without_gaps, top_item, put_levels, levels_of}
+use Rattle.plain_tokens.specs.Pending.{Pending, Progress, NotBegun, Begun, Closed, settle, with_puts, pulled, from_file}
+use Rattle.plain_tokens.specs.Pending as plain
+use Rattle.plain_tokens.specs.Tables.{is_meant, is_put, Demand, file_levels, file_level, next_line, opened_level, buffer, refused}
 use Rattle.line_lexer.specs.declared.Ahead.TheVariants as ahead
 use Rattle.input_state.specs.declared.answer.Pulled.{Pulled}
 use Rattle.input_state.specs.declared.answer.Pulled.TheVariants as answer

@@ -3,8 +3,8 @@ use Rattle.std.proofs.Common.{◌≡◌, ℕ, ◌+◌, List, [], ◌∷◌, ◌+
 use Rattle.std.proofs.lemmas.Option.{none-some, same_Some}
 use Rattle.std.proofs.lemmas.List.Sums.{sum_by-cons}
 use Rattle.tex_defs.specs.declared.Token.{Token}
-use Rattle.plain_state.specs.Puts as plain
-use Rattle.plain_state.specs.Pending.{read_on}
+use Rattle.plain_tokens.specs.Puts as plain
+use Rattle.plain_tokens.specs.Pending.{read_on}
 use Rattle.token_lists.specs.Table.{Entry, tokens_at}
 use Rattle.input_stack.specs.Puts.{Put, Item, Text, First, Later, Gap, later_of, count_of, used, used_of, settled, settled_top, put_top, put_in_front, first, flat, without_gaps, next_item, pulled, pulled_top}
 use Rattle.input_stack.specs.Pending.{plain_put}

@@ -6,11 +6,10 @@ use Rattle.std.proofs.lemmas.List.Sums.{sum_by-cons, sum_by-append}
 use Rattle.tex_defs.specs.declared.Token.{Token}
 use Rattle.tex_defs.specs.declared.Name.{Name}
 use Rattle.tex_defs.specs.declared.Meaning.{Meaning}
-use Rattle.plain_state.specs.Puts.{Put}
-use Rattle.plain_state.specs.Readings.{list_of_tokens}
-use Rattle.plain_state.specs.Tables.{list_words, lists_words, macro_words}
-use Rattle.plain_state.specs.Arguments as arg
-use Rattle.plain_state.specs.Arguments.{ParMode, Answer, More, Called, Mismatch, Tok, arguments, arguments_in, work_in, behind, gathering, call, start_of, places_of, case_at, same, begins_with_place}
+use Rattle.plain_tokens.specs.Puts.{Put, list_of_tokens}
+use Rattle.plain_tokens.specs.Tables.{list_words, lists_words, macro_words}
+use Rattle.plain_tokens.specs.Arguments as arg
+use Rattle.plain_tokens.specs.Arguments.{ParMode, Answer, More, Mismatch, Tok, arguments, arguments_in, work_in, behind, call, start_of, places_of, case_at, same, begins_with_place}
 use Rattle.macro_call.specs.Stages.{Stage, kept_in, read_in}
 use Rattle.macro_call.specs.Growths.{target_by}
 use Rattle.macro_call.specs.PlainScans.{Scan, scan_work, resume_scan, resume_at, places_behind, first_scan, first_by}

@@ -4,10 +4,10 @@ use Rattle.std.specs.Prelude.{sum_by, Bool, true, false}
 use Rattle.std.proofs.lemmas.Bool.{cases_eq, cases_lt}
 use Rattle.std.proofs.lemmas.List.Sums.{sum_by-cons, sum_by-append}
 use Rattle.tex_defs.specs.declared.Token.{Token}
-use Rattle.plain_state.specs.Puts as plain
+use Rattle.plain_tokens.specs.Puts as plain
 use Rattle.token_lists.specs.Accounts.{holds}
-use Rattle.plain_state.specs.Readings.{list_of_tokens}
-use Rattle.plain_state.specs.Tables.{put_words, whole_words, argument_words, list_words, lists_words}
+use Rattle.plain_tokens.specs.Puts.{list_of_tokens}
+use Rattle.plain_tokens.specs.Tables.{put_words, whole_words, argument_words, list_words, lists_words}
 use Rattle.token_lists.specs.Table.{Entry, tokens_at}
 use Rattle.input_stack.specs.Puts.{Put, Item, Text, First, Later, Gap, argument_of, later_of, numbers, used, settled, settled_top, put_top, without_gaps, pulled, pulled_top}
 use Rattle.input_stack.specs.Pending.{Pending, Below, settle, put, used_levels, times}

@@ -7,7 +7,7 @@ use Rattle.token_lists.specs.Table.{Entry}
 use Rattle.token_lists.specs.Accounts.{Moves, Keeps}
 use Rattle.input_stack.specs.Puts.{Put, next_item}
 use Rattle.input_stack.specs.Pending.{Pending, settle}
-use Rattle.plain_state.specs.Puts as plain
+use Rattle.plain_tokens.specs.Puts as plain
 use Rattle.input_state.proofs.Fronts.{fronts_settled}
 use Rattle.input_stack.specs.Pulls.{Pulls}
 use Rattle.input_stack.specs.CallViews.{opened}

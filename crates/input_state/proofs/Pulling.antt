@@ -3,11 +3,11 @@ use Rattle.std.proofs.Common.{◌≡◌, ◌≢◌, ℕ, ◌+◌, ◌<◌, ◌�
 use Rattle.std.specs.Prelude.{OnErr, MatchResult}
 use Rattle.tex_defs.specs.declared.Full.{Full}
 use Rattle.tex_defs.specs.declared.Sizes.{Sizes}
-use Rattle.plain_state.specs.Lex as lex
-use Rattle.plain_state.specs.Lex.{lexed}
-use Rattle.plain_state.specs.Puts as lists
-use Rattle.plain_state.specs.Pending as plain
-use Rattle.plain_state.specs.Tables.{refused, opened_level, file_levels}
+use Rattle.plain_tokens.specs.Lex as lex
+use Rattle.plain_tokens.specs.Lex.{lexed}
+use Rattle.plain_tokens.specs.Puts as lists
+use Rattle.plain_tokens.specs.Pending as plain
+use Rattle.plain_tokens.specs.Tables.{refused, opened_level, file_levels}
 use Rattle.line_lexer.specs.declared.Line.{Line}
 use Rattle.line_lexer.specs.declared.Lexed.{Lexed}
 use Rattle.line_lexer.specs.declared.Lexed.TheVariants as lexed_as

@@ -7,7 +7,7 @@ use Rattle.tex_defs.specs.declared.Token.{Token}
 use Rattle.tex_defs.specs.declared.Token.TheVariants as token
 use Rattle.tex_defs.specs.declared.Meaning.{Meaning}
 use Rattle.tex_defs.specs.declared.Meaning.TheVariants as means
-use Rattle.plain_state.specs.Puts as plain
+use Rattle.plain_tokens.specs.Puts as plain
 use Rattle.token_lists.specs.declared.ListRef.{ListRef}
 use Rattle.token_lists.specs.Ids.{id_of}
 use Rattle.token_lists.specs.Table.{Entry, tokens_at}

@@ -8,9 +8,9 @@ use Rattle.tex_defs.specs.declared.Name.{Name}
 use Rattle.tex_defs.specs.declared.Full.{Full}
 use Rattle.tex_defs.specs.declared.Sizes.{Sizes}
 use Rattle.tex_defs.specs.declared.Meaning.{Meaning}
-use Rattle.plain_state.specs.Meanings.{name_meaning}
-use Rattle.plain_state.specs.Puts as plain
-use Rattle.plain_state.specs.Tables.{refused}
+use Rattle.plain_tokens.specs.Meanings.{name_meaning}
+use Rattle.plain_tokens.specs.Puts as plain
+use Rattle.plain_tokens.specs.Tables.{refused}
 use Rattle.token_lists.specs.declared.Build.{Build}
 use Rattle.token_lists.specs.declared.ListRef.{ListRef}
 use Rattle.token_lists.specs.Ids.{id_of}

@@ -3,11 +3,11 @@ use Rattle.std.proofs.Common.{◌≡◌, ℕ, ◌<◌, ◌≤◌, List, [], ◌�
 use Rattle.std.specs.Prelude.{nat_lt, nat_le, ◌&&◌, not}
 use Rattle.std.proofs.lemmas.Bool.{cases_lt}
 use Rattle.std.proofs.lemmas.Bool.Decides.{nat_tests}
-use Rattle.plain_state.specs.Lex as lex
-use Rattle.plain_state.specs.Lex.{lexed}
-use Rattle.plain_state.specs.Puts.{Item, Put, passed, passed_top, without_gaps}
-use Rattle.plain_state.specs.Lines.{has_feed}
-use Rattle.plain_state.specs.Pending.{Pending, Progress, NotBegun, Begun, Closed, pulled, takes_file, from_front, from_list, from_line, from_file}
+use Rattle.plain_tokens.specs.Lex as lex
+use Rattle.plain_tokens.specs.Lex.{lexed}
+use Rattle.plain_tokens.specs.Puts.{Item, Put, passed, passed_top, without_gaps}
+use Rattle.plain_tokens.specs.Lines.{has_feed}
+use Rattle.plain_tokens.specs.Pending.{Pending, Progress, NotBegun, Begun, Closed, pulled, takes_file, from_front, from_list, from_line, from_file}
 use Rattle.line_lexer.specs.declared.Ahead.TheVariants as ahead
 use Rattle.line_lexer.specs.Answers.{looks_of}
 use Rattle.input_state.specs.Reads.{gives_step}

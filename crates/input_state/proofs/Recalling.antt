@@ -5,8 +5,8 @@ use Rattle.std.proofs.lemmas.Option.{same_Some}
 use Rattle.tex_defs.specs.declared.Name.{Name}
 use Rattle.tex_defs.specs.declared.Sizes.{Sizes}
 use Rattle.tex_defs.specs.declared.Meaning.TheVariants as means
-use Rattle.plain_state.specs.Meanings.{fixed_locations}
-use Rattle.plain_state.specs.Puts as plain
+use Rattle.plain_tokens.specs.Meanings.{fixed_locations}
+use Rattle.plain_tokens.specs.Puts as plain
 use Rattle.token_lists.specs.declared.Build.{Build}
 use Rattle.token_lists.specs.Ids.{IsBuilding}
 use Rattle.token_lists.specs.Table.{Entry, words, tokens_of, holders_at}
@@ -25,7 +25,7 @@ use Rattle.input_stack.specs.declared.stack.InputStack.{InputStack}
 use Rattle.input_stack.proofs.Helds.{others}
 use Rattle.tex_defs.specs.declared.Meaning.{Meaning}
 use Rattle.std.proofs.lemmas.List.{length-map}
-use Rattle.plain_state.specs.Tables.{lists_words}
+use Rattle.plain_tokens.specs.Tables.{lists_words}
 use Rattle.input_state.specs.Recalls.{Recalls}
 use Rattle.input_state.specs.Callings.{call_lists}
 use Rattle.input_state.proofs.Words.{words_are}

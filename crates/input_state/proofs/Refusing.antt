@@ -6,7 +6,7 @@ use Rattle.tex_defs.specs.declared.Table.{Table}
 use Rattle.tex_defs.specs.declared.Table.TheVariants.{MainMemorySize, InputStackSize}
 use Rattle.tex_defs.specs.declared.Full.{Full}
 use Rattle.tex_defs.specs.declared.Sizes.{Sizes}
-use Rattle.plain_state.specs.Tables.{memory, refused, full}
+use Rattle.plain_tokens.specs.Tables.{memory, refused, full}
 use Rattle.token_lists.specs.Table.{Entry, words}
 use Rattle.token_lists.specs.Refusals.{IsFull}
 use Rattle.input_stack.specs.Pending.{room, levels_full}

@@ -5,7 +5,7 @@ use Rattle.std.proofs.lemmas.List.Sums.{sum_by-cons}
 use Rattle.tex_defs.specs.declared.Token.{Token}
 use Rattle.tex_defs.specs.declared.Meaning.{Meaning}
 use Rattle.tex_defs.specs.declared.Meaning.TheVariants as means
-use Rattle.plain_state.specs.Tables.{is_meant, means_macro, is_put, is_whole}
+use Rattle.plain_tokens.specs.Tables.{is_meant, means_macro, is_put, is_whole}
 use Rattle.token_lists.specs.Table.{Entry, tokens_at}
 use Rattle.token_lists.specs.Accounts.{holds}
 use Rattle.meanings.specs.Map.{Map}

@@ -7,10 +7,10 @@ use Rattle.tex_defs.specs.declared.Sizes.{Sizes}
 use Rattle.tex_defs.specs.declared.Full.{Full}
 use Rattle.tex_defs.specs.declared.Token.{Token}
 use Rattle.tex_defs.specs.Sizes.{first_out_of_range}
-use Rattle.plain_state.specs.Meanings.{fixed_locations, primitive_count, first_meanings}
-use Rattle.plain_state.specs.Names.{is_known}
-use Rattle.plain_state.specs.Tables.{memory, refused, list_words}
-use Rattle.plain_state.specs.Puts as plain
+use Rattle.plain_tokens.specs.Meanings.{fixed_locations, primitive_count, first_meanings}
+use Rattle.plain_tokens.specs.Names.{is_known}
+use Rattle.plain_tokens.specs.Tables.{memory, refused, list_words}
+use Rattle.plain_tokens.specs.Puts as plain
 use Rattle.token_lists.specs.declared.Build.{Build}
 use Rattle.token_lists.specs.Ids.{build_id, IsBuilding}
 use Rattle.token_lists.specs.Table.{Entry, entry_at, tokens_at, holders_at, holders_of, words}

@@ -2,11 +2,11 @@
 use Rattle.std.proofs.Common.{◌≡◌, ℕ, zero, suc, ◌+◌, ◌-◌, ◌<◌, ◌≤◌, List, [], ◌∷◌, ◌++◌, length, take, drop, Some, Result, Ok, Err, false, true≢false, refl, sym, ap, ap₂, ◌∙◌, subst, length-take, length-append, arith}
 use Rattle.std.specs.Prelude.{◌==◌, IsErrAnd, IfErr}
 use Rattle.tex_defs.specs.declared.Full.{Full}
-use Rattle.plain_state.specs.Lines.{first_line, behind_feed, end_char}
-use Rattle.plain_state.specs.Lex as plain
-use Rattle.plain_state.specs.Puts.{Put}
-use Rattle.plain_state.specs.Pending.{Pending, Begun, LineTaken, line_taken, taken_line, next_number, from_file, settle}
-use Rattle.plain_state.specs.Tables.{refused, next_line}
+use Rattle.plain_tokens.specs.Lines.{first_line, behind_feed, end_char}
+use Rattle.plain_tokens.specs.Lex as plain
+use Rattle.plain_tokens.specs.Puts.{Put}
+use Rattle.plain_tokens.specs.Pending.{Pending, Begun, LineTaken, line_taken, taken_line, next_number, from_file, settle}
+use Rattle.plain_tokens.specs.Tables.{refused, next_line}
 use Rattle.line_lexer.specs.declared.Line.{Line}
 use Rattle.line_lexer.specs.declared.LineState.TheVariants.{NewLine}
 use Rattle.line_lexer.specs.Answers.{rest_of}

@@ -2,7 +2,7 @@
 use Rattle.std.specs.Prelude.{◌≡◌, ◌<◌, List, [], ◌∷◌, ◌++◌, length, drop, Bool, true, false, Option, None, Some, unwrap_or}
 use Rattle.tex_defs.specs.declared.Token.{Token}
 use Rattle.tex_defs.specs.declared.Name.{Name}
-use Rattle.plain_state.specs.Arguments.{Fed, Tok, Answer, More, ExtraBraceFound, Called, Mismatch, Ended, arguments, work_in}
+use Rattle.plain_tokens.specs.Arguments.{Fed, Tok, Answer, More, ExtraBraceFound, Called, Mismatch, Ended, arguments, work_in}
 use Rattle.macro_call.specs.PlainScans.{Scan, scan_work, with_work, resume_scan, places_left}
 use Rattle.macro_call.specs.Scans.{args_left, args_with}
 use Rattle.macro_call.specs.Growths.{target_of, growth_of}

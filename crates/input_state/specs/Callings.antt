@@ -2,7 +2,7 @@
 use Rattle.std.specs.Prelude.{List, [], ◌∷◌, ◌++◌, option_to_list}
 use Rattle.tex_defs.specs.declared.Token.{Token}
 use Rattle.tex_defs.specs.declared.Name.{Name}
-use Rattle.plain_state.specs.Readings.{list_of_tokens}
+use Rattle.plain_tokens.specs.Puts.{list_of_tokens}
 use Rattle.macro_call.specs.PlainScans.{Scan, scan_work}
 
 -- No call is gathered; the scanner of its arguments stands so and takes more tokens; it takes none, since the call didn't match, a

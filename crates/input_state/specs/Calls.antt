@@ -5,11 +5,11 @@ use Rattle.tex_defs.specs.declared.Token.TheVariants.{EndPlaces}
 use Rattle.tex_defs.specs.declared.Name.{Name}
 use Rattle.tex_defs.specs.declared.Meaning.{Meaning}
 use Rattle.tex_defs.specs.declared.Meaning.TheVariants as means
-use Rattle.plain_state.specs.Meanings.{assigned, name_meaning}
-use Rattle.plain_state.specs.Arguments.{has_parameters, begins_with_place}
-use Rattle.plain_state.specs.Puts.{Item, Put, call_put, token_put, settled}
-use Rattle.plain_state.specs.Pending.{Pending, with_puts}
-use Rattle.plain_state.specs.Tables.{Demand}
+use Rattle.plain_tokens.specs.Meanings.{assigned, name_meaning}
+use Rattle.plain_tokens.specs.Arguments.{has_parameters, begins_with_place}
+use Rattle.plain_tokens.specs.Puts.{Item, Put, call_put, token_put, settled}
+use Rattle.plain_tokens.specs.Pending.{Pending, with_puts}
+use Rattle.plain_tokens.specs.Tables.{Demand}
 use Rattle.input_state.specs.declared.answer.CallKind.{CallKind}
 use Rattle.input_state.specs.declared.answer.CallKind.TheVariants as kind
 use Rattle.input_state.specs.Macros.{list_at, is_macro}

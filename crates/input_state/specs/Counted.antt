@@ -4,8 +4,7 @@ use Rattle.std.specs.Prelude.{◌≡◌, ℕ, ◌+◌, ◌<◌, ◌≤◌, List,
 use Rattle.std.specs.List.{AllZip, filter_map, flat_map}
 use Rattle.tex_defs.specs.declared.Token.{Token}
 use Rattle.tex_defs.specs.declared.Meaning.{Meaning}
-use Rattle.plain_state.specs.Puts.{Put, Whole, Own, Macro, levels_of}
-use Rattle.plain_state.specs.Readings.{list_of_tokens}
+use Rattle.plain_tokens.specs.Puts.{Put, Whole, Own, Macro, levels_of, list_of_tokens}
 use Rattle.token_lists.specs.Table.{Entry, tokens_at}
 use Rattle.token_lists.specs.Holders.{times, AreHolders}
 use Rattle.meanings.specs.Holding.{list_of}

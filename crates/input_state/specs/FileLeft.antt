@@ -1,7 +1,7 @@
 -- What is left of the job's file.
 use Rattle.std.specs.Prelude.{ℕ, List, length, Bool, true, false, ◌&&◌, not, nat_le}
-use Rattle.plain_state.specs.Lines.{has_feed}
-use Rattle.plain_state.specs.Pending.{Progress, NotBegun, Begun, Closed}
+use Rattle.plain_tokens.specs.Lines.{has_feed}
+use Rattle.plain_tokens.specs.Pending.{Progress, NotBegun, Begun, Closed}
 
 pub record FileLeft : Type 0 where
   -- the bytes that came, behind the lines that were taken

@@ -1,6 +1,6 @@
 -- A file that is read line by line, whose bytes come by pieces.
 use Rattle.std.specs.Prelude.{ℕ, ◌+◌, ◌≤◌, List, drop, length}
-use Rattle.plain_state.specs.Pending as plain
+use Rattle.plain_tokens.specs.Pending as plain
 use Rattle.input_state.specs.FileLeft.{FileLeft}
 use Rattle.input_state.specs.declared.file.Progress.{Progress}
 use Rattle.input_state.specs.declared.file.Progress.TheVariants.{NotBegun, Begun, Closed}

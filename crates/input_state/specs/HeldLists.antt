@@ -5,10 +5,10 @@ use Rattle.tex_defs.specs.declared.Meaning.{Meaning}
 use Rattle.tex_defs.specs.declared.Full.{Full}
 use Rattle.tex_defs.specs.declared.Sizes.{Sizes}
 use Rattle.tex_defs.specs.declared.Table.TheVariants.{InputStackSize, ParameterStackSize}
-use Rattle.plain_state.specs.Lex as plain
-use Rattle.plain_state.specs.Puts.{Put, put_levels, put_parameters, settled, passed}
-use Rattle.plain_state.specs.Pending.{Pending, Progress, NotBegun}
-use Rattle.plain_state.specs.Tables.{Demand, refused, held_words, macro_words}
+use Rattle.plain_tokens.specs.Lex as plain
+use Rattle.plain_tokens.specs.Puts.{Put, put_levels, put_parameters, settled, passed}
+use Rattle.plain_tokens.specs.Pending.{Pending, Progress, NotBegun}
+use Rattle.plain_tokens.specs.Tables.{Demand, refused, held_words, macro_words}
 use Rattle.input_state.specs.Macros.{KeepsLists}
 use Rattle.input_state.specs.Calls.{when_called, when_put}
 use Rattle.input_state.specs.Callings.{Calling, call_lists}

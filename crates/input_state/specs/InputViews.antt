@@ -1,7 +1,7 @@
 -- The input's parts as all that is stored.
 use Rattle.std.specs.Prelude.{◌≡◌, ℕ, ◌-◌, ◌≤◌, List, length, take, drop}
 use Rattle.tex_defs.specs.declared.Token.{Token}
-use Rattle.plain_state.specs.Tables.{file_levels}
+use Rattle.plain_tokens.specs.Tables.{file_levels}
 use Rattle.input_state.specs.Stored.{Stored}
 use Rattle.input_state.specs.HeldLists.{HeldLists, pending_of, line_levels, IsLineIn}
 use Rattle.input_state.specs.FileLeft.{FileLeft}

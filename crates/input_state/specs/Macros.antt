@@ -2,9 +2,9 @@
 use Rattle.std.specs.Prelude.{◌≡◌, ℕ, ◌+◌, ◌<◌, ◌||◌, Bool, true, List, [], length, Option, slice_index_or}
 use Rattle.tex_defs.specs.declared.Token.{Token}
 use Rattle.tex_defs.specs.declared.Meaning.{Meaning}
-use Rattle.plain_state.specs.Puts.{Put}
-use Rattle.plain_state.specs.Meanings.{fixed_locations}
-use Rattle.plain_state.specs.Tables.{is_meant, is_put}
+use Rattle.plain_tokens.specs.Puts.{Put}
+use Rattle.plain_tokens.specs.Meanings.{fixed_locations}
+use Rattle.plain_tokens.specs.Tables.{is_meant, is_put}
 
 -- one more name of two or more characters may be entered
 abbrev pub HasNameRoom : List (Meaning (Option ℕ)) → ℕ → Type 0

@@ -1,7 +1,7 @@
 -- What the file's bytes that came tell of the next reading.
 use Rattle.std.specs.Prelude.{◌≡◌, ◌≢◌, ℕ, ◌<◌, ◌≤◌, true, false, List, ◌++◌, length}
-use Rattle.plain_state.specs.Lines.{has_feed}
-use Rattle.plain_state.specs.Pending.{Pending, Closed, pulled, takes_file}
+use Rattle.plain_tokens.specs.Lines.{has_feed}
+use Rattle.plain_tokens.specs.Pending.{Pending, Closed, pulled, takes_file}
 use Rattle.input_state.specs.Stored.{Stored}
 
 -- The next reading is known, whatever comes of the file: it isn't the file's, no file is open, the file's line is

@@ -2,10 +2,10 @@
 use Rattle.std.specs.Prelude.{◌≡◌, ℕ, ◌<◌, ◌≤◌, List, [], length, Option, None, Some, Bool, true, false, Result, Ok, Err}
 use Rattle.tex_defs.specs.declared.Full.{Full}
 use Rattle.tex_defs.specs.declared.Sizes.{Sizes}
-use Rattle.plain_state.specs.Lex as plain
-use Rattle.plain_state.specs.Puts.{next_item}
-use Rattle.plain_state.specs.Pending.{Pending, Pulled, TokenFrom, LexemeFrom, LineTaken, InvalidMet, FileOver, NothingLeft, pulled, from_file, taken_line, settle}
-use Rattle.plain_state.specs.Tables.{Demand, refused, opened_level, next_line}
+use Rattle.plain_tokens.specs.Lex as plain
+use Rattle.plain_tokens.specs.Puts.{next_item}
+use Rattle.plain_tokens.specs.Pending.{Pending, Pulled, TokenFrom, LexemeFrom, LineTaken, InvalidMet, FileOver, NothingLeft, pulled, from_file, taken_line, settle}
+use Rattle.plain_tokens.specs.Tables.{Demand, refused, opened_level, next_line}
 use Rattle.line_lexer.specs.Answers.{span}
 use Rattle.line_lexer.specs.declared.Lexed.{Lexed}
 use Rattle.line_lexer.specs.declared.Lexed.TheVariants.{Char, Active, Single, Word, Empty, Par, Invalid, End}

@@ -4,10 +4,10 @@ use Rattle.tex_defs.specs.declared.Token.{Token}
 use Rattle.tex_defs.specs.declared.Meaning.{Meaning}
 use Rattle.tex_defs.specs.declared.Full.{Full}
 use Rattle.tex_defs.specs.declared.Sizes.{Sizes}
-use Rattle.plain_state.specs.Puts.{Put}
-use Rattle.plain_state.specs.Lex.{NewLine}
-use Rattle.plain_state.specs.Pending.{Pending, NotBegun, Closed, settle}
-use Rattle.plain_state.specs.Tables.{held_words, macro_words, level, parameters, refused}
+use Rattle.plain_tokens.specs.Puts.{Put}
+use Rattle.plain_tokens.specs.Lex.{NewLine}
+use Rattle.plain_tokens.specs.Pending.{Pending, NotBegun, Closed, settle}
+use Rattle.plain_tokens.specs.Tables.{held_words, macro_words, level, parameters, refused}
 use Rattle.input_state.specs.Macros.{KeepsLists}
 use Rattle.input_state.specs.Calls.{when_called, when_put}
 use Rattle.input_state.specs.Callings.{Calling, call_lists}

@@ -1,7 +1,7 @@
 // The job's file, whose bytes come by pieces.
 ghost use Rattle.std.specs.Prelude.{◌≡◌, ◌≤◌, ◌++◌, [], length, drop, true, false, IfOk, if◌then◌else◌};
-ghost use Rattle.plain_state.specs.Pending as pending;
-ghost use Rattle.plain_state.specs.Pending.{from_file, next_number};
+ghost use Rattle.plain_tokens.specs.Pending as pending;
+ghost use Rattle.plain_tokens.specs.Pending.{from_file, next_number};
 ghost use Rattle.input_state.specs.FileLeft.{lacks_line};
 ghost use Rattle.input_state.specs.Reads.{gives_step};
 

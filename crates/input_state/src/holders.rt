@@ -1,6 +1,6 @@
 // Lists with more than one holder.
 ghost use Rattle.std.specs.Prelude.{◌≡◌, ℕ, ◌+◌, ◌<◌, ◌^◌};
-ghost use Rattle.plain_state.specs.Arguments.{has_parameters};
+ghost use Rattle.plain_tokens.specs.Arguments.{has_parameters};
 ghost use Rattle.token_lists.specs.Table.{IsHeld, holders_at, tokens_at};
 ghost use Rattle.token_lists.specs.Ids.{id_of};
 ghost use Rattle.token_lists.specs.Accounts.{Moves, Keeps, holds, none};

@@ -1,7 +1,7 @@
 // The lines of a file.
 ghost use Rattle.std.specs.Prelude.{◌≡◌, ◌≤◌, ◌<◌, ◌+◌, ◌++◌, ◌∷◌, [], nat_lt, take, drop, length};
-ghost use Rattle.plain_state.specs.Lines as plain;
-ghost use Rattle.plain_state.specs.Lines.{before_feed, behind_feed, has_feed, without_last, trimmed, end_char};
+ghost use Rattle.plain_tokens.specs.Lines as plain;
+ghost use Rattle.plain_tokens.specs.Lines.{before_feed, behind_feed, has_feed, without_last, trimmed, end_char};
 
 /// A file's first line: how many bytes it has before its trailing spaces are cut, how many of the file's first bytes
 /// it keeps, and how many it takes up.

@@ -1,13 +1,12 @@
 // The lists in front, those that are being made and gathered, the line of the file beneath them, and what the names mean.
 ghost use Rattle.std.specs.Prelude.{◌≡◌, ◌≢◌, ℕ, ◌≤◌, ◌<◌, ◌+◌, ◌++◌, ◌↔◌, true, List, [], ◌∷◌, Option, None, Some, Ok, IsSome, IfSome, IsTrue, IfOk, OnOk, OnErr, IfErr, MatchResult, MatchBool, length, drop, replicate, option_to_list};
 ghost use Rattle.tex_defs.specs.Sizes.{first_out_of_range};
-ghost use Rattle.plain_state.specs.Names.{is_known};
+ghost use Rattle.plain_tokens.specs.Names.{is_known};
 ghost use Rattle.tex_defs.specs.declared.Meaning.TheVariants.{Undefined};
-ghost use Rattle.plain_state.specs.Meanings.{first_meanings, fixed_locations, location, name_meaning, seen};
-ghost use Rattle.plain_state.specs.Puts.{settled, passed, with_put, token_put};
-ghost use Rattle.plain_state.specs.Pending.{Progress, pulled};
-ghost use Rattle.plain_state.specs.States.{grow_first, grown_by};
-ghost use Rattle.plain_state.specs.Tables.{is_meant, lists_words, memory, refused, file_levels};
+ghost use Rattle.plain_tokens.specs.Meanings.{first_meanings, fixed_locations, location, name_meaning, seen};
+ghost use Rattle.plain_tokens.specs.Puts.{settled, passed, with_put, token_put, grow_first, grown_by};
+ghost use Rattle.plain_tokens.specs.Pending.{Progress, pulled};
+ghost use Rattle.plain_tokens.specs.Tables.{is_meant, lists_words, memory, refused, file_levels};
 ghost use Rattle.line_lexer.specs.declared.Ahead.TheVariants as ahead;
 ghost use Rattle.token_lists.specs.Table.{words, tokens_at, holders_at, IsHeld};
 ghost use Rattle.token_lists.specs.Ids.{build_id, IsBuilding};

@@ -1,7 +1,7 @@
 -- What the head of a rest of a line makes of what the line gives.
 use Rattle.std.proofs.Common.{◌≡◌, ℕ, List, [], ◌∷◌, drop, get_or, arith, refl, ap, ◌∙◌}
-use Rattle.plain_state.specs.Lex.{Lexed, UsedUp, headed, by_head, lexed}
-use Rattle.plain_state.proofs.LexRuns.{lexed_by_head}
+use Rattle.plain_tokens.specs.Lex.{Lexed, UsedUp, headed, by_head, lexed}
+use Rattle.plain_tokens.proofs.LexRuns.{lexed_by_head}
 use Rattle.line_lexer.specs.declared.LineState.{LineState}
 use Rattle.line_lexer.specs.declared.LineState.TheVariants.{NewLine, Middle, SkipBlanks}
 use Rattle.line_lexer.specs.declared.heads.Head.{Head}

@@ -1,7 +1,7 @@
 -- `^^` in front of a rest of a line.
 use Rattle.std.proofs.Common.{◌≡◌, ℕ, ◌+◌, ◌<◌, ◌≤◌, true, false, List, [], ◌∷◌, drop, length, get_or, arith, ap, ◌∙◌}
-use Rattle.plain_state.specs.Lex.{headed, has_hats, without_hats, behind_hats}
-use Rattle.plain_state.proofs.Heads.{headed_hats, headed_none, headed_nil}
+use Rattle.plain_tokens.specs.Lex.{headed, has_hats, without_hats, behind_hats}
+use Rattle.plain_tokens.proofs.Heads.{headed_hats, headed_none, headed_nil}
 use Rattle.line_lexer.proofs.LineRests.{drop_at, drop_end}
 
 two_more : (line : List ℕ) (next : ℕ) → next + 1 < length line → drop next line ≡ get_or line next 0 ∷ get_or line (next + 1) 0 ∷ drop (next + 1 + 1) line

@@ -2,8 +2,8 @@
 use Rattle.std.proofs.Common.{◌≡◌, ℕ, ◌+◌, ◌-◌, ◌<◌, ◌≤◌, false, true, List, [], ◌∷◌, ◌++◌, take, drop, set, length, get_or, arith, refl, sym, ap, ◌∙◌, append_assoc, length-set, length-drop}
 use Rattle.std.proofs.lemmas.List.{append-nil, take-set-le, drop-set-lt, drop-set, drop-set-add, drop_all, take_more_set}
 use Rattle.std.proofs.lemmas.Grind.{common_steps}
-use Rattle.plain_state.specs.Lex.{headed, is_letter, letters, behind_letters}
-use Rattle.plain_state.proofs.LexNames.{letters_on, behind_on, letters_stop, behind_stop}
+use Rattle.plain_tokens.specs.Lex.{headed, is_letter, letters, behind_letters}
+use Rattle.plain_tokens.proofs.LexNames.{letters_on, behind_on, letters_stop, behind_stop}
 use Rattle.line_lexer.specs.declared.heads.Head.{Head}
 use Rattle.line_lexer.specs.Begins.{IsHead}
 

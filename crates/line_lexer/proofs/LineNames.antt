@@ -1,8 +1,8 @@
 -- The name of letters that was written.
 use Rattle.std.proofs.Common.{◌≡◌, ℕ, ◌+◌, ◌-◌, ◌<◌, ◌≤◌, suc, List, [], ◌∷◌, take, drop, set, length, get_or, arith, refl, sym, ap, ◌∙◌, length-drop, length-take, get_or-take, get_or-set_same}
 use Rattle.std.proofs.lemmas.List.{drop-set-lt}
-use Rattle.plain_state.specs.Lex.{Lexeme, SingleName, WordName, Gives, name_of_letters, letters, behind_letters}
-use Rattle.plain_state.specs.Lex as plain
+use Rattle.plain_tokens.specs.Lex.{Lexeme, SingleName, WordName, Gives, name_of_letters, letters, behind_letters}
+use Rattle.plain_tokens.specs.Lex as plain
 use Rattle.line_lexer.specs.Answers.{span}
 use Rattle.line_lexer.specs.Begins.{named}
 use Rattle.line_lexer.proofs.LineRests.{drop_at}

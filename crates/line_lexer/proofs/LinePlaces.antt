@@ -3,7 +3,7 @@ use Rattle.std.proofs.Common.{◌≡◌, ℕ, ◌+◌, ◌-◌, ◌≤◌, List,
 use Rattle.std.proofs.lemmas.List.{take-append-le, drop-append-le, drop-drop, take_rest, drop_at, length-take-le}
 use Rattle.std.proofs.lemmas.Slice.{drop-put_mid}
 use borrow.Rule.Slice.PartMut.{put_mid, post_of}
-use Rattle.plain_state.specs.Lex as plain
+use Rattle.plain_tokens.specs.Lex as plain
 use Rattle.line_lexer.specs.declared.Lexed.{Lexed}
 use Rattle.line_lexer.specs.declared.Lexed.TheVariants.{Char, Active, Single, Word, Empty, Par, Invalid, End}
 use Rattle.line_lexer.specs.Answers.{span, given, Takes, moved_by}

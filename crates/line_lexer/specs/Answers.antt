@@ -1,6 +1,6 @@
 -- What the answers of the lexer stand for.
 use Rattle.std.specs.Prelude.{◌≡◌, ℕ, ◌+◌, ◌-◌, max, ◌<◌, ◌≤◌, List, take, drop}
-use Rattle.plain_state.specs.Lex as plain
+use Rattle.plain_tokens.specs.Lex as plain
 use Rattle.line_lexer.specs.declared.Line.{Line}
 use Rattle.line_lexer.specs.declared.LineState.{LineState}
 use Rattle.line_lexer.specs.declared.LineState.TheVariants.{NewLine, Middle, SkipBlanks}

@@ -1,8 +1,8 @@
 -- What begins a rest of a line.
 use Rattle.std.specs.Prelude.{◌≡◌, ℕ, ◌<◌, ◌≤◌, List, ◌∷◌, drop, length, slice_index}
-use Rattle.plain_state.specs.Categories.{end_of_line, ignored, space, comment}
-use Rattle.plain_state.specs.Lex.{Lexed, Gives, headed, letters, behind_letters, name_of_letters, by_head, lexed}
-use Rattle.plain_state.specs.Lex as plain
+use Rattle.plain_tokens.specs.Categories.{end_of_line, ignored, space, comment}
+use Rattle.plain_tokens.specs.Lex.{Lexed, Gives, headed, letters, behind_letters, name_of_letters, by_head, lexed}
+use Rattle.plain_tokens.specs.Lex as plain
 use Rattle.line_lexer.specs.declared.LineState.{LineState}
 use Rattle.line_lexer.specs.declared.LineState.TheVariants.{Middle, SkipBlanks}
 use Rattle.line_lexer.specs.declared.heads.Head.{Head}

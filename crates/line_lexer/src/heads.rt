@@ -1,7 +1,7 @@
 // The heads of a line: characters, and what `^^` stands for.
 ghost use Rattle.std.specs.Prelude.{◌≡◌, ◌+◌, ◌≤◌, ◌<◌, ◌∷◌, [], MatchOption, true, drop, length, slice_index};
-ghost use Rattle.plain_state.specs.Lex as plain;
-ghost use Rattle.plain_state.specs.Lex.{headed, lexed, behind_hats};
+ghost use Rattle.plain_tokens.specs.Lex as plain;
+ghost use Rattle.plain_tokens.specs.Lex.{headed, lexed, behind_hats};
 ghost use Rattle.line_lexer.specs.Answers.{state_of};
 ghost use Rattle.line_lexer.specs.Begins.{IsHead, Begins};
 

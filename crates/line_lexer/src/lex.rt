@@ -1,7 +1,7 @@
 // What a whole rest of a line gives.
 ghost use Rattle.std.specs.Prelude.{◌≡◌, ◌≤◌, [], drop, length};
-ghost use Rattle.plain_state.specs.Lex as plain;
-ghost use Rattle.plain_state.specs.Lex.{lexed};
+ghost use Rattle.plain_tokens.specs.Lex as plain;
+ghost use Rattle.plain_tokens.specs.Lex.{lexed};
 ghost use Rattle.line_lexer.specs.Answers.{state_of, given, Takes};
 ghost use Rattle.line_lexer.specs.Begins.{UsesUp};
 

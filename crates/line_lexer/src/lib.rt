@@ -9,7 +9,7 @@ mod lex;
 mod names;
 
 ghost use Rattle.std.specs.Prelude.{◌≡◌, ◌+◌, ◌^◌, ◌<◌, ◌≤◌, length, take, drop};
-ghost use Rattle.plain_state.specs.Lex.{lexed};
+ghost use Rattle.plain_tokens.specs.Lex.{lexed};
 ghost use Rattle.line_lexer.specs.Answers.{state_of, rest_of, given, GoesOn, looks_of, last_place, moved_by};
 
 use heads::begin;

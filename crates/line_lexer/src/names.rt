@@ -1,6 +1,6 @@
 // What an escape character begins.
 ghost use Rattle.std.specs.Prelude.{◌≡◌, ◌-◌, ◌≤◌, ◌<◌, ◌∷◌, take, drop, length};
-ghost use Rattle.plain_state.specs.Lex as plain;
+ghost use Rattle.plain_tokens.specs.Lex as plain;
 ghost use Rattle.line_lexer.specs.Answers.{state_of, given, Takes};
 ghost use Rattle.line_lexer.specs.Begins.{named};
 

@@ -6,7 +6,7 @@ use Rattle.std.proofs.lemmas.Grind.{common_steps}
 use Rattle.tex_defs.specs.declared.Full.{Full as FullTable}
 use Rattle.tex_defs.specs.declared.Stop.{Stop}
 use Rattle.tex_defs.specs.declared.Stop.TheVariants.{Full}
-use Rattle.plain_state.specs.Lines.{has_feed, before_feed, behind_feed, without_last, first_bytes, trimmed}
+use Rattle.plain_tokens.specs.Lines.{has_feed, before_feed, behind_feed, without_last, first_bytes, trimmed}
 use Rattle.world_io.specs.Told.{FilesTold, SoFar, IsAtEnd}
 use Rattle.line_reader.specs.Ahead.{ahead_of, with_ahead}
 use Rattle.line_reader.specs.OpenLines.{OpenLines, held, part_for}

@@ -2,7 +2,7 @@
 use Rattle.std.proofs.Common.{◌≡◌, ℕ, Bool, false, true, List, [], ◌∷◌, ◌++◌, refl, ap, sym, ◌∙◌, subst, arith, append_assoc}
 use Rattle.std.specs.Prelude.{Option, Some, None, if◌then◌else◌}
 use Rattle.std.proofs.lemmas.Grind.{common_steps}
-use Rattle.plain_state.specs.Lines.{has_feed, before_feed, behind_feed, without_last, first_bytes}
+use Rattle.plain_tokens.specs.Lines.{has_feed, before_feed, behind_feed, without_last, first_bytes}
 use Rattle.world_io.specs.Told.{FilesTold, SoFar, SameFiles}
 use Rattle.line_reader.specs.Reading.{CameIn}
 

@@ -7,7 +7,7 @@ use Rattle.std.proofs.lemmas.Bool.{cases_order}
 use Rattle.std.proofs.lemmas.Grind.{common_steps}
 use Rattle.tex_defs.specs.declared.Full.{Full}
 use Rattle.tex_defs.specs.declared.Table.TheVariants.{BufferSize}
-use Rattle.plain_state.specs.Lines.{has_feed}
+use Rattle.plain_tokens.specs.Lines.{has_feed}
 use Rattle.line_reader.specs.Ahead.{Ahead, with_ahead, ahead_of}
 use Rattle.line_reader.specs.OpenLines.{OpenLines, used, no_lines, line_opened, line_dropped, refusal, buffer_full, byte_spelt, name_dropped, part_dropped, tail_without, part_without, part_in, HoldsNoOther, part_for, part, innermost, first, others, line_changed}
 use Rattle.line_reader.specs.Cuts.{cut, AreCut, lines_of, HasNoFeed, IsSound}

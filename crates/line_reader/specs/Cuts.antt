@@ -1,6 +1,6 @@
 -- How open lines lie in memory: one list of bytes, and where each line begins, innermost first.
 use Rattle.std.specs.Prelude.{◌≡◌, ℕ, ◌+◌, ◌-◌, ◌≤◌, ◌<◌, ◌^◌, false, List, [], ◌∷◌, length, take, drop, reverse, Option, Some, None}
-use Rattle.plain_state.specs.Lines.{has_feed}
+use Rattle.plain_tokens.specs.Lines.{has_feed}
 use Rattle.line_reader.specs.Ahead.{Ahead}
 use Rattle.line_reader.specs.OpenLines.{OpenLines}
 

@@ -1,6 +1,6 @@
 // Where a line ends.
 ghost use Rattle.std.specs.Prelude.{◌≡◌, ◌≤◌, ◌<◌, ◌+◌, ◌^◌, ◌++◌, nat_lt, take, drop, length};
-ghost use Rattle.plain_state.specs.Lines.{before_feed, behind_feed, has_feed, without_last, trimmed};
+ghost use Rattle.plain_tokens.specs.Lines.{before_feed, behind_feed, has_feed, without_last, trimmed};
 
 /// How many bytes stand before the first line feed; all of them where there is none.
 pub fn find_feed(bytes: &[u8]) -> usize

@@ -4,14 +4,15 @@ use Rattle.std.specs.Prelude.{if◌then◌else◌, ◌==◌, ◌&&◌, nat_le}
 use Rattle.std.proofs.lemmas.Bool.{true≢false}
 use Rattle.std.proofs.lemmas.Bool.Decides.{nat_tests}
 use Rattle.std.proofs.lemmas.List.{append-nil}
+use Rattle.tex_syntax.specs.declared.words.Manner.{Manner}
 use Rattle.tex_defs.specs.declared.Token.{Token}
 use Rattle.tex_defs.specs.declared.Token.TheVariants.{Char, Named, Marked, Place, Number, EndPlaces}
 use Rattle.tex_defs.specs.declared.Meaning.{Meaning}
-use Rattle.plain_state.specs.Categories.{begin_group, end_group, parameter}
-use Rattle.plain_state.specs.Tokens.{has_category, means_category}
+use Rattle.plain_tokens.specs.Categories.{begin_group, end_group, parameter}
+use Rattle.plain_tokens.specs.Tokens.{has_category, means_category}
 use Rattle.list_builder.specs.declared.stage.Stage.{Stage}
 use Rattle.list_builder.specs.declared.stage.Stage.TheVariants.{InBody, Reference, Illegal}
-use Rattle.plain_state.specs.Definitions.{Manner, Fed, Tok, Told, Given, Answer, Done, is_parameter, is_number, number_of, is_reference, count_of, with_cell}
+use Rattle.plain_state.specs.Definitions.{Fed, Tok, Told, Given, Answer, Done, is_parameter, is_number, number_of, is_reference, count_of, with_cell}
 use Rattle.list_builder.specs.Plain.{body_of}
 use Rattle.list_builder.specs.Stages.{resume}
 use Rattle.list_builder.specs.Forms.{closes, is_plain, are_plain, is_in_body, are_in_body, IsSeen, IsClean}

@@ -1,15 +1,16 @@
 -- A list that is complete stays so.
 use Rattle.std.proofs.Common.{◌≡◌, ℕ, Bool, true, false, List, [], ◌∷◌, ◌++◌, ◌+◌, ◌-◌, Option, Some, None}
 use Rattle.std.specs.Prelude.{if◌then◌else◌, ◌==◌, nat_le}
+use Rattle.tex_syntax.specs.declared.words.Manner.{Manner}
 use Rattle.tex_defs.specs.declared.Token.{Token}
 use Rattle.tex_defs.specs.declared.Token.TheVariants.{Place, Number, EndPlaces}
-use Rattle.plain_state.specs.Categories.{begin_group, end_group}
-use Rattle.plain_state.specs.Tokens.{has_category, means_category}
+use Rattle.plain_tokens.specs.Categories.{begin_group, end_group}
+use Rattle.plain_tokens.specs.Tokens.{has_category, means_category}
 use Rattle.list_builder.specs.declared.stage.Body.{Body}
 use Rattle.list_builder.specs.declared.stage.Stage.{Stage}
 use Rattle.list_builder.specs.declared.stage.Stage.TheVariants.{First, FirstMissing, Parameters, Misnumbered, Tenth, BodyMissing, InBody, Reference, Illegal}
 use Rattle.list_builder.specs.declared.stage.Stage.TheVariants as stage
-use Rattle.plain_state.specs.Definitions.{Manner, Fed, Tok, Told, Given, Answer, Done, is_parameter, character_of, is_digit, is_number, number_of, is_reference, count_of}
+use Rattle.plain_state.specs.Definitions.{Fed, Tok, Told, Given, Answer, Done, is_parameter, character_of, is_digit, is_number, number_of, is_reference, count_of}
 use Rattle.list_builder.specs.Plain.{body_of}
 use Rattle.list_builder.specs.Stages.{resume}
 

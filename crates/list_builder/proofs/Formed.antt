@@ -3,15 +3,16 @@ use Rattle.std.proofs.Common.{◌≡◌, ℕ, ◌+◌, ◌≤◌, Bool, true, fa
 use Rattle.std.specs.Prelude.{if◌then◌else◌, ◌&&◌, nat_le}
 use Rattle.std.proofs.lemmas.Bool.Decides.{nat_tests}
 use Rattle.std.proofs.lemmas.List.{append-nil}
+use Rattle.tex_syntax.specs.declared.words.Manner.{Manner}
 use Rattle.tex_defs.specs.declared.Token.{Token}
 use Rattle.tex_defs.specs.declared.Token.TheVariants.{Char, Named, Marked, Place, Number, EndPlaces}
 use Rattle.tex_defs.specs.declared.Meaning.{Meaning}
-use Rattle.plain_state.specs.Categories.{begin_group, end_group}
-use Rattle.plain_state.specs.Tokens.{has_category, means_category}
+use Rattle.plain_tokens.specs.Categories.{begin_group, end_group}
+use Rattle.plain_tokens.specs.Tokens.{has_category, means_category}
 use Rattle.list_builder.specs.declared.stage.Stage.{Stage}
 use Rattle.list_builder.specs.declared.stage.Stage.TheVariants.{First, FirstMissing, Parameters, Misnumbered, Tenth, BodyMissing, InBody}
 use Rattle.list_builder.specs.declared.stage.Stage.TheVariants as stage
-use Rattle.plain_state.specs.Definitions.{Manner, Fed, Tok, Told, Given, Done, is_parameter, character_of, is_digit, with_cell}
+use Rattle.plain_state.specs.Definitions.{Fed, Tok, Told, Given, Done, is_parameter, character_of, is_digit, with_cell}
 use Rattle.list_builder.specs.Stages.{resume}
 use Rattle.list_builder.specs.Forms.{closes, is_plain, are_plain, are_in_front, is_place, places, is_in_body, are_in_body, IsBegin, IsMacro, IsText, IsSeen, IsClean}
 use Rattle.list_builder.proofs.Groups.{both, both_left, both_right}

@@ -15,7 +15,6 @@ use Rattle.list_builder.specs.declared.stage.Next.{Next}
 use Rattle.list_builder.specs.declared.stage.Next.TheVariants.{On}
 use Rattle.list_builder.specs.declared.stage.Stage.{Stage}
 use Rattle.list_builder.specs.declared.stage.Step.{Step}
-use Rattle.list_builder.specs.Plain.{manner_of}
 use Rattle.list_builder.specs.Stages.{depth_of, depth_after, cell_count, growth, grown, goes_by}
 use Rattle.list_builder.specs.Stages as stages
 use Rattle.list_builder.specs.Scans.{work_by, work_in, build_holds, IsBuildingIn, OwnsBuild, IsOpen, IsListed, IsSpent, IsSound, IsGrownByPart, answer_of, handed, Goes, IsCutShort}
@@ -74,9 +73,9 @@ module _ (old new : List (Option Entry)) (s : ListScan) (step : Step) (w : Optio
     kept = kept old new s.build sound.building others;
   }
 
-  pub goes_on : (g : Stage) (a : Ask) → step.next ≡ On g → depth_after step.next ≤ depth_of s.stage + growth step → work_by new w ≡ grown step (work_in old s) → ((table : List (Option Entry)) (list : List Token) → answer_of table a list ≡ stages.resume (manner_of s.manner) g list []) → IsOpen a → Goes old new s (record { manner = s.manner; stage = g; build = w }) step a
+  pub goes_on : (g : Stage) (a : Ask) → step.next ≡ On g → depth_after step.next ≤ depth_of s.stage + growth step → work_by new w ≡ grown step (work_in old s) → ((table : List (Option Entry)) (list : List Token) → answer_of table a list ≡ stages.resume s.manner g list []) → IsOpen a → Goes old new s (record { manner = s.manner; stage = g; build = w }) step a
   goes_on g a is shallow list answer opened =
-      let m = manner_of s.manner in
+      let m = s.manner in
       let all = grown step (work_in old s) in
       record {
         answers = answer new (work_by new w) ∙ ap (λ (ts : List Token). stages.resume m g ts []) list ∙ sym (ap (λ (n : Next). goes_by n m all []) is);

@@ -4,12 +4,13 @@ use Rattle.std.specs.Prelude.{◌==◌, ◌&&◌, is_some}
 use Rattle.std.proofs.lemmas.Bool.Decides.{nat_tests}
 use Rattle.std.proofs.lemmas.List.{append-nil}
 use Rattle.std.proofs.lemmas.Option.{same_Some}
+use Rattle.tex_syntax.specs.declared.words.Manner.{Manner}
 use Rattle.tex_defs.specs.declared.Token.{Token}
 use Rattle.tex_defs.specs.declared.Token.TheVariants.{EndPlaces}
 use Rattle.tex_defs.specs.declared.Seen.{Seen}
-use Rattle.plain_state.specs.Categories.{begin_group, end_group}
-use Rattle.plain_state.specs.Tokens.{has_category}
-use Rattle.plain_state.specs.Definitions.{Manner, Fed, Tok, Done, body, parameters, text, definition, is_parameter, is_reference}
+use Rattle.plain_tokens.specs.Categories.{begin_group, end_group}
+use Rattle.plain_tokens.specs.Tokens.{has_category}
+use Rattle.plain_state.specs.Definitions.{Fed, Tok, Done, body, parameters, text, definition, is_parameter, is_reference}
 use Rattle.list_builder.specs.Forms.{closes, fed_with, tokens_of, no_parameters, no_braces, IsBraced}
 use Rattle.list_builder.proofs.Groups.{pick, both_left, both_right, not_true, end_begins_not, no_brace}
 

@@ -1,13 +1,14 @@
 -- What the lists are, said without the reading of them.
 use Rattle.std.specs.Prelude.{◌≡◌, ◌≤◌, ℕ, ◌+◌, ◌-◌, ◌==◌, Bool, true, false, not, ◌&&◌, if◌then◌else◌, List, [], ◌∷◌, ◌++◌, Option, Some, None}
+use Rattle.tex_syntax.specs.declared.words.Manner.{Manner}
 use Rattle.tex_defs.specs.declared.Token.{Token}
 use Rattle.tex_defs.specs.declared.Token.TheVariants.{Char, Named, Marked, Place, Number, EndPlaces}
 use Rattle.tex_defs.specs.declared.Meaning.{Meaning}
 use Rattle.tex_defs.specs.declared.Meaning.TheVariants as means
 use Rattle.tex_defs.specs.declared.Seen.{Seen}
-use Rattle.plain_state.specs.Categories.{begin_group, end_group, is_between}
-use Rattle.plain_state.specs.Tokens.{has_category, means_category}
-use Rattle.plain_state.specs.Definitions.{Manner, Fed, Tok, Told, Given, Done, is_parameter, with_cell, definition, text}
+use Rattle.plain_tokens.specs.Categories.{begin_group, end_group, is_between}
+use Rattle.plain_tokens.specs.Tokens.{has_category, means_category}
+use Rattle.plain_state.specs.Definitions.{Fed, Tok, Told, Given, Done, is_parameter, with_cell, definition, text}
 
 -- GROUPS
 

@@ -1,12 +1,13 @@
 -- Worked rows: what some definitions and texts come to.
 use Rattle.std.specs.Prelude.{◌≡◌, ℕ, ◌+◌, true, false, List, [], ◌∷◌, ◌++◌}
+use Rattle.tex_syntax.specs.declared.words.Want.TheVariants.{Raw, Expanded, Copied, Command}
+use Rattle.tex_syntax.specs.declared.words.Report.TheVariants.{NotConsecutive, AlreadyNine, IllegalNumber, MissingBrace}
+use Rattle.tex_syntax.specs.declared.words.Manner.{Manner}
 use Rattle.tex_defs.specs.declared.Token.{Token}
 use Rattle.tex_defs.specs.declared.Token.TheVariants.{Char, Named, Place, Number, EndPlaces}
 use Rattle.tex_defs.specs.declared.Name.TheVariants.{Single}
 use Rattle.tex_defs.specs.declared.Meaning.TheVariants as means
-use Rattle.plain_state.specs.Tokens.{Raw, Expanded, Copied, Command}
-use Rattle.plain_state.specs.Reports.{NotConsecutive, AlreadyNine, IllegalNumber, MissingBrace}
-use Rattle.plain_state.specs.Definitions.{Manner, Fed, Tok, Told, Given, More, Tells, Done, definition, text}
+use Rattle.plain_state.specs.Definitions.{Fed, Tok, Told, Given, More, Tells, Done, definition, text}
 
 -- a character that is read with this category
 abbrev pub read : (category code : ℕ) → Fed

@@ -11,7 +11,6 @@ use Rattle.list_builder.specs.declared.ask.Ask.TheVariants as ask
 use Rattle.list_builder.specs.declared.scan.ListScan.{ListScan}
 use Rattle.list_builder.specs.declared.stage.Step.{Step}
 use Rattle.plain_state.specs.Definitions.{Fed, Answer, More, Tells, Done}
-use Rattle.list_builder.specs.Plain.{want_of, report_of, manner_of}
 use Rattle.list_builder.specs.Stages as stages
 use Rattle.list_builder.specs.Stages.{depth_of, goes}
 
@@ -22,8 +21,8 @@ cell_tokens table (Some r) = tokens_at table (id_of r)
 
 -- what the answer says, where this list is in work
 abbrev pub answer_of : List (Option Entry) → Ask → List Token → Answer
-answer_of table (ask.More want) work = More (want_of want) work
-answer_of table (ask.Tells report give_back) work = Tells (report_of report) give_back work
+answer_of table (ask.More want) work = More want work
+answer_of table (ask.Tells report give_back) work = Tells report give_back work
 answer_of table (ask.Done cell) work = Done (cell_tokens table cell)
 
 -- the scanner goes on
@@ -86,7 +85,7 @@ pub record IsSound (table : List (Option Entry)) (scan : ListScan) : Type 0 wher
 
 -- what is answered on what is still to come
 abbrev pub resume : List (Option Entry) → ListScan → List Fed → Answer
-resume table scan fed = stages.resume (manner_of scan.manner) scan.stage (work_in table scan) fed
+resume table scan fed = stages.resume scan.manner scan.stage (work_in table scan) fed
 
 -- all lists but one are as they were
 pub record IsOnly (old new : List (Option Entry)) (id : ℕ) : Type 0 where
@@ -115,9 +114,9 @@ pub record IsGrownByPart (old new whole : List Token) : Type 0 where
 
 -- What comes of a step: the answer is what is asked for then, and the scanner stands behind it.
 pub record Goes (old_table new_table : List (Option Entry)) (old new : ListScan) (step : Step) (answer : Ask) : Type 0 where
-  pub answers : answer_of new_table answer (work_in new_table new) ≡ goes step (manner_of old.manner) (work_in old_table old) []
+  pub answers : answer_of new_table answer (work_in new_table new) ≡ goes step old.manner (work_in old_table old) []
   pub sound : IsOpen answer → IsSound new_table new
-  pub same : IsOpen answer → (fed : List Fed) → goes step (manner_of old.manner) (work_in old_table old) fed ≡ resume new_table new fed
+  pub same : IsOpen answer → (fed : List Fed) → goes step old.manner (work_in old_table old) fed ≡ resume new_table new fed
   pub listed : IsListed new_table answer
   pub spent : IsSpent answer new
   pub owns : Owns new_table new

@@ -1,7 +1,8 @@
 -- What a stage of the scanner stands for.
 use Rattle.std.specs.Prelude.{ℕ, ◌+◌, List, Option, Some, None}
+use Rattle.tex_syntax.specs.declared.words.Manner.{Manner}
 use Rattle.tex_defs.specs.declared.Token.{Token}
-use Rattle.list_builder.specs.Plain.{body_of, want_of, report_of}
+use Rattle.list_builder.specs.Plain.{body_of}
 use Rattle.list_builder.specs.declared.ask.Due.{Due}
 use Rattle.list_builder.specs.declared.ask.Due.TheVariants as due
 use Rattle.list_builder.specs.declared.stage.Stage.{Stage}
@@ -9,7 +10,7 @@ use Rattle.list_builder.specs.declared.stage.Stage.TheVariants as stage
 use Rattle.list_builder.specs.declared.stage.Next.{Next}
 use Rattle.list_builder.specs.declared.stage.Next.TheVariants.{On, Finished}
 use Rattle.list_builder.specs.declared.stage.Step.{Step}
-use Rattle.plain_state.specs.Definitions.{Manner, Fed, Answer, More, Tells, Done, with_cell, body, reference, illegal, no_body, parameters, place, tenth, misnumbered, missing, first}
+use Rattle.plain_state.specs.Definitions.{Fed, Answer, More, Tells, Done, with_cell, body, reference, illegal, no_body, parameters, place, tenth, misnumbered, missing, first}
 
 -- what is answered on what is still to come, where this list has been built
 abbrev pub resume : Manner → Stage → List Token → List Fed → Answer
@@ -26,8 +27,8 @@ resume m (stage.Illegal b depth character) list fed = illegal m (body_of b) dept
 
 -- what is due says, where this list has been built
 abbrev pub due_of : Due → List Token → Answer
-due_of (due.More want) list = More (want_of want) list
-due_of (due.Tells report give_back) list = Tells (report_of report) give_back list
+due_of (due.More want) list = More want list
+due_of (due.Tells report give_back) list = Tells report give_back list
 
 -- the groups that are open
 abbrev pub depth_of : Stage → ℕ

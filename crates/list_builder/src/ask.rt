@@ -1,32 +1,6 @@
 // What a scanner asks for.
-use tex_defs::Name;
+use tex_syntax::{Report, Want};
 use token_lists::ListRef;
-
-/// How the next token is read.
-#[derive(Clone, Copy, PartialEq, Eq)]
-pub enum Want {
-    /// As it stands.
-    Raw,
-    /// By expansion.
-    Expanded,
-    /// By expansion; the tokens of a token list behind `\the` are handed over as they are, as a list.
-    Copied,
-    /// By expansion, with spaces and `\relax` skipped.
-    Command,
-}
-
-/// What is reported. *The TeXbook*, chapters 20 and 27.
-#[derive(Clone, Copy, PartialEq, Eq)]
-pub enum Report {
-    /// "Parameters must be numbered consecutively".
-    NotConsecutive,
-    /// "You already have nine parameters".
-    AlreadyNine,
-    /// "Illegal parameter number in definition of \a", with the name that is defined.
-    IllegalNumber(Name),
-    /// "Missing { inserted".
-    MissingBrace,
-}
 
 /// What is due where a scanner stands: a token, or a report.
 #[derive(Clone, Copy, PartialEq, Eq)]

@@ -10,8 +10,9 @@ ghost use Rattle.list_builder.specs.Scans.{resume, work_in, scan_holds, Owns, Is
 
 use crate::ask::Ask;
 use crate::scan::ListScan;
-use crate::stage::{Manner, Stage};
+use crate::stage::Stage;
 use tex_defs::{Full, Name, Seen};
+use tex_syntax::Manner;
 use token_lists::{Build, ListRef, Lists};
 
 /// The scanner that builds a macro's list: the parameter text, its end mark, and the body. *The TeXbook*, chapter 20.

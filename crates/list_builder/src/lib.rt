@@ -12,8 +12,8 @@ mod scan;
 mod stage;
 mod text;
 
-pub use ask::{Ask, Due, Report, Want};
+pub use ask::{Ask, Due};
 pub use def::DefScan;
 pub use laws::{lists_are_formed, lists_end_at_once, plain_lists_are_themselves, worked_lists};
-pub use stage::{Body, Manner, Next, Stage, Step};
+pub use stage::{Body, Next, Stage, Step};
 pub use text::TextScan;

@@ -6,16 +6,16 @@ ghost use Rattle.token_lists.specs.Accounts.{Moves, Keeps, none};
 ghost use Rattle.token_lists.specs.Ids.{id_of, build_id};
 ghost use Rattle.token_lists.specs.Refusals.{IsFull};
 ghost use Rattle.plain_state.specs.Definitions.{Fed, Tok, Told, Given};
-ghost use Rattle.list_builder.specs.Plain.{manner_of};
 ghost use Rattle.list_builder.specs.Stages.{depth_of, depth_after, growth, grown};
 ghost use Rattle.list_builder.specs.Stages as stages;
 ghost use Rattle.list_builder.specs.Scans.{resume, work_in, scan_holds, Owns, IsSound, Goes, Answers, IsCutShort, IsCutInCopy, list_of, answer_of, IsOpen};
 
 use crate::ask::Ask;
 use crate::cells::{abandon, complete, copy, grow};
-use crate::stage::{Manner, Next, Stage, Step};
+use crate::stage::{Next, Stage, Step};
 use std::mem;
 use tex_defs::{Full, Seen};
+use tex_syntax::Manner;
 use token_lists::{Build, ListRef, Lists};
 
 /// A scanner that builds a list.
@@ -35,7 +35,7 @@ impl ListScan {
     pub fn new(lists: &mut Lists, manner: Manner, stage: Stage) -> Result<ListScan, Full>
         requires { depth_of stage ≡ 0 }
         ensures sound { IfOk result (λ scan. IsSound lists.new scan) }
-        ensures stands { IfOk result (λ scan. (fed : List Fed) → resume lists.new scan fed ≡ stages.resume (manner_of manner) stage [] fed) }
+        ensures stands { IfOk result (λ scan. (fed : List Fed) → resume lists.new scan fed ≡ stages.resume manner stage [] fed) }
         ensures account { IfOk result (λ scan. Moves lists.old lists.new none (scan_holds scan)) }
         ensures kept { Keeps lists.old lists.new none }
         ensures err { OnErr result (lists.new ≡ lists.old) }

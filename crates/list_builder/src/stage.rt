@@ -1,26 +1,18 @@
 // Where a scanner stands, apart from its list.
 ghost use Rattle.std.specs.Prelude.{◌≡◌, ◌≤◌, ◌<◌, ◌+◌, ◌^◌, List, [], ◌∷◌, ℕ, Option, None, Some, IfSome, true, false};
+ghost use Rattle.tex_syntax.specs.declared.words.Manner.{Manner};
 ghost use Rattle.list_builder.specs.declared.stage.Next.TheVariants.{On};
 ghost use Rattle.tex_defs.specs.declared.Token.{Token};
 ghost use Rattle.token_lists.specs.Table.{Entry};
-ghost use Rattle.plain_state.specs.Tokens.{has_category, is_other, means_category};
-ghost use Rattle.plain_state.specs.Definitions as plain;
-ghost use Rattle.plain_state.specs.Definitions.{Fed, Tok, Told, body_want, number_want, is_parameter, character_of, is_number, number_of, is_reference, first, parameters, place, body, reference};
-ghost use Rattle.list_builder.specs.Plain.{manner_of, body_of};
+ghost use Rattle.plain_tokens.specs.Tokens.{has_category, is_other, means_category};
+ghost use Rattle.plain_state.specs.Definitions.{Fed, Tok, Told, is_parameter, character_of, is_number, number_of, is_reference, first, parameters, place, body, reference};
+ghost use Rattle.list_builder.specs.Plain.{body_of};
 ghost use Rattle.list_builder.specs.Stages.{resume, depth_of, due_of, IsReport, IsTelling, TellsNext, goes, depth_after, growth};
 ghost use Rattle.list_builder.specs.Scans.{answer_of, IsOpen};
 
-use crate::ask::{Ask, Due, Report, Want};
-use tex_defs::{Meaning, Name, Seen, Token};
-
-/// How a list is read, from its first token to its last.
-#[derive(Clone, Copy)]
-pub struct Manner {
-    /// The name that is defined, which a report tells; the empty one for a text.
-    pub name: Name,
-    /// Whether the body is expanded.
-    pub expanded: bool,
-}
+use crate::ask::{Ask, Due};
+use tex_defs::{Meaning, Seen, Token};
+use tex_syntax::{Manner, Report, Want};
 
 /// What a body is, that of a macro or that of a balanced text.
 #[derive(Clone, Copy)]
@@ -186,7 +178,7 @@ impl Stage {
 
     /// What is due: a token, or a report.
     pub fn due(self, manner: Manner) -> Due
-        ensures answer { (list : List Token) → due_of result list ≡ resume (manner_of manner) self list [] }
+        ensures answer { (list : List Token) → due_of result list ≡ resume manner self list [] }
         ensures tells { IsReport result → IsTelling self }
     {
         match self {
@@ -206,7 +198,7 @@ impl Stage {
 
     /// What it asks for: a token, or a report.
     pub fn ask(self, manner: Manner) -> Ask
-        ensures answer { (table : List (Option Entry)) (list : List Token) → answer_of table result list ≡ resume (manner_of manner) self list [] }
+        ensures answer { (table : List (Option Entry)) (list : List Token) → answer_of table result list ≡ resume manner self list [] }
         ensures goes_on { IsOpen result }
     {
         match self.due(manner) {
@@ -217,7 +209,7 @@ impl Stage {
 
     // In front of a text's first brace.
     fn took_first(x: Seen) -> Step
-        ensures takes { (m : plain.Manner) (list : List Token) (fed : List Fed) → first m list (Tok x ∷ fed) ≡ goes result m list fed }
+        ensures takes { (m : Manner) (list : List Token) (fed : List Fed) → first m list (Tok x ∷ fed) ≡ goes result m list fed }
         ensures shallow { depth_after result.next ≡ 0 }
     {
         if means_category(x.meaning, 1) {
@@ -232,7 +224,7 @@ impl Stage {
 
     // In a parameter text.
     fn took_parameters(count: u8, x: Seen) -> Step
-        ensures takes { (m : plain.Manner) (list : List Token) (fed : List Fed) → parameters m count list (Tok x ∷ fed) ≡ goes result m list fed }
+        ensures takes { (m : Manner) (list : List Token) (fed : List Fed) → parameters m count list (Tok x ∷ fed) ≡ goes result m list fed }
         ensures shallow { depth_after result.next ≡ 0 }
     {
         if has_category(x.token, 1) {
@@ -253,7 +245,7 @@ impl Stage {
 
     // Behind a parameter character of a parameter text.
     fn took_place(count: u8, character: u8, y: Seen) -> Step
-        ensures takes { (m : plain.Manner) (list : List Token) (fed : List Fed) → place m count character list (Tok y ∷ fed) ≡ goes result m list fed }
+        ensures takes { (m : Manner) (list : List Token) (fed : List Fed) → place m count character list (Tok y ∷ fed) ≡ goes result m list fed }
         ensures shallow { depth_after result.next ≡ 0 }
     {
         if has_category(y.token, 1) {
@@ -279,7 +271,7 @@ impl Stage {
     // In a body.
     fn took_body(inside: Body, depth: usize, x: Seen) -> Step
         requires { depth + 1 < 2 ^ 64 }
-        ensures takes { (m : plain.Manner) (list : List Token) (fed : List Fed) → body m (body_of inside) depth list (Tok x ∷ fed) ≡ goes result m list fed }
+        ensures takes { (m : Manner) (list : List Token) (fed : List Fed) → body m (body_of inside) depth list (Tok x ∷ fed) ≡ goes result m list fed }
         ensures shallow { depth_after result.next ≤ depth + growth result }
     {
         if has_category(x.token, 1) {
@@ -303,7 +295,7 @@ impl Stage {
 
     // Behind a parameter character of a macro's body.
     fn took_reference(inside: Body, depth: usize, character: Token, y: Seen) -> Step
-        ensures takes { (m : plain.Manner) (list : List Token) (fed : List Fed) → reference m (body_of inside) depth character list (Tok y ∷ fed) ≡ goes result m list fed }
+        ensures takes { (m : Manner) (list : List Token) (fed : List Fed) → reference m (body_of inside) depth character list (Tok y ∷ fed) ≡ goes result m list fed }
         ensures shallow { depth_after result.next ≡ depth }
     {
         if is_parameter(y) {
@@ -322,7 +314,7 @@ impl Stage {
     /// What a token comes to. Where a report is due it comes to nothing. Fewer than 2^64 - 1 groups are open in the body.
     pub fn took(self, x: Seen) -> Step
         requires { depth_of self + 1 < 2 ^ 64 }
-        ensures takes { (m : plain.Manner) (list : List Token) (fed : List Fed) → resume m self list (Tok x ∷ fed) ≡ goes result m list fed }
+        ensures takes { (m : Manner) (list : List Token) (fed : List Fed) → resume m self list (Tok x ∷ fed) ≡ goes result m list fed }
         ensures shallow { depth_after result.next ≤ depth_of self + growth result }
     {
         match self {
@@ -343,7 +335,7 @@ impl Stage {
 
     /// What the note comes to that the report was written. Where none was due it comes to nothing.
     pub fn told(self) -> Step
-        ensures takes { (m : plain.Manner) (list : List Token) (fed : List Fed) → resume m self list (Told ∷ fed) ≡ goes result m list fed }
+        ensures takes { (m : Manner) (list : List Token) (fed : List Fed) → resume m self list (Told ∷ fed) ≡ goes result m list fed }
         ensures shallow { depth_after result.next ≤ depth_of self + growth result }
         ensures no_deeper { depth_after result.next ≤ depth_of self }
         ensures one { result.second ≡ None }

@@ -11,8 +11,9 @@ ghost use Rattle.list_builder.specs.Scans.{resume, work_in, scan_holds, Owns, Is
 
 use crate::ask::Ask;
 use crate::scan::ListScan;
-use crate::stage::{Manner, Stage};
+use crate::stage::Stage;
 use tex_defs::{Full, Name, Seen};
+use tex_syntax::Manner;
 use token_lists::{Build, ListRef, Lists};
 
 /// The scanner that builds the list of a balanced text. *The TeXbook*, chapters 20 and 24 (general text).

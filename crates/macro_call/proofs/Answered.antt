@@ -11,7 +11,7 @@ use Rattle.token_lists.specs.Table.{Entry, tokens_at, holders_at}
 use Rattle.token_lists.specs.Accounts.{Moves, Keeps, none}
 use Rattle.macro_call.specs.declared.par_mode.ParMode.{ParMode}
 use Rattle.macro_call.specs.declared.par_mode.ParMode.TheVariants.{Short}
-use Rattle.plain_state.specs.Arguments.{Fed, Tok, Ended, arguments, is_checked, work_in, case_at}
+use Rattle.plain_tokens.specs.Arguments.{Fed, Tok, Ended, arguments, is_checked, work_in, case_at}
 use Rattle.macro_call.specs.declared.cursor.Cursor.{Cursor}
 use Rattle.macro_call.specs.declared.present.Present.{Present}
 use Rattle.macro_call.specs.declared.present.Step.{Step}

@@ -2,7 +2,7 @@
 use Rattle.std.proofs.Common.{◌≡◌, ◌≢◌, List, [], ◌∷◌, ◌++◌, refl, sym, ap, ◌∙◌, Bool, true, false, ◌&&◌}
 use Rattle.std.proofs.lemmas.Bool.{and_parts, and_from, true≢false}
 use Rattle.tex_defs.specs.declared.Token.{Token}
-use Rattle.plain_state.specs.Arguments.{is_begin, is_end, is_balanced, without_last, ends_in_brace, is_group, without_braces}
+use Rattle.plain_tokens.specs.Arguments.{is_begin, is_end, is_balanced, without_last, ends_in_brace, is_group, without_braces}
 use Rattle.macro_call.specs.ArgumentLaws.{OneGroupLosesBraces}
 
 pub without_last_on : (t : List Token) (x : Token) → without_last (t ++ x ∷ []) ≡ t

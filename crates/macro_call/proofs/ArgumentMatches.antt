@@ -4,7 +4,7 @@ use Rattle.std.specs.Prelude.{◌==◌, if◌then◌else◌}
 use Rattle.std.proofs.lemmas.List.{take_at, drop_at, take-append-drop}
 use Rattle.std.proofs.lemmas.Bool.{and_parts, and_from, eqb-true, true≢false, false_from_ne_true}
 use Rattle.tex_defs.specs.declared.Token.{Token}
-use Rattle.plain_state.specs.Arguments.{same, is_end, open_behind, open_after, all_close, is_balanced, is_prefix, are_same, partial, unmatched, is_delimited}
+use Rattle.plain_tokens.specs.Arguments.{same, is_end, open_behind, open_after, all_close, is_balanced, is_prefix, are_same, partial, unmatched, is_delimited}
 use Rattle.macro_call.proofs.ArgumentTokens.{same_true, are_same_true, are_same_refl, prefix_refl}
 
 -- the list is what is unmatched and the partial match

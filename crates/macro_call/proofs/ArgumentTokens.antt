@@ -9,7 +9,7 @@ use Rattle.tex_defs.specs.declared.Name.TheVariants.{Active, Single, Empty, Word
 use Rattle.tex_defs.specs.declared.Name.TheVariants as name
 use Rattle.tex_defs.specs.declared.Frozen.{Frozen}
 use Rattle.tex_defs.specs.declared.Frozen.TheVariants.{Relax, Fi, EndGroup, EndWrite, Inaccessible, Unknown}
-use Rattle.plain_state.specs.Arguments.{frozen_number, same_name, same, is_prefix, are_same, is_begin, is_end, is_par}
+use Rattle.plain_tokens.specs.Arguments.{frozen_number, same_name, same, is_prefix, are_same, is_begin, is_end, is_par}
 
 no : {A : Type 0} → false ≡ true → A
 no h = absurd (true≢false (sym h))

@@ -9,8 +9,8 @@ use Rattle.token_lists.specs.Ids.{build_id}
 use Rattle.token_lists.specs.Table.{Entry, entry_at, tokens_of, tokens_at, holders_at, holders_of, empty}
 use Rattle.macro_call.specs.declared.par_mode.ParMode.{ParMode}
 use Rattle.macro_call.specs.Modes.{par_mode}
-use Rattle.plain_state.specs.Arguments.{begins_with_place, Fed, gathering}
-use Rattle.plain_state.specs.Arguments as plain
+use Rattle.plain_tokens.specs.Arguments.{begins_with_place, Fed, gathering}
+use Rattle.plain_tokens.specs.Arguments as plain
 use Rattle.macro_args.specs.declared.args.Args.{Args}
 use Rattle.macro_call.specs.declared.cursor.Cursor.{Cursor}
 use Rattle.macro_call.specs.declared.present.Present.{Present}

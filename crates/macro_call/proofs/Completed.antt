@@ -7,7 +7,7 @@ use Rattle.token_lists.specs.declared.ListRef.{ListRef}
 use Rattle.token_lists.specs.Ids.{id_of, build_id, IsBuilding}
 use Rattle.token_lists.specs.Table.{Entry, tokens_of, tokens_at, places_of, holders_at, holders_of}
 use Rattle.token_lists.specs.Accounts.{Moves, Covers, Keeps, holds, cell_holds}
-use Rattle.plain_state.specs.Arguments.{delimiters_of}
+use Rattle.plain_tokens.specs.Arguments.{delimiters_of}
 use Rattle.macro_args.specs.declared.args.Args.{Args}
 use Rattle.macro_call.specs.declared.cursor.Cursor.{Cursor}
 use Rattle.macro_call.specs.declared.present.Present.{Present}

@@ -5,7 +5,7 @@ use Rattle.std.proofs.lemmas.Bool.{true≢false}
 use Rattle.std.proofs.lemmas.Option.{same_Some, none-some}
 use Rattle.tex_defs.specs.declared.Token.{Token}
 use Rattle.tex_defs.specs.declared.Token.TheVariants.{Char, Named, Marked, Place, Number, EndPlaces}
-use Rattle.plain_state.specs.Arguments.{start_of, delimiters_of}
+use Rattle.plain_tokens.specs.Arguments.{start_of, delimiters_of}
 use Rattle.macro_call.specs.Cursors.{is_mark}
 
 -- the token at an index and what is behind it

@@ -10,7 +10,7 @@ use Rattle.token_lists.specs.declared.ListRef.{ListRef}
 use Rattle.token_lists.specs.Ids.{id_of, build_id, IsBuilding}
 use Rattle.token_lists.specs.Table.{Entry, entry_at, tokens_of, tokens_at, places_of, holders_of, holders_at, empty}
 use Rattle.token_lists.specs.Accounts.{Moves, Covers, none, holds, cell_holds, cells_hold}
-use Rattle.plain_state.specs.Arguments.{start_of, Fed, More, search, behind, arguments, work_in}
+use Rattle.plain_tokens.specs.Arguments.{start_of, Fed, More, search, behind, arguments, work_in}
 use Rattle.macro_call.proofs.ArgumentRuns.{arguments_behind}
 use Rattle.macro_args.specs.declared.args.Args.{Args}
 use Rattle.macro_call.specs.declared.cursor.Cursor.{Cursor}

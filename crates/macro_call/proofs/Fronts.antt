@@ -4,7 +4,7 @@ use Rattle.std.specs.Prelude.{◌==◌, if◌then◌else◌}
 use Rattle.std.proofs.lemmas.Bool.{eq-eqb, ne_eqb}
 use Rattle.std.proofs.lemmas.List.{append-nil}
 use Rattle.tex_defs.specs.declared.Token.{Token}
-use Rattle.plain_state.specs.Arguments.{same, is_begin, is_end, open_behind, is_prefix, partial, unmatched}
+use Rattle.plain_tokens.specs.Arguments.{same, is_begin, is_end, open_behind, is_prefix, partial, unmatched}
 
 -- one token more of a front that is compared with the delimiter
 pub prefix_step : (k n : ℕ) (ps qs met wanted : List Token) (a b x : Token) → k ≡ n + 1 → ps ≡ a ∷ met → qs ≡ b ∷ wanted →

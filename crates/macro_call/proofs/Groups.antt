@@ -3,7 +3,7 @@ use Rattle.std.proofs.Common.{◌≡◌, ℕ, zero, suc, ◌+◌, ◌-◌, ◌�
 use Rattle.std.specs.Prelude.{◌==◌, if◌then◌else◌}
 use Rattle.std.proofs.lemmas.Bool.{eq-eqb, ne_eqb, cases_eq, true≢false}
 use Rattle.tex_defs.specs.declared.Token.{Token}
-use Rattle.plain_state.specs.Arguments.{is_begin, is_end, open_behind, open_after, all_close, without_last, ends_in_brace, is_group, without_braces}
+use Rattle.plain_tokens.specs.Arguments.{is_begin, is_end, open_behind, open_after, all_close, without_last, ends_in_brace, is_group, without_braces}
 use Rattle.macro_call.proofs.ArgumentTokens.{no_both}
 use Rattle.macro_call.specs.Braces.{closes_last}
 

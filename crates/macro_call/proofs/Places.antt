@@ -7,7 +7,7 @@ use Rattle.std.proofs.Math.Seq.{take-nil}
 use Rattle.tex_defs.specs.declared.Token.{Token}
 use Rattle.tex_defs.specs.declared.Token.TheVariants.{Place}
 use Rattle.token_lists.specs.Table.{Entry}
-use Rattle.plain_state.specs.Arguments.{start_of, delimiters_of, is_nil, is_some_place}
+use Rattle.plain_tokens.specs.Arguments.{start_of, delimiters_of, is_nil, is_some_place}
 use Rattle.macro_args.specs.declared.args.Args.{Args}
 use Rattle.macro_args.specs.Args.{cell_tokens, args_in, IsFilled}
 use Rattle.macro_call.specs.declared.cursor.Cursor.{Cursor}

@@ -8,8 +8,8 @@ use Rattle.token_lists.specs.Ids.{build_id, IsBuilding}
 use Rattle.token_lists.specs.Table.{Entry}
 use Rattle.token_lists.specs.Accounts.{Moves, none, holds}
 use Rattle.macro_call.specs.declared.par_mode.ParMode.{ParMode}
-use Rattle.plain_state.specs.Arguments.{start_of, delimiters_of, unmatched, Case, Argument, Fed, Tok, Cut, Settled, Answer, search, behind, call, case_at, in_work, More, sought, arguments_in, work_in}
-use Rattle.plain_state.specs.Arguments as plain
+use Rattle.plain_tokens.specs.Arguments.{start_of, delimiters_of, unmatched, Case, Argument, Fed, Tok, Cut, Settled, Answer, search, behind, call, case_at, in_work, More, sought, arguments_in, work_in}
+use Rattle.plain_tokens.specs.Arguments as plain
 use Rattle.macro_call.proofs.ArgumentRuns.{search_at, found_after}
 use Rattle.macro_call.specs.declared.present.Present.{Present}
 use Rattle.macro_call.specs.declared.scan.ArgScan.{ArgScan}

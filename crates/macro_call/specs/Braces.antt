@@ -1,7 +1,7 @@
 -- The outer braces of an argument.
 use Rattle.std.specs.Prelude.{ℕ, Bool, false, if◌then◌else◌, ◌==◌, List, [], ◌∷◌}
 use Rattle.tex_defs.specs.declared.Token.{Token}
-use Rattle.plain_state.specs.Arguments.{open_behind, is_nil}
+use Rattle.plain_tokens.specs.Arguments.{open_behind, is_nil}
 
 -- where n groups are open in front: none is open behind the last token, and some behind each token before it
 abbrev pub closes_last : ℕ → List Token → Bool

@@ -4,7 +4,7 @@ use Rattle.tex_defs.specs.declared.Token.{Token}
 use Rattle.tex_defs.specs.declared.Token.TheVariants.{Place, EndPlaces}
 use Rattle.token_lists.specs.Table.{Entry, tokens_at}
 use Rattle.token_lists.specs.Accounts.{IsReading}
-use Rattle.plain_state.specs.Arguments.{start_of, delimiters_of, begins_with_place}
+use Rattle.plain_tokens.specs.Arguments.{start_of, delimiters_of, begins_with_place}
 use Rattle.macro_call.specs.declared.cursor.Cursor.{Cursor}
 
 -- the cursor is at a token of the list, or behind the last

@@ -1,7 +1,7 @@
 -- What goes into the list in work, by the answers before and after a token.
 use Rattle.std.specs.Prelude.{List, [], ◌∷◌, length, drop, Option, unwrap_or}
 use Rattle.tex_defs.specs.declared.Token.{Token}
-use Rattle.plain_state.specs.Arguments.{Answer, arguments_in, work_in}
+use Rattle.plain_tokens.specs.Arguments.{Answer, arguments_in, work_in}
 
 -- by the arguments that are whole now and weren't: the list in work became the first, or else the next list in work
 abbrev pub target_by : (complete : List (List Token)) → (work : Option (List Token)) → List Token

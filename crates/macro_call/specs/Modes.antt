@@ -1,6 +1,6 @@
 -- How a call takes a `\par`, as the definition of arguments has it.
 use Rattle.std.specs.Prelude.{Bool, true, false}
-use Rattle.plain_state.specs.Arguments.{ParMode, Long, Short, Checked}
+use Rattle.plain_tokens.specs.Arguments.{ParMode, Long, Short, Checked}
 use Rattle.macro_call.specs.declared.par_mode.ParMode as code
 use Rattle.macro_call.specs.declared.par_mode.ParMode.TheVariants as code_mode
 

@@ -3,9 +3,9 @@ use Rattle.std.specs.Prelude.{◌≡◌, ℕ, true, false, List, [], ◌∷◌, 
 use Rattle.tex_defs.specs.declared.Token.{Token}
 use Rattle.tex_defs.specs.declared.Token.TheVariants.{Char, Named, Place, EndPlaces}
 use Rattle.tex_defs.specs.declared.Name.TheVariants.{Word}
-use Rattle.plain_state.specs.Names.{par_primitive}
+use Rattle.plain_tokens.specs.Names.{par_primitive}
 use Rattle.macro_call.specs.Growths.{growth_of}
-use Rattle.plain_state.specs.Arguments.{Long, Short, Fed, Tok, Cut, Settled, More, ExtraBraceFound, Called, Ended, gathering}
+use Rattle.plain_tokens.specs.Arguments.{Long, Short, Fed, Tok, Cut, Settled, More, ExtraBraceFound, Called, Ended, gathering}
 
 abbrev pub letter : ℕ → Token
 letter code = Char 11 code

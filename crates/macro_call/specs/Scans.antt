@@ -5,7 +5,7 @@ use Rattle.token_lists.specs.Table.{Entry, holders_at, tokens_at}
 use Rattle.token_lists.specs.Accounts.{Covers, Moves, Keeps}
 use Rattle.token_lists.specs.Ids.{build_id, IsBuilding}
 use Rattle.macro_call.specs.declared.par_mode.ParMode.{ParMode}
-use Rattle.plain_state.specs.Arguments.{Fed, Tok, Answer, More, ExtraBraceFound, Called, Mismatch, Ended, case_at, arguments, arguments_in, work_in}
+use Rattle.plain_tokens.specs.Arguments.{Fed, Tok, Answer, More, ExtraBraceFound, Called, Mismatch, Ended, case_at, arguments, arguments_in, work_in}
 use Rattle.macro_args.specs.declared.args.Args.{Args}
 use Rattle.macro_call.specs.declared.cursor.Cursor.{Cursor}
 use Rattle.macro_call.specs.declared.present.Present.{Present}

@@ -3,7 +3,7 @@ use Rattle.std.specs.Prelude.{◌≡◌, ℕ, ◌+◌, ◌<◌, ◌≤◌, true,
 use Rattle.tex_defs.specs.declared.Token.{Token}
 use Rattle.token_lists.specs.Table.{Entry, tokens_at}
 use Rattle.token_lists.specs.Ids.{build_id}
-use Rattle.plain_state.specs.Arguments.{is_begin, open_after, all_close, partial, unmatched, in_work, Case, Argument, ExtraBrace, ParEnded, Skipped, Going}
+use Rattle.plain_tokens.specs.Arguments.{is_begin, open_after, all_close, partial, unmatched, in_work, Case, Argument, ExtraBrace, ParEnded, Skipped, Going}
 use Rattle.macro_call.specs.declared.present.Present.{Present}
 use Rattle.macro_call.specs.declared.present.Step.{Step}
 use Rattle.macro_call.specs.declared.present.Step.TheVariants as step

@@ -3,7 +3,7 @@ ghost use Rattle.std.specs.Prelude.{◌≡◌, length};
 ghost use Rattle.token_lists.specs.Table.{tokens_at};
 ghost use Rattle.token_lists.specs.Accounts.{Moves, none};
 ghost use Rattle.token_lists.specs.Ids.{build_id, IsBuilding};
-ghost use Rattle.plain_state.specs.Arguments.{is_group, without_braces};
+ghost use Rattle.plain_tokens.specs.Arguments.{is_group, without_braces};
 ghost use Rattle.macro_call.specs.Braces.{closes_last};
 ghost use Rattle.macro_call.specs.Cursors.{IsOn, rest_at};
 ghost use Rattle.macro_call.specs.Tables.{IsOnly};

@@ -2,7 +2,7 @@
 ghost use Rattle.std.specs.Prelude.{◌≡◌, ◌<◌, [], ℕ, length, Some};
 ghost use Rattle.token_lists.specs.Table.{IsHeld};
 ghost use Rattle.token_lists.specs.Ids.{id_of, build_id};
-ghost use Rattle.plain_state.specs.Arguments.{delimiters_of};
+ghost use Rattle.plain_tokens.specs.Arguments.{delimiters_of};
 ghost use Rattle.macro_call.specs.Cursors.{IsOn, IsSomewhere, Steps, StepsAlong, StepsPlace, delimiter_at, rest_at, is_mark};
 
 use mem_words::Place;

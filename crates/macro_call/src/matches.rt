@@ -1,7 +1,7 @@
 // Partial matches of a delimiter.
 ghost use Rattle.std.specs.Prelude.{◌≡◌, ◌+◌, ◌<◌, ◌≤◌, ◌^◌, ◌++◌, ◌∷◌, [], length, take, drop};
 ghost use Rattle.token_lists.specs.Ids.{id_of};
-ghost use Rattle.plain_state.specs.Arguments.{is_prefix, partial, unmatched, open_behind};
+ghost use Rattle.plain_tokens.specs.Arguments.{is_prefix, partial, unmatched, open_behind};
 ghost use Rattle.macro_call.specs.Cursors.{IsOn, delimiter_at};
 
 use crate::cursor::Cursor;

@@ -1,6 +1,6 @@
 // How a macro call takes `\par`.
 ghost use Rattle.std.specs.Prelude.{◌≡◌};
-ghost use Rattle.plain_state.specs.Arguments.{is_short, is_checked};
+ghost use Rattle.plain_tokens.specs.Arguments.{is_short, is_checked};
 ghost use Rattle.macro_call.specs.Modes.{par_mode};
 
 /// Whether a `\par` may stand in the arguments of a call. *The TeXbook*, chapter 20 (`\long`).

@@ -7,7 +7,7 @@ ghost use Rattle.macro_args.specs.Args.{cell_tokens};
 ghost use Rattle.macro_call.specs.Holds.{present_holds};
 ghost use Rattle.token_lists.specs.Ids.{id_of, build_id, IsBuilding};
 ghost use Rattle.token_lists.specs.Refusals.{IsFull};
-ghost use Rattle.plain_state.specs.Arguments.{is_end, delimited_case, undelimited_case, case_at};
+ghost use Rattle.plain_tokens.specs.Arguments.{is_end, delimited_case, undelimited_case, case_at};
 ghost use Rattle.macro_call.specs.Cursors.{IsOn, delimiter_at, rest_at};
 ghost use Rattle.macro_call.specs.Modes.{par_mode};
 ghost use Rattle.macro_call.specs.Stages.{stage_of, kept_in, read_in, gained, IsSamePoint, Stands, StandsAt, StandsPlain, Releases, Took};

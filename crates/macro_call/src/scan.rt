@@ -5,7 +5,7 @@ ghost use Rattle.token_lists.specs.Table.{Entry, tokens_at, IsHeld};
 ghost use Rattle.token_lists.specs.Accounts.{Moves, Keeps, none};
 ghost use Rattle.token_lists.specs.Ids.{id_of, build_id};
 ghost use Rattle.token_lists.specs.Refusals.{IsFull};
-ghost use Rattle.plain_state.specs.Arguments.{start_of, delimiters_of, begins_with_place, gathering, Fed, Tok, Cut, Settled};
+ghost use Rattle.plain_tokens.specs.Arguments.{start_of, delimiters_of, begins_with_place, gathering, Fed, Tok, Cut, Settled};
 ghost use Rattle.macro_args.specs.Args.{IsFilled};
 ghost use Rattle.macro_call.specs.Cursors.{IsOn, delimiter_at};
 ghost use Rattle.macro_call.specs.Modes.{mode_of};

@@ -1,7 +1,7 @@
 // What a token is to the matching of arguments.
 ghost use Rattle.std.specs.Prelude.{◌≡◌};
-ghost use Rattle.plain_state.specs.Arguments.{same, is_begin, is_end, is_par};
-ghost use Rattle.plain_state.specs.Tokens.{is_space_token};
+ghost use Rattle.plain_tokens.specs.Arguments.{same, is_begin, is_end, is_par};
+ghost use Rattle.plain_tokens.specs.Tokens.{is_space_token};
 
 use tex_defs::{Name, Token};
 

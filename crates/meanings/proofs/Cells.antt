@@ -9,7 +9,7 @@ use Rattle.token_lists.specs.declared.ListRef.{ListRef}
 use Rattle.tex_defs.specs.declared.Name.{Name}
 use Rattle.token_lists.specs.Table.{Entry, holders_at, IsHeld}
 use Rattle.token_lists.specs.Accounts.{Keeps, holds}
-use Rattle.plain_state.specs.Meanings.{location, set_at}
+use Rattle.plain_tokens.specs.Meanings.{location, set_at}
 use Rattle.meanings.specs.Map.{Map, numbered, all_numbered, defined, IsPlaced, IsAssignable}
 use Rattle.meanings.specs.Holding.{meaning_holds, list_holds, cells_hold}
 

@@ -11,7 +11,7 @@ use Rattle.tex_defs.specs.declared.Name.{Name}
 use Rattle.tex_defs.specs.declared.Name.TheVariants as name
 use Rattle.tex_defs.specs.declared.Meaning.{Meaning}
 use Rattle.tex_defs.specs.declared.Meaning.TheVariants as means
-use Rattle.plain_state.specs.Meanings.{location, fixed_meaning, looked_up}
+use Rattle.plain_tokens.specs.Meanings.{location, fixed_meaning, looked_up}
 use Rattle.meanings.specs.Map.{Map, meaning_of}
 use Rattle.meanings.specs.Holding.{held, list_of, list_holds, meaning_holds, cells_hold}
 use Rattle.meanings.specs.Laws.{OthersLeaveMeanings, HeldWithinLocations}

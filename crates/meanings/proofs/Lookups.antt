@@ -10,8 +10,8 @@ use Rattle.token_lists.specs.declared.ListRef.{ListRef}
 use Rattle.tex_defs.specs.declared.Name.TheVariants as name
 use Rattle.tex_defs.specs.declared.Meaning.{Meaning}
 use Rattle.tex_defs.specs.declared.Meaning.TheVariants as means
-use Rattle.plain_state.specs.Names.{is_known}
-use Rattle.plain_state.specs.Meanings.{fixed_locations, location, fixed_meaning, looked_up, set_at, first_meaning, first_meanings, primitive_count}
+use Rattle.plain_tokens.specs.Names.{is_known}
+use Rattle.plain_tokens.specs.Meanings.{fixed_locations, location, fixed_meaning, looked_up, set_at, first_meaning, first_meanings, primitive_count}
 use Rattle.meanings.specs.Map.{meaning_of, first_map, numbered, all_numbered, IsPlaced}
 use Rattle.meanings.specs.Laws.{LocationsDiffer, OneNameChanges, EnteringDefinesNothing, FirstMeanings}
 

@@ -8,8 +8,8 @@ use Rattle.token_lists.specs.Accounts.{Covers, Keeps, Moves}
 use Rattle.token_lists.specs.Codes.{IsName}
 use Rattle.token_lists.specs.Table.{Entry, tokens_at}
 use Rattle.prim_table.specs.Primitives.{primitive_name}
-use Rattle.plain_state.specs.Names.{relax_primitive, is_known}
-use Rattle.plain_state.specs.Meanings.{location, end_group_primitive, fi_primitive, first_meaning, first_meanings}
+use Rattle.plain_tokens.specs.Names.{relax_primitive, is_known}
+use Rattle.plain_tokens.specs.Meanings.{location, end_group_primitive, fi_primitive, first_meaning, first_meanings}
 use Rattle.meanings.specs.Holding.{held, list_of}
 use Rattle.meanings.specs.Map.{Map, meaning_of, defined, entered, first_map, IsAssignable}
 

@@ -6,8 +6,8 @@ use Rattle.tex_defs.specs.declared.Meaning.{Meaning}
 use Rattle.tex_defs.specs.declared.Meaning.TheVariants as means
 use Rattle.token_lists.specs.declared.ListRef.{ListRef}
 use Rattle.token_lists.specs.Ids.{id_of}
-use Rattle.plain_state.specs.Names.{is_known}
-use Rattle.plain_state.specs.Meanings.{fixed_locations, location, name_meaning, assigned, first_meanings}
+use Rattle.plain_tokens.specs.Names.{is_known}
+use Rattle.plain_tokens.specs.Meanings.{fixed_locations, location, name_meaning, assigned, first_meanings}
 
 -- the meanings by their locations, and how many names of two or more characters may be entered
 pub record Map : Type 0 where

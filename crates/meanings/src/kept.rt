@@ -3,8 +3,8 @@ ghost use Rattle.std.specs.Prelude.{◌≡◌, ◌+◌, ◌<◌, ◌^◌, IfSome
 ghost use Rattle.token_lists.specs.Table.{IsHeld, holders_at};
 ghost use Rattle.token_lists.specs.Accounts.{Moves, Keeps, none};
 ghost use Rattle.token_lists.specs.Ids.{id_of};
-ghost use Rattle.plain_state.specs.Names.{is_known};
-ghost use Rattle.plain_state.specs.Meanings.{seen_as, first_meaning};
+ghost use Rattle.plain_tokens.specs.Names.{is_known};
+ghost use Rattle.plain_tokens.specs.Meanings.{seen_as, first_meaning};
 ghost use Rattle.meanings.specs.Map.{numbered, numbered_list, without_list};
 ghost use Rattle.meanings.specs.Holding.{list_of, list_holds, meaning_holds, with_holder, without_holder, Lasts};
 

@@ -1,6 +1,6 @@
 // Where the meaning of each name is kept.
 ghost use Rattle.std.specs.Prelude.{◌≡◌};
-ghost use Rattle.plain_state.specs.Meanings.{location, fixed_meaning, frozen_meaning, seen_as};
+ghost use Rattle.plain_tokens.specs.Meanings.{location, fixed_meaning, frozen_meaning, seen_as};
 
 use tex_defs::{Frozen, Meaning, Name};
 

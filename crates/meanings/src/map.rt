@@ -5,8 +5,8 @@ ghost use Rattle.tex_defs.specs.declared.Meaning.TheVariants.{Undefined};
 ghost use Rattle.token_lists.specs.Table.{holders_at};
 ghost use Rattle.token_lists.specs.Accounts.{Moves, Covers, Keeps, none};
 ghost use Rattle.token_lists.specs.Ids.{id_of};
-ghost use Rattle.plain_state.specs.Names.{is_known};
-ghost use Rattle.plain_state.specs.Meanings.{fixed_locations, fixed_meaning, seen_as, seen, first_meaning, primitive_count};
+ghost use Rattle.plain_tokens.specs.Names.{is_known};
+ghost use Rattle.plain_tokens.specs.Meanings.{fixed_locations, fixed_meaning, seen_as, seen, first_meaning, primitive_count};
 ghost use Rattle.meanings.specs.Map.{first_map, meaning_of, defined, entered, HasRoom, IsAssignable, numbered, all_numbered};
 ghost use Rattle.meanings.specs.Holding.{held, cells_hold, list_of, meaning_holds, with_holder, without_holder, Lasts};
 
@@ -33,7 +33,7 @@ pub struct Meanings {
 // Clauses see the meanings by their locations, each with the number of its list, and how many names may be entered.
 impl Model for Meanings {
     ghost use Rattle.std.specs.Prelude.{◌+◌, ◌≤◌, vec_capacity};
-    ghost use Rattle.plain_state.specs.Meanings.{fixed_locations};
+    ghost use Rattle.plain_tokens.specs.Meanings.{fixed_locations};
     ghost use Rattle.meanings.specs.Map.{Map, all_numbered};
 
     ghost Value = { Map };

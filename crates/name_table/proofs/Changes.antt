@@ -9,8 +9,8 @@ use Rattle.string_pool.specs.Pool.{Pool, kept_bytes}
 use Rattle.cs_hash.specs.Names.{Names, string_at, entered, number_of as hash_number_of, Knows}
 use Rattle.cs_hash.specs.Entry.{Enters, Gains, Stays, entry_refusal, with_string}
 use Rattle.cs_hash.proofs.Entering.{names_more, knows_longer, entered_more}
-use Rattle.plain_state.specs.Lookup.{number_of}
-use Rattle.plain_state.specs.Tables.{hash, bytes_of}
+use Rattle.plain_tokens.specs.Lookup.{number_of}
+use Rattle.plain_tokens.specs.Tables.{hash, bytes_of}
 use Rattle.name_table.specs.Strings.{Strings, name_refusal, other_refusal, with_name, with_other}
 use Rattle.name_table.specs.Layout.{IsSound, strings_of, strings_at}
 use Rattle.name_table.proofs.Numbers.{same_number}

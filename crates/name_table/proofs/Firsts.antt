@@ -10,8 +10,8 @@ use Rattle.tex_defs.specs.declared.Table.TheVariants.{PoolSize, NumberOfStrings,
 use Rattle.tex_defs.specs.Sizes.{is_in_range, least_size, greatest_size, first_out_among, first_out_of_range}
 use Rattle.prim_table.specs.Primitives.{primitive_name, primitive_names, command_names, assignment_names, expandable_names, conditional_names, integer_names, dimension_names, glue_names, token_names}
 use Rattle.prim_table.proofs.Table.{distinct}
-use Rattle.plain_state.specs.Lookup.{number_from, number_of}
-use Rattle.plain_state.specs.Tables.{bytes_of, hash}
+use Rattle.plain_tokens.specs.Lookup.{number_from, number_of}
+use Rattle.plain_tokens.specs.Tables.{bytes_of, hash}
 use Rattle.name_table.specs.Strings.{Strings, name_refusal, with_name, primitives_alone}
 use Rattle.name_table.proofs.Refusals.{bytes_demand, count_demand, not_refused}
 

@@ -1,7 +1,7 @@
 -- The hash and the plain machine number names alike.
 use Rattle.std.proofs.Common.{◌≡◌, ℕ, suc, List, [], ◌∷◌, Option, Some, bytes_eq, refl, ap, if◌then◌else◌}
 use Rattle.cs_hash.specs.Names.{number_from as hash_number_from, number_of as hash_number_of}
-use Rattle.plain_state.specs.Lookup.{number_from, number_of}
+use Rattle.plain_tokens.specs.Lookup.{number_from, number_of}
 
 same_from : (k : ℕ) (names : List (List ℕ)) (name : List ℕ) → hash_number_from k names name ≡ number_from k names name
 unfolding hash_number_from number_from

@@ -11,7 +11,7 @@ use Rattle.tex_defs.specs.Sizes.{size_of}
 use Rattle.string_pool.specs.Pool.{Pool, kept_bytes}
 use Rattle.cs_hash.specs.Names.{Names, string_at, entered}
 use Rattle.cs_hash.specs.Entry.{string_refusal, entry_refusal, hash_refusal}
-use Rattle.plain_state.specs.Tables.{Demand, refused, full, string, hash as hash_demand, bytes_of}
+use Rattle.plain_tokens.specs.Tables.{Demand, refused, full, string, hash as hash_demand, bytes_of}
 use Rattle.name_table.specs.Strings.{Strings, name_refusal, other_refusal}
 use Rattle.name_table.specs.Layout.{IsSound, strings_of, strings_at}
 

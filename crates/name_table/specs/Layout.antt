@@ -3,7 +3,7 @@ use Rattle.std.specs.Prelude.{◌≡◌, ℕ, ◌+◌, ◌<◌, ◌≤◌, List,
 use Rattle.tex_defs.specs.declared.Sizes.{Sizes}
 use Rattle.string_pool.specs.Pool.{Pool, kept_bytes}
 use Rattle.cs_hash.specs.Names.{Names, string_at, entered, Knows}
-use Rattle.plain_state.specs.Tables.{bytes_of}
+use Rattle.plain_tokens.specs.Tables.{bytes_of}
 use Rattle.name_table.specs.Strings.{Strings}
 
 -- the strings with these numbers

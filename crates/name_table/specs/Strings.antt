@@ -3,7 +3,7 @@ use Rattle.std.specs.Prelude.{ℕ, List, [], ◌∷◌, ◌++◌, Option}
 use Rattle.tex_defs.specs.declared.Full.{Full}
 use Rattle.tex_defs.specs.declared.Sizes.{Sizes}
 use Rattle.prim_table.specs.Primitives.{primitive_names}
-use Rattle.plain_state.specs.Tables.{string, new_name, refused}
+use Rattle.plain_tokens.specs.Tables.{string, new_name, refused}
 
 -- the names entered and the other kept strings, each in order
 pub record Strings : Type 0 where

@@ -7,7 +7,7 @@
 ghost use Rattle.std.specs.Prelude.{◌≡◌, ◌+◌, length, [], None, Some, IfOk, is_ok, MatchResult, if◌then◌else◌};
 ghost use Rattle.tex_defs.specs.Sizes.{first_out_of_range};
 ghost use Rattle.prim_table.specs.Primitives.{primitive_names};
-ghost use Rattle.plain_state.specs.Lookup.{number_of};
+ghost use Rattle.plain_tokens.specs.Lookup.{number_of};
 ghost use Rattle.cs_hash.specs.Names.{Knows, entered};
 ghost use Rattle.name_table.specs.Strings.{name_refusal, other_refusal, primitives_alone, with_name, with_other};
 

@@ -25,6 +25,8 @@ mod prim_table_tests;
 #[cfg(test)]
 mod scaled_arith_tests;
 #[cfg(test)]
+mod signals;
+#[cfg(test)]
 mod tables;
 #[cfg(test)]
 mod tex_defs_tests;

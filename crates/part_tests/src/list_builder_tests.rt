@@ -6,8 +6,9 @@ ghost use Rattle.token_lists.specs.Ids.{id_of};
 ghost use Rattle.list_builder.specs.Scans.{IsSound, IsOpen, IsSpent, Owns, handed, scan_holds};
 
 use crate::token_lists_tests::release_cell;
-use list_builder::{Ask, Body, DefScan, Due, Manner, Next, Report, Stage, TextScan, Want};
+use list_builder::{Ask, Body, DefScan, Due, Next, Stage, TextScan};
 use tex_defs::{Full, Meaning, Name, Seen, Table, Token};
+use tex_syntax::{Manner, Report, Want};
 use token_lists::{ListRef, Lists};
 
 // A character as it is read.

@@ -1,4 +1,5 @@
 // What the contracts leave open: that calls succeed, and what real files do.
+use crate::signals::Signals;
 use std::alloc::Global;
 use std::io::Print;
 use std::{fs, rt};
@@ -75,6 +76,19 @@ fn are_real<R: rt::Files + AllocGlobal + Print>(rt: &R) -> bool {
 #[test]
 fn real_files_are_written_and_read(rt: HostRuntime) {
     assert!(rt; are_real(&rt));
+}
+
+/// Whether a real file is written and read, and a byte printed, where every second call is interrupted.
+fn are_tried_again<R: rt::Files + AllocGlobal>(rt: &R) -> bool {
+    let signals = Signals::new(rt);
+    is_written_and_read(&mut RealFiles::new(&signals), b"signals.txt")
+        && fs::remove_file(rt, "signals.txt").is_ok()
+        && write_all(&mut RealSink::new(&signals), b"a").is_ok()
+}
+
+#[test]
+fn interrupted_calls_are_tried_again(rt: HostRuntime) {
+    assert!(rt; are_tried_again(&rt));
 }
 
 /// Whether a file is written beside another and read again, in nine calls.

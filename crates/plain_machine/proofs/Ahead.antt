@@ -7,11 +7,11 @@ use Rattle.std.proofs.lemmas.Grind.{common_steps}
 use Rattle.tex_defs.specs.declared.Full.{Full}
 use Rattle.tex_defs.specs.declared.Sizes.{Sizes}
 use Rattle.tex_defs.specs.declared.Table.TheVariants.{BufferSize}
-use Rattle.plain_state.specs.Lex.{Lexed, Gives, Invalid, UsedUp, NewLine, lexed}
-use Rattle.plain_state.specs.Lines.{end_char, has_feed, before_feed, behind_feed, without_last, trimmed, first_bytes}
-use Rattle.plain_state.specs.Puts.{Item, Put as PutList, passed}
-use Rattle.plain_state.specs.Pending.{Pending, Progress, NotBegun, Begun as BegunFile, Closed as ClosedFile, Pulled, TokenFrom, LexemeFrom, LineTaken, InvalidMet, FileOver, NothingLeft, taken_line, next_number, line_taken, from_file, from_line, from_list, from_front, pulled, takes_file}
-use Rattle.plain_state.specs.Tables.{lines_beneath, line_need, file_level, next_line, refused}
+use Rattle.plain_tokens.specs.Lex.{Lexed, Gives, Invalid, UsedUp, NewLine, lexed}
+use Rattle.plain_tokens.specs.Lines.{end_char, has_feed, before_feed, behind_feed, without_last, trimmed, first_bytes}
+use Rattle.plain_tokens.specs.Puts.{Item, Put as PutList, passed}
+use Rattle.plain_tokens.specs.Pending.{Pending, Progress, NotBegun, Begun as BegunFile, Closed as ClosedFile, Pulled, TokenFrom, LexemeFrom, LineTaken, InvalidMet, FileOver, NothingLeft, taken_line, next_number, line_taken, from_file, from_line, from_list, from_front, pulled, takes_file}
+use Rattle.plain_tokens.specs.Tables.{lines_beneath, line_need, file_level, next_line, refused}
 use Rattle.plain_machine.specs.Extended.{extended_pending, IsReady, InFront, NoFile, HasLine, NoMore, TooLong}
 
 -- THE LINES OF A FILE THAT GOES ON

@@ -6,7 +6,7 @@ use Rattle.tex_defs.specs.Places.{Place, Transcript, OfFile, File, World, Later,
 use Rattle.tex_defs.specs.declared.Full.{Full}
 use Rattle.tex_defs.specs.declared.Sizes.{Sizes}
 use Rattle.plain_state.specs.States.{State, Move, Handed, Settled, Written, made, column_after}
-use Rattle.plain_state.specs.Tables.{refusal}
+use Rattle.plain_state.specs.Demands.{refusal}
 use Rattle.plain_machine.specs.Plan.{plan}
 use Rattle.plain_machine.specs.Runs.{Wrote, made_all, after, columns_after, steps}
 use Rattle.plain_machine.specs.Bounded.{AllFit, FitMoves, AtFull, AtSteps, Bounded}

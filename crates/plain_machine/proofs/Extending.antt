@@ -2,21 +2,23 @@
 use Rattle.std.proofs.Common.{◌≡◌, ℕ, ◌+◌, ◌<◌, Bool, true, false, List, [], ◌∷◌, ◌++◌, length, refl, sym, ap, ◌∙◌, subst, arith}
 use Rattle.std.specs.Prelude.{Option, Some, None}
 use Rattle.std.proofs.lemmas.List.{append-nil}
+use Rattle.tex_syntax.specs.declared.words.Report.TheVariants.{InvalidCharacter}
+use Rattle.tex_syntax.specs.declared.words.Outcome.{Outcome}
 use Rattle.tex_defs.specs.Places.{World}
 use Rattle.tex_defs.specs.declared.Full.{Full}
 use Rattle.tex_defs.specs.declared.Sizes.{Sizes}
 use Rattle.tex_defs.specs.declared.Seen.{Seen}
 use Rattle.tex_defs.specs.declared.Token.{Token}
 use Rattle.tex_defs.specs.declared.Table.TheVariants.{BufferSize}
-use Rattle.plain_state.specs.Lines.{first_bytes}
-use Rattle.plain_state.specs.Lookup.{token_of, new_name}
-use Rattle.plain_state.specs.Meanings.{seen}
-use Rattle.plain_state.specs.Puts.{Item, First, next_item}
-use Rattle.plain_state.specs.Pending.{Pending, Progress, NotBegun, Pulled, TokenFrom, LexemeFrom, LineTaken, InvalidMet, FileOver, NothingLeft, settle, pulled, after_pull, takes_file}
+use Rattle.plain_tokens.specs.Lines.{first_bytes}
+use Rattle.plain_tokens.specs.Lookup.{token_of, new_name}
+use Rattle.plain_tokens.specs.Meanings.{seen}
+use Rattle.plain_tokens.specs.Puts.{Item, First, next_item}
+use Rattle.plain_tokens.specs.Pending.{Pending, Progress, NotBegun, Pulled, TokenFrom, LexemeFrom, LineTaken, InvalidMet, FileOver, NothingLeft, settle, pulled, after_pull, takes_file}
 use Rattle.plain_state.specs.Readings.{Ask, More, Inner, Done, Act, Tells, Inserts, Makes, Calls, Fails, RunsAway, Closes, Flag, ask}
-use Rattle.plain_state.specs.Reports.{InvalidCharacter}
-use Rattle.plain_state.specs.States.{State, Reading, Outcome, Move, Handed, Taken, Settled, Skipped, FileClosed, Ended, Closed, made}
-use Rattle.plain_state.specs.Tables.{Demand, lines_beneath, line_need, opened_level, file_level, next_line, refused, refusal}
+use Rattle.plain_state.specs.States.{State, Reading, Move, Handed, Taken, Settled, Skipped, FileClosed, Ended, Closed, made}
+use Rattle.plain_tokens.specs.Tables.{Demand, lines_beneath, line_need, opened_level, file_level, next_line, refused}
+use Rattle.plain_state.specs.Demands.{refusal}
 use Rattle.plain_machine.specs.Plan.{put_text, Page, page_of, plan, planned, answered, handed, met, entered, enters_names, Scanning, scanning, checked, without_file, reported, stomach, wanted, feeding, effect, given_back, Ends, Goes, next, next_of, first_of_plan}
 use Rattle.plain_machine.specs.Runs.{Wrote, step_of, steps, made_all, NeedsStep}
 use Rattle.plain_machine.specs.Bounded.{AllFit}
@@ -24,7 +26,7 @@ use Rattle.plain_machine.specs.Does.{Did, Cut, Why, IsFull, IsFault, IsWant, Ref
 use Rattle.plain_machine.specs.Extended.{extended_pending, extended, IsReady}
 use Rattle.plain_machine.proofs.Joins.{StepComes, plan_needs, next_due}
 use Rattle.plain_machine.proofs.Settling.{pulled_settled}
-use Rattle.plain_state.specs.Tokens.{made_text}
+use Rattle.plain_tokens.specs.Tokens.{made_text}
 use Rattle.plain_machine.proofs.Pulls.{text_none, pull_of, pulls, pulls_join, step_pulls, command_none, wanted_none, kind_none, met_none, checked_none, reported_none, entered_none, back_none, effect_none, begun_none, told_none, called_with_none, failed_none, failed_away_none}
 use Rattle.plain_machine.proofs.Ahead.{full_buffer, long_need, long_refused, extended_pulled, source, takes_at, takes_line, Sight, Alike, Long, sight, sight_nothing, nothing_at}
 

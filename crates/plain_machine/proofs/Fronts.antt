@@ -5,7 +5,7 @@ use Rattle.std.proofs.lemmas.List.{append-nil}
 use Rattle.tex_defs.specs.declared.Full.{Full}
 use Rattle.tex_defs.specs.declared.Sizes.{Sizes}
 use Rattle.plain_state.specs.States.{State, Move}
-use Rattle.plain_state.specs.Tables.{refusal}
+use Rattle.plain_state.specs.Demands.{refusal}
 use Rattle.plain_machine.specs.Plan.{Ends, Goes, next}
 use Rattle.plain_machine.specs.Runs.{step_of, steps, Moves, NeedsStep, HasRun}
 use Rattle.plain_machine.specs.Bounded.{FitMoves, IsFull, End, AtEnd, AtSteps, AtFull, Comes, Bounded, SameEnd, HasBounded, Beyond, IsFront}

@@ -2,14 +2,15 @@
 use Rattle.std.proofs.Common.{◌≡◌, ℕ, ◌+◌, ◌≤◌, ◌<◌, ◌^◌, Bool, true, false, List, [], ◌∷◌, ◌++◌, refl, sym, ap, ◌∙◌, subst, arith}
 use Rattle.std.specs.Prelude.{Option, Some, None, nat_lt, if◌then◌else◌}
 use Rattle.std.proofs.lemmas.Bool.Decides.{nat_tests}
+use Rattle.tex_syntax.specs.declared.words.Report.TheVariants.{InvalidCharacter}
+use Rattle.tex_syntax.specs.declared.words.Outcome.{Outcome}
 use Rattle.tex_defs.specs.declared.Seen.{Seen}
-use Rattle.plain_state.specs.Lex.{Lexed, Gives, Invalid, UsedUp, lexed}
-use Rattle.plain_state.specs.Lookup.{token_of, new_name}
-use Rattle.plain_state.specs.Meanings.{seen}
-use Rattle.plain_state.specs.Puts.{Item, Put as PutList, passed}
-use Rattle.plain_state.specs.Pending.{Pending, Progress, NotBegun, Begun as BegunFile, Closed as ClosedFile, Pulled, TokenFrom, LexemeFrom, LineTaken, InvalidMet, FileOver, NothingLeft, next_number, pulled, after_pull, from_front, from_list, from_line, from_file}
-use Rattle.plain_state.specs.Reports.{InvalidCharacter}
-use Rattle.plain_state.specs.States.{State, Outcome, Move, Handed, Taken, Settled, Skipped, FileClosed, made}
+use Rattle.plain_tokens.specs.Lex.{Lexed, Gives, Invalid, UsedUp, lexed}
+use Rattle.plain_tokens.specs.Lookup.{token_of, new_name}
+use Rattle.plain_tokens.specs.Meanings.{seen}
+use Rattle.plain_tokens.specs.Puts.{Item, Put as PutList, passed}
+use Rattle.plain_tokens.specs.Pending.{Pending, Progress, NotBegun, Begun as BegunFile, Closed as ClosedFile, Pulled, TokenFrom, LexemeFrom, LineTaken, InvalidMet, FileOver, NothingLeft, next_number, pulled, after_pull, from_front, from_list, from_line, from_file}
+use Rattle.plain_state.specs.States.{State, Move, Handed, Taken, Settled, Skipped, FileClosed, made}
 use Rattle.plain_machine.specs.Plan.{Page, plan, planned, handed, met, entered, Scanning, checked, without_file, reported, Ends, Goes, next, job_due}
 use Rattle.plain_machine.specs.Runs.{step_of, steps, Moves, Begins, AtRule, AtJob}
 use Rattle.plain_machine.proofs.Joins.{next_due, next_plan, due_kept}

@@ -1,16 +1,17 @@
 -- What readings begin: only readings of a lower rank, and nothing else before a token comes.
 use Rattle.std.proofs.Common.{◌≤◌, ℕ, ◌+◌, ◌*◌, ◌<◌, Bool, true, false, List, [], ◌∷◌, arith, ℤ, pos}
 use Rattle.std.specs.Prelude.{Option, Some, None, if◌then◌else◌, nat_le, not, ◌||◌}
+use Rattle.tex_syntax.specs.declared.words.Report.{Report}
+use Rattle.tex_syntax.specs.declared.words.Report.TheVariants.{MissingNumber, ImproperConstant}
 use Rattle.tex_defs.specs.declared.Token.{Token}
 use Rattle.tex_defs.specs.declared.Name.{Name}
 use Rattle.tex_defs.specs.declared.Meaning.{Meaning}
 use Rattle.tex_defs.specs.declared.Seen.{Seen}
-use Rattle.plain_state.specs.Categories.{begin_group}
-use Rattle.plain_state.specs.Reports.{Report, MissingNumber, ImproperConstant}
-use Rattle.plain_state.specs.Tokens.{is_other, is_space_token, means_category}
+use Rattle.plain_tokens.specs.Categories.{begin_group}
+use Rattle.plain_tokens.specs.Tokens.{is_other, is_space_token, means_category}
 use Rattle.plain_state.specs.Definitions.{definition}
 use Rattle.plain_state.specs.Definitions as build
-use Rattle.plain_state.specs.Arguments as call
+use Rattle.plain_tokens.specs.Arguments as call
 use Rattle.plain_state.specs.Readings.{Kind, number, Catcode, Message, Prefixed, Define, Number, Integer, Text, Definition, Arguments, Fed, Tok, Val, Told, Int, Toks, is_digit, is_minus, is_plus, is_at_most, natural, code_of, digit_of_token, greatest_integer, greatest_character, greatest_category, improper_code, signed, SetCategory, Ask, More, Inner, Makes, ask, rank, catcode, message, integer, unsigned, constant, behind_code, behind_number, number_ended, digits, digits_dropped, too_big, missing, first_digit, Act, bad_code, equals_behind, category_behind, bad_category, text, text_done, brace_missing, closes_at, define, name_behind, name_to_assign, definition_behind, is_long, is_outer_prefix, is_global, is_raw_definition, is_expanded_definition, is_assignment, prefixed, behind_prefixes, prefix_refused, limit_refused, build_fed, build_ask, manner, gathered_by, call_ask, arguments_ask}
 
 -- A reading begins only readings of a lower rank.

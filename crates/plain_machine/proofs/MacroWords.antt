@@ -5,8 +5,8 @@ use Rattle.std.proofs.lemmas.Bool.{eqb-true, eq-eqb, ne_eqb, or_cases, or_left, 
 use Rattle.tex_defs.specs.declared.Token.{Token}
 use Rattle.tex_defs.specs.declared.Meaning.{Meaning}
 use Rattle.tex_defs.specs.declared.Meaning.TheVariants as means
-use Rattle.plain_state.specs.Puts.{Put, Whole, Own, Macro}
-use Rattle.plain_state.specs.Tables.{list_words, means_macro, is_meant, is_whole, is_put, macro_words, held_words}
+use Rattle.plain_tokens.specs.Puts.{Put, Whole, Own, Macro}
+use Rattle.plain_tokens.specs.Tables.{list_words, means_macro, is_meant, is_whole, is_put, macro_words, held_words}
 use Rattle.plain_machine.specs.Numbers.{meaning_of, meanings_of, whole_of, puts_of, Tied}
 use Rattle.plain_machine.proofs.Renumbering.{held_words_of}
 

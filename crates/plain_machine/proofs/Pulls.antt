@@ -1,6 +1,13 @@
 -- The next token, character or line is pulled by a rule's second move, once the finished lists in front have gone, or not at all.
 use Rattle.std.proofs.Common.{◌≡◌, ℕ, ◌+◌, ◌≤◌, List, [], ◌∷◌, ◌++◌, length, drop, map, slice_index_or, refl, ◌∙◌, arith, Bool, true, false}
 use Rattle.std.specs.Prelude.{Option, Some, None, if◌then◌else◌, ◌||◌, nat_eq, nat_lt}
+use Rattle.tex_syntax.specs.declared.words.Want.{Want}
+use Rattle.tex_syntax.specs.declared.words.Want.TheVariants.{Raw, Expanded, Copied, Nonblank, Command}
+use Rattle.tex_syntax.specs.declared.words.Outcome.TheVariants.{AtFatal}
+use Rattle.tex_syntax.specs.declared.words.Scanned.{Scanned}
+use Rattle.tex_syntax.specs.declared.words.Report.{Report}
+use Rattle.tex_syntax.specs.declared.words.Scanned.TheVariants as scanned
+use Rattle.tex_syntax.specs.declared.words.Report.TheVariants as reports
 use Rattle.tex_defs.specs.declared.Seen.{Seen}
 use Rattle.tex_defs.specs.declared.Meaning.{Meaning}
 use Rattle.tex_defs.specs.declared.Meaning.TheVariants as means
@@ -8,15 +15,14 @@ use Rattle.tex_defs.specs.declared.Token.{Token}
 use Rattle.tex_defs.specs.declared.Fatal.TheVariants.{HundredErrors}
 use Rattle.tex_defs.specs.Places.{Transcript}
 use Rattle.tex_defs.specs.declared.Name.{Name}
-use Rattle.plain_state.specs.Names.{name_of, means_relax, relax_primitive, catcode_primitive, message_primitive, end_primitive, long_primitive, outer_primitive, global_primitive, def_primitive, gdef_primitive, edef_primitive, xdef_primitive, number_primitive}
-use Rattle.plain_state.specs.Tokens.{Want, Raw, Expanded, Copied, Nonblank, Command, is_space, is_outer, space_token}
-use Rattle.plain_state.specs.Meanings.{name_meaning, seen}
-use Rattle.plain_state.specs.Puts.{Item, Put as PutList, call_put}
-use Rattle.plain_state.specs.Arguments.{has_parameters, arguments_in, work_in}
+use Rattle.plain_tokens.specs.Names.{name_of, means_relax, relax_primitive, catcode_primitive, message_primitive, end_primitive, long_primitive, outer_primitive, global_primitive, def_primitive, gdef_primitive, edef_primitive, xdef_primitive, number_primitive}
+use Rattle.plain_tokens.specs.Tokens.{is_space, is_outer, space_token}
+use Rattle.plain_tokens.specs.Meanings.{name_meaning, seen}
+use Rattle.plain_tokens.specs.Puts.{Item, Put as PutList, call_put}
+use Rattle.plain_tokens.specs.Arguments.{has_parameters, arguments_in, work_in}
 use Rattle.plain_state.specs.Readings as reading
-use Rattle.plain_state.specs.States.{State, Move, Reading, Handed, Taken, Skipped, FileClosed, Grows, Feeds, Noted, Completed, ListGrown, Put, Begun, Ended, Closed, Written, Stopped, AtFatal}
-use Rattle.plain_state.specs.Reports as reports
-use Rattle.plain_state.specs.Reports.{Scanned, hundred_line}
+use Rattle.plain_state.specs.States.{State, Move, Reading, Handed, Taken, Skipped, FileClosed, Grows, Feeds, Noted, Completed, ListGrown, Put, Begun, Ended, Closed, Written, Stopped}
+use Rattle.plain_state.specs.Reports.{plain_style, hundred_line, token_line_bytes}
 use Rattle.plain_machine.specs.Plan.{Page, met, met_outer, entered, Scanning, checked, check_noted, ran_away, away_text, page_behind, reported, reports_room, told, put_inserted, is_told, noting, token_line, finish, command, primitive, called, called_meaning, called_list, put_body, body_put, wanted, expanded, expanded_as, feeding_kind, grown_to, opened, in_place, argument_fed, begun, begun_with, last_seen, given_back, put_all, effect, arguments_put, called_with, failed, failed_away, unless_expanded, put_text}
 use Rattle.plain_machine.specs.Runs.{step_of, steps}
 
@@ -76,14 +82,14 @@ pub entered_none : (names : List (List ℕ)) → pulls (entered names) ≡ 0
 entered_none [] = refl
 entered_none (name ∷ names) = refl
 
-pub reported_none : (page : Page) (report : reports.Report) (rest : List Move) → pulls rest ≡ 0 → pulls (reported page report rest) ≡ 0
+pub reported_none : (page : Page) (report : Report) (rest : List Move) → pulls rest ≡ 0 → pulls (reported page report rest) ≡ 0
 reported_none page report rest h =
-    let last : pulls (if nat_lt page.reports reports_room then rest else Written Transcript hundred_line ∷ Stopped (AtFatal HundredErrors) ∷ []) ≡ 0 =
-    none_if (nat_lt page.reports reports_room) rest (Written Transcript hundred_line ∷ Stopped (AtFatal HundredErrors) ∷ []) h refl in
+    let last : pulls (if nat_lt page.reports reports_room then rest else Written Transcript (hundred_line (plain_style page.names)) ∷ Stopped (AtFatal HundredErrors) ∷ []) ≡ 0 =
+    none_if (nat_lt page.reports reports_room) rest (Written Transcript (hundred_line (plain_style page.names)) ∷ Stopped (AtFatal HundredErrors) ∷ []) h refl in
     omega (arith, last)
 
 line_none : (page : Page) (m : Meaning Unit) → pulls (token_line page m) ≡ 0
-line_none page m = none_if page.quiet [] (Written Transcript (reports.token_line_bytes page.names page.in_line m) ∷ []) refl refl
+line_none page m = none_if page.quiet [] (Written Transcript (token_line_bytes (plain_style page.names) page.in_line m) ∷ []) refl refl
 
 -- a list that grows, and how a reading is fed
 grown_none : (ts : List Token) → pulls (map Grows ts) ≡ 0
@@ -180,11 +186,11 @@ wanted_none page Command feeds x h = none_if (is_space x || means_relax x.meanin
 
 -- checks
 noted_none : (what : Scanned) (rest : List Move) → pulls rest ≡ 0 → pulls (check_noted what rest) ≡ 0
-noted_none reports.OfUse rest h = omega (arith, h)
-noted_none reports.OfDefinition rest h = h
-noted_none reports.OfText rest h = h
+noted_none scanned.Use rest h = omega (arith, h)
+noted_none scanned.Definition rest h = h
+noted_none scanned.Text rest h = h
 
-away_none : (page : Page) (report : reports.Report) (s : Scanning) (rest : List Move) → pulls rest ≡ 0 → pulls (ran_away page report s rest) ≡ 0
+away_none : (page : Page) (report : Report) (s : Scanning) (rest : List Move) → pulls rest ≡ 0 → pulls (ran_away page report s rest) ≡ 0
 away_none page report s rest h = omega (arith, reported_none (page_behind page (away_text page s)) report (check_noted s.what rest) (noted_none s.what rest h))
 
 pub checked_none : (page : Page) (o : Option Scanning) → pulls (checked page o) ≡ 0
@@ -202,7 +208,7 @@ inserted_none : (o : Option Token) → pulls (put_inserted o) ≡ 0
 inserted_none None = refl
 inserted_none (Some t) = refl
 
-pub told_none : (page : Page) (report : reports.Report) (inserted : Option Token) (back : Bool) (r : Reading) → pulls (told page report inserted back r) ≡ 0
+pub told_none : (page : Page) (report : Report) (inserted : Option Token) (back : Bool) (r : Reading) → pulls (told page report inserted back r) ≡ 0
 told_none page report inserted back r =
     none_if (is_told r.fed) (Ended (reading.Flag false) ∷ []) (given_back back r.fed ++ (put_inserted inserted ++ reported page report (noting r))) refl
     (pulls_join (given_back back r.fed) (put_inserted inserted ++ reported page report (noting r))
@@ -225,10 +231,10 @@ pub called_with_none : (k : reading.Kind) (args : List (List Token)) → pulls (
 called_with_none (reading.Arguments name long number ts) args = put_none (call_put number ts args) (call_put number ts args).items
 called_with_none k args = refl
 
-pub failed_none : (page : Page) (report : reports.Report) → pulls (failed page report) ≡ 0
+pub failed_none : (page : Page) (report : Report) → pulls (failed page report) ≡ 0
 failed_none page report = reported_none page report (Closed ∷ []) refl
 
-pub failed_away_none : (page : Page) (report : reports.Report) (o : Option Scanning) (fed : List reading.Fed) → pulls (failed_away page report o fed) ≡ 0
+pub failed_away_none : (page : Page) (report : Report) (o : Option Scanning) (fed : List reading.Fed) → pulls (failed_away page report o fed) ≡ 0
 failed_away_none page report None fed = pulls_join (given_back true fed) (failed page report) ∙ omega (arith, back_none true fed, failed_none page report)
 failed_away_none page report (Some s) fed =
     let behind : Page = page_behind page (away_text page s) in

@@ -1,10 +1,11 @@
 -- What is computed of a state are its first moves.
 use Rattle.std.proofs.Common.{◌≡◌, inl, inr, ℕ, zero, suc, ◌+◌, List, [], ◌∷◌, ◌++◌, length, refl, sym, ap, ◌∙◌, arith}
 use Rattle.std.specs.Prelude.{Option, Some, None, ◌⊎◌}
+use Rattle.tex_syntax.specs.declared.words.Outcome.{Outcome}
 use Rattle.tex_defs.specs.declared.Full.{Full}
 use Rattle.tex_defs.specs.declared.Sizes.{Sizes}
-use Rattle.plain_state.specs.States.{State, Move, Outcome}
-use Rattle.plain_state.specs.Tables.{refusal}
+use Rattle.plain_state.specs.States.{State, Move}
+use Rattle.plain_state.specs.Demands.{refusal}
 use Rattle.plain_machine.specs.Plan.{Next, Ends, Goes, next, next_of}
 use Rattle.plain_machine.specs.Runs.{step_of}
 use Rattle.plain_machine.specs.Rows.{Result, Told, IsRun, IsWhole, FitsTo, RowsAreRuns, EndedRowsAreWhole, RefusalsAreRuns, run_of, full_in, went, went_within, fitted, with_move, text_of}

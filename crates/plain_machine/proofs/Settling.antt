@@ -1,8 +1,8 @@
 -- The finished lists in front go at once: what comes next doesn't hang on whether they have gone.
 use Rattle.std.proofs.Common.{◌≡◌, ℕ, List, [], ◌∷◌, refl, ap, ◌∙◌}
-use Rattle.plain_state.specs.Lex.{Lexed, Gives, Invalid, UsedUp, lexed}
-use Rattle.plain_state.specs.Puts.{Item, Put, settled, settled_top, passed}
-use Rattle.plain_state.specs.Pending.{Pending, settle, with_puts, pulled, from_front, from_list, from_line}
+use Rattle.plain_tokens.specs.Lex.{Lexed, Gives, Invalid, UsedUp, lexed}
+use Rattle.plain_tokens.specs.Puts.{Item, Put, settled, settled_top, passed}
+use Rattle.plain_tokens.specs.Pending.{Pending, settle, with_puts, pulled, from_front, from_list, from_line}
 
 passed_top_settled : (p : Put) (xs : List Item) (ps : List Put) → p.items ≡ xs → passed (settled ps) ≡ passed ps → passed (settled_top p xs (settled ps) ps) ≡ passed (p ∷ ps)
 passed_top_settled p [] ps e h = rw e h

@@ -1,20 +1,26 @@
 -- Each rule ends the run, begins with a step once the finished lists in front have gone, or makes the weight of the state smaller.
 use Rattle.std.proofs.Common.{◌≡◌, ℕ, ◌+◌, ◌*◌, ◌≤◌, ◌<◌, Bool, true, false, List, [], ◌∷◌, ◌++◌, length, refl, ap, ◌∙◌, arith}
 use Rattle.std.specs.Prelude.{Option, Some, None, if◌then◌else◌, nat_lt, map}
+use Rattle.tex_syntax.specs.declared.words.Report.{Report}
+use Rattle.tex_syntax.specs.declared.words.Scanned.{Scanned}
+use Rattle.tex_syntax.specs.declared.words.Report.TheVariants.{InvalidCharacter, FileEnded}
+use Rattle.tex_syntax.specs.declared.words.Outcome.{Outcome}
+use Rattle.tex_syntax.specs.declared.words.Outcome.TheVariants.{AtFatal}
+use Rattle.tex_syntax.specs.declared.words.Scanned.TheVariants as scanned
 use Rattle.tex_defs.specs.declared.Token.{Token}
 use Rattle.tex_defs.specs.declared.Seen.{Seen}
 use Rattle.tex_defs.specs.declared.Name.{Name}
 use Rattle.tex_defs.specs.Places.{Transcript}
 use Rattle.tex_defs.specs.declared.Fatal.TheVariants.{HundredErrors}
-use Rattle.plain_state.specs.Lex.{Lexed, Gives, Invalid, UsedUp, lexed}
-use Rattle.plain_state.specs.LexLaws.{LeavesLess}
-use Rattle.plain_state.proofs.LexRests.{less}
-use Rattle.plain_state.specs.Puts.{Item, Put as PutList, passed, call_put}
-use Rattle.plain_state.specs.Pending.{Pending, Progress, NotBegun, Begun as BegunFile, Closed as ClosedFile, Pulled, TokenFrom, LexemeFrom, LineTaken, InvalidMet, FileOver, NothingLeft, settle, pulled, from_front, from_list, from_line, from_file}
-use Rattle.plain_state.specs.Reports.{Report, InvalidCharacter, Scanned, OfDefinition, OfUse, OfText, FileEnded, report_bytes, hundred_line}
+use Rattle.plain_tokens.specs.Lex.{Lexed, Gives, Invalid, UsedUp, lexed}
+use Rattle.plain_tokens.specs.LexLaws.{LeavesLess}
+use Rattle.plain_tokens.proofs.LexRests.{less}
+use Rattle.plain_tokens.specs.Puts.{Item, Put as PutList, passed, call_put}
+use Rattle.plain_tokens.specs.Pending.{Pending, Progress, NotBegun, Begun as BegunFile, Closed as ClosedFile, Pulled, TokenFrom, LexemeFrom, LineTaken, InvalidMet, FileOver, NothingLeft, settle, pulled, from_front, from_list, from_line, from_file}
+use Rattle.plain_state.specs.Reports.{plain_style, report_bytes, hundred_line}
 use Rattle.plain_state.specs.Readings.{Kind, Catcode, Message, Prefixed, Define, Arguments, Fed, Tok, Val, Told, Cut, Value, Flag, Effect, SetCategory, SetMacro, Say, Ask, More, Inner, Done, Act, Tells, Inserts, Makes, Calls, Fails, RunsAway, Closes, ask, so_far, rank}
-use Rattle.plain_state.specs.States.{State, Reading, Move, Handed, Settled, Skipped, FileClosed, Entered, Kept as KeptBytes, Grows, Noted, Checked, ListBegun, ListGrown, Put, CalledWith, SetCategoryOf, Defined, Written, Begun, Ended, Closed, Reported, Stopped, Outcome, AtFatal, made, fed_with, holding}
-use Rattle.plain_state.specs.Tokens.{made_text}
+use Rattle.plain_state.specs.States.{State, Reading, Move, Handed, Settled, Skipped, FileClosed, Entered, Kept as KeptBytes, Grows, Noted, Checked, ListBegun, ListGrown, Put, CalledWith, SetCategoryOf, Defined, Written, Begun, Ended, Closed, Reported, Stopped, made, fed_with, holding}
+use Rattle.plain_tokens.specs.Tokens.{made_text}
 use Rattle.plain_machine.specs.Plan.{Page, page_of, plan, planned, answered, handed, checked, check_noted, Scanning, scanning, inserted_at, away_text, without_file, ran_away, page_behind, reported, behind_report, reports_room, stomach, wanted, enters_names, feeding, effect, given_back, grown_to, noting, put_one, put_text, put_all, put_inserted, arguments_put, called_with, failed, failed_away, last_seen, is_told, begun_with}
 use Rattle.plain_machine.specs.Runs.{step_of, all_made}
 use Rattle.plain_machine.proofs.Lower.{Lower, lower, Starts, starts}
@@ -234,15 +240,15 @@ drops_plain n s (m ∷ ms) ns h f =
 halted_none : (n : ℕ) (s : State) (text : List ℕ) (o : Outcome) → 0 < n → Drops n (Written Transcript text ∷ Stopped o ∷ []) s
 halted_none n s text o h = omega (arith, h)
 
-drops_behind : (n : ℕ) (s : State) (b : Bool) (rest : List Move) → 0 < n → ((u : State) → Kept s u → Drops n rest u) →
-    Drops n (if b then rest else Written Transcript hundred_line ∷ Stopped (AtFatal HundredErrors) ∷ []) s
-drops_behind n s true rest h f = f s (kept_none s)
-drops_behind n s false rest h f = halted_none n s hundred_line (AtFatal HundredErrors) h
+drops_behind : (n : ℕ) (s : State) (text : List ℕ) (b : Bool) (rest : List Move) → 0 < n → ((u : State) → Kept s u → Drops n rest u) →
+    Drops n (if b then rest else Written Transcript text ∷ Stopped (AtFatal HundredErrors) ∷ []) s
+drops_behind n s text true rest h f = f s (kept_none s)
+drops_behind n s text false rest h f = halted_none n s text (AtFatal HundredErrors) h
 
 drops_report : (n : ℕ) (s : State) (page : Page) (report : Report) (rest : List Move) → 0 < n → ((u : State) → Kept s u → Drops n rest u) → Drops n (reported page report rest) s
 drops_report n s page report rest h f =
-    drops_plain n s (Written Transcript (report_bytes page.names page.in_line page.line report) ∷ Reported ∷ []) (behind_report page.reports rest) (refl, (refl, tt))
-    (λ u k. drops_behind n u (nat_lt page.reports reports_room) rest h (λ v l. f v (kept_on s u v k l)))
+    drops_plain n s (Written Transcript (report_bytes (plain_style page.names) page.in_line page.line report) ∷ Reported ∷ []) (behind_report (plain_style page.names) page.reports rest) (refl, (refl, tt))
+    (λ u k. drops_behind n u (hundred_line (plain_style page.names)) (nat_lt page.reports reports_room) rest h (λ v l. f v (kept_on s u v k l)))
 
 some_weight : (s : State) → s.stopped ≡ None → 0 < weight s
 some_weight s e = rw e (omega arith)
@@ -316,9 +322,9 @@ module _ (s : State) (q : Pending) (e : s.stopped ≡ None) (less : pending_weig
   checked_below v k = rw (k.stopped, k.work, a, b, e) (omega (arith, k.pending, ap pending_weight c, less, weight_checked s.work))
 
   noted_below : (what : Scanned) (v : State) → Kept u v → Drops (weight s) (check_noted what []) v
-  noted_below OfUse v k = checked_below v k
-  noted_below OfDefinition v k = below v k
-  noted_below OfText v k = below v k
+  noted_below scanned.Use v k = checked_below v k
+  noted_below scanned.Definition v k = below v k
+  noted_below scanned.Text v k = below v k
 
   away_below : (page : Page) (report : Report) (what : Scanning) → Drops (weight s) (ran_away page report what []) u
   away_below page report what =

@@ -8,11 +8,11 @@ use Rattle.tex_defs.specs.declared.Token.{Token}
 use Rattle.tex_defs.specs.declared.Name.{Name}
 use Rattle.tex_defs.specs.declared.Meaning.{Meaning}
 use Rattle.tex_defs.specs.declared.Meaning.TheVariants as means
-use Rattle.plain_state.specs.Lex.{Lexed, Gives, Invalid, UsedUp, lexed}
-use Rattle.plain_state.specs.Puts.{Item, Whole, Own, Macro, Put, put_top, with_put, settled_top, settled, without_gaps, passed_top, passed}
-use Rattle.plain_state.specs.Pending.{Pending, Progress, NotBegun, Begun, Closed, from_file, from_line, from_list, from_front, pulled, after_pull}
-use Rattle.plain_state.specs.Meanings.{location, set_at, assigned, first_meaning, first_meanings, primitive_count, fixed_locations}
-use Rattle.plain_state.specs.Tables.{is_number, means_macro, is_meant, is_whole, is_put}
+use Rattle.plain_tokens.specs.Lex.{Lexed, Gives, Invalid, UsedUp, lexed}
+use Rattle.plain_tokens.specs.Puts.{Item, Whole, Own, Macro, Put, put_top, with_put, settled_top, settled, without_gaps, passed_top, passed}
+use Rattle.plain_tokens.specs.Pending.{Pending, Progress, NotBegun, Begun, Closed, from_file, from_line, from_list, from_front, pulled, after_pull}
+use Rattle.plain_tokens.specs.Meanings.{location, set_at, assigned, first_meaning, first_meanings, primitive_count, fixed_locations}
+use Rattle.plain_tokens.specs.Tables.{is_number, means_macro, is_meant, is_whole, is_put}
 use Rattle.plain_machine.specs.Numbers.{meaning_of, meanings_of, whole_of, put_of, puts_of, renumbered, IsHeld, Tied}
 use Rattle.plain_machine.proofs.Renumbering.{assigned_of}
 use Rattle.plain_machine.proofs.MacroWords.{either}

@@ -3,7 +3,7 @@ use Rattle.std.specs.Prelude.{◌≡◌, ◌≤◌, ℕ, ◌+◌, List, [], ◌�
 use Rattle.tex_defs.specs.declared.Full.{Full}
 use Rattle.tex_defs.specs.declared.Sizes.{Sizes}
 use Rattle.plain_state.specs.States.{State, Move, made}
-use Rattle.plain_state.specs.Tables.{refusal}
+use Rattle.plain_state.specs.Demands.{refusal}
 use Rattle.plain_machine.specs.Plan.{Ends, Goes, next}
 use Rattle.plain_machine.specs.Runs.{step_of, steps, NeedsStep, Trace}
 

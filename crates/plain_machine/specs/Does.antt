@@ -1,12 +1,11 @@
 -- Some moves done, all of them or those before one that was cut off.
-use Rattle.std.specs.Prelude.{◌≡◌, ◌≢◌, ℕ, ◌+◌, ◌≤◌, true, List, [], ◌∷◌, ◌++◌, take, Some, ◌⊎◌}
+use Rattle.std.specs.Prelude.{◌≡◌, ℕ, ◌+◌, ◌≤◌, List, [], ◌∷◌, ◌++◌, take, Some, ◌⊎◌}
 use Rattle.tex_defs.specs.Places.{World, Rose}
 use Rattle.tex_defs.specs.declared.Full.{Full}
 use Rattle.tex_defs.specs.declared.Sizes.{Sizes}
-use Rattle.plain_state.specs.Pending.{Closed, pulled, takes_file}
-use Rattle.plain_state.specs.States.{State, Move, Written}
-use Rattle.plain_state.specs.Tables.{refusal}
-use Rattle.plain_machine.specs.Plan.{Goes, next}
+use Rattle.plain_state.specs.States.{State, Move, Written, Settled, Taken, FileClosed}
+use Rattle.plain_state.specs.Demands.{refusal}
+use Rattle.plain_machine.specs.Plan.{Goes, next, plan}
 use Rattle.plain_machine.specs.Runs.{Wrote, made_all, steps, step_of}
 use Rattle.plain_machine.specs.Bounded.{AllFit, FitMoves}
 
@@ -74,11 +73,24 @@ pub record CutAt (sizes : Sizes) (s : State) (k : ℕ) (t : State) (w w' : World
   pub cause : IsCause why w w'
   pub written : Wrote w w' (ms ++ front_of count m)
 
--- A moment t of the run from s within k steps, at which nothing is left in front of the file that is open. All before it is written.
+-- by this move the machine reads on in its file: a line is taken, or the file goes behind its last line
+abbrev pub IsOfFile : Move → Type 0
+IsOfFile (Taken line) = Unit {0}
+IsOfFile FileClosed = Unit {0}
+IsOfFile m = ⊥
+
+-- the moves of a rule that begins with the file's next reading
+abbrev pub ReadsFile : List Move → Type 0
+ReadsFile (Settled ∷ m ∷ ms) = IsOfFile m
+ReadsFile ms = ⊥
+
+-- A moment t of the run from s within k steps, at which the file's next bytes are needed: nothing is due, and the next rule begins with
+-- the file's next reading. So the run hasn't stopped, a token is wanted, nothing is left in front of the file, and the file is open. It may
+-- be behind the last of the k steps: only the bytes tell whether the reading is a step. All before the moment is written.
 pub record ReadAt (sizes : Sizes) (s : State) (k : ℕ) (t : State) (w w' : World) : Type 0 where
   pub ms : List Move
   pub moves : FitMoves sizes s ms t
   pub within : steps ms ≤ k
-  pub file : takes_file (pulled t.categories t.pending) ≡ true
-  pub not_closed : t.pending.file ≢ Closed
+  pub due : t.due ≡ []
+  pub needs : ReadsFile (plan t t.stopped)
   pub written : Wrote w w' ms

@@ -1,13 +1,15 @@
 -- What the program writes and answers, by the plain machine.
 use Rattle.std.specs.Prelude.{◌≡◌, ℕ, ◌≤◌, Bool, true, false, nat_lt, List, [], ◌∷◌, ◌++◌, Option, Some, None, take, length, codes, decimal, ◌⊎◌}
+use Rattle.tex_syntax.specs.declared.words.Outcome.{Outcome}
+use Rattle.tex_syntax.specs.declared.words.Outcome.TheVariants.{Finished, AtFatal}
 use Rattle.tex_defs.specs.declared.Fatal.{Fatal}
 use Rattle.tex_defs.specs.declared.Full.{Full}
 use Rattle.tex_defs.specs.declared.Sizes.{Sizes}
 use Rattle.tex_defs.specs.Sizes.{table_name, default_sizes}
 use Rattle.tex_defs.specs.Places.{World, Rose, Transcript, File, Untold, NotHeld, Holds}
-use Rattle.plain_state.specs.Categories.{initial_categories}
-use Rattle.plain_state.specs.Names.{is_known}
-use Rattle.plain_state.specs.States.{State, Move, Written, Outcome, Finished, AtFatal}
+use Rattle.plain_tokens.specs.Categories.{initial_categories}
+use Rattle.plain_tokens.specs.Names.{is_known}
+use Rattle.plain_state.specs.States.{State, Move, Written}
 use Rattle.plain_state.specs.Reports.{fresh_line}
 use Rattle.plain_machine.specs.Plan.{first_state}
 use Rattle.plain_machine.specs.Runs.{Wrote}
@@ -92,7 +94,8 @@ IsReadCause (IsFull full) w w' = ⊥
 IsReadCause IsFault w w' = Rose w.read_faults w'.read_faults
 IsReadCause IsWant w w' = Rose w.file_wants w'.file_wants
 
--- A moment of the run is written at which its file's next bytes are needed and don't come, for a cause, and then a stop line.
+-- A moment of the run is written at which its file's next bytes are needed and don't come, for a cause, and then a stop line. How much of
+-- the file came isn't told, so neither is which of these moments it is.
 pub record Unread (sizes : Sizes) (s : State) (n : ℕ) (w w' : World) (why : Why) (line : List ℕ) : Type 0 where
   pub t : State
   pub between : World
@@ -100,11 +103,19 @@ pub record Unread (sizes : Sizes) (s : State) (n : ℕ) (w w' : World) (why : Wh
   pub cause : IsReadCause why w between
   pub last : Line between w' line
 
--- Nothing of the run is written, and then a stop line.
-pub record NotBegun (w w' : World) (line : List ℕ) : Type 0 where
+-- The file could not be opened: a read failed, nothing of the run is written, and the stop line follows.
+pub record Unopened (w w' : World) : Type 0 where
+  pub between : World
+  pub failed : Rose w.read_faults between.read_faults
+  pub written : Wrote w between []
+  pub last : Line between w' read_fault_line
+
+-- Memory was wanted before the run: for the tables, of which nothing is counted, or where the file was to be opened. Which of these it was
+-- isn't told, so no cause is named. Nothing of the run is written, and the stop line follows.
+pub record NotBegun (w w' : World) : Type 0 where
   pub between : World
   pub written : Wrote w between []
-  pub last : Line between w' line
+  pub last : Line between w' no_memory_line
 
 -- The exit statuses.
 pub data Status : ℕ → Type 0 where
@@ -124,9 +135,9 @@ Says sizes s n w w' _ IsFlawed = Ending sizes s n w w' true
 Says sizes s n w w' _ IsFatal = Fails sizes s n w w'
 Says sizes s n w w' _ IsFullTable = OutOfRoom sizes s n w w'
 Says sizes s n w w' _ IsSteps = Stops sizes s n w w' AtSteps (steps_line n)
-Says sizes s n w w' _ IsReadFault = Unread sizes s n w w' IsFault read_fault_line ⊎ NotBegun w w' read_fault_line
+Says sizes s n w w' _ IsReadFault = Unread sizes s n w w' IsFault read_fault_line ⊎ Unopened w w'
 Says sizes s n w w' _ IsWriteFault = CutShort sizes s n w w' IsFault write_fault_line
-Says sizes s n w w' _ IsNoMemory = CutShort sizes s n w w' IsWant no_memory_line ⊎ (Unread sizes s n w w' IsWant no_memory_line ⊎ NotBegun w w' no_memory_line)
+Says sizes s n w w' _ IsNoMemory = CutShort sizes s n w w' IsWant no_memory_line ⊎ (Unread sizes s n w w' IsWant no_memory_line ⊎ NotBegun w w')
 
 -- what is told of the job's file may be this
 abbrev pub IsJob : File → Option (List ℕ) → Type 0

@@ -3,10 +3,10 @@ use Rattle.std.specs.Prelude.{◌≡◌, ℕ, ◌<◌, ◌==◌, ◌||◌, true,
 use Rattle.tex_defs.specs.declared.Token.{Token}
 use Rattle.tex_defs.specs.declared.Meaning.{Meaning}
 use Rattle.tex_defs.specs.declared.Meaning.TheVariants as means
-use Rattle.plain_state.specs.Puts.{Put, Whole, Own, Macro}
-use Rattle.plain_state.specs.Pending.{Pending, with_puts, put_front, pulled, Pulled, TokenFrom, LexemeFrom, LineTaken, InvalidMet, FileOver, NothingLeft}
-use Rattle.plain_state.specs.Tables.{is_meant, is_put, macro_words}
-use Rattle.plain_state.specs.Meanings.{seen}
+use Rattle.plain_tokens.specs.Puts.{Put, Whole, Own, Macro}
+use Rattle.plain_tokens.specs.Pending.{Pending, with_puts, put_front, pulled, Pulled, TokenFrom, LexemeFrom, LineTaken, InvalidMet, FileOver, NothingLeft}
+use Rattle.plain_tokens.specs.Tables.{is_meant, is_put, macro_words}
+use Rattle.plain_tokens.specs.Meanings.{seen}
 
 abbrev pub number_of : (ℕ → ℕ) → Option ℕ → Option ℕ
 number_of number None = None

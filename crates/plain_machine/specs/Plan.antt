@@ -1,5 +1,13 @@
 -- The plain machine: the moves of the rule that comes next, and the next move.
 use Rattle.std.specs.Prelude.{ℕ, Bool, true, false, ◌==◌, ◌||◌, List, [], ◌∷◌, ◌++◌, length, zero, suc, map, drop, slice_index_or, nat_lt, if◌then◌else◌, Option, Some, None}
+use Rattle.tex_syntax.specs.declared.words.Want.{Want}
+use Rattle.tex_syntax.specs.declared.words.Want.TheVariants.{Raw, Expanded, Copied, Nonblank, Command}
+use Rattle.tex_syntax.specs.declared.words.Report.{Report}
+use Rattle.tex_syntax.specs.declared.words.Scanned.{Scanned}
+use Rattle.tex_syntax.specs.declared.words.Report.TheVariants.{UndefinedName, InvalidCharacter, FileEnded, Forbidden}
+use Rattle.tex_syntax.specs.declared.words.Outcome.{Outcome}
+use Rattle.tex_syntax.specs.declared.words.Outcome.TheVariants.{Finished, AtFatal}
+use Rattle.tex_syntax.specs.declared.words.Scanned.TheVariants as scanned
 use Rattle.tex_defs.specs.declared.Token.{Token}
 use Rattle.tex_defs.specs.declared.Token.TheVariants as token
 use Rattle.tex_defs.specs.declared.Name.{Name}
@@ -8,21 +16,22 @@ use Rattle.tex_defs.specs.declared.Meaning.TheVariants as means
 use Rattle.tex_defs.specs.declared.Seen.{Seen}
 use Rattle.tex_defs.specs.declared.Fatal.TheVariants.{NoEnd, NoFile, HundredErrors}
 use Rattle.tex_defs.specs.Places.{Transcript}
-use Rattle.plain_state.specs.Categories.{end_group}
+use Rattle.plain_tokens.specs.Categories.{end_group}
 use Rattle.prim_table.specs.Primitives.{primitive_names}
-use Rattle.plain_state.specs.Names.{name_of, means_relax, relax_primitive, end_primitive, message_primitive, catcode_primitive, long_primitive, outer_primitive, global_primitive, def_primitive, gdef_primitive, edef_primitive, xdef_primitive, number_primitive}
-use Rattle.plain_state.specs.Tokens.{Want, Raw, Expanded, Copied, Nonblank, Command, is_space, is_outer, space_token, made_text}
-use Rattle.plain_state.specs.Meanings.{name_meaning, seen, first_meanings}
-use Rattle.plain_state.specs.Puts.{Item, Put as PutList, call_put}
-use Rattle.plain_state.specs.Lookup.{token_of, new_name}
-use Rattle.plain_state.specs.Reports.{Report, UndefinedName, InvalidCharacter, Scanned, OfDefinition, OfUse, OfText, FileEnded, Forbidden, NoSuchFile, fresh_line, report_bytes, hundred_line, emergency, no_end_line, no_file_line, token_line_bytes, runaway_bytes, message_bytes}
-use Rattle.plain_state.specs.Lex.{NewLine}
+use Rattle.plain_tokens.specs.Names.{name_of, means_relax, relax_primitive, end_primitive, message_primitive, catcode_primitive, long_primitive, outer_primitive, global_primitive, def_primitive, gdef_primitive, edef_primitive, xdef_primitive, number_primitive}
+use Rattle.plain_tokens.specs.Tokens.{is_space, is_outer, space_token, made_text}
+use Rattle.plain_tokens.specs.Meanings.{name_meaning, seen, first_meanings}
+use Rattle.plain_tokens.specs.Puts.{Item, Put as PutList, call_put}
+use Rattle.plain_tokens.specs.Lookup.{token_of, new_name}
+use Rattle.plain_tokens.specs.Printed.{Style, initial_style}
+use Rattle.plain_state.specs.Reports.{plain_style, missing_file_bytes, fresh_line, report_bytes, hundred_line, emergency, no_end_line, no_file_line, token_line_bytes, runaway_bytes, message_bytes}
+use Rattle.plain_tokens.specs.Lex.{NewLine}
 use Rattle.command_words.specs.Words.{job_name}
-use Rattle.plain_state.specs.Pending.{Pulled, TokenFrom, LexemeFrom, LineTaken, InvalidMet, FileOver, NothingLeft, Progress, NotBegun, Closed as ClosedFile, pulled}
-use Rattle.plain_state.specs.Arguments.{has_parameters, arguments_in, work_in}
-use Rattle.plain_state.specs.Arguments as call
+use Rattle.plain_tokens.specs.Pending.{Pulled, TokenFrom, LexemeFrom, LineTaken, InvalidMet, FileOver, NothingLeft, Progress, NotBegun, Closed as ClosedFile, pulled}
+use Rattle.plain_tokens.specs.Arguments.{has_parameters, arguments_in, work_in}
+use Rattle.plain_tokens.specs.Arguments as call
 use Rattle.plain_state.specs.Readings.{Kind, Catcode, Message, Text, Prefixed, Define, Number, Definition, Arguments, Effect, SetCategory, Say, SetMacro, Fed, Tok, Val, Told, Cut, Flag, Ask, More, Inner, Done, Act, Tells, Inserts, Makes, Calls, Fails, RunsAway, Closes, ask, so_far, gathered_by, par_token}
-use Rattle.plain_state.specs.States.{Reading, Outcome, Finished, AtFatal, Move, Handed, Taken, Settled, Skipped, FileClosed, Entered, Kept, Grows, Feeds, Noted, Checked, Completed, Opened, ListBegun, ListGrown, Put, Called, CalledWith, SetCategoryOf, Defined, Written, Begun, BegunWith, Ended, Closed, Reported, Stopped, State, made, in_line_after}
+use Rattle.plain_state.specs.States.{Reading, Move, Handed, Taken, Settled, Skipped, FileClosed, Entered, Kept, Grows, Feeds, Noted, Checked, Completed, Opened, ListBegun, ListGrown, Put, Called, CalledWith, SetCategoryOf, Defined, Written, Begun, BegunWith, Ended, Closed, Reported, Stopped, State, made, in_line_after}
 
 -- What the moves of a rule depend on: the category codes, the names entered and what they mean, the macros' lists, whether the
 -- transcript's column isn't 0, the number of the line that is read, the reports so far, and whether token lines are left out.
@@ -53,25 +62,25 @@ abbrev pub finish : Bool → List Move
 finish in_line = Written Transcript (fresh_line in_line) ∷ Stopped Finished ∷ []
 
 -- nothing is left to be read
-abbrev pub no_end : Bool → List Move
-no_end in_line = Written Transcript (fresh_line in_line ++ (emergency ++ no_end_line)) ∷ Stopped (AtFatal NoEnd) ∷ []
+abbrev pub no_end : Style → Bool → List Move
+no_end style in_line = Written Transcript (fresh_line in_line ++ (emergency style ++ no_end_line style)) ∷ Stopped (AtFatal NoEnd) ∷ []
 
 -- the reports that a run may have, but for the last
 abbrev pub reports_room : ℕ
 reports_room = 99
 
 -- Behind a report the rule goes on, but behind the hundredth the run ends.
-abbrev pub behind_report : ℕ → List Move → List Move
-behind_report reports rest =
-    if nat_lt reports reports_room then rest else Written Transcript hundred_line ∷ Stopped (AtFatal HundredErrors) ∷ []
+abbrev pub behind_report : Style → ℕ → List Move → List Move
+behind_report style reports rest =
+    if nat_lt reports reports_room then rest else Written Transcript (hundred_line style) ∷ Stopped (AtFatal HundredErrors) ∷ []
 
 -- a report, and the moves behind it
 abbrev pub reported : Page → Report → List Move → List Move
-reported page report rest = Written Transcript (report_bytes page.names page.in_line page.line report) ∷ Reported ∷ behind_report page.reports rest
+reported page report rest = Written Transcript (report_bytes (plain_style page.names) page.in_line page.line report) ∷ Reported ∷ behind_report (plain_style page.names) page.reports rest
 
 -- a token that only typesetting would use
 abbrev pub token_line : Page → Meaning Unit → List Move
-token_line page m = if page.quiet then [] else Written Transcript (token_line_bytes page.names page.in_line m) ∷ []
+token_line page m = if page.quiet then [] else Written Transcript (token_line_bytes (plain_style page.names) page.in_line m) ∷ []
 
 -- a token put in front: the list of it is begun, grown and put, once the finished lists in front have gone
 abbrev pub put_one : Token → List Move
@@ -205,9 +214,9 @@ first_of (suc n) [] = []
 first_of (suc n) (ts ∷ lists) = ts
 
 abbrev pub scanning_kind : Kind → List Token → Option Scanning → Option Scanning
-scanning_kind (Text name) list beneath = Some (record { what = OfText; name = name; list = list })
-scanning_kind (Definition name expanded) list beneath = Some (record { what = OfDefinition; name = name; list = list })
-scanning_kind (Arguments name long number ts) list beneath = Some (record { what = OfUse; name = name; list = list })
+scanning_kind (Text name) list beneath = Some (record { what = scanned.Text; name = name; list = list })
+scanning_kind (Definition name expanded) list beneath = Some (record { what = scanned.Definition; name = name; list = list })
+scanning_kind (Arguments name long number ts) list beneath = Some (record { what = scanned.Use; name = name; list = list })
 scanning_kind k list beneath = beneath
 
 abbrev pub scanning : List Reading → List (List Token) → Option Scanning
@@ -219,13 +228,13 @@ right_brace = token.Char end_group 125
 
 -- what is inserted at a check
 abbrev pub inserted_at : Scanned → Token
-inserted_at OfDefinition = right_brace
-inserted_at OfText = right_brace
-inserted_at OfUse = par_token
+inserted_at scanned.Definition = right_brace
+inserted_at scanned.Text = right_brace
+inserted_at scanned.Use = par_token
 
 -- a call notes that a check came
 abbrev pub check_noted : Scanned → List Move → List Move
-check_noted OfUse rest = Checked ∷ rest
+check_noted scanned.Use rest = Checked ∷ rest
 check_noted what rest = rest
 
 -- where the file has ended
@@ -237,7 +246,7 @@ abbrev pub page_behind : Page → List ℕ → Page
 page_behind page text = record page { in_line = in_line_after page.in_line text }
 
 abbrev pub away_text : Page → Scanning → List ℕ
-away_text page s = runaway_bytes s.what page.categories page.names page.in_line s.list
+away_text page s = runaway_bytes s.what (initial_style page.categories page.names) page.in_line s.list
 
 -- The list so far is shown, `}` or `\par` inserted, and the report comes.
 abbrev pub ran_away : Page → Report → Scanning → List Move → List Move
@@ -272,7 +281,7 @@ handed page enters s onward (LexemeFrom x p) =
 handed page enters s onward (LineTaken line p) = Settled ∷ Taken line ∷ []
 handed page enters s onward (InvalidMet p) = Settled ∷ Skipped ∷ reported page InvalidCharacter []
 handed page enters s onward (FileOver p) = Settled ∷ FileClosed ∷ checked (without_file page) s
-handed page enters s onward NothingLeft = Settled ∷ no_end page.in_line
+handed page enters s onward NothingLeft = Settled ∷ no_end (plain_style page.names) page.in_line
 
 -- a raw reading enters names
 abbrev pub enters_names : Want → Bool
@@ -282,7 +291,7 @@ enters_names want = false
 abbrev pub effect : State → Effect → List Move
 effect s (SetCategory code category) = SetCategoryOf code category ∷ []
 effect s (SetMacro name long outer ts) = Defined name long outer ts ∷ []
-effect s (Say ts) = Written Transcript (message_bytes s.categories s.names s.in_line ts) ∷ []
+effect s (Say ts) = Written Transcript (message_bytes (initial_style s.categories s.names) s.in_line ts) ∷ []
 
 -- the last token that a reading was fed with, where it comes last
 abbrev pub last_seen : List Fed → List Seen
@@ -396,8 +405,8 @@ file_opened (Some bytes) = bytes
 -- a job whose file isn't held
 abbrev pub no_file : List ℕ → List Move
 no_file file =
-    Written Transcript (report_bytes primitive_names false 0 (NoSuchFile file)) ∷ Reported
-    ∷ Written Transcript (emergency ++ no_file_line) ∷ Stopped (AtFatal NoFile) ∷ []
+    Written Transcript (missing_file_bytes (plain_style primitive_names) false 0 file) ∷ Reported
+    ∷ Written Transcript (emergency (plain_style primitive_names) ++ no_file_line (plain_style primitive_names)) ∷ Stopped (AtFatal NoFile) ∷ []
 
 abbrev pub file_missing : List ℕ → Option (List ℕ) → List Move
 file_missing file None = no_file file

@@ -1,13 +1,15 @@
 -- The machine run on small files: what it writes to the transcript within so many moves, the names that it enters, its
 -- status, and where a table is full.
 use Rattle.std.specs.Prelude.{ℕ, zero, suc, ◌+◌, ◌≤◌, ◌⊎◌, false, List, [], ◌∷◌, ◌++◌, length, Option, Some, None, ◌≡◌, codes}
+use Rattle.tex_syntax.specs.declared.words.Outcome.{Outcome}
+use Rattle.tex_syntax.specs.declared.words.Outcome.TheVariants.{Finished}
 use Rattle.tex_defs.specs.declared.Full.{Full}
 use Rattle.tex_defs.specs.declared.Sizes.{Sizes}
 use Rattle.prim_table.specs.Primitives.{primitive_names}
-use Rattle.plain_state.specs.Categories.{initial_categories}
-use Rattle.plain_state.specs.Names.{is_known}
-use Rattle.plain_state.specs.States.{State, Move, Written, Outcome, Finished}
-use Rattle.plain_state.specs.Tables.{refusal}
+use Rattle.plain_tokens.specs.Categories.{initial_categories}
+use Rattle.plain_tokens.specs.Names.{is_known}
+use Rattle.plain_state.specs.States.{State, Move, Written}
+use Rattle.plain_state.specs.Demands.{refusal}
 use Rattle.plain_machine.specs.Plan.{Next, Ends, Goes, next, next_of, first_state}
 use Rattle.plain_machine.specs.Runs.{step_of, steps, Moves, Trace}
 use Rattle.plain_machine.specs.Bounded.{FitMoves}

@@ -5,8 +5,8 @@
 
 ghost use Rattle.std.specs.Prelude.{codes, ◌++◌, ◌∷◌, [], replicate};
 ghost use Rattle.std.specs.List.{concat};
+ghost use Rattle.tex_syntax.specs.declared.words.Outcome.TheVariants.{Finished, AtFatal};
 ghost use Rattle.tex_defs.specs.declared.Fatal.TheVariants.{NoEnd, HundredErrors};
-ghost use Rattle.plain_state.specs.States.{Finished, AtFatal};
 ghost use Rattle.tex_defs.specs.declared.Table.TheVariants.{PoolSize, NumberOfStrings, HashSize, MainMemorySize, InputStackSize, ParameterStackSize, BufferSize, ExpansionDepth};
 ghost use Rattle.tex_defs.specs.Sizes.{default_sizes};
 ghost use Rattle.plain_machine.specs.Rows.{Writes, Runs as RunsSo, Enters, Begins, RunsWithin, Fills, FillsWithin, Fits, RowsAreRuns, EndedRowsAreWhole, RefusalsAreRuns, first_line_usual};

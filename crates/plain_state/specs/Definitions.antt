@@ -1,20 +1,19 @@
 -- The list of a definition and that of a balanced text, as functions of all that was read.
 -- The TeXbook, chapter 20; TeX: The Program, part 27.
 use Rattle.std.specs.Prelude.{ℕ, ◌+◌, ◌-◌, ◌==◌, Bool, true, false, ◌&&◌, nat_le, if◌then◌else◌, List, [], ◌∷◌, ◌++◌, Option, Some, None, is_some}
+use Rattle.tex_syntax.specs.declared.words.Want.{Want}
+use Rattle.tex_syntax.specs.declared.words.Want.TheVariants.{Raw, Expanded, Copied, Command}
+use Rattle.tex_syntax.specs.declared.words.Report.{Report}
+use Rattle.tex_syntax.specs.declared.words.Manner.{Manner}
+use Rattle.tex_syntax.specs.declared.words.Report.TheVariants.{NotConsecutive, AlreadyNine, IllegalNumber, MissingBrace}
 use Rattle.tex_defs.specs.declared.Token.{Token}
 use Rattle.tex_defs.specs.declared.Token.TheVariants.{Char, Place, Number, EndPlaces}
 use Rattle.tex_defs.specs.declared.Meaning.{Meaning}
 use Rattle.tex_defs.specs.declared.Meaning.TheVariants as means
 use Rattle.tex_defs.specs.declared.Seen.{Seen}
-use Rattle.plain_state.specs.Categories.{begin_group, end_group, parameter, other, is_between}
+use Rattle.plain_tokens.specs.Categories.{begin_group, end_group, parameter, other, is_between}
 use Rattle.tex_defs.specs.declared.Name.{Name}
-use Rattle.plain_state.specs.Tokens.{has_category, is_other, means_category, Want, Raw, Expanded, Copied, Command}
-use Rattle.plain_state.specs.Reports.{Report, NotConsecutive, AlreadyNine, IllegalNumber, MissingBrace}
-
--- How a list is read: the name that is defined, and whether the body is expanded.
-pub record Manner : Type 0 where
-  pub name : Name
-  pub expanded : Bool
+use Rattle.plain_tokens.specs.Tokens.{has_category, is_other, means_category}
 
 -- What a body is: how many places a macro has, none in a balanced text, which has no parameters; and the brace that
 -- ended the parameter text behind a parameter character.

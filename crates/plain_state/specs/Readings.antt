@@ -1,5 +1,10 @@
 -- The readings: what each asks for after all that it was fed with.
 use Rattle.std.specs.Prelude.{ℕ, ℤ, pos, negsuc, ◌-ℤ◌, ◌+◌, ◌-◌, ◌*◌, Bool, List, [], ◌∷◌, ◌==◌, true, false, not, if◌then◌else◌, ◌&&◌, ◌||◌, nat_le, Option, Some, None}
+use Rattle.tex_syntax.specs.declared.words.Want.{Want}
+use Rattle.tex_syntax.specs.declared.words.Want.TheVariants.{Raw, Expanded, Copied, Nonblank, Command}
+use Rattle.tex_syntax.specs.declared.words.Report.{Report}
+use Rattle.tex_syntax.specs.declared.words.Report.TheVariants.{ImproperConstant, MissingNumber, NumberTooBig, BadCharacterCode, InvalidCode, MissingBrace, MissingName, UseMismatch, ExtraBrace, ParagraphEnded, PrefixWith, LongOrOuterWith}
+use Rattle.tex_syntax.specs.declared.words.Manner.{Manner}
 use Rattle.tex_defs.specs.declared.Token.{Token}
 use Rattle.tex_defs.specs.declared.Token.TheVariants as token
 use Rattle.tex_defs.specs.declared.Name.{Name}
@@ -7,15 +12,15 @@ use Rattle.tex_defs.specs.declared.Name.TheVariants as name
 use Rattle.tex_defs.specs.declared.Frozen.TheVariants as frozen
 use Rattle.tex_defs.specs.declared.Meaning.{Meaning}
 use Rattle.tex_defs.specs.declared.Seen.{Seen}
-use Rattle.plain_state.specs.Categories.{begin_group, end_group, letter, other, is_between}
-use Rattle.plain_state.specs.Tokens.{Want, Raw, Expanded, Nonblank, Command, has_category, is_other, is_space_token, means_category, is_space}
-use Rattle.plain_state.specs.Names.{means_primitive, par_primitive, long_primitive, outer_primitive, global_primitive, def_primitive, gdef_primitive, edef_primitive, xdef_primitive, catcode_primitive}
-use Rattle.plain_state.specs.Reports.{Report, ImproperConstant, MissingNumber, NumberTooBig, BadCharacterCode, InvalidCode, MissingBrace, MissingName, UseMismatch, ExtraBrace, ParagraphEnded, PrefixWith, LongOrOuterWith}
-use Rattle.plain_state.specs.Arguments.{Long, Short, ParMode, gathering, begins_with_place, work_in}
-use Rattle.plain_state.specs.Arguments as call
-use Rattle.plain_state.specs.Definitions.{Manner, definition}
+use Rattle.plain_tokens.specs.Categories.{begin_group, end_group, letter, other, is_between}
+use Rattle.plain_tokens.specs.Tokens.{has_category, is_other, is_space_token, means_category, is_space}
+use Rattle.plain_tokens.specs.Names.{means_primitive, par_primitive, long_primitive, outer_primitive, global_primitive, def_primitive, gdef_primitive, edef_primitive, xdef_primitive, catcode_primitive}
+use Rattle.plain_tokens.specs.Puts.{list_of_tokens}
+use Rattle.plain_tokens.specs.Arguments.{Long, Short, ParMode, gathering, begins_with_place, work_in}
+use Rattle.plain_tokens.specs.Arguments as call
+use Rattle.plain_state.specs.Definitions.{definition}
 use Rattle.plain_state.specs.Definitions as build
-use Rattle.plain_state.specs.Numerals.{whole_number}
+use Rattle.plain_tokens.specs.Numerals.{whole_number}
 
 -- The commands of the stomach, the expansion of `\number`, an integer, a balanced text, the definition of a name, the arguments of
 -- a call; a name is that of the command or the macro, as it was written. A command with prefixes begins behind its first prefix, and
@@ -210,8 +215,9 @@ closes_at depth (Tok x ∷ fed) =
     else with_front x.token (closes_at depth fed)
 closes_at depth (x ∷ fed) = closes_at depth fed
 
+-- the tokens of a token list would come as they are
 abbrev pub text_done : Option (List Token) → Ask
-text_done None = More Expanded
+text_done None = More Copied
 text_done (Some ts) = Done (Toks ts) false
 
 -- in place of the first brace, where another token comes: it is given back, and a brace taken
@@ -478,10 +484,6 @@ so_far (Arguments name long number ts) fed = list_or_none (work_in (gathered_by 
 so_far k fed = []
 
 -- a value's list; one without tokens is none
-abbrev pub list_of_tokens : List Token → List (List Token)
-list_of_tokens [] = []
-list_of_tokens (t ∷ ts) = (t ∷ ts) ∷ []
-
 abbrev pub value_lists : Value → List (List Token)
 value_lists (Toks ts) = list_of_tokens ts
 value_lists v = []

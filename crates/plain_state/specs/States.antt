@@ -1,5 +1,6 @@
 -- The plain machine's state, and its moves.
 use Rattle.std.specs.Prelude.{ℕ, ◌+◌, Bool, true, false, not, ◌==◌, ◌-◌, List, [], ◌∷◌, ◌++◌, length, drop, Option, Some, None, slice_set}
+use Rattle.tex_syntax.specs.declared.words.Outcome.{Outcome}
 use Rattle.tex_defs.specs.declared.Token.{Token}
 use Rattle.tex_defs.specs.declared.Seen.{Seen}
 use Rattle.tex_defs.specs.declared.Fatal.{Fatal}
@@ -7,10 +8,10 @@ use Rattle.tex_defs.specs.Places.{Place, Transcript, OfFile}
 use Rattle.tex_defs.specs.declared.Name.{Name}
 use Rattle.tex_defs.specs.declared.Meaning.{Meaning}
 use Rattle.tex_defs.specs.declared.Meaning.TheVariants as means
-use Rattle.plain_state.specs.Meanings.{assigned}
-use Rattle.plain_state.specs.Puts.{Put as PutList, token_put}
-use Rattle.plain_state.specs.Pending.{Pending, pulled, after_pull, put_front, settle}
-use Rattle.plain_state.specs.Readings.{Kind, Value, Fed, Tok, Val, Told, Cut, value_lists, list_of_tokens, own_lists}
+use Rattle.plain_tokens.specs.Meanings.{assigned}
+use Rattle.plain_tokens.specs.Puts.{Put as PutList, token_put, grow_first, grown_by, list_of_tokens}
+use Rattle.plain_tokens.specs.Pending.{Pending, pulled, after_pull, put_front, settle}
+use Rattle.plain_state.specs.Readings.{Kind, Value, Fed, Tok, Val, Told, Cut, value_lists, own_lists}
 
 pub record Reading : Type 0 where
   pub kind : Kind
@@ -20,11 +21,6 @@ pub record Reading : Type 0 where
   pub lent : Bool
   -- how many of the lists that readings hold are its own
   pub holds : ℕ
-
--- how a run has ended
-pub data Outcome : Type 0 where
-  Finished : Outcome
-  AtFatal : Fatal → Outcome
 
 pub data Move : Type 0 where
   -- the two steps: a token handed on, a line taken
@@ -142,11 +138,6 @@ held_by_top (r ∷ rs) = r.holds
 abbrev pub beneath : List Reading → List (List Token) → List (List Token)
 beneath work lists = drop (held_by_top work) lists
 
--- the first list gets a token
-abbrev pub grow_first : Token → List (List Token) → List (List Token)
-grow_first t [] = []
-grow_first t (ts ∷ lists) = (ts ++ t ∷ []) ∷ lists
-
 -- the first list is a whole argument; one without tokens is none
 abbrev pub with_argument : List Token → List (List Token) → List (List Token)
 with_argument a [] = []
@@ -155,10 +146,6 @@ with_argument a (ts ∷ lists) = list_of_tokens a ++ lists
 abbrev pub argument_held : List Token → List Reading → List Reading
 argument_held [] work = without_one work
 argument_held (t ∷ ts) work = work
-
-abbrev pub grown_by : Token → Option (List Token) → Option (List Token)
-grown_by t None = None
-grown_by t (Some ts) = Some (ts ++ t ∷ [])
 
 -- What each move does.
 abbrev pub made : Move → State → State

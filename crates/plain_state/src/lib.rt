@@ -1,9 +1,6 @@
-//! The plain machine's parts: what a reader has to believe of tokens, lines, readings and printed text.
+//! The plain machine's readings, reports, state and moves: what a reader has to believe of a run, move by move.
 #![tactic(auto)]
 
 mod laws;
 
-pub use laws::{
-    double_hats, heads_are_read, lexing_consumes, lines_are_the_file, lines_come_in_turn,
-    lines_give_by_head, names_are_longest_runs, names_are_numbered, names_are_read,
-};
+pub use laws::texts_are_one;

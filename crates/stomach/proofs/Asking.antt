@@ -1,6 +1,7 @@
 -- A rule is by whether a reading is open, and by what it asks for.
 use Rattle.std.proofs.Common.{◌≡◌, ℕ, List, [], ◌∷◌, ◌++◌, length, refl, sym, ap, ◌∙◌, subst, Bool, true, false, reverse, arith, ◌≤◌, ◌<◌}
 use Rattle.std.specs.Prelude.{Option, Some, None, Result, Ok, Err, IfErr, IsErrAnd, is_some, not}
+use Rattle.tex_syntax.specs.declared.words.Want.{Want}
 use Rattle.tex_defs.specs.declared.Seen.{Seen}
 use Rattle.tex_defs.specs.declared.Token.{Token}
 use Rattle.tex_defs.specs.declared.Full.{Full}
@@ -8,9 +9,9 @@ use Rattle.tex_defs.specs.declared.Sizes.{Sizes}
 use Rattle.plain_state.specs.Readings as reading
 use Rattle.plain_state.specs.Readings.{Tok, own_lists, rank}
 use Rattle.plain_machine.proofs.Lower.{Lower, lower, IsHighest, highest}
-use Rattle.plain_state.specs.Pending.{pulled}
+use Rattle.plain_tokens.specs.Pending.{pulled}
 use Rattle.plain_state.specs.States.{State, Reading, Move, Begun, BegunWith, made, fresh, fed_with, ended_with, lending}
-use Rattle.plain_state.specs.Tables.{refusal}
+use Rattle.plain_state.specs.Demands.{refusal}
 use Rattle.plain_machine.specs.Plan.{answered, handed, begun, last_seen}
 use Rattle.plain_machine.specs.Numbers.{pending_of}
 use Rattle.plain_machine.specs.Runs.{step_of}
@@ -18,7 +19,6 @@ use Rattle.plain_machine.proofs.Doing.{did_one}
 use Rattle.world_io.specs.Told.{FilesTold, SinkTold, world}
 use Rattle.frames.specs.declared.scan.Ask.{Ask}
 use Rattle.frames.specs.declared.scan.Ask.TheVariants.{More, Inner, Done, Act, Makes}
-use Rattle.frames.specs.declared.scan.Want.{Want as ScanWant}
 use Rattle.frames.specs.declared.scan.Value.{Value}
 use Rattle.frames.specs.declared.scan.Effect.{Effect}
 use Rattle.frames.specs.declared.scan.Effect.TheVariants as effects
@@ -81,7 +81,7 @@ makes_ends k fed characters is = expands k (highest k (subst (Lower (rank k)) (s
 none_taken : (sizes : Sizes) (e : Engine) (book : Book) → e.top ≡ None → Stands sizes e book → Takes sizes None e book
 none_taken sizes e book top st = (subst (λ (c : Option Call). WantsHere c None e) (sym st.uncalled.none) top, all_of sizes e book st)
 
-pub some_taken : (sizes : Sizes) (e : Engine) (want : ScanWant) (book : Book) → e.ask ≡ More want → Stands sizes e book → Takes sizes (Some want) e book
+pub some_taken : (sizes : Sizes) (e : Engine) (want : Want) (book : Book) → e.ask ≡ More want → Stands sizes e book → Takes sizes (Some want) e book
 some_taken sizes e want book asks st = (subst (λ (c : Option Call). WantsHere c (Some want) e) (sym st.uncalled.none) asks, all_of sizes e book st)
 
 pub by_none : (sizes : Sizes) (e : Engine) (P : Book → List Move → Type 0) → e.top ≡ None →

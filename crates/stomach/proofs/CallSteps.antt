@@ -1,11 +1,11 @@
 -- The next rule has a step exactly where the engine says so: of a call that gathers its arguments, or of a frame.
 use Rattle.std.proofs.Common.{◌≡◌, List, [], ◌∷◌, refl, sym, ap, ◌∙◌, arith, true, false}
 use Rattle.std.specs.Prelude.{Option, Some, None, ◌&&◌}
+use Rattle.tex_syntax.specs.declared.words.Want.TheVariants.{Raw}
 use Rattle.tex_defs.specs.declared.Sizes.{Sizes}
 use Rattle.tex_defs.specs.declared.Name.{Name}
-use Rattle.plain_state.specs.Pending.{pulled}
+use Rattle.plain_tokens.specs.Pending.{pulled}
 use Rattle.plain_state.specs.States.{Move, Reading}
-use Rattle.plain_state.specs.Tokens.{Raw}
 use Rattle.plain_machine.specs.Plan.{page_of, answered, scanning, wanted, feeding}
 use Rattle.plain_machine.specs.Runs.{steps}
 use Rattle.plain_machine.proofs.Joins.{StepComes}

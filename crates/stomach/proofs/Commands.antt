@@ -5,7 +5,7 @@ use Rattle.tex_defs.specs.declared.Token.{Token}
 use Rattle.tex_defs.specs.declared.Seen.{Seen}
 use Rattle.tex_defs.specs.declared.Name.{Name}
 use Rattle.tex_defs.specs.declared.Meaning.{Meaning}
-use Rattle.plain_state.specs.Tokens.{is_space_token}
+use Rattle.plain_tokens.specs.Tokens.{is_space_token}
 use Rattle.plain_state.specs.Readings.{Kind, number, Catcode, Message, Prefixed, Define, Number, Value, Int, Toks, Fed, Tok, Val, Told, Ask, Done, ask, value_lists, is_at_most, greatest_category, greatest_character, natural, SetCategory, Act, bad_category, category_behind, behind_equals, equals_behind, bad_code, catcode, message, definition_behind, define, name_behind, name_to_assign, prefix_refused, limit_refused, behind_prefixes, prefixed, is_long, is_outer_prefix, is_global, is_raw_definition, is_expanded_definition, is_assignment}
 use Rattle.plain_state.specs.States.{Reading}
 use Rattle.engine_state.specs.Begins.{IsCommand}

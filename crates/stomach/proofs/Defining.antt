@@ -9,9 +9,9 @@ use Rattle.tex_defs.specs.declared.Meaning.TheVariants as means
 use Rattle.tex_defs.specs.declared.Name.{Name}
 use Rattle.tex_defs.specs.declared.Sizes.{Sizes}
 use Rattle.tex_defs.specs.declared.Token.{Token}
-use Rattle.plain_state.specs.Meanings.{location, set_at, assigned}
-use Rattle.plain_state.specs.Pending.{with_puts}
-use Rattle.plain_state.specs.Puts.{Put}
+use Rattle.plain_tokens.specs.Meanings.{location, set_at, assigned}
+use Rattle.plain_tokens.specs.Pending.{with_puts}
+use Rattle.plain_tokens.specs.Puts.{Put}
 use Rattle.plain_state.specs.States.{State, Defined, made}
 use Rattle.plain_machine.specs.Numbers.{IsHeld, Tied, renumbered, meaning_of, meanings_of, puts_of}
 use Rattle.plain_machine.proofs.Doing.{did_silent, wrote_silent}

@@ -3,7 +3,7 @@ use Rattle.std.proofs.Common.{◌≡◌, ℕ, ◌<◌, List, [], ◌++◌, lengt
 use Rattle.std.proofs.lemmas.List.{append-nil}
 use Rattle.tex_defs.specs.Places.{World}
 use Rattle.tex_defs.specs.declared.Sizes.{Sizes}
-use Rattle.plain_state.specs.Pending.{Pending, Pulled, TokenFrom, LexemeFrom, LineTaken, InvalidMet, FileOver, NothingLeft, pulled, takes_file}
+use Rattle.plain_tokens.specs.Pending.{Pending, Pulled, TokenFrom, LexemeFrom, LineTaken, InvalidMet, FileOver, NothingLeft, pulled, takes_file}
 use Rattle.plain_state.specs.States.{State}
 use Rattle.plain_machine.specs.Bounded.{FitMoves}
 use Rattle.plain_machine.specs.Does.{ReadAt}
@@ -11,6 +11,7 @@ use Rattle.plain_machine.specs.Extended.{IsReady, InFront, NoFile, HasLine, NoMo
 use Rattle.plain_machine.specs.Numbers.{pending_of, pulled_of}
 use Rattle.plain_machine.proofs.Doing.{wrote_none}
 use Rattle.plain_machine.proofs.Extending.{extended_takes}
+use Rattle.plain_machine.proofs.FileRules.{wanted_reads}
 use Rattle.plain_machine.proofs.Renumbering.{pulled_same}
 use Rattle.input_state.specs.NextBytes.{KnowsNext, with_bytes}
 use Rattle.input_state.specs.NextBytes as next
@@ -21,12 +22,12 @@ use Rattle.engine_state.specs.Calls.{AllStand}
 use Rattle.engine_state.specs.Stands.{SameFrames, SameStore, state_of}
 use Rattle.engine_state.proofs.CallKept.{all_still}
 use Rattle.engine_state.proofs.Storing.{sound_still}
-use Rattle.stomach.specs.Ahead.{given, IsGiven, Knows, IsNext, HasEnded, WantsNone, IsAtFile}
+use Rattle.stomach.specs.Ahead.{given, IsGiven, Knows, IsNext, HasEnded, WantsNone, Needs}
 use Rattle.stomach.specs.Ran.{Came, UnreadBy, whole_state}
 use Rattle.stomach.specs.Read.{MayLeave}
 use Rattle.engine_state.specs.Steps.{all_want}
 use Rattle.stomach.proofs.Running.{IsKnown}
-use Rattle.stomach.proofs.Unread.{plan_unread}
+use Rattle.stomach.proofs.Unread.{plan_unread, work_wants}
 
 module _ (sizes : Sizes) (e : Engine) (bytes : List ℕ) where
   given_store : SameStore e.input (given bytes e).input
@@ -112,24 +113,27 @@ module _ (sizes : Sizes) (e : Engine) (left : List ℕ) (book : Book) (stands : 
   is_ready r (HasEnded h) wants may = NoMore (may h)
   is_ready r (WantsNone h) wants may = absurd (cc (h, wants))
 
-module _ (sizes : Sizes) (e : Engine) (w : World) where
+module _ (sizes : Sizes) (e : Engine) (r : OpenReader) (needs : Needs e r) (w : World) where
   -- a moment at which the file's next bytes are needed
-  pub read_at : (left : List ℕ) (book : Book) (n : ℕ) → IsAtFile e → ReadAt sizes (whole_state left e book) n (whole_state left e book) w w
-  read_at left book n at = record {
+  read_at : (left : List ℕ) (book : Book) (n : ℕ) → AllStand sizes e book → ReadAt sizes (whole_state left e book) n (whole_state left e book) w w
+  read_at left book n stands = record {
     ms = [];
     moves = refl;
     within = omega arith;
-    file = extended_takes e.categories (pending_of book.number e.input.pending) left ∙ (takes_same book.number e.categories e.input.pending ∙ at.file);
-    not_closed = at.not_closed;
+    due = refl;
+    needs = wanted_reads (whole_state left e book) book.work (work_wants sizes e needs.wanted book stands)
+        (extended_takes e.categories (pending_of book.number e.input.pending) left ∙ (takes_same book.number e.categories e.input.pending ∙ needs.needs.at_file)) needs.needs.not_closed;
     written = wrote_none w;
   }
 
 -- where they didn't come
-pub unread : (sizes : Sizes) (e e' : Engine) (all left : List ℕ) (w : World) (n : ℕ) → IsGiven all left e e' → IsAtFile e' → (book : Book) → AllStand sizes e book → UnreadBy sizes (whole_state all e book) n e' left w w
-unread sizes e e' all left w n is at book stands =
+pub unread : (sizes : Sizes) (e e' : Engine) (all left : List ℕ) (w : World) (n : ℕ) → IsGiven all left e e' → (r : OpenReader) → Needs e' r → (book : Book) → AllStand sizes e book → UnreadBy sizes (whole_state all e book) n e' left w w
+unread sizes e e' all left w n is r needs book stands =
     let t : State = whole_state left e' book in
+    let stands' : AllStand sizes e' book = stands_given sizes all left e e' is book stands in
     record {
       t = t;
-      read = subst (λ (s : State). ReadAt sizes s n t w w) (sym (state_given sizes all left e e' is book)) (read_at sizes e' w left book n at);
-      at = record { book' = book; stands = stands_given sizes all left e e' is book stands; same = refl };
+      read = subst (λ (s : State). ReadAt sizes s n t w w) (sym (state_given sizes all left e e' is book)) (read_at sizes e' r needs w left book n stands');
+      at = record { book' = book; stands = stands'; same = refl };
+      lacks = needs.needs;
     }

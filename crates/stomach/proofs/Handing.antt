@@ -1,18 +1,17 @@
 -- What becomes of a token that isn't expanded.
 use Rattle.std.proofs.Common.{◌≡◌, List, sym, subst, ◌∙◌}
 use Rattle.std.specs.Prelude.{Option, None, Some}
+use Rattle.tex_syntax.specs.declared.words.Want.{Want}
 use Rattle.tex_defs.specs.declared.Seen.{Seen}
 use Rattle.tex_defs.specs.declared.Sizes.{Sizes}
 use Rattle.tex_defs.specs.Places.{World}
 use Rattle.plain_state.specs.Readings.{Tok}
 use Rattle.plain_state.specs.States.{State, Move, fed_with}
 use Rattle.plain_machine.specs.Does.{Did}
-use Rattle.frames.specs.declared.scan.Want.{Want as ScanWant}
 use Rattle.engine_state.specs.declared.call.Call.{Call}
 use Rattle.engine_state.specs.declared.engine.Engine.{Engine}
 use Rattle.engine_state.specs.declared.outcome.Ruled.{Ruled}
 use Rattle.engine_state.specs.declared.outcome.Ruled.TheVariants.{Step, Free, Halted}
-use Rattle.engine_state.specs.Begins.{outcome_of}
 use Rattle.engine_state.specs.Book.{Book, with_work}
 use Rattle.engine_state.specs.Stands.{Stands, state_of, page_of}
 use Rattle.engine_state.specs.Rules.{onward_of, feeds_of, WantsHere, Takes, Comes, Went, SameReadings, DoesRule, DoesOnward}
@@ -39,7 +38,7 @@ top_went sizes e e' x book w st did = record {
 -- WHAT IS MADE OF A TOKEN FITS WHERE IT IS WANTED
 
 module _ (sizes : Sizes) (e : Engine) (book : Book) (x : Seen) (none : e.call ≡ None) where
-  here : (want : Option ScanWant) → Takes sizes want e book → WantsHere None want e
+  here : (want : Option Want) → Takes sizes want e book → WantsHere None want e
   here want t = subst (λ (c : Option Call). WantsHere c want e) none t.0
 
   pub fits_none : (o : Onward) → IsNoFeed o → Takes sizes None e book → FitsOnward sizes x o e book
@@ -49,7 +48,7 @@ module _ (sizes : Sizes) (e : Engine) (book : Book) (x : Seen) (none : e.call �
   fits_none onward.Line h t = t.1
   fits_none onward.Finish h t = t.1
 
-  pub fits_some : (want : ScanWant) (o : Onward) → IsNoBegin o → Takes sizes (Some want) e book → FitsOnward sizes x o e book
+  pub fits_some : (want : Want) (o : Onward) → IsNoBegin o → Takes sizes (Some want) e book → FitsOnward sizes x o e book
   fits_some want onward.Skip h t = t.1
   fits_some want onward.Feed h t = record { want = want; asks = here (Some want) t; stands = framed sizes e book none t.1 }
   fits_some want (onward.Begin k) h t = absurd h
@@ -58,14 +57,14 @@ module _ (sizes : Sizes) (e : Engine) (book : Book) (x : Seen) (none : e.call �
 
 -- BEHIND THE STEP
 
-module _ (sizes : Sizes) (want : Option ScanWant) (s : State) (e1 e2 : Engine) (book : Book) (w v w' : World) (moves : List Move) (x : Seen) (c : Comes sizes want s e1 book w v moves x 1) (none : e1.call ≡ None) where
+module _ (sizes : Sizes) (want : Option Want) (s : State) (e1 e2 : Engine) (book : Book) (w v w' : World) (moves : List Move) (x : Seen) (c : Comes sizes want s e1 book w v moves x 1) (none : e1.call ≡ None) where
   pub rule_on : (ruled : Ruled) → DoesOnward sizes (state_of e1 c.book') e2 c.book' v w' (onward_of (page_of e1 c.book') want c.book'.work x) ruled → DoesRule sizes s e2 book w w' moves ruled
   rule_on Step h = comes_went sizes want s e1 e2 book w v w' moves x 1 c 0 h
   rule_on Free h = absurd h
-  rule_on (Halted o) h = comes_halts sizes want s e1 e2 book w v w' moves x 1 c (outcome_of o) 0 none h
+  rule_on (Halted o) h = comes_halts sizes want s e1 e2 book w v w' moves x 1 c o 0 none h
 
 -- what a step came to
-pub steps_as : (sizes : Sizes) (want : Option ScanWant) (s : State) (e' : Engine) (book : Book) (w w' : World) (ms : List Move) (n m : Stepped) → n ≡ m → Steps sizes want s e' book w w' ms n → Steps sizes want s e' book w w' ms m
+pub steps_as : (sizes : Sizes) (want : Option Want) (s : State) (e' : Engine) (book : Book) (w w' : World) (ms : List Move) (n m : Stepped) → n ≡ m → Steps sizes want s e' book w w' ms n → Steps sizes want s e' book w w' ms m
 steps_as sizes want s e' book w w' ms n m is h = subst (λ (x : Stepped). Steps sizes want s e' book w w' ms x) is h
 
 -- where the token stays, no call gathers its arguments, as before

@@ -1,19 +1,18 @@
 -- A run, round by round: the file is read on, and a rule follows.
 use Rattle.std.proofs.Common.{◌≡◌, ℕ, ◌+◌, ◌≤◌, List, refl, sym, ap, ◌∙◌, subst, Bool, true, false, arith}
 use Rattle.std.specs.Prelude.{◌&&◌, Option, None, Some, Result, Ok, Err, IsErrAnd, MatchResult}
+use Rattle.tex_syntax.specs.declared.words.Outcome.{Outcome}
 use Rattle.tex_defs.specs.declared.Sizes.{Sizes}
 use Rattle.world_io.specs.declared.traits.Fault.{Fault}
 use Rattle.world_io.specs.declared.traits.Fault.TheVariants.{Failed}
 use Rattle.world_io.specs.Told.{FilesTold, SinkTold, world}
 use Rattle.plain_machine.specs.Runs.{steps}
 use Rattle.input_state.specs.Stored.{Stored, KeepsMacros}
-use Rattle.plain_state.specs.Pending.{pulled, settle}
+use Rattle.plain_tokens.specs.Pending.{pulled, settle}
 use Rattle.input_state.specs.Reads.{gives_step}
 use Rattle.line_reader.specs.Readers.{OpenReader}
 use Rattle.engine_state.specs.declared.broken.Broken.{Broken}
 use Rattle.engine_state.specs.declared.engine.Engine.{Engine}
-use Rattle.engine_state.specs.declared.outcome.Outcome.{Outcome}
-use Rattle.engine_state.specs.Begins.{outcome_of}
 use Rattle.engine_state.specs.Book.{Book}
 use Rattle.engine_state.specs.Calls.{AllStand}
 use Rattle.engine_state.specs.Near.{CutsIn}
@@ -23,7 +22,7 @@ use Rattle.engine_state.specs.Steps.{weight, stepping, all_want}
 use Rattle.stomach.specs.declared.early.Early.{Early}
 use Rattle.stomach.specs.declared.early.Early.TheVariants as early
 use Rattle.stomach.specs.declared.runs.Ended.TheVariants as ended
-use Rattle.stomach.specs.Ahead.{IsGiven, Knows, IsAtFile}
+use Rattle.stomach.specs.Ahead.{IsGiven, Knows, Needs}
 use Rattle.stomach.specs.Ran.{Came, Stops, Settles, Ran, StoppedBy, RanTo, StoppedTo, whole_state}
 use Rattle.stomach.specs.Read.{MayLeave, ReadsTo}
 use Rattle.stomach.proofs.CallSteps.{stepping_needs}
@@ -92,16 +91,16 @@ module _ (e0 e e' : Engine) (s0 s : SinkTold) (k : ℕ) where
       reads_then (CameTo e0 s0 e s k) r r' r'' f f' f'' (λ (all left : List ℕ). IsGiven all left e e') (CameTo e0 s0 e' s k) a b (λ all mid left may x y. came_more all mid left x y)
 
   -- and the bytes that are needed don't come
-  unread_more : (n : ℕ) (fault : Fault) (all mid left : List ℕ) → k ≤ n → IsAtFile e' → CameTo e0 s0 e s k all mid → IsGiven mid left e e' → StoppedTo e0 s0 e' s n (early.Unread fault) all left
-  unread_more n fault all mid left le at came is sizes f book stands =
+  unread_more : (n : ℕ) (fault : Fault) (r : OpenReader) (all mid left : List ℕ) → k ≤ n → Needs e' r → CameTo e0 s0 e s k all mid → IsGiven mid left e e' → StoppedTo e0 s0 e' s n (early.Unread fault) all left
+  unread_more n fault r all mid left le needs came is sizes f book stands =
       subst (λ (b : Bool). StoppedBy sizes (whole_state all e0 book) n e' left (world_of f s0 e0) (world f s b) (early.Unread fault)) (column_given mid left e e' is)
       (stopped_join sizes (whole_state all e0 book) e e' mid (world_of f s0 e0) (world_of f s e) (world_of f s e) k (came sizes f book stands) left 0 n (early.Unread fault) (omega (arith, le))
-      (λ w h. unread sizes e e' mid left (world_of f s e) 0 is at w h))
+      (λ w h. unread sizes e e' mid left (world_of f s e) 0 is r needs w h))
 
-  pub reads_unread : (n : ℕ) (fault : Fault) (r r' r'' : OpenReader) (f f' f'' : FilesTold) → k ≤ n → IsAtFile e' → ReadsTo r r' f f' (CameTo e0 s0 e s k) → ReadsTo r' r'' f' f'' (λ all left. IsGiven all left e e') →
+  pub reads_unread : (n : ℕ) (fault : Fault) (r r' r'' : OpenReader) (f f' f'' : FilesTold) → k ≤ n → Needs e' r'' → ReadsTo r r' f f' (CameTo e0 s0 e s k) → ReadsTo r' r'' f' f'' (λ all left. IsGiven all left e e') →
       ReadsTo r r'' f f'' (StoppedTo e0 s0 e' s n (early.Unread fault))
-  reads_unread n fault r r' r'' f f' f'' le at a b =
-      reads_then (CameTo e0 s0 e s k) r r' r'' f f' f'' (λ (all left : List ℕ). IsGiven all left e e') (StoppedTo e0 s0 e' s n (early.Unread fault)) a b (λ all mid left may x y. unread_more n fault all mid left le at x y)
+  reads_unread n fault r r' r'' f f' f'' le needs a b =
+      reads_then (CameTo e0 s0 e s k) r r' r'' f f' f'' (λ (all left : List ℕ). IsGiven all left e e') (StoppedTo e0 s0 e' s n (early.Unread fault)) a b (λ all mid left may x y. unread_more n fault r'' all mid left le needs x y)
 
 -- THE NEXT RULE, WHERE ITS READING IS KNOWN
 
@@ -117,7 +116,7 @@ module _ (e0 e e' : Engine) (s0 s s' : SinkTold) (k : ℕ) (r : OpenReader) (kno
   came_rule n does sizes f book stands =
       came_on sizes (whole_state all e0 book) e e' left (world_of f s0 e0) (world_of f s e) (world_of f s' e') k (came sizes f book stands) (known_here sizes) n (λ w h. does sizes f w h)
 
-  pub came_end : (j : ℕ) (o : Outcome) → ((sizes : Sizes) (f : FilesTold) (book : Book) → AllStand sizes e book → Halts sizes (state_of e book) e' book (world_of f s e) (world_of f s' e') (plan_of e book) (outcome_of o) 1) → SameReadings e e' → CallStays e.call e e' →
+  pub came_end : (j : ℕ) (o : Outcome) → ((sizes : Sizes) (f : FilesTold) (book : Book) → AllStand sizes e book → Halts sizes (state_of e book) e' book (world_of f s e) (world_of f s' e') (plan_of e book) o 1) → SameReadings e e' → CallStays e.call e e' →
       ((sizes : Sizes) (book : Book) → AllStand sizes e book → steps (plan_of e book) ≡ j) → StopsTo e0 s0 e' s' (k + j) o all left
   came_end j o does same stays count sizes f book stands =
       came_halts sizes (whole_state all e0 book) e e' left (world_of f s0 e0) (world_of f s e) (world_of f s' e') k (came sizes f book stands) (known_here sizes) j o (λ w h. does sizes f w h) same stays (count sizes)

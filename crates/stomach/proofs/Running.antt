@@ -1,10 +1,12 @@
 -- A run, rule by rule.
 use Rattle.std.proofs.Common.{◌≡◌, inl, inr, ℕ, ◌+◌, ◌≤◌, List, [], ◌∷◌, ◌++◌, refl, sym, ap, subst, ◌∙◌, arith, Bool, true, false}
 use Rattle.std.specs.Prelude.{Option, Some, None, ◌⊎◌}
+use Rattle.tex_syntax.specs.declared.words.Outcome.{Outcome}
+use Rattle.tex_syntax.specs.declared.words.Outcome.TheVariants.{Finished, AtFatal}
 use Rattle.tex_defs.specs.Places.{World}
 use Rattle.tex_defs.specs.declared.Sizes.{Sizes}
-use Rattle.plain_state.specs.Pending.{Pending, settle}
-use Rattle.plain_state.specs.States.{State, Move, Reading, Settled, Outcome as MachineOutcome, Finished, AtFatal}
+use Rattle.plain_tokens.specs.Pending.{Pending, settle}
+use Rattle.plain_state.specs.States.{State, Move, Reading, Settled}
 use Rattle.plain_machine.specs.Plan.{planned}
 use Rattle.plain_machine.specs.Runs.{steps}
 use Rattle.plain_machine.specs.Extended.{extended, IsReady}
@@ -21,9 +23,7 @@ use Rattle.engine_state.specs.declared.outcome.Ruled.{Ruled}
 use Rattle.engine_state.specs.declared.outcome.Ruled.TheVariants as ruled
 use Rattle.stomach.specs.declared.runs.Ended.{Ended}
 use Rattle.stomach.specs.declared.runs.Ended.TheVariants as ended
-use Rattle.engine_state.specs.declared.outcome.Outcome.{Outcome}
 use Rattle.engine_state.specs.declared.broken.Broken.{Broken}
-use Rattle.engine_state.specs.Begins.{outcome_of}
 use Rattle.engine_state.specs.Faults.{why_of}
 use Rattle.engine_state.specs.Book.{Book}
 use Rattle.engine_state.specs.Calls.{AllStand, CallReads, FramesOf}
@@ -91,7 +91,7 @@ module _ (sizes : Sizes) (s : State) (e e' : Engine) (left : List ℕ) (w w' w''
           written = wrote_join w w' w'' came.ms plan came.written did.written;
         }
 
-    pub came_halts : (j : ℕ) (o : Outcome) → ((book : Book) → AllStand sizes e book → Halts sizes (state_of e book) e' book w' w'' (plan_of e book) (outcome_of o) 1) → SameReadings e e' → CallStays e.call e e' →
+    pub came_halts : (j : ℕ) (o : Outcome) → ((book : Book) → AllStand sizes e book → Halts sizes (state_of e book) e' book w' w'' (plan_of e book) o 1) → SameReadings e e' → CallStays e.call e e' →
         ((book : Book) → AllStand sizes e book → steps (plan_of e book) ≡ j) → Stops sizes s e' left w w'' (k + j) o
     came_halts j o does same stays count =
         let halts = does came.book' came.stands in
@@ -103,13 +103,13 @@ module _ (sizes : Sizes) (s : State) (e e' : Engine) (left : List ℕ) (w w' w''
           t = extended left halts.t;
           moves = fits_join sizes s (whole_state left e came.book') (extended left halts.t) came.ms plan came.moves (plan_did sizes (whole_state left e came.book') (extended left halts.t) w' w'' plan refl refl did);
           within = omega (arith, steps_join came.ms plan, came.count, known_steps sizes e left came.book' ready, count came.book' came.stands);
-          ends = stopped_ends (extended left halts.t) (outcome_of o) halts.due halts.stopped;
+          ends = stopped_ends (extended left halts.t) o halts.due halts.stopped;
           stopped = halts.stopped;
-          reports = counts_on (outcome_of o) halts.t halts.reports;
+          reports = counts_on o halts.t halts.reports;
           stands = record { book' = came.book'; frames = frames_after sizes e e' came.book' same stays came.stands; same = ap (extended left) (halts.same came.stands.sound.sized.few_reports) };
           written = wrote_join w w' w'' came.ms plan came.written did.written;
         } where
-          counts_on : (x : MachineOutcome) (t : State) → CountsReports x t e' → CountsReports x (extended left t) e'
+          counts_on : (x : Outcome) (t : State) → CountsReports x t e' → CountsReports x (extended left t) e'
           counts_on Finished t h = h
           counts_on (AtFatal f) t h = h
 
@@ -151,8 +151,8 @@ module _ (sizes : Sizes) (s : State) (e e' : Engine) (left : List ℕ) (w w' w''
     ms = came.ms ++ read.ms;
     moves = fits_join sizes s (whole_state left e came.book') t came.ms read.ms came.moves read.moves;
     within = omega (arith, le, steps_join came.ms read.ms, came.count, read.within);
-    file = read.file;
-    not_closed = read.not_closed;
+    due = read.due;
+    needs = read.needs;
     written = wrote_join w w' w'' came.ms read.ms came.written read.written;
   }
 
@@ -166,7 +166,7 @@ module _ (sizes : Sizes) (s : State) (e e' : Engine) (left : List ℕ) (w w' w''
   stopped_join more j n (early.Broken b) le on = cut_by_join more j n b le on
   stopped_join more j n (early.Unread fault) le on =
       let h = on came.book' came.stands in
-      record { t = h.t; read = read_on j n h.t le h.read; at = h.at }
+      record { t = h.t; read = read_on j n h.t le h.read; at = h.at; lacks = h.lacks }
 
   -- and a whole run
   comes_on : (i j n : ℕ) (t : State) (end : End) → j ≡ i → Comes sizes i n t end → Comes sizes j n t end
@@ -270,7 +270,7 @@ module _ (sizes : Sizes) (s : State) (e' : Engine) (book : Book) (w w' : World) 
   pub as_free : r ≡ ruled.Free → DoesRule sizes s e' book w w' plan r → Went sizes s e' w w' plan 0
   as_free is h = subst (λ (x : Ruled). DoesRule sizes s e' book w w' plan x) is h
 
-  pub as_halted : (o : Outcome) → r ≡ ruled.Halted o → DoesRule sizes s e' book w w' plan r → Halts sizes s e' book w w' plan (outcome_of o) 1
+  pub as_halted : (o : Outcome) → r ≡ ruled.Halted o → DoesRule sizes s e' book w w' plan r → Halts sizes s e' book w w' plan o 1
   as_halted o is h = subst (λ (x : Ruled). DoesRule sizes s e' book w w' plan x) is h
 
 pub when_halted : (r : Ruled) (o : Outcome) → r ≡ ruled.Halted o → IsHalted r

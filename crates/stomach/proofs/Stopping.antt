@@ -7,7 +7,6 @@ use Rattle.plain_state.specs.States.{State, Reading}
 use Rattle.world_io.specs.Told.{SinkTold}
 use Rattle.engine_state.specs.declared.call.Call.{Call}
 use Rattle.engine_state.specs.declared.engine.Engine.{Engine}
-use Rattle.engine_state.specs.Begins.{outcome_of}
 use Rattle.engine_state.specs.Calls.{FramesOf}
 use Rattle.engine_state.proofs.Stopping.{noted, noted_counts, noted_near, noted_stands}
 use Rattle.stomach.specs.declared.early.Early.{Early}
@@ -33,7 +32,7 @@ module _ (b : Bool) (e' : Engine) (left : List ℕ) (t : State) where
   at_noted sizes h = record { book' = h.book'; stands = noted_stands b sizes e' h.book' h.stands; same = h.same }
 
   ends_noted : (sizes : Sizes) (x : Ended) → EndsAs sizes x e' left t → EndsAs sizes x (noted b e') left t
-  ends_noted sizes (ended.Halted o) h = (h.0, (noted_counts b (outcome_of o) t e' h.1.0, end_noted h.1.1))
+  ends_noted sizes (ended.Halted o) h = (h.0, (noted_counts b o t e' h.1.0, end_noted h.1.1))
   ends_noted sizes ended.Steps h = at_noted sizes h
 
 module _ (b : Bool) (sizes : Sizes) (s : State) (n : ℕ) (e' : Engine) (left : List ℕ) (w w' : World) where
@@ -42,7 +41,7 @@ module _ (b : Bool) (sizes : Sizes) (s : State) (n : ℕ) (e' : Engine) (left : 
 
   by_noted : (x : Early) → StoppedBy sizes s n e' left w w' x → StoppedBy sizes s n (noted b e') left w w' x
   by_noted (early.Broken x) h = record { t = h.t; cut = h.cut; book' = h.book'; frames = noted_near b x e' h.book' h.frames; same = h.same }
-  by_noted (early.Unread fault) h = record { t = h.t; read = h.read; at = at_noted b e' left h.t sizes h.at }
+  by_noted (early.Unread fault) h = record { t = h.t; read = h.read; at = at_noted b e' left h.t sizes h.at; lacks = h.lacks }
 
 module _ (b : Bool) (e e' : Engine) (before after : SinkTold) (n : ℕ) where
   pub ran_noted : (x : Ended) (all left : List ℕ) → RanTo e before e' after n x all left → RanTo e before (noted b e') after n x all left

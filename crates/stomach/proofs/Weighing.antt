@@ -1,7 +1,7 @@
 -- What a rule of the frames makes lighter, and whether it has a step.
 use Rattle.std.proofs.Common.{◌≡◌, ◌+◌, ◌*◌, ◌<◌, ◌≤◌, refl, ap, ◌∙◌, subst, arith, Bool, true, false}
 use Rattle.std.specs.Prelude.{Option, Some, None, Result, Ok, Err, IfOk, OnOk, IsSome, ◌&&◌, not, is_some}
-use Rattle.plain_state.specs.Pending.{pulled}
+use Rattle.plain_tokens.specs.Pending.{pulled}
 use Rattle.frames.specs.Weights.{ask_weight}
 use Rattle.frames.specs.declared.frame.Frame.{Frame}
 use Rattle.frames.specs.declared.scan.Ask.{Ask}
@@ -13,7 +13,7 @@ use Rattle.engine_state.specs.declared.outcome.Ruled.{Ruled}
 use Rattle.engine_state.specs.declared.outcome.Ruled.TheVariants.{Step, Free, Halted}
 use Rattle.engine_state.specs.Stands.{SameFrames, frames}
 use Rattle.engine_state.specs.Rules.{SameReadings}
-use Rattle.engine_state.specs.Steps.{stepping, all_want, wants_token, asks_more, pending_weight, call_weight, frame_weight, weight, IsFree, IsStep, StepsIf}
+use Rattle.engine_state.specs.Steps.{stepping, all_want, wants_token, asks_more, pending_weight, call_weight, frame_weight, weight, IsFree, StepsIf}
 use Rattle.engine_state.proofs.Stepping.{no}
 use Rattle.gullet.specs.declared.expansion.Stepped.{Stepped}
 use Rattle.gullet.specs.Stepping.{StepStepsIf}

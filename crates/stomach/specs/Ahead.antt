@@ -1,6 +1,5 @@
 -- What an engine holds of the job's file, and whether it is enough.
-use Rattle.std.specs.Prelude.{◌≡◌, ◌≢◌, ℕ, ◌+◌, ◌-◌, Bool, true, false, List, ◌++◌, length}
-use Rattle.plain_state.specs.Pending.{Closed, pulled, takes_file}
+use Rattle.std.specs.Prelude.{◌≡◌, ℕ, ◌+◌, ◌-◌, Bool, true, false, List, ◌++◌, length}
 use Rattle.line_reader.specs.Readers.{OpenReader}
 use Rattle.input_state.specs.NextBytes.{KnowsNext, NeedsBytes, with_bytes}
 use Rattle.engine_state.specs.declared.engine.Engine.{Engine}
@@ -22,13 +21,7 @@ pub data Knows (e : Engine) (r : OpenReader) : Type 0 where
   HasEnded : r.ended ≡ true → Knows e r
   WantsNone : all_want e.call e.top e.ask ≡ false → Knows e r
 
--- a token is wanted, and the next reading is that of the file, which is open
-pub record IsAtFile (e : Engine) : Type 0 where
-  pub wanted : all_want e.call e.top e.ask ≡ true
-  pub file : takes_file (pulled e.categories e.input.pending) ≡ true
-  pub not_closed : e.input.pending.file ≢ Closed
-
--- it isn't known, and the file's end hasn't come
+-- It isn't: a token is wanted, the next reading isn't known, and the file's end hasn't come.
 pub record Needs (e : Engine) (r : OpenReader) : Type 0 where
   pub wanted : all_want e.call e.top e.ask ≡ true
   pub needs : NeedsBytes e.input e.categories

@@ -1,5 +1,6 @@
 -- What the engine did in a whole run. The bytes that the job's file has left, beyond those that the engine holds, are `left`.
 use Rattle.std.specs.Prelude.{◌≡◌, ℕ, ◌≤◌, List, Option, Some, None}
+use Rattle.tex_syntax.specs.declared.words.Outcome.{Outcome}
 use Rattle.tex_defs.specs.Places.{World}
 use Rattle.tex_defs.specs.declared.Sizes.{Sizes}
 use Rattle.world_io.specs.Told.{FilesTold, SinkTold}
@@ -9,14 +10,13 @@ use Rattle.plain_machine.specs.Runs.{Wrote, steps}
 use Rattle.plain_machine.specs.Bounded.{FitMoves, Bounded, End, AtEnd, AtSteps}
 use Rattle.plain_machine.specs.Does.{CutAt, ReadAt, but_due}
 use Rattle.plain_machine.specs.Extended.{extended}
+use Rattle.input_state.specs.NextBytes.{NeedsBytes}
 use Rattle.engine_state.specs.declared.broken.Broken.{Broken}
 use Rattle.engine_state.specs.declared.engine.Engine.{Engine}
 use Rattle.stomach.specs.declared.runs.Ended.{Ended}
 use Rattle.stomach.specs.declared.runs.Ended.TheVariants.{Halted, Steps}
 use Rattle.stomach.specs.declared.early.Early.{Early}
 use Rattle.stomach.specs.declared.early.Early.TheVariants as early
-use Rattle.engine_state.specs.declared.outcome.Outcome.{Outcome}
-use Rattle.engine_state.specs.Begins.{outcome_of}
 use Rattle.engine_state.specs.Faults.{why_of}
 use Rattle.engine_state.specs.Book.{Book}
 use Rattle.engine_state.specs.Calls.{AllStand, FramesOf}
@@ -50,8 +50,8 @@ pub record Stops (sizes : Sizes) (s : State) (e' : Engine) (left : List ℕ) (w 
   pub moves : FitMoves sizes s ms t
   pub within : steps ms ≤ k
   pub ends : next t ≡ Ends
-  pub stopped : t.stopped ≡ Some (outcome_of o)
-  pub reports : CountsReports (outcome_of o) t e'
+  pub stopped : t.stopped ≡ Some o
+  pub reports : CountsReports o t e'
   pub stands : IsEnd e' left t
   pub written : Wrote w w' ms
 
@@ -71,7 +71,7 @@ end_of (Halted o) = AtEnd
 end_of Steps = AtSteps
 
 abbrev pub EndsAs : Sizes → Ended → Engine → List ℕ → State → Type 0
-EndsAs sizes (Halted o) e' left t = (t.stopped ≡ Some (outcome_of o)) × (CountsReports (outcome_of o) t e' × IsEnd e' left t)
+EndsAs sizes (Halted o) e' left t = (t.stopped ≡ Some o) × (CountsReports o t e' × IsEnd e' left t)
 EndsAs sizes Steps e' left t = IsAt sizes e' left t
 
 -- The whole run of at most n steps within the sizes, and how it ended.
@@ -92,11 +92,13 @@ pub record CutBy (sizes : Sizes) (s : State) (n : ℕ) (e' : Engine) (left : Lis
   pub frames : FramesNear b e' book'.work
   pub same : IsMoment (why_of b) (but_due t) (whole_state left e' book')
 
--- The run was cut off at a moment t at which the file's next bytes were needed and didn't come. The engine stands for it.
+-- The run was cut off at a moment t at which the file's next bytes were needed and didn't come. The engine stands for it, and what it holds
+-- of the file doesn't tell the next reading.
 pub record UnreadBy (sizes : Sizes) (s : State) (n : ℕ) (e' : Engine) (left : List ℕ) (w w' : World) : Type 0 where
   pub t : State
   pub read : ReadAt sizes s n t w w'
   pub at : IsAt sizes e' left t
+  pub lacks : NeedsBytes e'.input e'.categories
 
 -- The run stopped early.
 abbrev pub StoppedBy : Sizes → State → ℕ → Engine → List ℕ → World → World → Early → Type 0

@@ -4,7 +4,7 @@ use Rattle.tex_defs.specs.Places.{World}
 use Rattle.tex_defs.specs.declared.Name.{Name}
 use Rattle.tex_defs.specs.declared.Sizes.{Sizes}
 use Rattle.tex_defs.specs.declared.Token.{Token}
-use Rattle.plain_state.specs.Meanings.{location}
+use Rattle.plain_tokens.specs.Meanings.{location}
 use Rattle.plain_state.specs.States.{Defined, without_one}
 use Rattle.plain_machine.specs.Does.{Did}
 use Rattle.meanings.specs.Map.{IsPlaced}

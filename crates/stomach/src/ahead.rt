@@ -4,7 +4,7 @@ ghost use Rattle.tex_defs.specs.Places.{Rose};
 ghost use Rattle.world_io.specs.declared.traits.Fault.TheVariants.{Failed, NoMemory};
 ghost use Rattle.engine_state.specs.Steps.{all_want};
 ghost use Rattle.stomach.specs.Read.{ReadsTo};
-ghost use Rattle.stomach.specs.Ahead.{IsGiven, Knows, IsAtFile, Needs, read_weight};
+ghost use Rattle.stomach.specs.Ahead.{IsGiven, Knows, Needs, read_weight};
 
 use engine_state::Engine;
 use frames::Ask;
@@ -43,7 +43,7 @@ fn read_window<F: Files>(
     requires needs { Needs engine.old reader.old }
     ensures came { ReadsTo reader.old reader.new (F.told files.old) (F.told files.new) (λ all left. IsGiven all left engine.old engine.new) }
     ensures less { OnOk result (read_weight engine.new reader.new < read_weight engine.old reader.old) }
-    ensures at_file { OnErr result (IsAtFile engine.new) }
+    ensures lacks { OnErr result (Needs engine.new reader.new) }
     ensures fault { IfErr result (λ e. e ≡ Failed → Rose (F.told files.old).read_faults (F.told files.new).read_faults) }
     ensures want { IfErr result (λ e. e ≡ NoMemory → Rose (F.told files.old).wants (F.told files.new).wants) }
 {
@@ -65,7 +65,7 @@ pub fn read_ahead<F: Files>(
     requires is_open { (F.told files.old).reading reader.old.id ≡ true }
     ensures came { ReadsTo reader.old reader.new (F.told files.old) (F.told files.new) (λ all left. IsGiven all left engine.old engine.new) }
     ensures knows { OnOk result (Knows engine.new reader.new) }
-    ensures at_file { OnErr result (IsAtFile engine.new) }
+    ensures lacks { OnErr result (Needs engine.new reader.new) }
     ensures fault { IfErr result (λ e. e ≡ Failed → Rose (F.told files.old).read_faults (F.told files.new).read_faults) }
     ensures want { IfErr result (λ e. e ≡ NoMemory → Rose (F.told files.old).wants (F.told files.new).wants) }
 {

@@ -2,13 +2,13 @@
 ghost use Rattle.std.specs.Prelude.{◌≡◌, List, Some, None};
 ghost use Rattle.plain_state.specs.States.{Move};
 ghost use Rattle.plain_machine.specs.Plan.{Page, wanted, stomach};
-ghost use Rattle.frames.specs.Sees.{want_of};
 ghost use Rattle.gullet.specs.Stepping.{Stays};
 ghost use Rattle.stomach.specs.Reactions.{onward_moves, IsNoFeed, IsNoBegin};
 
 use engine_state::name_of;
-use frames::{CATCODE, DEF, EDEF, GDEF, GLOBAL, Kind, LONG, OUTER, Want, XDEF};
+use frames::{CATCODE, DEF, EDEF, GDEF, GLOBAL, Kind, LONG, OUTER, XDEF};
 use tex_defs::{Meaning, Seen};
+use tex_syntax::Want;
 
 const RELAX: u16 = 1;
 
@@ -33,7 +33,7 @@ pub enum Onward {
 
 /// What becomes of a token that a reading wants.
 pub fn react(want: Want, seen: Seen) -> Onward
-    ensures moves { Stays (Some want) seen → (page : Page) (feeds : List Move) → wanted page (want_of want) feeds seen ≡ onward_moves page feeds seen result }
+    ensures moves { Stays (Some want) seen → (page : Page) (feeds : List Move) → wanted page want feeds seen ≡ onward_moves page feeds seen result }
     ensures kind { IsNoBegin result }
 {
     match (want, seen.meaning) {

@@ -2,19 +2,17 @@
 ghost use Rattle.std.specs.Prelude.{◌≡◌, ◌<◌, ◌+◌, ◌*◌, List, [], ◌∷◌, ◌++◌, IfOk, IfErr, OnOk, OnErr, MatchResult, Some, None, true, false, is_some};
 ghost use Rattle.tex_defs.specs.Places.{World};
 ghost use Rattle.tex_defs.specs.declared.Sizes.{Sizes};
-ghost use Rattle.plain_state.specs.Pending.{pulled};
+ghost use Rattle.plain_tokens.specs.Pending.{pulled};
 ghost use Rattle.plain_state.specs.Readings.{Flag as FlagValue};
 ghost use Rattle.plain_state.specs.States.{Reading, Move, Closed, Ended as EndedMove};
-ghost use Rattle.plain_state.specs.Tokens.{made_text};
+ghost use Rattle.plain_tokens.specs.Tokens.{made_text};
 ghost use Rattle.plain_machine.specs.Plan.{effect as effect_moves, given_back, put_text, told, is_told};
 ghost use Rattle.plain_machine.specs.Does.{Did};
 ghost use Rattle.world_io.specs.Told.{FilesTold};
 ghost use Rattle.frames.specs.Sees.{value_of, effect_of, made_of};
-ghost use Rattle.transcript.specs.Reported.{report_of};
 ghost use Rattle.input_state.specs.Reads.{gives_step};
 ghost use Rattle.frames.specs.declared.frame.Frame.{Frame};
 ghost use Rattle.engine_state.specs.Book.{Book, with_work};
-ghost use Rattle.engine_state.specs.Calls.{AllStand};
 ghost use Rattle.stomach.specs.Effects.{IsNoMacro, Defines};
 ghost use Rattle.engine_state.specs.Near.{CutsIn};
 ghost use Rattle.engine_state.specs.Stands.{Stands, Waits, EndsHere, Expanded, IsLast, Counts, SameFrames, state_of, page_of, frames};
@@ -28,11 +26,11 @@ ghost use Rattle.engine_state.specs.Rules.{SameReadings, CallStays, next_moves};
 use crate::define::set_macro;
 use crate::reactions::{Onward, obey, react};
 use char_text::{Text, whole_number_length};
-use engine_state::{Broken, Engine, Last, Outcome, Ruled, stops};
-use frames::{Ask, Effect, Made, Value, Want};
+use engine_state::{Broken, Engine, Last, Ruled, stops};
+use frames::{Ask, Effect, Made, Value};
 use gullet::{Stepped, gather, step};
 use tex_defs::{Fatal, Seen, Token};
-use transcript::Report;
+use tex_syntax::{Outcome, Report, Want};
 use world_io::Sink;
 
 /// The innermost reading is done.
@@ -220,9 +218,9 @@ fn tell<S: Sink>(
     ensures light { IfOk result (λ ruled. IsFree ruled → (f : Frame) → engine.old.top ≡ Some f → frame_weight engine.new < 2 * frames engine.old + 7 + pending_weight engine.old.input.pending) }
     ensures step { IfOk result (λ ruled. IsStep ruled → ⊥) }
     ensures rule { IfOk result (λ ruled. (sizes : Sizes) (f : FilesTold) (book : Book) (r : Reading) (rs : List Reading) → Waits sizes engine.old (with_work (r ∷ rs) book) → Counts sizes engine.old (with_work (r ∷ rs) book) → IsLast back r.fed → is_told r.fed ≡ false →
-        DoesRule sizes (state_of engine.old (with_work (r ∷ rs) book)) engine.new (with_work (r ∷ rs) book) (world_of f (S.told out.old) engine.old) (world_of f (S.told out.new) engine.new) (told (page_of engine.old book) (report_of report) inserted (is_some back) r) ruled) }
+        DoesRule sizes (state_of engine.old (with_work (r ∷ rs) book)) engine.new (with_work (r ∷ rs) book) (world_of f (S.told out.old) engine.old) (world_of f (S.told out.new) engine.new) (told (page_of engine.old book) report inserted (is_some back) r) ruled) }
     ensures err { IfErr result (λ b. (sizes : Sizes) (f : FilesTold) (book : Book) (r : Reading) (rs : List Reading) → Waits sizes engine.old (with_work (r ∷ rs) book) → Counts sizes engine.old (with_work (r ∷ rs) book) → IsLast back r.fed → is_told r.fed ≡ false →
-        Cuts sizes (state_of engine.old (with_work (r ∷ rs) book)) engine.new (with_work (r ∷ rs) book) (world_of f (S.told out.old) engine.old) (world_of f (S.told out.new) engine.new) (told (page_of engine.old book) (report_of report) inserted (is_some back) r) b) }
+        Cuts sizes (state_of engine.old (with_work (r ∷ rs) book)) engine.new (with_work (r ∷ rs) book) (world_of f (S.told out.old) engine.old) (world_of f (S.told out.new) engine.new) (told (page_of engine.old book) report inserted (is_some back) r) b) }
     ensures frames { OnErr result (SameFrames engine.old engine.new) }
     ensures halts { IfOk result (λ ruled. IsHalted ruled → SameFrames engine.old engine.new) }
     ensures idle { OnOk result (engine.new.input.making ≡ None) }
@@ -234,7 +232,7 @@ fn tell<S: Sink>(
         engine.note()?;
         return Ok(Ruled::Free);
     }
-    Ok(Ruled::Halted(Outcome::Fatal(Fatal::HundredErrors)))
+    Ok(Ruled::Halted(Outcome::AtFatal(Fatal::HundredErrors)))
 }
 
 /// The rule of the frames, where no call gathers its arguments.

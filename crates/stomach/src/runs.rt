@@ -16,8 +16,9 @@ ghost use Rattle.stomach.specs.Ran.{Settles, StoppedBy, RanTo, StoppedTo, whole_
 use crate::ahead::{read_ahead, wants_token};
 use crate::early::Early;
 use crate::rules::rule;
-use engine_state::{Engine, Outcome, Ruled};
+use engine_state::{Engine, Ruled};
 use line_reader::Reader;
+use tex_syntax::Outcome;
 use world_io::{Files, Sink};
 
 /// How a run came to its end.

@@ -2,13 +2,14 @@
 use Rattle.std.proofs.Common.{◌≡◌, inl, inr, ℕ, ◌≤◌, List, [], ◌∷◌, ◌++◌, refl, sym, ap, subst, ◌∙◌, arith, Bool, true, false}
 use Rattle.std.specs.Prelude.{Option, Some, None, nat_eq, nat_lt, if◌then◌else◌, ◌⊎◌}
 use Rattle.std.proofs.lemmas.Grind.{common_steps}
+use Rattle.tex_syntax.specs.declared.words.Outcome.{Outcome}
+use Rattle.tex_syntax.specs.declared.words.Outcome.TheVariants.{AtFatal, Finished}
 use Rattle.prim_table.specs.Primitives.{primitive_names}
 use Rattle.tex_defs.specs.Places.{World, Rose, Later, File, Untold, NotHeld, Holds, Place, Transcript, OfFile}
 use Rattle.tex_defs.specs.declared.Full.{Full as FullTable}
 use Rattle.tex_defs.specs.declared.Fatal.TheVariants.{NoFile}
 use Rattle.tex_defs.specs.declared.Sizes.{Sizes}
-use Rattle.plain_state.specs.States as machine
-use Rattle.plain_state.specs.States.{State, Move, Kept, AtFatal, Outcome as MachineOutcome}
+use Rattle.plain_state.specs.States.{State, Move, Kept}
 use Rattle.plain_machine.specs.Extended.{extended}
 use Rattle.plain_machine.specs.Plan.{no_file, job_due}
 use Rattle.plain_machine.specs.Runs.{Wrote, steps}
@@ -28,11 +29,8 @@ use Rattle.line_reader.specs.Readers.{OpenReader, KnowsEnd}
 use Rattle.engine_state.specs.declared.engine.Engine.{Engine}
 use Rattle.stomach.specs.declared.runs.Ended.{Ended}
 use Rattle.stomach.specs.declared.runs.Ended.TheVariants.{Halted, Steps}
-use Rattle.engine_state.specs.declared.outcome.Outcome.{Outcome}
-use Rattle.engine_state.specs.declared.outcome.Outcome.TheVariants.{Finished, Fatal}
 use Rattle.engine_state.specs.declared.broken.Broken.{Broken}
 use Rattle.engine_state.specs.declared.broken.Broken.TheVariants as broken
-use Rattle.engine_state.specs.Begins.{outcome_of}
 use Rattle.engine_state.specs.Faults.{why_of}
 use Rattle.engine_state.specs.First.{Begins}
 use Rattle.engine_state.specs.Book.{Book, first_book}
@@ -92,7 +90,7 @@ module _ (sizes : Sizes) (s : State) (n : ℕ) (w m : World) (e : Engine) (left 
   early_cause x fault is h = subst (λ (y : Early). HasReadCause y w m) is h
 
 module _ (sizes : Sizes) (s : State) (n : ℕ) (w m w' : World) (e' : Engine) (left : List ℕ) where
-  abbrev whole_of : (o : Outcome) (ran : Ran sizes s n e' left w w' (Halted o)) → Whole sizes s n w w' (outcome_of o)
+  abbrev whole_of : (o : Outcome) (ran : Ran sizes s n e' left w w' (Halted o)) → Whole sizes s n w w' o
   whole_of o ran = record { ms = ran.ms; t = ran.t; run = ran.run; stopped = ran.ends.0; written = ran.written }
 
   ending_of : (ran : Ran sizes s n e' left w w' (Halted Finished)) (b : Bool) → nat_lt 0 e'.reports ≡ b → Ending sizes s n w w' b
@@ -105,7 +103,7 @@ module _ (sizes : Sizes) (s : State) (n : ℕ) (w m w' : World) (e' : Engine) (l
 
   ran_halted : (o : Outcome) → Ran sizes s n e' left w w' (Halted o) → SaysSo sizes s n w w' (end_status o e'.reports)
   ran_halted Finished ran = ended_with ran (nat_lt 0 e'.reports) refl
-  ran_halted (Fatal f) ran = record { is = IsFatal; says = record { fatal = f; whole = whole_of (Fatal f) ran } }
+  ran_halted (AtFatal f) ran = record { is = IsFatal; says = record { fatal = f; whole = whole_of (AtFatal f) ran } }
 
   pub ran_ended : (ended : Ended) (o : Outcome) (status : ℕ) → ended ≡ Halted o → status ≡ end_status o e'.reports → Ran sizes s n e' left w w' ended → SaysSo sizes s n w w' status
   ran_ended ended o status is this ran = rw this (ran_halted o (subst (λ (x : Ended). Ran sizes s n e' left w w' x) is ran))
@@ -278,17 +276,18 @@ module _ (w m w' : World) (quiet : Wrote m w' []) where
   stopped_on sizes s n e left (early.Broken b) h = record { t = h.t; cut = cut_on sizes s n h.t (why_of b) h.cut; book' = h.book'; frames = h.frames; same = h.same }
   stopped_on sizes s n e left (early.Unread fault) h = record {
     t = h.t;
-    read = record { ms = h.read.ms; moves = h.read.moves; within = h.read.within; file = h.read.file; not_closed = h.read.not_closed; written = wrote_on h.read.ms h.read.written };
+    read = record { ms = h.read.ms; moves = h.read.moves; within = h.read.within; due = h.read.due; needs = h.read.needs; written = wrote_on h.read.ms h.read.written };
     at = h.at;
+    lacks = h.lacks;
   }
 
 module _ (sizes : Sizes) (s : State) (n : ℕ) (w m w' : World) (quiet : Wrote m w' []) where
-  abbrev whole_on : (o : MachineOutcome) → Whole sizes s n w m o → Whole sizes s n w w' o
+  abbrev whole_on : (o : Outcome) → Whole sizes s n w m o → Whole sizes s n w w' o
   whole_on o h = record { ms = h.ms; t = h.t; run = h.run; stopped = h.stopped; written = wrote_on w m w' quiet h.ms h.written }
 
   on : (status : ℕ) (is : Status status) → Says sizes s n w m status is → Says sizes s n w w' status is
-  on _ IsFinished h = record { whole = whole_on machine.Finished h.whole; reports = h.reports }
-  on _ IsFlawed h = record { whole = whole_on machine.Finished h.whole; reports = h.reports }
+  on _ IsFinished h = record { whole = whole_on Finished h.whole; reports = h.reports }
+  on _ IsFlawed h = record { whole = whole_on Finished h.whole; reports = h.reports }
   on _ IsFatal h = record { fatal = h.fatal; whole = whole_on (AtFatal h.fatal) h.whole }
   on _ IsFullTable h = record {
     full = h.full;
@@ -296,7 +295,7 @@ module _ (sizes : Sizes) (s : State) (n : ℕ) (w m w' : World) (quiet : Wrote m
   }
   on _ IsSteps h = record { ms = h.ms; t = h.t; between = h.between; run = h.run; written = h.written; last = line_on h.between m w' quiet _ h.last }
   on _ IsReadFault (inl h) = inl (record { t = h.t; between = h.between; read = h.read; cause = h.cause; last = line_on h.between m w' quiet _ h.last })
-  on _ IsReadFault (inr h) = inr (record { between = h.between; written = h.written; last = line_on h.between m w' quiet _ h.last })
+  on _ IsReadFault (inr h) = inr (record { between = h.between; failed = h.failed; written = h.written; last = line_on h.between m w' quiet _ h.last })
   on _ IsWriteFault h = record { t = h.t; between = h.between; cut = h.cut; last = line_on h.between m w' quiet _ h.last }
   on _ IsNoMemory (inl h) = inl (record { t = h.t; between = h.between; cut = h.cut; last = line_on h.between m w' quiet _ h.last })
   on _ IsNoMemory (inr (inl h)) = inr (inl (record { t = h.t; between = h.between; read = h.read; cause = h.cause; last = line_on h.between m w' quiet _ h.last }))
@@ -401,9 +400,9 @@ module _ (sizes : Sizes) (quiet : Bool) (name : List ℕ) (file : File) (n : ℕ
   pub means_says : (job : Option (List ℕ)) (w w' : World) (status : ℕ) → IsJob file job → SaysSo sizes (First quiet name job) n w w' status → MeansRun sizes quiet name file n w w' status
   means_says job w w' status is says = record { job = job; is_job = is; is = says.is; says = says.says }
 
-  pub means_unread : (w m w' : World) → Wrote w m [] → Line m w' read_fault_line → MeansRun sizes quiet name file n w w' 5
-  means_unread w m w' wrote last = let j = some_job file in
-      record { job = j.job; is_job = j.is_job; is = IsReadFault; says = inr (record { between = m; written = wrote; last = last }) }
+  pub means_unopened : (w m w' : World) → Rose w.read_faults m.read_faults → Wrote w m [] → Line m w' read_fault_line → MeansRun sizes quiet name file n w w' 5
+  means_unopened w m w' failed wrote last = let j = some_job file in
+      record { job = j.job; is_job = j.is_job; is = IsReadFault; says = inr (record { between = m; failed = failed; written = wrote; last = last }) }
 
   pub means_no_room : (w m w' : World) → Wrote w m [] → Line m w' no_memory_line → MeansRun sizes quiet name file n w w' 7
   means_no_room w m w' wrote last = let j = some_job file in

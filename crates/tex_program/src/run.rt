@@ -15,9 +15,10 @@ ghost use Rattle.engine_state.specs.declared.engine.Engine.{Engine};
 
 use crate::tell::{Telling, tell};
 use command_words::job_name;
-use engine_state::{Broken, Engine, Outcome};
+use engine_state::{Broken, Engine};
 use line_reader::Reader;
 use stomach::{Early, Ended, run_steps};
+use tex_syntax::Outcome;
 use world_io::{Fault, Files, Sink};
 
 /// A run's status, and whether the transcript's column isn't 0 at its end.
@@ -88,7 +89,7 @@ fn status_of(outcome: Outcome, reports: u32) -> u8
     match outcome {
         Outcome::Finished if reports == 0 => 0,
         Outcome::Finished => 1,
-        Outcome::Fatal(_) => 2,
+        Outcome::AtFatal(_) => 2,
     }
 }
 

@@ -2,11 +2,12 @@
 ghost use Rattle.std.specs.Prelude.{◌≡◌, None, false};
 
 use crate::macro_tests::repeated;
-use engine_state::{Broken, Engine, Outcome};
+use engine_state::{Broken, Engine};
 use line_reader::Reader;
 use std::alloc::{AllocError, Global};
 use stomach::{Early, Ended, run_steps};
 use tex_defs::{Full, Sizes, Table};
+use tex_syntax::Outcome;
 use world_io::{Fault, Files, MemFiles, MemSink};
 
 /// The least size of each table.

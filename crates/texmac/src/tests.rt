@@ -267,6 +267,41 @@ fn tokens_of_typesetting_have_lines(rt: HostRuntime) {
     rows_hold(&rt, alloc, &TYPESET);
 }
 
+/// Letters, a prefix that goes with none of them, and an undefined name.
+const LINES_AND_REPORTS: &[u8] = b"ab\\long c\\foo\\end\n";
+
+/// The write that fails, and all that is written then.
+const CUT: [(u64, &[u8]); 5] = [
+    (1, b"! Write fault.\n"),
+    (2, b"{the letter a}\n! Write fault.\n"),
+    (3, b"{the letter a}\n{the letter b}\n! Write fault.\n"),
+    (
+        4,
+        b"{the letter a}\n{the letter b}\n! You can't use a prefix with `the letter c'.\nl.1\n! Write fault.\n",
+    ),
+    (
+        5,
+        b"{the letter a}\n{the letter b}\n! You can't use a prefix with `the letter c'.\nl.1\n{the letter c}\n! Write fault.\n",
+    ),
+];
+
+#[test]
+fn each_text_is_one_write(rt: HostRuntime) {
+    let (alloc, status) = (rt.alloc(), 6);
+    for row in &CUT {
+        let text = row.1;
+        assert!(rt;
+            over(
+                alloc,
+                LINES_AND_REPORTS,
+                256,
+                (0, row.0),
+                Expected { text, status }
+            )
+        );
+    }
+}
+
 /// Texts that are reported.
 const REPORTS: [Row; 4] = [
     (

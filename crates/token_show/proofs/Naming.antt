@@ -4,7 +4,7 @@ use Rattle.std.specs.List.{slice_get}
 use Rattle.std.proofs.lemmas.Option.{slice_get_within, get_or_from_slice_get}
 use Rattle.std.proofs.lemmas.List.{get_or-map}
 use Rattle.cs_hash.specs.Names.{string_at}
-use Rattle.plain_state.specs.Printed.{name_at}
+use Rattle.plain_tokens.specs.Printed.{name_at}
 
 -- the characters of a name are those of its string
 pub name_found : (strings : List ℕ) (kept : List (List ℕ)) (number string : ℕ) (bytes : List ℕ)

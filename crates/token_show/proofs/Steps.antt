@@ -1,7 +1,7 @@
 -- What is left of a text after a character, and where a token's text begins.
 use Rattle.std.proofs.Common.{◌≡◌, ℕ, ◌-◌, List, [], ◌∷◌, ◌++◌, length, Option, None, Some, refl, ap, ◌∙◌, arith, length-append}
 use Rattle.tex_defs.specs.declared.Token.{Token}
-use Rattle.plain_state.specs.Printed.{Style, printed, printed_all, places_after, last_after, runaway_from}
+use Rattle.plain_tokens.specs.Printed.{Style, printed, printed_all, places_after, last_after, runaway_from}
 use Rattle.token_show.specs.Texts.{text_from, room_after}
 
 -- the first character, and the rest with the room behind it

@@ -1,7 +1,7 @@
 -- The bytes that are left of a text that is printed.
 use Rattle.std.specs.Prelude.{ℕ, ℤ, List, ◌++◌}
 use Rattle.std.specs.List.{flat_map}
-use Rattle.plain_state.specs.Printed.{printed_by}
+use Rattle.plain_tokens.specs.Printed.{printed_by}
 use Rattle.token_show.specs.Options.{listed}
 use Rattle.token_show.specs.declared.shown.Shown.TheInside.{Inside}
 

@@ -1,7 +1,7 @@
 -- What is left of a text: the rest of the present token's, and the texts of the tokens behind it.
 use Rattle.std.specs.Prelude.{ℕ, ℤ, ◌-◌, ◌≤◌, ◌==◌, Bool, false, List, ◌++◌, length, Option, None, Some}
 use Rattle.tex_defs.specs.declared.Token.{Token}
-use Rattle.plain_state.specs.Printed.{Style, printed_by, printed_all, list_from, runaway_from}
+use Rattle.plain_tokens.specs.Printed.{Style, printed_by, printed_all, list_from, runaway_from}
 use Rattle.token_show.specs.Views.{style_of, IsView}
 use Rattle.token_show.specs.declared.characters.Characters.TheInside.{Inside}
 

@@ -8,7 +8,7 @@ use Rattle.token_lists.specs.declared.ListRef.{ListRef}
 use Rattle.token_lists.specs.declared.Build.{Build}
 use Rattle.token_lists.specs.Table.{Entry, tokens_at, IsHeld}
 use Rattle.token_lists.specs.Ids.{id_of, build_id}
-use Rattle.plain_state.specs.Printed.{Style}
+use Rattle.plain_tokens.specs.Printed.{Style}
 use Rattle.token_show.specs.declared.view.View.{View}
 
 -- what texts depend on, as a view has it

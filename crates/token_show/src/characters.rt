@@ -2,7 +2,7 @@
 ghost use Rattle.std.specs.Prelude.{◌≡◌, ◌≤◌, ◌<◌, [], ◌∷◌, Some, length, MatchOption};
 ghost use Rattle.token_lists.specs.Table.{tokens_at, IsHeld};
 ghost use Rattle.token_lists.specs.Ids.{id_of, build_id};
-ghost use Rattle.plain_state.specs.Printed.{name_text, list_text, runaway_text, meaning_head, meaning_text, meaning_tokens, places_after, last_after, no_place};
+ghost use Rattle.plain_tokens.specs.Printed.{name_text, list_text, runaway_text, meaning_head, meaning_text, meaning_tokens, places_after, last_after, no_place};
 ghost use Rattle.token_show.specs.Views.{style_of, IsView, list_tokens, build_tokens, HoldsList};
 ghost use Rattle.token_show.specs.Texts.{room_after, is_spent, text_from};
 

@@ -1,8 +1,8 @@
 // The text of one token, or of a meaning up to its list.
 ghost use Rattle.std.specs.Prelude.{◌≡◌, ◌≤◌, ◌<◌, [], ◌∷◌, ◌++◌, codes, length, MatchOption};
 ghost use Rattle.std.specs.Fmt.{decimal};
-ghost use Rattle.plain_state.specs.Printed.{escaped, name_text, name_in_list, space_behind, token_text, character_word, register_word, macro_text, meaning_head};
-ghost use Rattle.plain_state.specs.Numerals.{hexadecimal};
+ghost use Rattle.plain_tokens.specs.Printed.{escaped, name_text, name_in_list, space_behind, token_text, character_word, register_word, macro_text, meaning_head};
+ghost use Rattle.plain_tokens.specs.Numerals.{hexadecimal};
 ghost use Rattle.tex_defs.specs.declared.Name.TheVariants.{Single};
 ghost use Rattle.token_show.specs.Options.{listed};
 ghost use Rattle.token_show.specs.Views.{style_of, IsView};

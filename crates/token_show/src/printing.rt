@@ -1,6 +1,6 @@
 // One character printed.
 ghost use Rattle.std.specs.Prelude.{◌≡◌, ◌<◌, ◌∷◌, ◌++◌, length};
-ghost use Rattle.plain_state.specs.Printed.{is_code, small_hex_digit, printed_by};
+ghost use Rattle.plain_tokens.specs.Printed.{is_code, small_hex_digit, printed_by};
 ghost use Rattle.token_show.specs.Options.{listed};
 
 // The bytes of a printed character, in order.

@@ -2,7 +2,7 @@
 ghost use Rattle.std.specs.Prelude.{◌≡◌, [], ◌∷◌, MatchOption};
 ghost use Rattle.token_lists.specs.Table.{IsHeld};
 ghost use Rattle.token_lists.specs.Ids.{id_of, build_id};
-ghost use Rattle.plain_state.specs.Printed.{printed_all, name_text, shown_all, runaway_list, meaning_head, meaning_shown};
+ghost use Rattle.plain_tokens.specs.Printed.{printed_all, name_text, shown_all, runaway_list, meaning_head, meaning_shown};
 ghost use Rattle.token_show.specs.Views.{style_of, IsView, list_tokens, build_tokens, HoldsList};
 ghost use Rattle.token_show.specs.Bytes.{all_printed};
 

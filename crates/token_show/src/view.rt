@@ -1,6 +1,6 @@
 // What printed text depends on.
 ghost use Rattle.std.specs.Prelude.{◌≡◌, codes};
-ghost use Rattle.plain_state.specs.Printed.{character_of, name_at, frozen_word, primitive_word};
+ghost use Rattle.plain_tokens.specs.Printed.{character_of, name_at, frozen_word, primitive_word};
 ghost use Rattle.token_show.specs.Options.{listed};
 ghost use Rattle.token_show.specs.Views.{style_of, IsView};
 
@@ -25,8 +25,8 @@ pub struct View<'a> {
 }
 
 impl<'a> View<'a> {
-    // The escape character, where `\escapechar` is a code.
-    pub(crate) fn escape(&self) -> Option<u8>
+    /// The escape character, where `\escapechar` is a code.
+    pub fn escape(&self) -> Option<u8>
         ensures { listed result ≡ character_of self.now.escape }
     {
         if self.escape >= 0 && self.escape < 256 {

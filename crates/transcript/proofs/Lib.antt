@@ -1,4 +1,4 @@
 pub mod Columns
 pub mod Joins
-pub mod Styles
+pub mod Printing
 pub mod Texts

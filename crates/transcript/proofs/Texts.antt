@@ -1,92 +1,107 @@
--- Texts put behind one another.
-use Rattle.std.proofs.Common.{◌≡◌, ◌++◌, ◌∙◌, ap, sym, refl, append_assoc, ℕ, List, [], ◌∷◌, codes, Bool}
-use Rattle.std.specs.Fmt.{decimal, digits}
+-- Texts put behind one another, and printed.
+use Rattle.std.proofs.Common.{◌≡◌, ◌++◌, ◌∙◌, ap, sym, refl, append_assoc, ℕ, ℤ, List, [], ◌∷◌, codes, Bool}
+use Rattle.std.specs.List.{flat_map}
+use Rattle.std.specs.Fmt.{decimal}
 use Rattle.std.proofs.lemmas.List.{append-nil}
-use Rattle.plain_state.specs.Printed.{printed_all}
+use Rattle.std.proofs.lemmas.Grind.{flat_map-append}
+use Rattle.tex_syntax.specs.declared.words.Report.{Report}
+use Rattle.tex_syntax.specs.declared.words.Report.TheVariants.{UndefinedName, InvalidCharacter, ImproperConstant, MissingNumber, NumberTooBig, BadCharacterCode, InvalidCode, MissingBrace, FileEnded, Forbidden, MissingName, NotConsecutive, AlreadyNine, IllegalNumber, UseMismatch, ExtraBrace, ParagraphEnded, PrefixWith, LongOrOuterWith, MissingEndcsname}
+use Rattle.tex_syntax.specs.declared.words.Scanned.{Scanned}
+use Rattle.tex_syntax.specs.declared.words.Scanned.TheVariants as scanned
 use Rattle.tex_defs.specs.declared.Name.{Name}
+use Rattle.plain_tokens.specs.Printed.{Style, escaped, printed_by, printed_all}
 use Rattle.plain_state.specs.Reports as plain
-use Rattle.plain_state.specs.Reports.{fresh_line, plain_style, report_text, report_bytes}
-use Rattle.transcript.specs.Reported.{report_of, opening, subject, closing}
-use Rattle.transcript.specs.declared.report.Report.{Report}
-use Rattle.transcript.specs.declared.report.Report.TheVariants.{UndefinedName, InvalidCharacter, ImproperConstant, MissingNumber, NumberTooBig, BadCharacterCode, InvalidCode, MissingBrace, FileEnded, Forbidden, MissingName, NotConsecutive, AlreadyNine, IllegalNumber, UseMismatch, ExtraBrace, ParagraphEnded, PrefixWith, LongOrOuterWith}
-use Rattle.transcript.specs.declared.report.Scanned.{Scanned}
-use Rattle.transcript.specs.declared.report.Scanned.TheVariants as scanned
+use Rattle.plain_state.specs.Reports.{fresh_line, report_text, report_bytes}
+use Rattle.token_show.specs.Bytes.{all_printed}
+use Rattle.transcript.specs.Reported.{opening, subject, closing}
 
--- three pieces and four
-pub three : (a b c d x y z : List ℕ) → x ≡ a ++ b → y ≡ x ++ c → z ≡ y ++ d → z ≡ a ++ (b ++ (c ++ d))
-three a b c d x y z h i j =
-    j ∙ ap (λ (t : List ℕ). t ++ d) (i ∙ ap (λ (t : List ℕ). t ++ c) h)
-    ∙ append_assoc (a ++ b) c d ∙ append_assoc a b (c ++ d)
+-- PIECES, each printed as f prints its characters
 
-pub four : (a b c d e x y z w : List ℕ) → x ≡ a ++ b → y ≡ x ++ c → z ≡ y ++ d → w ≡ z ++ e → w ≡ a ++ (b ++ (c ++ (d ++ e)))
-four a b c d e x y z w h i j k =
-    k ∙ ap (λ (t : List ℕ). t ++ e) (three a b c d x y z h i j)
-    ∙ append_assoc a (b ++ (c ++ d)) e ∙ ap (λ (t : List ℕ). a ++ t) (append_assoc b (c ++ d) e ∙ ap (λ (t : List ℕ). b ++ t) (append_assoc c d e))
+module _ (f : ℕ → List ℕ) where
+  pub three : (a b c d x y z : List ℕ) → x ≡ a ++ flat_map f b → y ≡ x ++ flat_map f c → z ≡ y ++ flat_map f d → z ≡ a ++ flat_map f (b ++ (c ++ d))
+  three a b c d x y z h i j = rw (j, i, h) (simp (flat_map-append, append_assoc))
+
+  pub four : (a b c d e x y z w : List ℕ) → x ≡ a ++ flat_map f b → y ≡ x ++ flat_map f c → z ≡ y ++ flat_map f d → w ≡ z ++ flat_map f e →
+      w ≡ a ++ flat_map f (b ++ (c ++ (d ++ e)))
+  four a b c d e x y z w h i j k = rw (k, j, i, h) (simp (flat_map-append, append_assoc))
+
+  -- a word behind the escape character
+  pub word : (a p s l m x y z : List ℕ) → x ≡ a ++ flat_map f p → y ≡ x ++ flat_map f s → z ≡ y ++ flat_map f (l ++ m) → z ≡ a ++ flat_map f (p ++ ((s ++ l) ++ m))
+  word a p s l m x y z h i j = rw (j, i, h) (simp (flat_map-append, append_assoc))
+
+  -- two words behind the escape character
+  pub prefix : (a p s l m o n x y z v w : List ℕ) → x ≡ a ++ flat_map f p → y ≡ x ++ flat_map f s → z ≡ y ++ flat_map f (l ++ m) → v ≡ z ++ flat_map f s → w ≡ v ++ flat_map f (o ++ n) →
+      w ≡ a ++ flat_map f (p ++ ((s ++ l) ++ (m ++ ((s ++ o) ++ n))))
+  prefix a p s l m o n x y z v w h i j k q = rw (q, k, j, i, h) (simp (flat_map-append, append_assoc))
+
+  -- a report's text between what stands around it
+  report_around : (fresh mark opening subject closing dot line number : List ℕ) →
+      ((fresh ++ flat_map f mark) ++ flat_map f opening) ++ (flat_map f subject ++ (flat_map f closing ++ (flat_map f dot ++ (10 ∷ (flat_map f line ++ (flat_map f number ++ 10 ∷ []))))))
+      ≡ fresh ++ ((flat_map f (mark ++ ((opening ++ (subject ++ closing)) ++ dot)) ++ 10 ∷ []) ++ (flat_map f (line ++ number) ++ 10 ∷ []))
+  report_around fresh mark opening subject closing dot line number = simp (flat_map-append, append_assoc)
+
+  line_around : (fresh front middle close : List ℕ) → (fresh ++ flat_map f front) ++ (flat_map f middle ++ (flat_map f close ++ 10 ∷ [])) ≡ fresh ++ (flat_map f (front ++ (middle ++ close)) ++ 10 ∷ [])
+  line_around fresh front middle close = simp (flat_map-append, append_assoc)
+
+  -- a line of one text between what stands around it
+  pub line_parts : (fresh front middle close start before shown empty closed behind : List ℕ) →
+      start ≡ fresh → before ≡ start ++ flat_map f front → shown ≡ flat_map f middle → empty ≡ [] → closed ≡ empty ++ flat_map f close → behind ≡ closed ++ 10 ∷ [] →
+      before ++ (shown ++ behind) ≡ fresh ++ (flat_map f (front ++ (middle ++ close)) ++ 10 ∷ [])
+  line_parts fresh front middle close start before shown empty closed behind i b s e k h = rw (b, i, s, h, k, e) (line_around fresh front middle close)
+
+  pub around_parts : (fresh mark opening subject closing dot line number start before shown behind : List ℕ) →
+      start ≡ fresh ++ flat_map f mark → before ≡ start ++ flat_map f opening → shown ≡ flat_map f subject → behind ≡ flat_map f closing ++ (flat_map f dot ++ (10 ∷ (flat_map f line ++ (flat_map f number ++ 10 ∷ [])))) →
+      before ++ (shown ++ behind) ≡ fresh ++ ((flat_map f (mark ++ ((opening ++ (subject ++ closing)) ++ dot)) ++ 10 ∷ []) ++ (flat_map f (line ++ number) ++ 10 ∷ []))
+  around_parts fresh mark opening subject closing dot line number start before shown behind m b s h = rw (b, m, s, h) (report_around fresh mark opening subject closing dot line number)
+
+-- REPORTS
+
+around_prefix : (p a m b n rest : List ℕ) → (p ++ (a ++ (m ++ (b ++ n)))) ++ rest ≡ p ++ (a ++ (m ++ (b ++ (n ++ rest))))
+around_prefix p a m b n rest = simp append_assoc
 
 -- where a file ended or the name of an \outer macro came
-ended_is : (names : List (List ℕ)) (what : Scanned) (name : Name) → opening (FileEnded what name) ++ (subject names (FileEnded what name) ++ []) ≡ report_text names (report_of (FileEnded what name))
-ended_is names scanned.Definition name = ap (λ (t : List ℕ). codes "File ended while scanning definition of " ++ t) (append-nil (subject names (FileEnded scanned.Definition name)))
-ended_is names scanned.Use name = ap (λ (t : List ℕ). codes "File ended while scanning use of " ++ t) (append-nil (subject names (FileEnded scanned.Use name)))
-ended_is names scanned.Text name = ap (λ (t : List ℕ). codes "File ended while scanning text of " ++ t) (append-nil (subject names (FileEnded scanned.Text name)))
+ended_is : (style : Style) (what : Scanned) (name : Name) → opening style (FileEnded what name) ++ (subject style (FileEnded what name) ++ []) ≡ report_text style (FileEnded what name)
+ended_is style scanned.Definition name = ap (λ (t : List ℕ). codes "File ended while scanning definition of " ++ t) (append-nil (subject style (FileEnded scanned.Definition name)))
+ended_is style scanned.Use name = ap (λ (t : List ℕ). codes "File ended while scanning use of " ++ t) (append-nil (subject style (FileEnded scanned.Use name)))
+ended_is style scanned.Text name = ap (λ (t : List ℕ). codes "File ended while scanning text of " ++ t) (append-nil (subject style (FileEnded scanned.Text name)))
 
-forbidden_is : (names : List (List ℕ)) (what : Scanned) (name : Name) → opening (Forbidden what name) ++ (subject names (Forbidden what name) ++ []) ≡ report_text names (report_of (Forbidden what name))
-forbidden_is names scanned.Definition name = ap (λ (t : List ℕ). codes "Forbidden control sequence found while scanning definition of " ++ t) (append-nil (subject names (Forbidden scanned.Definition name)))
-forbidden_is names scanned.Use name = ap (λ (t : List ℕ). codes "Forbidden control sequence found while scanning use of " ++ t) (append-nil (subject names (Forbidden scanned.Use name)))
-forbidden_is names scanned.Text name = ap (λ (t : List ℕ). codes "Forbidden control sequence found while scanning text of " ++ t) (append-nil (subject names (Forbidden scanned.Text name)))
+forbidden_is : (style : Style) (what : Scanned) (name : Name) → opening style (Forbidden what name) ++ (subject style (Forbidden what name) ++ []) ≡ report_text style (Forbidden what name)
+forbidden_is style scanned.Definition name = ap (λ (t : List ℕ). codes "Forbidden control sequence found while scanning definition of " ++ t) (append-nil (subject style (Forbidden scanned.Definition name)))
+forbidden_is style scanned.Use name = ap (λ (t : List ℕ). codes "Forbidden control sequence found while scanning use of " ++ t) (append-nil (subject style (Forbidden scanned.Use name)))
+forbidden_is style scanned.Text name = ap (λ (t : List ℕ). codes "Forbidden control sequence found while scanning text of " ++ t) (append-nil (subject style (Forbidden scanned.Text name)))
 
 -- a report's text is its opening, the name or meaning in it, and what closes it
-report_is : (names : List (List ℕ)) (r : Report) → opening r ++ (subject names r ++ closing r) ≡ report_text names (report_of r)
-report_is names UndefinedName = refl
-report_is names InvalidCharacter = refl
-report_is names ImproperConstant = refl
-report_is names MissingNumber = refl
-report_is names NumberTooBig = refl
-report_is names (BadCharacterCode n) = append-nil (opening (BadCharacterCode n))
-report_is names (InvalidCode n greatest) = append-nil (opening (InvalidCode n greatest))
-report_is names MissingBrace = refl
-report_is names (FileEnded what name) = ended_is names what name
-report_is names (Forbidden what name) = forbidden_is names what name
-report_is names MissingName = refl
-report_is names NotConsecutive = refl
-report_is names AlreadyNine = refl
-report_is names (IllegalNumber name) = ap (λ (t : List ℕ). codes "Illegal parameter number in definition of " ++ t) (append-nil (subject names (IllegalNumber name)))
-report_is names (UseMismatch name) = refl
-report_is names (ExtraBrace name) = refl
-report_is names (ParagraphEnded name) = refl
-report_is names (PrefixWith m) = refl
-report_is names (LongOrOuterWith m) = refl
+report_is : (style : Style) (r : Report) → opening style r ++ (subject style r ++ closing r) ≡ report_text style r
+report_is style UndefinedName = refl
+report_is style InvalidCharacter = refl
+report_is style ImproperConstant = refl
+report_is style MissingNumber = refl
+report_is style NumberTooBig = refl
+report_is style (BadCharacterCode n) = append-nil (opening style (BadCharacterCode n))
+report_is style (InvalidCode n greatest) = append-nil (opening style (InvalidCode n greatest))
+report_is style MissingBrace = refl
+report_is style (FileEnded what name) = ended_is style what name
+report_is style (Forbidden what name) = forbidden_is style what name
+report_is style MissingName = refl
+report_is style NotConsecutive = refl
+report_is style AlreadyNine = refl
+report_is style (IllegalNumber name) = ap (λ (t : List ℕ). codes "Illegal parameter number in definition of " ++ t) (append-nil (subject style (IllegalNumber name)))
+report_is style (UseMismatch name) = refl
+report_is style (ExtraBrace name) = refl
+report_is style (ParagraphEnded name) = refl
+report_is style (PrefixWith m) = refl
+report_is style (LongOrOuterWith m) = around_prefix (codes "You can't use `") (escaped style (codes "long")) (codes "' or `") (escaped style (codes "outer")) (codes "' with `") (subject style (LongOrOuterWith m) ++ closing (LongOrOuterWith m))
+report_is style MissingEndcsname = append-nil (opening style MissingEndcsname)
 
--- what stands around a text
-around : (a b c d e : List ℕ) → ((a ++ b) ++ c) ++ (d ++ e) ≡ a ++ (b ++ ((c ++ d) ++ e))
-around a b c d e =
-    append_assoc (a ++ b) c (d ++ e) ∙ append_assoc a b (c ++ (d ++ e))
-    ∙ ap (λ (t : List ℕ). a ++ (b ++ t)) (sym (append_assoc c d e))
+pub report_parts : (style : Style) (b : Bool) (line : ℕ) (r : Report) (start before shown close behind : List ℕ) →
+    start ≡ fresh_line b ++ printed_all style (codes "! ") → before ≡ start ++ printed_all style (opening style r) → shown ≡ printed_all style (subject style r) → close ≡ closing r →
+    behind ≡ printed_all style close ++ (printed_all style (codes ".") ++ (10 ∷ (printed_all style (codes "l.") ++ (printed_all style (decimal line) ++ 10 ∷ [])))) →
+    before ++ (shown ++ behind) ≡ report_bytes style b line r
+report_parts style b line r start before shown close behind m i s k h =
+    around_parts (printed_by style.newline) (fresh_line b) (codes "! ") (opening style r) (subject style r) (closing r) (codes ".") (codes "l.") (decimal line) start before shown behind m i s (rw k at h)
+    ∙ ap (λ (text : List ℕ). plain.reported_line style b line text) (report_is style r)
 
--- what stands around a text, and closes it
-around_closed : (a b c d x e : List ℕ) → ((a ++ b) ++ c) ++ (d ++ (x ++ e)) ≡ a ++ (b ++ ((c ++ (d ++ x)) ++ e))
-around_closed a b c d x e =
-    ap (λ (t : List ℕ). ((a ++ b) ++ c) ++ t) (sym (append_assoc d x e)) ∙ around a b c (d ++ x) e
-
-pub report_parts : (names : List (List ℕ)) (b : Bool) (line : ℕ) (r : Report) (mark before shown close behind : List ℕ) →
-    mark ≡ fresh_line b ++ codes "! " → before ≡ mark ++ opening r → shown ≡ subject names r → close ≡ closing r → behind ≡ close ++ (codes ".\nl." ++ (decimal line ++ 10 ∷ [])) →
-    before ++ (shown ++ behind) ≡ report_bytes names b line (report_of r)
-report_parts names b line r mark before shown close behind m i s h l =
-    rw (i, m, s, l, h) (around_closed (fresh_line b) (codes "! ") (opening r) (subject names r) (closing r) (codes ".\nl." ++ (decimal line ++ 10 ∷ []))
-    ∙ ap (λ (t : List ℕ). fresh_line b ++ (codes "! " ++ (t ++ (codes ".\nl." ++ (decimal line ++ 10 ∷ []))))) (report_is names r))
-
-pub missing_parts : (names : List (List ℕ)) (b : Bool) (file mark before shown : List ℕ) →
-    mark ≡ fresh_line b ++ codes "! " → before ≡ mark ++ codes "I can't find file `" → shown ≡ printed_all (plain_style names) file →
-    before ++ (shown ++ codes "'.\nl.0\n") ≡ report_bytes names b 0 (plain.NoSuchFile file)
-unfolding digits
-missing_parts names b file mark before shown m i s =
-    let printed : List ℕ = printed_all (plain_style names) file in
-    rw (i, m, s) (around (fresh_line b) (codes "! ") (codes "I can't find file `") printed (codes "'.\nl.0\n")
-    ∙ ap (λ (t : List ℕ). fresh_line b ++ (codes "! " ++ (codes "I can't find file `" ++ t))) (sym (append_assoc printed (codes "'") (codes ".\nl.0\n"))))
-
-pub runaway_parts : (b : Bool) (word head shown list : List ℕ) → head ≡ fresh_line b ++ (codes "Runaway " ++ (word ++ codes "?\n")) → shown ≡ list →
-    head ++ (shown ++ []) ≡ fresh_line b ++ (codes "Runaway " ++ (word ++ (codes "?\n" ++ list)))
-runaway_parts b word head shown list h s =
-    rw (h, s, append-nil list) (
-    append_assoc (fresh_line b) (codes "Runaway " ++ (word ++ codes "?\n")) list
-    ∙ ap (λ (t : List ℕ). fresh_line b ++ (codes "Runaway " ++ t)) (append_assoc word (codes "?\n") list)
-    )
+-- the same opening, of a report and with a newline character that have other names
+pub opening_by : (style : Style) (r r' : Report) (newline : ℤ) (old new : List ℕ) → r ≡ r' → newline ≡ style.newline → new ≡ old ++ all_printed newline (opening style r') → new ≡ old ++ all_printed style.newline (opening style r)
+opening_by style r r' newline old new is e h =
+    h ∙ ap (λ (n : ℤ). old ++ all_printed n (opening style r')) e ∙ ap (λ (x : Report). old ++ all_printed style.newline (opening style x)) (sym is)

@@ -1,3 +1,4 @@
-pub mod Initial
+pub mod Given
+pub mod Plain
 pub mod Reported
 pub mod Taken

@@ -1,7 +1,8 @@
 // What texts depend on at INITEX's values of the parameters.
 ghost use Rattle.std.specs.Prelude.{◌≡◌};
-ghost use Rattle.cs_hash.specs.Names.{Knows};
-ghost use Rattle.transcript.specs.Initial.{IsInitialView};
+ghost use Rattle.cs_hash.specs.Names.{entered, Knows};
+ghost use Rattle.plain_tokens.specs.Printed.{initial_style};
+ghost use Rattle.token_show.specs.Views.{style_of, IsView};
 
 use cs_hash::CsHash;
 use string_pool::StringPool;
@@ -16,11 +17,9 @@ pub fn initial_view<'a>(
     categories: &'a [u8; 256],
 ) -> View<'a>
     requires { Knows hash.now pool.now.kept }
-    ensures initial { IsInitialView result }
+    ensures style { style_of result ≡ initial_style categories.now (entered hash.now pool.now.kept) }
+    ensures names { IsView result }
     ensures same_lists { result.lists.now ≡ lists.now }
-    ensures same_hash { result.hash.now ≡ hash.now }
-    ensures same_pool { result.pool.now ≡ pool.now }
-    ensures same_categories { result.categories.now ≡ categories.now }
 {
     View {
         lists,

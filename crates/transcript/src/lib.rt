@@ -1,17 +1,21 @@
-//! The texts that the machine writes of itself, written to a sink piece by piece: messages, reports, token lines and
-//! runaway texts.
+//! The texts that the machine writes of itself, each composed and written to a sink at once: messages, reports, token lines
+//! and runaway texts.
 //!
 //! *The TeXbook*, chapters 6, 8 and 20; *TeX: The Program*, parts 5 (printing), 6 (reporting errors), 22 (`runaway`)
 //! and 49 (`issue_message`). No call takes memory of its own. Each one says how much of its text the sink took, and
 //! keeps whether the transcript's column isn't 0.
 #![tactic(auto)]
 
+mod ends;
+mod fixed;
 mod initial;
 mod message;
 mod report;
+mod said;
 mod writing;
 
+pub use ends::{hundred_line, no_end_lines, no_file_lines};
 pub use initial::initial_view;
 pub use message::{write_message, write_runaway, write_token_line};
-pub use report::{Report, Scanned, write_missing_file, write_report};
-pub use writing::{put, put_shown};
+pub use report::{write_missing_file, write_report};
+pub use writing::put;

@@ -1,105 +1,80 @@
 // Reports.
-ghost use Rattle.std.specs.Prelude.{◌≡◌, ◌≤◌, ◌∷◌, ◌++◌, [], codes, length, OnOk, IfErr};
+ghost use Rattle.std.specs.Prelude.{◌≡◌, ◌≤◌, ◌∷◌, ◌++◌, [], codes, length, OnOk, IfErr, IsTrue};
 ghost use Rattle.std.specs.Fmt.{decimal};
-ghost use Rattle.plain_state.specs.Reports as plain;
-ghost use Rattle.plain_state.specs.Reports.{fresh_line, report_bytes};
-ghost use Rattle.transcript.specs.Initial.{IsInitialView, names_of};
-ghost use Rattle.transcript.specs.Reported.{report_of, opening, ended_opening, forbidden_opening, subject, closing, IsFixed};
+ghost use Rattle.plain_state.specs.Reports.{fresh_line, report_bytes, missing_file_bytes};
+ghost use Rattle.plain_tokens.specs.Printed.{Style, printed_all};
+ghost use Rattle.token_show.specs.Bytes.{all_printed};
+ghost use Rattle.token_show.specs.Views.{style_of, IsView};
+ghost use Rattle.transcript.specs.Plain.{is_plain};
+ghost use Rattle.transcript.specs.Reported.{opening, prefix_opening, ended_opening, forbidden_opening, subject, closing, IsFixed};
 ghost use Rattle.transcript.specs.Taken.{Took, TookFront};
 
+use crate::fixed::{fresh_line, put_escape, put_fixed, put_number, put_signed};
 use crate::writing::put_around;
-use char_text::{Text, count_length, whole_number_length};
-use tex_defs::{Meaning, Name};
+use char_text::Text;
+use tex_syntax::{Report, Scanned};
 use token_show::{Shown, View, meaning_head, name_text, show_bytes};
 use world_io::{Fault, Sink};
 
-/// What is read where a file ends or the name of an `\outer` macro comes.
-#[derive(Clone, Copy, PartialEq, Eq)]
-pub enum Scanned {
-    /// A macro's definition.
-    Definition,
-    /// A macro's arguments, where it is used.
-    Use,
-    /// A balanced text.
-    Text,
-}
-
-/// What is reported.
-#[derive(Clone, Copy, PartialEq, Eq)]
-pub enum Report {
-    UndefinedName,
-    InvalidCharacter,
-    ImproperConstant,
-    MissingNumber,
-    NumberTooBig,
-    BadCharacterCode(i32),
-    /// The code, and the greatest of its range.
-    InvalidCode(i32, u8),
-    MissingBrace,
-    /// The file ended while this was read, of a macro or of a command.
-    FileEnded(Scanned, Name),
-    /// The name of an `\outer` macro came while this was read.
-    Forbidden(Scanned, Name),
-    /// The name to be assigned is missing.
-    MissingName,
-    /// In a parameter text, another number than the next one.
-    NotConsecutive,
-    /// In a parameter text, a tenth place.
-    AlreadyNine,
-    /// In the body of this macro, a parameter character with no number of a place behind it.
-    IllegalNumber(Name),
-    /// In the call of this macro, other tokens than its parameter text has.
-    UseMismatch(Name),
-    /// In the call of this macro, a brace that closes nothing.
-    ExtraBrace(Name),
-    /// In the call of this macro, the end of a paragraph.
-    ParagraphEnded(Name),
-    /// A prefix before a command of this meaning, which is no assignment.
-    PrefixWith(Meaning<()>),
-    /// `\long` or `\outer` before a command of this meaning, which is no definition.
-    LongOrOuterWith(Meaning<()>),
-}
-
 // What stands before a report: a line feed, where the column isn't 0, and the mark of a report.
-fn report_mark(in_line: bool) -> Text
-    ensures text { result ≡ fresh_line in_line ++ codes "! " }
+fn report_mark(newline: i32, in_line: bool) -> Text
+    ensures text { result ≡ fresh_line in_line ++ all_printed newline (codes "! ") }
     ensures short { length result ≤ 3 }
 {
-    let mut text = Text::new();
-    if in_line {
-        text.put_char(b'\n');
-    }
-    text.put_bytes(b"! ");
+    let mut text = fresh_line(in_line);
+    put_fixed(&mut text, newline, b"! ");
     text
 }
 
 // Puts the report of a character's code.
-fn put_bad_code(text: &mut Text, n: i32)
+fn put_bad_code(text: &mut Text, newline: i32, n: i32)
     requires { length text.old ≤ 3 }
-    ensures { text.new ≡ text.old ++ opening (Report.BadCharacterCode n) }
+    ensures { (style : Style) → text.new ≡ text.old ++ all_printed newline (opening style (Report.BadCharacterCode n)) }
 {
-    whole_number_length(n);
-    text.put_bytes(b"Bad character code (");
-    text.put_int(n);
-    text.put_bytes(b")");
+    put_fixed(text, newline, b"Bad character code (");
+    put_signed(text, newline, n);
+    put_fixed(text, newline, b")");
 }
 
 // Puts the report of a code that is out of the range 0 to `greatest`.
-fn put_invalid_code(text: &mut Text, n: i32, greatest: u8)
+fn put_invalid_code(text: &mut Text, newline: i32, n: i32, greatest: u32)
     requires { length text.old ≤ 3 }
-    ensures { text.new ≡ text.old ++ opening (Report.InvalidCode n greatest) }
+    ensures { (style : Style) → text.new ≡ text.old ++ all_printed newline (opening style (Report.InvalidCode n greatest)) }
 {
-    whole_number_length(n);
-    count_length(u64::from(greatest));
-    text.put_bytes(b"Invalid code (");
-    text.put_int(n);
-    text.put_bytes(b"), should be in the range 0..");
-    text.put_count(u64::from(greatest));
+    put_fixed(text, newline, b"Invalid code (");
+    put_signed(text, newline, n);
+    put_fixed(text, newline, b"), should be in the range 0..");
+    put_number(text, newline, u64::from(greatest));
+}
+
+// Puts the report of `\long` or `\outer` before a command with which they don't go, up to that command.
+fn put_prefix(text: &mut Text, view: View<'_>)
+    requires names { IsView view }
+    requires short { length text.old ≤ 3 }
+    ensures { text.new ≡ text.old ++ all_printed view.entry.newline (prefix_opening (style_of view.entry)) }
+{
+    put_fixed(text, view.newline, b"You can't use `");
+    put_escape(text, view);
+    put_fixed(text, view.newline, b"long' or `");
+    put_escape(text, view);
+    put_fixed(text, view.newline, b"outer' with `");
+}
+
+// Puts the report of a missing `\endcsname`.
+fn put_missing_endcsname(text: &mut Text, view: View<'_>)
+    requires names { IsView view }
+    requires short { length text.old ≤ 3 }
+    ensures { text.new ≡ text.old ++ all_printed view.entry.newline (opening (style_of view.entry) Report.MissingEndcsname) }
+{
+    put_fixed(text, view.newline, b"Missing ");
+    put_escape(text, view);
+    put_fixed(text, view.newline, b"endcsname inserted");
 }
 
 // What stands before the name where a file ended.
 fn ended_while(what: Scanned) -> &'static [u8]
     ensures text { result.now ≡ ended_opening what }
+    ensures plain { IsTrue (is_plain result.now) }
     ensures short { length result.now ≤ 60 }
 {
     match what {
@@ -112,6 +87,7 @@ fn ended_while(what: Scanned) -> &'static [u8]
 // What stands before the name where the name of an `\outer` macro came.
 fn forbidden_while(what: Scanned) -> &'static [u8]
     ensures text { result.now ≡ forbidden_opening what }
+    ensures plain { IsTrue (is_plain result.now) }
     ensures short { length result.now ≤ 70 }
 {
     match what {
@@ -121,10 +97,11 @@ fn forbidden_while(what: Scanned) -> &'static [u8]
     }
 }
 
-// A report's text, up to the name or meaning in it, where no number stands in it.
+// A report's text, up to the name or meaning in it, where no number and no escape character stands in it.
 fn fixed_opening(report: Report) -> &'static [u8]
     requires { IsFixed report }
-    ensures text { result.now ≡ opening report }
+    ensures text { (style : Style) → result.now ≡ opening style report }
+    ensures plain { IsTrue (is_plain result.now) }
     ensures short { length result.now ≤ 70 }
 {
     match report {
@@ -144,27 +121,32 @@ fn fixed_opening(report: Report) -> &'static [u8]
         Report::ExtraBrace(_) => b"Argument of ",
         Report::ParagraphEnded(_) => b"Paragraph ended before ",
         Report::PrefixWith(_) => b"You can't use a prefix with `",
-        Report::LongOrOuterWith(_) => b"You can't use `\\long' or `\\outer' with `",
-        Report::BadCharacterCode(_) | Report::InvalidCode(_, _) => b"",
+        Report::BadCharacterCode(_)
+        | Report::InvalidCode(_, _)
+        | Report::LongOrOuterWith(_)
+        | Report::MissingEndcsname => b"",
     }
 }
 
 // Puts a report's text, up to the name or meaning in it.
-fn put_opening(text: &mut Text, report: Report)
-    requires { length text.old ≤ 3 }
-    ensures { text.new ≡ text.old ++ opening report }
+fn put_opening(text: &mut Text, view: View<'_>, report: Report)
+    requires names { IsView view }
+    requires short { length text.old ≤ 3 }
+    ensures { text.new ≡ text.old ++ all_printed view.entry.newline (opening (style_of view.entry) report) }
 {
     match report {
-        Report::BadCharacterCode(n) => put_bad_code(text, n),
-        Report::InvalidCode(n, greatest) => put_invalid_code(text, n, greatest),
-        other => text.put_bytes(fixed_opening(other)),
+        Report::BadCharacterCode(n) => put_bad_code(text, view.newline, n),
+        Report::InvalidCode(n, greatest) => put_invalid_code(text, view.newline, n, greatest),
+        Report::LongOrOuterWith(_) => put_prefix(text, view),
+        Report::MissingEndcsname => put_missing_endcsname(text, view),
+        other => put_fixed(text, view.newline, fixed_opening(other)),
     }
 }
 
 // The name or meaning in a report's text, if there is one.
 fn show_subject<'a>(view: View<'a>, report: Report) -> Shown<'a>
-    requires { IsInitialView view }
-    ensures { result ≡ subject (names_of view.entry) report }
+    requires { IsView view }
+    ensures { result ≡ printed_all (style_of view.entry) (subject (style_of view.entry) report) }
 {
     match report {
         Report::FileEnded(_, name)
@@ -183,6 +165,7 @@ fn show_subject<'a>(view: View<'a>, report: Report) -> Shown<'a>
 // What closes a report's text behind the name or meaning in it.
 fn closing(report: Report) -> &'static [u8]
     ensures text { result.now ≡ closing report }
+    ensures plain { IsTrue (is_plain result.now) }
     ensures short { length result.now ≤ 30 }
 {
     match report {
@@ -195,15 +178,17 @@ fn closing(report: Report) -> &'static [u8]
 }
 
 // What stands behind a report: what closes it, and the number of the line that is being read.
-fn line_number(close: &[u8], line: u64) -> Text
-    requires { length close.now ≤ 30 }
-    ensures { result ≡ close.now ++ (codes ".\nl." ++ (decimal line ++ 10 ∷ [])) }
+fn line_number(newline: i32, close: &[u8], line: u64) -> Text
+    requires plain { IsTrue (is_plain close.now) }
+    requires short { length close.now ≤ 30 }
+    ensures { result ≡ all_printed newline close.now ++ (all_printed newline (codes ".") ++ (10 ∷ (all_printed newline (codes "l.") ++ (all_printed newline (decimal line) ++ 10 ∷ [])))) }
 {
     let mut text = Text::new();
-    count_length(line);
-    text.put_bytes(close);
-    text.put_bytes(b".\nl.");
-    text.put_count(line);
+    put_fixed(&mut text, newline, close);
+    put_fixed(&mut text, newline, b".");
+    text.put_char(b'\n');
+    put_fixed(&mut text, newline, b"l.");
+    put_number(&mut text, newline, line);
     text.put_char(b'\n');
     text
 }
@@ -221,13 +206,13 @@ pub fn write_report<S: Sink>(
     line: u64,
     report: Report,
 ) -> Result<(), Fault>
-    requires { IsInitialView view }
-    ensures ok { OnOk result (Took (S.told out.old) (S.told out.new) in_line.old in_line.new (report_bytes (names_of view.entry) in_line.old line (report_of report))) }
-    ensures err { IfErr result (λ fault. TookFront (S.told out.old) (S.told out.new) in_line.old in_line.new (report_bytes (names_of view.entry) in_line.old line (report_of report)) fault) }
+    requires { IsView view }
+    ensures ok { OnOk result (Took (S.told out.old) (S.told out.new) in_line.old in_line.new (report_bytes (style_of view.entry) in_line.old line report)) }
+    ensures err { IfErr result (λ fault. TookFront (S.told out.old) (S.told out.new) in_line.old in_line.new (report_bytes (style_of view.entry) in_line.old line report) fault) }
 {
-    let mut before = report_mark(*in_line);
-    put_opening(&mut before, report);
-    let behind = line_number(closing(report), line);
+    let mut before = report_mark(view.newline, *in_line);
+    put_opening(&mut before, view, report);
+    let behind = line_number(view.newline, closing(report), line);
     put_around(
         out,
         in_line,
@@ -247,17 +232,18 @@ pub fn write_missing_file<S: Sink>(
     view: View<'_>,
     file: &[u8],
 ) -> Result<(), Fault>
-    requires { IsInitialView view }
-    ensures ok { OnOk result (Took (S.told out.old) (S.told out.new) in_line.old in_line.new (report_bytes (names_of view.entry) in_line.old 0 (plain.NoSuchFile file.now))) }
-    ensures err { IfErr result (λ fault. TookFront (S.told out.old) (S.told out.new) in_line.old in_line.new (report_bytes (names_of view.entry) in_line.old 0 (plain.NoSuchFile file.now)) fault) }
+    requires { IsView view }
+    ensures ok { OnOk result (Took (S.told out.old) (S.told out.new) in_line.old in_line.new (missing_file_bytes (style_of view.entry) in_line.old 0 file.now)) }
+    ensures err { IfErr result (λ fault. TookFront (S.told out.old) (S.told out.new) in_line.old in_line.new (missing_file_bytes (style_of view.entry) in_line.old 0 file.now) fault) }
 {
-    let mut before = report_mark(*in_line);
-    before.put_bytes(b"I can't find file `");
+    let mut before = report_mark(view.newline, *in_line);
+    put_fixed(&mut before, view.newline, b"I can't find file `");
+    let behind = line_number(view.newline, b"'", 0);
     put_around(
         out,
         in_line,
         before.bytes(),
         show_bytes(view, file),
-        b"'.\nl.0\n",
+        behind.bytes(),
     )
 }

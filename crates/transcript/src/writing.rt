@@ -3,7 +3,8 @@ ghost use Rattle.std.specs.Prelude.{◌≡◌, ◌<◌, ◌++◌, [], length, On
 ghost use Rattle.plain_state.specs.States.{in_line_after};
 ghost use Rattle.transcript.specs.Taken.{Took, TookFront};
 
-use char_text::Text;
+use crate::said::Said;
+use arrayvec::ArrayVec;
 use token_show::Shown;
 use world_io::{Fault, Sink, write_all};
 
@@ -39,41 +40,22 @@ pub fn put<S: Sink>(out: &mut S, in_line: &mut bool, text: &[u8]) -> Result<(), 
     }
 }
 
-// The first bytes of a text: as many as there are and a `Text` has room for.
-fn first_bytes(shown: &mut Shown<'_>) -> Text
-    ensures parts { shown.old ≡ result ++ shown.new }
-    ensures some { result ≡ [] → shown.new ≡ [] }
+// The first bytes of a text: as many as there are, and as there is room for.
+fn first_bytes(said: &mut Said<'_>) -> ArrayVec<u8, 256>
+    ensures parts { said.old ≡ result.items ++ said.new }
+    ensures some { result.items ≡ [] → said.new ≡ [] }
 {
-    let mut text = Text::new();
-    for _place in 0..80usize {
-        let Some(byte) = shown.next() else {
-            return text;
+    let mut bytes = ArrayVec::new();
+    for _place in 0..256usize {
+        let Some(byte) = said.next() else {
+            return bytes;
         };
-        text.put_char(byte);
+        bytes.push(byte);
     }
-    text
+    bytes
 }
 
-/// Writes a text that is handed out byte by byte.
-///
-/// # Errors
-/// A write failed or wanted memory; the sink took a front of the text.
-pub fn put_shown<S: Sink>(out: &mut S, in_line: &mut bool, shown: Shown<'_>) -> Result<(), Fault>
-    ensures ok { OnOk result (Took (S.told out.old) (S.told out.new) in_line.old in_line.new shown.entry) }
-    ensures err { IfErr result (λ fault. TookFront (S.told out.old) (S.told out.new) in_line.old in_line.new shown.entry fault) }
-{
-    let mut left = shown;
-    loop {
-        let text = first_bytes(&mut left);
-        let bytes = text.bytes();
-        if bytes.is_empty() {
-            return Ok(());
-        }
-        put(out, in_line, bytes)?;
-    }
-}
-
-// Writes a text that is handed out, between bytes. At a fault the sink took a front of all.
+// Writes a text that is shown, between bytes, in pieces of 256 bytes. At a fault the sink took a front of all.
 pub(crate) fn put_around<S: Sink>(
     out: &mut S,
     in_line: &mut bool,
@@ -84,7 +66,12 @@ pub(crate) fn put_around<S: Sink>(
     ensures ok { OnOk result (Took (S.told out.old) (S.told out.new) in_line.old in_line.new (before.now ++ (shown.entry ++ behind.now))) }
     ensures err { IfErr result (λ fault. TookFront (S.told out.old) (S.told out.new) in_line.old in_line.new (before.now ++ (shown.entry ++ behind.now)) fault) }
 {
-    put(out, in_line, before)?;
-    put_shown(out, in_line, shown)?;
-    put(out, in_line, behind)
+    let mut left = Said::new(before, shown, behind);
+    loop {
+        let bytes = first_bytes(&mut left);
+        if bytes.is_empty() {
+            return Ok(());
+        }
+        put(out, in_line, bytes.as_slice())?;
+    }
 }

@@ -2,9 +2,9 @@ use Rattle.std.proofs.Common.{refl}
 use Rattle.std.specs.Fmt.{digits}
 use Rattle.prim_table.specs.Primitives.{primitive_name, primitive_names, command_names, assignment_names, expandable_names, conditional_names, integer_names, dimension_names, glue_names, token_names}
 use Rattle.plain_machine.specs.Rows.{job_of, run_of}
-use Rattle.plain_state.specs.Categories.{initial_categories}
-use Rattle.plain_state.specs.Lex.{headed, letters, behind_letters, lexed}
-use Rattle.plain_state.specs.Lookup.{number_from}
+use Rattle.plain_tokens.specs.Categories.{initial_categories}
+use Rattle.plain_tokens.specs.Lex.{headed, letters, behind_letters, lexed}
+use Rattle.plain_tokens.specs.Lookup.{number_from}
 use Rattle.plain_machine.proofs.worked_ends.Goals as goal
 
 pub returns : goal.returns

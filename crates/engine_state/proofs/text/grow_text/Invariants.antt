@@ -1,5 +1,5 @@
 use Rattle.std.proofs.Common.{take}
-use Rattle.plain_state.specs.Tokens.{made_text}
+use Rattle.plain_tokens.specs.Tokens.{made_text}
 use Rattle.engine_state.proofs.TextPutting.{HasGrown}
 use Rattle.engine_state.proofs.text.grow_text.Given as goal
 

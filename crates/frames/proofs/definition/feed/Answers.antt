@@ -1,11 +1,11 @@
 -- At each return, the clauses follow from what the step ensures.
 use Rattle.std.proofs.Common.{◌≡◌, ◌≤◌, List, [], ◌∷◌, length, subst, sym, ap, ◌∙◌, arith}
+use Rattle.tex_syntax.specs.declared.words.Manner.{Manner}
 use Rattle.tex_defs.specs.declared.Token.{Token}
 use Rattle.tex_defs.specs.declared.Seen.{Seen}
 use Rattle.plain_state.specs.Readings.{Fed, Tok, build_fed, build_ask, built}
 use Rattle.plain_state.specs.Definitions.{Done}
 use Rattle.plain_state.specs.Definitions as build
-use Rattle.list_builder.specs.Plain.{manner_of}
 use Rattle.list_builder.specs.Stages.{resume, grown, depth_of}
 use Rattle.list_builder.specs.declared.stage.Stage.{Stage}
 use Rattle.list_builder.specs.declared.stage.Next.TheVariants.{On, Finished}
@@ -21,7 +21,7 @@ use Rattle.frames.proofs.Steps.{built_here, behind_two, goes_on, deep_enough, no
 use Rattle.frames.proofs.definition.feed.Goals as goal
 
 -- what is ensured of the stage `old`, which is fed with `x` and is `now` from then on, and of the answer
-abbrev Clauses : build.Manner → Seen → Stage → Stage → Answer → Type 0
+abbrev Clauses : Manner → Seen → Stage → Stage → Answer → Type 0
 Clauses m x old now a = record {
   answer : (ts : List Token) → IsFed old → ask_of (lists_behind a (ts ∷ [])) a.ask ≡ resume_stage m old ts (Tok x ∷ []);
   goes_on : IsOpen a.ask → (ts : List Token) (fed : List Fed) → IsFed old → resume_stage m old ts (Tok x ∷ fed) ≡ resume_stage m now (first_list (lists_behind a (ts ∷ []))) fed;
@@ -40,7 +40,7 @@ returns-then-depth-eq18446744073709551615 c =
     let ask : Ask = c.senseless.result in
     let old : Stage = c.args.stage.now in
     let too_deep : IsFed old → ⊥ = λ (h : IsFed old). omega (arith, h.few, c.depth.ensures, c.if-depth-eq18446744073709551615.true) in
-    subst (λ (a : Answer). Clauses (manner_of c.args.manner) c.args.x old old a) (sym c.bare.ensures) (record {
+    subst (λ (a : Answer). Clauses c.args.manner c.args.x old old a) (sym c.bare.ensures) (record {
       answer = λ ts h. absurd (too_deep h);
       goes_on = λ o. absurd (e.closed o);
       list = λ o. absurd (e.closed o);
@@ -53,7 +53,7 @@ returns-then-depth-eq18446744073709551615 c =
 
 pub returns-in-On : goal.returns-in-On
 returns-in-On c =
-    let m : build.Manner = manner_of c.args.manner in
+    let m : Manner = c.args.manner in
     let r : Step = c.took-first.result in
     let e = c.took-first.ensures in
     let w = c.asked-ask.ensures in
@@ -77,7 +77,7 @@ returns-in-On c =
 
 pub returns-in-Finished : goal.returns-in-Finished
 returns-in-Finished c =
-    let m : build.Manner = manner_of c.args.manner in
+    let m : Manner = c.args.manner in
     let r : Step = c.took-first.result in
     let e = c.took-first.ensures in
     record {

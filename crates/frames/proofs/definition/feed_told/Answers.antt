@@ -1,10 +1,10 @@
 -- At each return, the clauses follow from what the step ensures.
 use Rattle.std.proofs.Common.{◌≡◌, ◌≤◌, List, [], ◌∷◌, Option, None, subst, refl, sym, ap, ◌∙◌, arith}
+use Rattle.tex_syntax.specs.declared.words.Manner.{Manner}
 use Rattle.tex_defs.specs.declared.Token.{Token}
 use Rattle.plain_state.specs.Readings.{build_fed, build_ask, built}
 use Rattle.plain_state.specs.Definitions.{with_cell, Done}
 use Rattle.plain_state.specs.Definitions as build
-use Rattle.list_builder.specs.Plain.{manner_of}
 use Rattle.list_builder.specs.Stages.{resume, grown, depth_of, depth_after, TellsNext}
 use Rattle.list_builder.specs.declared.stage.Next.{Next}
 use Rattle.list_builder.specs.declared.stage.Next.TheVariants.{On, Finished}
@@ -21,7 +21,7 @@ behind r ts one = behind_one r.first ts ∙ ap (λ (o : Option Token). with_cell
 
 pub returns-in-On : goal.returns-in-On
 returns-in-On c =
-    let m : build.Manner = manner_of c.args.manner in
+    let m : Manner = c.args.manner in
     let r : Step = c.told-step.result in
     let e = c.told-step.ensures in
     let w = c.wanted-ask.ensures in
@@ -46,7 +46,7 @@ returns-in-On c =
 
 pub returns-in-Finished : goal.returns-in-Finished
 returns-in-Finished c =
-    let m : build.Manner = manner_of c.args.manner in
+    let m : Manner = c.args.manner in
     let r : Step = c.told-step.result in
     let e = c.told-step.ensures in
     record {

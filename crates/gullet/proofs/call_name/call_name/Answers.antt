@@ -1,6 +1,6 @@
 use Rattle.std.proofs.Common.{[], ap, sym, ◌∙◌}
 use Rattle.tex_defs.specs.declared.Seen.{Seen}
-use Rattle.plain_state.specs.Meanings.{name_meaning, seen_as}
+use Rattle.plain_tokens.specs.Meanings.{name_meaning, seen_as}
 use Rattle.input_state.specs.Stored.{Stored}
 use Rattle.engine_state.specs.Stands.{state_of}
 use Rattle.engine_state.proofs.Bare.{all_of}

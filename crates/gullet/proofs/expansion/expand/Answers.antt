@@ -1,10 +1,10 @@
 use Rattle.std.proofs.Common.{◌≡◌, [], ◌∷◌, refl, subst, ◌∙◌}
+use Rattle.tex_syntax.specs.declared.words.Report.TheVariants.{UndefinedName}
 use Rattle.plain_state.specs.States.{Begun}
 use Rattle.frames.specs.Sees.{kind_of}
 use Rattle.gullet.specs.declared.expansion.Expansion.TheVariants as by
 use Rattle.engine_state.proofs.Counting.{counts_of}
 use Rattle.engine_state.proofs.Standing.{same_engine}
-use Rattle.plain_state.specs.Reports.{UndefinedName}
 use Rattle.plain_machine.specs.Plan.{reported, called}
 use Rattle.engine_state.specs.declared.broken.Broken.TheVariants as broken
 use Rattle.engine_state.specs.Stands.{state_of, page_of}

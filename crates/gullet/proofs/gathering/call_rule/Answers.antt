@@ -1,6 +1,6 @@
 use Rattle.std.proofs.Common.{◌∷◌, [], refl, ap, sym, subst, ◌∙◌, List}
 use Rattle.std.specs.Prelude.{Some, None}
-use Rattle.plain_state.specs.Pending.{settle}
+use Rattle.plain_tokens.specs.Pending.{settle}
 use Rattle.plain_state.specs.States.{Move}
 use Rattle.plain_machine.proofs.Doing.{did_none}
 use Rattle.engine_state.specs.declared.broken.Broken.TheVariants as broken

@@ -1,8 +1,8 @@
 use Rattle.std.proofs.Common.{◌≡◌, ◌∷◌, [], arith, false, true}
 use Rattle.std.proofs.lemmas.Grind.{common_steps}
-use Rattle.plain_state.specs.States.{Closed, AtFatal}
+use Rattle.tex_syntax.specs.declared.words.Outcome.TheVariants.{AtFatal}
+use Rattle.plain_state.specs.States.{Closed}
 use Rattle.tex_defs.specs.declared.Fatal.TheVariants as fatal
-use Rattle.transcript.specs.Reported.{report_of}
 use Rattle.engine_state.specs.Book.{with_work}
 use Rattle.engine_state.proofs.CallEnding.{failed_went, failed_halts}
 use Rattle.engine_state.proofs.Joining.{same_err}
@@ -15,10 +15,10 @@ returns-in_err-report-clause-err g c = let i = c.in_err-report in
 pub returns-then-not-branch-clause-rule : goal.returns-then-not-branch-clause-rule
 returns-then-not-branch-clause-rule g c =
     let no : c.in_ok-report.field-0 ≡ false = grind (arith, common_steps, c.if-not-branch.true) in
-    λ sizes f book r rs call is st. failed_halts sizes c.args.engine.now c.report.new.self (with_work (r ∷ rs) book) _ _ (report_of c.args.report) (AtFatal fatal.HundredErrors) (c.in_ok-report.ensures.last no sizes f (with_work (r ∷ rs) book) (Closed ∷ []))
+    λ sizes f book r rs call is st. failed_halts sizes c.args.engine.now c.report.new.self (with_work (r ∷ rs) book) _ _ c.args.report (AtFatal fatal.HundredErrors) (c.in_ok-report.ensures.last no sizes f (with_work (r ∷ rs) book) (Closed ∷ []))
 
 pub returns-clause-rule : goal.returns-clause-rule
 returns-clause-rule g c =
     let yes : c.in_ok-report.field-0 ≡ true = grind (arith, common_steps, c.if-not-branch.false) in let e = c.args.engine.now in let e1 = c.report.new.self in
-    λ sizes f book r rs call is st. failed_went sizes e e1 c.close_call.new.engine book r rs call f _ _ (report_of c.args.report) is st c.report.ensures.frames c.report.ensures.input (c.in_ok-report.ensures.sized yes sizes) c.close_call.ensures.after c.close_call.ensures.macros
+    λ sizes f book r rs call is st. failed_went sizes e e1 c.close_call.new.engine book r rs call f _ _ c.args.report is st c.report.ensures.frames c.report.ensures.input (c.in_ok-report.ensures.sized yes sizes) c.close_call.ensures.after c.close_call.ensures.macros
     (c.in_ok-report.ensures.on yes sizes f (with_work (r ∷ rs) book) (Closed ∷ []))

@@ -1,5 +1,5 @@
 use Rattle.std.proofs.Common.{◌∷◌, ap, ◌∙◌}
-use Rattle.plain_state.specs.Reports.{ParagraphEnded}
+use Rattle.tex_syntax.specs.declared.words.Report.TheVariants.{ParagraphEnded}
 use Rattle.input_state.specs.Stored.{Stored}
 use Rattle.engine_state.specs.Book.{with_work}
 use Rattle.engine_state.specs.Steps.{pending_weight}

@@ -1,7 +1,7 @@
 use Rattle.std.proofs.Common.{List, refl, sym, ◌∙◌}
 use Rattle.std.specs.Prelude.{Some}
+use Rattle.tex_syntax.specs.declared.words.Want.TheVariants.{Raw}
 use Rattle.plain_state.specs.States.{Move}
-use Rattle.frames.specs.declared.scan.Want.TheVariants.{Raw}
 use Rattle.engine_state.specs.declared.broken.Broken.TheVariants as broken
 use Rattle.engine_state.specs.declared.outcome.Next.TheVariants as next
 use Rattle.engine_state.specs.Book.{Book}

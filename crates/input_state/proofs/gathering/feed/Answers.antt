@@ -3,7 +3,7 @@ use Rattle.tex_defs.specs.declared.Token.{Token}
 use Rattle.tex_defs.specs.declared.Name.{Name}
 use Rattle.token_lists.specs.Table.{Entry}
 use Rattle.token_lists.specs.Ids.{id_of}
-use Rattle.plain_state.specs.Meanings.{name_meaning}
+use Rattle.plain_tokens.specs.Meanings.{name_meaning}
 use Rattle.meanings.specs.Map.{Map}
 use Rattle.meanings.specs.Holding.{list_of}
 use Rattle.macro_call.specs.declared.scan.ArgScan.{ArgScan}

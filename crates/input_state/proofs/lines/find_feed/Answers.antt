@@ -2,7 +2,7 @@ use Rattle.std.proofs.Common.{◌≡◌, ℕ, ◌+◌, ◌<◌, Bool, true, fals
 use Rattle.std.specs.Prelude.{◌==◌, if◌then◌else◌}
 use Rattle.std.proofs.Math.Seq.{take-suc}
 use Rattle.std.proofs.lemmas.Bool.{ne_eqb}
-use Rattle.plain_state.specs.Lines.{before_feed, behind_feed, has_feed}
+use Rattle.plain_tokens.specs.Lines.{before_feed, behind_feed, has_feed}
 use Rattle.input_state.proofs.LineRests.{drop_at}
 use Rattle.input_state.proofs.lines.find_feed.Goals as goal
 

@@ -1,5 +1,5 @@
 use Rattle.std.proofs.Common.{length, ◌-◌, ◌≡◌, ◌≤◌, take, drop, ◌++◌}
-use Rattle.plain_state.specs.Lines.{before_feed, behind_feed, has_feed}
+use Rattle.plain_tokens.specs.Lines.{before_feed, behind_feed, has_feed}
 use Rattle.input_state.proofs.lines.find_feed.Given as goal
 
 abbrev pub invariant-loop-k : goal.invariant-loop-k

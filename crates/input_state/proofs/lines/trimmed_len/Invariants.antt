@@ -1,5 +1,5 @@
 use Rattle.std.proofs.Common.{length, ◌≡◌, ◌≤◌, take}
-use Rattle.plain_state.specs.Lines.{trimmed}
+use Rattle.plain_tokens.specs.Lines.{trimmed}
 use Rattle.input_state.proofs.lines.trimmed_len.Given as goal
 
 abbrev pub invariant-loop-n : goal.invariant-loop-n

@@ -1,5 +1,5 @@
 use Rattle.std.proofs.Common.{◌≡◌, ◌≤◌, ◌-◌, drop, length}
-use Rattle.plain_state.specs.Lex.{lexed}
+use Rattle.plain_tokens.specs.Lex.{lexed}
 use Rattle.line_lexer.specs.Answers.{state_of}
 use Rattle.line_lexer.proofs.heads.begin.Given as goal
 

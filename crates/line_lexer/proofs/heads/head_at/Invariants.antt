@@ -1,5 +1,5 @@
 use Rattle.std.proofs.Common.{◌≡◌, ◌≤◌, ◌<◌, ◌-◌, ◌∷◌, drop, length}
-use Rattle.plain_state.specs.Lex.{headed}
+use Rattle.plain_tokens.specs.Lex.{headed}
 use Rattle.line_lexer.proofs.heads.head_at.Given as goal
 
 abbrev pub invariant-loop-head : goal.invariant-loop-head

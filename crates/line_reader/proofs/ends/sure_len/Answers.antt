@@ -1,7 +1,7 @@
 use Rattle.std.proofs.Common.{◌≡◌, ◌<◌, length, arith, ap, sym, ◌∙◌}
 use Rattle.std.proofs.lemmas.List.{length-append, length-take-le}
 use Rattle.std.proofs.lemmas.Grind.{common_steps}
-use Rattle.plain_state.specs.Lines.{without_last}
+use Rattle.plain_tokens.specs.Lines.{without_last}
 use Rattle.line_reader.proofs.LineEnds.{without-some}
 use Rattle.line_reader.proofs.ends.sure_len.Goals as goal
 

@@ -2,7 +2,7 @@ use Rattle.std.proofs.Common.{◌≡◌, ◌∷◌, sym, ap, ◌∙◌, drop, tr
 use Rattle.tex_defs.specs.declared.Token.{Token}
 use Rattle.token_lists.specs.Table.{tokens_at}
 use Rattle.token_lists.specs.Ids.{build_id}
-use Rattle.plain_state.specs.Arguments.{is_begin, is_group}
+use Rattle.plain_tokens.specs.Arguments.{is_begin, is_group}
 use Rattle.macro_call.specs.Braces.{closes_last}
 use Rattle.macro_call.specs.Cursors.{rest_at}
 use Rattle.macro_call.proofs.Groups.{group_is}

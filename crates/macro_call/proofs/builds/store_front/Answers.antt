@@ -2,7 +2,7 @@ use Rattle.std.proofs.Common.{◌≡◌, ◌++◌, ◌∷◌, [], ℕ, List, len
 use Rattle.tex_defs.specs.declared.Token.{Token}
 use Rattle.token_lists.specs.Table.{tokens_at}
 use Rattle.token_lists.specs.Ids.{id_of, build_id}
-use Rattle.plain_state.specs.Arguments.{start_of}
+use Rattle.plain_tokens.specs.Arguments.{start_of}
 use Rattle.macro_call.specs.Cursors.{delimiter_at}
 use Rattle.macro_call.specs.Tables.{IsOnly}
 use Rattle.macro_call.proofs.Fronts.{take_on}

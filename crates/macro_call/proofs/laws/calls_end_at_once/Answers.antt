@@ -1,4 +1,4 @@
-use Rattle.plain_state.specs.Arguments.{start_of, places_of}
+use Rattle.plain_tokens.specs.Arguments.{start_of, places_of}
 use Rattle.macro_call.proofs.ArgumentRuns.{call_stays}
 use Rattle.macro_call.proofs.laws.calls_end_at_once.Goals as goal
 

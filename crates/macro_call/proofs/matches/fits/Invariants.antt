@@ -1,6 +1,6 @@
 use Rattle.std.proofs.Common.{◌≡◌, ◌<◌, ◌≤◌, ◌-◌, ◌++◌, ◌∷◌, [], length, take}
 use Rattle.token_lists.specs.Ids.{id_of}
-use Rattle.plain_state.specs.Arguments.{is_prefix}
+use Rattle.plain_tokens.specs.Arguments.{is_prefix}
 use Rattle.macro_call.specs.Cursors.{IsOn, delimiter_at}
 use Rattle.macro_call.proofs.matches.fits.Given as goal
 

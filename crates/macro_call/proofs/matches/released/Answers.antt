@@ -1,7 +1,7 @@
 use Rattle.std.proofs.Common.{◌≡◌, ℕ, ◌≤◌, ◌<◌, ◌∙◌, ◌+◌, ◌-◌, ◌++◌, ◌∷◌, [], length, take, sym, ap, arith, false, ◌&&◌}
 use Rattle.std.specs.Prelude.{◌==◌}
 use Rattle.token_lists.specs.Ids.{id_of}
-use Rattle.plain_state.specs.Arguments.{is_prefix}
+use Rattle.plain_tokens.specs.Arguments.{is_prefix}
 use Rattle.macro_call.specs.Cursors.{delimiter_at}
 use Rattle.macro_call.proofs.Fronts.{past_stops, past_next, take_head, here, not_inside, not_fitting, behind_bound}
 use Rattle.macro_call.proofs.matches.released.Goals as goal

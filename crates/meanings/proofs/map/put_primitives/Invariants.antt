@@ -1,8 +1,8 @@
 use Rattle.std.proofs.Common.{◌≡◌, ◌+◌, ◌++◌, length, map}
 use Rattle.std.specs.Prelude.{vec_capacity}
 use Rattle.std.specs.List.{range_with_len}
-use Rattle.plain_state.specs.Names.{is_known}
-use Rattle.plain_state.specs.Meanings.{first_meaning}
+use Rattle.plain_tokens.specs.Names.{is_known}
+use Rattle.plain_tokens.specs.Meanings.{first_meaning}
 use Rattle.meanings.specs.Map.{all_numbered}
 use Rattle.meanings.proofs.map.put_primitives.Given as goal
 

@@ -1,6 +1,6 @@
 use Rattle.std.proofs.Common.{◌≡◌, ◌∙◌, None, ap}
 use Rattle.cs_hash.specs.Names.{entered}
-use Rattle.plain_state.specs.Lookup.{number_of}
+use Rattle.plain_tokens.specs.Lookup.{number_of}
 use Rattle.name_table.specs.Strings.{Strings}
 use Rattle.name_table.proofs.Changes.{entering, entering_sound}
 use Rattle.name_table.proofs.NameTable.enter.Goals as goal

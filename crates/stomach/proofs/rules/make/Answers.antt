@@ -1,6 +1,6 @@
 use Rattle.std.proofs.Common.{ℕ, [], ◌∷◌, ◌++◌, List, ◌∙◌, subst}
 use Rattle.plain_state.specs.States.{Closed}
-use Rattle.plain_state.specs.Tokens.{made_text}
+use Rattle.plain_tokens.specs.Tokens.{made_text}
 use Rattle.plain_machine.specs.Plan.{put_text}
 use Rattle.plain_machine.specs.Does.{Did}
 use Rattle.frames.specs.Sees.{made_of}

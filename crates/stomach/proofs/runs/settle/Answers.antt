@@ -30,7 +30,7 @@ returns-in_err-read_ahead-clause-run g c =
     let x : Early = early.Unread i.field-0.0 in
     reads_err c.from_residual.result x _ _ _ _ _ _ c.from_residual.ensures.1
     (reads_unread c.args.engine.now c.loop-engine.engine c.read_ahead.new.engine (g.S.Sink.told c.args.out.now) (g.S.Sink.told c.loop-engine.out) 0 0 i.field-0.0 c.args.reader.now c.loop-engine.reader c.read_ahead.new.reader
-    _ _ _ (omega arith) i.ensures.at_file c.loop-engine.invariant.1 i.ensures.came)
+    _ _ _ (omega arith) i.ensures.lacks c.loop-engine.invariant.1 i.ensures.came)
 
 pub returns-in_err-read_ahead-clause-fault : goal.returns-in_err-read_ahead-clause-fault
 returns-in_err-read_ahead-clause-fault g c =

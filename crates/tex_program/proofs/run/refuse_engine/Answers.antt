@@ -1,9 +1,8 @@
 use Rattle.std.proofs.Common.{◌∙◌, sym, subst, Bool, None, [], false}
+use Rattle.tex_syntax.specs.declared.words.Outcome.{Outcome}
 use Rattle.plain_machine.specs.Plan.{no_file}
 use Rattle.plain_machine.specs.Meaning.{First}
 use Rattle.world_io.specs.Told.{world}
-use Rattle.engine_state.specs.declared.outcome.Outcome.{Outcome}
-use Rattle.engine_state.specs.Begins.{outcome_of}
 use Rattle.engine_state.specs.Stands.{state_of}
 use Rattle.engine_state.specs.Book.{first_book}
 use Rattle.engine_state.specs.Rules.{Halts, world_of}
@@ -29,7 +28,7 @@ returns-in-Ok-clause-says g c = λ sizes f quiet n begins.
     let column = c.keep_name.ensures.column ∙ begins.column in
     let did = c.in_default.ensures.did sizes (world f a false) first_book begins.stands.sound.sized in
     let names = kept_names sizes c.args.engine.now e quiet c.args.file.now c.job_name.result.now c.job_name.ensures f a did begins.names in
-    let halts = subst (λ (o : Outcome). Halts sizes (state_of e first_book) e' first_book (world_of f a e) (world_of f b e') (no_file c.args.file.now) (outcome_of o) 0) i.ensures.no_file (i.ensures.run sizes f first_book column names) in
+    let halts = subst (λ (o : Outcome). Halts sizes (state_of e first_book) e' first_book (world_of f a e) (world_of f b e') (no_file c.args.file.now) o 0) i.ensures.no_file (i.ensures.run sizes f first_book column names) in
     subst (λ (x : Bool). SaysSo sizes (First quiet c.args.file.now None) n (world f a false) (world f b x) 2) (sym c.is_in_line-in-Ok.ensures)
     (refused_fails sizes c.args.engine.now e quiet c.args.file.now c.job_name.result.now c.job_name.ensures f a begins column did b e' n halts)
 

@@ -1,10 +1,10 @@
-use Rattle.std.proofs.Common.{subst, refl, ℕ, List, [], ◌++◌, Some, None, false}
-use Rattle.std.specs.Prelude.{Option, IfNone, IfSome}
+use Rattle.std.proofs.Common.{subst, refl, ap, ℕ, List, [], ◌++◌, Some, None, false}
+use Rattle.std.specs.Prelude.{Option, IfNone, IfSome, Err}
 use Rattle.plain_machine.specs.Meaning.{First}
 use Rattle.world_io.specs.declared.traits.InId.{InId}
 use Rattle.world_io.specs.Told.{SameFiles, NotFound, OpensReader, world}
 use Rattle.tex_program.specs.Says.{ReadAlike}
-use Rattle.tex_program.proofs.Meanings.{Leaves, job_leaves, job_alike, missing_job, means_says, means_unread, means_no_room, says_on, read_quiet, bare, bare_read, bare_alike, fault_rose}
+use Rattle.tex_program.proofs.Meanings.{Leaves, job_leaves, job_alike, missing_job, means_says, means_unopened, means_no_room, says_on, read_quiet, bare, bare_read, bare_alike, fault_rose}
 use Rattle.tex_program.proofs.run.run_file.Goals as goal
 
 pub returns-in-Ok-Some-clause-means : goal.returns-in-Ok-Some-clause-means
@@ -58,7 +58,7 @@ returns-in-Err-Failed-clause-means g c = λ sizes quiet begins.
     let f = g.F.Files.told c.args.files.now in
     let f' = g.F.Files.told c.open_in.new.self in
     let s = g.S.Sink.told c.args.out.now in
-    means_unread sizes quiet name (f.file name) c.args.steps (world f s false) (world f' s false) (world f' (g.S.Sink.told t.new.out) t.result) (read_quiet f f' s false i.err.file i.cause.later i.writes i.cause.later_wants) (t.ensures.line f')
+    means_unopened sizes quiet name (f.file name) c.args.steps (world f s false) (world f' s false) (world f' (g.S.Sink.told t.new.out) t.result) (i.cause.failed (ap Err c.in-Err-Failed.field-0-is)) (read_quiet f f' s false i.err.file i.cause.later i.writes i.cause.later_wants) (t.ensures.line f')
 
 pub returns-in-Err-NoMemory-clause-means : goal.returns-in-Err-NoMemory-clause-means
 returns-in-Err-NoMemory-clause-means g c = λ sizes quiet begins.

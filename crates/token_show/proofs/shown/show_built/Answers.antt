@@ -1,5 +1,5 @@
 use Rattle.std.proofs.Common.{ap, ◌∙◌}
-use Rattle.plain_state.specs.Printed.{printed_all}
+use Rattle.plain_tokens.specs.Printed.{printed_all}
 use Rattle.token_show.specs.Views.{style_of}
 use Rattle.token_show.proofs.shown.show_built.Goals as goal
 

@@ -1,6 +1,6 @@
 use Rattle.std.proofs.Common.{◌≡◌, ◌+◌, ◌<◌, ◌++◌, length, length-append, refl, sym, ◌∙◌, arith}
 use Rattle.std.proofs.lemmas.List.{length-map}
-use Rattle.plain_state.specs.Numerals.{fraction_digits}
+use Rattle.plain_tokens.specs.Numerals.{fraction_digits}
 use Rattle.char_text.specs.Readings.{characters}
 use Rattle.char_text.proofs.Printing.{kept_part, kept_large, kept_small, another_digit, room_for_digit}
 use Rattle.char_text.proofs.text.Text.put_fraction.Goals as goal

@@ -1,5 +1,5 @@
 use Rattle.std.proofs.Common.{◌≡◌, ◌<◌, ◌≤◌, ◌++◌}
-use Rattle.plain_state.specs.Numerals.{digits_until, fraction_digits}
+use Rattle.plain_tokens.specs.Numerals.{digits_until, fraction_digits}
 use Rattle.char_text.specs.Readings.{characters}
 use Rattle.char_text.proofs.text.Text.put_fraction.Given as goal
 

@@ -1,6 +1,6 @@
 use Rattle.std.proofs.Common.{◌≡◌, ◌^◌, ◌<◌, ◌≤◌, length, drop}
 use Rattle.char_text.proofs.Hexadecimal.{hex_onto}
-use Rattle.plain_state.specs.Numerals.{hexadecimal}
+use Rattle.plain_tokens.specs.Numerals.{hexadecimal}
 use Rattle.char_text.proofs.text.Text.put_hex.Given as goal
 
 abbrev pub invariant-loop-left : goal.invariant-loop-left

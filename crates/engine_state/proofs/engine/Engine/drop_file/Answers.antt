@@ -1,8 +1,8 @@
 use Rattle.std.proofs.Common.{List, [], refl, ap, sym, subst, Bool}
 use Rattle.std.specs.Prelude.{Some, None}
 use Rattle.tex_defs.specs.declared.Sizes.{Sizes}
-use Rattle.plain_state.specs.Pending.{Pending}
-use Rattle.plain_state.specs.Puts.{Put}
+use Rattle.plain_tokens.specs.Pending.{Pending}
+use Rattle.plain_tokens.specs.Puts.{Put}
 use Rattle.plain_state.specs.States.{State}
 use Rattle.plain_machine.specs.Numbers.{Tied, pending_of}
 use Rattle.plain_machine.specs.Plan.{job_due}

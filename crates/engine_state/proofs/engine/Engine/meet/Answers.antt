@@ -1,8 +1,7 @@
 use Rattle.std.proofs.Common.{◌≡◌, true, false, arith}
 use Rattle.std.proofs.lemmas.Grind.{common_steps}
 use Rattle.std.specs.Prelude.{Option, Some}
-use Rattle.frames.specs.declared.scan.Want.{Want as ScanWant}
-use Rattle.transcript.specs.Reported.{scanned_of}
+use Rattle.tex_syntax.specs.declared.words.Want.{Want}
 use Rattle.engine_state.specs.Near.{CutsIn}
 use Rattle.engine_state.specs.Stands.{state_of, page_of}
 use Rattle.engine_state.specs.Rules.{world_of, onward_of, scanning_of, space_moves, token_moves, Takes, Meets}
@@ -22,17 +21,17 @@ pub returns-in-Some-clause-rule : goal.returns-in-Some-clause-rule
 returns-in-Some-clause-rule g c = let e = c.args.self.now in let n = c.forbid in let i = c.in-Some in
     let outer : c.is_outer.result ≡ true = grind (arith, common_steps, c.if-not-is_outer.false) in
     ok_to n.result (λ met h sizes f book want t. let found = i.ensures.some sizes book want t in
-    by_some (λ (w : Option ScanWant). Takes sizes w e book → Meets sizes w (state_of e book) n.new.self book (world_of f (g.S.Sink.told c.args.out.now) e) (world_of f (g.S.Sink.told n.new.out) n.new.self) (token_moves (page_of e book) (scanning_of e book.work) (onward_of (page_of e book) w book.work) c.args.token) met)
+    by_some (λ (w : Option Want). Takes sizes w e book → Meets sizes w (state_of e book) n.new.self book (world_of f (g.S.Sink.told c.args.out.now) e) (world_of f (g.S.Sink.told n.new.out) n.new.self) (token_moves (page_of e book) (scanning_of e book.work) (onward_of (page_of e book) w book.work) c.args.token) met)
     want found.1 (λ w t. meets_by sizes (Some w) (state_of e book) n.new.self book _ _ _ _ met
-    (meets_away e book (scanned_of i.what) i.name w c.args.token (seen_outer e book c.args.token c.seen-seen.result c.is_outer.result true c.seen-seen.ensures c.is_outer.ensures outer) found.0) (h sizes f book w t)) t) n.ensures.rule
+    (meets_away e book i.what i.name w c.args.token (seen_outer e book c.args.token c.seen-seen.result c.is_outer.result true c.seen-seen.ensures c.is_outer.ensures outer) found.0) (h sizes f book w t)) t) n.ensures.rule
 
 pub returns-in-Some-clause-err : goal.returns-in-Some-clause-err
 returns-in-Some-clause-err g c = let e = c.args.self.now in let n = c.forbid in let i = c.in-Some in
     let outer : c.is_outer.result ≡ true = grind (arith, common_steps, c.if-not-is_outer.false) in
     err_to n.result (λ b h sizes f book want t. let found = i.ensures.some sizes book want t in
-    by_some (λ (w : Option ScanWant). Takes sizes w e book → CutsIn sizes (state_of e book) n.new.self (world_of f (g.S.Sink.told c.args.out.now) e) (world_of f (g.S.Sink.told n.new.out) n.new.self) (token_moves (page_of e book) (scanning_of e book.work) (onward_of (page_of e book) w book.work) c.args.token) b)
+    by_some (λ (w : Option Want). Takes sizes w e book → CutsIn sizes (state_of e book) n.new.self (world_of f (g.S.Sink.told c.args.out.now) e) (world_of f (g.S.Sink.told n.new.out) n.new.self) (token_moves (page_of e book) (scanning_of e book.work) (onward_of (page_of e book) w book.work) c.args.token) b)
     want found.1 (λ w t. in_by sizes (state_of e book) n.new.self _ _ _ _ b
-    (meets_away e book (scanned_of i.what) i.name w c.args.token (seen_outer e book c.args.token c.seen-seen.result c.is_outer.result true c.seen-seen.ensures c.is_outer.ensures outer) found.0) (h sizes f book (space_moves (page_of e book) (Some w) book.work) t.1)) t) n.ensures.err
+    (meets_away e book i.what i.name w c.args.token (seen_outer e book c.args.token c.seen-seen.result c.is_outer.result true c.seen-seen.ensures c.is_outer.ensures outer) found.0) (h sizes f book (space_moves (page_of e book) (Some w) book.work) t.1)) t) n.ensures.err
 
 pub returns-in-None-clause-rule : goal.returns-in-None-clause-rule
 returns-in-None-clause-rule g c = let e = c.args.self.now in

@@ -1,5 +1,5 @@
 use Rattle.std.proofs.Common.{◌≡◌, subst, Bool}
-use Rattle.plain_state.specs.Lookup.{token_of, new_name}
+use Rattle.plain_tokens.specs.Lookup.{token_of, new_name}
 use Rattle.engine_state.specs.Entering.{with_names, EntryFits, EntryRefused}
 use Rattle.engine_state.specs.declared.broken.Broken.TheVariants as broken
 use Rattle.engine_state.specs.Rules.{scanning_of}

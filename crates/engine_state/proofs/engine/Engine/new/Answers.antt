@@ -1,16 +1,16 @@
 use Rattle.std.proofs.Common.{◌≡◌, ℕ, List, [], refl, sym, ap, subst, ◌∙◌, arith, Bool, false}
 use Rattle.std.specs.Prelude.{Option, Some, None}
 use Rattle.tex_defs.specs.declared.Meaning.{Meaning}
-use Rattle.plain_state.specs.Lex.{NewLine}
-use Rattle.plain_state.specs.Names.{is_known}
-use Rattle.plain_state.specs.Meanings.{first_meanings}
-use Rattle.plain_state.specs.Puts.{Put}
-use Rattle.plain_state.specs.Pending.{Pending}
+use Rattle.plain_tokens.specs.Lex.{NewLine}
+use Rattle.plain_tokens.specs.Names.{is_known}
+use Rattle.plain_tokens.specs.Meanings.{first_meanings}
+use Rattle.plain_tokens.specs.Puts.{Put}
+use Rattle.plain_tokens.specs.Pending.{Pending}
 use Rattle.plain_machine.specs.Numbers.{Tied, pending_of, meanings_of}
 use Rattle.plain_machine.proofs.Ties.{tied_at_first, first_meanings_of}
 use Rattle.tex_defs.specs.declared.Token.{Token}
 use Rattle.prim_table.specs.Primitives.{primitive_names}
-use Rattle.plain_state.specs.Categories.{initial_categories}
+use Rattle.plain_tokens.specs.Categories.{initial_categories}
 use Rattle.plain_machine.specs.Plan.{file_opened, job_progress, job_due, first_state}
 use Rattle.name_table.specs.Strings.{Strings}
 use Rattle.frames.specs.Stack.{Stack}

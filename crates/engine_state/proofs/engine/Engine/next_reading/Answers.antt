@@ -1,5 +1,5 @@
 use Rattle.std.proofs.Common.{[], sym, ap, arith}
-use Rattle.plain_state.specs.Reports.{InvalidCharacter}
+use Rattle.tex_syntax.specs.declared.words.Report.TheVariants.{InvalidCharacter}
 use Rattle.plain_machine.specs.Plan.{Page, reported}
 use Rattle.input_state.specs.Reads.{gives_step}
 use Rattle.engine_state.specs.declared.broken.Broken.TheVariants as broken

@@ -1,6 +1,6 @@
 use Rattle.std.proofs.Common.{Some, ◌∷◌, ◌++◌, [], map, ap, ◌∙◌}
 use Rattle.plain_state.specs.States.{ListGrown, Put}
-use Rattle.plain_state.specs.Tokens.{made_text, space_token}
+use Rattle.plain_tokens.specs.Tokens.{made_text, space_token}
 use Rattle.input_state.specs.Stored.{Stored}
 use Rattle.engine_state.specs.declared.broken.Broken.TheVariants as broken
 use Rattle.engine_state.proofs.Joining.{same_err}

@@ -1,12 +1,11 @@
 use Rattle.std.specs.Prelude.{true}
-use Rattle.engine_state.specs.Begins.{outcome_of}
 use Rattle.engine_state.proofs.Joining.{ok_to, err_to}
 use Rattle.engine_state.proofs.Stopping.{noted_frames, noted_halts, noted_cuts}
 use Rattle.engine_state.proofs.engine.Engine.refuse_job.Goals as goal
 
 pub returns-clause-run : goal.returns-clause-run
 returns-clause-run g c = let n = c.write_refusal-refused in
-    ok_to n.result (λ o h sizes f book column names. noted_halts true sizes _ n.new.self _ _ _ book (outcome_of o) 0 (h sizes f book column names)) n.ensures.run
+    ok_to n.result (λ o h sizes f book column names. noted_halts true sizes _ n.new.self _ _ _ book o 0 (h sizes f book column names)) n.ensures.run
 
 pub returns-clause-err : goal.returns-clause-err
 returns-clause-err g c = let n = c.write_refusal-refused in

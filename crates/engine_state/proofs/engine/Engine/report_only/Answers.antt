@@ -1,5 +1,4 @@
 use Rattle.std.proofs.Common.{[]}
-use Rattle.transcript.specs.Reported.{report_of}
 use Rattle.engine_state.proofs.Joining.{same_err}
 use Rattle.engine_state.proofs.Reporting.{reports_went}
 use Rattle.engine_state.proofs.Standing.{all_input}
@@ -11,7 +10,7 @@ returns-in_err-report-clause-err g c = let i = c.in_err-report in
 
 pub returns-then-branch-clause-rule : goal.returns-then-branch-clause-rule
 returns-then-branch-clause-rule g c = λ sizes f book st. let e = c.args.self.now in let e' = c.report.new.self in
-    reports_went sizes e e' book _ _ (report_of c.args.report)
+    reports_went sizes e e' book _ _ c.args.report
     (all_input sizes e e' book c.report.ensures.frames c.report.ensures.input (c.in_ok-report.ensures.sized c.if-branch.true sizes) st)
     (c.in_ok-report.ensures.on c.if-branch.true sizes f book [])
 

@@ -1,15 +1,17 @@
 use Rattle.std.proofs.Common.{◌≡◌, ◌∷◌, [], ap, ◌∙◌, List, ℕ, subst}
 use Rattle.std.specs.Prelude.{None}
 use Rattle.std.specs.Option.{option_map}
+use Rattle.tex_syntax.specs.declared.words.Scanned.TheVariants as scanned
 use Rattle.tex_defs.specs.Places.{Transcript}
 use Rattle.plain_state.specs.States.{Written}
-use Rattle.plain_state.specs.Reports.{OfUse, runaway_bytes}
+use Rattle.plain_state.specs.Reports.{runaway_bytes}
 use Rattle.plain_machine.specs.Does.{Did}
 use Rattle.input_state.specs.CallFeeds.{call_work}
-use Rattle.transcript.specs.Initial.{names_of}
+use Rattle.plain_tokens.specs.Printed.{initial_style}
+use Rattle.token_show.specs.Views.{style_of}
 use Rattle.engine_state.specs.Stands.{state_of}
 use Rattle.engine_state.specs.Rules.{world_of, Cuts}
-use Rattle.engine_state.proofs.Reporting.{names_is, shown_is, took_out, err_out}
+use Rattle.engine_state.proofs.Reporting.{style_is, shown_is, took_out, err_out}
 use Rattle.engine_state.proofs.CallAway.{work_is, empty_is}
 use Rattle.engine_state.proofs.Joining.{err_to, on_ok}
 use Rattle.engine_state.proofs.engine.Engine.write_argument.Goals as goal
@@ -17,15 +19,15 @@ use Rattle.engine_state.proofs.engine.Engine.write_argument.Goals as goal
 pub returns-in_err-write_runaway-in-Some-clause-err : goal.returns-in_err-write_runaway-in-Some-clause-err
 returns-in_err-write_runaway-in-Some-clause-err g c =
     let e = c.args.self.now in let view = c.initial_view-view in
-    let names : names_of view.result ≡ e.names.names = names_is view.result _ _ _ view.ensures.same_hash view.ensures.same_pool c.parts.ensures.names in
-    err_out _ _ e c.write_runaway.new.in_line _ _ (shown_is (λ categories ns ts. runaway_bytes OfUse categories ns e.in_line ts) view.result e.categories e.names.names _ _ view.ensures.same_categories names
+    let style : style_of view.result ≡ initial_style e.categories e.names.names = style_is _ e.categories _ _ view.ensures.style c.parts.ensures.names in
+    err_out _ _ e c.write_runaway.new.in_line _ _ (shown_is (λ style ts. runaway_bytes scanned.Use style e.in_line ts) (style_of view.result) (initial_style e.categories e.names.names) _ _ style
     (work_is _ _ _ _ view.ensures.same_lists (c.call_list.ensures.tokens ∙ ap (option_map _) c.in-Some.is))) c.from_residual.result c.in_err-write_runaway-in-Some.field-0.0 c.from_residual.ensures.1 c.in_err-write_runaway-in-Some.ensures.err
 
 pub returns-in_ok-write_runaway-in-Some-clause-did : goal.returns-in_ok-write_runaway-in-Some-clause-did
 returns-in_ok-write_runaway-in-Some-clause-did g c =
     let e = c.args.self.now in let view = c.initial_view-view in
-    let names : names_of view.result ≡ e.names.names = names_is view.result _ _ _ view.ensures.same_hash view.ensures.same_pool c.parts.ensures.names in
-    took_out _ _ e c.write_runaway.new.in_line _ _ (shown_is (λ categories ns ts. runaway_bytes OfUse categories ns e.in_line ts) view.result e.categories e.names.names _ _ view.ensures.same_categories names
+    let style : style_of view.result ≡ initial_style e.categories e.names.names = style_is _ e.categories _ _ view.ensures.style c.parts.ensures.names in
+    took_out _ _ e c.write_runaway.new.in_line _ _ (shown_is (λ style ts. runaway_bytes scanned.Use style e.in_line ts) (style_of view.result) (initial_style e.categories e.names.names) _ _ style
     (work_is _ _ _ _ view.ensures.same_lists (c.call_list.ensures.tokens ∙ ap (option_map _) c.in-Some.is))) c.in_ok-write_runaway-in-Some.ensures.ok
 
 pub returns-in-None-clause-did : goal.returns-in-None-clause-did

@@ -1,9 +1,9 @@
 -- Before the name, a token is a space, the name, or another in its place.
 use Rattle.std.proofs.Common.{◌≡◌, List, [], ◌∷◌, Bool, true, false, Option, Some, None, rules, arith, refl, sym, ap, ◌∙◌, if◌then◌else◌}
+use Rattle.tex_syntax.specs.declared.words.Report.TheVariants.{MissingName}
 use Rattle.tex_defs.specs.declared.Name.{Name}
 use Rattle.tex_defs.specs.declared.Seen.{Seen}
-use Rattle.plain_state.specs.Tokens.{is_space_token}
-use Rattle.plain_state.specs.Reports.{MissingName}
+use Rattle.plain_tokens.specs.Tokens.{is_space_token}
 use Rattle.plain_state.specs.Readings.{Fed, Tok, Inserts, inaccessible, define, name_behind, name_to_assign}
 use Rattle.frames.specs.Definitions.{resume_define}
 use Rattle.frames.specs.declared.define.DefineScan.{DefineScan}

@@ -1,11 +1,10 @@
 -- At each return, the clauses follow from what the inner scan ensures, once the frame and the answer are put in.
 use Rattle.std.proofs.Common.{◌≡◌, ◌≤◌, ◌+◌, ◌*◌, Bool, List, [], ◌∷◌, None, length, subst, refl, sym, ap}
+use Rattle.tex_syntax.specs.declared.words.Manner.{Manner}
 use Rattle.tex_defs.specs.declared.Token.{Token}
 use Rattle.tex_defs.specs.declared.Name.{Name}
 use Rattle.tex_defs.specs.declared.Seen.{Seen}
 use Rattle.plain_state.specs.Readings.{Fed, Tok, own_lists, manner}
-use Rattle.plain_state.specs.Definitions.{Manner}
-use Rattle.list_builder.specs.Plain.{manner_of}
 use Rattle.list_builder.specs.Stages as stages
 use Rattle.list_builder.specs.declared.stage.Stage.{Stage}
 use Rattle.frames.specs.Sees.{ask_of, first_list}
@@ -174,4 +173,4 @@ returns-in-Definition c =
     let i = c.in-Definition in
     subst (λ (f : Frame). Clauses c.args.x f (Definition i.name i.expanded c.feed-in-Definition.new.stage) a) (sym i.is)
     (defined i.name i.expanded c.args.x i.stage c.feed-in-Definition.new.stage a
-    (subst (λ (m : Manner). Staged m c.args.x i.stage c.feed-in-Definition.new.stage a) (ap manner_of c.manner.ensures) c.feed-in-Definition.ensures))
+    (subst (λ (m : Manner). Staged m c.args.x i.stage c.feed-in-Definition.new.stage a) c.manner.ensures c.feed-in-Definition.ensures))

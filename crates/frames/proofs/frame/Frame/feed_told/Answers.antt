@@ -1,10 +1,9 @@
 -- At each return, the clauses follow from what the inner scan ensures, once the frame and the answer are put in.
 use Rattle.std.proofs.Common.{◌≡◌, ℕ, ◌≤◌, Bool, List, [], ◌∷◌, Option, Some, None, length, length-append, subst, refl, sym, ap, arith}
+use Rattle.tex_syntax.specs.declared.words.Manner.{Manner}
 use Rattle.tex_defs.specs.declared.Token.{Token}
 use Rattle.tex_defs.specs.declared.Name.{Name}
 use Rattle.plain_state.specs.Readings.{Fed, Told, manner}
-use Rattle.plain_state.specs.Definitions.{Manner}
-use Rattle.list_builder.specs.Plain.{manner_of}
 use Rattle.list_builder.specs.Stages as stages
 use Rattle.list_builder.specs.declared.stage.Stage.{Stage}
 use Rattle.frames.specs.Sees.{ask_of, first_list}
@@ -152,4 +151,4 @@ returns-in-Definition c =
     let i = c.in-Definition in
     subst (λ (f : Frame). Clauses f (Definition i.name i.expanded c.feed_told-in-Definition.new.stage) a) (sym i.is)
     (defined i.name i.expanded i.stage c.feed_told-in-Definition.new.stage a
-    (subst (λ (m : Manner). Staged m i.stage c.feed_told-in-Definition.new.stage a) (ap manner_of c.manner.ensures) c.feed_told-in-Definition.ensures))
+    (subst (λ (m : Manner). Staged m i.stage c.feed_told-in-Definition.new.stage a) c.manner.ensures c.feed_told-in-Definition.ensures))

@@ -1,7 +1,7 @@
 -- The tests of the prefixes, one after the other.
 use Rattle.std.proofs.Common.{◌≡◌, List, [], ◌∷◌, Bool, true, false, sym, ◌∙◌, arith}
 use Rattle.tex_defs.specs.declared.Seen.{Seen}
-use Rattle.plain_state.specs.Names.{means_primitive}
+use Rattle.plain_tokens.specs.Names.{means_primitive}
 use Rattle.plain_state.specs.Readings.{Fed, Tok, prefixed, behind_prefixes}
 use Rattle.frames.proofs.Choices.{taken, skipped}
 use Rattle.frames.proofs.prefix.PrefixScan.feed_prefix.Goals as goal

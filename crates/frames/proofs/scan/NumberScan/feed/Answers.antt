@@ -1,10 +1,11 @@
 -- At each return, the clauses follow from where the scan stood and what the token is.
 use Rattle.std.proofs.Common.{◌≡◌, ℕ, ◌+◌, ◌*◌, ◌≤◌, List, [], ◌∷◌, Bool, true, false, pos, min, subst, refl, sym, ap, ◌∙◌, arith, nat_le, if◌then◌else◌}
 use Rattle.std.proofs.lemmas.Bool.Decides.{nat_tests}
+use Rattle.tex_syntax.specs.declared.words.Report.TheVariants.{MissingNumber}
+use Rattle.tex_syntax.specs.declared.words.Want.TheVariants.{Expanded}
 use Rattle.tex_defs.specs.declared.Token.{Token}
 use Rattle.tex_defs.specs.declared.Seen.{Seen}
 use Rattle.plain_state.specs.Readings.{Fed, Tok, is_digit, digits, missing, digit_of_token, number_ended, greatest_integer, too_big, digits_dropped}
-use Rattle.plain_state.specs.Reports.{MissingNumber}
 use Rattle.frames.specs.Sees.{ask_of}
 use Rattle.frames.specs.Weights.{ask_weight}
 use Rattle.frames.specs.Resumes.{radix, resume_number, IsOpen, IsNoInner, GivesBack}
@@ -13,7 +14,6 @@ use Rattle.frames.specs.declared.scan.NumberScan.TheVariants.{Digits, TooBig}
 use Rattle.frames.specs.declared.scan.Radix.{Radix}
 use Rattle.frames.specs.declared.scan.Ask.{Ask}
 use Rattle.frames.specs.declared.scan.Ask.TheVariants.{More}
-use Rattle.frames.specs.declared.scan.Want.TheVariants.{Expanded}
 use Rattle.frames.proofs.Asks.{none_back}
 use Rattle.frames.proofs.scan.NumberScan.feed.Goals as goal
 

@@ -1,8 +1,8 @@
 -- The tests of a token among the signs, one after the other.
 use Rattle.std.proofs.Common.{◌≡◌, ℕ, ◌≤◌, List, [], ◌∷◌, Bool, true, false, not, pos, min, sym, ap, ◌∙◌, arith}
+use Rattle.tex_syntax.specs.declared.words.Report.TheVariants.{MissingNumber}
 use Rattle.tex_defs.specs.declared.Seen.{Seen}
-use Rattle.plain_state.specs.Tokens.{is_other}
-use Rattle.plain_state.specs.Reports.{MissingNumber}
+use Rattle.plain_tokens.specs.Tokens.{is_other}
 use Rattle.plain_state.specs.Readings.{Fed, Tok, integer, unsigned, constant, first_digit, digits, missing, is_digit, digit_of_token, greatest_integer}
 use Rattle.frames.specs.Resumes.{resume_number}
 use Rattle.frames.specs.declared.scan.NumberScan.{NumberScan}

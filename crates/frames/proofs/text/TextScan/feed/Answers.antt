@@ -1,10 +1,11 @@
 -- At each return, the clauses follow from where the scan stood and what the token is.
 use Rattle.std.proofs.Common.{◌≡◌, ℕ, ◌+◌, ◌-◌, ◌≤◌, ◌<◌, ◌==◌, ◌&&◌, not, Bool, true, false, List, [], ◌∷◌, ◌++◌, Option, Some, None, length, length-append, append_assoc, append-nil, subst, refl, sym, ap, ◌∙◌, arith, if◌then◌else◌, min}
 use Rattle.std.proofs.lemmas.Bool.Decides.{nat_tests}
+use Rattle.tex_syntax.specs.declared.words.Want.TheVariants.{Copied}
 use Rattle.tex_defs.specs.declared.Token.TheVariants as token
 use Rattle.tex_defs.specs.declared.Token.{Token}
 use Rattle.tex_defs.specs.declared.Seen.{Seen}
-use Rattle.plain_state.specs.Tokens.{has_category}
+use Rattle.plain_tokens.specs.Tokens.{has_category}
 use Rattle.plain_state.specs.Readings.{Fed, Tok, closes_at, with_front, text_done, closed_or, tokens_of}
 use Rattle.frames.specs.Sees.{ask_of, first_list}
 use Rattle.frames.specs.Weights.{ask_weight}
@@ -12,7 +13,6 @@ use Rattle.frames.specs.Texts.{depth_of, behind, resume_text, text_list, IsReady
 use Rattle.frames.specs.Resumes.{lists_behind, IsOpen, IsNoInner, GivesBack}
 use Rattle.frames.specs.declared.scan.Answer.{Answer}
 use Rattle.frames.specs.declared.scan.Ask.TheVariants.{More, Done}
-use Rattle.frames.specs.declared.scan.Want.TheVariants.{Expanded}
 use Rattle.frames.specs.declared.scan.Value.TheVariants.{Toks}
 use Rattle.frames.specs.declared.text.TextScan.{TextScan}
 use Rattle.frames.specs.declared.text.TextScan.TheVariants.{First, BraceMissing, Inside}
@@ -107,7 +107,7 @@ closed_front t ts (Some vs) us = sym (append_assoc ts (t ∷ []) vs)
 
 -- the token goes onto the list, where so many groups are open from then on
 taken : (x : Seen) (d e : ℕ) → e ≤ d + 1 → ((ts : List Token) → IsReady (Inside d) x ts → (fed : List Fed) → closes_at d (Tok x ∷ fed) ≡ with_front x.token (closes_at e fed)) →
-    Clauses x (Inside d) (Inside e) (record { ask = More Expanded; first = Some x.token; second = None })
+    Clauses x (Inside d) (Inside e) (record { ask = More Copied; first = Some x.token; second = None })
 taken x d e within goes = record {
   answer = λ ts h. sym (ap (λ (o : Option (List Token)). text_done (behind ts o)) (goes ts h []));
   goes_on = λ o ts fed h. ap text_done (ap (behind ts) (goes ts h fed) ∙ behind_front x.token ts (closes_at e fed));
@@ -169,7 +169,7 @@ pub returns : goal.returns
 returns c =
     let d : ℕ = c.in-Inside.depth in
     let x : Seen = c.args.x in
-    let made : Answer = record { ask = More Expanded; first = Some x.token; second = None } in
+    let made : Answer = record { ask = More Copied; first = Some x.token; second = None } in
     subst (λ (s : TextScan). Clauses x s c.if-has_category.self c.with.result) (sym c.in-Inside.is)
     (subst (λ (a : Answer). Clauses x (Inside d) c.if-has_category.self a) (sym c.with.ensures)
     (elim c.if-has_category.branch [

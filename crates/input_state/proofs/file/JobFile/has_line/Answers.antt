@@ -1,6 +1,6 @@
 use Rattle.std.proofs.Common.{◌≡◌, ◌∙◌, ℕ, ap, arith, sym, length, drop}
 use Rattle.std.specs.Prelude.{nat_lt}
-use Rattle.plain_state.specs.Pending.{from_file}
+use Rattle.plain_tokens.specs.Pending.{from_file}
 use Rattle.input_state.specs.FileLeft.{FileLeft}
 use Rattle.input_state.specs.FileViews.{progress_of}
 use Rattle.input_state.specs.declared.file.Progress.{Progress}

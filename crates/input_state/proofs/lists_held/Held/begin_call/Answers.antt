@@ -4,9 +4,9 @@ use Rattle.token_lists.specs.Table.{tokens_at}
 use Rattle.token_lists.specs.Ids.{id_of}
 use Rattle.macro_call.specs.Modes.{mode_of}
 use Rattle.macro_call.specs.PlainScans.{first_scan}
-use Rattle.plain_state.specs.Arguments.{has_parameters, begins_with_place}
-use Rattle.plain_state.specs.Meanings.{name_meaning}
-use Rattle.plain_state.specs.Tables.{lists_words}
+use Rattle.plain_tokens.specs.Arguments.{has_parameters, begins_with_place}
+use Rattle.plain_tokens.specs.Meanings.{name_meaning}
+use Rattle.plain_tokens.specs.Tables.{lists_words}
 use Rattle.input_state.specs.HeldLists.{HeldLists}
 use Rattle.input_state.specs.Calls.{call_kind, text_of}
 use Rattle.input_state.specs.Callings.{Calling, Gathering, call_lists}

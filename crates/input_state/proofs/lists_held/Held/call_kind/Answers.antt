@@ -1,6 +1,6 @@
 use Rattle.std.proofs.Common.{sym, ap, ◌∙◌, true, false}
-use Rattle.plain_state.specs.Meanings.{name_meaning}
-use Rattle.plain_state.specs.Arguments.{has_parameters}
+use Rattle.plain_tokens.specs.Meanings.{name_meaning}
+use Rattle.plain_tokens.specs.Arguments.{has_parameters}
 use Rattle.token_lists.specs.Ids.{id_of}
 use Rattle.input_state.specs.HeldLists.{HeldLists}
 use Rattle.input_state.specs.HeldViews.{texts}

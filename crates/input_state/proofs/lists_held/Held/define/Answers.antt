@@ -1,5 +1,5 @@
 use Rattle.std.proofs.Common.{refl}
-use Rattle.plain_state.specs.Meanings.{name_meaning}
+use Rattle.plain_tokens.specs.Meanings.{name_meaning}
 use Rattle.token_lists.specs.Ids.{id_of}
 use Rattle.meanings.specs.Holding.{list_of}
 use Rattle.input_state.specs.HeldViews.{named}

@@ -1,5 +1,5 @@
 use Rattle.std.proofs.Common.{◌≡◌, ◌∙◌, [], length, refl, sym, ap, subst}
-use Rattle.plain_state.specs.Pending.{NotBegun}
+use Rattle.plain_tokens.specs.Pending.{NotBegun}
 use Rattle.line_lexer.specs.declared.Ahead.TheVariants as ahead
 use Rattle.input_stack.specs.Pulls.{looks}
 use Rattle.input_stack.specs.View.{innermost, pending}

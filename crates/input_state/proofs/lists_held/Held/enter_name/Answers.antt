@@ -1,5 +1,5 @@
 use Rattle.std.proofs.Common.{◌<◌, ◌+◌, length, sym, subst}
-use Rattle.plain_state.specs.Meanings.{fixed_locations}
+use Rattle.plain_tokens.specs.Meanings.{fixed_locations}
 use Rattle.input_state.specs.HeldLists.{HeldLists}
 use Rattle.input_state.proofs.Recalling.{enter_sound}
 use Rattle.input_state.proofs.lists_held.Held.enter_name.Goals as goal

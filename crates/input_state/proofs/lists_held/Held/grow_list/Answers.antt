@@ -2,8 +2,8 @@ use Rattle.std.proofs.Common.{◌≡◌, ◌∙◌, ◌∷◌, ◌++◌, ◌<◌
 use Rattle.std.specs.Prelude.{option_to_list}
 use Rattle.tex_defs.specs.declared.Token.{Token}
 use Rattle.tex_defs.specs.declared.Full.{Full}
-use Rattle.plain_state.specs.States.{grow_first}
-use Rattle.plain_state.specs.Tables.{memory, refused}
+use Rattle.plain_tokens.specs.Puts.{grow_first}
+use Rattle.plain_tokens.specs.Tables.{memory, refused}
 use Rattle.token_lists.specs.Table.{words}
 use Rattle.token_lists.specs.Refusals.{IsFull}
 use Rattle.token_lists.specs.Ids.{build_id}

@@ -1,7 +1,7 @@
 use Rattle.std.proofs.Common.{◌≡◌, ◌∙◌, ◌∷◌, ◌++◌, ◌<◌, [], length, Option, None, Some, refl, sym, ap, subst, reverse}
 use Rattle.tex_defs.specs.declared.Full.{Full}
-use Rattle.plain_state.specs.States.{grown_by}
-use Rattle.plain_state.specs.Tables.{memory, refused}
+use Rattle.plain_tokens.specs.Puts.{grown_by}
+use Rattle.plain_tokens.specs.Tables.{memory, refused}
 use Rattle.std.proofs.lemmas.List.Elements.{All-head}
 use Rattle.token_lists.specs.declared.Build.{Build}
 use Rattle.token_lists.specs.Ids.{build_id, IsBuilding}

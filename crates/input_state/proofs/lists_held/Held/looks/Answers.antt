@@ -1,5 +1,5 @@
 use Rattle.std.proofs.Common.{◌∙◌, ap, refl, sym}
-use Rattle.plain_state.specs.Puts.{passed}
+use Rattle.plain_tokens.specs.Puts.{passed}
 use Rattle.input_stack.specs.View.{innermost, pending}
 use Rattle.input_state.specs.HeldLists.{HeldLists, pending_of, ahead_of}
 use Rattle.input_state.specs.HeldViews.{named, lists_of}

@@ -1,5 +1,5 @@
 use Rattle.std.proofs.Common.{◌≡◌, ℕ, true, subst}
-use Rattle.plain_state.specs.Tables.{is_meant}
+use Rattle.plain_tokens.specs.Tables.{is_meant}
 use Rattle.input_state.specs.HeldLists.{HeldLists}
 use Rattle.input_state.specs.Macros.{list_at}
 use Rattle.input_state.specs.HeldViews.{named, all_builds, IsDefined}

@@ -1,7 +1,7 @@
 use Rattle.std.proofs.Common.{◌≡◌, ◌∙◌, ◌∷◌, [], Option, None, Some, ap, subst}
 use Rattle.std.specs.Prelude.{MatchResult}
 use Rattle.tex_defs.specs.declared.Full.{Full}
-use Rattle.plain_state.specs.Tables.{refused}
+use Rattle.plain_tokens.specs.Tables.{refused}
 use Rattle.input_stack.specs.Pending.{used_levels}
 use Rattle.input_stack.specs.View.{pending}
 use Rattle.input_state.specs.HeldLists.{HeldLists, level_held}

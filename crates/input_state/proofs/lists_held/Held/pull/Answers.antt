@@ -1,6 +1,6 @@
 use Rattle.std.proofs.Common.{◌≢◌, ◌∙◌, [], refl, ap, subst, sym, length, Result, Ok, Err}
 use Rattle.std.specs.Prelude.{OnErr}
-use Rattle.plain_state.specs.Pending.{NotBegun}
+use Rattle.plain_tokens.specs.Pending.{NotBegun}
 use Rattle.line_lexer.specs.declared.Ahead.TheVariants as ahead
 use Rattle.input_stack.specs.View.{innermost, pending}
 use Rattle.input_state.specs.Given.{told}

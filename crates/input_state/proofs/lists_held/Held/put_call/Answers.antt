@@ -1,6 +1,6 @@
 use Rattle.std.proofs.Common.{◌≡◌, ℕ, ◌<◌, Some, sym, ap, ◌∙◌, subst, arith}
 use Rattle.std.specs.Prelude.{vec_capacity}
-use Rattle.plain_state.specs.Meanings.{name_meaning}
+use Rattle.plain_tokens.specs.Meanings.{name_meaning}
 use Rattle.token_lists.specs.Ids.{id_of}
 use Rattle.meanings.specs.Holding as meant
 use Rattle.meanings.specs.Holding.{list_of}

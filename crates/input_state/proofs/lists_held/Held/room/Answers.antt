@@ -1,5 +1,5 @@
 use Rattle.std.proofs.Common.{◌∙◌, ◌∷◌, [], ap}
-use Rattle.plain_state.specs.Tables.{refused}
+use Rattle.plain_tokens.specs.Tables.{refused}
 use Rattle.input_stack.specs.Pending.{used_levels}
 use Rattle.input_stack.specs.View.{pending}
 use Rattle.input_state.specs.HeldLists.{HeldLists, level_held}

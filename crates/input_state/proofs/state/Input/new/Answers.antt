@@ -1,9 +1,9 @@
 use Rattle.std.proofs.Common.{◌≡◌, ℕ, List, [], length, refl, sym, ◌∙◌, arith, Bool, true, false}
 use Rattle.std.specs.Prelude.{None, replicate, if◌then◌else◌}
 use Rattle.tex_defs.specs.declared.Sizes.{Sizes}
-use Rattle.plain_state.specs.Names.{is_known}
-use Rattle.plain_state.specs.Meanings.{first_meanings}
-use Rattle.plain_state.specs.Pending.{NotBegun, Closed}
+use Rattle.plain_tokens.specs.Names.{is_known}
+use Rattle.plain_tokens.specs.Meanings.{first_meanings}
+use Rattle.plain_tokens.specs.Pending.{NotBegun, Closed}
 use Rattle.input_state.specs.Callings.{NotCalling}
 use Rattle.input_state.specs.InputViews.{stored_of, IsTied}
 use Rattle.input_state.specs.Stored.{unread, no_bytes}

@@ -1,5 +1,5 @@
 use Rattle.std.proofs.Common.{◌∙◌, ap, sym}
-use Rattle.plain_state.specs.Pending.{settle}
+use Rattle.plain_tokens.specs.Pending.{settle}
 use Rattle.input_state.specs.Stored.{Stored}
 use Rattle.input_state.specs.HeldLists.{ahead_of}
 use Rattle.input_state.proofs.Files.{keeps_twice, settled_twice, ahead_settled, pull_ok, pull_refused, pull_err}

@@ -1,6 +1,6 @@
 use Rattle.std.proofs.Common.{◌≡◌, ℕ, List, length, sym, ap, ◌∙◌, subst}
 use Rattle.std.specs.Prelude.{◌==◌}
-use Rattle.plain_state.specs.Pending.{Progress, line_taken, from_file}
+use Rattle.plain_tokens.specs.Pending.{Progress, line_taken, from_file}
 use Rattle.input_state.specs.FileViews.{progress_of}
 use Rattle.input_state.specs.Stored.{Stored}
 use Rattle.input_state.proofs.TakenLines.{begun_gives, first_gives, line_refused}

@@ -1,7 +1,7 @@
 use Rattle.std.proofs.Common.{◌≡◌, ℕ, ◌≤◌, List, length, drop, refl, sym, ap, ◌∙◌, subst}
 use Rattle.std.specs.Vec.{with_items}
-use Rattle.plain_state.specs.Lines.{behind_feed}
-use Rattle.plain_state.specs.Tables.{file_levels}
+use Rattle.plain_tokens.specs.Lines.{behind_feed}
+use Rattle.plain_tokens.specs.Tables.{file_levels}
 use Rattle.input_state.specs.HeldLists.{HeldLists, line_levels}
 use Rattle.input_state.proofs.TakenLines.{below_length, front_length, line_copied, lists_tied, taken_tied, taken_others, taken_pending}
 use Rattle.input_state.proofs.state.Input.take_line.Goals as goal

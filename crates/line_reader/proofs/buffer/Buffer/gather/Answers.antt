@@ -1,7 +1,7 @@
 use Rattle.std.proofs.Common.{◌≡◌, ◌+◌, ◌≤◌, ◌++◌, ℕ, List, length, take, drop, set, arith, ap, ◌∙◌, sym, subst}
 use Rattle.std.specs.Prelude.{Some, None}
 use Rattle.std.proofs.lemmas.List.{length-take-le}
-use Rattle.plain_state.specs.Lines.{has_feed, before_feed, behind_feed, without_last}
+use Rattle.plain_tokens.specs.Lines.{has_feed, before_feed, behind_feed, without_last}
 use Rattle.line_reader.specs.Ahead.{Ahead, StandsAt, ahead_of, with_ahead}
 use Rattle.line_reader.specs.OpenLines.{used, refusal}
 use Rattle.line_reader.proofs.Views.{room, part_of_view}

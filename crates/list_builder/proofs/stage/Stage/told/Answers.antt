@@ -1,7 +1,8 @@
 use Rattle.std.proofs.Common.{◌≡◌, ◌+◌, ◌≤◌, ℕ, List, ◌∷◌, None, Some, refl, sym, subst, arith}
+use Rattle.tex_syntax.specs.declared.words.Manner.{Manner}
 use Rattle.tex_defs.specs.declared.Token.{Token}
 use Rattle.tex_defs.specs.declared.Token.TheVariants as token
-use Rattle.plain_state.specs.Definitions.{Manner, Fed, Told}
+use Rattle.plain_state.specs.Definitions.{Fed, Told}
 use Rattle.list_builder.specs.declared.stage.Body.{Body}
 use Rattle.list_builder.specs.declared.stage.Next.TheVariants.{On, Finished}
 use Rattle.list_builder.specs.declared.stage.Stage.{Stage}

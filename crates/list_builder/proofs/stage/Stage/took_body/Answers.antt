@@ -1,11 +1,12 @@
 use Rattle.std.proofs.Common.{◌≡◌, ◌+◌, ◌-◌, ◌≤◌, ℕ, List, ◌∷◌, true, false, None, Some, refl, sym, subst, ◌∙◌, arith}
 use Rattle.std.specs.Prelude.{◌==◌}
 use Rattle.std.proofs.lemmas.Bool.{eq-eqb, ne_eqb}
+use Rattle.tex_syntax.specs.declared.words.Manner.{Manner}
 use Rattle.tex_defs.specs.declared.Token.{Token}
 use Rattle.tex_defs.specs.declared.Seen.{Seen}
-use Rattle.plain_state.specs.Categories.{begin_group, end_group}
-use Rattle.plain_state.specs.Tokens.{has_category}
-use Rattle.plain_state.specs.Definitions.{Manner, Fed, Tok, body, is_reference}
+use Rattle.plain_tokens.specs.Categories.{begin_group, end_group}
+use Rattle.plain_tokens.specs.Tokens.{has_category}
+use Rattle.plain_state.specs.Definitions.{Fed, Tok, body, is_reference}
 use Rattle.list_builder.specs.declared.stage.Body.{Body}
 use Rattle.list_builder.specs.declared.stage.Next.TheVariants.{On, Finished}
 use Rattle.list_builder.specs.declared.stage.Stage.{Stage}

@@ -1,10 +1,11 @@
 use Rattle.std.proofs.Common.{◌≡◌, ℕ, List, ◌∷◌, true, false, None, Some, refl, sym, ap, subst, ◌∙◌}
+use Rattle.tex_syntax.specs.declared.words.Manner.{Manner}
 use Rattle.tex_defs.specs.declared.Token.{Token}
 use Rattle.tex_defs.specs.declared.Token.TheVariants.{EndPlaces}
 use Rattle.tex_defs.specs.declared.Seen.{Seen}
-use Rattle.plain_state.specs.Categories.{begin_group, end_group}
-use Rattle.plain_state.specs.Tokens.{has_category}
-use Rattle.plain_state.specs.Definitions.{Manner, Fed, Tok, parameters, is_parameter, character_of}
+use Rattle.plain_tokens.specs.Categories.{begin_group, end_group}
+use Rattle.plain_tokens.specs.Tokens.{has_category}
+use Rattle.plain_state.specs.Definitions.{Fed, Tok, parameters, is_parameter, character_of}
 use Rattle.list_builder.specs.declared.stage.Next.TheVariants.{On}
 use Rattle.list_builder.specs.declared.stage.Stage.{Stage}
 use Rattle.list_builder.specs.declared.stage.Stage.TheVariants.{Parameters, Place, BodyMissing, InBody}

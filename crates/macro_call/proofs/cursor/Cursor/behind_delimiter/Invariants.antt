@@ -1,6 +1,6 @@
 use Rattle.std.proofs.Common.{◌≡◌, length}
 use Rattle.token_lists.specs.Ids.{id_of}
-use Rattle.plain_state.specs.Arguments.{delimiters_of}
+use Rattle.plain_tokens.specs.Arguments.{delimiters_of}
 use Rattle.macro_call.specs.Cursors.{IsOn, rest_at, delimiter_at}
 use Rattle.macro_call.proofs.cursor.Cursor.behind_delimiter.Given as goal
 

@@ -4,7 +4,7 @@ use Rattle.std.proofs.lemmas.Bool.{ne_eqb}
 use Rattle.tex_defs.specs.declared.Token.{Token}
 use Rattle.token_lists.specs.Table.{tokens_at}
 use Rattle.token_lists.specs.Ids.{build_id}
-use Rattle.plain_state.specs.Arguments.{is_end, is_par, is_short}
+use Rattle.plain_tokens.specs.Arguments.{is_end, is_par, is_short}
 use Rattle.macro_call.specs.Modes.{par_mode}
 use Rattle.macro_call.specs.Stages.{stage_of}
 use Rattle.macro_call.proofs.Tables.{tokens_first, length_within}

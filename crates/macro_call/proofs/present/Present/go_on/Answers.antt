@@ -2,7 +2,7 @@ use Rattle.std.proofs.Common.{◌≡◌, ◌+◌, List, sym, ap, ◌∙◌, arit
 use Rattle.tex_defs.specs.declared.Token.{Token}
 use Rattle.token_lists.specs.Table.{tokens_at}
 use Rattle.token_lists.specs.Ids.{id_of, build_id}
-use Rattle.plain_state.specs.Arguments.{is_par, is_short}
+use Rattle.plain_tokens.specs.Arguments.{is_par, is_short}
 use Rattle.macro_call.specs.Cursors.{delimiter_at}
 use Rattle.macro_call.specs.Modes.{par_mode}
 use Rattle.macro_call.specs.Stages.{stage_of}

@@ -1,5 +1,0 @@
-use Rattle.plain_state.proofs.LexHats.{stand_for}
-use Rattle.plain_state.proofs.laws.double_hats.Goals as goal
-
-pub returns : goal.returns
-returns c = stand_for

@@ -1,5 +1,0 @@
-use Rattle.plain_state.proofs.LexNames.{name_read}
-use Rattle.plain_state.proofs.laws.names_are_read.Goals as goal
-
-pub returns : goal.returns
-returns c = name_read

@@ -1,0 +1,16 @@
+pub mod Categories
+pub mod Printed
+pub mod Numerals
+pub mod Lines
+pub mod Lex
+pub mod Lookup
+pub mod Names
+pub mod Tokens
+pub mod Meanings
+pub mod Puts
+pub mod Pending
+pub mod Arguments
+pub mod Tables
+pub mod LineLaws
+pub mod LexLaws
+pub mod LookupLaws

@@ -1,0 +1,91 @@
+// How tokens are read, what is reported, how a run ends.
+use tex_defs::{Fatal, Meaning, Name};
+
+/// How the next token is read. *TeX: The Program*, parts 24 to 26 (`get_token`, `get_x_token`, `get_next_nonblank_noncall`).
+#[derive(Clone, Copy, PartialEq, Eq)]
+pub enum Want {
+    /// As it stands.
+    Raw,
+    /// By expansion.
+    Expanded,
+    /// By expansion; the tokens of a token list behind `\the` come as they are.
+    Copied,
+    /// By expansion, with spaces skipped.
+    Nonblank,
+    /// By expansion, with spaces and `\relax` skipped.
+    Command,
+}
+
+/// How a macro's list is read: the name that is defined, and whether the body is expanded.
+#[derive(Clone, Copy)]
+pub struct Manner {
+    pub name: Name,
+    pub expanded: bool,
+}
+
+/// What is being read where a file ends or the name of an `\outer` macro comes.
+/// *TeX: The Program*, part 22 (`scanner_status`).
+#[derive(Clone, Copy, PartialEq, Eq)]
+pub enum Scanned {
+    /// A macro's definition.
+    Definition,
+    /// A macro's arguments, where it is used.
+    Use,
+    /// A balanced text.
+    Text,
+}
+
+/// What is reported. *The TeXbook*, chapter 27; *TeX: The Program*, part 6 (`error`).
+#[derive(Clone, Copy, PartialEq, Eq)]
+pub enum Report {
+    /// "Undefined control sequence".
+    UndefinedName,
+    /// "Text line contains an invalid character".
+    InvalidCharacter,
+    /// "Improper alphabetic constant".
+    ImproperConstant,
+    /// "Missing number, treated as zero".
+    MissingNumber,
+    /// "Number too big".
+    NumberTooBig,
+    /// "Bad character code (n)".
+    BadCharacterCode(i32),
+    /// "Invalid code (n), should be in the range 0..m": the code, and the greatest of its range.
+    InvalidCode(i32, u32),
+    /// "Missing { inserted".
+    MissingBrace,
+    /// The file ended while this was read, of a macro or of a command.
+    FileEnded(Scanned, Name),
+    /// The name of an `\outer` macro came while this was read, of a macro or of a command.
+    Forbidden(Scanned, Name),
+    /// "Missing control sequence inserted": the name to be assigned is missing.
+    MissingName,
+    /// In a parameter text, another number than the next one: "Parameters must be numbered consecutively".
+    NotConsecutive,
+    /// In a parameter text, a tenth place: "You already have nine parameters".
+    AlreadyNine,
+    /// In the body of this macro, a parameter character with no number of a place behind it: "Illegal parameter number in
+    /// definition of \a".
+    IllegalNumber(Name),
+    /// In the call of this macro, other tokens than its parameter text has: "Use of \a doesn't match its definition".
+    UseMismatch(Name),
+    /// In the call of this macro, a brace that closes nothing: "Argument of \a has an extra }".
+    ExtraBrace(Name),
+    /// In the call of this macro, the end of a paragraph: "Paragraph ended before \a was complete".
+    ParagraphEnded(Name),
+    /// A prefix before a command of this meaning, which is no assignment: "You can't use a prefix with `X'".
+    PrefixWith(Meaning<()>),
+    /// `\long` or `\outer` before a command of this meaning, which is no definition.
+    LongOrOuterWith(Meaning<()>),
+    /// "Missing \endcsname inserted": another name ends the characters of `\csname`.
+    MissingEndcsname,
+}
+
+/// How a run has ended.
+#[derive(Clone, Copy, PartialEq, Eq)]
+pub enum Outcome {
+    /// At `\end`.
+    Finished,
+    /// At something fatal.
+    AtFatal(Fatal),
+}

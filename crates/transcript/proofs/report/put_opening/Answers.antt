@@ -1,0 +1,18 @@
+use Rattle.std.proofs.Common.{ap, sym, ◌∙◌, ℤ, w32, FitsSigned, rules}
+use Rattle.std.proofs.lemmas.Int.{to_z-of_z}
+use Rattle.tex_syntax.specs.declared.words.Report.TheVariants.{BadCharacterCode, InvalidCode}
+use Rattle.token_show.specs.Views.{style_of}
+use Rattle.transcript.proofs.Texts.{opening_by}
+use Rattle.transcript.proofs.report.put_opening.Goals as goal
+
+pub returns-in-BadCharacterCode : goal.returns-in-BadCharacterCode
+returns-in-BadCharacterCode c = let r : FitsSigned w32 c.args.view.newline = search rules in let n = c.in-BadCharacterCode.n in
+    let rn : FitsSigned w32 n = search rules in
+    opening_by (style_of c.args.view) c.args.report _ _ c.args.text.now c.put_bad_code.new.text (c.in-BadCharacterCode.is ∙ ap (λ (m : ℤ). BadCharacterCode m) (sym (to_z-of_z w32 n rn))) (to_z-of_z w32 c.args.view.newline r)
+    (c.put_bad_code.ensures (style_of c.args.view))
+
+pub returns-in-InvalidCode : goal.returns-in-InvalidCode
+returns-in-InvalidCode c = let r : FitsSigned w32 c.args.view.newline = search rules in let n = c.in-InvalidCode.n in
+    let rn : FitsSigned w32 n = search rules in
+    opening_by (style_of c.args.view) c.args.report _ _ c.args.text.now c.put_invalid_code.new.text (c.in-InvalidCode.is ∙ ap (λ (m : ℤ). InvalidCode m c.in-InvalidCode.greatest) (sym (to_z-of_z w32 n rn))) (to_z-of_z w32 c.args.view.newline r)
+    (c.put_invalid_code.ensures (style_of c.args.view))
