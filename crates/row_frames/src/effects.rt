@@ -1,0 +1,65 @@
+// What a command does with what it has read.
+ghost use Rattle.std.specs.Prelude.{◌≡◌};
+ghost use Rattle.rows.specs.Effects as effects;
+ghost use Rattle.rows.specs.Table as table;
+ghost use Rattle.row_frames.specs.Data.{values};
+
+use crate::data::{Data, name, number, token};
+use rows::{Action, Call, Effect, row_of};
+
+/// What an action comes to with what was read.
+fn comes_to(action: Action, read: &Data) -> Effect
+    ensures { result ≡ effects.comes_to action (values read.now) }
+{
+    let first = read.first();
+    let second = read.second();
+    match action {
+        Action::Nothing => Effect::Nothing,
+        Action::Obey => Effect::Obey(token(first)),
+        Action::Message => Effect::Message,
+        Action::ErrorMessage => Effect::ErrorMessage,
+        Action::Show => Effect::Show(token(first)),
+        Action::Define => Effect::Nothing,
+        Action::DefineGlobally => Effect::Nothing,
+        Action::Let => Effect::Let(name(first), token(second)),
+        Action::FutureLet => Effect::FutureLet(name(first), token(second), token(read.third())),
+        Action::SetCategory => Effect::SetCategory(number(first), number(second)),
+        Action::ExpandBehind => Effect::ExpandBehind(token(first), token(second)),
+        Action::PutMarked => Effect::PutMarked(token(first)),
+        Action::MakeNumber => Effect::MakeNumber(number(first)),
+        Action::MakeRoman => Effect::MakeRoman(number(first)),
+        Action::MakeString => Effect::MakeString(token(first)),
+        Action::MakeMeaning => Effect::MakeMeaning(token(first)),
+    }
+}
+
+/// What a command does.
+pub fn effect_of(call: Call, read: &Data) -> Effect
+    ensures { result ≡ effects.effect_of call (values read.now) }
+{
+    comes_to(row_of(call.primitive).1, read)
+}
+
+/// The definition that makes a macro: some are global by themselves.
+pub fn as_definition(call: Call) -> Call
+    ensures { result ≡ effects.as_definition call }
+{
+    let is_global = match row_of(call.primitive).1 {
+        Action::DefineGlobally => true,
+        _ => false,
+    };
+    Call {
+        global: call.global || is_global,
+        ..call
+    }
+}
+
+/// Whether a command's token is read under normal status, whatever is read around it.
+pub fn reads_under_normal(call: Call) -> bool
+    ensures { result ≡ table.reads_under_normal call.primitive }
+{
+    match row_of(call.primitive).1 {
+        Action::PutMarked | Action::MakeString | Action::MakeMeaning => true,
+        _ => false,
+    }
+}

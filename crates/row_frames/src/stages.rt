@@ -1,0 +1,303 @@
+// What a stage asks for at first, and what it makes of a token and of a value.
+ghost use Rattle.std.specs.Prelude.{◌≡◌};
+ghost use Rattle.plain_tokens.specs.Tokens as plain;
+ghost use Rattle.plain_tokens.specs.Names as names;
+ghost use Rattle.rows.specs.Tokens as tokens;
+ghost use Rattle.rows.specs.Stages as stages;
+ghost use Rattle.rows.specs.Table as table;
+ghost use Rattle.rows.specs.declared.stage.Stage.TheVariants as stage;
+ghost use Rattle.row_frames.specs.Data.{values};
+
+use crate::data::{Data, name};
+use rows::{
+    Call, Complaint, Datum, Got, Kind, Met, Next, Note, Prefix, Stage, Start, Value, find_row,
+};
+use tex_defs::{Frozen, Meaning, Name, Seen, Token};
+use tex_syntax::{Report, Want};
+
+/// The numbers of the primitives `\long`, `\outer`, `\global`, `\def`, `\xdef` and `\read`.
+const LONG: u16 = 23;
+
+const OUTER: u16 = 24;
+
+const GLOBAL: u16 = 25;
+
+const DEF: u16 = 26;
+
+const XDEF: u16 = 29;
+
+const READ: u16 = 53;
+
+/// What is inserted where a name is missing.
+const INACCESSIBLE: Token = Token::Named(Name::Frozen(Frozen::Inaccessible));
+
+/// Whether it is `=`.
+fn is_equals(x: Seen) -> bool
+    ensures { result ≡ tokens.is_equals x }
+{
+    match x.token {
+        Token::Char { cat, code } => cat == 12 && code == b'=',
+        _ => false,
+    }
+}
+
+/// Whether it is a space token.
+fn is_space_token(token: Token) -> bool
+    ensures { result ≡ plain.is_space_token token }
+{
+    match token {
+        Token::Char { cat, code } => cat == 10 && code == b' ',
+        _ => false,
+    }
+}
+
+/// Whether it is a space, perhaps an implicit one.
+fn is_space(x: Seen) -> bool
+    ensures { result ≡ plain.is_space x }
+{
+    match x.meaning {
+        Meaning::Char { cat, .. } => cat == 10,
+        _ => false,
+    }
+}
+
+/// Whether it is a character.
+fn is_character(token: Token) -> bool
+    ensures { result ≡ tokens.is_character token }
+{
+    match token {
+        Token::Char { .. } => true,
+        _ => false,
+    }
+}
+
+/// The name that may be assigned: no frozen one, but for `\inaccessible`.
+fn name_to_assign(token: Token) -> Option<Name>
+    ensures { result ≡ tokens.name_to_assign token }
+{
+    match token {
+        Token::Named(Name::Frozen(Frozen::Inaccessible)) => Some(Name::Frozen(
+            Frozen::Inaccessible,
+        )),
+        Token::Named(Name::Frozen(_)) => None,
+        Token::Named(name) => Some(name),
+        _ => None,
+    }
+}
+
+/// A number that may be out of its range, where it is reported and 0 taken.
+fn ranged(complaint: Complaint, greatest: u32, n: i32) -> Got
+    ensures { result ≡ stages.ranged complaint greatest n }
+{
+    if n >= 0 && n.unsigned_abs() <= greatest {
+        return Got::Takes(Datum::Number(n));
+    }
+    let report = match complaint {
+        Complaint::BadCharacterCode => Report::BadCharacterCode(n),
+        Complaint::InvalidCode => Report::InvalidCode(n, greatest),
+    };
+    Got::Tells(report, Next::Takes(Datum::Number(0)))
+}
+
+/// The name that is assigned.
+fn control_sequence(call: Call, x: Seen) -> Met
+    ensures { result ≡ stages.name_met call x }
+{
+    if is_space_token(x.token) {
+        return Met::Skips(call);
+    }
+    match name_to_assign(x.token) {
+        Some(name) => Met::Takes(Datum::Named(name)),
+        None => {
+            Met::Retries(Note::Inserts(INACCESSIBLE, Report::MissingName, is_character(x.token)))
+        }
+    }
+}
+
+/// The name that a token is.
+fn name_of(token: Token) -> Name
+    ensures { result ≡ names.name_of token }
+{
+    match token {
+        Token::Named(name) => name,
+        Token::Marked(name) => name,
+        _ => Name::Empty,
+    }
+}
+
+/// With one prefix more.
+fn also(prefix: Prefix, call: Call) -> Call
+    ensures { result ≡ stages.also prefix call }
+{
+    match prefix {
+        Prefix::Long => Call { long: true, ..call },
+        Prefix::Outer => Call {
+            outer: true,
+            ..call
+        },
+        Prefix::Global => Call {
+            global: true,
+            ..call
+        },
+    }
+}
+
+/// The prefix of this meaning.
+fn prefix_of(meaning: Meaning<()>) -> Option<Prefix>
+    ensures { result ≡ stages.prefix_of meaning }
+{
+    match meaning {
+        Meaning::Prim(LONG) => Some(Prefix::Long),
+        Meaning::Prim(OUTER) => Some(Prefix::Outer),
+        Meaning::Prim(GLOBAL) => Some(Prefix::Global),
+        _ => None,
+    }
+}
+
+/// Whether it is a definition.
+fn is_definition(meaning: Meaning<()>) -> bool
+    ensures { result ≡ stages.is_definition meaning }
+{
+    match meaning {
+        Meaning::Prim(n) => DEF <= n && n <= XDEF,
+        _ => false,
+    }
+}
+
+/// Whether a primitive is read by a row.
+fn has_row(number: u16) -> bool
+    ensures { result ≡ table.has_row number }
+{
+    find_row(number).is_some()
+}
+
+/// Whether it is an assignment that is read by a row.
+fn is_assignment(meaning: Meaning<()>) -> bool
+    ensures { result ≡ stages.is_assignment meaning }
+{
+    match meaning {
+        Meaning::Prim(n) => DEF <= n && n <= READ && has_row(n),
+        _ => false,
+    }
+}
+
+/// The command that the token is, with the prefixes that stood before it.
+fn as_command(call: Call, x: Seen) -> Call
+    ensures { result ≡ stages.as_command call x }
+{
+    let primitive = match x.meaning {
+        Meaning::Prim(n) => n,
+        _ => 0,
+    };
+    Call {
+        primitive,
+        name: name_of(x.token),
+        ..call
+    }
+}
+
+/// The command behind prefixes.
+fn behind_prefixes(call: Call, x: Seen) -> Met
+    ensures { result ≡ stages.behind_prefixes call x }
+{
+    let on = as_command(call, x);
+    if is_definition(x.meaning) {
+        return Met::Turns(on);
+    }
+    if !is_assignment(x.meaning) {
+        let note = Note::Tells(Report::PrefixWith(x.meaning), true);
+        return Met::Notes(note, Next::Stops);
+    }
+    if call.long || call.outer {
+        let note = Note::Tells(Report::LongOrOuterWith(x.meaning), false);
+        let unlimited = Call {
+            long: false,
+            outer: false,
+            ..on
+        };
+        return Met::Notes(note, Next::Turns(unlimited));
+    }
+    Met::Turns(on)
+}
+
+/// A further prefix, or the command behind prefixes.
+fn prefixed(call: Call, x: Seen) -> Met
+    ensures { result ≡ stages.prefixed call (stages.prefix_of x.meaning) x }
+{
+    match prefix_of(x.meaning) {
+        Some(prefix) => Met::Skips(also(prefix, call)),
+        None => behind_prefixes(call, x),
+    }
+}
+
+/// The optional `=` of `\let`, behind spaces.
+fn let_equals(call: Call, x: Seen) -> Met
+    ensures { result ≡ stages.on_token stage.LetEquals call x }
+{
+    if is_space(x) {
+        Met::Skips(call)
+    } else if is_equals(x) {
+        Met::Passes
+    } else {
+        Met::Leaves
+    }
+}
+
+/// What a stage makes of a token.
+pub fn on_token(stage: Stage, call: Call, x: Seen) -> Met
+    ensures { result ≡ stages.on_token stage call x }
+{
+    match stage {
+        Stage::Equals => {
+            if is_equals(x) {
+                Met::Passes
+            } else {
+                Met::Leaves
+            }
+        }
+        Stage::ControlSequence => control_sequence(call, x),
+        Stage::LetEquals => let_equals(call, x),
+        Stage::Space => {
+            if is_space(x) {
+                Met::Passes
+            } else {
+                Met::Leaves
+            }
+        }
+        Stage::AnyToken => Met::Takes(Datum::Taken(x)),
+        Stage::NonblankToken => Met::Takes(Datum::Taken(x)),
+        Stage::Prefixes(prefix) => prefixed(also(prefix, call), x),
+        _ => Met::Leaves,
+    }
+}
+
+/// What a stage makes of the value of an inner reading.
+pub fn on_value(stage: Stage, value: Value) -> Got
+    ensures { result ≡ stages.on_value stage value }
+{
+    match (stage, value) {
+        (Stage::NumberTo(greatest, complaint), Value::Plain(Datum::Number(n))) => {
+            ranged(complaint, greatest, n)
+        }
+        (_, Value::Plain(datum)) => Got::Takes(datum),
+        (Stage::MacroText(_), Value::List) => Got::Defines,
+        (_, Value::List) => Got::Gathers,
+    }
+}
+
+/// What a stage asks for at first.
+pub fn start(stage: Stage, call: Call, read: &Data) -> Start
+    ensures { result ≡ stages.start stage call (values read.now) }
+{
+    match stage {
+        Stage::Number | Stage::NumberTo(..) => Start::Begins(Kind::Integer),
+        Stage::Equals | Stage::NonblankToken => Start::Looks(Want::Nonblank),
+        Stage::ControlSequence | Stage::LetEquals => Start::Looks(Want::Raw),
+        Stage::Space | Stage::AnyToken => Start::Looks(Want::Raw),
+        Stage::Text(expanded) => Start::Begins(Kind::Text(call.name, expanded)),
+        Stage::MacroText(expanded) => {
+            Start::Begins(Kind::Definition(name(read.first()), expanded))
+        }
+        Stage::Prefixes(_) => Start::Looks(Want::Command),
+    }
+}

@@ -1,0 +1,4 @@
+pub mod Known
+pub mod Commands
+pub mod Definitions
+pub mod Prefixes

@@ -1,0 +1,136 @@
+-- A law of rows is proved once, by induction over the stages: it holds of whatever a row asks for, where it holds of what a stage may ask for.
+use Rattle.std.proofs.Common.{◌≡◌, ◌<◌, Bool, true, false, List, [], ◌∷◌, ◌++◌, refl, sym, subst, arith}
+use Rattle.tex_defs.specs.declared.Token.{Token}
+use Rattle.tex_defs.specs.declared.Name.{Name}
+use Rattle.tex_defs.specs.declared.Seen.{Seen}
+use Rattle.tex_syntax.specs.declared.words.Want.{Want}
+use Rattle.rows.specs.declared.words.Datum.{Datum}
+use Rattle.rows.specs.declared.words.Kind.{Kind}
+use Rattle.rows.specs.declared.stage.Stage.{Stage}
+use Rattle.rows.specs.declared.stage.Stage.TheVariants.{Number, NumberTo, Text, MacroText}
+use Rattle.rows.specs.declared.stage.Start.{Start}
+use Rattle.rows.specs.declared.stage.Start.TheVariants.{Looks, Begins}
+use Rattle.rows.specs.declared.stage.Met.{Met}
+use Rattle.rows.specs.declared.stage.Met.TheVariants as met
+use Rattle.rows.specs.declared.stage.Got.{Got}
+use Rattle.rows.specs.declared.stage.Got.TheVariants as got
+use Rattle.rows.specs.declared.stage.Next.{Next}
+use Rattle.rows.specs.declared.stage.Next.TheVariants as next
+use Rattle.rows.specs.declared.stage.Note.{Note}
+use Rattle.rows.specs.declared.stage.Note.TheVariants as note
+use Rattle.rows.specs.declared.command.Call.{Call}
+use Rattle.rows.specs.declared.command.Effect.{Effect}
+use Rattle.rows.specs.Readings.{Fed, Tok, Val, Told, Ask, More, Inner, Acts, ActsOn, Defines, Ends}
+use Rattle.rows.specs.Table.{stages_of}
+use Rattle.rows.specs.Stages.{start, on_token, on_value, name}
+use Rattle.rows.specs.Effects.{effect_of, as_definition}
+use Rattle.rows.specs.Run.{Outcome, Asks, Takes, Passes, Gathers, Makes, Turns, comes, due, noted, valued, inner, begins, met_with, looks, again, started, behind, run, no_turn, turned, row}
+use Rattle.rows.specs.Laws.{is_told, rank}
+
+-- the inner readings that stages begin are of a low rank
+abbrev pub IsLow : Kind → Type 0
+IsLow k = rank k < 1
+
+abbrev pub StartsLow : Start → Type 0
+StartsLow (Looks want) = Unit {0}
+StartsLow (Begins k) = IsLow k
+
+start_low : (s : Stage) (c : Call) (ds : List Datum) → StartsLow (start s c ds)
+start_low Number c ds = omega arith
+start_low (NumberTo greatest complaint) c ds = omega arith
+start_low (Text expanded) c ds = omega arith
+start_low (MacroText expanded) c ds = omega arith
+start_low s c ds = tt
+
+-- a law speaks of an answer, and of whether a note came last
+module _
+    (P : Bool → Ask → Type 0)
+    (more : (b : Bool) (want : Want) → P b (More want))
+    (begin : (b : Bool) (k : Kind) (begins : Bool) → IsLow k → P b (Inner k begins))
+    (act : (b : Bool) (c : Call) (e : Effect) → P b (Acts c e))
+    (act_on : (b : Bool) (c : Call) (e : Effect) (ts : List Token) → P b (ActsOn c e ts))
+    (define : (b : Bool) (c : Call) (n : Name) (ts : List Token) → P b (Defines c n ts))
+    (end : (b : Bool) → P b Ends)
+    (note_due : (n : Note) → P false (due n))
+  where
+    -- what comes of a stage that was fed with a list behind which a note came last or not
+    abbrev Fits : Bool → Outcome → Type 0
+    Fits t (Asks a) = P t a
+    Fits t (Takes d fed) = (b : Bool) × (t ≡ is_told b fed)
+    Fits t (Passes fed) = (b : Bool) × (t ≡ is_told b fed)
+    Fits t (Gathers ts) = Unit {0}
+    Fits t (Makes ts) = Unit {0}
+    Fits t (Turns c fed) = (b : Bool) × (t ≡ is_told b fed)
+
+    comes_fits : (m : Next) (b : Bool) (fed : List Fed) → Fits (is_told b fed) (comes m fed)
+    comes_fits (next.Takes d) b fed = (b, refl)
+    comes_fits next.Stops b fed = end (is_told b fed)
+    comes_fits (next.Turns c) b fed = (b, refl)
+
+    noted_fits : (n : Note) (m : Next) (fed : List Fed) → Fits (is_told false fed) (noted n m fed)
+    noted_fits n m [] = note_due n
+    noted_fits n m (Told ∷ fed) = comes_fits m true fed
+    noted_fits n m (y ∷ fed) = end _
+
+    valued_fits : (g : Got) (ts : List Token) (fed : List Fed) → Fits (is_told false fed) (valued g ts fed)
+    valued_fits (got.Takes d) ts fed = (false, refl)
+    valued_fits (got.Tells report m) ts fed = noted_fits (note.Tells report false) m fed
+    valued_fits got.Gathers ts fed = tt
+    valued_fits got.Defines ts fed = tt
+
+    inner_fits : (s : Stage) (k : Kind) → IsLow k → (fed : List Fed) → Fits (is_told false fed) (inner s k fed)
+    inner_fits s k low [] = begin false k true low
+    inner_fits s k low (Val v ts ∷ fed) = valued_fits (on_value s v) ts fed
+    inner_fits s k low (y ∷ fed) = end _
+
+    begins_fits : (s : Stage) (k : Kind) → IsLow k → (b : Bool) (fed : List Fed) → Fits (is_told b fed) (begins s k fed)
+    begins_fits s k low b [] = begin b k false low
+    begins_fits s k low b (Tok x ∷ fed) = inner_fits s k low fed
+    begins_fits s k low b (Val v ts ∷ fed) = valued_fits (on_value s v) ts fed
+    begins_fits s k low b (y ∷ fed) = end _
+
+    met_fits : (x : Seen) (m : Met) (skipped : Call → Outcome) (retried : Note → Outcome) (fed : List Fed) →
+        ((c : Call) → Fits (is_told false fed) (skipped c)) → ((n : Note) → Fits (is_told false fed) (retried n)) → Fits (is_told false fed) (met_with (Tok x) m skipped retried fed)
+    met_fits x (met.Takes d) skipped retried fed h i = (false, refl)
+    met_fits x met.Passes skipped retried fed h i = (false, refl)
+    met_fits x met.Leaves skipped retried fed h i = (false, refl)
+    met_fits x (met.Skips c) skipped retried fed h i = h c
+    met_fits x (met.Notes n m) skipped retried fed h i = noted_fits n m fed
+    met_fits x (met.Retries n) skipped retried fed h i = i n
+    met_fits x (met.Turns c) skipped retried fed h i = (false, refl)
+
+    mutual
+      looks_fits : (s : Stage) (c : Call) (want : Want) (b : Bool) (fed : List Fed) → Fits (is_told b fed) (looks s c want fed)
+      looks_fits s c want b [] = more b want
+      looks_fits s c want b (Tok x ∷ fed) =
+          met_fits x (on_token s c x) (λ d. looks s d want fed) (λ n. again s c want n fed) fed (λ d. looks_fits s d want false fed) (λ n. again_fits s c want n fed)
+      looks_fits s c want b (y ∷ fed) = end _
+
+      again_fits : (s : Stage) (c : Call) (want : Want) (n : Note) (fed : List Fed) → Fits (is_told false fed) (again s c want n fed)
+      again_fits s c want n [] = note_due n
+      again_fits s c want n (Told ∷ fed) = looks_fits s c want true fed
+      again_fits s c want n (y ∷ fed) = end _
+
+    started_fits : (s : Stage) (c : Call) (begun : Start) → StartsLow begun → (b : Bool) (fed : List Fed) → Fits (is_told b fed) (started s c begun fed)
+    started_fits s c (Looks want) low b fed = looks_fits s c want b fed
+    started_fits s c (Begins k) low b fed = begins_fits s k low b fed
+
+    module _ (turn : Call → List Fed → Ask) (turns : (c : Call) (b : Bool) (fed : List Fed) → P (is_told b fed) (turn c fed)) where
+      behind_holds : (c : Call) (ds : List Datum) (onward : List Datum → List Fed → Ask) → ((es : List Datum) (b : Bool) (fed : List Fed) → P (is_told b fed) (onward es fed)) →
+          (t : Bool) (o : Outcome) → Fits t o → P t (behind turn c ds onward o)
+      behind_holds c ds onward h t (Asks a) fits = fits
+      behind_holds c ds onward h t (Takes d fed) (b, e) = subst (λ (t : Bool). P t (onward (ds ++ d ∷ []) fed)) (sym e) (h (ds ++ d ∷ []) b fed)
+      behind_holds c ds onward h t (Passes fed) (b, e) = subst (λ (t : Bool). P t (onward ds fed)) (sym e) (h ds b fed)
+      behind_holds c ds onward h t (Gathers ts) fits = act_on t c (effect_of c ds) ts
+      behind_holds c ds onward h t (Makes ts) fits = define t (as_definition c) (name 0 ds) ts
+      behind_holds c ds onward h t (Turns d fed) (b, e) = subst (λ (t : Bool). P t (turn d fed)) (sym e) (turns d b fed)
+
+      run_holds : (c : Call) (ss : List Stage) (ds : List Datum) (b : Bool) (fed : List Fed) → P (is_told b fed) (run turn c ss ds fed)
+      run_holds c [] ds b fed = act (is_told b fed) c (effect_of c ds)
+      run_holds c (s ∷ ss) ds b fed =
+          behind_holds c ds (λ es more. run turn c ss es more) (λ es b more. run_holds c ss es b more) (is_told b fed) (started s c (start s c ds) fed)
+          (started_fits s c (start s c ds) (start_low s c ds) b fed)
+
+    pub row_holds : (c : Call) (fed : List Fed) → P (is_told false fed) (row c fed)
+    row_holds c fed =
+        run_holds turned (λ c b fed. run_holds no_turn (λ c b fed. end _) c (stages_of c.primitive) [] b fed) c (stages_of c.primitive) [] false fed

@@ -1,0 +1,20 @@
+-- Each is computed.
+use Rattle.std.proofs.Common.{◌≡◌, map, refl}
+use Rattle.prim_table.specs.Primitives.{primitive_name, primitive_names, command_names, assignment_names, expandable_names}
+use Rattle.rows.specs.Worked.{numbers, commands}
+use Rattle.rows.proofs.laws.worked_rows.Goals as goal
+
+names : map primitive_name numbers ≡ commands
+unfolding primitive_name primitive_names command_names assignment_names expandable_names
+names = refl
+
+pub returns : goal.returns
+returns c = record {
+  names = names;
+  commands_worked = record { ignorespaces = refl; message = refl; errmessage = refl; show = refl };
+  definitions = record { def = refl; gdef = refl; edef = refl; xdef = refl; missing = refl };
+  prefixes = record { long_global = refl; outer = refl; global = refl; long_catcode = refl; outer_let = refl; refused = refl; no_assignment = refl };
+  meanings = record { let_token = refl; let_equals = refl; let_space = refl; let_second = refl; futurelet = refl };
+  categories = record { sets = refl; begins = refl; too_great = refl; negative = refl; greatest = refl };
+  expansions = record { expandafter = refl; noexpand = refl; number_made = refl; romannumeral = refl; string = refl; meaning = refl; statuses = refl };
+}

@@ -1,0 +1,40 @@
+-- What a command does with what it has read.
+use Rattle.std.specs.Prelude.{Bool, true, false, ◌||◌, List}
+use Rattle.rows.specs.declared.words.Datum.{Datum}
+use Rattle.rows.specs.declared.command.Action.{Action}
+use Rattle.rows.specs.declared.command.Action.TheVariants as action
+use Rattle.rows.specs.declared.command.Effect.{Effect}
+use Rattle.rows.specs.declared.command.Effect.TheVariants as effect
+use Rattle.rows.specs.declared.command.Call.{Call}
+use Rattle.rows.specs.Stages.{number, name, token_read}
+use Rattle.rows.specs.Table.{action_of}
+
+abbrev pub comes_to : Action → List Datum → Effect
+comes_to action.Nothing ds = effect.Nothing
+comes_to action.Obey ds = effect.Obey (token_read 0 ds)
+comes_to action.Message ds = effect.Message
+comes_to action.ErrorMessage ds = effect.ErrorMessage
+comes_to action.Show ds = effect.Show (token_read 0 ds)
+comes_to action.Define ds = effect.Nothing
+comes_to action.DefineGlobally ds = effect.Nothing
+comes_to action.Let ds = effect.Let (name 0 ds) (token_read 1 ds)
+comes_to action.FutureLet ds = effect.FutureLet (name 0 ds) (token_read 1 ds) (token_read 2 ds)
+comes_to action.SetCategory ds = effect.SetCategory (number 0 ds) (number 1 ds)
+comes_to action.ExpandBehind ds = effect.ExpandBehind (token_read 0 ds) (token_read 1 ds)
+comes_to action.PutMarked ds = effect.PutMarked (token_read 0 ds)
+comes_to action.MakeNumber ds = effect.MakeNumber (number 0 ds)
+comes_to action.MakeRoman ds = effect.MakeRoman (number 0 ds)
+comes_to action.MakeString ds = effect.MakeString (token_read 0 ds)
+comes_to action.MakeMeaning ds = effect.MakeMeaning (token_read 0 ds)
+
+-- the command that does it
+abbrev pub effect_of : Call → List Datum → Effect
+effect_of c ds = comes_to (action_of c.primitive) ds
+
+abbrev pub is_always_global : Action → Bool
+is_always_global action.DefineGlobally = true
+is_always_global a = false
+
+-- the definition that makes a macro: `\gdef` and `\xdef` are global by themselves
+abbrev pub as_definition : Call → Call
+as_definition c = record c { global = c.global || is_always_global (action_of c.primitive) }

@@ -1,0 +1,63 @@
+-- The laws of the rows, on which the machine's runs stand.
+use Rattle.std.specs.Prelude.{ℕ, ◌<◌, ◌≡◌, ◌≢◌, Bool, true, false, List, [], ◌∷◌, ◌++◌}
+use Rattle.rows.specs.declared.words.Kind.{Kind}
+use Rattle.rows.specs.declared.words.Kind.TheVariants.{Command, Definition}
+use Rattle.rows.specs.declared.command.Call.{Call}
+use Rattle.rows.specs.Readings.{Fed, Val, Told, Ask, More, Inner, Done, Defines, Tells, Inserts}
+use Rattle.rows.specs.Run.{row}
+
+-- A COMMAND THAT WAS FED WITH NOTHING asks for a token or begins another reading: it doesn't end, and reports nothing.
+abbrev pub Starts : Ask → Type 0
+Starts (More want) = Unit {0}
+Starts (Inner k begins) = Unit {0}
+Starts a = ⊥
+
+abbrev pub ReadingsStart : Type 0
+ReadingsStart = (c : Call) → Starts (row c [])
+
+-- RANKS: a command begins only readings of a lower rank, so it begins no command.
+abbrev pub rank : Kind → ℕ
+rank (Command c) = 1
+rank k = 0
+
+abbrev pub BeginsLower : ℕ → Ask → Type 0
+BeginsLower n (Inner k begins) = rank k < n
+BeginsLower n a = Unit {0}
+
+abbrev pub ReadingsBeginLower : Type 0
+ReadingsBeginLower = (c : Call) (fed : List Fed) → BeginsLower (rank (Command c)) (row c fed)
+
+-- A COMMAND HAS NO VALUE
+abbrev pub IsValueless : Ask → Type 0
+IsValueless (Done v back) = ⊥
+IsValueless a = Unit {0}
+
+abbrev pub RowsHaveNoValue : Type 0
+RowsHaveNoValue = (c : Call) (fed : List Fed) → IsValueless (row c fed)
+
+-- NOTES: a report comes only where none was the last.
+abbrev pub is_told : Bool → List Fed → Bool
+is_told b [] = b
+is_told b (Told ∷ fed) = is_told true fed
+is_told b (x ∷ fed) = is_told false fed
+
+abbrev pub NotesOnce : Bool → Ask → Type 0
+NotesOnce b (Tells report back) = b ≡ false
+NotesOnce b (Inserts t report back) = b ≡ false
+NotesOnce b a = Unit {0}
+
+abbrev pub NotesAreSingle : Type 0
+NotesAreSingle = (c : Call) (fed : List Fed) → NotesOnce (is_told false fed) (row c fed)
+
+-- MACROS: a list that becomes a macro's has a token, where each value of a definition's reading has one.
+abbrev pub HasBody : Ask → Type 0
+HasBody (Defines c n ts) = ts ≢ []
+HasBody a = Unit {0}
+
+-- what a reading is fed with where it asks for this
+abbrev pub Brings : Fed → Ask → Type 0
+Brings (Val v ts) (Inner (Definition n expanded) begins) = ts ≢ []
+Brings y a = Unit {0}
+
+abbrev pub MacrosHaveBodies : Type 0
+MacrosHaveBodies = (c : Call) (fed : List Fed) (y : Fed) → Brings y (row c fed) → HasBody (row c fed) → HasBody (row c (fed ++ y ∷ []))

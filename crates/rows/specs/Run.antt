@@ -1,0 +1,125 @@
+-- What a row asks for after all that it was fed with.
+use Rattle.std.specs.Prelude.{true, false, List, [], ◌∷◌, ◌++◌}
+use Rattle.tex_defs.specs.declared.Token.{Token}
+use Rattle.tex_syntax.specs.declared.words.Want.{Want}
+use Rattle.rows.specs.declared.words.Datum.{Datum}
+use Rattle.rows.specs.declared.words.Kind.{Kind}
+use Rattle.rows.specs.declared.stage.Stage.{Stage}
+use Rattle.rows.specs.declared.stage.Start.{Start}
+use Rattle.rows.specs.declared.stage.Start.TheVariants.{Looks, Begins}
+use Rattle.rows.specs.declared.stage.Met.{Met}
+use Rattle.rows.specs.declared.stage.Met.TheVariants as met
+use Rattle.rows.specs.declared.stage.Got.{Got}
+use Rattle.rows.specs.declared.stage.Got.TheVariants as got
+use Rattle.rows.specs.declared.stage.Next.{Next}
+use Rattle.rows.specs.declared.stage.Next.TheVariants as next
+use Rattle.rows.specs.declared.stage.Note.{Note}
+use Rattle.rows.specs.declared.stage.Note.TheVariants as note
+use Rattle.rows.specs.declared.command.Call.{Call}
+use Rattle.rows.specs.Table.{stages_of}
+use Rattle.rows.specs.Readings.{Fed, Tok, Val, Told, Ask, More, Inner, Acts, ActsOn, Defines, Ends, Tells, Inserts}
+use Rattle.rows.specs.Stages.{start, on_token, on_value, name}
+use Rattle.rows.specs.Effects.{effect_of, as_definition}
+
+-- STAGES
+
+-- What comes of a stage: it asks for something; it has read this, or nothing that is kept, and these are for the next stage; it has
+-- gathered a list, which is the last thing that a command reads, or that of a macro; or the command goes on as another.
+pub data Outcome : Type 0 where
+  Asks : Ask → Outcome
+  Takes : Datum → List Fed → Outcome
+  Passes : List Fed → Outcome
+  Gathers : List Token → Outcome
+  Makes : List Token → Outcome
+  Turns : Call → List Fed → Outcome
+
+-- the end of a command that was fed with what it didn't ask for, to which no run comes
+abbrev pub senseless : Outcome
+senseless = Asks Ends
+
+abbrev pub comes : Next → List Fed → Outcome
+comes (next.Takes d) fed = Takes d fed
+comes next.Stops fed = Asks Ends
+comes (next.Turns c) fed = Turns c fed
+
+abbrev pub due : Note → Ask
+due (note.Tells report back) = Tells report back
+due (note.Inserts t report back) = Inserts t report back
+
+-- a report, and what comes behind it
+abbrev pub noted : Note → Next → List Fed → Outcome
+noted n m [] = Asks (due n)
+noted n m (Told ∷ fed) = comes m fed
+noted n m (y ∷ fed) = senseless
+
+-- the value of an inner reading, with its list
+abbrev pub valued : Got → List Token → List Fed → Outcome
+valued (got.Takes d) ts fed = Takes d fed
+valued (got.Tells report m) ts fed = noted (note.Tells report false) m fed
+valued got.Gathers ts fed = Gathers ts
+valued got.Defines ts fed = Makes ts
+
+-- an inner reading that begins with a token
+abbrev pub inner : Stage → Kind → List Fed → Outcome
+inner s k [] = Asks (Inner k true)
+inner s k (Val v ts ∷ fed) = valued (on_value s v) ts fed
+inner s k (y ∷ fed) = senseless
+
+-- a stage that is an inner reading, which begins with the token that the stage before it left, if there is one
+abbrev pub begins : Stage → Kind → List Fed → Outcome
+begins s k [] = Asks (Inner k false)
+begins s k (Tok x ∷ fed) = inner s k fed
+begins s k (Val v ts ∷ fed) = valued (on_value s v) ts fed
+begins s k (y ∷ fed) = senseless
+
+-- a stage that looks at a token, `y`; `skipped` is what comes of those behind it, and `retried` what comes of them behind a note
+abbrev pub met_with : (y : Fed) → Met → (skipped : Call → Outcome) → (retried : Note → Outcome) → List Fed → Outcome
+met_with y (met.Takes d) skipped retried fed = Takes d fed
+met_with y met.Passes skipped retried fed = Passes fed
+met_with y met.Leaves skipped retried fed = Passes (y ∷ fed)
+met_with y (met.Skips c) skipped retried fed = skipped c
+met_with y (met.Notes n m) skipped retried fed = noted n m fed
+met_with y (met.Retries n) skipped retried fed = retried n
+met_with y (met.Turns c) skipped retried fed = Turns c fed
+
+abbrev mutual
+  pub looks : Stage → Call → Want → List Fed → Outcome
+  looks s c want [] = Asks (More want)
+  looks s c want (Tok x ∷ fed) = met_with (Tok x) (on_token s c x) (λ d. looks s d want fed) (λ n. again s c want n fed) fed
+  looks s c want (y ∷ fed) = senseless
+
+  -- the stage is read again behind its note
+  pub again : Stage → Call → Want → Note → List Fed → Outcome
+  again s c want n [] = Asks (due n)
+  again s c want n (Told ∷ fed) = looks s c want fed
+  again s c want n (y ∷ fed) = senseless
+
+abbrev pub started : Stage → Call → Start → List Fed → Outcome
+started s c (Looks want) fed = looks s c want fed
+started s c (Begins k) fed = begins s k fed
+
+-- ROWS
+
+-- what a command asks for behind a stage; `turn` is what comes where it goes on as another
+abbrev pub behind : (turn : Call → List Fed → Ask) → Call → List Datum → (onward : List Datum → List Fed → Ask) → Outcome → Ask
+behind turn c ds onward (Asks a) = a
+behind turn c ds onward (Takes d fed) = onward (ds ++ d ∷ []) fed
+behind turn c ds onward (Passes fed) = onward ds fed
+behind turn c ds onward (Gathers ts) = ActsOn c (effect_of c ds) ts
+behind turn c ds onward (Makes ts) = Defines (as_definition c) (name 0 ds) ts
+behind turn c ds onward (Turns d fed) = turn d fed
+
+-- The stages are read one behind the other, each from what the one before it left; behind the last the command does what it does.
+abbrev pub run : (turn : Call → List Fed → Ask) → Call → List Stage → List Datum → List Fed → Ask
+run turn c [] ds fed = Acts c (effect_of c ds)
+run turn c (s ∷ ss) ds fed = behind turn c ds (λ es more. run turn c ss es more) (started s c (start s c ds) fed)
+
+-- A command goes on as another once: prefixes as the assignment behind them.
+abbrev pub no_turn : Call → List Fed → Ask
+no_turn c fed = Ends
+
+abbrev pub turned : Call → List Fed → Ask
+turned c fed = run no_turn c (stages_of c.primitive) [] fed
+
+abbrev pub row : Call → List Fed → Ask
+row c fed = run turned c (stages_of c.primitive) [] fed

@@ -1,0 +1,190 @@
+-- The stages: what each asks for at first, and what it makes of a token and of a value.
+use Rattle.std.specs.Prelude.{ℕ, zero, suc, ℤ, pos, ◌&&◌, ◌||◌, Bool, true, false, List, [], ◌∷◌, Option, Some, None, if◌then◌else◌}
+use Rattle.tex_defs.specs.declared.Token.{Token}
+use Rattle.tex_defs.specs.declared.Token.TheVariants as token
+use Rattle.tex_defs.specs.declared.Name.{Name}
+use Rattle.tex_defs.specs.declared.Name.TheVariants.{Empty}
+use Rattle.tex_defs.specs.declared.Meaning.{Meaning}
+use Rattle.tex_defs.specs.declared.Meaning.TheVariants as means
+use Rattle.tex_defs.specs.declared.Seen.{Seen}
+use Rattle.tex_syntax.specs.declared.words.Want.TheVariants as want
+use Rattle.tex_syntax.specs.declared.words.Report.{Report}
+use Rattle.tex_syntax.specs.declared.words.Report.TheVariants as report
+use Rattle.plain_tokens.specs.Tokens.{is_space, is_space_token}
+use Rattle.plain_tokens.specs.Categories.{is_between}
+use Rattle.plain_tokens.specs.Names.{name_of, means_primitive, is_definition_primitive, long_primitive, outer_primitive, global_primitive, def_primitive}
+use Rattle.rows.specs.declared.words.Datum.{Datum}
+use Rattle.rows.specs.declared.words.Datum.TheVariants as datum
+use Rattle.rows.specs.declared.words.Value.{Value}
+use Rattle.rows.specs.declared.words.Value.TheVariants as value
+use Rattle.rows.specs.declared.words.Kind.TheVariants as kind
+use Rattle.rows.specs.declared.stage.Stage.{Stage}
+use Rattle.rows.specs.declared.stage.Stage.TheVariants.{Number, NumberTo, Equals, ControlSequence, LetEquals, Space, AnyToken, NonblankToken, Text, MacroText, Prefixes}
+use Rattle.rows.specs.declared.stage.Complaint.{Complaint}
+use Rattle.rows.specs.declared.stage.Complaint.TheVariants.{BadCharacterCode, InvalidCode}
+use Rattle.rows.specs.declared.stage.Start.{Start}
+use Rattle.rows.specs.declared.stage.Start.TheVariants.{Looks, Begins}
+use Rattle.rows.specs.declared.stage.Met.{Met}
+use Rattle.rows.specs.declared.stage.Met.TheVariants as met
+use Rattle.rows.specs.declared.stage.Got.{Got}
+use Rattle.rows.specs.declared.stage.Got.TheVariants as got
+use Rattle.rows.specs.declared.stage.Next.TheVariants as next
+use Rattle.rows.specs.declared.stage.Note.TheVariants as note
+use Rattle.rows.specs.declared.command.Call.{Call}
+use Rattle.rows.specs.declared.command.Prefix.{Prefix}
+use Rattle.rows.specs.declared.command.Prefix.TheVariants.{Long, Outer, Global}
+use Rattle.rows.specs.Tokens.{is_equals, is_character, name_to_assign, inaccessible, is_at_most}
+use Rattle.rows.specs.Table.{has_row}
+
+-- WHAT HAS BEEN READ, in the order in which it was read
+
+abbrev pub nothing : Datum
+nothing = datum.Number (pos 0)
+
+abbrev pub datum_at : ℕ → List Datum → Datum
+datum_at i [] = nothing
+datum_at zero (d ∷ ds) = d
+datum_at (suc i) (d ∷ ds) = datum_at i ds
+
+abbrev pub number_in : Datum → ℤ
+number_in (datum.Number n) = n
+number_in d = pos 0
+
+abbrev pub name_in : Datum → Name
+name_in (datum.Named n) = n
+name_in d = Empty
+
+abbrev pub no_token : Seen
+no_token = record { token = token.Named Empty; meaning = means.Undefined }
+
+abbrev pub token_in : Datum → Seen
+token_in (datum.Taken x) = x
+token_in d = no_token
+
+-- by their places, the first of which is number 0
+abbrev pub number : ℕ → List Datum → ℤ
+number i ds = number_in (datum_at i ds)
+
+abbrev pub name : ℕ → List Datum → Name
+name i ds = name_in (datum_at i ds)
+
+abbrev pub token_read : ℕ → List Datum → Seen
+token_read i ds = token_in (datum_at i ds)
+
+-- NUMBERS
+
+-- a number out of its range
+abbrev pub out_of_range : Complaint → ℕ → ℤ → Report
+out_of_range BadCharacterCode greatest n = report.BadCharacterCode n
+out_of_range InvalidCode greatest n = report.InvalidCode n greatest
+
+-- is reported, and 0 taken
+abbrev pub ranged : Complaint → ℕ → ℤ → Got
+ranged complaint greatest n =
+    if is_at_most greatest n then got.Takes (datum.Number n)
+    else got.Tells (out_of_range complaint greatest n) (next.Takes (datum.Number (pos 0)))
+
+-- NAMES TO ASSIGN
+
+-- `\inaccessible` takes the place of a name that is missing; a character is given back, and another token dropped
+abbrev pub named : Token → Option Name → Met
+named t (Some n) = met.Takes (datum.Named n)
+named t None = met.Retries (note.Inserts inaccessible report.MissingName (is_character t))
+
+abbrev pub name_met : Call → Seen → Met
+name_met c x = if is_space_token x.token then met.Skips c else named x.token (name_to_assign x.token)
+
+-- PREFIXES
+
+-- with one prefix more
+abbrev pub also : Prefix → Call → Call
+also Long c = record c { long = true }
+also Outer c = record c { outer = true }
+also Global c = record c { global = true }
+
+abbrev pub prefix_of : Meaning Unit → Option Prefix
+prefix_of m =
+    if means_primitive long_primitive m then Some Long else if means_primitive outer_primitive m then Some Outer
+    else if means_primitive global_primitive m then Some Global else None
+
+-- `\def`, `\gdef`, `\edef` and `\xdef`
+abbrev pub is_definition : Meaning Unit → Bool
+is_definition (means.Prim n) = is_definition_primitive n
+is_definition m = false
+
+-- the number of the last primitive that is an assignment: `\read`
+abbrev pub last_assignment : ℕ
+last_assignment = 53
+
+-- the assignments that are read by rows
+abbrev pub is_assignment : Meaning Unit → Bool
+is_assignment (means.Prim n) = is_between def_primitive last_assignment n && has_row n
+is_assignment m = false
+
+abbrev pub primitive_in : Meaning Unit → ℕ
+primitive_in (means.Prim n) = n
+primitive_in m = 0
+
+-- the command that the token is, with the prefixes that stood before it
+abbrev pub as_command : Call → Seen → Call
+as_command c x = record c { primitive = primitive_in x.meaning; name = name_of x.token }
+
+-- another command than an assignment is given back and reported, and the prefixes are lost
+abbrev pub prefix_refused : Seen → Met
+prefix_refused x = met.Notes (note.Tells (report.PrefixWith x.meaning) true) next.Stops
+
+-- `\long` or `\outer` before an assignment that is no definition is reported, and it goes on as without them
+abbrev pub limit_refused : Call → Seen → Met
+limit_refused c x =
+    met.Notes (note.Tells (report.LongOrOuterWith x.meaning) false) (next.Turns (record (as_command c x) { long = false; outer = false }))
+
+abbrev pub behind_prefixes : Call → Seen → Met
+behind_prefixes c x =
+    if is_definition x.meaning then met.Turns (as_command c x)
+    else if is_assignment x.meaning then (
+    if c.long || c.outer then limit_refused c x else met.Turns (as_command c x)
+    ) else prefix_refused x
+
+abbrev pub prefixed : Call → Option Prefix → Seen → Met
+prefixed c (Some p) x = met.Skips (also p c)
+prefixed c None x = behind_prefixes c x
+
+-- THE STAGES
+
+-- what each asks for at first, in a command that has read this
+abbrev pub start : Stage → Call → List Datum → Start
+start Number c ds = Begins kind.Integer
+start (NumberTo greatest complaint) c ds = Begins kind.Integer
+start Equals c ds = Looks want.Nonblank
+start ControlSequence c ds = Looks want.Raw
+start LetEquals c ds = Looks want.Raw
+start Space c ds = Looks want.Raw
+start AnyToken c ds = Looks want.Raw
+start NonblankToken c ds = Looks want.Nonblank
+start (Text expanded) c ds = Begins (kind.Text c.name expanded)
+start (MacroText expanded) c ds = Begins (kind.Definition (name 0 ds) expanded)
+start (Prefixes p) c ds = Looks want.Command
+
+-- what it makes of a token; a stage that doesn't look at tokens is none of these
+abbrev pub on_token : Stage → Call → Seen → Met
+on_token Equals c x = if is_equals x then met.Passes else met.Leaves
+on_token ControlSequence c x = name_met c x
+on_token LetEquals c x = if is_space x then met.Skips c else if is_equals x then met.Passes else met.Leaves
+on_token Space c x = if is_space x then met.Passes else met.Leaves
+on_token AnyToken c x = met.Takes (datum.Taken x)
+on_token NonblankToken c x = met.Takes (datum.Taken x)
+on_token (Prefixes p) c x = prefixed (also p c) (prefix_of x.meaning) x
+on_token s c x = met.Leaves
+
+-- and of the value of an inner reading
+abbrev pub on_datum : Stage → Datum → Got
+on_datum (NumberTo greatest complaint) (datum.Number n) = ranged complaint greatest n
+on_datum s d = got.Takes d
+
+abbrev pub on_list : Stage → Got
+on_list (MacroText expanded) = got.Defines
+on_list s = got.Gathers
+
+abbrev pub on_value : Stage → Value → Got
+on_value s (value.Plain d) = on_datum s d
+on_value s value.List = on_list s

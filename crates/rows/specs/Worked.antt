@@ -1,0 +1,175 @@
+-- Rows worked out: what each command asks for, item by item, as it is fed.
+use Rattle.std.specs.Prelude.{ℕ, ℤ, pos, negsuc, ◌≡◌, true, false, List, [], ◌∷◌, map, codes}
+use Rattle.tex_defs.specs.declared.Token.{Token}
+use Rattle.tex_defs.specs.declared.Token.TheVariants as token
+use Rattle.tex_defs.specs.declared.Name.{Name}
+use Rattle.tex_defs.specs.declared.Name.TheVariants.{Single, Word, Frozen}
+use Rattle.tex_defs.specs.declared.Frozen.TheVariants.{Relax}
+use Rattle.tex_defs.specs.declared.Meaning.TheVariants as means
+use Rattle.tex_defs.specs.declared.Seen.{Seen}
+use Rattle.tex_syntax.specs.declared.words.Want.TheVariants.{Raw, Nonblank}
+use Rattle.tex_syntax.specs.declared.words.Want.TheVariants as want
+use Rattle.tex_syntax.specs.declared.words.Report.TheVariants.{BadCharacterCode, InvalidCode, MissingName, PrefixWith, LongOrOuterWith}
+use Rattle.plain_tokens.specs.Categories.{space, letter, other}
+use Rattle.prim_table.specs.Primitives.{primitive_name}
+use Rattle.rows.specs.declared.words.Datum.TheVariants.{Number}
+use Rattle.rows.specs.declared.words.Value.TheVariants as value
+use Rattle.rows.specs.declared.words.Kind.TheVariants.{Integer, Text, Definition}
+use Rattle.rows.specs.declared.command.Call.{Call}
+use Rattle.rows.specs.declared.command.Effect.TheVariants as effect
+use Rattle.rows.specs.Tokens.{inaccessible}
+use Rattle.rows.specs.Table.{reads_under_normal}
+use Rattle.rows.specs.Readings.{Fed, Tok, Val, Told, Ask, More, Inner, Acts, ActsOn, Defines, Ends, Tells, Inserts}
+use Rattle.rows.specs.Run.{row}
+
+-- WHAT COMES
+
+abbrev pub character : (category code : ℕ) → Seen
+character category code = record { token = token.Char category code; meaning = means.Char category code }
+
+-- a name of this primitive's meaning
+abbrev pub primitive : ℕ → Seen
+primitive n = record { token = token.Named (Word n); meaning = means.Prim n }
+
+-- the names `\x` and `\y`, which mean nothing
+abbrev pub x_name : Name
+x_name = Single 120
+
+abbrev pub x : Seen
+x = record { token = token.Named x_name; meaning = means.Undefined }
+
+abbrev pub y : Seen
+y = record { token = token.Named (Single 121); meaning = means.Undefined }
+
+abbrev pub frozen_relax : Seen
+frozen_relax = record { token = token.Named (Frozen Relax); meaning = means.Prim 1 }
+
+abbrev pub a_letter : Seen
+a_letter = character letter 97
+
+abbrev pub a_space : Seen
+a_space = character space 32
+
+abbrev pub equals : Seen
+equals = character other 61
+
+abbrev pub digit : Seen
+digit = character other 49
+
+abbrev pub number : ℤ → Fed
+number n = Val (value.Plain (Number n)) []
+
+abbrev pub list : List Token → Fed
+list ts = Val value.List ts
+
+-- a list of one token
+abbrev pub text : List Token
+text = a_letter.token ∷ []
+
+-- THE STEPS OF A COMMAND
+
+-- a command under the name of its primitive, without prefixes
+abbrev pub call : ℕ → Call
+call n = record { primitive = n; name = Word n; long = false; outer = false; global = false }
+
+-- all that it asks for, before each item and behind the last
+abbrev pub asked : (List Fed → Ask) → List Fed → List Ask
+asked ask [] = ask [] ∷ []
+asked ask (item ∷ fed) = ask [] ∷ asked (λ more. ask (item ∷ more)) fed
+
+abbrev pub steps : ℕ → List Fed → List Ask
+steps n fed = asked (row (call n)) fed
+
+-- `\ignorespaces`, `\message`, `\errmessage` and `\show`
+pub record WorkedCommands : Type 0 where
+  pub ignorespaces : steps 8 (Tok x ∷ []) ≡ More Nonblank ∷ Acts (call 8) (effect.Obey x) ∷ []
+  pub message : steps 9 (list text ∷ []) ≡ Inner (Text (Word 9) true) false ∷ ActsOn (call 9) effect.Message text ∷ []
+  pub errmessage : steps 10 (list [] ∷ []) ≡ Inner (Text (Word 10) true) false ∷ ActsOn (call 10) effect.ErrorMessage [] ∷ []
+  pub show : steps 11 (Tok a_space ∷ []) ≡ More Raw ∷ Acts (call 11) (effect.Show a_space) ∷ []
+
+-- `\def`, `\gdef`, `\edef` and `\xdef`; `\def`, where a space, a character and a frozen name come before the name
+pub record WorkedDefinitions : Type 0 where
+  pub def : steps 26 (Tok x ∷ list text ∷ []) ≡ More Raw ∷ Inner (Definition x_name false) false ∷ Defines (call 26) x_name text ∷ []
+  pub gdef :
+      steps 27 (Tok x ∷ list text ∷ []) ≡ More Raw ∷ Inner (Definition x_name false) false ∷ Defines (record (call 27) { global = true }) x_name text ∷ []
+  pub edef : steps 28 (Tok x ∷ list text ∷ []) ≡ More Raw ∷ Inner (Definition x_name true) false ∷ Defines (call 28) x_name text ∷ []
+  pub xdef :
+      steps 29 (Tok x ∷ list text ∷ []) ≡ More Raw ∷ Inner (Definition x_name true) false ∷ Defines (record (call 29) { global = true }) x_name text ∷ []
+  pub missing :
+      steps 26 (Tok a_space ∷ Tok a_letter ∷ Told ∷ Tok frozen_relax ∷ Told ∷ Tok x ∷ []) ≡
+      More Raw ∷ More Raw ∷ Inserts inaccessible MissingName true ∷ More Raw ∷ Inserts inaccessible MissingName false ∷ More Raw ∷ Inner (Definition x_name false) false ∷ []
+
+-- `\long\global\def`, `\outer\edef`, `\global\catcode`; `\long\catcode` and `\outer\let`; `\global\relax` and `\long\message`
+pub record WorkedPrefixes : Type 0 where
+  pub long_global :
+      steps 23 (Tok (primitive 25) ∷ Tok (primitive 26) ∷ Tok x ∷ list text ∷ []) ≡
+      More want.Command ∷ More want.Command ∷ More Raw ∷ Inner (Definition x_name false) false ∷ Defines (record (call 26) { long = true; global = true }) x_name text ∷ []
+  pub outer :
+      steps 24 (Tok (primitive 28) ∷ Tok x ∷ list text ∷ []) ≡
+      More want.Command ∷ More Raw ∷ Inner (Definition x_name true) false ∷ Defines (record (call 28) { outer = true }) x_name text ∷ []
+  pub global :
+      steps 25 (Tok (primitive 35) ∷ number (pos 65) ∷ Tok equals ∷ number (pos 11) ∷ []) ≡
+      More want.Command ∷ Inner Integer false ∷ More Nonblank ∷ Inner Integer false ∷ Acts (record (call 35) { global = true }) (effect.SetCategory (pos 65) (pos 11)) ∷ []
+  pub long_catcode :
+      steps 23 (Tok (primitive 35) ∷ Told ∷ number (pos 65) ∷ Tok equals ∷ number (pos 11) ∷ []) ≡
+      More want.Command ∷ Tells (LongOrOuterWith (means.Prim 35)) false ∷ Inner Integer false ∷ More Nonblank ∷ Inner Integer false ∷ Acts (call 35) (effect.SetCategory (pos 65) (pos 11)) ∷ []
+  pub outer_let :
+      steps 24 (Tok (primitive 25) ∷ Tok (primitive 30) ∷ Told ∷ Tok x ∷ Tok y ∷ []) ≡
+      More want.Command ∷ More want.Command ∷ Tells (LongOrOuterWith (means.Prim 30)) false ∷ More Raw ∷ More Raw ∷ Acts (record (call 30) { global = true }) (effect.Let x_name y) ∷ []
+  pub refused : steps 25 (Tok (primitive 1) ∷ Told ∷ []) ≡ More want.Command ∷ Tells (PrefixWith (means.Prim 1)) true ∷ Ends ∷ []
+  pub no_assignment : steps 23 (Tok (primitive 9) ∷ Told ∷ []) ≡ More want.Command ∷ Tells (PrefixWith (means.Prim 9)) true ∷ Ends ∷ []
+
+-- `\let\x\y`, `\let\x =` and a space before `\y`, `\let\x==`, and `\futurelet\x\y` before a letter
+pub record WorkedMeanings : Type 0 where
+  pub let_token : steps 30 (Tok x ∷ Tok y ∷ []) ≡ More Raw ∷ More Raw ∷ Acts (call 30) (effect.Let x_name y) ∷ []
+  pub let_equals :
+      steps 30 (Tok x ∷ Tok a_space ∷ Tok equals ∷ Tok a_space ∷ Tok y ∷ []) ≡
+      More Raw ∷ More Raw ∷ More Raw ∷ More Raw ∷ More Raw ∷ Acts (call 30) (effect.Let x_name y) ∷ []
+  pub let_space :
+      steps 30 (Tok x ∷ Tok equals ∷ Tok a_space ∷ Tok a_space ∷ []) ≡ More Raw ∷ More Raw ∷ More Raw ∷ More Raw ∷ Acts (call 30) (effect.Let x_name a_space) ∷ []
+  pub let_second : steps 30 (Tok x ∷ Tok equals ∷ Tok equals ∷ []) ≡ More Raw ∷ More Raw ∷ More Raw ∷ Acts (call 30) (effect.Let x_name equals) ∷ []
+  pub futurelet :
+      steps 31 (Tok x ∷ Tok y ∷ Tok a_letter ∷ []) ≡ More Raw ∷ More Raw ∷ More Raw ∷ Acts (call 31) (effect.FutureLet x_name y a_letter) ∷ []
+
+-- `\catcode 65=11`, `\catcode 65 11`, where the second number begins with its first digit, and `\catcode 256=16` and `\catcode -1=-1` with their reports
+pub record WorkedCategories : Type 0 where
+  pub sets :
+      steps 35 (number (pos 65) ∷ Tok equals ∷ number (pos 11) ∷ []) ≡ Inner Integer false ∷ More Nonblank ∷ Inner Integer false ∷ Acts (call 35) (effect.SetCategory (pos 65) (pos 11)) ∷ []
+  pub begins :
+      steps 35 (number (pos 65) ∷ Tok digit ∷ number (pos 11) ∷ []) ≡ Inner Integer false ∷ More Nonblank ∷ Inner Integer true ∷ Acts (call 35) (effect.SetCategory (pos 65) (pos 11)) ∷ []
+  pub too_great :
+      steps 35 (number (pos 256) ∷ Told ∷ Tok equals ∷ number (pos 16) ∷ Told ∷ []) ≡
+      Inner Integer false ∷ Tells (BadCharacterCode (pos 256)) false ∷ More Nonblank ∷ Inner Integer false ∷ Tells (InvalidCode (pos 16) 15) false ∷ Acts (call 35) (effect.SetCategory (pos 0) (pos 0)) ∷ []
+  pub negative :
+      steps 35 (number (negsuc 0) ∷ Told ∷ Tok digit ∷ number (negsuc 0) ∷ Told ∷ []) ≡
+      Inner Integer false ∷ Tells (BadCharacterCode (negsuc 0)) false ∷ More Nonblank ∷ Inner Integer true ∷ Tells (InvalidCode (negsuc 0) 15) false ∷ Acts (call 35) (effect.SetCategory (pos 0) (pos 0)) ∷ []
+  pub greatest :
+      steps 35 (number (pos 255) ∷ Tok equals ∷ number (pos 15) ∷ []) ≡ Inner Integer false ∷ More Nonblank ∷ Inner Integer false ∷ Acts (call 35) (effect.SetCategory (pos 255) (pos 15)) ∷ []
+
+-- `\expandafter`, `\noexpand`, `\number`, `\romannumeral`, `\string` and `\meaning`, and which of them read under normal status
+pub record WorkedExpansions : Type 0 where
+  pub expandafter : steps 54 (Tok x ∷ Tok y ∷ []) ≡ More Raw ∷ More Raw ∷ Acts (call 54) (effect.ExpandBehind x y) ∷ []
+  pub noexpand : steps 55 (Tok x ∷ []) ≡ More Raw ∷ Acts (call 55) (effect.PutMarked x) ∷ []
+  pub number_made : steps 57 (number (pos 12) ∷ []) ≡ Inner Integer false ∷ Acts (call 57) (effect.MakeNumber (pos 12)) ∷ []
+  pub romannumeral : steps 58 (number (pos 12) ∷ []) ≡ Inner Integer false ∷ Acts (call 58) (effect.MakeRoman (pos 12)) ∷ []
+  pub string : steps 59 (Tok x ∷ []) ≡ More Raw ∷ Acts (call 59) (effect.MakeString x) ∷ []
+  pub meaning : steps 60 (Tok x ∷ []) ≡ More Raw ∷ Acts (call 60) (effect.MakeMeaning x) ∷ []
+  pub statuses : map reads_under_normal (54 ∷ 55 ∷ 57 ∷ 58 ∷ 59 ∷ 60 ∷ 30 ∷ []) ≡ false ∷ true ∷ false ∷ false ∷ true ∷ true ∷ false ∷ []
+
+-- the numbers above, and the names of their primitives
+abbrev pub numbers : List ℕ
+numbers = 8 ∷ 9 ∷ 10 ∷ 11 ∷ 23 ∷ 24 ∷ 25 ∷ 26 ∷ 27 ∷ 28 ∷ 29 ∷ 30 ∷ 31 ∷ 35 ∷ 54 ∷ 55 ∷ 57 ∷ 58 ∷ 59 ∷ 60 ∷ []
+
+abbrev pub commands : List (List ℕ)
+commands =
+    codes "ignorespaces" ∷ codes "message" ∷ codes "errmessage" ∷ codes "show" ∷ codes "long" ∷ codes "outer" ∷ codes "global" ∷ codes "def" ∷ codes "gdef" ∷ codes "edef" ∷ codes "xdef" ∷
+    codes "let" ∷ codes "futurelet" ∷ codes "catcode" ∷ codes "expandafter" ∷ codes "noexpand" ∷ codes "number" ∷ codes "romannumeral" ∷ codes "string" ∷ codes "meaning" ∷ []
+
+pub record WorkedRows : Type 0 where
+  pub names : map primitive_name numbers ≡ commands
+  pub commands_worked : WorkedCommands
+  pub definitions : WorkedDefinitions
+  pub prefixes : WorkedPrefixes
+  pub meanings : WorkedMeanings
+  pub categories : WorkedCategories
+  pub expansions : WorkedExpansions

@@ -1,0 +1,184 @@
+// The commands that are read by rows, and what they do.
+ghost use Rattle.std.specs.Prelude.{◌≡◌};
+ghost use Rattle.rows.specs.Table as table;
+
+use crate::stage::Complaint::{BadCharacterCode, InvalidCode};
+use crate::stage::Stage;
+use crate::stage::Stage::{
+    AnyToken, ControlSequence, Equals, LetEquals, MacroText, NonblankToken, Number, NumberTo,
+    Prefixes, Space, Text,
+};
+use Action::{
+    Define, DefineGlobally, ErrorMessage, ExpandBehind, FutureLet, Let, MakeMeaning, MakeNumber,
+    MakeRoman, MakeString, Message, Nothing, Obey, PutMarked, SetCategory, Show,
+};
+use Row::{Four, One, Three, Two};
+use tex_defs::{Name, Seen};
+
+/// A prefix of an assignment.
+#[derive(Clone, Copy)]
+pub enum Prefix {
+    Long,
+    Outer,
+    Global,
+}
+
+/// What a command reads: one stage to four.
+#[derive(Clone, Copy)]
+pub enum Row {
+    One(Stage),
+    Two(Stage, Stage),
+    Three(Stage, Stage, Stage),
+    Four(Stage, Stage, Stage, Stage),
+}
+
+impl Row {
+    /// Its first stage.
+    pub fn first(self) -> Stage
+        ensures { result ≡ table.first_in self }
+    {
+        match self {
+            One(a) | Two(a, _) | Three(a, _, _) | Four(a, _, _, _) => a,
+        }
+    }
+
+    /// The stages behind the first, if there are any.
+    pub fn rest(self) -> Option<Row>
+        ensures { table.stages_left result ≡ table.rest_in self }
+    {
+        match self {
+            One(_) => None,
+            Two(_, b) => Some(One(b)),
+            Three(_, b, c) => Some(Two(b, c)),
+            Four(_, b, c, d) => Some(Three(b, c, d)),
+        }
+    }
+}
+
+/// What a command does, as a word of the table; with what was read it is an [`Effect`].
+#[derive(Clone, Copy)]
+pub enum Action {
+    /// It does nothing by itself.
+    Nothing,
+    Obey,
+    Message,
+    ErrorMessage,
+    Show,
+    /// The list becomes a macro's.
+    Define,
+    /// The same, and globally.
+    DefineGlobally,
+    Let,
+    FutureLet,
+    SetCategory,
+    ExpandBehind,
+    PutMarked,
+    MakeNumber,
+    MakeRoman,
+    MakeString,
+    MakeMeaning,
+}
+
+/// What a command does with what it has read; where its list is spoken of, it is the one read last.
+#[derive(Clone, Copy)]
+pub enum Effect {
+    Nothing,
+    /// The token is obeyed.
+    Obey(Seen),
+    /// The list is written as a message.
+    Message,
+    /// The list is reported as an error.
+    ErrorMessage,
+    /// The token and what it means are shown.
+    Show(Seen),
+    /// The name means what the token means.
+    Let(Name, Seen),
+    /// The name means what the second token means, and both tokens are put back.
+    FutureLet(Name, Seen, Seen),
+    /// The character of this code has this category.
+    SetCategory(i32, i32),
+    /// The second token is expanded or put back, and then the first is put back.
+    ExpandBehind(Seen, Seen),
+    /// The token is put back, a name as a marked one.
+    PutMarked(Seen),
+    /// The decimal digits of the number are put in front.
+    MakeNumber(i32),
+    /// Its roman letters are put in front.
+    MakeRoman(i32),
+    /// The text of the token is put in front.
+    MakeString(Seen),
+    /// The text of what it means is put in front.
+    MakeMeaning(Seen),
+    /// The name of the list's characters is entered, means `\relax` in this group where it meant nothing, and is put in front.
+    MakeName,
+}
+
+/// A command that is read: the number of its primitive, its name as it was written, and the prefixes that stood before it.
+#[derive(Clone, Copy)]
+pub struct Call {
+    pub primitive: u16,
+    pub name: Name,
+    pub long: bool,
+    pub outer: bool,
+    pub global: bool,
+}
+
+/// A character's code.
+const CHARACTER_CODE: Stage = NumberTo(255, BadCharacterCode);
+
+/// A character's category.
+const CATEGORY: Stage = NumberTo(15, InvalidCode);
+
+/// What the primitives read, by their numbers, and what they do then.
+pub const SYNTAX: &[(u16, Row, Action)] = &[
+    (8, One(NonblankToken), Obey),
+    (9, One(Text(true)), Message),
+    (10, One(Text(true)), ErrorMessage),
+    (11, One(AnyToken), Show),
+    (23, One(Prefixes(Prefix::Long)), Nothing),
+    (24, One(Prefixes(Prefix::Outer)), Nothing),
+    (25, One(Prefixes(Prefix::Global)), Nothing),
+    (26, Two(ControlSequence, MacroText(false)), Define),
+    (27, Two(ControlSequence, MacroText(false)), DefineGlobally),
+    (28, Two(ControlSequence, MacroText(true)), Define),
+    (29, Two(ControlSequence, MacroText(true)), DefineGlobally),
+    (30, Four(ControlSequence, LetEquals, Space, AnyToken), Let),
+    (31, Three(ControlSequence, AnyToken, AnyToken), FutureLet),
+    (35, Three(CHARACTER_CODE, Equals, CATEGORY), SetCategory),
+    (54, Two(AnyToken, AnyToken), ExpandBehind),
+    (55, One(AnyToken), PutMarked),
+    (57, One(Number), MakeNumber),
+    (58, One(Number), MakeRoman),
+    (59, One(AnyToken), MakeString),
+    (60, One(AnyToken), MakeMeaning),
+];
+
+/// The row of a primitive and what it does, among these.
+#[tactic(auto, using(std::proofs::lemmas::List::drop_more))]
+fn find_among(number: u16, rows: &[(u16, Row, Action)]) -> Option<(Row, Action)>
+    ensures { result ≡ table.row_among number rows.now }
+{
+    for row in rows {
+        if row.0 == number {
+            return Some((row.1, row.2));
+        }
+    }
+    None
+}
+
+/// The row of a primitive and what it does, if it is read by a row.
+pub fn find_row(number: u16) -> Option<(Row, Action)>
+    ensures { result ≡ table.find_row number }
+{
+    find_among(number, SYNTAX)
+}
+
+/// The row of a primitive that is read by a row, and what it does.
+pub fn row_of(number: u16) -> (Row, Action)
+    ensures { result ≡ table.row_of number }
+{
+    match find_row(number) {
+        Some(row) => row,
+        None => (One(AnyToken), Nothing),
+    }
+}

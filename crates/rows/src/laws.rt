@@ -1,0 +1,33 @@
+// Laws of the readings: the functions have no bodies, their contracts are the laws.
+ghost use Rattle.rows.specs.Worked.{WorkedRows};
+ghost use Rattle.rows.specs.Laws.{ReadingsStart, ReadingsBeginLower, RowsHaveNoValue, NotesAreSingle, MacrosHaveBodies};
+
+/// A command that was fed with nothing asks for a token or begins another reading.
+pub fn readings_start()
+    ensures { ReadingsStart }
+{}
+
+/// A command begins only readings of a lower rank.
+pub fn readings_begin_lower()
+    ensures { ReadingsBeginLower }
+{}
+
+/// A command never ends with a value.
+pub fn rows_have_no_value()
+    ensures { RowsHaveNoValue }
+{}
+
+/// Behind a report none comes before something else was read.
+pub fn notes_are_single()
+    ensures { NotesAreSingle }
+{}
+
+/// What becomes a macro has a token, where each value of a definition's reading has one.
+pub fn macros_have_bodies()
+    ensures { MacrosHaveBodies }
+{}
+
+/// What each command asks for, token by token, is computed from the definitions.
+pub fn worked_rows()
+    ensures { WorkedRows }
+{}

@@ -1,0 +1,18 @@
+//! What TeX's commands read, as data: a command is a row of stages, as in the syntax of *The TeXbook*, chapter 24.
+//!
+//! The words are declared here once, for the definitions in specs/ and for the engine. `src/command.rt` has the rows,
+//! `specs/Stages.antt` what each stage makes of a token and of a value, `specs/Run.antt` what a row asks for.
+#![tactic(auto)]
+
+mod command;
+mod laws;
+mod stage;
+mod words;
+
+pub use command::{Action, Call, Effect, Prefix, Row, SYNTAX, find_row, row_of};
+pub use laws::{
+    macros_have_bodies, notes_are_single, readings_begin_lower, readings_start, rows_have_no_value,
+    worked_rows,
+};
+pub use stage::{Complaint, Got, Met, Next, Note, Stage, Start};
+pub use words::{Datum, Kind, Value};

@@ -1,0 +1,99 @@
+// The stages of the rows, and what a stage makes of what it reads.
+use crate::command::{Call, Prefix};
+use crate::words::{Datum, Kind};
+use tex_defs::Token;
+use tex_syntax::{Report, Want};
+
+/// How a number that is out of its range is reported.
+#[derive(Clone, Copy)]
+pub enum Complaint {
+    BadCharacterCode,
+    InvalidCode,
+}
+
+/// A stage of a row: what a command reads next. The words are those of *The TeXbook*, chapter 24.
+#[derive(Clone, Copy)]
+pub enum Stage {
+    /// A number.
+    Number,
+    /// A number from 0 to this one; another is reported so, and 0 taken.
+    NumberTo(u32, Complaint),
+    /// An optional `=`.
+    Equals,
+    /// The name that is assigned.
+    ControlSequence,
+    /// The optional `=` of `\let`, behind spaces.
+    LetEquals,
+    /// One optional space.
+    Space,
+    /// A token as it stands.
+    AnyToken,
+    /// The first token that is no space, by expansion.
+    NonblankToken,
+    /// A balanced text, and whether it is expanded.
+    Text(bool),
+    /// The list of a macro, and whether its body is expanded.
+    MacroText(bool),
+    /// Further prefixes behind this one, and the assignment behind them.
+    Prefixes(Prefix),
+}
+
+/// What a stage asks for at first.
+#[derive(Clone, Copy)]
+pub enum Start {
+    /// It looks at tokens, which are read so.
+    Looks(Want),
+    /// It is an inner reading.
+    Begins(Kind),
+}
+
+/// What comes behind a report.
+#[derive(Clone, Copy)]
+pub enum Next {
+    /// The stage has read this.
+    Takes(Datum),
+    /// The command is over.
+    Stops,
+    /// It goes on as this command, from the beginning.
+    Turns(Call),
+}
+
+/// What is reported in the middle of a row; the token that was met may be given back before.
+#[derive(Clone, Copy)]
+pub enum Note {
+    Tells(Report, bool),
+    /// This token is inserted before the report.
+    Inserts(Token, Report, bool),
+}
+
+/// What a stage makes of a token.
+#[derive(Clone, Copy)]
+pub enum Met {
+    /// It has read this.
+    Takes(Datum),
+    /// It is over, and has read nothing that is kept.
+    Passes,
+    /// It is over, and the next stage begins with the token.
+    Leaves,
+    /// It goes on as before, in this call.
+    Skips(Call),
+    /// The note comes, and then this.
+    Notes(Note, Next),
+    /// The note comes, and the stage is read again.
+    Retries(Note),
+    /// The command goes on as this one, from the beginning.
+    Turns(Call),
+}
+
+/// What a stage makes of the value of an inner reading.
+#[derive(Clone, Copy)]
+pub enum Got {
+    /// It has read this.
+    Takes(Datum),
+    /// The report comes, and then this.
+    Tells(Report, Next),
+    /// The value's list is the last thing that the command reads.
+    Gathers,
+    /// The value's list becomes that of the macro whose name was read.
+    Defines,
+}
