@@ -1,0 +1,32 @@
+-- Only commands begin inner readings, and with a token only directly behind it.
+use Rattle.std.proofs.Common.{Bool, true, false, List, [], ◌∷◌}
+use Rattle.tex_defs.specs.declared.Name.{Name}
+use Rattle.plain_tokens.specs.Arguments as call
+use Rattle.plain_state.specs.Definitions as build
+use Rattle.rows.specs.declared.words.Kind.TheVariants.{Command, Integer, Text, Definition}
+use Rattle.rows.specs.Readings.{Fed}
+use Rattle.plain_readings.specs.Lists.{build_ask, text, definition}
+use Rattle.plain_readings.specs.Calls.{call_ask, gathered}
+use Rattle.plain_readings.specs.Readings.{Kind, Reads, Spelling, Arguments, ask}
+use Rattle.plain_readings.specs.Laws.{is_met, Lends}
+use Rattle.plain_readings.proofs.Lent.{row_lends}
+use Rattle.plain_readings.proofs.Steps.{integer_holds, spelling_holds}
+
+build_lends : (b : Bool) (a : build.Answer) → Lends b (build_ask a)
+build_lends b (build.More want list) = tt
+build_lends b (build.Tells report back list) = tt
+build_lends b (build.Done list) = tt
+
+call_lends : (b : Bool) (name : Name) (a : call.Answer) → Lends b (call_ask name a)
+call_lends b name (call.Ended true args work) = tt
+call_lends b name (call.Ended false args work) = tt
+call_lends b name a = tt
+
+pub lends : (k : Kind) (fed : List Fed) → Lends (is_met false fed) (ask k fed)
+lends (Reads (Command c)) fed = row_lends c fed
+lends (Reads Integer) fed = integer_holds (λ b a. Lends (is_met false fed) a) (λ b want. tt) (λ report back. tt) (λ b n back. tt) false false fed
+lends (Reads (Text name expanded)) fed = build_lends (is_met false fed) (text name expanded fed)
+lends (Reads (Definition name expanded)) fed = build_lends (is_met false fed) (definition name expanded fed)
+lends (Spelling c) fed = spelling_holds (λ b a. Lends (is_met false fed) a) (λ b want. tt) (λ report back. tt) (λ b. tt) (λ b c ts. tt) c [] false fed
+lends (Arguments name long number ts) [] = tt
+lends (Arguments name long number ts) (y ∷ fed) = call_lends (is_met false (y ∷ fed)) name (gathered long ts (y ∷ fed))

@@ -1,0 +1,11 @@
+pub mod Full
+pub mod Quiet
+pub mod Extra
+pub mod Steps
+pub mod Lent
+pub mod Starting
+pub mod Lower
+pub mod Lending
+pub mod Values
+pub mod Notes
+pub mod Weights

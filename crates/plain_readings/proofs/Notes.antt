@@ -1,0 +1,97 @@
+-- Behind the note of a report no reading reports at once.
+use Rattle.std.proofs.Common.{◌≡◌, ℕ, Bool, true, false, List, [], ◌∷◌, ◌++◌, refl, sym, subst}
+use Rattle.tex_defs.specs.declared.Name.{Name}
+use Rattle.tex_defs.specs.declared.Token.{Token}
+use Rattle.plain_tokens.specs.Arguments as call
+use Rattle.plain_tokens.specs.Arguments.{start_of, places_of}
+use Rattle.plain_state.specs.Definitions as build
+use Rattle.rows.specs.declared.words.Kind.TheVariants.{Command, Integer, Text, Definition}
+use Rattle.rows.specs.declared.stage.Note.{Note}
+use Rattle.rows.specs.Laws.{is_told}
+use Rattle.rows.specs.Readings.{Fed, Tok, Val, Told, Cut, Ask}
+use Rattle.rows.specs.Run.{due}
+use Rattle.rows.proofs.Runs.{row_holds}
+use Rattle.plain_readings.specs.Lists.{build_ask, build_fed, manner, text, definition}
+use Rattle.plain_readings.specs.Calls.{call_ask, call_fed, gathered, mode_of}
+use Rattle.plain_readings.specs.Readings.{Kind, Reads, Spelling, Arguments, ask}
+use Rattle.plain_readings.specs.Laws.{reports_due}
+use Rattle.plain_readings.proofs.Quiet as quiet
+use Rattle.plain_readings.proofs.Quiet.{parameters_quiet, first_quiet}
+use Rattle.plain_readings.proofs.Extra as extra
+use Rattle.plain_readings.proofs.Extra.{call_quiet}
+use Rattle.plain_readings.proofs.Steps.{integer_holds, spelling_holds}
+
+-- nothing is reported where a note came last
+abbrev IsQuiet : Bool → Ask → Type 0
+IsQuiet true a = reports_due a ≡ 0
+IsQuiet false a = Unit {0}
+
+told_last : (b : Bool) (fed : List Fed) → is_told b (fed ++ Told ∷ []) ≡ true
+told_last b [] = refl
+told_last b (Told ∷ fed) = told_last true fed
+told_last b (Tok x ∷ fed) = told_last false fed
+told_last b (Val v ts ∷ fed) = told_last false fed
+told_last b (Cut ∷ fed) = told_last false fed
+
+quiet_last : (a : Ask) (b : Bool) (fed : List Fed) → IsQuiet (is_told b (fed ++ Told ∷ [])) a → reports_due a ≡ 0
+quiet_last a b fed h = subst (λ (t : Bool). IsQuiet t a) (told_last b fed) h
+
+any : (b : Bool) (a : Ask) → reports_due a ≡ 0 → IsQuiet b a
+any true a h = h
+any false a h = tt
+
+due_quiet : (n : Note) → IsQuiet false (due n)
+due_quiet n = tt
+
+build_last : (fed : List Fed) → build_fed (fed ++ Told ∷ []) ≡ quiet.noted (build_fed fed)
+build_last [] = refl
+build_last (Tok x ∷ fed) = rw (build_last fed) refl
+build_last (Told ∷ fed) = rw (build_last fed) refl
+build_last (Val v ts ∷ fed) = build_last fed
+build_last (Cut ∷ fed) = build_last fed
+
+call_last : (fed : List Fed) → call_fed (fed ++ Told ∷ []) ≡ extra.noted (call_fed fed)
+call_last [] = refl
+call_last (Tok x ∷ fed) = rw (call_last fed) refl
+call_last (Told ∷ fed) = rw (call_last fed) refl
+call_last (Cut ∷ fed) = rw (call_last fed) refl
+call_last (Val v ts ∷ fed) = call_last fed
+
+build_quiet : (a : build.Answer) → quiet.IsQuiet a → reports_due (build_ask a) ≡ 0
+build_quiet (build.More want list) h = refl
+build_quiet (build.Tells report back list) h = absurd h
+build_quiet (build.Done list) h = refl
+
+ask_quiet : (name : Name) (a : call.Answer) → extra.IsQuiet a → reports_due (call_ask name a) ≡ 0
+ask_quiet name (call.More args work) h = refl
+ask_quiet name (call.ExtraBraceFound args work) h = absurd h
+ask_quiet name (call.Called args) h = refl
+ask_quiet name call.Mismatch h = refl
+ask_quiet name (call.Ended true args work) h = refl
+ask_quiet name (call.Ended false args work) h = refl
+
+arguments_quiet : (name : Name) (long : Bool) (number : ℕ) (ts : List Token) (fed : List Fed) → reports_due (ask (Arguments name long number ts) (fed ++ Told ∷ [])) ≡ 0
+arguments_quiet name long number ts [] = ask_quiet name (gathered long ts (Told ∷ [])) (call_quiet (mode_of long) (start_of ts) (places_of ts) [])
+arguments_quiet name long number ts (y ∷ fed) =
+    ask_quiet name (gathered long ts ((y ∷ fed) ++ Told ∷ []))
+    (subst (λ (fed : List call.Fed). extra.IsQuiet (call.call (mode_of long) (start_of ts) (places_of ts) fed)) (sym (call_last (y ∷ fed)))
+    (call_quiet (mode_of long) (start_of ts) (places_of ts) (call_fed (y ∷ fed))))
+
+pub told_quiet : (k : Kind) (fed : List Fed) → reports_due (ask k (fed ++ Told ∷ [])) ≡ 0
+told_quiet (Reads (Command c)) fed =
+    quiet_last (ask (Reads (Command c)) (fed ++ Told ∷ [])) false fed
+    (row_holds IsQuiet (λ b want. any b _ refl) (λ b k begins low. any b _ refl) (λ b c e. any b _ refl) (λ b c e ts. any b _ refl) (λ b c n ts. any b _ refl) (λ b. any b _ refl) due_quiet c
+    (fed ++ Told ∷ []))
+told_quiet (Reads Integer) fed =
+    quiet_last (ask (Reads Integer) (fed ++ Told ∷ [])) false fed
+    (integer_holds IsQuiet (λ b want. any b _ refl) (λ report back. tt) (λ b n back. any b _ refl) false false (fed ++ Told ∷ []))
+told_quiet (Reads (Text name expanded)) fed =
+    build_quiet (text name expanded (fed ++ Told ∷ []))
+    (subst (λ (fed : List build.Fed). quiet.IsQuiet (build.text (manner name expanded) fed)) (sym (build_last fed)) (first_quiet (manner name expanded) [] (build_fed fed)))
+told_quiet (Reads (Definition name expanded)) fed =
+    build_quiet (definition name expanded (fed ++ Told ∷ []))
+    (subst (λ (fed : List build.Fed). quiet.IsQuiet (build.definition (manner name expanded) fed)) (sym (build_last fed)) (parameters_quiet (manner name expanded) 0 [] (build_fed fed)))
+told_quiet (Spelling c) fed =
+    quiet_last (ask (Spelling c) (fed ++ Told ∷ [])) false fed
+    (spelling_holds IsQuiet (λ b want. any b _ refl) (λ report back. tt) (λ b. any b _ refl) (λ b c ts. any b _ refl) c [] false (fed ++ Told ∷ []))
+told_quiet (Arguments name long number ts) fed = arguments_quiet name long number ts fed

@@ -1,0 +1,39 @@
+-- The first stage of a row asks for a token or begins another reading.
+use Rattle.std.proofs.Common.{◌<◌, List, [], refl, arith}
+use Rattle.rows.specs.declared.words.Datum.{Datum}
+use Rattle.rows.specs.declared.words.Kind.TheVariants.{Command, Integer, Text, Definition}
+use Rattle.rows.specs.declared.stage.Stage.{Stage}
+use Rattle.rows.specs.declared.stage.Stage.TheVariants as stage
+use Rattle.rows.specs.declared.stage.Start.{Start}
+use Rattle.rows.specs.declared.stage.Start.TheVariants.{Looks, Begins}
+use Rattle.rows.specs.declared.command.Call.{Call}
+use Rattle.rows.specs.Stages.{start}
+use Rattle.rows.specs.Table.{row_of, first_in, rest_in}
+use Rattle.rows.specs.Run.{started, behind, run, turned}
+use Rattle.plain_readings.specs.Readings.{Kind, Reads, Spelling, Arguments, ask}
+use Rattle.plain_readings.specs.Laws.{Starts, rank}
+
+abbrev IsLow : Start → Type 0
+IsLow (Looks want) = Unit {0}
+IsLow (Begins k) = rank (Reads k) < 1
+
+start_low : (s : Stage) (c : Call) (ds : List Datum) → IsLow (start s c ds)
+start_low stage.Number c ds = omega arith
+start_low (stage.NumberTo greatest complaint) c ds = omega arith
+start_low (stage.Text expanded) c ds = omega arith
+start_low (stage.MacroText expanded) c ds = omega arith
+start_low s c ds = tt
+
+first_starts : (c : Call) (s : Stage) (ss : List Stage) (begun : Start) → IsLow begun → Starts 1 (behind turned c [] (λ es more. run turned c ss es more) (started s c begun []))
+first_starts c s ss (Looks want) low = tt
+first_starts c s ss (Begins k) low = (low, refl)
+
+pub starts : (k : Kind) → Starts (rank k) (ask k [])
+starts (Reads (Command c)) =
+    first_starts c (first_in (row_of c.primitive).0) (rest_in (row_of c.primitive).0) (start (first_in (row_of c.primitive).0) c [])
+    (start_low (first_in (row_of c.primitive).0) c [])
+starts (Reads Integer) = tt
+starts (Reads (Text name expanded)) = tt
+starts (Reads (Definition name expanded)) = tt
+starts (Spelling c) = tt
+starts (Arguments name long number ts) = tt

@@ -1,0 +1,48 @@
+-- Integers end with numbers, texts and definitions with the lists that they hold, and nothing else with a value.
+use Rattle.std.proofs.Common.{Bool, true, false, List, [], ◌∷◌}
+use Rattle.tex_defs.specs.declared.Name.{Name}
+use Rattle.plain_tokens.specs.Arguments as call
+use Rattle.plain_state.specs.Definitions as build
+use Rattle.rows.specs.declared.words.Kind.TheVariants.{Command, Integer, Text, Definition}
+use Rattle.rows.specs.declared.stage.Note.{Note}
+use Rattle.rows.specs.declared.stage.Note.TheVariants as note
+use Rattle.rows.specs.Laws.{IsValueless}
+use Rattle.rows.specs.Readings.{Fed}
+use Rattle.rows.specs.Run.{due}
+use Rattle.rows.proofs.Runs.{row_holds}
+use Rattle.plain_readings.specs.Lists.{build_ask, built, text, definition, build_fed, manner}
+use Rattle.plain_readings.specs.Calls.{call_ask, gathered}
+use Rattle.plain_readings.specs.Readings.{Kind, Reads, Spelling, Arguments, ask, lists}
+use Rattle.plain_readings.specs.Laws.{GivesValue, EndsAs}
+use Rattle.plain_readings.proofs.Full.{EndsFull, parameters_full}
+use Rattle.plain_readings.proofs.Steps.{integer_holds, spelling_holds}
+
+due_valueless : (n : Note) → IsValueless (due n)
+due_valueless (note.Tells report back) = tt
+due_valueless (note.Inserts t report back) = tt
+
+text_value : (name : Name) (expanded : Bool) (a : build.Answer) → EndsAs (Reads (Text name expanded)) (built a ∷ []) (build_ask a)
+text_value name expanded (build.More want list) = tt
+text_value name expanded (build.Tells report back list) = tt
+text_value name expanded (build.Done list) = tt
+
+definition_value : (name : Name) (expanded : Bool) (a : build.Answer) → EndsFull a → EndsAs (Reads (Definition name expanded)) (built a ∷ []) (build_ask a)
+definition_value name expanded (build.More want list) full = tt
+definition_value name expanded (build.Tells report back list) full = tt
+definition_value name expanded (build.Done list) full = full
+
+call_valueless : (name : Name) (a : call.Answer) → IsValueless (call_ask name a)
+call_valueless name (call.Ended true args work) = tt
+call_valueless name (call.Ended false args work) = tt
+call_valueless name a = tt
+
+pub values : (k : Kind) (fed : List Fed) → EndsAs k (lists k fed) (ask k fed)
+values (Reads (Command c)) fed =
+    row_holds (λ b a. IsValueless a) (λ b want. tt) (λ b k begins low. tt) (λ b c e. tt) (λ b c e ts. tt) (λ b c n ts. tt) (λ b. tt) due_valueless c fed
+values (Reads Integer) fed = integer_holds (λ b a. GivesValue Integer [] a) (λ b want. tt) (λ report back. tt) (λ b n back. tt) false false fed
+values (Reads (Text name expanded)) fed = text_value name expanded (text name expanded fed)
+values (Reads (Definition name expanded)) fed =
+    definition_value name expanded (definition name expanded fed) (parameters_full (manner name expanded) 0 [] (build_fed fed))
+values (Spelling c) fed = spelling_holds (λ b a. IsValueless a) (λ b want. tt) (λ report back. tt) (λ b. tt) (λ b c ts. tt) c [] false fed
+values (Arguments name long number ts) [] = tt
+values (Arguments name long number ts) (y ∷ fed) = call_valueless name (gathered long ts (y ∷ fed))

@@ -1,0 +1,145 @@
+-- Integers: signs, then a constant or digits, then one space. The TeXbook, chapter 24; TeX: The Program, part 26 (`scan_int`).
+use Rattle.std.specs.Prelude.{ℕ, ℤ, pos, ◌-ℤ◌, ◌+◌, ◌-◌, ◌*◌, ◌==◌, ◌&&◌, ◌||◌, nat_le, Bool, true, false, not, if◌then◌else◌, List, [], ◌∷◌, Option, Some, None}
+use Rattle.tex_defs.specs.declared.Token.{Token}
+use Rattle.tex_defs.specs.declared.Token.TheVariants as token
+use Rattle.tex_defs.specs.declared.Name.{Name}
+use Rattle.tex_defs.specs.declared.Name.TheVariants as name
+use Rattle.tex_defs.specs.declared.Seen.{Seen}
+use Rattle.tex_syntax.specs.declared.words.Want.TheVariants.{Raw, Expanded, Nonblank}
+use Rattle.tex_syntax.specs.declared.words.Report.{Report}
+use Rattle.tex_syntax.specs.declared.words.Report.TheVariants.{ImproperConstant, MissingNumber, NumberTooBig}
+use Rattle.plain_tokens.specs.Categories.{letter, other, is_between}
+use Rattle.plain_tokens.specs.Tokens.{is_other, is_space}
+use Rattle.rows.specs.declared.words.Datum.TheVariants as datum
+use Rattle.rows.specs.declared.words.Value.TheVariants as value
+use Rattle.rows.specs.Readings.{Fed, Tok, Told, Ask, More, Done, Tells}
+
+-- it ends with this number, and the token behind it may be given back
+abbrev pub ends_with : ℤ → (give_back : Bool) → Ask
+ends_with n back = Done (value.Plain (datum.Number n)) back
+
+-- The end of an integer that was fed with what it didn't ask for, to which no run comes.
+abbrev pub senseless : Ask
+senseless = ends_with (pos 0) false
+
+abbrev pub is_minus : Seen → Bool
+is_minus x = is_other 45 x.token
+
+abbrev pub is_plus : Seen → Bool
+is_plus x = is_other 43 x.token
+
+-- DIGITS: 0 to 9 of category 12, and in hexadecimal constants A to F of category 11 or 12
+
+abbrev pub is_digit_code : (radix category : ℕ) → ℕ → Bool
+is_digit_code radix category c =
+    ((category == other) && (nat_le 48 c && nat_le (c + 1) (48 + (if radix == 8 then 8 else 10))))
+    || ((radix == 16) && ((category == letter || category == other) && is_between 65 70 c))
+
+abbrev pub is_digit_token : ℕ → Token → Bool
+is_digit_token radix (token.Char category code) = is_digit_code radix category code
+is_digit_token radix t = false
+
+abbrev pub is_digit : ℕ → Seen → Bool
+is_digit radix x = is_digit_token radix x.token
+
+abbrev pub digit_value : ℕ → ℕ
+digit_value c = if nat_le 65 c then c - 55 else c - 48
+
+abbrev pub digit_of : Token → ℕ
+digit_of (token.Char category code) = digit_value code
+digit_of t = 0
+
+abbrev pub greatest_integer : ℕ
+greatest_integer = 2147483647
+
+abbrev pub signed : (negative : Bool) → ℕ → ℤ
+signed negative n = if negative then (pos 0 -ℤ pos n) else pos n
+
+-- the token behind a number: one space goes, another token is given back
+abbrev pub number_ended : (negative : Bool) → ℕ → Seen → Ask
+number_ended negative n x = ends_with (signed negative n) (not (is_space x))
+
+-- more digits, behind a number that was too big: they are dropped
+abbrev pub digits_dropped : (negative : Bool) → (radix : ℕ) → List Fed → Ask
+digits_dropped negative radix [] = More Expanded
+digits_dropped negative radix (Tok x ∷ fed) = if is_digit radix x then digits_dropped negative radix fed else number_ended negative greatest_integer x
+digits_dropped negative radix (y ∷ fed) = senseless
+
+-- a value above the greatest integer is reported at its digit
+abbrev pub too_big : (negative : Bool) → (radix : ℕ) → List Fed → Ask
+too_big negative radix [] = Tells NumberTooBig false
+too_big negative radix (Told ∷ fed) = digits_dropped negative radix fed
+too_big negative radix (y ∷ fed) = senseless
+
+-- digits behind those of this value, and the token behind the last
+abbrev pub digits : (negative : Bool) → (radix n : ℕ) → List Fed → Ask
+digits negative radix n [] = More Expanded
+digits negative radix n (Tok x ∷ fed) =
+    if is_digit radix x then (
+    if nat_le (n * radix + digit_of x.token) greatest_integer then digits negative radix (n * radix + digit_of x.token) fed
+    else too_big negative radix fed
+    ) else number_ended negative n x
+digits negative radix n (y ∷ fed) = senseless
+
+-- in place of a number, where there is none: the token is given back and the report written
+abbrev pub missing : ℤ → Report → List Fed → Ask
+missing n report [] = Tells report true
+missing n report (Told ∷ fed) = ends_with n false
+missing n report (y ∷ fed) = senseless
+
+-- the first digit behind ' or "
+abbrev pub first_digit : (negative : Bool) → (radix : ℕ) → List Fed → Ask
+first_digit negative radix [] = More Expanded
+first_digit negative radix (Tok x ∷ fed) = if is_digit radix x then digits negative radix (digit_of x.token) fed else missing (pos 0) MissingNumber fed
+first_digit negative radix (y ∷ fed) = senseless
+
+-- CONSTANTS: a backquote, and a character, an active character or a name of one character, which gives its code
+
+abbrev pub name_code : Name → Option ℕ
+name_code (name.Active c) = Some c
+name_code (name.Single c) = Some c
+name_code n = None
+
+abbrev pub code_of : Token → Option ℕ
+code_of (token.Char category code) = Some code
+code_of (token.Named name) = name_code name
+code_of (token.Marked name) = name_code name
+code_of t = None
+
+-- in place of a code that no token gives
+abbrev pub improper_code : ℕ
+improper_code = 48
+
+-- one space behind a code
+abbrev pub behind_number : (negative : Bool) → ℕ → List Fed → Ask
+behind_number negative n [] = More Expanded
+behind_number negative n (Tok x ∷ fed) = number_ended negative n x
+behind_number negative n (y ∷ fed) = senseless
+
+abbrev pub behind_code : (negative : Bool) → Option ℕ → List Fed → Ask
+behind_code negative None fed = missing (signed negative improper_code) ImproperConstant fed
+behind_code negative (Some c) fed = behind_number negative c fed
+
+-- behind a backquote
+abbrev pub constant : (negative : Bool) → List Fed → Ask
+constant negative [] = More Raw
+constant negative (Tok x ∷ fed) = behind_code negative (code_of x.token) fed
+constant negative (y ∷ fed) = senseless
+
+-- the first token behind the signs
+abbrev pub unsigned : (negative : Bool) → Seen → List Fed → Ask
+unsigned negative x fed =
+    if is_other 96 x.token then constant negative fed
+    else if is_other 39 x.token then first_digit negative 8 fed
+    else if is_other 34 x.token then first_digit negative 16 fed
+    else if is_digit 10 x then digits negative 10 (digit_of x.token) fed
+    else missing (pos 0) MissingNumber fed
+
+-- with the sign so far
+abbrev pub integer : (negative : Bool) → List Fed → Ask
+integer negative [] = More Nonblank
+integer negative (Tok x ∷ fed) =
+    if is_minus x then integer (not negative) fed
+    else if is_plus x then integer negative fed
+    else unsigned negative x fed
+integer negative (y ∷ fed) = senseless

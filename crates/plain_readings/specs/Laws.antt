@@ -1,0 +1,94 @@
+-- The laws of the readings, on which the machine's runs stand.
+use Rattle.std.specs.Prelude.{ℕ, ◌+◌, ◌-◌, ◌<◌, ◌≤◌, ◌≡◌, ◌≢◌, Bool, true, false, List, [], ◌∷◌, ◌++◌}
+use Rattle.tex_defs.specs.declared.Token.{Token}
+use Rattle.tex_syntax.specs.declared.words.Report.{Report}
+use Rattle.rows.specs.declared.words.Datum.TheVariants.{Number}
+use Rattle.rows.specs.declared.words.Value.{Value}
+use Rattle.rows.specs.declared.words.Value.TheVariants as value
+use Rattle.rows.specs.declared.words.Kind.{Kind as Begun}
+use Rattle.rows.specs.declared.words.Kind.TheVariants.{Command, Integer, Text, Definition}
+use Rattle.rows.specs.declared.command.Call.{Call}
+use Rattle.rows.specs.Laws.{IsValueless}
+use Rattle.rows.specs.Readings.{Fed, Tok, Told, Ask, More, Inner, Done, ActsOn, Tells, Inserts}
+use Rattle.plain_readings.specs.Readings.{Kind, Reads, Spelling, ask, lists}
+
+-- RANKS. A reading begins only readings of a lower rank.
+abbrev pub rank : Kind → ℕ
+rank (Reads (Command c)) = 1
+rank (Reads k) = 0
+rank k = 1
+
+-- A READING THAT WAS FED WITH NOTHING asks for a token or begins another, not with a token.
+abbrev pub Starts : ℕ → Ask → Type 0
+Starts n (More want) = Unit {0}
+Starts n (Inner k begins) = (rank (Reads k) < n) × (begins ≡ false)
+Starts n a = ⊥
+
+abbrev pub ReadingsStart : Type 0
+ReadingsStart = (k : Kind) → Starts (rank k) (ask k [])
+
+-- whatever it was fed with
+abbrev pub BeginsLower : ℕ → Ask → Type 0
+BeginsLower n (Inner k begins) = rank (Reads k) < n
+BeginsLower n a = Unit {0}
+
+abbrev pub ReadingsBeginLower : Type 0
+ReadingsBeginLower = (k : Kind) (fed : List Fed) → BeginsLower (rank k) (ask k fed)
+
+-- A TOKEN THAT A READING LOOKED AT begins an inner one only directly behind it.
+abbrev pub is_met : Bool → List Fed → Bool
+is_met b [] = b
+is_met b (Tok x ∷ fed) = is_met true fed
+is_met b (y ∷ fed) = is_met false fed
+
+abbrev pub Lends : Bool → Ask → Type 0
+Lends b (Inner k true) = b ≡ true
+Lends b a = Unit {0}
+
+abbrev pub TokensAreLent : Type 0
+TokensAreLent = (k : Kind) (fed : List Fed) → Lends (is_met false fed) (ask k fed)
+
+-- VALUES. An integer's is a number, and it holds no list; that of a text is its list, which may have no token, and that of a macro's
+-- list has one.
+abbrev pub IsValue : Begun → Value → List (List Token) → Type 0
+IsValue Integer (value.Plain (Number n)) [] = Unit {0}
+IsValue (Text name expanded) value.List (ts ∷ []) = Unit {0}
+IsValue (Definition name expanded) value.List (ts ∷ []) = ts ≢ []
+IsValue k v held = ⊥
+
+-- What has a value asks for a token or reports until it ends with it. Nothing else has a value.
+abbrev pub GivesValue : Begun → List (List Token) → Ask → Type 0
+GivesValue k held (More want) = Unit {0}
+GivesValue k held (Tells report back) = Unit {0}
+GivesValue k held (Done v back) = IsValue k v held
+GivesValue k held a = ⊥
+
+abbrev pub EndsAs : Kind → List (List Token) → Ask → Type 0
+EndsAs (Reads (Command c)) held a = IsValueless a
+EndsAs (Reads k) held a = GivesValue k held a
+EndsAs k held a = IsValueless a
+
+abbrev pub ValuesAreTheirs : Type 0
+ValuesAreTheirs = (k : Kind) (fed : List Fed) → EndsAs k (lists k fed) (ask k fed)
+
+-- NAMES. What `\csname` makes a name of is the list that it holds.
+abbrev pub Spells : Call → List (List Token) → Ask → Type 0
+Spells c held (ActsOn d e ts) = (d ≡ c) × (held ≡ ts ∷ [])
+Spells c held a = Unit {0}
+
+abbrev pub NamesAreHeld : Type 0
+NamesAreHeld = (c : Call) (fed : List Fed) → Spells c (lists (Spelling c) fed) (ask (Spelling c) fed)
+
+-- NOTES. How many reports may come at once behind this one: none yet.
+abbrev pub after : Report → ℕ
+after report = 0
+
+-- how many may come at once
+abbrev pub reports_due : Ask → ℕ
+reports_due (Tells report back) = 1 + after report
+reports_due (Inserts t report back) = 1 + after report
+reports_due a = 0
+
+-- behind the note of a report fewer are left
+abbrev pub NotesFall : Type 0
+NotesFall = (k : Kind) (fed : List Fed) → reports_due (ask k (fed ++ Told ∷ [])) ≤ reports_due (ask k fed) - 1

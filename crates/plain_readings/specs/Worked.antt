@@ -1,0 +1,156 @@
+-- Readings worked out: what each asks for, item by item, as it is fed, and the lists that it holds then.
+use Rattle.std.specs.Prelude.{ℕ, zero, suc, pos, negsuc, ◌≡◌, true, false, List, [], ◌∷◌}
+use Rattle.tex_defs.specs.declared.Token.{Token}
+use Rattle.tex_defs.specs.declared.Token.TheVariants as token
+use Rattle.tex_defs.specs.declared.Meaning.TheVariants as means
+use Rattle.tex_defs.specs.declared.Seen.{Seen}
+use Rattle.tex_syntax.specs.declared.words.Want.TheVariants.{Raw, Expanded, Copied, Nonblank}
+use Rattle.tex_syntax.specs.declared.words.Want.TheVariants as want
+use Rattle.tex_syntax.specs.declared.words.Report.TheVariants.{ImproperConstant, MissingNumber, NumberTooBig, MissingBrace, MissingEndcsname, ExtraBrace, ParagraphEnded, UseMismatch}
+use Rattle.plain_tokens.specs.Categories.{begin_group, end_group, parameter, letter, other}
+use Rattle.rows.specs.declared.words.Value.TheVariants as value
+use Rattle.rows.specs.declared.words.Kind.TheVariants.{Command, Integer, Text, Definition}
+use Rattle.rows.specs.declared.command.Effect.TheVariants.{MakeName}
+use Rattle.rows.specs.Worked.{character, primitive, call, asked, x, y, x_name, a_letter, a_space}
+use Rattle.rows.specs.Readings.{Fed, Tok, Val, Told, Cut, Ask, More, Done, ActsOn, Ends, Calls, Fails, RunsAway, Tells, Inserts}
+use Rattle.plain_readings.specs.Integers.{ends_with}
+use Rattle.plain_readings.specs.Calls.{par_token}
+use Rattle.plain_readings.specs.Readings.{Kind, Reads, Spelling, Arguments, ask, lists}
+
+-- what a reading asks for before each item and behind the last, and the lists that it holds then
+abbrev pub steps : Kind → List Fed → List Ask
+steps k fed = asked (ask k) fed
+
+abbrev pub held : (List Fed → List (List Token)) → List Fed → List (List (List Token))
+held now [] = now [] ∷ []
+held now (item ∷ fed) = now [] ∷ held (λ more. now (item ∷ more)) fed
+
+abbrev pub holds : Kind → List Fed → List (List (List Token))
+holds k fed = held (lists k) fed
+
+-- characters of category 12 by their codes
+abbrev pub others : List ℕ → List Fed → List Fed
+others [] fed = fed
+others (c ∷ cs) fed = Tok (character other c) ∷ others cs fed
+
+-- INTEGERS
+
+-- where it asks so many times for a token by expansion, and then this comes
+abbrev pub expanded : ℕ → List Ask → List Ask
+expanded zero asks = asks
+expanded (suc n) asks = More Expanded ∷ expanded n asks
+
+-- 12 and a space; -'17 and a letter; "1F; `a and a space; `\x; +-+7
+pub record WorkedIntegers : Type 0 where
+  pub decimal : steps (Reads Integer) (others (49 ∷ 50 ∷ []) (Tok a_space ∷ [])) ≡ More Nonblank ∷ More Expanded ∷ More Expanded ∷ ends_with (pos 12) false ∷ []
+  pub octal :
+      steps (Reads Integer) (others (45 ∷ 39 ∷ 49 ∷ 55 ∷ []) (Tok a_letter ∷ [])) ≡
+      More Nonblank ∷ More Nonblank ∷ More Expanded ∷ More Expanded ∷ More Expanded ∷ ends_with (negsuc 14) true ∷ []
+  pub hexadecimal :
+      steps (Reads Integer) (others (34 ∷ 49 ∷ []) (Tok (character letter 70) ∷ Tok a_letter ∷ [])) ≡
+      More Nonblank ∷ More Expanded ∷ More Expanded ∷ More Expanded ∷ ends_with (pos 31) true ∷ []
+  pub code : steps (Reads Integer) (others (96 ∷ []) (Tok a_letter ∷ Tok a_space ∷ [])) ≡ More Nonblank ∷ More Raw ∷ More Expanded ∷ ends_with (pos 97) false ∷ []
+  pub code_of_name : steps (Reads Integer) (others (96 ∷ []) (Tok x ∷ Tok y ∷ [])) ≡ More Nonblank ∷ More Raw ∷ More Expanded ∷ ends_with (pos 120) true ∷ []
+  pub signs :
+      steps (Reads Integer) (others (43 ∷ 45 ∷ 43 ∷ 55 ∷ []) (Tok a_letter ∷ [])) ≡
+      More Nonblank ∷ More Nonblank ∷ More Nonblank ∷ More Nonblank ∷ More Expanded ∷ ends_with (negsuc 6) true ∷ []
+
+-- a letter; '8; ` and a name of two characters; 2147483647, and 2147483648 with one digit more, reported once
+pub record WorkedReports : Type 0 where
+  pub missing : steps (Reads Integer) (Tok a_letter ∷ Told ∷ []) ≡ More Nonblank ∷ Tells MissingNumber true ∷ ends_with (pos 0) false ∷ []
+  pub no_octal : steps (Reads Integer) (others (39 ∷ 56 ∷ []) (Told ∷ [])) ≡ More Nonblank ∷ More Expanded ∷ Tells MissingNumber true ∷ ends_with (pos 0) false ∷ []
+  pub improper : steps (Reads Integer) (others (96 ∷ []) (Tok (primitive 1) ∷ Told ∷ [])) ≡ More Nonblank ∷ More Raw ∷ Tells ImproperConstant true ∷ ends_with (pos 48) false ∷ []
+  pub greatest :
+      steps (Reads Integer) (others (50 ∷ 49 ∷ 52 ∷ 55 ∷ 52 ∷ 56 ∷ 51 ∷ 54 ∷ 52 ∷ 55 ∷ []) (Tok a_space ∷ [])) ≡
+      More Nonblank ∷ expanded 10 (ends_with (pos 2147483647) false ∷ [])
+  pub too_big :
+      steps (Reads Integer) (others (50 ∷ 49 ∷ 52 ∷ 55 ∷ 52 ∷ 56 ∷ 51 ∷ 54 ∷ 52 ∷ 56 ∷ []) (Told ∷ Tok (character other 57) ∷ Tok a_space ∷ [])) ≡
+      More Nonblank ∷ expanded 9 (Tells NumberTooBig false ∷ More Expanded ∷ More Expanded ∷ ends_with (pos 2147483647) false ∷ [])
+
+-- `\csname`
+
+abbrev pub csname : Kind
+csname = Spelling (call 56)
+
+abbrev pub endcsname : Seen
+endcsname = primitive 4
+
+-- `\csname a \endcsname`, where the space is gathered; without characters; where another name means `\endcsname`; where `\relax` comes
+pub record WorkedNames : Type 0 where
+  pub name :
+      steps csname (Tok a_letter ∷ Tok a_space ∷ Tok endcsname ∷ []) ≡
+      More Expanded ∷ More Expanded ∷ More Expanded ∷ ActsOn (call 56) MakeName (a_letter.token ∷ a_space.token ∷ []) ∷ []
+  pub name_held :
+      holds csname (Tok a_letter ∷ Tok a_space ∷ Tok endcsname ∷ []) ≡
+      ([] ∷ []) ∷ ((a_letter.token ∷ []) ∷ []) ∷ ((a_letter.token ∷ a_space.token ∷ []) ∷ []) ∷ ((a_letter.token ∷ a_space.token ∷ []) ∷ []) ∷ []
+  pub empty : steps csname (Tok endcsname ∷ []) ≡ More Expanded ∷ ActsOn (call 56) MakeName [] ∷ []
+  pub let_name : steps csname (Tok (record { token = token.Named x_name; meaning = means.Prim 4 }) ∷ []) ≡ More Expanded ∷ ActsOn (call 56) MakeName [] ∷ []
+  pub missing :
+      steps csname (Tok a_letter ∷ Tok (primitive 1) ∷ Told ∷ []) ≡
+      More Expanded ∷ More Expanded ∷ Tells MissingEndcsname true ∷ ActsOn (call 56) MakeName (a_letter.token ∷ []) ∷ []
+  pub missing_held :
+      holds csname (Tok a_letter ∷ Tok (primitive 1) ∷ Told ∷ []) ≡
+      ([] ∷ []) ∷ ((a_letter.token ∷ []) ∷ []) ∷ ((a_letter.token ∷ []) ∷ []) ∷ ((a_letter.token ∷ []) ∷ []) ∷ []
+
+-- LISTS
+
+abbrev pub left : Seen
+left = character begin_group 123
+
+abbrev pub right : Seen
+right = character end_group 125
+
+abbrev pub full_stop : Token
+full_stop = token.Char other 46
+
+abbrev pub parameter_token : Seen
+parameter_token = character parameter 35
+
+-- `{a}` as an expanded text and as one read as it stands; a letter in place of the brace; the list of `\message`; `#1{a}`
+pub record WorkedLists : Type 0 where
+  pub text : steps (Reads (Text x_name true)) (Tok left ∷ Tok a_letter ∷ Tok right ∷ []) ≡ More want.Command ∷ More Copied ∷ More Copied ∷ Done value.List false ∷ []
+  pub text_held : holds (Reads (Text x_name true)) (Tok left ∷ Tok a_letter ∷ Tok right ∷ []) ≡ ([] ∷ []) ∷ ([] ∷ []) ∷ ((a_letter.token ∷ []) ∷ []) ∷ ((a_letter.token ∷ []) ∷ []) ∷ []
+  pub raw_text : steps (Reads (Text x_name false)) (Tok left ∷ Tok a_letter ∷ Tok right ∷ []) ≡ More want.Command ∷ More Raw ∷ More Raw ∷ Done value.List false ∷ []
+  pub brace : steps (Reads (Text x_name true)) (Tok a_letter ∷ Told ∷ Tok right ∷ []) ≡ More want.Command ∷ Tells MissingBrace true ∷ More Copied ∷ Done value.List false ∷ []
+  pub message_held : holds (Reads (Command (call 9))) (Val value.List (a_letter.token ∷ []) ∷ []) ≡ [] ∷ ((a_letter.token ∷ []) ∷ []) ∷ []
+  pub empty_message_held : holds (Reads (Command (call 9))) (Val value.List [] ∷ []) ≡ [] ∷ [] ∷ []
+  pub macro_held :
+      holds (Reads (Definition x_name false)) (Tok parameter_token ∷ Tok (character other 49) ∷ Tok left ∷ Tok a_letter ∷ Tok right ∷ []) ≡
+      ([] ∷ []) ∷ ([] ∷ []) ∷ ((token.Place 35 ∷ []) ∷ []) ∷ ((token.Place 35 ∷ token.EndPlaces ∷ []) ∷ []) ∷
+      ((token.Place 35 ∷ token.EndPlaces ∷ a_letter.token ∷ []) ∷ []) ∷ ((token.Place 35 ∷ token.EndPlaces ∷ a_letter.token ∷ []) ∷ []) ∷ []
+
+-- CALLS of a macro with the parameter text `#1#2.`
+abbrev pub two_places : Kind
+two_places = Arguments x_name false 0 (token.Place 35 ∷ token.Place 35 ∷ full_stop ∷ token.EndPlaces ∷ [])
+
+abbrev pub a_token : Token
+a_token = a_letter.token
+
+abbrev pub b_letter : Seen
+b_letter = character letter 98
+
+abbrev pub b_token : Token
+b_token = b_letter.token
+
+-- `ab.`; `a.`, whose second argument has no token; `a}`, where the brace is given back and `\par` comes; a `\par`; `a` and a check, behind which
+-- `\par` ends the call silently
+pub record WorkedCalls : Type 0 where
+  pub arguments :
+      steps two_places (Tok a_letter ∷ Tok b_letter ∷ Tok (character other 46) ∷ []) ≡ More Raw ∷ More Raw ∷ More Raw ∷ Calls ((a_token ∷ []) ∷ (b_token ∷ []) ∷ []) ∷ []
+  pub arguments_held :
+      holds two_places (Tok a_letter ∷ Tok b_letter ∷ Tok (character other 46) ∷ []) ≡
+      ([] ∷ []) ∷ ([] ∷ (a_token ∷ []) ∷ []) ∷ ((b_token ∷ []) ∷ (a_token ∷ []) ∷ []) ∷ ((b_token ∷ []) ∷ (a_token ∷ []) ∷ []) ∷ []
+  pub empty : steps two_places (Tok a_letter ∷ Tok (character other 46) ∷ []) ≡ More Raw ∷ More Raw ∷ Calls ((a_token ∷ []) ∷ [] ∷ []) ∷ []
+  pub empty_held : holds two_places (Tok a_letter ∷ Tok (character other 46) ∷ []) ≡ ([] ∷ []) ∷ ([] ∷ (a_token ∷ []) ∷ []) ∷ ((a_token ∷ []) ∷ []) ∷ []
+  pub extra : steps two_places (Tok a_letter ∷ Tok right ∷ Told ∷ []) ≡ More Raw ∷ More Raw ∷ Inserts par_token (ExtraBrace x_name) true ∷ More Raw ∷ []
+  pub paragraph : steps two_places (Tok (primitive 5) ∷ []) ≡ More Raw ∷ RunsAway (ParagraphEnded x_name) ∷ []
+  pub checked : steps two_places (Tok a_letter ∷ Cut ∷ Tok (primitive 5) ∷ []) ≡ More Raw ∷ More Raw ∷ More Raw ∷ Ends ∷ []
+  pub checked_held : holds two_places (Tok a_letter ∷ Cut ∷ []) ≡ ([] ∷ []) ∷ ([] ∷ (a_token ∷ []) ∷ []) ∷ ([] ∷ (a_token ∷ []) ∷ []) ∷ []
+  pub mismatch : steps (Arguments x_name false 0 (full_stop ∷ token.EndPlaces ∷ [])) (Tok a_letter ∷ []) ≡ More Raw ∷ Fails (UseMismatch x_name) ∷ []
+
+pub record WorkedReadings : Type 0 where
+  pub integers : WorkedIntegers
+  pub reports : WorkedReports
+  pub names : WorkedNames
+  pub built : WorkedLists
+  pub calls : WorkedCalls

@@ -1,0 +1,44 @@
+// Laws of the readings: the functions have no bodies, their contracts are the laws.
+ghost use Rattle.plain_readings.specs.Laws.{ReadingsStart, ReadingsBeginLower, TokensAreLent, ValuesAreTheirs, NamesAreHeld, NotesFall};
+ghost use Rattle.plain_readings.specs.Weights.{WeightsFall};
+ghost use Rattle.plain_readings.specs.Worked.{WorkedReadings};
+
+/// A reading that was fed with nothing asks for a token or begins one of a lower rank.
+pub fn readings_start()
+    ensures { ReadingsStart }
+{}
+
+/// A reading begins only readings of a lower rank.
+pub fn readings_begin_lower()
+    ensures { ReadingsBeginLower }
+{}
+
+/// A reading begins another with the token that it looked at only directly behind that token.
+pub fn tokens_are_lent()
+    ensures { TokensAreLent }
+{}
+
+/// What a reading ends with is a value of its kind, with the list that it holds; that of a macro has a token.
+pub fn values_are_theirs()
+    ensures { ValuesAreTheirs }
+{}
+
+/// `\csname` makes a name of the characters that it holds.
+pub fn names_are_held()
+    ensures { NamesAreHeld }
+{}
+
+/// Behind a report so many may follow at once as its measure says.
+pub fn notes_fall()
+    ensures { NotesFall }
+{}
+
+/// Each rule that is no step makes the weight of the open readings smaller, whatever they were fed with.
+pub fn weights_fall()
+    ensures { WeightsFall }
+{}
+
+/// What the readings ask for and hold, item by item, is computed from the definitions.
+pub fn worked_readings()
+    ensures { WorkedReadings }
+{}
