@@ -86,7 +86,8 @@ ReadsFile ms = ⊥
 
 -- A moment t of the run from s within k steps, at which the file's next bytes are needed: nothing is due, and the next rule begins with
 -- the file's next reading. So the run hasn't stopped, a token is wanted, nothing is left in front of the file, and the file is open. It may
--- be behind the last of the k steps: only the bytes tell whether the reading is a step. All before the moment is written.
+-- be behind the last of the k steps, as the bytes mostly tell whether that reading is a step (of a file that isn't begun it always is: there
+-- this says less than could be said). All before the moment is written.
 pub record ReadAt (sizes : Sizes) (s : State) (k : ℕ) (t : State) (w w' : World) : Type 0 where
   pub ms : List Move
   pub moves : FitMoves sizes s ms t

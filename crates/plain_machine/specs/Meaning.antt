@@ -149,7 +149,8 @@ IsJob (Holds bytes) job = job ≡ Some bytes
 abbrev pub sizes_of : Options → Sizes
 sizes_of options = record default_sizes { main_memory_size = options.main_memory_size }
 
--- The run of a job's file: of a file that is told the machine's run, of another the machine's run over some content.
+-- The run of a job's file: of a file that is told the machine's run, of another the machine's run over some
+-- content, or as of a file that isn't held.
 pub record MeansRun (sizes : Sizes) (quiet : Bool) (name : List ℕ) (file : File) (n : ℕ) (w w' : World) (status : ℕ) : Type 0 where
   pub job : Option (List ℕ)
   pub is_job : IsJob file job

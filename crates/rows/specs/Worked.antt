@@ -99,7 +99,7 @@ pub record WorkedDefinitions : Type 0 where
       steps 26 (Tok a_space ∷ Tok a_letter ∷ Told ∷ Tok frozen_relax ∷ Told ∷ Tok x ∷ []) ≡
       More Raw ∷ More Raw ∷ Inserts inaccessible MissingName true ∷ More Raw ∷ Inserts inaccessible MissingName false ∷ More Raw ∷ Inner (Definition x_name false) false ∷ []
 
--- `\long\global\def`, `\outer\edef`, `\global\catcode`; `\long\catcode` and `\outer\let`; `\global\relax` and `\long\message`
+-- `\long\global\def`, `\outer\edef`, `\global\catcode`; `\long\catcode` and `\outer\global\let`; `\global\end` and `\long\message`
 pub record WorkedPrefixes : Type 0 where
   pub long_global :
       steps 23 (Tok (primitive 25) ∷ Tok (primitive 26) ∷ Tok x ∷ list text ∷ []) ≡
@@ -116,7 +116,7 @@ pub record WorkedPrefixes : Type 0 where
   pub outer_let :
       steps 24 (Tok (primitive 25) ∷ Tok (primitive 30) ∷ Told ∷ Tok x ∷ Tok y ∷ []) ≡
       More want.Command ∷ More want.Command ∷ Tells (LongOrOuterWith (means.Prim 30)) false ∷ More Raw ∷ More Raw ∷ Acts (record (call 30) { global = true }) (effect.Let x_name y) ∷ []
-  pub refused : steps 25 (Tok (primitive 1) ∷ Told ∷ []) ≡ More want.Command ∷ Tells (PrefixWith (means.Prim 1)) true ∷ Ends ∷ []
+  pub refused : steps 25 (Tok (primitive 6) ∷ Told ∷ []) ≡ More want.Command ∷ Tells (PrefixWith (means.Prim 6)) true ∷ Ends ∷ []
   pub no_assignment : steps 23 (Tok (primitive 9) ∷ Told ∷ []) ≡ More want.Command ∷ Tells (PrefixWith (means.Prim 9)) true ∷ Ends ∷ []
 
 -- `\let\x\y`, `\let\x =` and a space before `\y`, `\let\x==`, and `\futurelet\x\y` before a letter

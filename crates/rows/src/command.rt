@@ -93,7 +93,7 @@ pub enum Effect {
     Show(Seen),
     /// The name means what the token means.
     Let(Name, Seen),
-    /// The name means what the second token means, and both tokens are put back.
+    /// Both tokens are put back, and the name means what the second one means.
     FutureLet(Name, Seen, Seen),
     /// The character of this code has this category.
     SetCategory(i32, i32),
