@@ -9,7 +9,7 @@ use Rattle.plain_state.specs.Readings.{Fed, Tok, Val, Told, Cut}
 use Rattle.rows.specs.Readings as row
 use Rattle.row_laws.specs.Agreement.{row_fed}
 use Rattle.plain_readings.specs.Calls.{call_fed, call_ask, call_lists, mode_of, gathered, arguments}
-use Rattle.reading_laws.specs.Agreement.{same_want, IsAnswer, HaveNoValues}
+use Rattle.reading_laws.specs.Agreement.{IsAnswer, HaveNoValues}
 
 abbrev now : List Fed → List row.Fed
 now fed = map row_fed fed
@@ -29,7 +29,7 @@ same_gathered : (long : Bool) (ts : List Token) (fed : List Fed) → HaveNoValue
 same_gathered true ts fed h = ap (λ (fed : List call.Fed). gathering ts call.Long fed) (same_feed fed h)
 same_gathered false ts fed h = ap (λ (fed : List call.Fed). gathering ts call.Short fed) (same_feed fed h)
 
-answer_agrees : (name : Name) (held : List (List Token)) (a : call.Answer) → IsAnswer same_want (today.call_ask name a) held (call_ask name a)
+answer_agrees : (name : Name) (held : List (List Token)) (a : call.Answer) → IsAnswer (today.call_ask name a) held (call_ask name a)
 answer_agrees name held (call.More args work) = refl
 answer_agrees name held (call.ExtraBraceFound args work) = (refl, refl, refl)
 answer_agrees name held (call.Called args) = refl
@@ -38,10 +38,10 @@ answer_agrees name held (call.Ended true args work) = tt
 answer_agrees name held (call.Ended false args work) = refl
 
 pub call_agrees : (name : Name) (long : Bool) (ts : List Token) (held : List (List Token)) (fed : List Fed) → HaveNoValues fed →
-    IsAnswer same_want (today.arguments_ask name long ts fed) held (arguments name long ts (now fed))
+    IsAnswer (today.arguments_ask name long ts fed) held (arguments name long ts (now fed))
 call_agrees name long ts held [] h = refl
 call_agrees name long ts held (y ∷ fed) h =
-    subst (λ (a : call.Answer). IsAnswer same_want (today.call_ask name a) held (call_ask name (gathered long ts (now (y ∷ fed))))) (same_gathered long ts (y ∷ fed) h)
+    subst (λ (a : call.Answer). IsAnswer (today.call_ask name a) held (call_ask name (gathered long ts (now (y ∷ fed))))) (same_gathered long ts (y ∷ fed) h)
     (answer_agrees name held (gathered long ts (now (y ∷ fed))))
 
 pub call_holds : (long : Bool) (ts : List Token) (fed : List Fed) → HaveNoValues fed → call_lists (gathered long ts (now fed)) ≡ call_lists (today.gathered_by long ts fed)

@@ -10,11 +10,11 @@ use Rattle.plain_state.specs.Readings.{Fed, Tok, Told}
 use Rattle.rows.specs.Readings as row
 use Rattle.row_laws.specs.Agreement.{row_fed, IsFed}
 use Rattle.plain_readings.specs.Integers.{is_digit, digit_of, is_minus, is_plus, greatest_integer, signed, number_ended, digits_dropped, too_big, digits, missing, first_digit, behind_number, behind_code, constant, code_of, improper_code, unsigned, integer}
-use Rattle.reading_laws.specs.Agreement.{same_want, IsAnswer}
+use Rattle.reading_laws.specs.Agreement.{IsAnswer}
 
 -- the present definition and the new one agree in whatever the first asked for
 abbrev Agrees : (List Fed → today.Ask) → (List row.Fed → row.Ask) → List Fed → Type 0
-Agrees present own fed = IsFed present fed → IsAnswer same_want (present fed) [] (own (map row_fed fed))
+Agrees present own fed = IsFed present fed → IsAnswer (present fed) [] (own (map row_fed fed))
 
 agree_if : (b : Bool) (p q : List Fed → today.Ask) (r s : List row.Fed → row.Ask) (fed : List Fed) → Agrees p r fed → Agrees q s fed →
     Agrees (λ more. if b then p more else q more) (λ more. if b then r more else s more) fed

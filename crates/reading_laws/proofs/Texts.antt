@@ -15,7 +15,7 @@ use Rattle.plain_state.specs.Readings.{Fed, Tok, Val, Told, Cut, Int, Toks, Flag
 use Rattle.rows.specs.Readings as row
 use Rattle.row_laws.specs.Agreement.{row_fed, IsFed}
 use Rattle.plain_readings.specs.Lists.{build_fed, build_ask, built, manner, text, definition}
-use Rattle.reading_laws.specs.Agreement.{text_want, same_want, IsAnswer}
+use Rattle.reading_laws.specs.Agreement.{IsAnswer}
 
 abbrev now : List Fed → List row.Fed
 now fed = map row_fed fed
@@ -35,15 +35,15 @@ same_feed (Val (Int n) ∷ fed) = same_feed fed
 same_feed (Val (Toks ts) ∷ fed) = same_feed fed
 same_feed (Val (Flag b) ∷ fed) = same_feed fed
 
-answer_agrees : (a : build.Answer) → IsAnswer same_want (today.build_ask a) (built a ∷ []) (build_ask a)
+answer_agrees : (a : build.Answer) → IsAnswer (today.build_ask a) (built a ∷ []) (build_ask a)
 answer_agrees (build.More want list) = refl
 answer_agrees (build.Tells report back list) = (refl, refl)
 answer_agrees (build.Done list) = (refl, refl)
 
 pub definition_agrees : (name : Name) (expanded : Bool) (fed : List Fed) →
-    IsAnswer same_want (today.ask (today.Definition name expanded) fed) (built (definition name expanded (now fed)) ∷ []) (build_ask (definition name expanded (now fed)))
+    IsAnswer (today.ask (today.Definition name expanded) fed) (built (definition name expanded (now fed)) ∷ []) (build_ask (definition name expanded (now fed)))
 definition_agrees name expanded fed =
-    subst (λ (built_of : List build.Fed). IsAnswer same_want (today.build_ask (build.definition (manner name expanded) built_of)) (built (definition name expanded (now fed)) ∷ []) (build_ask (definition name expanded (now fed))))
+    subst (λ (built_of : List build.Fed). IsAnswer (today.build_ask (build.definition (manner name expanded) built_of)) (built (definition name expanded (now fed)) ∷ []) (build_ask (definition name expanded (now fed))))
     (same_feed fed) (answer_agrees (definition name expanded (now fed)))
 
 same_built : (a : build.Answer) → built a ≡ today.built a
@@ -89,14 +89,14 @@ body_ends name depth list (Val (Int n) ∷ fed) = body_ends name depth list fed
 body_ends name depth list (Val (Toks ts) ∷ fed) = body_ends name depth list fed
 body_ends name depth list (Val (Flag b) ∷ fed) = body_ends name depth list fed
 
-ended : (o : Option (List Token)) (a : build.Answer) → Ends o [] a → IsAnswer text_want (text_done o) (built a ∷ []) (build_ask a)
+ended : (o : Option (List Token)) (a : build.Answer) → Ends o [] a → IsAnswer (text_done o) (built a ∷ []) (build_ask a)
 ended None (build.More want whole) h = sym h
 ended None a h = absurd h
 ended (Some ts) (build.Done whole) h = (sym h, refl)
 ended (Some ts) a h = absurd h
 
 abbrev Answers : today.Ask → build.Answer → Type 0
-Answers a b = IsAnswer text_want a (built b ∷ []) (build_ask b)
+Answers a b = IsAnswer a (built b ∷ []) (build_ask b)
 
 -- where the brace is missing
 missing_agrees : (name : Name) (fed : List Fed) → IsFed today.brace_missing fed → Answers (today.brace_missing fed) (build.missing (manner_of name) [] (of fed))

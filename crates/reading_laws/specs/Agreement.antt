@@ -2,8 +2,6 @@
 use Rattle.std.specs.Prelude.{◌≡◌, Bool, true, false, List, [], ◌∷◌, map}
 use Rattle.tex_defs.specs.declared.Name.{Name}
 use Rattle.tex_defs.specs.declared.Token.{Token}
-use Rattle.tex_syntax.specs.declared.words.Want.{Want}
-use Rattle.tex_syntax.specs.declared.words.Want.TheVariants.{Expanded, Copied}
 use Rattle.plain_tokens.specs.Names.{message_primitive, catcode_primitive, number_primitive, long_primitive, outer_primitive, global_primitive, def_primitive, gdef_primitive, edef_primitive, xdef_primitive}
 use Rattle.plain_state.specs.Readings as today
 use Rattle.rows.specs.declared.words.Datum.TheVariants.{Number}
@@ -57,38 +55,25 @@ IsFedAs k fed = IsFed (today.ask k) fed × AreKnown fed
 
 -- WHAT THEY ASK FOR
 
--- A text asks for a token as the body of an expanded definition does; the present one for a token by expansion. The two differ only at the tokens of a
--- token list behind `\the`, and no command gives these yet.
-abbrev pub text_want : Want → Want
-text_want Expanded = Copied
-text_want want = want
-
-abbrev pub same_want : Want → Want
-same_want want = want
-
-abbrev pub want_of : today.Kind → Want → Want
-want_of (today.Text name) want = text_want want
-want_of k want = same_want want
-
 -- a value has its list beside it
 abbrev pub IsValue : today.Value → List (List Token) → Value → Type 0
 IsValue (today.Int n) held (value.Plain (Number m)) = n ≡ m
 IsValue (today.Toks ts) (us ∷ []) value.List = ts ≡ us
 IsValue v held w = ⊥
 
-abbrev pub IsAnswer : (own : Want → Want) → today.Ask → List (List Token) → Ask → Type 0
-IsAnswer own (today.More want) held (More wanted) = own want ≡ wanted
-IsAnswer own (today.Done v back) held (Done w given) = IsValue v held w × (back ≡ given)
-IsAnswer own (today.Calls args) held (Calls arguments) = args ≡ arguments
-IsAnswer own (today.Fails report) held (Fails told) = report ≡ told
-IsAnswer own (today.RunsAway report) held (RunsAway told) = report ≡ told
-IsAnswer own today.Closes held Ends = Unit {0}
-IsAnswer own a held b = IsAsk a b
+abbrev pub IsAnswer : today.Ask → List (List Token) → Ask → Type 0
+IsAnswer (today.More want) held (More wanted) = want ≡ wanted
+IsAnswer (today.Done v back) held (Done w given) = IsValue v held w × (back ≡ given)
+IsAnswer (today.Calls args) held (Calls arguments) = args ≡ arguments
+IsAnswer (today.Fails report) held (Fails told) = report ≡ told
+IsAnswer (today.RunsAway report) held (RunsAway told) = report ≡ told
+IsAnswer today.Closes held Ends = Unit {0}
+IsAnswer a held b = IsAsk a b
 
 abbrev pub ReadingsAgree : Type 0
 ReadingsAgree =
     (name : Name) (global : Bool) (k : today.Kind) (fed : List today.Fed) → IsFedAs k fed →
-    IsAnswer (want_of k) (today.ask k fed) (lists (now name global k) (map row_fed fed)) (ask (now name global k) (map row_fed fed))
+    IsAnswer (today.ask k fed) (lists (now name global k) (map row_fed fed)) (ask (now name global k) (map row_fed fed))
 
 -- THE LISTS THAT THEY HOLD
 

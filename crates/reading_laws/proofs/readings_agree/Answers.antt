@@ -12,14 +12,14 @@ use Rattle.row_laws.proofs.Commands.{catcode_agrees, message_agrees, number_agre
 use Rattle.row_laws.proofs.Definitions.{define_agrees}
 use Rattle.row_laws.proofs.Prefixes.{prefixed_agrees}
 use Rattle.plain_readings.specs.Readings.{ask, lists}
-use Rattle.reading_laws.specs.Agreement.{now, definition_call, prefix_call, same_want, want_of, IsFedAs, IsAnswer}
+use Rattle.reading_laws.specs.Agreement.{now, definition_call, prefix_call, IsFedAs, IsAnswer}
 use Rattle.reading_laws.proofs.Integers.{integer_agrees}
 use Rattle.reading_laws.proofs.Texts.{definition_agrees, text_agrees}
 use Rattle.reading_laws.proofs.Calls.{call_agrees}
 use Rattle.reading_laws.proofs.readings_agree.Goals as goal
 
 -- what rows and readings agree in
-as_answer : (a : today.Ask) (held : List (List Token)) (b : row.Ask) → IsAsk a b → IsAnswer same_want a held b
+as_answer : (a : today.Ask) (held : List (List Token)) (b : row.Ask) → IsAsk a b → IsAnswer a held b
 as_answer (today.More want) held (row.More own) h = h
 as_answer (today.Done (today.Int n) back) held (row.Done w given) h = absurd h
 as_answer (today.Done (today.Toks ts) back) held (row.Done w given) h = absurd h
@@ -31,7 +31,7 @@ as_answer today.Closes held row.Ends h = absurd h
 as_answer a held b h = h
 
 abbrev Agree : Name → Bool → today.Kind → List today.Fed → Type 0
-Agree name global k fed = IsAnswer (want_of k) (today.ask k fed) (lists (now name global k) (map row_fed fed)) (ask (now name global k) (map row_fed fed))
+Agree name global k fed = IsAnswer (today.ask k fed) (lists (now name global k) (map row_fed fed)) (ask (now name global k) (map row_fed fed))
 
 -- definitions and prefixes
 definitions : (name : Name) (expanded global : Bool) (fed : List today.Fed) → IsFed (today.ask (today.Define expanded)) fed → Agree name global (today.Define expanded) fed
