@@ -1,0 +1,4 @@
+pub mod Sees
+pub mod Resumes
+pub mod Laws
+pub mod Worked

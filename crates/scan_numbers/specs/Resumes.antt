@@ -1,0 +1,24 @@
+-- What a scanner will answer on what is still to come.
+use Rattle.std.specs.Prelude.{Bool, List, pos}
+use Rattle.tex_syntax.specs.declared.words.Report.TheVariants.{ImproperConstant, MissingNumber}
+use Rattle.rows.specs.Readings.{Fed, Ask}
+use Rattle.plain_readings.specs.Integers.{integer, constant, first_digit, digits, too_big, digits_dropped, behind_number, missing, signed, improper_code, ends_with}
+use Rattle.scan_numbers.specs.Sees.{radix_number}
+use Rattle.scan_numbers.specs.declared.number.Place.{Place}
+use Rattle.scan_numbers.specs.declared.number.Place.TheVariants.{Signs, Quote, First, Digits, TooBig, Dropped, Behind, NoNumber, NoCode, Ended}
+use Rattle.scan_numbers.specs.declared.number.NumberScan.{NumberScan}
+
+abbrev pub resume_at : (negative : Bool) → Place → List Fed → Ask
+resume_at negative Signs fed = integer negative fed
+resume_at negative Quote fed = constant negative fed
+resume_at negative (First radix) fed = first_digit negative (radix_number radix) fed
+resume_at negative (Digits radix n) fed = digits negative (radix_number radix) n fed
+resume_at negative (TooBig radix) fed = too_big negative (radix_number radix) fed
+resume_at negative (Dropped radix) fed = digits_dropped negative (radix_number radix) fed
+resume_at negative (Behind code) fed = behind_number negative code fed
+resume_at negative NoNumber fed = missing (pos 0) MissingNumber fed
+resume_at negative NoCode fed = missing (signed negative improper_code) ImproperConstant fed
+resume_at negative (Ended n back) fed = ends_with n back
+
+abbrev pub resume : NumberScan → List Fed → Ask
+resume scan fed = resume_at scan.negative scan.place fed

@@ -1,0 +1,11 @@
+//! The scanner of an integer: it is fed token by token, keeps the value so far, and answers what the definition `integer` asks for
+//! behind all that it was fed with.
+#![tactic(auto)]
+
+mod digits;
+mod laws;
+mod number;
+
+pub use digits::Radix;
+pub use laws::{constants_are_read, digits_are_read};
+pub use number::{Ask, NumberScan, Place};

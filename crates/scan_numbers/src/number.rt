@@ -1,0 +1,207 @@
+// The scanner of an integer. *The TeXbook*, chapter 24; *TeX: The Program*, part 26 (`scan_int`).
+ghost use Rattle.std.specs.Prelude.{◌≤◌};
+ghost use Rattle.plain_readings.specs.Integers.{greatest_integer};
+ghost use Rattle.scan_numbers.specs.Sees.{IsInRange, digits_value, end_value};
+
+use crate::digits::{GREATEST, Radix, code_of, is_other, is_space, signed};
+use tex_defs::Seen;
+use tex_syntax::{Report, Want};
+
+/// The code that is taken in place of an improper constant.
+const IMPROPER_CODE: u32 = 48;
+
+/// What a scanner asks for.
+#[must_use]
+#[derive(Clone, Copy)]
+pub enum Ask {
+    More(Want),
+    /// A report, and whether the last token is put back before it.
+    Tells(Report, bool),
+    /// It is done, with this value, and whether the last token is put back.
+    Done(i32, bool),
+}
+
+/// Where a scanner stands.
+#[derive(Clone, Copy)]
+pub enum Place {
+    /// Among the signs.
+    Signs,
+    /// Behind a backquote.
+    Quote,
+    /// Before the first digit.
+    First(Radix),
+    /// Behind digits of this value.
+    Digits(Radix, u32),
+    /// Before the report of a number that is too big.
+    TooBig(Radix),
+    /// Behind digits of a number that was too big.
+    Dropped(Radix),
+    /// Behind a character's code.
+    Behind(u8),
+    /// Before the report that a number is missing.
+    NoNumber,
+    /// Before the report that no token gives a code.
+    NoCode,
+    /// At its end: the value, and whether the last token is put back.
+    Ended(i32, bool),
+}
+
+/// The scanner of an integer.
+#[derive(Clone, Copy)]
+pub struct NumberScan {
+    /// Whether the signs so far make it negative.
+    pub negative: bool,
+    pub place: Place,
+    ghost fits: { digits_value place ≤ greatest_integer },
+    ghost range: { IsInRange (end_value place) },
+}
+
+impl NumberScan {
+    ghost use Rattle.std.specs.Prelude.{◌≡◌, List, [], ◌∷◌, false};
+    ghost use Rattle.tex_defs.specs.declared.Token.{Token};
+    ghost use Rattle.rows.specs.declared.words.Value.{Value};
+    ghost use Rattle.rows.specs.Readings.{Fed, Tok, Told, Val, Cut};
+    ghost use Rattle.plain_readings.specs.Integers.{integer, constant, first_digit, digits, number_ended};
+    ghost use Rattle.scan_numbers.specs.Sees.{radix_number, ask_of, EndsInRange};
+    ghost use Rattle.scan_numbers.specs.Resumes.{resume};
+
+    /// An integer begins.
+    pub fn new() -> NumberScan
+        ensures { (fed : List Fed) → integer false fed ≡ resume result fed }
+    {
+        NumberScan {
+            negative: false,
+            place: Place::Signs,
+        }
+    }
+
+    /// What it asks for where it stands.
+    pub fn ask(&self) -> Ask
+        ensures answer { ask_of result ≡ resume self.now [] }
+        ensures range { EndsInRange result }
+    {
+        match self.place {
+            Place::Signs => Ask::More(Want::Nonblank),
+            Place::Quote => Ask::More(Want::Raw),
+            Place::First(_) | Place::Digits(..) | Place::Dropped(_) | Place::Behind(_) => {
+                Ask::More(Want::Expanded)
+            }
+            Place::TooBig(_) => Ask::Tells(Report::NumberTooBig, false),
+            Place::NoNumber => Ask::Tells(Report::MissingNumber, true),
+            Place::NoCode => Ask::Tells(Report::ImproperConstant, true),
+            Place::Ended(value, back) => Ask::Done(value, back),
+        }
+    }
+
+    /// Takes a token.
+    pub fn feed(&mut self, seen: Seen)
+        ensures { (fed : List Fed) → resume self.old (Tok seen ∷ fed) ≡ resume self.new fed }
+    {
+        match self.place {
+            Place::Signs => self.feed_sign(seen),
+            Place::Quote => self.feed_code(seen),
+            Place::First(radix) => self.feed_first(radix, seen),
+            Place::Digits(radix, value) => self.feed_digit(radix, value, seen),
+            Place::Dropped(radix) => match radix.digit(seen) {
+                Some(_) => {}
+                None => self.end(GREATEST, seen),
+            },
+            Place::Behind(code) => self.end(u32::from(code), seen),
+            Place::TooBig(_) | Place::NoNumber | Place::NoCode => {
+                self.place = Place::Ended(0, false);
+            }
+            Place::Ended(..) => {}
+        }
+    }
+
+    /// Goes on behind its report.
+    pub fn told(&mut self)
+        ensures { (fed : List Fed) → resume self.old (Told ∷ fed) ≡ resume self.new fed }
+    {
+        match self.place {
+            Place::TooBig(radix) => self.place = Place::Dropped(radix),
+            Place::NoCode => {
+                self.place = Place::Ended(signed(self.negative, IMPROPER_CODE), false);
+            }
+            Place::Ended(..) => {}
+            _ => self.place = Place::Ended(0, false),
+        }
+    }
+
+    /// A value or the note of a check came, which no integer asks for.
+    pub fn stop(&mut self)
+        ensures value { (v : Value) (ts : List Token) (fed : List Fed) → resume self.old (Val v ts ∷ fed) ≡ resume self.new fed }
+        ensures check { (fed : List Fed) → resume self.old (Cut ∷ fed) ≡ resume self.new fed }
+    {
+        match self.place {
+            Place::Ended(..) => {}
+            _ => self.place = Place::Ended(0, false),
+        }
+    }
+
+    /// Among the signs.
+    fn feed_sign(&mut self, x: Seen)
+        ensures { (fed : List Fed) → integer self.old.negative (Tok x ∷ fed) ≡ resume self.new fed }
+    {
+        if is_other(x, 45) {
+            self.negative = !self.negative;
+            self.place = Place::Signs;
+        } else if is_other(x, 43) {
+            self.place = Place::Signs;
+        } else if is_other(x, 96) {
+            self.place = Place::Quote;
+        } else if is_other(x, 39) {
+            self.place = Place::First(Radix::Octal);
+        } else if is_other(x, 34) {
+            self.place = Place::First(Radix::Hexadecimal);
+        } else {
+            self.feed_first(Radix::Decimal, x);
+        }
+    }
+
+    /// Behind a backquote.
+    fn feed_code(&mut self, x: Seen)
+        ensures { (fed : List Fed) → constant self.old.negative (Tok x ∷ fed) ≡ resume self.new fed }
+    {
+        self.place = match code_of(x.token) {
+            Some(code) => Place::Behind(code),
+            None => Place::NoCode,
+        };
+    }
+
+    /// Where the first digit should be.
+    fn feed_first(&mut self, radix: Radix, x: Seen)
+        ensures { (fed : List Fed) → first_digit self.old.negative (radix_number radix) (Tok x ∷ fed) ≡ resume self.new fed }
+    {
+        self.place = match radix.digit(x) {
+            Some(digit) => Place::Digits(radix, u32::from(digit)),
+            None => Place::NoNumber,
+        };
+    }
+
+    /// Behind digits of this value.
+    fn feed_digit(&mut self, radix: Radix, value: u32, x: Seen)
+        requires { value ≤ greatest_integer }
+        ensures { (fed : List Fed) → digits self.old.negative (radix_number radix) value (Tok x ∷ fed) ≡ resume self.new fed }
+    {
+        match radix.digit(x) {
+            Some(digit) => {
+                let next = u64::from(value) * u64::from(radix.number()) + u64::from(digit);
+                self.place = if next <= u64::from(GREATEST) {
+                    Place::Digits(radix, next as u32)
+                } else {
+                    Place::TooBig(radix)
+                };
+            }
+            None => self.end(value, x),
+        }
+    }
+
+    /// The integer is read: one space goes, another token is put back.
+    fn end(&mut self, value: u32, x: Seen)
+        requires { value ≤ greatest_integer }
+        ensures { (fed : List Fed) → number_ended self.old.negative value x ≡ resume self.new fed }
+    {
+        self.place = Place::Ended(signed(self.negative, value), !is_space(x));
+    }
+}
