@@ -1,1 +1,2 @@
 pub mod Spelt
+pub mod Texts

@@ -2,12 +2,10 @@
 use Rattle.std.proofs.Common.{◌≡◌, ◌≤◌, ◌<◌, ◌+◌, ◌*◌, ℕ, zero, suc, Bool, true, false, not, List, [], ◌∷◌, ap, sym, ◌∙◌, refl, subst, arith, zero-add, if◌then◌else◌, nat_le}
 use Rattle.std.proofs.lemmas.Bool.Decides.{nat_tests}
 use Rattle.tex_defs.specs.declared.Seen.{Seen}
-use Rattle.tex_syntax.specs.declared.words.Want.TheVariants.{Expanded}
-use Rattle.tex_syntax.specs.declared.words.Report.TheVariants.{NumberTooBig}
-use Rattle.plain_tokens.specs.Tokens.{is_space, is_other}
-use Rattle.rows.specs.Readings.{Fed, Tok, Told, Ask, More, Tells}
-use Rattle.plain_readings.specs.Integers.{integer, unsigned, digits, digits_dropped, too_big, number_ended, ends_with, signed, is_digit, digit_of, greatest_integer}
-use Rattle.scan_numbers.specs.Laws.{digit, spelt, AreDigits, number_behind, number, Spells, IsTooBig}
+use Rattle.plain_tokens.specs.Tokens.{is_space}
+use Rattle.rows.specs.Readings.{Fed, Tok, Ask}
+use Rattle.plain_readings.specs.Integers.{integer, digits, digits_dropped, too_big, number_ended, ends_with, signed, is_digit, digit_of, greatest_integer}
+use Rattle.scan_numbers.specs.Laws.{digit, spelt, AreDigits, number_behind, Spells, IsTooBig}
 
 taken : (b : Bool) (p q : Ask) → b ≡ true → (if b then p else q) ≡ p
 taken b p q e = ap (λ (b : Bool). if b then p else q) e
@@ -22,12 +20,12 @@ is_unfit : (n : ℕ) → greatest_integer < n → nat_le n greatest_integer ≡ 
 is_unfit n h = grind (arith, nat_tests)
 
 -- what a digit is to an integer
-record Digit (d : ℕ) : Type 0 where
-  is : is_digit 10 (digit d) ≡ true
-  value : digit_of (digit d).token ≡ d
-  first : (negative : Bool) (fed : List Fed) → integer negative (Tok (digit d) ∷ fed) ≡ digits negative 10 d fed
+pub record Digit (d : ℕ) : Type 0 where
+  pub is : is_digit 10 (digit d) ≡ true
+  pub value : digit_of (digit d).token ≡ d
+  pub first : (negative : Bool) (fed : List Fed) → integer negative (Tok (digit d) ∷ fed) ≡ digits negative 10 d fed
 
-digit_holds : (d : ℕ) → d ≤ 9 → Digit d
+pub digit_holds : (d : ℕ) → d ≤ 9 → Digit d
 digit_holds zero h = record { is = refl; value = refl; first = λ negative fed. refl }
 digit_holds (suc zero) h = record { is = refl; value = refl; first = λ negative fed. refl }
 digit_holds (suc (suc zero)) h = record { is = refl; value = refl; first = λ negative fed. refl }
@@ -48,7 +46,7 @@ more negative n d fed h =
     taken (is_digit 10 (digit d)) _ (number_ended negative n (digit d)) i.is
     ∙ ap (λ (d : ℕ). if nat_le (n * 10 + d) greatest_integer then digits negative 10 (n * 10 + d) fed else too_big negative 10 fed) i.value
 
-fits : (negative : Bool) (n d : ℕ) (fed : List Fed) → d ≤ 9 → n * 10 + d ≤ greatest_integer → digits negative 10 n (Tok (digit d) ∷ fed) ≡ digits negative 10 (n * 10 + d) fed
+pub fits : (negative : Bool) (n d : ℕ) (fed : List Fed) → d ≤ 9 → n * 10 + d ≤ greatest_integer → digits negative 10 n (Tok (digit d) ∷ fed) ≡ digits negative 10 (n * 10 + d) fed
 fits negative n d fed h f = more negative n d fed h ∙ taken (nat_le (n * 10 + d) greatest_integer) _ (too_big negative 10 fed) (is_fit (n * 10 + d) f)
 
 exceeds : (negative : Bool) (n d : ℕ) (fed : List Fed) → d ≤ 9 → greatest_integer < n * 10 + d → digits negative 10 n (Tok (digit d) ∷ fed) ≡ too_big negative 10 fed

@@ -1,5 +1,6 @@
 -- Integers spelt in decimal.
-use Rattle.std.specs.Prelude.{ℕ, ◌+◌, ◌*◌, ◌≤◌, ◌<◌, ◌≡◌, Bool, false, not, List, [], ◌∷◌}
+use Rattle.std.specs.Prelude.{ℕ, ℤ, ◌+◌, ◌*◌, ◌≤◌, ◌<◌, ◌≡◌, Bool, false, not, List, [], ◌∷◌}
+use Rattle.std.specs.Fmt.{signed_decimal}
 use Rattle.tex_defs.specs.declared.Token.TheVariants as token
 use Rattle.tex_defs.specs.declared.Meaning.TheVariants as means
 use Rattle.tex_defs.specs.declared.Seen.{Seen}
@@ -7,8 +8,10 @@ use Rattle.tex_syntax.specs.declared.words.Want.TheVariants.{Expanded}
 use Rattle.tex_syntax.specs.declared.words.Report.TheVariants.{NumberTooBig}
 use Rattle.plain_tokens.specs.Categories.{other}
 use Rattle.plain_tokens.specs.Tokens.{is_space}
-use Rattle.rows.specs.Readings.{Fed, Tok, Told, Ask, More, Tells}
+use Rattle.rows.specs.Readings.{Fed, Tok, Told, More, Tells}
 use Rattle.plain_readings.specs.Integers.{integer, ends_with, signed, is_digit, greatest_integer}
+use Rattle.plain_readings.specs.Worked.{others}
+use Rattle.scan_numbers.specs.Sees.{IsInRange}
 
 -- the digit 0 to 9 as a character of category 12
 abbrev pub digit : ℕ → Seen
@@ -57,3 +60,8 @@ pub record DigitsAreRead : Type 0 where
   pub greatest :
       (negative : Bool) (ds : List ℕ) (n d : ℕ) (more : List ℕ) (x : Seen) → IsTooBig ds n d → AreDigits more → is_digit 10 x ≡ false →
       integer negative (spelt ds (Tok (digit d) ∷ Told ∷ spelt more (Tok x ∷ []))) ≡ ends_with (signed negative greatest_integer) (not (is_space x))
+
+-- The decimal text of an integer, with its sign, is read as that integer again.
+abbrev pub TextsAreReadBack : Type 0
+TextsAreReadBack =
+    (n : ℤ) (x : Seen) → IsInRange n → is_digit 10 x ≡ false → integer false (others (signed_decimal n) (Tok x ∷ [])) ≡ ends_with n (not (is_space x))

@@ -1,14 +1,13 @@
 -- Constants worked out: what `integer` asks for behind all of these tokens, the last of which comes behind the constant or ends it.
-use Rattle.std.specs.Prelude.{ℕ, pos, negsuc, ◌≡◌, true, false, List, [], ◌∷◌}
+use Rattle.std.specs.Prelude.{pos, negsuc, ◌≡◌, true, false, List, [], ◌∷◌}
 use Rattle.tex_defs.specs.declared.Name.TheVariants.{Active}
 use Rattle.tex_defs.specs.declared.Token.TheVariants as token
 use Rattle.tex_defs.specs.declared.Meaning.TheVariants as means
 use Rattle.tex_defs.specs.declared.Seen.{Seen}
-use Rattle.tex_syntax.specs.declared.words.Want.TheVariants.{Expanded}
 use Rattle.tex_syntax.specs.declared.words.Report.TheVariants.{ImproperConstant, MissingNumber, NumberTooBig}
 use Rattle.plain_tokens.specs.Categories.{letter, other}
 use Rattle.rows.specs.Worked.{character, primitive, x, a_letter, a_space}
-use Rattle.rows.specs.Readings.{Fed, Tok, Told, Ask, More, Tells}
+use Rattle.rows.specs.Readings.{Fed, Tok, Told, Tells}
 use Rattle.plain_readings.specs.Integers.{integer, ends_with}
 use Rattle.plain_readings.specs.Worked.{others}
 

@@ -7,5 +7,5 @@ mod laws;
 mod number;
 
 pub use digits::Radix;
-pub use laws::{constants_are_read, digits_are_read};
+pub use laws::{constants_are_read, digits_are_read, texts_are_read_back};
 pub use number::{Ask, NumberScan, Place};

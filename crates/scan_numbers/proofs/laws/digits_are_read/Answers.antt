@@ -1,6 +1,6 @@
-use Rattle.std.proofs.Common.{List, [], ◌∷◌, ◌∙◌}
+use Rattle.std.proofs.Common.{[], ◌∷◌, ◌∙◌}
 use Rattle.rows.specs.Readings.{Tok, Told}
-use Rattle.scan_numbers.specs.Laws.{spelt, DigitsAreRead}
+use Rattle.scan_numbers.specs.Laws.{spelt}
 use Rattle.scan_numbers.proofs.Spelt.{all, ended, too_big_at, drops, dropped}
 use Rattle.scan_numbers.proofs.laws.digits_are_read.Goals as goal
 
