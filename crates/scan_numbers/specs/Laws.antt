@@ -34,7 +34,7 @@ number_behind n (d ∷ ds) = number_behind (n * 10 + d) ds
 abbrev pub number : List ℕ → ℕ
 number = number_behind 0
 
--- One digit or more spell a number that is not too big.
+-- Digits spell a number that is not too big.
 pub record Spells (ds : List ℕ) (n : ℕ) : Type 0 where
   pub digits : AreDigits ds
   pub number : number ds ≡ n
