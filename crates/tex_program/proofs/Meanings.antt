@@ -9,17 +9,22 @@ use Rattle.tex_defs.specs.Places.{World, Rose, Later, File, Untold, NotHeld, Hol
 use Rattle.tex_defs.specs.declared.Full.{Full as FullTable}
 use Rattle.tex_defs.specs.declared.Fatal.TheVariants.{NoFile}
 use Rattle.tex_defs.specs.declared.Sizes.{Sizes}
-use Rattle.plain_state.specs.States.{State, Move, Kept}
+use Rattle.plain_tokens.specs.Lex.{NewLine}
+use Rattle.plain_tokens.specs.Pending.{Pending, Closed}
+use Rattle.plain_tokens.specs.Puts.{Put}
+use Rattle.plain_tokens.specs.Tables.{string, refused}
+use Rattle.plain_state.specs.States.{State, Move, Kept, made}
+use Rattle.plain_state.specs.Demands.{refusal}
 use Rattle.plain_machine.specs.Extended.{extended}
-use Rattle.plain_machine.specs.Plan.{no_file, job_due}
-use Rattle.plain_machine.specs.Runs.{Wrote, steps}
+use Rattle.plain_machine.specs.Numbers.{Tied, pending_of}
+use Rattle.plain_machine.specs.Plan.{no_file, file_missing, job_due}
+use Rattle.plain_machine.specs.Runs.{Wrote, made_all, steps}
 use Rattle.plain_machine.specs.Bounded.{FitMoves}
-use Rattle.plain_machine.specs.Does.{Did, Cut, IsCause, Why, IsFault, CutAt, IsFull, IsWant, front_of}
+use Rattle.plain_machine.specs.Does.{Did, Cut, IsCause, Why, IsFault, CutAt, IsFull, IsWant, Refuses, but_due, front_of}
 use Rattle.plain_machine.specs.Meaning.{First, Line, Whole, Ending, Status, IsFinished, IsFlawed, IsFatal, IsFullTable, IsSteps, IsReadFault, IsWriteFault, IsNoMemory, Says, IsJob, MeansRun, Means, sizes_of, steps_line, full_line, read_fault_line, write_fault_line, no_memory_line}
-use Rattle.plain_machine.proofs.Extending.{still_cut, still_did}
-use Rattle.plain_machine.proofs.Pulls.{pulls}
+use Rattle.plain_machine.proofs.Extending.{still_did}
 use Rattle.plain_machine.proofs.Doing.{later_on, rose_to, did_join, due_did, due_cut, CutOff, full_end, full_wrote, wrote_none}
-use Rattle.plain_machine.proofs.Joins.{made_all_due, all_fit_due, refuses_due, due_none, stopped_ends}
+use Rattle.plain_machine.proofs.Joins.{next_due, made_all_due, all_fit_due, refuses_due, due_none, stopped_ends}
 use Rattle.command_words.specs.Words.{Command, Init, NoCommand, job_name}
 use Rattle.world_io.specs.declared.traits.Fault.{Fault}
 use Rattle.world_io.specs.declared.traits.Fault.TheVariants.{Failed, NoMemory}
@@ -32,45 +37,45 @@ use Rattle.stomach.specs.declared.runs.Ended.TheVariants.{Halted, Steps}
 use Rattle.engine_state.specs.declared.broken.Broken.{Broken}
 use Rattle.engine_state.specs.declared.broken.Broken.TheVariants as broken
 use Rattle.engine_state.specs.Faults.{why_of}
-use Rattle.engine_state.specs.First.{Begins}
+use Rattle.engine_state.specs.First.{Begins, IsUnread}
 use Rattle.engine_state.specs.Book.{Book, first_book}
-use Rattle.engine_state.specs.Stands.{Stands, FramesStand, SameFrames, state_of}
+use Rattle.engine_state.specs.Stands.{Stands, state_of}
 use Rattle.engine_state.specs.Rules.{world_of, Halts, Cuts}
 use Rattle.stomach.specs.declared.early.Early.{Early}
 use Rattle.stomach.specs.declared.early.Early.TheVariants as early
 use Rattle.stomach.specs.Ran.{Came, Ran, CutBy, UnreadBy, StoppedBy, whole_state}
 use Rattle.stomach.specs.Read.{CameOn, MayLeave}
+use Rattle.tex_program.specs.Named.{Named}
 use Rattle.tex_program.specs.Says.{SaysSo, end_status, ReadAlike, HasReadCause}
 use Rattle.engine_state.proofs.Bare.{all_of}
-use Rattle.engine_state.proofs.Nearing.{near_none}
 use Rattle.engine_state.proofs.Cutting.{later_cuts}
-use Rattle.engine_state.proofs.Reporting.{frames_still}
-use Rattle.stomach.proofs.Running.{same_moment, whole_moment}
+use Rattle.engine_state.proofs.Reporting.{stands_still}
 
 -- A RUN'S STATUS
 
-module _ (sizes : Sizes) (s : State) (n : ℕ) (w m w' : World) (e : Engine) (left : List ℕ) where
-  pub broken_fault : (b : Broken) → b ≡ broken.WriteFault → CutBy sizes s n e left w m b → Line m w' write_fault_line → SaysSo sizes s n w w' 6
+module _ (sizes : Sizes) (s t : State) (n : ℕ) (w m w' : World) where
+  pub broken_fault : (b : Broken) → b ≡ broken.WriteFault → CutAt sizes s n t w m (why_of b) → Line m w' write_fault_line → SaysSo sizes s n w w' 6
   broken_fault b is cut last =
-      let c : CutBy sizes s n e left w m broken.WriteFault = subst (λ (x : Broken). CutBy sizes s n e left w m x) is cut in
-      record { is = IsWriteFault; says = record { t = c.t; between = m; cut = c.cut; last = last } }
+      let c : CutAt sizes s n t w m IsFault = subst (λ (x : Broken). CutAt sizes s n t w m (why_of x)) is cut in
+      record { is = IsWriteFault; says = record { t = t; between = m; cut = c; last = last } }
 
-  pub broken_want : (b : Broken) → b ≡ broken.Want → CutBy sizes s n e left w m b → Line m w' no_memory_line → SaysSo sizes s n w w' 7
+  pub broken_want : (b : Broken) → b ≡ broken.Want → CutAt sizes s n t w m (why_of b) → Line m w' no_memory_line → SaysSo sizes s n w w' 7
   broken_want b is cut last =
-      let c : CutBy sizes s n e left w m broken.Want = subst (λ (x : Broken). CutBy sizes s n e left w m x) is cut in
-      record { is = IsNoMemory; says = inl (record { t = c.t; between = m; cut = c.cut; last = last }) }
+      let c : CutAt sizes s n t w m IsWant = subst (λ (x : Broken). CutAt sizes s n t w m (why_of x)) is cut in
+      record { is = IsNoMemory; says = inl (record { t = t; between = m; cut = c; last = last }) }
 
-  pub broken_full : (b : Broken) (full : FullTable) → b ≡ broken.Full full → CutBy sizes s n e left w m b → Line m w' (full_line full) → SaysSo sizes s n w w' 3
+  pub broken_full : (b : Broken) (full : FullTable) → b ≡ broken.Full full → CutAt sizes s n t w m (why_of b) → Line m w' (full_line full) → SaysSo sizes s n w w' 3
   broken_full b full is cut last =
-      let c : CutBy sizes s n e left w m (broken.Full full) = subst (λ (x : Broken). CutBy sizes s n e left w m x) is cut in
+      let c : CutAt sizes s n t w m (IsFull full) = subst (λ (x : Broken). CutAt sizes s n t w m (why_of x)) is cut in
       record {
         is = IsFullTable;
         says = record {
           full = full;
-          stops = record { ms = c.cut.ms; t = c.t; between = m; run = full_end sizes s c.t n w m full c.cut; written = full_wrote sizes s c.t n w m full c.cut; last = last };
+          stops = record { ms = c.ms; t = t; between = m; run = full_end sizes s t n w m full c; written = full_wrote sizes s t n w m full c; last = last };
         };
       }
 
+module _ (sizes : Sizes) (s : State) (n : ℕ) (w m w' : World) (e : Engine) (left : List ℕ) where
   -- the file's next bytes didn't come
   pub unread_failed : UnreadBy sizes s n e left w m → Rose w.read_faults m.read_faults → Line m w' read_fault_line → SaysSo sizes s n w w' 5
   unread_failed h cause last = record { is = IsReadFault; says = inl (record { t = h.t; between = m; read = h.read; cause = cause; last = last }) }
@@ -140,102 +145,163 @@ cut_due sizes s s' w w' ms x why c = record {
   written = c.written;
 }
 
-due_cuts : (sizes : Sizes) (s : State) (e' : Engine) (left : List ℕ) (book : Book) (w w' : World) (ms : List Move) (n : ℕ) (b : Broken) → steps ms ≤ n → pulls ms ≡ 0 → e'.call ≡ None → FramesStand e' book.work → Cuts sizes s e' book w w' ms b →
-    CutBy sizes (extended left (record s { due = ms })) n e' left w w' b
-due_cuts sizes s e' left book w w' ms n b le still none frames h =
-    let at : State = extended left h.at in
-    let cut : Cut sizes (extended left s) at w w' ms (why_of b) = still_cut sizes left ms s h.at w w' (why_of b) still h.cut in
-    let off : CutOff sizes (record (extended left s) { due = ms }) (record at { due = ms }) n w w' (why_of b) =
-    due_cut sizes (record (extended left s) { due = ms }) (record at { due = ms }) n w w' ms (why_of b) (cut_due sizes (extended left s) at w w' ms ms (why_of b) cut) le refl in
-    record {
-      t = off.t;
-      cut = off.cut;
-      book' = book;
-      frames = near_none b e' book.work none frames;
-      same = same_moment (why_of b) off.t at (whole_state left e' book) off.same (whole_moment (why_of b) left h.at (state_of e' book) h.same);
-    }
+due_cuts : (sizes : Sizes) (s : State) (e' : Engine) (book : Book) (w w' : World) (ms : List Move) (n : ℕ) (b : Broken) → steps ms ≤ n → Cuts sizes s e' book w w' ms b →
+    (t : State) × CutAt sizes (record s { due = ms }) n t w w' (why_of b)
+due_cuts sizes s e' book w w' ms n b le h =
+    let off : CutOff sizes (record s { due = ms }) (record h.at { due = ms }) n w w' (why_of b) =
+    due_cut sizes (record s { due = ms }) (record h.at { due = ms }) n w w' ms (why_of b) (cut_due sizes s h.at w w' ms ms (why_of b) h.cut) le refl in
+    (off.t, off.cut)
 
--- THE JOB BEGINS
+-- THE JOB'S NAME
+
+kept_wrote : (w : World) (bytes : List ℕ) → Wrote w w (Kept bytes ∷ [])
+kept_wrote w bytes = record { told = λ p. refl; column = refl; later = (wrote_none w).later }
+
+-- one move is cut off: it is this that is refused
+module _ (sizes : Sizes) (s : State) (m : Move) (why : Why) where
+  refused_first : (done : List Move) (x : Move) (rest : List Move) (at : State) → m ∷ [] ≡ done ++ x ∷ rest → made_all done s ≡ at → Refuses sizes why x at → Refuses sizes why m s
+  refused_first [] x rest at all state h =
+      let same : x ≡ m = cc (all) in
+      subst (λ (y : State). Refuses sizes why m y) (sym state) (subst (λ (y : Move). Refuses sizes why y at) same h)
+  refused_first (y ∷ []) x rest at all state h = absurd (cc (all))
+  refused_first (y ∷ z ∷ done) x rest at all state h = absurd (cc (all))
+
+-- whether a name has room is told by the names and the strings
+refused_alike : (sizes : Sizes) (why : Why) (bytes : List ℕ) (s t : State) → s.names ≡ t.names → s.strings ≡ t.strings → Refuses sizes why (Kept bytes) s → Refuses sizes why (Kept bytes) t
+refused_alike sizes (IsFull full) bytes s t names strings h =
+    subst (λ (x : List (List ℕ)). refused sizes (string bytes x t.strings) ≡ Some full) names (subst (λ (x : List (List ℕ)). refused sizes (string bytes s.names x) ≡ Some full) strings h)
+refused_alike sizes IsFault bytes s t names strings h = absurd h
+refused_alike sizes IsWant bytes s t names strings h = absurd h
 
 -- an engine that was just made keeps the job's name
-module _ (sizes : Sizes) (e e' : Engine) (quiet : Bool) (file name : List ℕ) (is : name ≡ job_name file) (f : FilesTold) (a : SinkTold) where
+module _ (sizes : Sizes) (e e' : Engine) (quiet : Bool) (file name : List ℕ) (is : name ≡ job_name file) (begins : Begins sizes e quiet (Some [])) (f : FilesTold) (a : SinkTold) where
+  abbrev first_world : World
+  first_world = world f a false
+
+  pub named : Stands sizes e' first_book → Did sizes (state_of e first_book) (state_of e' first_book) first_world first_world (Kept name ∷ []) → Named sizes e' quiet file (Some [])
+  named stands d =
+      let kept : Did sizes (state_of e first_book) (state_of e' first_book) first_world first_world (Kept (job_name file) ∷ []) =
+      subst (λ (x : List ℕ). Did sizes (state_of e first_book) (state_of e' first_book) first_world first_world (Kept x ∷ [])) is d in
+      record {
+        stands = stands;
+        room = subst (λ (s : State). refusal sizes (Kept (job_name file)) s ≡ None) (begins.state file) kept.fits.0;
+        state = subst (λ (s : State). made (Kept (job_name file)) s ≡ record (state_of e' first_book) { due = job_due file (Some []) }) (begins.state file)
+            (ap (λ (s : State). record s { due = job_due file (Some []) }) kept.state);
+      }
+
+  -- a name for which a table has no room is refused whatever the file is
+  pub name_refused : (job : Option (List ℕ)) (n : ℕ) (b : Broken) (column : Bool) → column ≡ false → Cuts sizes (state_of e first_book) e' first_book first_world first_world (Kept name ∷ []) b → CutAt sizes (First quiet file job) n (First quiet file job) first_world (world f a column) (why_of b)
+  name_refused job n b column none h =
+      let cuts : Cuts sizes (state_of e first_book) e' first_book first_world first_world (Kept (job_name file) ∷ []) b =
+      subst (λ (x : List ℕ). Cuts sizes (state_of e first_book) e' first_book first_world first_world (Kept x ∷ []) b) is h in
+      let c = cuts.cut in
+      let s = state_of e first_book in
+      subst (λ (x : Bool). CutAt sizes (First quiet file job) n (First quiet file job) first_world (world f a x) (why_of b)) (sym none) (record {
+        ms = [];
+        m = Kept (job_name file);
+        u = made (Kept (job_name file)) (record (First quiet file job) { due = file_missing file job });
+        count = 0;
+        moves = refl;
+        goes = next_due (First quiet file job) (Kept (job_name file)) (file_missing file job) refl;
+        room = omega arith;
+        refuses = refused_alike sizes (why_of b) (job_name file) s (First quiet file job) (ap (λ (x : State). x.names) (begins.state file)) (ap (λ (x : State). x.strings) (begins.state file))
+            (refused_first sizes s (Kept (job_name file)) (why_of b) c.done c.m c.rest cuts.at c.all c.state c.refuses);
+        cause = c.cause;
+        written = wrote_none first_world;
+      })
+
+-- an engine that has kept it
+module _ (sizes : Sizes) (e : Engine) (quiet : Bool) (file : List ℕ) (job : Option (List ℕ)) (h : Named sizes e quiet file job) where
+  pub named_column : e.in_line ≡ false
+  named_column = sym (ap (λ (s : State). s.in_line) h.state)
+
+  pub named_names : e.names.names ≡ primitive_names
+  named_names = sym (ap (λ (s : State). s.names) h.state)
+
+  pub named_reports : e.reports ≡ 0
+  named_reports = sym (ap (λ (s : State). s.reports) h.state)
+
+  named_did : (w : World) → Did sizes (but_due (First quiet file job)) (state_of e first_book) w w (Kept (job_name file) ∷ [])
+  named_did w = record { state = ap but_due h.state; fits = (h.room, tt); written = kept_wrote w (job_name file) }
+
+-- the file is held, and the run goes on
+pub named_came : (sizes : Sizes) (e : Engine) (quiet : Bool) (file all : List ℕ) (f : FilesTold) (a : SinkTold) → Named sizes e quiet file (Some []) → Came sizes (First quiet file (Some all)) e all (world f a false) (world_of f a e) 0
+named_came sizes e quiet file all f a h =
+    let w = world f a false in
+    let s = but_due (First quiet file (Some [])) in
+    let on = still_did sizes all (Kept (job_name file) ∷ []) s (state_of e first_book) w w refl (named_did sizes e quiet file (Some []) h w) in
+    subst (λ (x : Bool). Came sizes (First quiet file (Some all)) e all w (world f a x) 0) (sym (named_column sizes e quiet file (Some []) h)) (record {
+      ms = Kept (job_name file) ∷ [];
+      book' = first_book;
+      stands = all_of sizes e first_book h.stands;
+      moves = due_moves sizes (extended all s) (whole_state all e first_book) w w (Kept (job_name file) ∷ []) refl on;
+      count = refl;
+      written = kept_wrote w (job_name file);
+    })
+
+-- the file isn't held: with nothing pending
+abbrev nothing : Pending
+nothing = record { puts = []; line = []; lex = NewLine; rest = []; file = Closed; number = 0 }
+
+abbrev dropped : Engine → Engine
+dropped e = record e { input = record e.input { pending = nothing } }
+
+named_dropped : (sizes : Sizes) (e : Engine) (quiet : Bool) (file : List ℕ) → IsUnread e → Named sizes e quiet file (Some []) → Named sizes (dropped e) quiet file None
+named_dropped sizes e quiet file none h =
+    let sound = h.stands.sound in
+    record {
+      stands = stands_still sizes e (dropped e) first_book (record { outer = refl; top = refl; ask = refl; lists = refl; aside = refl; call = refl; calling = refl }) (record {
+        sized = record { few_reports = sound.sized.few_reports; small = sound.sized.small; own = sound.sized.own; outer = sound.sized.outer; input = sound.sized.input; names = sound.sized.names; hash = sound.sized.hash; located = sound.sized.located };
+        tied = subst (λ (ps : List Put). Tied first_book.number first_book.macros e.input.meanings ps e.input.lists) (ap (λ (p : Pending). p.puts) none) sound.tied;
+        bodies = sound.bodies;
+      }) h.stands.idle h.stands;
+      room = h.room;
+      state = ap (λ (s : State). record s { pending = pending_of first_book.number nothing; due = job_due file None }) h.state;
+    }
+
+pub dropped_engine : (sizes : Sizes) (e e' : Engine) (quiet : Bool) (file : List ℕ) → e' ≡ dropped e → IsUnread e → Named sizes e quiet file (Some []) → Named sizes e' quiet file None
+dropped_engine sizes e e' quiet file is none h = subst (λ (x : Engine). Named sizes x quiet file None) (sym is) (named_dropped sizes e quiet file none h)
+
+-- and the run ends
+module _ (sizes : Sizes) (e e' : Engine) (quiet : Bool) (file : List ℕ) (h : Named sizes e quiet file None) (f : FilesTold) (a b : SinkTold) (n : ℕ) where
   abbrev before : World
   before = world f a false
 
-  kept_did : Did sizes (state_of e first_book) (state_of e' first_book) before before (Kept name ∷ []) → Did sizes (state_of e first_book) (state_of e' first_book) before before (Kept (job_name file) ∷ [])
-  kept_did d = subst (λ (x : List ℕ). Did sizes (state_of e first_book) (state_of e' first_book) before before (Kept x ∷ [])) is d
+  begun : (w : World) → Did sizes (but_due (First quiet file None)) (state_of e first_book) w w (Kept (job_name file) ∷ [])
+  begun w = named_did sizes e quiet file None h w
 
-  -- a name for which a table has no room
-  kept_cut : (job : Option (List ℕ)) (left : List ℕ) (more : List Move) (n : ℕ) (b : Broken) (column : Bool) → column ≡ false → steps (Kept (job_name file) ∷ more) ≤ n → pulls (Kept (job_name file) ∷ more) ≡ 0 → job_due file job ≡ Kept (job_name file) ∷ more →
-      Begins sizes e quiet job → SameFrames e e' → Cuts sizes (state_of e first_book) e' first_book before before (Kept name ∷ more) b → CutBy sizes (extended left (First quiet file job)) n e' left before (world f a column) b
-  kept_cut job left more n b column none le still due begins same h =
-      subst (λ (x : Bool). CutBy sizes (extended left (First quiet file job)) n e' left before (world f a x) b) (sym none)
-      (subst (λ (s : State). CutBy sizes (extended left s) n e' left before before b) (ap (λ (ms : List Move). record (state_of e first_book) { due = ms }) (sym due) ∙ begins.state file)
-      (due_cuts sizes (state_of e first_book) e' left first_book before before (Kept (job_name file) ∷ more) n b le still (same.call ∙ begins.stands.uncalled.none) (frames_still e e' [] same begins.stands.readings)
-      (subst (λ (x : List ℕ). Cuts sizes (state_of e first_book) e' first_book before before (Kept x ∷ more) b) is h)))
-
-  pub held_cut : (all : List ℕ) (n : ℕ) (b : Broken) (column : Bool) → column ≡ false → Begins sizes e quiet (Some []) → SameFrames e e' →
-      ((more : List Move) → Cuts sizes (state_of e first_book) e' first_book before before (Kept name ∷ more) b) → CutBy sizes (First quiet file (Some all)) n e' all before (world f a column) b
-  held_cut all n b column none begins same h = kept_cut (Some []) all [] n b column none (omega arith) refl refl begins same (h [])
-
-  pub unheld_cut : (n : ℕ) (b : Broken) (column : Bool) → column ≡ false → Begins sizes e quiet None → SameFrames e e' →
-      ((more : List Move) → Cuts sizes (state_of e first_book) e' first_book before before (Kept name ∷ more) b) → CutBy sizes (First quiet file None) n e' [] before (world f a column) b
-  unheld_cut n b column none begins same h = kept_cut None [] (no_file file) n b column none (omega arith) refl refl begins same (h (no_file file))
-
-  -- the file is held, and the run goes on
-  pub kept_came : (all : List ℕ) → Begins sizes e quiet (Some []) → e'.in_line ≡ false → Stands sizes e' first_book → Did sizes (state_of e first_book) (state_of e' first_book) before before (Kept name ∷ []) →
-      Came sizes (First quiet file (Some all)) e' all before (world_of f a e') 0
-  kept_came all begins column stands d =
-      let on = still_did sizes all (Kept (job_name file) ∷ []) (state_of e first_book) (state_of e' first_book) before before refl (kept_did d) in
-      subst (λ (x : Bool). Came sizes (First quiet file (Some all)) e' all before (world f a x) 0) (sym column) (record {
-        ms = Kept (job_name file) ∷ [];
-        book' = first_book;
-        stands = all_of sizes e' first_book stands;
-        moves = subst (λ (s : State). FitMoves sizes (extended all s) (Kept (job_name file) ∷ []) (whole_state all e' first_book)) (begins.state file)
-            (due_moves sizes (whole_state all e first_book) (whole_state all e' first_book) before before (Kept (job_name file) ∷ []) refl on);
-        count = refl;
-        written = (kept_did d).written;
-      })
-
-  -- the names that are entered are as they were
-  pub kept_names : Did sizes (state_of e first_book) (state_of e' first_book) before before (Kept name ∷ []) → e.names.names ≡ primitive_names → e'.names.names ≡ primitive_names
-  kept_names d names = sym (ap (λ (s : State). s.names) d.state) ∙ names
-
-  -- and so are the reports
-  pub kept_reports : Did sizes (state_of e first_book) (state_of e' first_book) before before (Kept name ∷ []) → e.reports ≡ 0 → e'.reports ≡ 0
-  kept_reports d none = sym (ap (λ (s : State). s.reports) d.state) ∙ none
-
-  -- the file isn't held, and the run ends
-  module _ (begins : Begins sizes e quiet None) (column : e'.in_line ≡ false) (d : Did sizes (state_of e first_book) (state_of e' first_book) before before (Kept name ∷ [])) (b : SinkTold) (e2 : Engine) (n : ℕ) where
-    pub refused_fails : Halts sizes (state_of e' first_book) e2 first_book (world_of f a e') (world_of f b e2) (no_file file) (AtFatal NoFile) 0 → SaysSo sizes (First quiet file None) n before (world_of f b e2) 2
-    refused_fails halts =
-        let h : Halts sizes (state_of e' first_book) e2 first_book before (world_of f b e2) (no_file file) (AtFatal NoFile) 0 = subst (λ (x : Bool). Halts sizes (state_of e' first_book) e2 first_book (world f a x) (world_of f b e2) (no_file file) (AtFatal NoFile) 0) column halts in
-        let all : Did sizes (state_of e first_book) h.t before (world_of f b e2) (job_due file None) =
-        did_join sizes (state_of e first_book) (state_of e' first_book) h.t before before (world_of f b e2) (Kept (job_name file) ∷ []) (no_file file) (kept_did d) h.did in
-        record {
-          is = IsFatal;
-          says = record {
-            fatal = NoFile;
-            whole = record {
-              ms = job_due file None;
-              t = h.t;
-              run = record {
-                moves = subst (λ (s : State). FitMoves sizes s (job_due file None) h.t) (begins.state file) (due_moves sizes (state_of e first_book) h.t before (world_of f b e2) (job_due file None) h.due all);
-                within = omega arith;
-                whole = stopped_ends h.t (AtFatal NoFile) h.due h.stopped;
-              };
-              stopped = h.stopped;
-              written = all.written;
+  pub refused_fails : Halts sizes (state_of e first_book) e' first_book (world_of f a e) (world_of f b e') (no_file file) (AtFatal NoFile) 0 → SaysSo sizes (First quiet file None) n before (world_of f b e') 2
+  refused_fails halts =
+      let s = but_due (First quiet file None) in
+      let x : Halts sizes (state_of e first_book) e' first_book before (world_of f b e') (no_file file) (AtFatal NoFile) 0 =
+      subst (λ (c : Bool). Halts sizes (state_of e first_book) e' first_book (world f a c) (world_of f b e') (no_file file) (AtFatal NoFile) 0) (named_column sizes e quiet file None h) halts in
+      let all : Did sizes s x.t before (world_of f b e') (job_due file None) =
+      did_join sizes s (state_of e first_book) x.t before before (world_of f b e') (Kept (job_name file) ∷ []) (no_file file) (begun before) x.did in
+      record {
+        is = IsFatal;
+        says = record {
+          fatal = NoFile;
+          whole = record {
+            ms = job_due file None;
+            t = x.t;
+            run = record {
+              moves = due_moves sizes s x.t before (world_of f b e') (job_due file None) x.due all;
+              within = omega arith;
+              whole = stopped_ends x.t (AtFatal NoFile) x.due x.stopped;
             };
+            stopped = x.stopped;
+            written = all.written;
           };
-        }
+        };
+      }
 
-    pub refused_cut : (k : Broken) → SameFrames e e' → SameFrames e' e2 → Cuts sizes (state_of e' first_book) e2 first_book (world_of f a e') (world_of f b e2) (no_file file) k → CutBy sizes (First quiet file None) n e2 [] before (world_of f b e2) k
-    refused_cut k first second cuts =
-        let h : Cuts sizes (state_of e' first_book) e2 first_book before (world_of f b e2) (no_file file) k = subst (λ (x : Bool). Cuts sizes (state_of e' first_book) e2 first_book (world f a x) (world_of f b e2) (no_file file) k) column cuts in
-        subst (λ (s : State). CutBy sizes (extended [] s) n e2 [] before (world_of f b e2) k) (begins.state file)
-        (due_cuts sizes (state_of e first_book) e2 [] first_book before (world_of f b e2) (job_due file None) n k (omega arith) refl (second.call ∙ first.call ∙ begins.stands.uncalled.none) (frames_still e' e2 [] second (frames_still e e' [] first begins.stands.readings))
-        (later_cuts sizes (state_of e first_book) (state_of e' first_book) e2 first_book before before (world_of f b e2) (Kept (job_name file) ∷ []) (no_file file) k (kept_did d) h))
+  pub refused_cut : (k : Broken) → Cuts sizes (state_of e first_book) e' first_book (world_of f a e) (world_of f b e') (no_file file) k → (t : State) × CutAt sizes (First quiet file None) n t before (world_of f b e') (why_of k)
+  refused_cut k cuts =
+      let s = but_due (First quiet file None) in
+      let x : Cuts sizes (state_of e first_book) e' first_book before (world_of f b e') (no_file file) k =
+      subst (λ (c : Bool). Cuts sizes (state_of e first_book) e' first_book (world f a c) (world_of f b e') (no_file file) k) (named_column sizes e quiet file None h) cuts in
+      due_cuts sizes s e' first_book before (world_of f b e') (job_due file None) n k (omega arith)
+      (later_cuts sizes s (state_of e first_book) e' first_book before before (world_of f b e') (Kept (job_name file) ∷ []) (no_file file) k (begun before) x)
 
 -- AND THEN NOTHING IS WRITTEN
 
@@ -387,11 +453,11 @@ module _ (id : ℕ) (name : List ℕ) (f f1 f2 f3 : FilesTold) (r r' : OpenReade
 pub means_by : (sizes sizes' : Sizes) (quiet : Bool) (name : List ℕ) (file : File) (n : ℕ) (w w' : World) (status : ℕ) → sizes' ≡ sizes → MeansRun sizes' quiet name file n w w' status → MeansRun sizes quiet name file n w w' status
 means_by sizes sizes' quiet name file n w w' status is h = subst (λ (x : Sizes). MeansRun x quiet name file n w w' status) is h
 
-record SomeJob (f : File) : Type 0 where
-  job : Option (List ℕ)
-  is_job : IsJob f job
+pub record SomeJob (f : File) : Type 0 where
+  pub job : Option (List ℕ)
+  pub is_job : IsJob f job
 
-some_job : (f : File) → SomeJob f
+pub some_job : (f : File) → SomeJob f
 some_job Untold = record { job = None; is_job = tt }
 some_job NotHeld = record { job = None; is_job = refl }
 some_job (Holds b) = record { job = Some b; is_job = refl }

@@ -3,13 +3,16 @@ ghost use Rattle.std.specs.Prelude.{◌≡◌, ℕ, List, [], Some, None, false,
 ghost use Rattle.tex_defs.specs.Places.{Rose};
 ghost use Rattle.tex_defs.specs.declared.Sizes.{Sizes};
 ghost use Rattle.plain_state.specs.States.{State};
+ghost use Rattle.plain_machine.specs.Does.{CutAt};
 ghost use Rattle.plain_machine.specs.Meaning.{First, MeansRun};
 ghost use Rattle.world_io.specs.Told.{FilesTold, world};
 ghost use Rattle.world_io.specs.declared.traits.Fault.TheVariants.{Failed};
-ghost use Rattle.stomach.specs.Ran.{CutBy, UnreadBy, StoppedBy};
+ghost use Rattle.stomach.specs.Ran.{UnreadBy, StoppedBy};
 ghost use Rattle.stomach.specs.Read.{ReadsTo};
 ghost use Rattle.stomach.specs.declared.early.Early.TheVariants.{Unread};
 ghost use Rattle.tex_program.specs.Says.{SaysSo, ReadAlike, HasReadCause, end_status};
+ghost use Rattle.tex_program.specs.Named.{Named};
+ghost use Rattle.engine_state.specs.Faults.{why_of};
 ghost use Rattle.engine_state.specs.First.{Begins, IsUnread};
 ghost use Rattle.engine_state.specs.declared.engine.Engine.{Engine};
 
@@ -30,7 +33,7 @@ pub struct Told {
 
 /// Tells of a run that was cut off.
 fn tell_broken<S: Sink>(out: &mut S, in_line: bool, broken: Broken) -> Told
-    ensures says { (sizes : Sizes) (f : FilesTold) (s : State) (n : ℕ) (w : _) (e : Engine) (left : List ℕ) → CutBy sizes s n e left w (world f (S.told out.old) in_line) broken → SaysSo sizes s n w (world f (S.told out.new) result.in_line) result.status }
+    ensures says { (sizes : Sizes) (f : FilesTold) (s t : State) (n : ℕ) (w : _) → CutAt sizes s n t w (world f (S.told out.old) in_line) (why_of broken) → SaysSo sizes s n w (world f (S.told out.new) result.in_line) result.status }
     ensures no_read { result.status ≡ 5 → ⊥ }
     ensures not_usage { result.status ≡ 9 → ⊥ }
 {
@@ -93,10 +96,9 @@ fn status_of(outcome: Outcome, reports: u32) -> u8
     }
 }
 
-/// Runs an engine at the beginning of the job of a file that is open.
+/// Runs the job of a file that is open, by an engine that has kept the job's name.
 fn run_engine<F: Files, S: Sink>(
     engine: &mut Engine,
-    file: &[u8],
     reader: &mut Reader,
     files: &mut F,
     steps: u64,
@@ -105,14 +107,11 @@ fn run_engine<F: Files, S: Sink>(
     requires idle { engine.old.input.making ≡ None }
     requires running { engine.old.stopped ≡ false }
     requires is_open { (F.told files.old).reading reader.old.id ≡ true }
-    ensures says { ReadsTo reader.old reader.new (F.told files.old) (F.told files.new) (λ all left. (sizes : Sizes) (f f' : FilesTold) (quiet : _) → ReadAlike (F.told files.old) (F.told files.new) f f' → Begins sizes engine.old quiet (Some []) →
-        SaysSo sizes (First quiet file.now (Some all)) steps (world f (S.told out.old) false) (world f' (S.told out.new) result.in_line) result.status) }
+    ensures says { ReadsTo reader.old reader.new (F.told files.old) (F.told files.new) (λ all left. (sizes : Sizes) (f f' : FilesTold) (quiet : _) (file : List ℕ) → ReadAlike (F.told files.old) (F.told files.new) f f' → Named sizes engine.old quiet file (Some []) →
+        SaysSo sizes (First quiet file (Some all)) steps (world f (S.told out.old) false) (world f' (S.told out.new) result.in_line) result.status) }
     ensures read_fault { result.status ≡ 5 → Rose (F.told files.old).read_faults (F.told files.new).read_faults }
     ensures not_usage { result.status ≡ 9 → ⊥ }
 {
-    if let Err(broken) = engine.keep_name(job_name(file)) {
-        return tell_broken(out, engine.is_in_line(), broken);
-    }
     match run_steps(engine, reader, files, out, steps) {
         Ok(Ended::Halted(outcome)) => Told {
             in_line: engine.is_in_line(),
@@ -126,15 +125,12 @@ fn run_engine<F: Files, S: Sink>(
     }
 }
 
-/// Ends the job of a file that isn't held, at an engine's beginning.
+/// Ends the job of a file that isn't held, by an engine that has kept the job's name.
 fn refuse_engine<S: Sink>(engine: &mut Engine, file: &[u8], out: &mut S) -> Told
-    ensures says { (sizes : Sizes) (f : FilesTold) (quiet : _) (n : ℕ) → Begins sizes engine.old quiet None → SaysSo sizes (First quiet file.now None) n (world f (S.told out.old) false) (world f (S.told out.new) result.in_line) result.status }
+    ensures says { (sizes : Sizes) (f : FilesTold) (quiet : _) (n : ℕ) → Named sizes engine.old quiet file.now None → SaysSo sizes (First quiet file.now None) n (world f (S.told out.old) false) (world f (S.told out.new) result.in_line) result.status }
     ensures no_read { result.status ≡ 5 → ⊥ }
     ensures not_usage { result.status ≡ 9 → ⊥ }
 {
-    if let Err(broken) = engine.keep_name(job_name(file)) {
-        return tell_broken(out, engine.is_in_line(), broken);
-    }
     match engine.refuse_job(out, file) {
         Ok(_) => Told {
             in_line: engine.is_in_line(),
@@ -144,7 +140,46 @@ fn refuse_engine<S: Sink>(engine: &mut Engine, file: &[u8], out: &mut S) -> Told
     }
 }
 
-/// Opens the job's file and runs it, by an engine at its beginning.
+/// Opens the job's file and runs it, by an engine that has kept the job's name.
+fn run_named<F: Files, S: Sink>(
+    engine: &mut Engine,
+    file: &[u8],
+    files: &mut F,
+    steps: u64,
+    out: &mut S,
+) -> Told
+    requires idle { engine.old.input.making ≡ None }
+    requires running { engine.old.stopped ≡ false }
+    requires is_unread { IsUnread engine.old }
+    ensures means { (sizes : Sizes) (quiet : _) → Named sizes engine.old quiet file.now (Some []) →
+        MeansRun sizes quiet file.now ((F.told files.old).file file.now) steps (world (F.told files.old) (S.told out.old) false) (world (F.told files.new) (S.told out.new) result.in_line) result.status }
+    ensures read_fault { result.status ≡ 5 → Rose (F.told files.old).read_faults (F.told files.new).read_faults }
+    ensures write_fault { (sizes : Sizes) (quiet : _) → Named sizes engine.old quiet file.now (Some []) → result.status ≡ 6 → Rose (S.told out.old).faults (S.told out.new).faults }
+    ensures not_usage { result.status ≡ 9 → ⊥ }
+{
+    match files.open_in(file) {
+        Ok(Some(id)) => {
+            let mut reader = Reader::new(id);
+            let told = run_engine(engine, &mut reader, files, steps, out);
+            files.close_in(id);
+            told
+        }
+        Ok(None) => {
+            engine.input.drop_file();
+            refuse_engine(engine, file, out)
+        }
+        Err(Fault::Failed) => Told {
+            in_line: tell(out, false, Telling::ReadFault),
+            status: 5,
+        },
+        Err(Fault::NoMemory) => Told {
+            in_line: tell(out, false, Telling::NoMemory),
+            status: 7,
+        },
+    }
+}
+
+/// Keeps the job's name, opens its file and runs it, by an engine at its beginning.
 pub fn run_file<F: Files, S: Sink>(
     engine: &mut Engine,
     file: &[u8],
@@ -161,24 +196,8 @@ pub fn run_file<F: Files, S: Sink>(
     ensures write_fault { (sizes : Sizes) (quiet : _) → Begins sizes engine.old quiet (Some []) → result.status ≡ 6 → Rose (S.told out.old).faults (S.told out.new).faults }
     ensures not_usage { result.status ≡ 9 → ⊥ }
 {
-    match files.open_in(file) {
-        Ok(Some(id)) => {
-            let mut reader = Reader::new(id);
-            let told = run_engine(engine, file, &mut reader, files, steps, out);
-            files.close_in(id);
-            told
-        }
-        Ok(None) => {
-            engine.drop_file();
-            refuse_engine(engine, file, out)
-        }
-        Err(Fault::Failed) => Told {
-            in_line: tell(out, false, Telling::ReadFault),
-            status: 5,
-        },
-        Err(Fault::NoMemory) => Told {
-            in_line: tell(out, false, Telling::NoMemory),
-            status: 7,
-        },
+    if let Err(broken) = engine.keep_name(job_name(file)) {
+        return tell_broken(out, engine.is_in_line(), broken);
     }
+    run_named(engine, file, files, steps, out)
 }

@@ -148,6 +148,46 @@ fn a_failed_call_is_told(rt: HostRuntime) {
     assert!(rt; over(alloc, HI, 256, (0, 1), Expected { text, status }));
 }
 
+/// A name of so many letters.
+fn letters(alloc: Global, count: usize) -> Result<String, AllocError> {
+    let mut name = String::new(alloc);
+    for _ in 0..count {
+        name.push_str("a")?;
+    }
+    Ok(name)
+}
+
+/// Whether the program does so for a job whose name has so many letters, over files whose first call fails.
+fn unopened(alloc: Global, count: usize, expected: Expected) -> bool {
+    let Ok(name) = letters(alloc, count) else {
+        return false;
+    };
+    let setting = Setting {
+        file: (b"job.tex", HI),
+        most: 0,
+        failing: (1, 0),
+    };
+    does(
+        alloc,
+        &["texmac", "init", name.as_str()],
+        &setting,
+        &expected,
+    )
+}
+
+#[test]
+fn a_name_without_room_is_told_before_a_failed_opening(rt: HostRuntime) {
+    let alloc = rt.alloc();
+    let (text, status) = (b"! Read fault.\n".as_slice(), 5);
+    assert!(rt; unopened(alloc, 30000, Expected { text, status }));
+    // of the 32000 bytes the names of the primitives have 1689
+    let (text, status) = (
+        b"! TeX capacity exceeded, sorry [pool size=32000].\n".as_slice(),
+        3,
+    );
+    assert!(rt; unopened(alloc, 31000, Expected { text, status }));
+}
+
 /// A line of 42 bytes that writes `hi`, and two more.
 const THREE_LINES: &[u8] =
     b"\\catcode`\\{=1 \\catcode`\\}=2 \\message{hi}%\n%a second line here\n\\end\n";

@@ -1,75 +1,44 @@
-use Rattle.std.proofs.Common.{subst, refl, ap, ℕ, List, [], ◌++◌, Some, None, false}
-use Rattle.std.specs.Prelude.{Option, IfNone, IfSome, Err}
+use Rattle.std.proofs.Common.{◌∙◌, refl, [], None, false}
 use Rattle.plain_machine.specs.Meaning.{First}
-use Rattle.world_io.specs.declared.traits.InId.{InId}
-use Rattle.world_io.specs.Told.{SameFiles, NotFound, OpensReader, world}
-use Rattle.tex_program.specs.Says.{ReadAlike}
-use Rattle.tex_program.proofs.Meanings.{Leaves, job_leaves, job_alike, missing_job, means_says, means_unopened, means_no_room, says_on, read_quiet, bare, bare_read, bare_alike, fault_rose}
+use Rattle.world_io.specs.Told.{world}
+use Rattle.engine_state.specs.Book.{first_book}
+use Rattle.tex_program.proofs.Meanings.{named, name_refused, some_job, means_says, bare, fault_rose}
 use Rattle.tex_program.proofs.run.run_file.Goals as goal
 
-pub returns-in-Ok-Some-clause-means : goal.returns-in-Ok-Some-clause-means
-returns-in-Ok-Some-clause-means g c = λ sizes quiet begins.
-    let i = c.in-Ok-Some in let name = c.args.file.now in let n = c.args.steps in
+pub returns-in-Err-clause-means : goal.returns-in-Err-clause-means
+returns-in-Err-clause-means g c = λ sizes quiet begins.
+    let file = c.args.file.now in let n = c.args.steps in let told = c.tell_broken.result in
     let f = g.F.Files.told c.args.files.now in
-    let f1 = g.F.Files.told c.open_in.new.self in
-    let f2 = g.F.Files.told c.run_engine-told.new.files in
-    let f3 = g.F.Files.told c.close_in.new.self in
-    let s = g.S.Sink.told c.args.out.now in
-    let s' = g.S.Sink.told c.run_engine-told.new.out in
-    let r = c.new-reader.result in
-    let r' = c.run_engine-told.new.reader in
-    let told = c.run_engine-told.result in
-    let reads = c.run_engine-told.ensures.says in
-    let opens : OpensReader i.id.number name f f1 = subst (λ (x : Option InId). IfSome x (λ y. OpensReader y.number name f f1)) i.field-0-is i.ensures.opened in
-    let lv : Leaves (f.file name) r' reads.got = job_leaves i.id.number name f f1 f2 f3 r r' reads.got c.new-reader.ensures opens reads.came in
-    let cause = i.ensures.cause in
-    let alike : ReadAlike f1 f2 f f3 = job_alike i.id.number name f f1 f2 f3 r r' reads.got c.new-reader.ensures opens reads.came c.close_in.ensures.closed c.close_in.ensures.counts cause.later i.ensures.writes cause.later_wants in
-    let all : List ℕ = reads.got ++ lv.left in
-    means_says sizes quiet name (f.file name) n (Some all) (world f s false) (world f3 s' told.in_line) told.status lv.is_job (reads.holds lv.left lv.may sizes f f3 quiet alike begins)
+    let a = g.S.Sink.told c.args.out.now in
+    let w = world f a false in
+    let j = some_job (f.file file) in
+    let first = First quiet file j.job in
+    let column = c.is_in_line.ensures ∙ (c.keep_name.ensures.column ∙ begins.column) in
+    let cut = name_refused sizes c.args.engine.now c.keep_name.new.self quiet file c.job_name.result.now c.job_name.ensures begins f a j.job n c.in-Err.broken c.is_in_line.result column (c.in-Err.ensures.err sizes w first_book [] begins.stands.sound.sized) in
+    means_says sizes quiet file (f.file file) n j.job w (world f (g.S.Sink.told c.tell_broken.new.out) told.in_line) told.status j.is_job (c.tell_broken.ensures.says sizes f first first n w cut)
 
-pub returns-in-Ok-Some-clause-write_fault : goal.returns-in-Ok-Some-clause-write_fault
-returns-in-Ok-Some-clause-write_fault g c = λ sizes quiet begins.
-    let told = c.run_engine-told.result in
-    fault_rose bare_read refl _ _ false told.in_line sizes _ c.args.steps told.status (c.run_engine-told.ensures.says.holds [] (λ h. refl) sizes bare bare_read quiet (bare_alike _ _) begins)
+pub returns-in-Err-clause-write_fault : goal.returns-in-Err-clause-write_fault
+returns-in-Err-clause-write_fault g c = λ sizes quiet begins.
+    let file = c.args.file.now in let n = c.args.steps in let told = c.tell_broken.result in
+    let a = g.S.Sink.told c.args.out.now in
+    let w = world bare a false in
+    let first = First quiet file None in
+    let column = c.is_in_line.ensures ∙ (c.keep_name.ensures.column ∙ begins.column) in
+    let cut = name_refused sizes c.args.engine.now c.keep_name.new.self quiet file c.job_name.result.now c.job_name.ensures begins bare a None n c.in-Err.broken c.is_in_line.result column (c.in-Err.ensures.err sizes w first_book [] begins.stands.sound.sized) in
+    fault_rose bare refl a (g.S.Sink.told c.tell_broken.new.out) false told.in_line sizes first n told.status (c.tell_broken.ensures.says sizes bare first first n w cut)
 
-pub returns-in-Ok-None-clause-means : goal.returns-in-Ok-None-clause-means
-returns-in-Ok-None-clause-means g c = λ sizes quiet begins.
-    let i = c.in-Ok-None in let name = c.args.file.now in let n = c.args.steps in
+pub returns-clause-means : goal.returns-clause-means
+returns-clause-means g c = λ sizes quiet begins.
     let f = g.F.Files.told c.args.files.now in
-    let f' = g.F.Files.told c.open_in.new.self in
-    let s = g.S.Sink.told c.args.out.now in
-    let s' = g.S.Sink.told c.refuse_engine.new.out in
-    let told = c.refuse_engine.result in
-    let missing : NotFound (f.file name) = subst (λ (x : Option InId). IfNone x (NotFound (f.file name))) i.field-0-is i.ensures.missing in
-    let kept : SameFiles f f' = subst (λ (x : Option InId). IfNone x (SameFiles f f')) i.field-0-is i.ensures.none in
-    let w = world f s false in
-    means_says sizes quiet name (f.file name) n None w (world f' s' told.in_line) told.status (missing_job (f.file name) missing)
-    (says_on sizes (First quiet name None) n w (world f s' told.in_line) (world f' s' told.in_line) (read_quiet f f' s' told.in_line kept.file i.ensures.cause.later i.ensures.writes i.ensures.cause.later_wants) told.status
-    (c.refuse_engine.ensures.says sizes f quiet n (c.drop_file.ensures sizes quiet begins)))
+    let a = g.S.Sink.told c.args.out.now in
+    c.run_named.ensures.means sizes quiet
+    (named sizes c.args.engine.now c.keep_name.new.self quiet c.args.file.now c.job_name.result.now c.job_name.ensures begins f a
+    (c.in_default.ensures.stands sizes first_book begins.stands) (c.in_default.ensures.did sizes (world f a false) first_book begins.stands.sound.sized))
 
-pub returns-in-Ok-None-clause-write_fault : goal.returns-in-Ok-None-clause-write_fault
-returns-in-Ok-None-clause-write_fault g c = λ sizes quiet begins.
-    let told = c.refuse_engine.result in
-    fault_rose bare refl _ _ false told.in_line sizes _ c.args.steps told.status (c.refuse_engine.ensures.says sizes bare quiet c.args.steps (c.drop_file.ensures sizes quiet begins))
-
-pub returns-in-Err-Failed-clause-means : goal.returns-in-Err-Failed-clause-means
-returns-in-Err-Failed-clause-means g c = λ sizes quiet begins.
-    let i = c.in-Err-Failed.ensures in let t = c.tell in let name = c.args.file.now in
+pub returns-clause-write_fault : goal.returns-clause-write_fault
+returns-clause-write_fault g c = λ sizes quiet begins.
     let f = g.F.Files.told c.args.files.now in
-    let f' = g.F.Files.told c.open_in.new.self in
-    let s = g.S.Sink.told c.args.out.now in
-    means_unopened sizes quiet name (f.file name) c.args.steps (world f s false) (world f' s false) (world f' (g.S.Sink.told t.new.out) t.result) (i.cause.failed (ap Err c.in-Err-Failed.field-0-is)) (read_quiet f f' s false i.err.file i.cause.later i.writes i.cause.later_wants) (t.ensures.line f')
-
-pub returns-in-Err-NoMemory-clause-means : goal.returns-in-Err-NoMemory-clause-means
-returns-in-Err-NoMemory-clause-means g c = λ sizes quiet begins.
-    let i = c.in-Err-NoMemory.ensures in let t = c.tell-in-Err-NoMemory in let name = c.args.file.now in
-    let f = g.F.Files.told c.args.files.now in
-    let f' = g.F.Files.told c.open_in.new.self in
-    let s = g.S.Sink.told c.args.out.now in
-    means_no_room sizes quiet name (f.file name) c.args.steps (world f s false) (world f' s false) (world f' (g.S.Sink.told t.new.out) t.result) (read_quiet f f' s false i.err.file i.cause.later i.writes i.cause.later_wants) (t.ensures.line f')
-
-pub run_engine-told-requires-clause-idle : goal.run_engine-told-requires-clause-idle
-run_engine-told-requires-clause-idle g c = c.requires.idle
-
-pub run_engine-told-requires-clause-running : goal.run_engine-told-requires-clause-running
-run_engine-told-requires-clause-running g c = c.requires.running
+    let a = g.S.Sink.told c.args.out.now in
+    c.run_named.ensures.write_fault sizes quiet
+    (named sizes c.args.engine.now c.keep_name.new.self quiet c.args.file.now c.job_name.result.now c.job_name.ensures begins f a
+    (c.in_default.ensures.stands sizes first_book begins.stands) (c.in_default.ensures.did sizes (world f a false) first_book begins.stands.sound.sized))
