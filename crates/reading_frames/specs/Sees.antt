@@ -1,0 +1,48 @@
+-- What the engine's words stand for, over the lists that are held.
+use Rattle.std.specs.Prelude.{List, [], ◌∷◌, ◌++◌, drop, Option, Some, None}
+use Rattle.tex_defs.specs.declared.Token.{Token}
+use Rattle.plain_state.specs.Definitions.{with_cell}
+use Rattle.rows.specs.Readings as reading
+use Rattle.plain_readings.specs.Readings.{Kind}
+use Rattle.plain_readings.specs.Readings as kind
+use Rattle.reading_frames.specs.declared.ask.Opening.{Opening}
+use Rattle.reading_frames.specs.declared.ask.Opening.TheVariants.{Reads, Spelling}
+use Rattle.reading_frames.specs.declared.ask.Ask.{Ask}
+use Rattle.reading_frames.specs.declared.ask.Ask.TheVariants.{More, Inner, Done, Acts, ActsOn, Defines, Ends, Tells, Inserts}
+use Rattle.reading_frames.specs.declared.ask.Grown.{Grown}
+
+-- The lists that open readings hold, that of the innermost first, and of each reading the last one first. One may have no token.
+abbrev pub Lists : Type 0
+Lists = List (List Token)
+
+abbrev pub top_list : Lists → List Token
+top_list [] = []
+top_list (list ∷ beneath) = list
+
+-- the list on top gets a token
+abbrev pub put : Option Token → Lists → Lists
+put None held = held
+put (Some t) held = (top_list held ++ t ∷ []) ∷ drop 1 held
+
+-- the list on top gets all of these
+abbrev pub on_top : Grown → Lists → Lists
+on_top g held = put g.second (put g.first held)
+
+-- a list gets all of these
+abbrev pub grown : Grown → List Token → List Token
+grown g list = with_cell (with_cell list g.first) g.second
+
+abbrev pub kind_of : Opening → Kind
+kind_of (Reads k) = kind.Reads k
+kind_of (Spelling c) = kind.Spelling c
+
+abbrev pub ask_of : Lists → Ask → reading.Ask
+ask_of held (More want) = reading.More want
+ask_of held (Inner k begins) = reading.Inner k begins
+ask_of held (Done v back) = reading.Done v back
+ask_of held (Acts c e) = reading.Acts c e
+ask_of held (ActsOn c e) = reading.ActsOn c e (top_list held)
+ask_of held (Defines c n) = reading.Defines c n (top_list held)
+ask_of held Ends = reading.Ends
+ask_of held (Tells report back) = reading.Tells report back
+ask_of held (Inserts t report back) = reading.Inserts t report back

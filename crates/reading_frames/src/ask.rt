@@ -1,0 +1,65 @@
+// What may be opened, what an open reading asks for, and what goes onto its list.
+use rows::{Call, Effect, Kind, Value};
+use tex_defs::{Name, Token};
+use tex_syntax::{Report, Want};
+
+/// What may be opened: a reading that a command is or begins, or `\csname`.
+#[derive(Clone, Copy)]
+pub enum Opening {
+    Reads(Kind),
+    Spelling(Call),
+}
+
+/// What an open reading asks for. Where a list is spoken of, it is the one on top.
+#[must_use]
+#[derive(Clone, Copy)]
+pub enum Ask {
+    More(Want),
+    /// An inner reading, and whether it begins with the last token.
+    Inner(Kind, bool),
+    /// It is done, with this value, and whether the last token is put back.
+    Done(Value, bool),
+    /// The command does this, and ends.
+    Acts(Call, Effect),
+    /// The command does this with the list, and ends.
+    ActsOn(Call, Effect),
+    /// The list becomes that of the macro of this name, and the command ends.
+    Defines(Call, Name),
+    Ends,
+    /// A report, and whether the last token is put back before it.
+    Tells(Report, bool),
+    /// A token that is inserted, the report behind it, and whether the last token is put back before.
+    Inserts(Token, Report, bool),
+}
+
+/// The tokens that go onto the list on top, the first one first.
+#[must_use]
+#[derive(Clone, Copy)]
+pub struct Grown {
+    pub first: Option<Token>,
+    pub second: Option<Token>,
+}
+
+impl Grown {
+    ghost use Rattle.std.specs.Prelude.{◌≡◌, None, Some};
+
+    /// The list stays as it is.
+    pub fn none() -> Grown
+        ensures { result ≡ record { first = None; second = None } }
+    {
+        Grown {
+            first: None,
+            second: None,
+        }
+    }
+
+    /// It gets this token.
+    pub fn one(token: Token) -> Grown
+        ensures { result ≡ record { first = Some token; second = None } }
+    {
+        Grown {
+            first: Some(token),
+            second: None,
+        }
+    }
+}

@@ -1,0 +1,17 @@
+// How frames stand for readings: the functions have no bodies, their contracts are the laws.
+ghost use Rattle.reading_frames.specs.Stands.{ReadingsBegin, ReadingsAreFed, ReadingsEnd};
+
+/// A reading that begins stands above those that are open, and these stand as they did.
+pub fn readings_begin()
+    ensures { ReadingsBegin }
+{}
+
+/// A frame that goes on stands for its reading, fed with the same; those beneath stand as they did.
+pub fn readings_are_fed()
+    ensures { ReadingsAreFed }
+{}
+
+/// Where the innermost reading ends, and its lists are let go, those beneath stand as they did.
+pub fn readings_end()
+    ensures { ReadingsEnd }
+{}

@@ -1,0 +1,17 @@
+//! The engine's open readings, whatever their kind, as frames of one stack.
+//!
+//! A reading of the machine is the list of all that it was fed with; a frame stands behind such a list, and answers what the
+//! machine's definition asks for. The lists that readings build and keep stay with whoever feeds the frames, the last one on top.
+#![tactic(auto)]
+
+mod ask;
+mod frame;
+mod laws;
+mod spelling;
+mod text;
+
+pub use ask::{Ask, Grown, Opening};
+pub use frame::Frame;
+pub use laws::{readings_are_fed, readings_begin, readings_end};
+pub use spelling::{SpellPlace, SpellScan};
+pub use text::{BuildPlace, BuildScan};

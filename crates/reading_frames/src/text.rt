@@ -1,0 +1,105 @@
+// A balanced text or the list of a macro, token by token.
+ghost use Rattle.std.specs.Prelude.{◌≡◌, ◌≤◌, ◌<◌, ◌+◌, ◌^◌, List, [], ◌∷◌};
+ghost use Rattle.tex_defs.specs.declared.Token.{Token};
+ghost use Rattle.rows.specs.Readings.{Fed, Tok, Told, Val};
+ghost use Rattle.plain_readings.specs.Lists as lists;
+ghost use Rattle.plain_readings.specs.Lists.{build_ask, build_fed};
+ghost use Rattle.list_builder.specs.Stages as stages;
+ghost use Rattle.reading_frames.specs.Sees.{ask_of, grown, Lists, top_list};
+ghost use Rattle.reading_frames.specs.Resumes.{resume_build, groups_in, token_count};
+
+use crate::ask::{Ask, Grown};
+use list_builder::{Due, Next, Stage, Step};
+use rows::Value;
+use tex_defs::{Name, Seen};
+use tex_syntax::Manner;
+
+/// Where the reading of a list stands.
+#[derive(Clone, Copy)]
+pub enum BuildPlace {
+    At(Stage),
+    /// The list is complete.
+    Whole,
+}
+
+/// The reading of a list, which is the list on top.
+#[derive(Clone, Copy)]
+pub struct BuildScan {
+    pub manner: Manner,
+    pub place: BuildPlace,
+}
+
+impl BuildScan {
+    /// The balanced text of the command of this name begins, with a list of no token.
+    pub fn text(name: Name, expanded: bool) -> BuildScan
+        ensures { (fed : List Fed) → lists.text name expanded fed ≡ resume_build result [] fed }
+    {
+        BuildScan {
+            manner: Manner { name, expanded },
+            place: BuildPlace::At(Stage::First),
+        }
+    }
+
+    /// The list of the macro of this name begins, with no token.
+    pub fn definition(name: Name, expanded: bool) -> BuildScan
+        ensures { (fed : List Fed) → lists.definition name expanded fed ≡ resume_build result [] fed }
+    {
+        BuildScan {
+            manner: Manner { name, expanded },
+            place: BuildPlace::At(Stage::Parameters(0)),
+        }
+    }
+
+    /// What it asks for where it stands.
+    pub fn ask(&self) -> Ask
+        ensures { (held : Lists) → ask_of held result ≡ build_ask (resume_build self.now (top_list held) []) }
+    {
+        match self.place {
+            BuildPlace::At(stage) => match stage.due(self.manner) {
+                Due::More(want) => Ask::More(want),
+                Due::Tells(report, back) => Ask::Tells(report, back),
+            },
+            BuildPlace::Whole => Ask::Done(Value::List, false),
+        }
+    }
+
+    /// Goes where the step leads.
+    fn go(&mut self, step: Step) -> Grown
+        ensures manner { self.new.manner ≡ self.old.manner }
+        ensures shallow { groups_in self.new ≡ stages.depth_after step.next }
+        ensures count { token_count result ≡ stages.growth step }
+        ensures goes { (list : List Token) (fed : List Fed) → stages.goes step self.old.manner list (build_fed fed) ≡ resume_build self.new (grown result list) fed }
+    {
+        self.place = match step.next {
+            Next::On(stage) => BuildPlace::At(stage),
+            Next::Finished => BuildPlace::Whole,
+        };
+        Grown {
+            first: step.first,
+            second: step.second,
+        }
+    }
+
+    /// Takes a token. Fewer than 2^64 - 1 groups are open in the list.
+    pub fn feed(&mut self, x: Seen) -> Grown
+        requires { groups_in self.old + 1 < 2 ^ 64 }
+        ensures goes_on { (list : List Token) (fed : List Fed) → resume_build self.old list (Tok x ∷ fed) ≡ resume_build self.new (grown result list) fed }
+        ensures shallow { groups_in self.new ≤ groups_in self.old + token_count result }
+    {
+        match self.place {
+            BuildPlace::At(stage) => self.go(stage.took(x)),
+            BuildPlace::Whole => Grown::none(),
+        }
+    }
+
+    /// Goes on behind its report.
+    pub fn told(&mut self) -> Grown
+        ensures goes_on { (list : List Token) (fed : List Fed) → resume_build self.old list (Told ∷ fed) ≡ resume_build self.new (grown result list) fed }
+        ensures shallow { groups_in self.new ≤ groups_in self.old + token_count result }
+    {
+        match self.place {
+            BuildPlace::At(stage) => self.go(stage.told()),
+            BuildPlace::Whole => Grown::none(),
+        }
+    }
+}
