@@ -1,8 +1,9 @@
 -- A list that grows, token by token.
-use Rattle.std.proofs.Common.{◌≡◌, List, [], ◌∷◌, ◌++◌, drop, refl, sym, ap, ◌∙◌, Option, Some, None, append_assoc}
+use Rattle.std.proofs.Common.{◌≡◌, List, [], ◌∷◌, ◌++◌, drop, refl, sym, ap, ◌∙◌, Option, Some, None, Bool, true, false, append_assoc}
 use Rattle.plain_state.specs.Definitions.{with_cell}
 use Rattle.tex_defs.specs.declared.Token.{Token}
 use Rattle.reading_frames.specs.Sees.{Lists, top_list, put, on_top, grown}
+use Rattle.reading_frames.specs.Resumes.{with_list, list_kept}
 use Rattle.reading_frames.specs.declared.ask.Grown.{Grown}
 
 pub append_nil : (list : List Token) → list ++ [] ≡ list
@@ -25,3 +26,7 @@ top_grown g held = top_put g.second (put g.first held) ∙ ap (λ (l : List Toke
 
 pub beneath_grown : (g : Grown) (held : Lists) → drop 1 (on_top g held) ≡ drop 1 held
 beneath_grown g held = beneath_put g.second (put g.first held) ∙ beneath_put g.first held
+
+pub kept_on_top : (kept : Bool) (ts : List Token) (held : Lists) → top_list (with_list kept ts held) ≡ list_kept kept ts (top_list held)
+kept_on_top true ts held = refl
+kept_on_top false ts held = refl

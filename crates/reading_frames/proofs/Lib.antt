@@ -1,2 +1,4 @@
 pub mod Growing
 pub mod Feeding
+pub mod Over
+pub mod Commands

@@ -1,10 +1,12 @@
 -- The open frames stand for the open readings of the machine, one for one.
 use Rattle.std.specs.Prelude.{◌≡◌, List, [], ◌∷◌, ◌++◌}
-use Rattle.rows.specs.declared.words.Kind.TheVariants.{Command}
+use Rattle.rows.specs.declared.words.Kind.TheVariants.{Command, Integer}
 use Rattle.rows.specs.Readings.{Fed}
 use Rattle.plain_readings.specs.Readings.{Kind, Reads, ask, lists}
 use Rattle.reading_frames.specs.Sees.{Lists}
 use Rattle.reading_frames.specs.Resumes.{resume, building, below}
+use Rattle.reading_frames.specs.declared.ask.Opening.{Opening}
+use Rattle.reading_frames.specs.declared.ask.Opening.TheVariants.{Reads as Opens}
 use Rattle.reading_frames.specs.declared.frame.Frame.{Frame}
 
 -- a reading of the machine: all that it was fed with
@@ -28,6 +30,12 @@ FramesStand [] held [] = Unit {0}
 FramesStand (f ∷ fs) held (r ∷ rs) = FrameStands f held r × FramesStand fs (below f held) rs
 FramesStand [] held (r ∷ rs) = ⊥
 FramesStand (f ∷ fs) held [] = ⊥
+
+-- the lists over which a reading begins: what builds one has one of no token
+abbrev pub opened_lists : Opening → Lists → Lists
+opened_lists (Opens (Command c)) held = held
+opened_lists (Opens Integer) held = held
+opened_lists o held = [] ∷ held
 
 -- A reading begins: over the lists as they become, its frame answers what the reading does that was fed with nothing.
 pub record Begins (k : Kind) (f : Frame) (held new : Lists) : Type 0 where

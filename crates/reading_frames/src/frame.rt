@@ -2,21 +2,24 @@
 ghost use Rattle.std.specs.Prelude.{◌≡◌, ◌≤◌, ◌<◌, ◌+◌, ◌^◌, List, [], ◌∷◌};
 ghost use Rattle.tex_defs.specs.declared.Token.{Token};
 ghost use Rattle.rows.specs.Readings.{Fed, Tok, Told, Val};
-ghost use Rattle.plain_readings.specs.Readings.{ask};
 ghost use Rattle.reading_frames.specs.Sees.{ask_of, kind_of, Lists, on_top};
-ghost use Rattle.reading_frames.specs.Resumes.{resume, building, below, groups, token_count};
+ghost use Rattle.reading_frames.specs.Stands.{Begins, opened_lists};
+ghost use Rattle.reading_frames.specs.Resumes.{resume, building, below, groups, token_count, with_list};
 ghost use Rattle.scan_numbers.specs.Sees as numbers;
 
-use crate::ask::{Ask, Grown};
+use crate::ask::{Ask, Grown, Opening};
+use crate::command::CommandScan;
 use crate::spelling::SpellScan;
 use crate::text::BuildScan;
-use rows::{Datum, Value};
+use rows::{Datum, Kind, Value};
 use scan_numbers::NumberScan;
 use tex_defs::Seen;
 
 /// An open reading.
 #[derive(Clone, Copy)]
 pub enum Frame {
+    /// A command or an expansion, by its row.
+    Command(CommandScan),
     Integer(NumberScan),
     /// A balanced text, or the list of a macro.
     Build(BuildScan),
@@ -36,11 +39,30 @@ fn of_number(asked: scan_numbers::Ask) -> Ask
 }
 
 impl Frame {
+    /// A reading begins; one that builds a list has one of no token on top.
+    pub fn begin(opening: Opening) -> Frame
+        ensures begins { (held : Lists) → Begins (kind_of opening) result held (opened_lists opening held) }
+        ensures shallow { groups result ≡ 0 }
+    {
+        match opening {
+            Opening::Reads(Kind::Command(call)) => Frame::Command(CommandScan::new(call)),
+            Opening::Reads(Kind::Integer) => Frame::Integer(NumberScan::new()),
+            Opening::Reads(Kind::Text(name, expanded)) => {
+                Frame::Build(BuildScan::text(name, expanded))
+            }
+            Opening::Reads(Kind::Definition(name, expanded)) => {
+                Frame::Build(BuildScan::definition(name, expanded))
+            }
+            Opening::Spelling(call) => Frame::Spelling(SpellScan::new(call)),
+        }
+    }
+
     /// What it asks for where it stands.
     pub fn ask(&self) -> Ask
         ensures { (held : Lists) → ask_of held result ≡ resume self.now held [] }
     {
         match self {
+            Frame::Command(scan) => scan.ask(),
             Frame::Integer(scan) => of_number(scan.ask()),
             Frame::Build(scan) => scan.ask(),
             Frame::Spelling(scan) => scan.ask(),
@@ -57,6 +79,10 @@ impl Frame {
         ensures shallow { groups self.new ≤ groups self.old + token_count result }
     {
         match self {
+            Frame::Command(scan) => {
+                scan.feed(x);
+                Grown::none()
+            }
             Frame::Integer(scan) => {
                 scan.feed(x);
                 Grown::none()
@@ -75,6 +101,10 @@ impl Frame {
         ensures shallow { groups self.new ≤ groups self.old + token_count result }
     {
         match self {
+            Frame::Command(scan) => {
+                scan.told();
+                Grown::none()
+            }
             Frame::Integer(scan) => {
                 scan.told();
                 Grown::none()
@@ -83,6 +113,28 @@ impl Frame {
             Frame::Spelling(scan) => {
                 scan.told();
                 Grown::none()
+            }
+        }
+    }
+
+    /// Takes the value of an inner reading, and says whether it keeps the list that came with it: if so, that is on top.
+    #[tactic(auto, using(crate::proofs::Growing::kept_on_top))]
+    pub fn feed_value(&mut self, value: Value) -> bool
+        ensures asks { (ts : List Token) (held : Lists) (fed : List Fed) → resume self.old held (Val value ts ∷ fed) ≡ resume self.new (with_list result ts held) fed }
+        ensures builds { (ts : List Token) (held : Lists) (fed : List Fed) → building self.old held (Val value ts ∷ fed) ≡ building self.new (with_list result ts held) fed }
+        ensures beneath { (ts : List Token) (held : Lists) → below self.new (with_list result ts held) ≡ below self.old held }
+        ensures shallow { groups self.new ≡ groups self.old }
+    {
+        match self {
+            Frame::Command(scan) => scan.feed_value(value),
+            Frame::Integer(scan) => {
+                scan.stop();
+                false
+            }
+            Frame::Build(_) => false,
+            Frame::Spelling(scan) => {
+                scan.stop();
+                false
             }
         }
     }

@@ -5,12 +5,14 @@
 #![tactic(auto)]
 
 mod ask;
+mod command;
 mod frame;
 mod laws;
 mod spelling;
 mod text;
 
 pub use ask::{Ask, Grown, Opening};
+pub use command::CommandScan;
 pub use frame::Frame;
 pub use laws::{readings_are_fed, readings_begin, readings_end};
 pub use spelling::{SpellPlace, SpellScan};

@@ -32,7 +32,8 @@ pub struct BuildScan {
 impl BuildScan {
     /// The balanced text of the command of this name begins, with a list of no token.
     pub fn text(name: Name, expanded: bool) -> BuildScan
-        ensures { (fed : List Fed) → lists.text name expanded fed ≡ resume_build result [] fed }
+        ensures shallow { groups_in result ≡ 0 }
+        ensures goes_on { (fed : List Fed) → lists.text name expanded fed ≡ resume_build result [] fed }
     {
         BuildScan {
             manner: Manner { name, expanded },
@@ -42,7 +43,8 @@ impl BuildScan {
 
     /// The list of the macro of this name begins, with no token.
     pub fn definition(name: Name, expanded: bool) -> BuildScan
-        ensures { (fed : List Fed) → lists.definition name expanded fed ≡ resume_build result [] fed }
+        ensures shallow { groups_in result ≡ 0 }
+        ensures goes_on { (fed : List Fed) → lists.definition name expanded fed ≡ resume_build result [] fed }
     {
         BuildScan {
             manner: Manner { name, expanded },
