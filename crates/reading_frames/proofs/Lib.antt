@@ -2,3 +2,4 @@ pub mod Growing
 pub mod Feeding
 pub mod Over
 pub mod Commands
+pub mod Stacks

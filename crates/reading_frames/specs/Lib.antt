@@ -1,3 +1,4 @@
 pub mod Sees
 pub mod Resumes
 pub mod Stands
+pub mod Stack

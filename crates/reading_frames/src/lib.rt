@@ -8,6 +8,7 @@ mod ask;
 mod command;
 mod frame;
 mod laws;
+mod readings;
 mod spelling;
 mod text;
 
@@ -15,5 +16,6 @@ pub use ask::{Ask, Grown, Opening};
 pub use command::CommandScan;
 pub use frame::Frame;
 pub use laws::{readings_are_fed, readings_begin, readings_end};
+pub use readings::Readings;
 pub use spelling::{SpellPlace, SpellScan};
 pub use text::{BuildPlace, BuildScan};
