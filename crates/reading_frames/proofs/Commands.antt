@@ -2,7 +2,7 @@
 use Rattle.std.proofs.Common.{◌≡◌, List, [], ◌∷◌, refl, sym, ◌∙◌}
 use Rattle.tex_defs.specs.declared.Token.{Token}
 use Rattle.tex_defs.specs.declared.Token.TheVariants.{EndPlaces}
-use Rattle.rows.specs.Readings.{Fed, Ask, ActsOn, Defines}
+use Rattle.rows.specs.Readings.{Ask, ActsOn, Defines}
 use Rattle.reading_frames.specs.Sees.{Lists}
 use Rattle.reading_frames.specs.Resumes.{resume_command, command_below}
 use Rattle.reading_frames.specs.declared.command.CommandScan.{CommandScan}

@@ -1,10 +1,9 @@
 -- A reading that begins, and one that is fed.
-use Rattle.std.proofs.Common.{◌≡◌, List, [], ◌∷◌, ◌++◌, sym, ◌∙◌, append_assoc, subst}
+use Rattle.std.proofs.Common.{List, [], ◌∷◌, sym, ◌∙◌, append_assoc, subst}
 use Rattle.rows.specs.Readings.{Fed}
 use Rattle.plain_readings.specs.Readings.{Kind}
 use Rattle.reading_frames.specs.Sees.{Lists}
-use Rattle.reading_frames.specs.Resumes.{below}
-use Rattle.reading_frames.specs.Stands.{Reading, FrameStands, FramesStand, Begins, GoesOn, opened, fed_with}
+use Rattle.reading_frames.specs.Stands.{Reading, FramesStand, Begins, GoesOn, opened, fed_with}
 use Rattle.reading_frames.specs.declared.frame.Frame.{Frame}
 
 pub begun : (k : Kind) (f : Frame) (fs : List Frame) (held new : Lists) (work : List Reading) → Begins k f held new → FramesStand fs held work → FramesStand (f ∷ fs) new (opened k work)

@@ -3,3 +3,4 @@ pub mod Feeding
 pub mod Over
 pub mod Commands
 pub mod Stacks
+pub mod Held

@@ -1,13 +1,14 @@
 -- The open frames stand for the open readings of the machine, one for one.
-use Rattle.std.specs.Prelude.{◌≡◌, List, [], ◌∷◌, ◌++◌}
+use Rattle.std.specs.Prelude.{◌≡◌, ◌≤◌, length, List, [], ◌∷◌, ◌++◌}
 use Rattle.rows.specs.declared.words.Kind.TheVariants.{Command, Integer}
 use Rattle.rows.specs.Readings.{Fed}
 use Rattle.plain_readings.specs.Readings.{Kind, Reads, ask, lists}
-use Rattle.reading_frames.specs.Sees.{Lists}
-use Rattle.reading_frames.specs.Resumes.{resume, building, below}
+use Rattle.reading_frames.specs.Sees.{Lists, top_list}
+use Rattle.reading_frames.specs.Resumes.{resume, building, below, groups}
 use Rattle.reading_frames.specs.declared.ask.Opening.{Opening}
 use Rattle.reading_frames.specs.declared.ask.Opening.TheVariants.{Reads as Opens}
 use Rattle.reading_frames.specs.declared.frame.Frame.{Frame}
+use Rattle.reading_frames.specs.declared.frame.Frame.TheVariants.{Build, Spelling as Name}
 
 -- a reading of the machine: all that it was fed with
 pub record Reading : Type 0 where
@@ -30,6 +31,17 @@ FramesStand [] held [] = Unit {0}
 FramesStand (f ∷ fs) held (r ∷ rs) = FrameStands f held r × FramesStand fs (below f held) rs
 FramesStand [] held (r ∷ rs) = ⊥
 FramesStand (f ∷ fs) held [] = ⊥
+
+-- each group that is open in a list has its brace there
+abbrev pub AreShallow : List Frame → Lists → Type 0
+AreShallow [] held = Unit {0}
+AreShallow (f ∷ fs) held = (groups f ≤ length (top_list held)) × AreShallow fs (below f held)
+
+-- the lists that a frame has built so far
+abbrev pub lists_built : Frame → Lists → Lists
+lists_built (Build scan) held = top_list held ∷ []
+lists_built (Name scan) held = top_list held ∷ []
+lists_built f held = []
 
 -- the lists over which a reading begins: what builds one has one of no token
 abbrev pub opened_lists : Opening → Lists → Lists
@@ -73,3 +85,9 @@ abbrev pub ReadingsEnd : Type 0
 ReadingsEnd =
     (f : Frame) (fs : List Frame) (held : Lists) (r : Reading) (work : List Reading) →
     FramesStand (f ∷ fs) held (r ∷ work) → FramesStand fs (below f held) work
+
+-- WHAT IS HELD: the lists that the machine's reading builds are those that its frame has built.
+abbrev pub ListsAreHeld : Type 0
+ListsAreHeld =
+    (f : Frame) (fs : List Frame) (held : Lists) (r : Reading) (work : List Reading) →
+    FramesStand (f ∷ fs) held (r ∷ work) → builds r.kind r.fed ≡ lists_built f held

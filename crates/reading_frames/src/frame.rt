@@ -1,8 +1,8 @@
 // An open reading, in a few variables.
-ghost use Rattle.std.specs.Prelude.{◌≡◌, ◌≤◌, ◌<◌, ◌+◌, ◌^◌, List, [], ◌∷◌};
+ghost use Rattle.std.specs.Prelude.{◌≡◌, ◌≤◌, ◌<◌, ◌+◌, ◌^◌, List, [], ◌∷◌, length};
 ghost use Rattle.tex_defs.specs.declared.Token.{Token};
 ghost use Rattle.rows.specs.Readings.{Fed, Tok, Told, Val};
-ghost use Rattle.reading_frames.specs.Sees.{ask_of, kind_of, Lists, on_top};
+ghost use Rattle.reading_frames.specs.Sees.{ask_of, kind_of, Lists, on_top, top_list};
 ghost use Rattle.reading_frames.specs.Stands.{Begins, opened_lists};
 ghost use Rattle.reading_frames.specs.Resumes.{resume, building, below, groups, token_count, with_list};
 ghost use Rattle.scan_numbers.specs.Sees as numbers;
@@ -123,7 +123,7 @@ impl Frame {
         ensures asks { (ts : List Token) (held : Lists) (fed : List Fed) → resume self.old held (Val value ts ∷ fed) ≡ resume self.new (with_list result ts held) fed }
         ensures builds { (ts : List Token) (held : Lists) (fed : List Fed) → building self.old held (Val value ts ∷ fed) ≡ building self.new (with_list result ts held) fed }
         ensures beneath { (ts : List Token) (held : Lists) → below self.new (with_list result ts held) ≡ below self.old held }
-        ensures shallow { groups self.new ≡ groups self.old }
+        ensures shallow { (ts : List Token) (held : Lists) → groups self.old ≤ length (top_list held) → groups self.new ≤ length (top_list (with_list result ts held)) }
     {
         match self {
             Frame::Command(scan) => scan.feed_value(value),

@@ -1,5 +1,5 @@
 // How frames stand for readings: the functions have no bodies, their contracts are the laws.
-ghost use Rattle.reading_frames.specs.Stands.{ReadingsBegin, ReadingsAreFed, ReadingsEnd};
+ghost use Rattle.reading_frames.specs.Stands.{ReadingsBegin, ReadingsAreFed, ReadingsEnd, ListsAreHeld};
 
 /// A reading that begins stands above those that are open, and these stand as they did.
 pub fn readings_begin()
@@ -14,4 +14,9 @@ pub fn readings_are_fed()
 /// Where the innermost reading ends, and its lists are let go, those beneath stand as they did.
 pub fn readings_end()
     ensures { ReadingsEnd }
+{}
+
+/// The lists that the machine's reading builds are those that its frame has built, so what ends with a list has the machine's.
+pub fn lists_are_held()
+    ensures { ListsAreHeld }
 {}

@@ -3,8 +3,8 @@ ghost use Rattle.std.specs.Prelude.{◌≡◌, ◌≤◌, ◌<◌, ◌+◌, ◌-
 ghost use Rattle.tex_defs.specs.declared.Token.{Token};
 ghost use Rattle.rows.specs.Readings.{Tok, Told, Val};
 ghost use Rattle.reading_frames.specs.Sees.{kind_of, Lists, on_top};
-ghost use Rattle.reading_frames.specs.Resumes.{token_count, with_list};
-ghost use Rattle.reading_frames.specs.Stands.{Reading, FramesStand, opened_lists, opened, fed_with};
+ghost use Rattle.reading_frames.specs.Resumes.{with_list};
+ghost use Rattle.reading_frames.specs.Stands.{Reading, FramesStand, AreShallow, opened_lists, opened, fed_with};
 ghost use Rattle.reading_frames.specs.Stack.{Stack, depth_full, asked_in, asked_of, innermost_groups, lists_beneath};
 
 use crate::ask::{Ask, Grown, Opening};
@@ -80,6 +80,7 @@ impl Readings {
     /// As many are open as there may be. Nothing has changed then.
     pub fn begin(&mut self, opening: Opening) -> Result<(), Full>
         ensures begins { OnOk result ((held : Lists) (work : List Reading) → FramesStand self.old.frames held work → FramesStand self.new.frames (opened_lists opening held) (opened (kind_of opening) work)) }
+        ensures shallow { OnOk result ((held : Lists) → AreShallow self.old.frames held → AreShallow self.new.frames (opened_lists opening held)) }
         ensures room { OnOk result (length self.old.frames < self.old.size) }
         ensures count { OnOk result (length self.new.frames ≡ length self.old.frames + 1) }
         ensures size { self.new.size ≡ self.old.size }
@@ -108,7 +109,7 @@ impl Readings {
         ensures stands { (held : Lists) (work : List Reading) → FramesStand self.old.frames held work → FramesStand self.new.frames (on_top result held) (fed_with (Tok x) work) }
         ensures count { length self.new.frames ≡ length self.old.frames }
         ensures size { self.new.size ≡ self.old.size }
-        ensures shallow { innermost_groups self.new.frames ≤ innermost_groups self.old.frames + token_count result }
+        ensures shallow { (held : Lists) → AreShallow self.old.frames held → AreShallow self.new.frames (on_top result held) }
     {
         match self.innermost.as_mut() {
             None => Grown::none(),
@@ -121,7 +122,7 @@ impl Readings {
         ensures stands { (held : Lists) (work : List Reading) → FramesStand self.old.frames held work → FramesStand self.new.frames (on_top result held) (fed_with Told work) }
         ensures count { length self.new.frames ≡ length self.old.frames }
         ensures size { self.new.size ≡ self.old.size }
-        ensures shallow { innermost_groups self.new.frames ≤ innermost_groups self.old.frames + token_count result }
+        ensures shallow { (held : Lists) → AreShallow self.old.frames held → AreShallow self.new.frames (on_top result held) }
     {
         match self.innermost.as_mut() {
             None => Grown::none(),
@@ -135,7 +136,7 @@ impl Readings {
         ensures stands { (ts : List Token) (held : Lists) (work : List Reading) → FramesStand self.old.frames held work → FramesStand self.new.frames (with_list result ts held) (fed_with (Val value ts) work) }
         ensures count { length self.new.frames ≡ length self.old.frames }
         ensures size { self.new.size ≡ self.old.size }
-        ensures shallow { innermost_groups self.new.frames ≡ innermost_groups self.old.frames }
+        ensures shallow { (ts : List Token) (held : Lists) → AreShallow self.old.frames held → AreShallow self.new.frames (with_list result ts held) }
     {
         match self.innermost.as_mut() {
             None => false,
@@ -146,6 +147,7 @@ impl Readings {
     /// The innermost ends; its lists go.
     pub fn end(&mut self)
         ensures stands { (held : Lists) (work : List Reading) → FramesStand self.old.frames held work → FramesStand self.new.frames (lists_beneath self.old.frames held) (drop 1 work) }
+        ensures shallow { (held : Lists) → AreShallow self.old.frames held → AreShallow self.new.frames (lists_beneath self.old.frames held) }
         ensures rest { self.new ≡ record { frames = drop 1 self.old.frames; size = self.old.size } }
     {
         self.innermost = self.beneath.pop();
