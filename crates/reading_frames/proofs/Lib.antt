@@ -4,3 +4,4 @@ pub mod Over
 pub mod Commands
 pub mod Stacks
 pub mod Held
+pub mod Braces

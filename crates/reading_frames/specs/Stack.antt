@@ -4,9 +4,9 @@ use Rattle.tex_defs.specs.declared.Full.{Full}
 use Rattle.tex_defs.specs.declared.Table.TheVariants.{ExpansionDepth}
 use Rattle.rows.specs.Readings as reading
 use Rattle.plain_readings.specs.Readings.{ask}
-use Rattle.reading_frames.specs.Sees.{Lists, ask_of}
+use Rattle.reading_frames.specs.Sees.{Lists, top_list, ask_of}
 use Rattle.reading_frames.specs.Resumes.{below, groups}
-use Rattle.reading_frames.specs.Stands.{Reading}
+use Rattle.reading_frames.specs.Stands.{Reading, AreShallow}
 use Rattle.reading_frames.specs.declared.ask.Ask.{Ask}
 use Rattle.reading_frames.specs.declared.frame.Frame.{Frame}
 
@@ -48,3 +48,7 @@ innermost_groups (f ∷ fs) = groups f
 abbrev pub lists_beneath : List Frame → Lists → Lists
 lists_beneath [] held = held
 lists_beneath (f ∷ fs) held = below f held
+
+-- THE BRACES: where each group has its brace in its list, no more groups are open than the list on top has tokens.
+abbrev pub GroupsHaveBraces : Type 0
+GroupsHaveBraces = (fs : List Frame) (held : Lists) → AreShallow fs held → innermost_groups fs ≤ length (top_list held)

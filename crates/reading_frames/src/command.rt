@@ -1,5 +1,5 @@
 // A command that is read by its row.
-ghost use Rattle.std.specs.Prelude.{◌≡◌, List, [], ◌∷◌};
+ghost use Rattle.std.specs.Prelude.{◌≡◌, List, [], ◌∷◌, IfSome, None};
 ghost use Rattle.tex_defs.specs.declared.Token.{Token};
 ghost use Rattle.rows.specs.Readings.{Fed, Tok, Told, Val};
 ghost use Rattle.rows.specs.Run.{row, due};
@@ -69,18 +69,18 @@ fn asked_in(row: &RowFrame) -> Ask
     }
 }
 
-/// Where a command stands behind what it is fed with.
-fn behind(row: RowFrame, y: row_frames::Fed) -> CommandScan
-    ensures { (ts : List Token) (fed : List Fed) → rows_resume.resume row (rows_see.fed_of ts y ∷ fed) ≡ resume_command result ts fed }
+/// A row is fed, and comes to this if it is over.
+fn over_behind(row: &mut RowFrame, y: row_frames::Fed) -> Option<CommandScan>
+    ensures over { IfSome result (λ s. (ts : List Token) (fed : List Fed) → rows_resume.resume row.old (rows_see.fed_of ts y ∷ fed) ≡ resume_command s ts fed) }
+    ensures goes_on { result ≡ None → (ts : List Token) (fed : List Fed) → rows_resume.resume row.old (rows_see.fed_of ts y ∷ fed) ≡ rows_resume.resume row.new fed }
 {
-    let mut row = row;
     match row.feed(y) {
-        row_frames::Ask::Acts(call, effect) => CommandScan::Acts(call, effect),
-        row_frames::Ask::ActsOn(call, effect) => CommandScan::ActsOn(call, effect),
-        row_frames::Ask::Defines(call, name) => CommandScan::Defines(call, name),
-        row_frames::Ask::Ends => CommandScan::Ended,
-        row_frames::Ask::More(_) | row_frames::Ask::Inner(..) => CommandScan::Reads(row),
-        row_frames::Ask::Tells(..) | row_frames::Ask::Inserts(..) => CommandScan::Reads(row),
+        row_frames::Ask::Acts(call, effect) => Some(CommandScan::Acts(call, effect)),
+        row_frames::Ask::ActsOn(call, effect) => Some(CommandScan::ActsOn(call, effect)),
+        row_frames::Ask::Defines(call, name) => Some(CommandScan::Defines(call, name)),
+        row_frames::Ask::Ends => Some(CommandScan::Ended),
+        row_frames::Ask::More(_) | row_frames::Ask::Inner(..) => None,
+        row_frames::Ask::Tells(..) | row_frames::Ask::Inserts(..) => None,
     }
 }
 
@@ -111,8 +111,13 @@ impl CommandScan {
         ensures asks { (list : List Token) (fed : List Fed) → resume_command self.old list (Tok x ∷ fed) ≡ resume_command self.new list fed }
         ensures beneath { (held : Lists) → command_below self.new held ≡ command_below self.old held }
     {
-        if let CommandScan::Reads(row) = *self {
-            *self = behind(row, row_frames::Fed::Token(x));
+        match self {
+            CommandScan::Reads(row) => match over_behind(row, row_frames::Fed::Token(x)) {
+                Some(over) => *self = over,
+                None => {}
+            },
+            CommandScan::Acts(..) | CommandScan::ActsOn(..) => {}
+            CommandScan::Defines(..) | CommandScan::Ended => {}
         }
     }
 
@@ -121,8 +126,13 @@ impl CommandScan {
         ensures asks { (list : List Token) (fed : List Fed) → resume_command self.old list (Told ∷ fed) ≡ resume_command self.new list fed }
         ensures beneath { (held : Lists) → command_below self.new held ≡ command_below self.old held }
     {
-        if let CommandScan::Reads(row) = *self {
-            *self = behind(row, row_frames::Fed::Told);
+        match self {
+            CommandScan::Reads(row) => match over_behind(row, row_frames::Fed::Told) {
+                Some(over) => *self = over,
+                None => {}
+            },
+            CommandScan::Acts(..) | CommandScan::ActsOn(..) => {}
+            CommandScan::Defines(..) | CommandScan::Ended => {}
         }
     }
 
@@ -131,11 +141,14 @@ impl CommandScan {
         ensures asks { (ts list : List Token) (fed : List Fed) → resume_command self.old list (Val value ts ∷ fed) ≡ resume_command self.new (list_kept result ts list) fed }
         ensures beneath { (ts : List Token) (held : Lists) → command_below self.new (with_list result ts held) ≡ command_below self.old held }
     {
-        let CommandScan::Reads(row) = *self else {
+        let CommandScan::Reads(row) = self else {
             return false;
         };
-        *self = behind(row, row_frames::Fed::Value(value));
-        match self {
+        let Some(over) = over_behind(row, row_frames::Fed::Value(value)) else {
+            return false;
+        };
+        *self = over;
+        match over {
             CommandScan::ActsOn(..) | CommandScan::Defines(..) => true,
             _ => false,
         }

@@ -1,5 +1,6 @@
 // How frames stand for readings: the functions have no bodies, their contracts are the laws.
 ghost use Rattle.reading_frames.specs.Stands.{ReadingsBegin, ReadingsAreFed, ReadingsEnd, ListsAreHeld};
+ghost use Rattle.reading_frames.specs.Stack.{GroupsHaveBraces};
 
 /// A reading that begins stands above those that are open, and these stand as they did.
 pub fn readings_begin()
@@ -19,4 +20,9 @@ pub fn readings_end()
 /// The lists that the machine's reading builds are those that its frame has built, so what ends with a list has the machine's.
 pub fn lists_are_held()
     ensures { ListsAreHeld }
+{}
+
+/// A stack that is fed has few groups open where its lists are short.
+pub fn groups_have_braces()
+    ensures { GroupsHaveBraces }
 {}

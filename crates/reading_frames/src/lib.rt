@@ -15,7 +15,9 @@ mod text;
 pub use ask::{Ask, Grown, Opening};
 pub use command::CommandScan;
 pub use frame::Frame;
-pub use laws::{lists_are_held, readings_are_fed, readings_begin, readings_end};
+pub use laws::{
+    groups_have_braces, lists_are_held, readings_are_fed, readings_begin, readings_end,
+};
 pub use readings::Readings;
 pub use spelling::{SpellPlace, SpellScan};
 pub use text::{BuildPlace, BuildScan};
