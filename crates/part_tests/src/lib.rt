@@ -35,4 +35,6 @@ mod token_lists_tests;
 #[cfg(test)]
 mod token_show_tests;
 #[cfg(test)]
+mod transcript_tests;
+#[cfg(test)]
 mod world_io_tests;

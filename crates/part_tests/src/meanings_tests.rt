@@ -8,7 +8,7 @@ ghost use Rattle.meanings.specs.Holding.{held, list_of};
 
 use meanings::{Kept, Meanings};
 use std::alloc::Global;
-use tex_defs::{Frozen, Meaning, Name, Sizes, Token};
+use tex_defs::{Frozen, Meaning, Name, Seen, Sizes, Token};
 use token_lists::Lists;
 
 // Whether one more holder of a macro's list can be counted.
@@ -188,4 +188,72 @@ fn names_are_placed(rt: HostRuntime) {
         Err(_) => false,
     };
     assert!(rt; entered);
+}
+
+// Tokens, and how they are handed on where `\relax`, `\let` and `\expandafter` alone mean something.
+const HANDED_ON: [(Token, Seen); 5] = [
+    (
+        Token::Marked(Name::Word(54)),
+        Seen {
+            token: Token::Named(Name::Word(54)),
+            meaning: Meaning::RelaxMarked,
+        },
+    ),
+    (
+        Token::Named(Name::Word(54)),
+        Seen {
+            token: Token::Named(Name::Word(54)),
+            meaning: Meaning::Prim(54),
+        },
+    ),
+    (
+        Token::Marked(Name::Word(30)),
+        Seen {
+            token: Token::Named(Name::Word(30)),
+            meaning: Meaning::Prim(30),
+        },
+    ),
+    (
+        Token::Marked(Name::Word(29)),
+        Seen {
+            token: Token::Named(Name::Word(29)),
+            meaning: Meaning::RelaxMarked,
+        },
+    ),
+    (
+        Token::Named(Name::Word(29)),
+        Seen {
+            token: Token::Named(Name::Word(29)),
+            meaning: Meaning::Undefined,
+        },
+    ),
+];
+
+// Whether the tokens are handed on so.
+fn hand_on(meanings: &Meanings, rows: &[(Token, Seen)]) -> bool {
+    for (token, wanted) in rows {
+        if meanings.met(*token) != *wanted {
+            return false;
+        }
+    }
+    true
+}
+
+// Whether they are, where these primitives alone mean something.
+fn is_handed_on(alloc: Global, lists: &mut Lists) -> bool {
+    let Ok(meanings) = Meanings::with_known(alloc, &Sizes::DEFAULT, &[1, 30, 54]) else {
+        return false;
+    };
+    let right = hand_on(&meanings, &HANDED_ON);
+    meanings.close(lists);
+    right
+}
+
+#[test]
+fn marked_names_are_handed_on(rt: HostRuntime) {
+    let right = match Lists::new(rt.alloc(), 4) {
+        Ok(mut lists) => is_handed_on(rt.alloc(), &mut lists),
+        Err(_) => false,
+    };
+    assert!(rt; right);
 }

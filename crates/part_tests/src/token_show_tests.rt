@@ -1,14 +1,17 @@
 // Texts as TeX prints them.
 ghost use Rattle.token_lists.specs.Table.{IsHeld};
 ghost use Rattle.token_lists.specs.Ids.{build_id, id_of, IsBuilding};
-ghost use Rattle.token_show.specs.Views.{IsView, HoldsList};
+ghost use Rattle.token_show.specs.Views.{IsView, IsNamesView, HoldsList};
 ghost use Rattle.std.specs.Prelude.{◌≡◌};
 ghost use Rattle.cs_hash.specs.Names.{Knows};
 
 use crate::tables::Tables;
 use tex_defs::{Frozen, Full, Meaning, Name, RegisterKind, Token};
 use token_lists::{Build, ListRef, Lists};
-use token_show::{Characters, Shown, View, meaning, meaning_head, show_list, show_token};
+use token_show::{
+    Characters, NamesView, Shown, TokenText, View, last_after, meaning, meaning_head, places_after,
+    show_list, show_token,
+};
 
 static MEANINGS: [(Meaning<ListRef>, &[u8]); 17] = [
     (Meaning::Undefined, b"undefined"),
@@ -58,7 +61,7 @@ static MEANINGS: [(Meaning<ListRef>, &[u8]); 17] = [
 ];
 
 // `#1->[#1]`, a parameter text and a body.
-const BRACKETS: [Token; 5] = [
+pub(crate) const BRACKETS: [Token; 5] = [
     Token::Place(b'#'),
     Token::EndPlaces,
     Token::Char {
@@ -94,7 +97,7 @@ fn has(mut characters: Characters<'_>, wanted: &[u8]) -> bool {
     characters.next().is_none()
 }
 
-fn append_all(lists: &mut Lists, build: &mut Build, tokens: &[Token]) -> Result<(), Full>
+pub(crate) fn append_all(lists: &mut Lists, build: &mut Build, tokens: &[Token]) -> Result<(), Full>
     requires { IsBuilding lists.old build.old }
     ensures { IsBuilding lists.new build.new }
 {
@@ -105,7 +108,7 @@ fn append_all(lists: &mut Lists, build: &mut Build, tokens: &[Token]) -> Result<
 }
 
 // The letters are letters, and all else is other.
-fn categories() -> [u8; 256] {
+pub(crate) fn categories() -> [u8; 256] {
     let mut categories = [12; 256];
     for k in 0..26usize {
         categories[65 + k] = 11;
@@ -122,11 +125,13 @@ fn view_of<'a>(tables: &'a Tables, categories: &'a [u8; 256]) -> View<'a>
 {
     View {
         lists: &tables.lists,
-        hash: &tables.hash,
-        pool: &tables.pool,
-        categories,
-        escape: 92,
-        newline: -1,
+        names: NamesView {
+            hash: &tables.hash,
+            pool: &tables.pool,
+            categories,
+            escape: 92,
+            newline: -1,
+        },
     }
 }
 
@@ -136,10 +141,8 @@ fn is_shown(tables: &Tables, list: &ListRef, shown: &[u8], characters: &[u8]) ->
     requires held { IsHeld tables.now.lists (id_of list.now) }
 {
     let categories = categories();
-    let view = View {
-        newline: 98,
-        ..view_of(tables, &categories)
-    };
+    let mut view = view_of(tables, &categories);
+    view.names.newline = 98;
     shows(show_list(view, list), shown) && has(Characters::of_list(view, list), characters)
 }
 
@@ -235,7 +238,8 @@ fn is_named(view: View<'_>, row: &(Name, &[u8], &[u8])) -> bool
     requires { IsView view }
 {
     let (name, in_list, without_escape) = *row;
-    let silent = View { escape: -1, ..view };
+    let mut silent = view;
+    silent.names.escape = -1;
     shows(show_token(view, Token::Named(name)), in_list)
         && shows(show_token(silent, Token::Marked(name)), without_escape)
 }
@@ -264,13 +268,45 @@ fn are_meant(view: View<'_>) -> bool
     true
 }
 
+// Whether these characters come, and then none.
+fn spells(mut text: TokenText<'_>, wanted: &[u8]) -> bool {
+    for c in wanted {
+        if text.next() != Some(*c) {
+            return false;
+        }
+    }
+    text.next().is_none()
+}
+
+// Whether tokens, alone and behind a parameter place with an exclamation mark, have these characters, and a name and a meaning.
+fn are_spelled(names: NamesView<'_>) -> bool
+    requires { IsNamesView names }
+{
+    let foo = Token::Named(Name::Word(1));
+    let place = Token::Place(b'!');
+    let number = Token::Number(1);
+    spells(TokenText::of_string(names, foo), b"\\foo")
+        && spells(TokenText::of_string(names, HASH), b"#")
+        && spells(TokenText::of_token(names, 0, b'#', foo), b"\\foo ")
+        && spells(TokenText::of_token(names, 0, b'#', HASH), b"##")
+        && spells(TokenText::of_token(names, 0, b'#', place), b"!1")
+        && places_after(0, place) == 1
+        && last_after(b'#', place) == b'!'
+        && spells(TokenText::of_token(names, 1, b'!', number), b"!1")
+        && spells(TokenText::of_name(names, Name::Single(b'a')), b"\\a")
+        && spells(
+            TokenText::of_meaning_head(names, &MEANINGS[0].0),
+            b"undefined",
+        )
+}
+
 // Whether the names and the meanings are shown like this.
 fn are_shown(tables: &Tables) -> bool
     requires { Knows tables.now.hash tables.now.pool.kept }
 {
     let categories = categories();
     let view = view_of(tables, &categories);
-    are_named(view) && are_meant(view)
+    are_named(view) && are_meant(view) && are_spelled(view.names)
 }
 
 #[test]

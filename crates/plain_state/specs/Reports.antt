@@ -4,11 +4,13 @@ use Rattle.std.specs.Fmt.{signed_decimal}
 use Rattle.tex_syntax.specs.declared.words.Scanned.{Scanned}
 use Rattle.tex_syntax.specs.declared.words.Scanned.TheVariants as scanned
 use Rattle.tex_syntax.specs.declared.words.Report.{Report}
-use Rattle.tex_syntax.specs.declared.words.Report.TheVariants.{UndefinedName, InvalidCharacter, ImproperConstant, MissingNumber, NumberTooBig, BadCharacterCode, InvalidCode, MissingBrace, FileEnded, Forbidden, MissingName, NotConsecutive, AlreadyNine, IllegalNumber, UseMismatch, ExtraBrace, ParagraphEnded, PrefixWith, LongOrOuterWith, MissingEndcsname}
+use Rattle.tex_syntax.specs.declared.words.Report.TheVariants.{UndefinedName, InvalidCharacter, ImproperConstant, MissingNumber, NumberTooBig, BadCharacterCode, InvalidCode, MissingBrace, FileEnded, Forbidden, MissingName, NotConsecutive, AlreadyNine, IllegalNumber, UseMismatch, ExtraBrace, ParagraphEnded, PrefixWith, LongOrOuterWith, MissingEndcsname, ExtraEndcsname}
 use Rattle.tex_defs.specs.declared.Token.{Token}
+use Rattle.tex_defs.specs.declared.Token.TheVariants.{Char, Named, Marked}
 use Rattle.tex_defs.specs.declared.Name.{Name}
 use Rattle.tex_defs.specs.declared.Meaning.{Meaning}
-use Rattle.plain_tokens.specs.Printed.{Style, initial_style, printed, printed_all, name_text, escaped, meaning_head, runaway_list, shown_all}
+use Rattle.tex_defs.specs.declared.Meaning.TheVariants as means
+use Rattle.plain_tokens.specs.Printed.{Style, initial_style, printed, printed_all, name_text, escaped, meaning_head, list_text, runaway_list, shown_all}
 
 -- the style of a text that depends on no category code, as that of a name or a meaning does
 abbrev pub plain_style : List (List ℕ) → Style
@@ -45,6 +47,7 @@ report_text style (PrefixWith m) = codes "You can't use a prefix with `" ++ (mea
 report_text style (LongOrOuterWith m) =
     codes "You can't use `" ++ (escaped style (codes "long") ++ (codes "' or `" ++ (escaped style (codes "outer") ++ (codes "' with `" ++ (meaning_head style m ++ codes "'")))))
 report_text style MissingEndcsname = codes "Missing " ++ (escaped style (codes "endcsname") ++ codes " inserted")
+report_text style ExtraEndcsname = codes "Extra " ++ escaped style (codes "endcsname")
 
 -- A line feed, where the column isn't 0. It is no printed character, as the line feeds that end lines are none.
 abbrev pub fresh_line : Bool → List ℕ
@@ -100,3 +103,32 @@ runaway_bytes what style in_line ts =
 -- A message: a space where the column isn't 0, and the list shown.
 abbrev pub message_bytes : Style → Bool → List Token → List ℕ
 message_bytes style in_line ts = (if in_line then printed style 32 else []) ++ shown_all style ts
+
+-- The report of `\errmessage`: its text is the list.
+abbrev pub error_message_bytes : Style → Bool → ℕ → List Token → List ℕ
+error_message_bytes style in_line line ts = reported_line style in_line line (list_text style ts)
+
+-- A token as `\string` gives it: a name's text, or the character itself. Only these come to a reading.
+abbrev pub string_text : Style → Token → List ℕ
+string_text style (Char category c) = c ∷ []
+string_text style (Named n) = name_text style n
+string_text style (Marked n) = name_text style n
+string_text style t = []
+
+-- what `\show` has before the meaning of a name; a character has nothing there
+abbrev pub shown_name : Style → Token → List ℕ
+shown_name style (Named n) = name_text style n ++ codes "="
+shown_name style (Marked n) = name_text style n ++ codes "="
+shown_name style t = []
+
+-- The line feed behind the `macro:` of a macro. As other line feeds that end lines it is no printed character.
+abbrev pub macro_feed : {L : Type 0} → Meaning L → List ℕ
+macro_feed (means.Macro long outer list) = 10 ∷ []
+macro_feed m = []
+
+-- What `\show` writes: on a fresh line the token and its meaning, of a macro the tokens of its list `ts` on a line of their own, and
+-- then the number of the line that is being read. Of other meanings `ts` is empty.
+abbrev pub shown_meaning_bytes : Style → (in_line : Bool) → (line : ℕ) → Token → Meaning Unit → (ts : List Token) → List ℕ
+shown_meaning_bytes style in_line line t m ts =
+    fresh_line in_line ++ (printed_all style (codes "> " ++ (shown_name style t ++ meaning_head style m)) ++ (macro_feed m
+    ++ (printed_line style (list_text style ts ++ codes ".") ++ printed_line style (codes "l." ++ decimal line))))

@@ -79,6 +79,8 @@ pub enum Report {
     LongOrOuterWith(Meaning<()>),
     /// "Missing \endcsname inserted": another name ends the characters of `\csname`.
     MissingEndcsname,
+    /// "Extra \endcsname": there is no `\csname` that it could end.
+    ExtraEndcsname,
 }
 
 /// How a run has ended.

@@ -2,7 +2,7 @@
 use Rattle.std.specs.Prelude.{ℕ, ℤ, ◌-◌, ◌≤◌, ◌==◌, Bool, false, List, ◌++◌, length, Option, None, Some}
 use Rattle.tex_defs.specs.declared.Token.{Token}
 use Rattle.plain_tokens.specs.Printed.{Style, printed_by, printed_all, list_from, runaway_from}
-use Rattle.token_show.specs.Views.{style_of, IsView}
+use Rattle.token_show.specs.Views.{names_style, IsNamesView}
 use Rattle.token_show.specs.declared.characters.Characters.TheInside.{Inside}
 
 -- `room` is how many bytes more may be printed of a runaway text, with those of the present token; other texts have no bound
@@ -22,9 +22,9 @@ is_spent (Some room) = room == 0
 
 -- what a `Characters` stands for
 abbrev pub text_view : Inside → List ℕ
-text_view a = text_from (style_of a.view) a.room a.places a.last a.piece a.walk
+text_view a = text_from (names_style a.names) a.room a.places a.last a.piece a.walk
 
 -- the names are strings of the pool, and there are at most nine parameter places
 pub record IsText (a : Inside) : Type 0 where
-  pub names : IsView a.view
+  pub names : IsNamesView a.names
   pub few : a.places ≤ 9

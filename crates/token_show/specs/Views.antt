@@ -9,20 +9,28 @@ use Rattle.token_lists.specs.declared.Build.{Build}
 use Rattle.token_lists.specs.Table.{Entry, tokens_at, IsHeld}
 use Rattle.token_lists.specs.Ids.{id_of, build_id}
 use Rattle.plain_tokens.specs.Printed.{Style}
+use Rattle.token_show.specs.declared.view.NamesView.{NamesView}
 use Rattle.token_show.specs.declared.view.View.{View}
 
--- what texts depend on, as a view has it
-abbrev pub style_of : View → Style
-style_of v = record {
+-- what texts depend on, as a view of names has it
+abbrev pub names_style : NamesView → Style
+names_style v = record {
   escape = v.escape;
   newline = v.newline;
   categories = v.categories.now;
   names = entered v.hash.now v.pool.now.kept;
 }
 
--- the names of a view's hash are strings of its pool
+-- the names of the hash are strings of the pool
+abbrev pub IsNamesView : NamesView → Type 0
+IsNamesView v = Knows v.hash.now v.pool.now.kept
+
+-- the same of a view with lists
+abbrev pub style_of : View → Style
+style_of v = names_style v.names
+
 abbrev pub IsView : View → Type 0
-IsView v = Knows v.hash.now v.pool.now.kept
+IsView v = IsNamesView v.names
 
 -- the tokens of a list that is held
 abbrev pub list_tokens : View → ListRef → List Token

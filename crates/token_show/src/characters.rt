@@ -3,12 +3,14 @@ ghost use Rattle.std.specs.Prelude.{◌≡◌, ◌≤◌, ◌<◌, [], ◌∷◌
 ghost use Rattle.token_lists.specs.Table.{tokens_at, IsHeld};
 ghost use Rattle.token_lists.specs.Ids.{id_of, build_id};
 ghost use Rattle.plain_tokens.specs.Printed.{name_text, list_text, runaway_text, meaning_head, meaning_text, meaning_tokens, places_after, last_after, no_place};
-ghost use Rattle.token_show.specs.Views.{style_of, IsView, list_tokens, build_tokens, HoldsList};
+ghost use Rattle.token_show.specs.Views.{style_of, IsView, names_style, IsNamesView, list_tokens, build_tokens, HoldsList};
 ghost use Rattle.token_show.specs.Texts.{room_after, is_spent, text_from};
 
-use crate::piece::{Piece, bytes_piece, escaped, meaning_piece, name_piece, no_piece, token_piece};
+use crate::piece::{bytes_piece, escaped, meaning_piece, name_piece, no_piece, token_piece};
+use crate::places::{last_after, places_after};
 use crate::printing::printed_len;
-use crate::view::View;
+use crate::token_text::TokenText;
+use crate::view::{NamesView, View};
 use crate::walk::Walk;
 use std::marker::Model;
 use tex_defs::{Meaning, Name, Token};
@@ -20,9 +22,9 @@ use token_lists::{Build, ListRef, Lists};
 /// *TeX: The Program*, part 20 (`show_token_list`) and part 17 (`sprint_cs`, `print_cs`).
 #[derive(Drop)]
 pub struct Characters<'a> {
-    view: View<'a>,
+    names: NamesView<'a>,
     // What is left of the present token's text.
-    piece: Piece<'a>,
+    piece: TokenText<'a>,
     // The tokens behind it.
     walk: Walk<'a>,
     // How many parameter places were passed, and the character of the last.
@@ -45,36 +47,14 @@ impl<'a> Model for Characters<'a> {
 }
 
 // The next character of a piece, and the room behind it.
-fn take(piece: &mut Piece<'_>, room: &mut Option<u8>, view: &View<'_>) -> Option<u8>
-    ensures { MatchOption result ((piece.old ≡ []) × (piece.new ≡ []) × (room.new ≡ room.old)) (λ c. (piece.old ≡ c ∷ piece.new) × (room.new ≡ room_after room.old view.now.newline c)) }
+fn take(piece: &mut TokenText<'_>, room: &mut Option<u8>, names: &NamesView<'_>) -> Option<u8>
+    ensures { MatchOption result ((piece.old ≡ []) × (piece.new ≡ []) × (room.new ≡ room.old)) (λ c. (piece.old ≡ c ∷ piece.new) × (room.new ≡ room_after room.old names.now.newline c)) }
 {
     let c = piece.next()?;
     if let Some(bytes) = *room {
-        *room = Some(bytes.saturating_sub(printed_len(view.newline, c)));
+        *room = Some(bytes.saturating_sub(printed_len(names.newline, c)));
     }
     Some(c)
-}
-
-// How many parameter places there are behind a token.
-fn places_after(places: u8, token: Token) -> u8
-    requires { places ≤ 9 }
-    ensures after { result ≡ places_after places token }
-    ensures few { result ≤ 9 }
-{
-    match token {
-        Token::Place(_) => (places + 1).min(9),
-        _ => places,
-    }
-}
-
-// The character of the last parameter place behind a token.
-fn last_after(last: u8, token: Token) -> u8
-    ensures { result ≡ last_after last token }
-{
-    match token {
-        Token::Place(c) => c,
-        _ => last,
-    }
 }
 
 // Whether no byte more of a runaway text may be printed.
@@ -89,23 +69,23 @@ fn is_spent(room: Option<u8>) -> bool
 
 // The text of a token, or `\ETC.` in place of it and of those behind it.
 fn begin<'a>(
-    view: &View<'a>,
+    names: &NamesView<'a>,
     room: Option<u8>,
     places: u8,
     last: u8,
     token: Token,
     walk: &mut Walk<'a>,
-) -> Piece<'a>
-    requires view { IsView view.now }
+) -> TokenText<'a>
+    requires names { IsNamesView names.now }
     requires few { places ≤ 9 }
-    ensures text { text_from (style_of view.now) room places last [] (token ∷ walk.old) ≡ text_from (style_of view.now) room (places_after places token) (last_after last token) result walk.new }
+    ensures text { text_from (names_style names.now) room places last [] (token ∷ walk.old) ≡ text_from (names_style names.now) room (places_after places token) (last_after last token) result walk.new }
     ensures some { 0 < length result }
 {
     if is_spent(room) {
-        *walk = Walk::nothing(view.lists);
-        return escaped(view, b"ETC.");
+        walk.leave();
+        return escaped(names, b"ETC.");
     }
-    token_piece(view, places, last, token)
+    token_piece(names, places, last, token)
 }
 
 // The tokens of a macro's list, and none of another meaning.
@@ -125,12 +105,17 @@ fn meaning_walk<'a>(lists: &'a Lists, meaning: &'a Meaning<ListRef>) -> Walk<'a>
 
 impl<'a> Characters<'a> {
     // A piece, and the tokens of a list behind it.
-    fn new(view: View<'a>, piece: Piece<'a>, walk: Walk<'a>, room: Option<u8>) -> Characters<'a>
-        requires { IsView view }
-        ensures { result ≡ text_from (style_of view.entry) room 0 no_place piece.entry walk.entry }
+    fn new(
+        names: NamesView<'a>,
+        piece: TokenText<'a>,
+        walk: Walk<'a>,
+        room: Option<u8>,
+    ) -> Characters<'a>
+        requires { IsNamesView names }
+        ensures { result ≡ text_from (names_style names.entry) room 0 no_place piece.entry walk.entry }
     {
         Characters {
-            view,
+            names,
             piece,
             walk,
             places: 0,
@@ -146,7 +131,7 @@ impl<'a> Characters<'a> {
         ensures { result ≡ list_text (style_of view.entry) (list_tokens view.entry list.now) }
     {
         let walk = Walk::of_list(view.lists, list);
-        Characters::new(view, no_piece(), walk, None)
+        Characters::new(view.names, no_piece(), walk, None)
     }
 
     /// A list that is being built.
@@ -156,7 +141,7 @@ impl<'a> Characters<'a> {
         ensures { result ≡ list_text (style_of view.entry) (build_tokens view.entry build.now) }
     {
         let walk = Walk::of_build(view.lists, build);
-        Characters::new(view, no_piece(), walk, None)
+        Characters::new(view.names, no_piece(), walk, None)
     }
 
     /// The list of a runaway text: token by token while fewer than 62 bytes were printed, then `\ETC.` if tokens
@@ -169,7 +154,7 @@ impl<'a> Characters<'a> {
         ensures { result ≡ runaway_text (style_of view.entry) (build_tokens view.entry build.now) }
     {
         let walk = Walk::of_build(view.lists, build);
-        Characters::new(view, no_piece(), walk, Some(62))
+        Characters::new(view.names, no_piece(), walk, Some(62))
     }
 
     /// A token, as a list of it alone has it.
@@ -177,9 +162,9 @@ impl<'a> Characters<'a> {
         requires { IsView view }
         ensures { result ≡ list_text (style_of view.entry) (token ∷ []) }
     {
-        let piece = token_piece(&view, 0, b'#', token);
+        let piece = token_piece(&view.names, 0, b'#', token);
         let walk = Walk::nothing(view.lists);
-        Characters::new(view, piece, walk, None)
+        Characters::new(view.names, piece, walk, None)
     }
 
     /// These characters, as those of a file's name.
@@ -188,7 +173,7 @@ impl<'a> Characters<'a> {
         ensures { result ≡ bytes.now }
     {
         let walk = Walk::nothing(view.lists);
-        Characters::new(view, bytes_piece(bytes), walk, None)
+        Characters::new(view.names, bytes_piece(bytes), walk, None)
     }
 
     /// A name, as `\string` gives it and as reports have it.
@@ -196,9 +181,9 @@ impl<'a> Characters<'a> {
         requires { IsView view }
         ensures { result ≡ name_text (style_of view.entry) name }
     {
-        let piece = name_piece(&view, name);
+        let piece = name_piece(&view.names, name);
         let walk = Walk::nothing(view.lists);
-        Characters::new(view, piece, walk, None)
+        Characters::new(view.names, piece, walk, None)
     }
 
     /// A meaning without a macro's list: of a macro up to its `macro:`.
@@ -208,9 +193,9 @@ impl<'a> Characters<'a> {
         requires { IsView view }
         ensures { result ≡ meaning_head (style_of view.entry) meaning.now }
     {
-        let piece = meaning_piece(&view, meaning);
+        let piece = meaning_piece(&view.names, meaning);
         let walk = Walk::nothing(view.lists);
-        Characters::new(view, piece, walk, None)
+        Characters::new(view.names, piece, walk, None)
     }
 
     /// A meaning, as `\meaning` has it: of a macro with its list.
@@ -219,23 +204,23 @@ impl<'a> Characters<'a> {
         requires held { HoldsList view.lists.now meaning.now }
         ensures { result ≡ meaning_text (style_of view.entry) (list_tokens view.entry) meaning.now }
     {
-        let piece = meaning_piece(&view, meaning);
+        let piece = meaning_piece(&view.names, meaning);
         let walk = meaning_walk(view.lists, meaning);
-        Characters::new(view, piece, walk, None)
+        Characters::new(view.names, piece, walk, None)
     }
 
     /// The next character; `None` exactly where none is left.
     pub fn next(&mut self) -> Option<u8>
         ensures { MatchOption result ((self.old ≡ []) × (self.new ≡ [])) (λ c. self.old ≡ c ∷ self.new) }
     {
-        if let Some(c) = take(&mut self.piece, &mut self.room, &self.view) {
+        if let Some(c) = take(&mut self.piece, &mut self.room, &self.names) {
             return Some(c);
         }
         let Some(token) = self.walk.next() else {
             return None;
         };
         self.piece = begin(
-            &self.view,
+            &self.names,
             self.room,
             self.places,
             self.last,
@@ -244,7 +229,7 @@ impl<'a> Characters<'a> {
         );
         self.places = places_after(self.places, token);
         self.last = last_after(self.last, token);
-        let Some(c) = take(&mut self.piece, &mut self.room, &self.view) else {
+        let Some(c) = take(&mut self.piece, &mut self.room, &self.names) else {
             unreachable!();
         };
         Some(c)

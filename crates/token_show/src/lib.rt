@@ -7,14 +7,18 @@
 mod characters;
 mod part;
 mod piece;
+mod places;
 mod printing;
 mod shown;
+mod token_text;
 mod view;
 mod walk;
 
 pub use characters::Characters;
+pub use places::{last_after, places_after};
 pub use shown::{
     Shown, meaning, meaning_head, name_text, show_built, show_bytes, show_list, show_runaway,
     show_token,
 };
-pub use view::View;
+pub use token_text::TokenText;
+pub use view::{NamesView, View};

@@ -1,86 +1,18 @@
 // The text of one token, or of a meaning up to its list.
-ghost use Rattle.std.specs.Prelude.{◌≡◌, ◌≤◌, ◌<◌, [], ◌∷◌, ◌++◌, codes, length, MatchOption};
+ghost use Rattle.std.specs.Prelude.{◌≡◌, ◌≤◌, ◌<◌, [], ◌∷◌, ◌++◌, codes, length};
 ghost use Rattle.std.specs.Fmt.{decimal};
 ghost use Rattle.plain_tokens.specs.Printed.{escaped, name_text, name_in_list, space_behind, token_text, character_word, register_word, macro_text, meaning_head};
 ghost use Rattle.plain_tokens.specs.Numerals.{hexadecimal};
+ghost use Rattle.plain_state.specs.Reports.{string_text};
 ghost use Rattle.tex_defs.specs.declared.Name.TheVariants.{Single};
 ghost use Rattle.token_show.specs.Options.{listed};
-ghost use Rattle.token_show.specs.Views.{style_of, IsView};
+ghost use Rattle.token_show.specs.Views.{names_style, IsNamesView};
 
 use crate::part::Part;
-use crate::view::{View, frozen_word, primitive_word};
+use crate::token_text::TokenText;
+use crate::view::{NamesView, frozen_word, primitive_word};
 use char_text::{Text, count_length, hexadecimal_length};
-use std::marker::Model;
 use tex_defs::{Meaning, Name, RegisterKind, Token};
-
-// What is left of a text of three parts and a number. Contracts see it as the list of its characters.
-#[derive(Drop)]
-pub(crate) struct Piece<'a> {
-    first: Part<'a>,
-    second: Part<'a>,
-    third: Part<'a>,
-    number: Text,
-    // How many characters of the number were handed out.
-    given: usize,
-}
-
-impl<'a> Model for Piece<'a> {
-    ghost use Rattle.std.specs.Prelude.{ℕ, List, ◌++◌, drop};
-
-    ghost Value = { List ℕ };
-
-    ghost view = { λ a. a.first ++ (a.second ++ (a.third ++ drop a.given a.number)) };
-}
-
-impl<'a> Piece<'a> {
-    // A text of three parts.
-    pub(crate) fn new(first: Part<'a>, second: Part<'a>, third: Part<'a>) -> Piece<'a>
-        ensures { result ≡ first.entry ++ (second.entry ++ third.entry) }
-    {
-        Piece {
-            first,
-            second,
-            third,
-            number: Text::new(),
-            given: 0,
-        }
-    }
-
-    // A part, and a number's text.
-    fn with_number(first: Part<'a>, number: Text) -> Piece<'a>
-        ensures { result ≡ first.entry ++ number }
-    {
-        Piece {
-            first,
-            second: Part::new(None, &[]),
-            third: Part::new(None, &[]),
-            number,
-            given: 0,
-        }
-    }
-
-    // The next character; `None` exactly where none is left.
-    pub(crate) fn next(&mut self) -> Option<u8>
-        ensures { MatchOption result ((self.old ≡ []) × (self.new ≡ [])) (λ c. self.old ≡ c ∷ self.new) }
-    {
-        if let Some(c) = self.first.next() {
-            return Some(c);
-        }
-        if let Some(c) = self.second.next() {
-            return Some(c);
-        }
-        if let Some(c) = self.third.next() {
-            return Some(c);
-        }
-        let digits = self.number.bytes();
-        if self.given >= digits.len() {
-            return None;
-        }
-        let c = digits[self.given];
-        self.given += 1;
-        Some(c)
-    }
-}
 
 // No characters.
 fn none<'a>() -> Part<'a>
@@ -90,71 +22,83 @@ fn none<'a>() -> Part<'a>
 }
 
 // These characters.
-pub(crate) fn bytes_piece<'a>(bytes: &'a [u8]) -> Piece<'a>
+pub(crate) fn bytes_piece<'a>(bytes: &'a [u8]) -> TokenText<'a>
     ensures { result ≡ bytes.now }
 {
-    Piece::new(Part::new(None, bytes), none(), none())
+    TokenText::new(Part::new(None, bytes), none(), none())
 }
 
 // At most two characters.
-fn two<'a>(first: u8, second: Option<u8>) -> Piece<'a>
+fn two<'a>(first: u8, second: Option<u8>) -> TokenText<'a>
     ensures { result ≡ first ∷ listed second }
 {
-    Piece::new(Part::new(Some(first), &[]), Part::new(second, &[]), none())
+    TokenText::new(Part::new(Some(first), &[]), Part::new(second, &[]), none())
 }
 
 // A word behind the escape character.
-pub(crate) fn escaped<'a>(view: &View<'a>, word: &'a [u8]) -> Piece<'a>
-    ensures { result ≡ escaped (style_of view.now) word.now }
+pub(crate) fn escaped<'a>(names: &NamesView<'a>, word: &'a [u8]) -> TokenText<'a>
+    ensures { result ≡ escaped (names_style names.now) word.now }
 {
-    Piece::new(Part::new(view.escape(), word), none(), none())
+    TokenText::new(Part::new(names.escape(), word), none(), none())
 }
 
 // Characters, and another one behind them.
-fn followed<'a>(word: &'a [u8], c: u8) -> Piece<'a>
+fn followed<'a>(word: &'a [u8], c: u8) -> TokenText<'a>
     ensures { result ≡ word.now ++ c ∷ [] }
 {
-    Piece::new(Part::new(None, word), Part::new(Some(c), &[]), none())
+    TokenText::new(Part::new(None, word), Part::new(Some(c), &[]), none())
 }
 
 // A name as `\string` gives it.
-pub(crate) fn name_piece<'a>(view: &View<'a>, name: Name) -> Piece<'a>
-    requires { IsView view.now }
-    ensures { result ≡ name_text (style_of view.now) name }
+pub(crate) fn name_piece<'a>(names: &NamesView<'a>, name: Name) -> TokenText<'a>
+    requires { IsNamesView names.now }
+    ensures { result ≡ name_text (names_style names.now) name }
 {
     match name {
         Name::Active(c) => two(c, None),
-        Name::Single(c) => Piece::new(
-            Part::new(view.escape(), &[]),
+        Name::Single(c) => TokenText::new(
+            Part::new(names.escape(), &[]),
             Part::new(Some(c), &[]),
             none(),
         ),
-        Name::Empty => Piece::new(
-            Part::new(view.escape(), b"csname"),
-            Part::new(view.escape(), b"endcsname"),
+        Name::Empty => TokenText::new(
+            Part::new(names.escape(), b"csname"),
+            Part::new(names.escape(), b"endcsname"),
             none(),
         ),
-        Name::Word(number) => escaped(view, view.name(number)),
-        Name::Frozen(frozen) => escaped(view, frozen_word(frozen)),
+        Name::Word(number) => escaped(names, names.name(number)),
+        Name::Frozen(frozen) => escaped(names, frozen_word(frozen)),
+    }
+}
+
+// A token as `\string` gives it.
+pub(crate) fn string_piece<'a>(names: &NamesView<'a>, token: Token) -> TokenText<'a>
+    requires { IsNamesView names.now }
+    ensures { result ≡ string_text (names_style names.now) token }
+{
+    match token {
+        Token::Char { cat: _, code } => two(code, None),
+        Token::Named(name) | Token::Marked(name) => name_piece(names, name),
+        _ => no_piece(),
     }
 }
 
 // A word behind the escape character, and a space behind it.
-fn spaced<'a>(view: &View<'a>, word: &'a [u8]) -> Piece<'a>
-    ensures { result ≡ escaped (style_of view.now) word.now ++ 32 ∷ [] }
+fn spaced<'a>(names: &NamesView<'a>, word: &'a [u8]) -> TokenText<'a>
+    ensures { result ≡ escaped (names_style names.now) word.now ++ 32 ∷ [] }
 {
-    Piece::new(
-        Part::new(view.escape(), word),
+    TokenText::new(
+        Part::new(names.escape(), word),
         Part::new(Some(b' '), &[]),
         none(),
     )
 }
 
 // The space behind a name of one character.
-fn space_behind(view: &View<'_>, c: u8) -> Option<u8>
-    ensures { listed result ≡ space_behind (style_of view.now) (Single c) }
+fn space_behind(names: &NamesView<'_>, c: u8) -> Option<u8>
+    ensures { listed result ≡ space_behind (names_style names.now) (Single c) }
 {
-    if view.categories[c as usize] == 11 {
+    if names.categories[c as usize] == 11 {
         Some(b' ')
     } else {
         None
@@ -162,32 +106,37 @@ fn space_behind(view: &View<'_>, c: u8) -> Option<u8>
 }
 
 // A name in a list.
-fn name_in_list<'a>(view: &View<'a>, name: Name) -> Piece<'a>
-    requires { IsView view.now }
-    ensures { result ≡ name_in_list (style_of view.now) name }
+fn name_in_list<'a>(names: &NamesView<'a>, name: Name) -> TokenText<'a>
+    requires { IsNamesView names.now }
+    ensures { result ≡ name_in_list (names_style names.now) name }
 {
     match name {
         Name::Active(c) => two(c, None),
-        Name::Single(c) => Piece::new(
-            Part::new(view.escape(), &[]),
+        Name::Single(c) => TokenText::new(
+            Part::new(names.escape(), &[]),
             Part::new(Some(c), &[]),
-            Part::new(space_behind(view, c), &[]),
+            Part::new(space_behind(names, c), &[]),
         ),
-        Name::Empty => Piece::new(
-            Part::new(view.escape(), b"csname"),
-            Part::new(view.escape(), b"endcsname"),
+        Name::Empty => TokenText::new(
+            Part::new(names.escape(), b"csname"),
+            Part::new(names.escape(), b"endcsname"),
             Part::new(Some(b' '), &[]),
         ),
-        Name::Word(number) => spaced(view, view.name(number)),
-        Name::Frozen(frozen) => spaced(view, frozen_word(frozen)),
+        Name::Word(number) => spaced(names, names.name(number)),
+        Name::Frozen(frozen) => spaced(names, frozen_word(frozen)),
     }
 }
 
 // A token in a list, behind so many parameter places, the last of which has the character `last`.
-pub(crate) fn token_piece<'a>(view: &View<'a>, places: u8, last: u8, token: Token) -> Piece<'a>
-    requires view { IsView view.now }
+pub(crate) fn token_piece<'a>(
+    names: &NamesView<'a>,
+    places: u8,
+    last: u8,
+    token: Token,
+) -> TokenText<'a>
+    requires names { IsNamesView names.now }
     requires few { places ≤ 9 }
-    ensures text { result ≡ token_text (style_of view.now) places last token }
+    ensures text { result ≡ token_text (names_style names.now) places last token }
     ensures some { 0 < length result }
 {
     match token {
@@ -198,7 +147,7 @@ pub(crate) fn token_piece<'a>(view: &View<'a>, places: u8, last: u8, token: Toke
                 two(code, None)
             }
         }
-        Token::Named(name) | Token::Marked(name) => name_in_list(view, name),
+        Token::Named(name) | Token::Marked(name) => name_in_list(names, name),
         Token::Place(c) => two(c, Some(b'0' + (places + 1).min(9))),
         Token::Number(n) => two(last, Some(b'0' + n.min(9))),
         Token::EndPlaces => two(b'-', Some(b'>')),
@@ -236,64 +185,68 @@ fn register_word<'a>(kind: RegisterKind) -> &'a [u8]
 }
 
 // What stands before a macro's list.
-fn macro_piece<'a>(view: &View<'a>, long: bool, outer: bool) -> Piece<'a>
-    ensures { result ≡ macro_text (style_of view.now) long outer }
+fn macro_piece<'a>(names: &NamesView<'a>, long: bool, outer: bool) -> TokenText<'a>
+    ensures { result ≡ macro_text (names_style names.now) long outer }
 {
     match (long, outer) {
-        (false, false) => Piece::new(Part::new(None, b"macro:"), none(), none()),
-        (true, false) => escaped(view, b"long macro:"),
-        (false, true) => escaped(view, b"outer macro:"),
-        (true, true) => Piece::new(
-            Part::new(view.escape(), b"long"),
-            Part::new(view.escape(), b"outer macro:"),
+        (false, false) => TokenText::new(Part::new(None, b"macro:"), none(), none()),
+        (true, false) => escaped(names, b"long macro:"),
+        (false, true) => escaped(names, b"outer macro:"),
+        (true, true) => TokenText::new(
+            Part::new(names.escape(), b"long"),
+            Part::new(names.escape(), b"outer macro:"),
             none(),
         ),
     }
 }
 
 // A word behind the escape character, and a number behind it in capital hexadecimal digits.
-fn hexadecimal_piece<'a>(view: &View<'a>, word: &'a [u8], n: u32) -> Piece<'a>
-    ensures { result ≡ escaped (style_of view.now) word.now ++ hexadecimal n }
+fn hexadecimal_piece<'a>(names: &NamesView<'a>, word: &'a [u8], n: u32) -> TokenText<'a>
+    ensures { result ≡ escaped (names_style names.now) word.now ++ hexadecimal n }
 {
     let mut number = Text::new();
     hexadecimal_length(n);
     number.put_hex(n);
-    Piece::with_number(Part::new(view.escape(), word), number)
+    TokenText::with_number(Part::new(names.escape(), word), number)
 }
 
 // The same with decimal digits.
-fn decimal_piece<'a>(view: &View<'a>, word: &'a [u8], n: u64) -> Piece<'a>
-    ensures { result ≡ escaped (style_of view.now) word.now ++ decimal n }
+fn decimal_piece<'a>(names: &NamesView<'a>, word: &'a [u8], n: u64) -> TokenText<'a>
+    ensures { result ≡ escaped (names_style names.now) word.now ++ decimal n }
 {
     let mut number = Text::new();
     count_length(n);
     number.put_count(n);
-    Piece::with_number(Part::new(view.escape(), word), number)
+    TokenText::with_number(Part::new(names.escape(), word), number)
 }
 
 // A meaning without a macro's list.
-pub(crate) fn meaning_piece<'a, L>(view: &View<'a>, meaning: &Meaning<L>) -> Piece<'a>
-    ensures { result ≡ meaning_head (style_of view.now) meaning.now }
+pub(crate) fn meaning_piece<'a, L>(names: &NamesView<'a>, meaning: &Meaning<L>) -> TokenText<'a>
+    ensures { result ≡ meaning_head (names_style names.now) meaning.now }
 {
     match meaning {
-        Meaning::Undefined => Piece::new(Part::new(None, b"undefined"), none(), none()),
-        Meaning::RelaxMarked => escaped(view, b"relax"),
+        Meaning::Undefined => TokenText::new(Part::new(None, b"undefined"), none(), none()),
+        Meaning::RelaxMarked => escaped(names, b"relax"),
         Meaning::Char { cat, code } => followed(character_word(*cat), *code),
-        Meaning::CharGiven(c) => hexadecimal_piece(view, b"char\"", u32::from(*c)),
-        Meaning::MathGiven(c) => hexadecimal_piece(view, b"mathchar\"", u32::from(*c)),
-        Meaning::Register { kind, no } => decimal_piece(view, register_word(*kind), u64::from(*no)),
-        Meaning::Prim(number) => escaped(view, primitive_word(*number)),
+        Meaning::CharGiven(c) => hexadecimal_piece(names, b"char\"", u32::from(*c)),
+        Meaning::MathGiven(c) => hexadecimal_piece(names, b"mathchar\"", u32::from(*c)),
+        Meaning::Register { kind, no } => decimal_piece(
+            names,
+            register_word(*kind),
+            u64::from(*no),
+        ),
+        Meaning::Prim(number) => escaped(names, primitive_word(*number)),
         Meaning::Macro {
             long,
             outer,
             list: _,
-        } => macro_piece(view, *long, *outer),
+        } => macro_piece(names, *long, *outer),
     }
 }
 
 // No text.
-pub(crate) fn no_piece<'a>() -> Piece<'a>
+pub(crate) fn no_piece<'a>() -> TokenText<'a>
     ensures { result ≡ [] }
 {
-    Piece::new(none(), none(), none())
+    TokenText::new(none(), none(), none())
 }

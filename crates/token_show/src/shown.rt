@@ -82,7 +82,7 @@ impl<'a> Shown<'a> {
 fn print<'a>(view: &View<'a>, characters: Characters<'a>) -> Shown<'a>
     ensures { result ≡ printed_all (style_of view.now) characters.entry }
 {
-    Shown::new(characters, view.newline)
+    Shown::new(characters, view.names.newline)
 }
 
 /// A list of tokens, shown.

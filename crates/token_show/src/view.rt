@@ -2,17 +2,17 @@
 ghost use Rattle.std.specs.Prelude.{◌≡◌, codes};
 ghost use Rattle.plain_tokens.specs.Printed.{character_of, name_at, frozen_word, primitive_word};
 ghost use Rattle.token_show.specs.Options.{listed};
-ghost use Rattle.token_show.specs.Views.{style_of, IsView};
+ghost use Rattle.token_show.specs.Views.{names_style, IsNamesView};
 
 use cs_hash::CsHash;
 use string_pool::StringPool;
 use tex_defs::Frozen;
 use token_lists::Lists;
 
-/// The lists whose tokens are printed, and what their texts depend on.
+/// What texts depend on: the names, and the values of parameters. It holds no lists, so that a list can grow while the text of a
+/// token is made.
 #[derive(Clone, Copy, Drop)]
-pub struct View<'a> {
-    pub lists: &'a Lists,
+pub struct NamesView<'a> {
     /// The names of two or more characters, whose characters are strings of the pool.
     pub hash: &'a CsHash,
     pub pool: &'a StringPool,
@@ -20,11 +20,18 @@ pub struct View<'a> {
     pub categories: &'a [u8; 256],
     /// The value of `\escapechar`.
     pub escape: i32,
-    /// The value of `\newlinechar`.
+    /// The value of `\newlinechar`, by which printed texts go alone.
     pub newline: i32,
 }
 
-impl<'a> View<'a> {
+/// The lists whose tokens are printed, and what their texts depend on.
+#[derive(Clone, Copy, Drop)]
+pub struct View<'a> {
+    pub lists: &'a Lists,
+    pub names: NamesView<'a>,
+}
+
+impl<'a> NamesView<'a> {
     /// The escape character, where `\escapechar` is a code.
     pub fn escape(&self) -> Option<u8>
         ensures { listed result ≡ character_of self.now.escape }
@@ -38,8 +45,8 @@ impl<'a> View<'a> {
 
     // The characters of a name by its number; none where no name has it.
     pub(crate) fn name(&self, number: u16) -> &'a [u8]
-        requires { IsView self.now }
-        ensures { result.now ≡ name_at (style_of self.now).names number }
+        requires { IsNamesView self.now }
+        ensures { result.now ≡ name_at (names_style self.now).names number }
     {
         if number == 0 || u32::from(number) > self.hash.count() {
             return &[];

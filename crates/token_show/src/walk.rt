@@ -79,6 +79,14 @@ impl<'a> Walk<'a> {
         }
     }
 
+    // Leaves the tokens that are left.
+    pub(crate) fn leave(&mut self)
+        ensures { self.new ≡ [] }
+    {
+        self.source = Source::Nothing;
+        self.at = None;
+    }
+
     // The next token; `None` exactly where none is left.
     pub(crate) fn next(&mut self) -> Option<Token>
         ensures { MatchOption result ((self.old ≡ []) × (self.new ≡ [])) (λ t. self.old ≡ t ∷ self.new) }

@@ -99,3 +99,7 @@ same_ok r s s' b b' a c e h = subst (λ (x : List ℕ). OnOk r (Took s s' b b' x
 
 pub same_front : (r : Result Unit Fault) (s s' : SinkTold) (b b' : Bool) (a c : List ℕ) → a ≡ c → IfErr r (λ fault. TookFront s s' b b' a fault) → IfErr r (λ fault. TookFront s s' b b' c fault)
 same_front r s s' b b' a c e h = subst (λ (x : List ℕ). IfErr r (λ fault. TookFront s s' b b' x fault)) e h
+
+-- a text alone
+pub alone : (text : List ℕ) → text ++ ([] ++ []) ≡ text
+alone text = append-nil text

@@ -5,15 +5,18 @@ use Rattle.std.specs.Fmt.{decimal}
 use Rattle.std.proofs.lemmas.List.{append-nil}
 use Rattle.std.proofs.lemmas.Grind.{flat_map-append}
 use Rattle.tex_syntax.specs.declared.words.Report.{Report}
-use Rattle.tex_syntax.specs.declared.words.Report.TheVariants.{UndefinedName, InvalidCharacter, ImproperConstant, MissingNumber, NumberTooBig, BadCharacterCode, InvalidCode, MissingBrace, FileEnded, Forbidden, MissingName, NotConsecutive, AlreadyNine, IllegalNumber, UseMismatch, ExtraBrace, ParagraphEnded, PrefixWith, LongOrOuterWith, MissingEndcsname}
+use Rattle.tex_syntax.specs.declared.words.Report.TheVariants.{UndefinedName, InvalidCharacter, ImproperConstant, MissingNumber, NumberTooBig, BadCharacterCode, InvalidCode, MissingBrace, FileEnded, Forbidden, MissingName, NotConsecutive, AlreadyNine, IllegalNumber, UseMismatch, ExtraBrace, ParagraphEnded, PrefixWith, LongOrOuterWith, MissingEndcsname, ExtraEndcsname}
 use Rattle.tex_syntax.specs.declared.words.Scanned.{Scanned}
 use Rattle.tex_syntax.specs.declared.words.Scanned.TheVariants as scanned
 use Rattle.tex_defs.specs.declared.Name.{Name}
-use Rattle.plain_tokens.specs.Printed.{Style, escaped, printed_by, printed_all}
+use Rattle.tex_defs.specs.declared.Token.{Token}
+use Rattle.tex_defs.specs.declared.Token.TheVariants.{Char, Named, Marked, Place, Number, EndPlaces}
+use Rattle.tex_defs.specs.declared.Meaning.{Meaning}
+use Rattle.plain_tokens.specs.Printed.{Style, escaped, meaning_head, list_text, shown_all, printed_by, printed_all}
 use Rattle.plain_state.specs.Reports as plain
-use Rattle.plain_state.specs.Reports.{fresh_line, report_text, report_bytes}
+use Rattle.plain_state.specs.Reports.{fresh_line, report_text, report_bytes, error_message_bytes, shown_name, macro_feed, shown_meaning_bytes}
 use Rattle.token_show.specs.Bytes.{all_printed}
-use Rattle.transcript.specs.Reported.{opening, subject, closing}
+use Rattle.transcript.specs.Reported.{opening, subject, closing, token_name, equals_behind}
 
 -- PIECES, each printed as f prints its characters
 
@@ -40,6 +43,12 @@ module _ (f : ℕ → List ℕ) where
       ≡ fresh ++ ((flat_map f (mark ++ ((opening ++ (subject ++ closing)) ++ dot)) ++ 10 ∷ []) ++ (flat_map f (line ++ number) ++ 10 ∷ []))
   report_around fresh mark opening subject closing dot line number = simp (flat_map-append, append_assoc)
 
+  -- a report whose text is one list
+  pub message_around : (fresh mark text dot line number : List ℕ) →
+      (fresh ++ flat_map f mark) ++ (flat_map f text ++ (flat_map f dot ++ (10 ∷ (flat_map f line ++ (flat_map f number ++ 10 ∷ [])))))
+      ≡ fresh ++ ((flat_map f (mark ++ (text ++ dot)) ++ 10 ∷ []) ++ (flat_map f (line ++ number) ++ 10 ∷ []))
+  message_around fresh mark text dot line number = simp (flat_map-append, append_assoc)
+
   line_around : (fresh front middle close : List ℕ) → (fresh ++ flat_map f front) ++ (flat_map f middle ++ (flat_map f close ++ 10 ∷ [])) ≡ fresh ++ (flat_map f (front ++ (middle ++ close)) ++ 10 ∷ [])
   line_around fresh front middle close = simp (flat_map-append, append_assoc)
 
@@ -53,6 +62,12 @@ module _ (f : ℕ → List ℕ) where
       start ≡ fresh ++ flat_map f mark → before ≡ start ++ flat_map f opening → shown ≡ flat_map f subject → behind ≡ flat_map f closing ++ (flat_map f dot ++ (10 ∷ (flat_map f line ++ (flat_map f number ++ 10 ∷ [])))) →
       before ++ (shown ++ behind) ≡ fresh ++ ((flat_map f (mark ++ ((opening ++ (subject ++ closing)) ++ dot)) ++ 10 ∷ []) ++ (flat_map f (line ++ number) ++ 10 ∷ []))
   around_parts fresh mark opening subject closing dot line number start before shown behind m b s h = rw (b, m, s, h) (report_around fresh mark opening subject closing dot line number)
+
+  -- what is shown of a token between what stands around it, over three parts
+  pub shown_around : (fresh mark name equals head feed list dot line number : List ℕ) →
+      ((fresh ++ flat_map f mark) ++ (flat_map f name ++ flat_map f equals)) ++ ((flat_map f head ++ feed) ++ (flat_map f list ++ (flat_map f dot ++ (10 ∷ (flat_map f line ++ (flat_map f number ++ 10 ∷ []))))))
+      ≡ fresh ++ (flat_map f (mark ++ ((name ++ equals) ++ head)) ++ (feed ++ ((flat_map f (list ++ dot) ++ 10 ∷ []) ++ (flat_map f (line ++ number) ++ 10 ∷ []))))
+  shown_around fresh mark name equals head feed list dot line number = simp (flat_map-append, append_assoc)
 
 -- REPORTS
 
@@ -92,6 +107,7 @@ report_is style (ParagraphEnded name) = refl
 report_is style (PrefixWith m) = refl
 report_is style (LongOrOuterWith m) = around_prefix (codes "You can't use `") (escaped style (codes "long")) (codes "' or `") (escaped style (codes "outer")) (codes "' with `") (subject style (LongOrOuterWith m) ++ closing (LongOrOuterWith m))
 report_is style MissingEndcsname = append-nil (opening style MissingEndcsname)
+report_is style ExtraEndcsname = append-nil (opening style ExtraEndcsname)
 
 pub report_parts : (style : Style) (b : Bool) (line : ℕ) (r : Report) (start before shown close behind : List ℕ) →
     start ≡ fresh_line b ++ printed_all style (codes "! ") → before ≡ start ++ printed_all style (opening style r) → shown ≡ printed_all style (subject style r) → close ≡ closing r →
@@ -105,3 +121,33 @@ report_parts style b line r start before shown close behind m i s k h =
 pub opening_by : (style : Style) (r r' : Report) (newline : ℤ) (old new : List ℕ) → r ≡ r' → newline ≡ style.newline → new ≡ old ++ all_printed newline (opening style r') → new ≡ old ++ all_printed style.newline (opening style r)
 opening_by style r r' newline old new is e h =
     h ∙ ap (λ (n : ℤ). old ++ all_printed n (opening style r')) e ∙ ap (λ (x : Report). old ++ all_printed style.newline (opening style x)) (sym is)
+
+-- the report of a message
+pub message_parts : (style : Style) (b : Bool) (line : ℕ) (ts : List Token) (before shown behind : List ℕ) →
+    before ≡ fresh_line b ++ printed_all style (codes "! ") → shown ≡ shown_all style ts →
+    behind ≡ printed_all style (codes ".") ++ (10 ∷ (printed_all style (codes "l.") ++ (printed_all style (decimal line) ++ 10 ∷ []))) →
+    before ++ (shown ++ behind) ≡ error_message_bytes style b line ts
+message_parts style b line ts before shown behind m s h =
+    rw (m, s, h) (message_around (printed_by style.newline) (fresh_line b) (codes "! ") (list_text style ts) (codes ".") (codes "l.") (decimal line))
+
+-- WHAT IS SHOWN
+
+name_is : (style : Style) (t : Token) → token_name style t ++ equals_behind t ≡ shown_name style t
+name_is style (Char category c) = refl
+name_is style (Named n) = refl
+name_is style (Marked n) = refl
+name_is style (Place c) = refl
+name_is style (Number n) = refl
+name_is style EndPlaces = refl
+
+-- the three parts are the whole
+pub shown_parts : (style : Style) (b : Bool) (line : ℕ) (t : Token) (m : Meaning Unit) (ts : List Token) (mark name equals head feed list behind first second third said : List ℕ) →
+    mark ≡ fresh_line b ++ printed_all style (codes "> ") → name ≡ printed_all style (token_name style t) → equals ≡ printed_all style (equals_behind t) →
+    head ≡ printed_all style (meaning_head style m) → feed ≡ macro_feed m → list ≡ shown_all style ts →
+    behind ≡ printed_all style (codes ".") ++ (10 ∷ (printed_all style (codes "l.") ++ (printed_all style (decimal line) ++ 10 ∷ []))) →
+    first ≡ mark ++ (name ++ equals) → second ≡ head ++ feed → third ≡ list ++ behind → said ≡ first ++ (second ++ third) →
+    said ≡ shown_meaning_bytes style b line t m ts
+shown_parts style b line t m ts mark name equals head feed list behind first second third said i j k l n o p q r s h =
+    rw (h, q, r, s, i, j, k, l, n, o, p) (shown_around (printed_by style.newline) (fresh_line b) (codes "> ") (token_name style t) (equals_behind t) (meaning_head style m) (macro_feed m) (list_text style ts) (codes ".") (codes "l.") (decimal line)
+    ∙ ap (λ (x : List ℕ). fresh_line b ++ (printed_all style (codes "> " ++ (x ++ meaning_head style m)) ++ (macro_feed m
+    ++ (plain.printed_line style (list_text style ts ++ codes ".") ++ plain.printed_line style (codes "l." ++ decimal line))))) (name_is style t))

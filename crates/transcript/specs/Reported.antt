@@ -1,8 +1,10 @@
--- What the engine's reports stand for, and the parts in which their texts are written.
+-- What the engine's reports stand for, and the parts in which their texts and those of `\show` are written.
 use Rattle.std.specs.Prelude.{ℕ, List, [], ◌++◌, codes}
 use Rattle.tex_syntax.specs.declared.words.Report.{Report}
-use Rattle.tex_syntax.specs.declared.words.Report.TheVariants.{BadCharacterCode, InvalidCode, FileEnded, Forbidden, IllegalNumber, UseMismatch, ExtraBrace, ParagraphEnded, PrefixWith, LongOrOuterWith, MissingEndcsname}
+use Rattle.tex_syntax.specs.declared.words.Report.TheVariants.{BadCharacterCode, InvalidCode, FileEnded, Forbidden, IllegalNumber, UseMismatch, ExtraBrace, ParagraphEnded, PrefixWith, LongOrOuterWith, MissingEndcsname, ExtraEndcsname}
 use Rattle.tex_syntax.specs.declared.words.Scanned.{Scanned}
+use Rattle.tex_defs.specs.declared.Token.{Token}
+use Rattle.tex_defs.specs.declared.Token.TheVariants.{Named, Marked}
 use Rattle.plain_tokens.specs.Printed.{Style, escaped, name_text, meaning_head}
 use Rattle.plain_state.specs.Reports.{report_text, scanned_word}
 
@@ -35,6 +37,7 @@ IsFixed (BadCharacterCode n) = ⊥
 IsFixed (InvalidCode n greatest) = ⊥
 IsFixed (LongOrOuterWith m) = ⊥
 IsFixed MissingEndcsname = ⊥
+IsFixed ExtraEndcsname = ⊥
 IsFixed r = Unit {0}
 
 -- the name or meaning in a report's text, if there is one
@@ -57,3 +60,14 @@ closing (UseMismatch name) = codes " doesn't match its definition"
 closing (ExtraBrace name) = codes " has an extra }"
 closing (ParagraphEnded name) = codes " was complete"
 closing r = []
+
+-- the name that `\show` has before a meaning, and what stands between them
+abbrev pub token_name : Style → Token → List ℕ
+token_name style (Named n) = name_text style n
+token_name style (Marked n) = name_text style n
+token_name style t = []
+
+abbrev pub equals_behind : Token → List ℕ
+equals_behind (Named n) = codes "="
+equals_behind (Marked n) = codes "="
+equals_behind t = []

@@ -15,7 +15,7 @@ fn put_line(text: &mut Text, view: View<'_>, characters: &[u8])
     ensures text { text.new ≡ text.old ++ printed_line (style_of view.entry) characters.now }
     ensures length { length text.new ≡ length text.old + length characters.now + 1 }
 {
-    put_fixed(text, view.newline, characters);
+    put_fixed(text, view.names.newline, characters);
     text.put_char(b'\n');
 }
 

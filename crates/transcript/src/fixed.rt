@@ -73,10 +73,10 @@ pub(crate) fn put_signed(text: &mut Text, newline: i32, n: i32)
 pub(crate) fn put_escape(text: &mut Text, view: View<'_>)
     requires names { IsView view }
     requires room { length text.old ≤ 76 }
-    ensures text { text.new ≡ text.old ++ all_printed view.entry.newline (character_of view.entry.escape) }
+    ensures text { text.new ≡ text.old ++ all_printed view.entry.names.newline (character_of view.entry.names.escape) }
     ensures length { length text.new ≤ length text.old + 4 }
 {
-    let Some(c) = view.escape() else { return };
+    let Some(c) = view.names.escape() else { return };
     let one = [c];
     let mut shown = show_bytes(view, &one);
     while let Some(byte) = shown.next() {

@@ -20,7 +20,7 @@ use token_show::{Shown, View, meaning_head, show_built, show_bytes, show_runaway
 use world_io::{Fault, Sink};
 
 // The tokens of a list shown, and nothing where there is no list.
-fn show_given<'a>(view: View<'a>, list: Option<&'a Build>) -> Shown<'a>
+pub(crate) fn show_given<'a>(view: View<'a>, list: Option<&'a Build>) -> Shown<'a>
     requires names { IsView view }
     requires held { IfSome list (λ build. IsHeld view.lists.now (build_id build.now)) }
     ensures { result ≡ shown_all (style_of view.entry) (tokens_given (λ build. build_tokens view.entry build.now) list.entry) }
@@ -50,7 +50,7 @@ pub fn write_message<S: Sink>(
 {
     let mut space = Text::new();
     if *in_line {
-        put_fixed(&mut space, view.newline, b" ");
+        put_fixed(&mut space, view.names.newline, b" ");
     }
     put_around(out, in_line, space.bytes(), show_given(view, list), b"")
 }
@@ -70,9 +70,9 @@ pub fn write_token_line<S: Sink>(
     ensures err { IfErr result (λ fault. TookFront (S.told out.old) (S.told out.new) in_line.old in_line.new (token_line_bytes (style_of view.entry) in_line.old meaning) fault) }
 {
     let mut before = fresh_line(*in_line);
-    put_fixed(&mut before, view.newline, b"{");
+    put_fixed(&mut before, view.names.newline, b"{");
     let mut behind = Text::new();
-    put_fixed(&mut behind, view.newline, b"}");
+    put_fixed(&mut behind, view.names.newline, b"}");
     behind.put_char(b'\n');
     put_around(
         out,
@@ -124,6 +124,6 @@ pub fn write_runaway<S: Sink>(
     ensures ok { OnOk result (Took (S.told out.old) (S.told out.new) in_line.old in_line.new (runaway_bytes what (style_of view.entry) in_line.old (build_tokens view.entry build.now))) }
     ensures err { IfErr result (λ fault. TookFront (S.told out.old) (S.told out.new) in_line.old in_line.new (runaway_bytes what (style_of view.entry) in_line.old (build_tokens view.entry build.now)) fault) }
 {
-    let head = runaway_head(what, view.newline, *in_line);
+    let head = runaway_head(what, view.names.newline, *in_line);
     put_around(out, in_line, head.bytes(), show_runaway(view, build), b"")
 }

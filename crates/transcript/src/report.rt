@@ -1,18 +1,23 @@
 // Reports.
-ghost use Rattle.std.specs.Prelude.{◌≡◌, ◌≤◌, ◌∷◌, ◌++◌, [], codes, length, OnOk, IfErr, IsTrue};
+ghost use Rattle.std.specs.Prelude.{◌≡◌, ◌≤◌, ◌∷◌, ◌++◌, [], codes, length, OnOk, IfErr, IfSome, IsTrue};
 ghost use Rattle.std.specs.Fmt.{decimal};
-ghost use Rattle.plain_state.specs.Reports.{fresh_line, report_bytes, missing_file_bytes};
+ghost use Rattle.plain_state.specs.Reports.{fresh_line, report_bytes, error_message_bytes, missing_file_bytes};
+ghost use Rattle.token_lists.specs.Table.{IsHeld};
+ghost use Rattle.token_lists.specs.Ids.{build_id};
 ghost use Rattle.plain_tokens.specs.Printed.{Style, printed_all};
 ghost use Rattle.token_show.specs.Bytes.{all_printed};
-ghost use Rattle.token_show.specs.Views.{style_of, IsView};
+ghost use Rattle.token_show.specs.Views.{style_of, build_tokens, IsView};
+ghost use Rattle.transcript.specs.Given.{tokens_given};
 ghost use Rattle.transcript.specs.Plain.{is_plain};
 ghost use Rattle.transcript.specs.Reported.{opening, prefix_opening, ended_opening, forbidden_opening, subject, closing, IsFixed};
 ghost use Rattle.transcript.specs.Taken.{Took, TookFront};
 
 use crate::fixed::{fresh_line, put_escape, put_fixed, put_number, put_signed};
+use crate::message::show_given;
 use crate::writing::put_around;
 use char_text::Text;
 use tex_syntax::{Report, Scanned};
+use token_lists::Build;
 use token_show::{Shown, View, meaning_head, name_text, show_bytes};
 use world_io::{Fault, Sink};
 
@@ -51,24 +56,35 @@ fn put_invalid_code(text: &mut Text, newline: i32, n: i32, greatest: u32)
 fn put_prefix(text: &mut Text, view: View<'_>)
     requires names { IsView view }
     requires short { length text.old ≤ 3 }
-    ensures { text.new ≡ text.old ++ all_printed view.entry.newline (prefix_opening (style_of view.entry)) }
+    ensures { text.new ≡ text.old ++ all_printed view.entry.names.newline (prefix_opening (style_of view.entry)) }
 {
-    put_fixed(text, view.newline, b"You can't use `");
+    put_fixed(text, view.names.newline, b"You can't use `");
     put_escape(text, view);
-    put_fixed(text, view.newline, b"long' or `");
+    put_fixed(text, view.names.newline, b"long' or `");
     put_escape(text, view);
-    put_fixed(text, view.newline, b"outer' with `");
+    put_fixed(text, view.names.newline, b"outer' with `");
 }
 
 // Puts the report of a missing `\endcsname`.
 fn put_missing_endcsname(text: &mut Text, view: View<'_>)
     requires names { IsView view }
     requires short { length text.old ≤ 3 }
-    ensures { text.new ≡ text.old ++ all_printed view.entry.newline (opening (style_of view.entry) Report.MissingEndcsname) }
+    ensures { text.new ≡ text.old ++ all_printed view.entry.names.newline (opening (style_of view.entry) Report.MissingEndcsname) }
 {
-    put_fixed(text, view.newline, b"Missing ");
+    put_fixed(text, view.names.newline, b"Missing ");
     put_escape(text, view);
-    put_fixed(text, view.newline, b"endcsname inserted");
+    put_fixed(text, view.names.newline, b"endcsname inserted");
+}
+
+// Puts the report of an extra `\endcsname`.
+fn put_extra_endcsname(text: &mut Text, view: View<'_>)
+    requires names { IsView view }
+    requires short { length text.old ≤ 3 }
+    ensures { text.new ≡ text.old ++ all_printed view.entry.names.newline (opening (style_of view.entry) Report.ExtraEndcsname) }
+{
+    put_fixed(text, view.names.newline, b"Extra ");
+    put_escape(text, view);
+    put_fixed(text, view.names.newline, b"endcsname");
 }
 
 // What stands before the name where a file ended.
@@ -124,7 +140,8 @@ fn fixed_opening(report: Report) -> &'static [u8]
         Report::BadCharacterCode(_)
         | Report::InvalidCode(_, _)
         | Report::LongOrOuterWith(_)
-        | Report::MissingEndcsname => b"",
+        | Report::MissingEndcsname
+        | Report::ExtraEndcsname => b"",
     }
 }
 
@@ -132,14 +149,15 @@ fn fixed_opening(report: Report) -> &'static [u8]
 fn put_opening(text: &mut Text, view: View<'_>, report: Report)
     requires names { IsView view }
     requires short { length text.old ≤ 3 }
-    ensures { text.new ≡ text.old ++ all_printed view.entry.newline (opening (style_of view.entry) report) }
+    ensures { text.new ≡ text.old ++ all_printed view.entry.names.newline (opening (style_of view.entry) report) }
 {
     match report {
-        Report::BadCharacterCode(n) => put_bad_code(text, view.newline, n),
-        Report::InvalidCode(n, greatest) => put_invalid_code(text, view.newline, n, greatest),
+        Report::BadCharacterCode(n) => put_bad_code(text, view.names.newline, n),
+        Report::InvalidCode(n, greatest) => put_invalid_code(text, view.names.newline, n, greatest),
         Report::LongOrOuterWith(_) => put_prefix(text, view),
         Report::MissingEndcsname => put_missing_endcsname(text, view),
-        other => put_fixed(text, view.newline, fixed_opening(other)),
+        Report::ExtraEndcsname => put_extra_endcsname(text, view),
+        other => put_fixed(text, view.names.newline, fixed_opening(other)),
     }
 }
 
@@ -178,7 +196,7 @@ fn closing(report: Report) -> &'static [u8]
 }
 
 // What stands behind a report: what closes it, and the number of the line that is being read.
-fn line_number(newline: i32, close: &[u8], line: u64) -> Text
+pub(crate) fn line_number(newline: i32, close: &[u8], line: u64) -> Text
     requires plain { IsTrue (is_plain close.now) }
     requires short { length close.now ≤ 30 }
     ensures { result ≡ all_printed newline close.now ++ (all_printed newline (codes ".") ++ (10 ∷ (all_printed newline (codes "l.") ++ (all_printed newline (decimal line) ++ 10 ∷ [])))) }
@@ -210,14 +228,44 @@ pub fn write_report<S: Sink>(
     ensures ok { OnOk result (Took (S.told out.old) (S.told out.new) in_line.old in_line.new (report_bytes (style_of view.entry) in_line.old line report)) }
     ensures err { IfErr result (λ fault. TookFront (S.told out.old) (S.told out.new) in_line.old in_line.new (report_bytes (style_of view.entry) in_line.old line report) fault) }
 {
-    let mut before = report_mark(view.newline, *in_line);
+    let mut before = report_mark(view.names.newline, *in_line);
     put_opening(&mut before, view, report);
-    let behind = line_number(view.newline, closing(report), line);
+    let behind = line_number(view.names.newline, closing(report), line);
     put_around(
         out,
         in_line,
         before.bytes(),
         show_subject(view, report),
+        behind.bytes(),
+    )
+}
+
+/// Writes a report whose text is a list as a message has it, no tokens where there is no list, and then the number of the line
+/// that is being read.
+///
+/// *The TeXbook*, chapter 24 (`\errmessage`); *TeX: The Program*, part 49 (`issue_message`).
+///
+/// # Errors
+/// A write failed or wanted memory; the sink took a front of the report.
+pub fn write_error_message<S: Sink>(
+    out: &mut S,
+    in_line: &mut bool,
+    view: View<'_>,
+    line: u64,
+    list: Option<&Build>,
+) -> Result<(), Fault>
+    requires names { IsView view }
+    requires held { IfSome list (λ build. IsHeld view.lists.now (build_id build.now)) }
+    ensures ok { OnOk result (Took (S.told out.old) (S.told out.new) in_line.old in_line.new (error_message_bytes (style_of view.entry) in_line.old line (tokens_given (λ build. build_tokens view.entry build.now) list.entry))) }
+    ensures err { IfErr result (λ fault. TookFront (S.told out.old) (S.told out.new) in_line.old in_line.new (error_message_bytes (style_of view.entry) in_line.old line (tokens_given (λ build. build_tokens view.entry build.now) list.entry)) fault) }
+{
+    let before = report_mark(view.names.newline, *in_line);
+    let behind = line_number(view.names.newline, b"", line);
+    put_around(
+        out,
+        in_line,
+        before.bytes(),
+        show_given(view, list),
         behind.bytes(),
     )
 }
@@ -236,9 +284,9 @@ pub fn write_missing_file<S: Sink>(
     ensures ok { OnOk result (Took (S.told out.old) (S.told out.new) in_line.old in_line.new (missing_file_bytes (style_of view.entry) in_line.old 0 file.now)) }
     ensures err { IfErr result (λ fault. TookFront (S.told out.old) (S.told out.new) in_line.old in_line.new (missing_file_bytes (style_of view.entry) in_line.old 0 file.now) fault) }
 {
-    let mut before = report_mark(view.newline, *in_line);
-    put_fixed(&mut before, view.newline, b"I can't find file `");
-    let behind = line_number(view.newline, b"'", 0);
+    let mut before = report_mark(view.names.newline, *in_line);
+    put_fixed(&mut before, view.names.newline, b"I can't find file `");
+    let behind = line_number(view.names.newline, b"'", 0);
     put_around(
         out,
         in_line,

@@ -1,5 +1,6 @@
 // A text that is composed of bytes and of what is shown between them.
 ghost use Rattle.std.specs.Prelude.{◌≡◌, [], ◌∷◌, ◌++◌, MatchOption};
+ghost use Rattle.transcript.specs.Given.{text_given};
 
 use std::marker::Model;
 use token_show::Shown;
@@ -50,5 +51,70 @@ impl<'a> Said<'a> {
                 Some(*byte)
             }
         }
+    }
+}
+
+// At most three such texts, one behind the other, that are written at once. Contracts see the list of their bytes.
+#[derive(Drop)]
+pub(crate) struct SaidParts<'a> {
+    first: Said<'a>,
+    second: Option<Said<'a>>,
+    third: Option<Said<'a>>,
+}
+
+impl<'a> Model for SaidParts<'a> {
+    ghost use Rattle.std.specs.Prelude.{ℕ, List, ◌++◌};
+    ghost use Rattle.transcript.specs.Given.{text_given};
+
+    ghost Value = { List ℕ };
+
+    ghost view = { λ a. a.first ++ (text_given a.second ++ text_given a.third) };
+}
+
+// The next byte of a text that may be there; `None` exactly where none is left.
+fn next_given(said: &mut Option<Said<'_>>) -> Option<u8>
+    ensures { MatchOption result ((text_given said.old ≡ []) × (text_given said.new ≡ [])) (λ byte. text_given said.old ≡ byte ∷ text_given said.new) }
+{
+    match said.as_mut() {
+        Some(said) => said.next(),
+        None => None,
+    }
+}
+
+impl<'a> SaidParts<'a> {
+    // One text.
+    #[tactic(auto, using(crate::proofs::Joins::alone))]
+    pub(crate) fn one(said: Said<'a>) -> SaidParts<'a>
+        ensures { result ≡ said.entry }
+    {
+        SaidParts {
+            first: said,
+            second: None,
+            third: None,
+        }
+    }
+
+    // Three texts.
+    pub(crate) fn three(first: Said<'a>, second: Said<'a>, third: Said<'a>) -> SaidParts<'a>
+        ensures { result ≡ first.entry ++ (second.entry ++ third.entry) }
+    {
+        SaidParts {
+            first,
+            second: Some(second),
+            third: Some(third),
+        }
+    }
+
+    // The next byte; `None` exactly where none is left.
+    pub(crate) fn next(&mut self) -> Option<u8>
+        ensures { MatchOption result ((self.old ≡ []) × (self.new ≡ [])) (λ byte. self.old ≡ byte ∷ self.new) }
+    {
+        if let Some(byte) = self.first.next() {
+            return Some(byte);
+        }
+        if let Some(byte) = next_given(&mut self.second) {
+            return Some(byte);
+        }
+        next_given(&mut self.third)
     }
 }

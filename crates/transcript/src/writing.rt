@@ -3,7 +3,7 @@ ghost use Rattle.std.specs.Prelude.{◌≡◌, ◌<◌, ◌++◌, [], length, On
 ghost use Rattle.plain_state.specs.States.{in_line_after};
 ghost use Rattle.transcript.specs.Taken.{Took, TookFront};
 
-use crate::said::Said;
+use crate::said::{Said, SaidParts};
 use arrayvec::ArrayVec;
 use token_show::Shown;
 use world_io::{Fault, Sink, write_all};
@@ -41,7 +41,7 @@ pub fn put<S: Sink>(out: &mut S, in_line: &mut bool, text: &[u8]) -> Result<(), 
 }
 
 // The first bytes of a text: as many as there are, and as there is room for.
-fn first_bytes(said: &mut Said<'_>) -> ArrayVec<u8, 256>
+fn first_bytes(said: &mut SaidParts<'_>) -> ArrayVec<u8, 256>
     ensures parts { said.old ≡ result.items ++ said.new }
     ensures some { result.items ≡ [] → said.new ≡ [] }
 {
@@ -55,7 +55,26 @@ fn first_bytes(said: &mut Said<'_>) -> ArrayVec<u8, 256>
     bytes
 }
 
-// Writes a text that is shown, between bytes, in pieces of 256 bytes. At a fault the sink took a front of all.
+// Writes a text, in pieces of 256 bytes. At a fault the sink took a front of all.
+pub(crate) fn put_said<S: Sink>(
+    out: &mut S,
+    in_line: &mut bool,
+    said: SaidParts<'_>,
+) -> Result<(), Fault>
+    ensures ok { OnOk result (Took (S.told out.old) (S.told out.new) in_line.old in_line.new said.entry) }
+    ensures err { IfErr result (λ fault. TookFront (S.told out.old) (S.told out.new) in_line.old in_line.new said.entry fault) }
+{
+    let mut left = said;
+    loop {
+        let bytes = first_bytes(&mut left);
+        if bytes.is_empty() {
+            return Ok(());
+        }
+        put(out, in_line, bytes.as_slice())?;
+    }
+}
+
+// Writes a text that is shown, between bytes.
 pub(crate) fn put_around<S: Sink>(
     out: &mut S,
     in_line: &mut bool,
@@ -66,12 +85,6 @@ pub(crate) fn put_around<S: Sink>(
     ensures ok { OnOk result (Took (S.told out.old) (S.told out.new) in_line.old in_line.new (before.now ++ (shown.entry ++ behind.now))) }
     ensures err { IfErr result (λ fault. TookFront (S.told out.old) (S.told out.new) in_line.old in_line.new (before.now ++ (shown.entry ++ behind.now)) fault) }
 {
-    let mut left = Said::new(before, shown, behind);
-    loop {
-        let bytes = first_bytes(&mut left);
-        if bytes.is_empty() {
-            return Ok(());
-        }
-        put(out, in_line, bytes.as_slice())?;
-    }
+    let said = Said::new(before, shown, behind);
+    put_said(out, in_line, SaidParts::one(said))
 }

@@ -5,7 +5,7 @@ use Rattle.transcript.proofs.fixed.put_escape.Given as goal
 
 abbrev pub invariant-loop-byte : goal.invariant-loop-byte
 invariant-loop-byte l = record {
-  text : l.text ++ l.shown ≡ l.fn.text ++ all_printed l.fn.view.newline (l.c ∷ []);
+  text : l.text ++ l.shown ≡ l.fn.text ++ all_printed l.fn.view.names.newline (l.c ∷ []);
   room : length l.text + length l.shown ≤ length l.fn.text + 4;
 }
 

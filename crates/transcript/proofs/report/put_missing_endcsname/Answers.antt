@@ -5,6 +5,6 @@ use Rattle.transcript.proofs.Texts.{word}
 use Rattle.transcript.proofs.report.put_missing_endcsname.Goals as goal
 
 pub returns : goal.returns
-returns c = let r : FitsSigned w32 c.args.view.newline = search rules in let e = to_z-of_z w32 c.args.view.newline r in
-    word (printed_by c.args.view.newline) c.args.text.now (codes "Missing ") (character_of c.args.view.escape) (codes "endcsname") (codes " inserted") _ _ _
+returns c = let r : FitsSigned w32 c.args.view.names.newline = search rules in let e = to_z-of_z w32 c.args.view.names.newline r in
+    word (printed_by c.args.view.names.newline) c.args.text.now (codes "Missing ") (character_of c.args.view.names.escape) (codes "endcsname") (codes " inserted") _ _ _
     (rw e at c.put_fixed.ensures.text) c.put_escape.ensures.text (rw e at c.put_fixed-2.ensures.text)

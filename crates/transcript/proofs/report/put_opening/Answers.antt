@@ -6,13 +6,13 @@ use Rattle.transcript.proofs.Texts.{opening_by}
 use Rattle.transcript.proofs.report.put_opening.Goals as goal
 
 pub returns-in-BadCharacterCode : goal.returns-in-BadCharacterCode
-returns-in-BadCharacterCode c = let r : FitsSigned w32 c.args.view.newline = search rules in let n = c.in-BadCharacterCode.n in
+returns-in-BadCharacterCode c = let r : FitsSigned w32 c.args.view.names.newline = search rules in let n = c.in-BadCharacterCode.n in
     let rn : FitsSigned w32 n = search rules in
-    opening_by (style_of c.args.view) c.args.report _ _ c.args.text.now c.put_bad_code.new.text (c.in-BadCharacterCode.is ∙ ap (λ (m : ℤ). BadCharacterCode m) (sym (to_z-of_z w32 n rn))) (to_z-of_z w32 c.args.view.newline r)
+    opening_by (style_of c.args.view) c.args.report _ _ c.args.text.now c.put_bad_code.new.text (c.in-BadCharacterCode.is ∙ ap (λ (m : ℤ). BadCharacterCode m) (sym (to_z-of_z w32 n rn))) (to_z-of_z w32 c.args.view.names.newline r)
     (c.put_bad_code.ensures (style_of c.args.view))
 
 pub returns-in-InvalidCode : goal.returns-in-InvalidCode
-returns-in-InvalidCode c = let r : FitsSigned w32 c.args.view.newline = search rules in let n = c.in-InvalidCode.n in
+returns-in-InvalidCode c = let r : FitsSigned w32 c.args.view.names.newline = search rules in let n = c.in-InvalidCode.n in
     let rn : FitsSigned w32 n = search rules in
-    opening_by (style_of c.args.view) c.args.report _ _ c.args.text.now c.put_invalid_code.new.text (c.in-InvalidCode.is ∙ ap (λ (m : ℤ). InvalidCode m c.in-InvalidCode.greatest) (sym (to_z-of_z w32 n rn))) (to_z-of_z w32 c.args.view.newline r)
+    opening_by (style_of c.args.view) c.args.report _ _ c.args.text.now c.put_invalid_code.new.text (c.in-InvalidCode.is ∙ ap (λ (m : ℤ). InvalidCode m c.in-InvalidCode.greatest) (sym (to_z-of_z w32 n rn))) (to_z-of_z w32 c.args.view.names.newline r)
     (c.put_invalid_code.ensures (style_of c.args.view))

@@ -5,6 +5,6 @@ use Rattle.transcript.proofs.Texts.{prefix}
 use Rattle.transcript.proofs.report.put_prefix.Goals as goal
 
 pub returns : goal.returns
-returns c = let r : FitsSigned w32 c.args.view.newline = search rules in let e = to_z-of_z w32 c.args.view.newline r in
-    prefix (printed_by c.args.view.newline) c.args.text.now (codes "You can't use `") (character_of c.args.view.escape) (codes "long") (codes "' or `") (codes "outer") (codes "' with `") _ _ _ _ _
+returns c = let r : FitsSigned w32 c.args.view.names.newline = search rules in let e = to_z-of_z w32 c.args.view.names.newline r in
+    prefix (printed_by c.args.view.names.newline) c.args.text.now (codes "You can't use `") (character_of c.args.view.names.escape) (codes "long") (codes "' or `") (codes "outer") (codes "' with `") _ _ _ _ _
     (rw e at c.put_fixed.ensures.text) c.put_escape.ensures.text (rw e at c.put_fixed-2.ensures.text) c.put_escape-2.ensures.text (rw e at c.put_fixed-3.ensures.text)
