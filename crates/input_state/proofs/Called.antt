@@ -43,7 +43,7 @@ use Rattle.input_state.proofs.Refusing.{memory_room}
 
 -- THE MACRO'S LIST
 
-text_by : (lists : List (List Token)) (m : Meaning (Option ℕ)) (id : ℕ) → meant.list_of m ≡ Some id → macro_text lists m ≡ list_at lists id
+pub text_by : (lists : List (List Token)) (m : Meaning (Option ℕ)) (id : ℕ) → meant.list_of m ≡ Some id → macro_text lists m ≡ list_at lists id
 text_by lists means.Undefined id is = absurd (none-some id is)
 text_by lists means.RelaxMarked id is = absurd (none-some id is)
 text_by lists (means.Char category code) id is = absurd (none-some id is)

@@ -38,7 +38,7 @@ use Rattle.input_state.proofs.Sounds.{push_builds}
 
 -- WHAT THE NAMES HOLD
 
-set_holds : (cells : List (Meaning (Option ℕ))) (o : Option ℕ) (fixed v : Meaning (Option ℕ)) (h : ℕ) → IsPlaced o (length cells) → cells_hold (set_at cells o v) h + meaning_holds (looked_up cells o fixed) h ≡ cells_hold cells h + meaning_holds v h
+pub set_holds : (cells : List (Meaning (Option ℕ))) (o : Option ℕ) (fixed v : Meaning (Option ℕ)) (h : ℕ) → IsPlaced o (length cells) → cells_hold (set_at cells o v) h + meaning_holds (looked_up cells o fixed) h ≡ cells_hold cells h + meaning_holds v h
 set_holds cells None fixed v h placed = absurd placed
 set_holds cells (Some k) fixed v h placed = omega (arith, sum_by-set (λ (m : Meaning (Option ℕ)). meaning_holds m h) cells k v means.Undefined placed)
 
@@ -46,7 +46,7 @@ old_within : (cells : List (Meaning (Option ℕ))) (o : Option ℕ) (fixed : Mea
 old_within cells None fixed h placed = absurd placed
 old_within cells (Some k) fixed h placed = get_or-le-sum_by (λ (m : Meaning (Option ℕ)). meaning_holds m h) cells k means.Undefined placed
 
-set_length : (cells : List (Meaning (Option ℕ))) (o : Option ℕ) (v : Meaning (Option ℕ)) → length (set_at cells o v) ≡ length cells
+pub set_length : (cells : List (Meaning (Option ℕ))) (o : Option ℕ) (v : Meaning (Option ℕ)) → length (set_at cells o v) ≡ length cells
 set_length cells None v = refl
 set_length cells (Some k) v = length-set cells k v
 
@@ -148,7 +148,7 @@ no_call table (call.Gathers name scan) is = cc
 no_call table (call.Stopped name scan) is = cc
 no_call table (call.Gathered name args) is = cc
 
-without_length : (o : Option ℕ) (table : List (Option Entry)) → length (without_holder o table) ≡ length table
+pub without_length : (o : Option ℕ) (table : List (Option Entry)) → length (without_holder o table) ≡ length table
 without_length None table = refl
 without_length (Some id) table = length-set table id _
 

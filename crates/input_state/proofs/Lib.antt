@@ -30,3 +30,6 @@ pub mod Readies
 pub mod Files
 pub mod TakenLines
 pub mod Asides
+pub mod Letting
+pub mod Walking
+pub mod ListNumbers

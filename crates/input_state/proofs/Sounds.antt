@@ -1,5 +1,5 @@
 -- All stands after one list has changed, or the levels have.
-use Rattle.std.proofs.Common.{◌≡◌, ℕ, ◌+◌, ◌<◌, ◌≤◌, List, [], ◌∷◌, ◌++◌, length, map, reverse, replicate, zero, suc, Option, None, Some, Result, Ok, Err, refl, sym, ap, ◌∙◌, subst, arith}
+use Rattle.std.proofs.Common.{◌≡◌, ℕ, ◌+◌, ◌<◌, ◌≤◌, List, [], ◌∷◌, ◌++◌, length, map, reverse, replicate, zero, suc, Option, None, Some, Bool, Result, Ok, Err, refl, sym, ap, ◌∙◌, subst, arith}
 use Rattle.std.specs.Prelude.{option_to_list, OnOk, OnErr, IfErr, MatchResult}
 use Rattle.std.proofs.lemmas.List.Sums.{sum_by-append}
 use Rattle.std.proofs.lemmas.List.Elements.{All-head, All-cons, All-nil}
@@ -8,7 +8,6 @@ use Rattle.tex_defs.specs.declared.Full.{Full}
 use Rattle.tex_defs.specs.declared.Token.{Token}
 use Rattle.tex_defs.specs.Sizes.{first_out_of_range}
 use Rattle.plain_tokens.specs.Meanings.{fixed_locations, primitive_count, first_meanings}
-use Rattle.plain_tokens.specs.Names.{is_known}
 use Rattle.plain_tokens.specs.Tables.{memory, refused, list_words}
 use Rattle.plain_tokens.specs.Puts as plain
 use Rattle.token_lists.specs.declared.Build.{Build}
@@ -18,7 +17,7 @@ use Rattle.token_lists.specs.Accounts.{holds, none, Moves, Keeps}
 use Rattle.token_lists.specs.Refusals.{IsFull}
 use Rattle.line_lexer.specs.declared.Line.{Line}
 use Rattle.world_io.specs.declared.traits.InId.{InId}
-use Rattle.meanings.specs.Map.{Map, first_map}
+use Rattle.meanings.specs.Map.{Map, known_map}
 use Rattle.meanings.specs.Holding as meant
 use Rattle.input_stack.specs.Puts.{Put}
 use Rattle.input_stack.specs.Pending.{Pending, Below, times, settle, sources_at, at_line, Ends, EndsIn}
@@ -240,8 +239,8 @@ length_new : (n : ℕ) → length (replicate {A = Option Entry} n None) ≡ n
 length_new zero = refl
 length_new (suc n) = omega (arith, length_new n)
 
-pub new_sound : (table : List (Option Entry)) (stack : InputStack) (items : List Build) (m : Map) (sizes : Sizes) (capacity : ℕ) → table ≡ replicate sizes.main_memory_size None → innermost stack ≡ [] → Stands table stack → stack.size ≡ sizes.input_stack_size → stack.parameter_size ≡ sizes.parameter_stack_size → items ≡ [] → sizes.main_memory_size ≤ capacity → first_out_of_range sizes ≡ None → m ≡ first_map sizes.hash_size → length m.cells ≡ fixed_locations + primitive_count → ((h : ℕ) → meant.held m h ≡ 0) → IsSound table stack None items (named m call.None) sizes capacity
-new_sound table stack items m sizes capacity is empty stands size parameters none room ranges first count free =
+pub new_sound : (knows : ℕ → Bool) (table : List (Option Entry)) (stack : InputStack) (items : List Build) (m : Map) (sizes : Sizes) (capacity : ℕ) → table ≡ replicate sizes.main_memory_size None → innermost stack ≡ [] → Stands table stack → stack.size ≡ sizes.input_stack_size → stack.parameter_size ≡ sizes.parameter_stack_size → items ≡ [] → sizes.main_memory_size ≤ capacity → first_out_of_range sizes ≡ None → m ≡ known_map knows sizes.hash_size → length m.cells ≡ fixed_locations + primitive_count → ((h : ℕ) → meant.held m h ≡ 0) → IsSound table stack None items (named m call.None) sizes capacity
+new_sound knows table stack items m sizes capacity is empty stands size parameters none room ranges first count free =
     let zero_at : (h : ℕ) → holders_at table h ≡ 0 = λ h. ap (λ (t : List (Option Entry)). holders_at t h) is ∙ ap holders_of (none_at sizes.main_memory_size h) in
     let s : IsShared table stack [] (named m call.None) = record {
       stands = stands;
@@ -268,13 +267,13 @@ new_sound table stack items m sizes capacity is empty stands size parameters non
       call = tt;
     }
 
--- nothing is held, and the names mean what INITEX's mean
-abbrev pub first_lists : Sizes → HeldLists
-first_lists sizes = record { puts = []; making = None; call = NotCalling; builds = []; line = None; sizes = sizes; meanings = first_meanings is_known; hash_size = sizes.hash_size; lists = replicate sizes.main_memory_size [] }
+-- nothing is held, and the names mean what INITEX's mean, where these primitives mean something
+abbrev pub first_lists : (ℕ → Bool) → Sizes → HeldLists
+first_lists knows sizes = record { puts = []; making = None; call = NotCalling; builds = []; line = None; sizes = sizes; meanings = first_meanings knows; hash_size = sizes.hash_size; lists = replicate sizes.main_memory_size [] }
 
-pub new_view : (table : List (Option Entry)) (stack : InputStack) (items : List Build) (m : Map) (sizes : Sizes) → table ≡ replicate sizes.main_memory_size None → innermost stack ≡ [] → items ≡ [] → m ≡ first_map sizes.hash_size → lists_of table (pending table stack) None items (named m call.None) sizes ≡ first_lists sizes
-new_view table stack items m sizes is empty none first =
+pub new_view : (knows : ℕ → Bool) (table : List (Option Entry)) (stack : InputStack) (items : List Build) (m : Map) (sizes : Sizes) → table ≡ replicate sizes.main_memory_size None → innermost stack ≡ [] → items ≡ [] → m ≡ known_map knows sizes.hash_size → lists_of table (pending table stack) None items (named m call.None) sizes ≡ first_lists knows sizes
+new_view knows table stack items m sizes is empty none first =
     ap (λ (ls : List Level). lists_of table (pending_in table ls) None items (named m call.None) sizes) empty
     ∙ ap (λ (bs : List Build). held_lists [] None NotCalling (map (text table) (reverse bs)) None m sizes (texts table)) none
     ∙ ap (λ (k : Map). held_lists [] None NotCalling [] None k sizes (texts table)) first
-    ∙ ap (λ (ts : List (List Token)). held_lists [] None NotCalling [] None (first_map sizes.hash_size) sizes ts) (ap texts is ∙ texts_none sizes.main_memory_size)
+    ∙ ap (λ (ts : List (List Token)). held_lists [] None NotCalling [] None (known_map knows sizes.hash_size) sizes ts) (ap texts is ∙ texts_none sizes.main_memory_size)

@@ -14,3 +14,4 @@ pub mod Recalls
 pub mod Calls
 pub mod Changes
 pub mod Given
+pub mod Walks

@@ -14,7 +14,10 @@ mod gathering;
 mod holders;
 mod lines;
 mod lists_held;
+mod places;
 mod state;
+mod walk;
 
 pub use answer::{CallKind, CallTold, Pulled};
 pub use state::Input;
+pub use walk::{Walk, walks_stay};

@@ -1,9 +1,10 @@
 // The lists in front, those that are being made and gathered, the line of the file beneath them, and what the names mean.
-ghost use Rattle.std.specs.Prelude.{◌≡◌, ◌≢◌, ℕ, ◌≤◌, ◌<◌, ◌+◌, ◌++◌, ◌↔◌, true, List, [], ◌∷◌, Option, None, Some, Ok, IsSome, IfSome, IsTrue, IfOk, OnOk, OnErr, IfErr, MatchResult, MatchBool, length, drop, replicate, option_to_list};
+ghost use Rattle.std.specs.Prelude.{◌≡◌, ◌≢◌, ℕ, ◌≤◌, ◌<◌, ◌+◌, ◌++◌, ◌↔◌, true, List, [], ◌∷◌, Option, None, Some, Ok, IsSome, IfSome, IsTrue, IfOk, OnOk, OnErr, IfErr, MatchResult, MatchBool, MatchOption, length, drop, replicate, option_to_list, vec_capacity};
 ghost use Rattle.tex_defs.specs.Sizes.{first_out_of_range};
 ghost use Rattle.plain_tokens.specs.Names.{is_known};
 ghost use Rattle.tex_defs.specs.declared.Meaning.TheVariants.{Undefined};
-ghost use Rattle.plain_tokens.specs.Meanings.{first_meanings, fixed_locations, location, name_meaning, seen};
+ghost use Rattle.tex_defs.specs.declared.Meaning.TheVariants as means;
+ghost use Rattle.plain_tokens.specs.Meanings.{first_meanings, is_listed, fixed_locations, location, name_meaning, assigned, seen, met, meaning_to_let};
 ghost use Rattle.plain_tokens.specs.Puts.{settled, passed, with_put, token_put, grow_first, grown_by};
 ghost use Rattle.plain_tokens.specs.Pending.{Progress, pulled};
 ghost use Rattle.plain_tokens.specs.Tables.{is_meant, lists_words, memory, refused, file_levels};
@@ -31,6 +32,7 @@ ghost use Rattle.input_state.specs.Given.{GivesMore, GivesOrRefuses, answer_of, 
 
 use crate::gathering::{Gathering, begin as begin_call, feed};
 use crate::holders::{give_back, has_parameters, let_go, share};
+use crate::places::behind;
 use crate::{CallKind, CallTold, Pulled};
 use input_stack::{InputStack, Pulled as Given};
 use line_lexer::{Ahead, Lexed, Line};
@@ -189,6 +191,41 @@ impl Held {
         }
     }
 
+    /// The same, where the primitives of these numbers mean something.
+    ///
+    /// # Errors
+    /// There is no room for them. No other call takes memory.
+    pub fn with_known(alloc: Global, sizes: &Sizes, known: &[u16]) -> Result<Held, AllocError>
+        requires { first_out_of_range sizes.now ≡ None }
+        ensures { IfOk result (λ h. h ≡ record { puts = []; making = None; call = NotCalling; builds = []; line = None; sizes = sizes.now; meanings = first_meanings (is_listed known.now); hash_size = sizes.now.hash_size; lists = replicate sizes.now.main_memory_size [] }) }
+    {
+        let mut lists = Lists::new(alloc, sizes.main_memory_size)?;
+        let builds = Vec::with_capacity(alloc, sizes.main_memory_size as usize)?;
+        let meanings = match Meanings::with_known(alloc, sizes, known) {
+            Ok(meanings) => meanings,
+            Err(error) => {
+                builds.destroy_empty();
+                return Err(error);
+            }
+        };
+        match InputStack::new(alloc, sizes) {
+            Ok(stack) => Ok(Held {
+                lists,
+                stack,
+                meanings,
+                making: None,
+                call: Gathering::None,
+                builds,
+                sizes: *sizes,
+            }),
+            Err(error) => {
+                meanings.close(&mut lists);
+                builds.destroy_empty();
+                Err(error)
+            }
+        }
+    }
+
     pub fn sizes(&self) -> &Sizes
         ensures { result.now ≡ self.now.sizes }
     {
@@ -274,6 +311,15 @@ impl Held {
         ensures tokens { tokens_at result.0.now (build_id result.1.now) ≡ first_list self.now.builds }
     {
         (&self.lists, &self.builds[self.builds.len() - 1])
+    }
+
+    /// One of these lists, by its number from the innermost, and the memory in which it stands.
+    pub fn list_number(&self, k: usize) -> (&Lists, &Build)
+        requires { k < length self.now.builds }
+        ensures held { IsHeld result.0.now (build_id result.1.now) }
+        ensures tokens { tokens_at result.0.now (build_id result.1.now) ≡ list_at self.now.builds k }
+    {
+        (&self.lists, &self.builds[self.builds.len() - 1 - k])
     }
 
     /// The memory of the lists.
@@ -454,6 +500,13 @@ impl Held {
         self.meanings.seen(token)
     }
 
+    /// A token as it is handed on.
+    pub fn met(&self, token: Token) -> Seen
+        ensures { result ≡ met self.now.meanings token }
+    {
+        self.meanings.met(token)
+    }
+
     /// Whether one more name of two or more characters may be entered.
     pub fn has_name_room(&self) -> bool
         ensures { MatchBool result (HasNameRoom self.now.meanings self.now.hash_size) (HasNameRoom self.now.meanings self.now.hash_size → ⊥) }
@@ -493,6 +546,41 @@ impl Held {
         let list = Some(self.lists.finish(build));
         let meaning = Meaning::Macro { long, outer, list };
         self.meanings.define(&mut self.lists, name, meaning);
+    }
+
+    /// A name gets the meaning that `\let` gives it from this token.
+    pub fn let_name(&mut self, name: Name, x: Seen)
+        requires calls { self.old.call ≡ NotCalling }
+        requires assignable { IsPlaced (location name) (length self.old.meanings) }
+        ensures after { self.new ≡ record self.old { meanings = assigned self.old.meanings name (meaning_to_let self.old.meanings x); lists = self.new.lists } }
+        ensures macros { KeepsHeld self.old self.new }
+    {
+        let value = self.meanings.to_let(&mut self.lists, x);
+        self.meanings.define(&mut self.lists, name, value);
+    }
+
+    /// A name becomes this primitive.
+    pub fn set_primitive(&mut self, name: Name, number: u16)
+        requires calls { self.old.call ≡ NotCalling }
+        requires assignable { IsPlaced (location name) (length self.old.meanings) }
+        ensures after { self.new ≡ record self.old { meanings = assigned self.old.meanings name (means.Prim number); lists = self.new.lists } }
+        ensures macros { KeepsHeld self.old self.new }
+    {
+        let value = Meaning::Prim(number);
+        self.meanings.define(&mut self.lists, name, value);
+    }
+
+    /// The token behind so many of the list of the macro that a name means, and how many then stand in front.
+    pub fn macro_token(&self, name: Name, index: usize) -> Option<(Token, usize)>
+        ensures { MatchOption result (drop index (text_of self.now.lists self.now.meanings name) ≡ []) (λ r. drop index (text_of self.now.lists self.now.meanings name) ≡ r.0 ∷ drop r.1 (text_of self.now.lists self.now.meanings name)) }
+    {
+        let Some(list) = self.meanings.list(name) else {
+            return None;
+        };
+        match behind(&self.lists, list, index).next(&self.lists) {
+            Some((token, next)) => Some((token, next.index())),
+            None => None,
+        }
     }
 
     /// Each macro's list has a token, its end mark, and at most nine places. The call does nothing.

@@ -1,10 +1,13 @@
 // The input of a run.
-ghost use Rattle.std.specs.Prelude.{◌≡◌, ◌≢◌, ℕ, true, false, ◌≤◌, ◌<◌, ◌+◌, ◌++◌, [], ◌∷◌, None, Some, IsSome, IfSome, IfOk, IfErr, OnOk, OnErr, MatchResult, MatchBool, length, take, drop, replicate};
+ghost use Rattle.std.specs.Prelude.{◌≡◌, ◌≢◌, ℕ, true, false, ◌≤◌, ◌<◌, ◌+◌, ◌++◌, [], ◌∷◌, None, Some, IsSome, IfSome, IfOk, IfErr, OnOk, OnErr, MatchResult, MatchBool, MatchOption, length, take, drop, replicate, vec_capacity};
+ghost use Rattle.std.specs.Bool.{OnTrue};
 ghost use Rattle.std.specs.Option.{option_map};
 ghost use Rattle.tex_defs.specs.Sizes.{first_out_of_range};
 ghost use Rattle.plain_tokens.specs.Names.{is_known};
 ghost use Rattle.tex_defs.specs.declared.Meaning.TheVariants.{Undefined};
-ghost use Rattle.plain_tokens.specs.Meanings.{first_meanings, fixed_locations, location, name_meaning, seen};
+ghost use Rattle.tex_defs.specs.declared.Meaning.TheVariants as means;
+ghost use Rattle.plain_tokens.specs.Tokens.{character_codes};
+ghost use Rattle.plain_tokens.specs.Meanings.{first_meanings, is_listed, fixed_locations, location, name_meaning, assigned, seen, met, meaning_to_let};
 ghost use Rattle.plain_tokens.specs.Puts.{settled, passed, token_put, grow_first, grown_by};
 ghost use Rattle.plain_tokens.specs.Pending.{NotBegun, Begun, Closed, LineTaken, pulled, settle, put_front, line_taken, taken_line, from_file};
 ghost use Rattle.plain_tokens.specs.Tables.{is_meant, is_put, lists_words, memory, level, file_levels, next_line, refused};
@@ -29,12 +32,14 @@ ghost use Rattle.input_state.specs.FileViews.{progress_of};
 ghost use Rattle.input_state.specs.NextBytes.{KnowsNext, NeedsBytes, with_bytes};
 ghost use Rattle.input_state.specs.Counted.{AreCounted};
 ghost use Rattle.input_state.specs.Stored.{KeepsMacros, call_refusal, put_refusal, words, unread, no_bytes, closed};
+ghost use Rattle.input_state.specs.Walks.{to_come};
 ghost use Rattle.input_state.specs.Reads.{GivesTo, Pulls, pull_refusal, RefusesLine, gives_step};
 
 use crate::file::{JobFile, Progress};
 use crate::lines::{first_line, put_line};
 use crate::lists_held::Held;
-use crate::{CallKind, CallTold, Pulled};
+use crate::places::spell;
+use crate::{CallKind, CallTold, Pulled, Walk};
 use line_lexer::{Ahead, Line, LineState};
 use std::alloc::{AllocError, Global};
 use std::marker::Model;
@@ -144,6 +149,30 @@ impl Input {
         })
     }
 
+    /// The same, where the primitives of these numbers mean something.
+    ///
+    /// # Errors
+    /// There is no room for them. No other call takes memory.
+    pub fn with_known(
+        alloc: Global,
+        sizes: &Sizes,
+        held: bool,
+        known: &[u16],
+    ) -> Result<Input, AllocError>
+        requires { first_out_of_range sizes.now ≡ None }
+        ensures { IfOk result (λ i. i ≡ record { pending = unread (no_bytes held); making = None; call = NotCalling; builds = []; aside = []; buffer = i.buffer; sizes = sizes.now; meanings = first_meanings (is_listed known.now); hash_size = sizes.now.hash_size; lists = replicate sizes.now.main_memory_size [] }) }
+    {
+        let buffer = vec![in alloc; 0; sizes.buffer_size as usize]?;
+        let file = JobFile::new(alloc, sizes.buffer_size, held)?;
+        let lists = Held::with_known(alloc, sizes, known)?;
+        Ok(Input {
+            held: lists,
+            aside: 0,
+            buffer,
+            file,
+        })
+    }
+
     /// The job's file isn't held: none of its bytes has come, and none will.
     pub fn drop_file(&mut self)
         requires { self.old.pending ≡ unread (Some []) }
@@ -243,6 +272,27 @@ impl Input {
         self.held.list()
     }
 
+    /// One of the innermost reading's lists, by its number from the innermost, and the memory in which it stands.
+    pub fn list_number(&self, k: u32) -> (&Lists, &Build)
+        requires { k < length self.now.builds }
+        ensures held { IsHeld result.0.now (build_id result.1.now) }
+        ensures tokens { tokens_at result.0.now (build_id result.1.now) ≡ list_at self.now.builds k }
+    {
+        self.held.list_number(k as usize)
+    }
+
+    /// The codes of the characters of the innermost reading's list go to a text, in place of what it had, if they have room
+    /// in its capacity. No memory is taken. *The TeXbook*, chapter 7 (`\csname`).
+    pub fn spell(&self, text: &mut Vec<u8>) -> bool
+        requires { self.now.builds ≢ [] }
+        ensures fits { MatchBool result (length (character_codes (first_list self.now.builds)) ≤ vec_capacity text.old) (vec_capacity text.old < length (character_codes (first_list self.now.builds))) }
+        ensures codes { OnTrue result (text.new.items ≡ character_codes (first_list self.now.builds)) }
+        ensures capacity { vec_capacity text.new ≡ vec_capacity text.old }
+    {
+        let (lists, build) = self.held.list();
+        spell(lists, build, text)
+    }
+
     /// The lists of the innermost reading are set aside: another reading begins, which gathers its own.
     pub fn set_aside(&mut self)
         ensures after { self.new ≡ record self.old { builds = []; aside = self.old.builds ++ self.old.aside } }
@@ -313,6 +363,15 @@ impl Input {
         ensures macros { KeepsMacros self.old self.new }
     {
         self.held.grow_made(token)
+    }
+
+    /// The list that is made goes.
+    pub fn drop_made(&mut self)
+        requires { IsSome self.old.making }
+        ensures after { self.new ≡ record self.old { making = None; lists = self.new.lists } }
+        ensures macros { KeepsMacros self.old self.new }
+    {
+        self.held.drop_made();
     }
 
     /// Puts the list that is made in front of all that is pending; one without tokens goes.
@@ -486,6 +545,14 @@ impl Input {
         self.held.seen(token)
     }
 
+    /// A token as it is handed on: a name that `\noexpand` marked is the plain name, which this once means `\relax` where it
+    /// would be expanded. *The TeXbook*, chapter 20; *TeX: The Program*, part 24 (`get_next`).
+    pub fn met(&self, token: Token) -> Seen
+        ensures { result ≡ met self.now.meanings token }
+    {
+        self.held.met(token)
+    }
+
     /// Whether one more name of two or more characters may be entered.
     pub fn has_name_room(&self) -> bool
         ensures { MatchBool result (HasNameRoom self.now.meanings self.now.hash_size) (HasNameRoom self.now.meanings self.now.hash_size → ⊥) }
@@ -521,6 +588,46 @@ impl Input {
         ensures macros { KeepsMacros self.old self.new }
     {
         self.held.define(name, long, outer);
+    }
+
+    /// A name gets the meaning that `\let` gives it from a token that was handed on. A macro's list is shared by both names,
+    /// and the list of what the name meant is let go: a name that is let to itself keeps its meaning. No word is taken.
+    /// *The TeXbook*, chapter 20; *TeX: The Program*, part 49 (`let`).
+    pub fn let_name(&mut self, name: Name, x: Seen)
+        requires calls { self.old.call ≡ NotCalling }
+        requires assignable { IsPlaced (location name) (length self.old.meanings) }
+        ensures after { self.new ≡ record self.old { meanings = assigned self.old.meanings name (meaning_to_let self.old.meanings x); lists = self.new.lists } }
+        ensures macros { KeepsMacros self.old self.new }
+    {
+        self.held.let_name(name, x);
+    }
+
+    /// A name becomes this primitive, as an undefined name that `\csname` makes becomes `\relax`. The list of what the name
+    /// meant is let go.
+    pub fn set_primitive(&mut self, name: Name, number: u16)
+        requires calls { self.old.call ≡ NotCalling }
+        requires assignable { IsPlaced (location name) (length self.old.meanings) }
+        ensures after { self.new ≡ record self.old { meanings = assigned self.old.meanings name (means.Prim number); lists = self.new.lists } }
+        ensures macros { KeepsMacros self.old self.new }
+    {
+        self.held.set_primitive(name, number);
+    }
+
+    /// A walk at the first token of the list of the macro that a name means: at its end where the name means none.
+    pub fn walk(&self, name: Name) -> Walk
+        ensures { to_come self.now result ≡ text_of self.now.lists self.now.meanings name }
+    {
+        Walk { name, index: 0 }
+    }
+
+    /// The next token of a walk, and the walk behind it, if a token is still to come. The call walks along all that stands in
+    /// front.
+    pub fn walk_on(&self, walk: Walk) -> Option<(Token, Walk)>
+        ensures { MatchOption result (to_come self.now walk ≡ []) (λ r. to_come self.now walk ≡ r.0 ∷ to_come self.now r.1) }
+    {
+        let Walk { name, index } = walk;
+        let (token, index) = self.held.macro_token(name, index)?;
+        Some((token, Walk { name, index }))
     }
 
     /// Each macro's list has a token, its end mark, and at most nine places. The call does nothing.

@@ -65,3 +65,14 @@ cells_within (c ∷ cells) h = omega (arith, sum_by-cons (λ (m : Meaning (Optio
 
 pub within_locations : HeldWithinLocations
 within_locations m h = cells_within m.cells h
+
+-- what a name means holds no more than all names do
+looked_up_within : (cells : List (Meaning (Option ℕ))) (o : Option ℕ) (fixed : Meaning (Option ℕ)) (h : ℕ) → list_of fixed ≡ None → meaning_holds (looked_up cells o fixed) h ≤ cells_hold cells h
+looked_up_within cells None fixed h free = omega (arith, ap (λ (l : Option ℕ). list_holds l h) free)
+looked_up_within cells (Some k) fixed h free = elim (cases_lt k (length cells)) [
+  | inl below ↦ get_or-le-sum_by (λ (m : Meaning (Option ℕ)). meaning_holds m h) cells k means.Undefined below
+  | inr past ↦ omega (arith, ap (λ (m : Meaning (Option ℕ)). meaning_holds m h) (get_or_past cells k means.Undefined past))
+]
+
+pub meaning_within : (m : Map) (n : Name) (h : ℕ) → meaning_holds (meaning_of m n) h ≤ held m h
+meaning_within m n h = looked_up_within m.cells (location n) (fixed_meaning n) h (fixed_unlisted n)

@@ -1,18 +1,20 @@
 -- What is looked up in a map that has changed, and in the first map.
 use Rattle.std.proofs.Common.{◌≡◌, ℕ, zero, suc, ◌+◌, ◌<◌, ◌≤◌, List, [], ◌∷◌, ◌++◌, length, get_or, map, replicate, Option, None, Some, inl, inr, refl, sym, ap, subst, ◌∙◌, append_assoc, arith, rules}
-use Rattle.std.specs.Prelude.{false}
-use Rattle.std.specs.List.{range_with_len}
+use Rattle.std.specs.Prelude.{Bool, true, false, ◌==◌, ◌||◌, if◌then◌else◌}
+use Rattle.std.specs.List.{range_with_len, list_any}
 use Rattle.std.proofs.lemmas.Bool.{cases_lt}
 use Rattle.std.proofs.lemmas.Bool.Decides.{nat_tests}
 use Rattle.std.proofs.lemmas.List.{get_or-set_same, get_or-set_other, get_or-replicate, get_or_past, get_or_append_left, get_or-append-add, length-replicate, map-append}
 use Rattle.std.proofs.lemmas.List.FromFn.{get_or-map-range_with_len, map-range_with_len_more}
+use Rattle.std.proofs.lemmas.List.Sums.{sum_by-cons, sum_by-append}
 use Rattle.token_lists.specs.declared.ListRef.{ListRef}
 use Rattle.tex_defs.specs.declared.Name.TheVariants as name
 use Rattle.tex_defs.specs.declared.Meaning.{Meaning}
 use Rattle.tex_defs.specs.declared.Meaning.TheVariants as means
 use Rattle.plain_tokens.specs.Names.{is_known}
-use Rattle.plain_tokens.specs.Meanings.{fixed_locations, location, fixed_meaning, looked_up, set_at, first_meaning, first_meanings, primitive_count}
+use Rattle.plain_tokens.specs.Meanings.{fixed_locations, location, fixed_meaning, looked_up, set_at, first_meaning, first_meanings, is_listed, primitive_count}
 use Rattle.meanings.specs.Map.{meaning_of, first_map, numbered, all_numbered, IsPlaced}
+use Rattle.meanings.specs.Holding.{meaning_holds, cells_hold}
 use Rattle.meanings.specs.Laws.{LocationsDiffer, OneNameChanges, EnteringDefinesNothing, FirstMeanings}
 
 appended : (cells : List (Meaning (Option ℕ))) (k : ℕ) → get_or (cells ++ means.Undefined ∷ []) k means.Undefined ≡ get_or cells k means.Undefined
@@ -95,13 +97,44 @@ first = record {
   empty = λ size. first_undefined 512 (omega arith);
 }
 
--- one primitive more
-pub primitive_more : (start items more : List (Meaning (Option ListRef))) (k : ℕ) (v : Meaning (Option ListRef)) → all_numbered items ≡ all_numbered start ++ map (first_meaning is_known) (range_with_len 1 k) → more ≡ items ++ v ∷ [] → numbered v ≡ first_meaning is_known (k + 1) → all_numbered more ≡ all_numbered start ++ map (first_meaning is_known) (range_with_len 1 (k + 1))
-primitive_more start items more k v before is means =
-    let done : List (Meaning (Option ℕ)) = map (first_meaning is_known) (range_with_len 1 k) in
-    ap all_numbered is
-    ∙ map-append numbered items (v ∷ [])
-    ∙ ap (λ (cs : List (Meaning (Option ℕ))). cs ++ numbered v ∷ []) before
-    ∙ ap (λ (m : Meaning (Option ℕ)). (all_numbered start ++ done) ++ m ∷ []) means
-    ∙ append_assoc (all_numbered start) done (first_meaning is_known (k + 1) ∷ [])
-    ∙ ap (λ (cs : List (Meaning (Option ℕ))). all_numbered start ++ cs) (sym (map-range_with_len_more (first_meaning is_known) 1 k (k + 1) (omega arith)))
+-- one primitive more, where these mean something
+module _ (knows : ℕ → Bool) where
+  pub one_more : (start items more : List (Meaning (Option ListRef))) (k : ℕ) (v : Meaning (Option ListRef)) → all_numbered items ≡ all_numbered start ++ map (first_meaning knows) (range_with_len 1 k) → more ≡ items ++ v ∷ [] → numbered v ≡ first_meaning knows (k + 1) → all_numbered more ≡ all_numbered start ++ map (first_meaning knows) (range_with_len 1 (k + 1))
+  one_more start items more k v before is means =
+      let done : List (Meaning (Option ℕ)) = map (first_meaning knows) (range_with_len 1 k) in
+      ap all_numbered is
+      ∙ map-append numbered items (v ∷ [])
+      ∙ ap (λ (cs : List (Meaning (Option ℕ))). cs ++ numbered v ∷ []) before
+      ∙ ap (λ (m : Meaning (Option ℕ)). (all_numbered start ++ done) ++ m ∷ []) means
+      ∙ append_assoc (all_numbered start) done (first_meaning knows (k + 1) ∷ [])
+      ∙ ap (λ (cs : List (Meaning (Option ℕ))). all_numbered start ++ cs) (sym (map-range_with_len_more (first_meaning knows) 1 k (k + 1) (omega arith)))
+
+  first_unheld : (n h : ℕ) → meaning_holds (first_meaning knows n) h ≡ 0
+  first_unheld n h = by_case (knows n)
+    where
+      by_case : (b : Bool) → meaning_holds (if b then means.Prim n else means.Undefined) h ≡ 0
+      by_case true = refl
+      by_case false = refl
+
+  numbers_unheld : (ns : List ℕ) (h : ℕ) → cells_hold (map (first_meaning knows) ns) h ≡ 0
+  numbers_unheld [] h = refl
+  numbers_unheld (n ∷ ns) h = omega (arith, sum_by-cons (λ (m : Meaning (Option ℕ)). meaning_holds m h) (first_meaning knows n) (map (first_meaning knows) ns), first_unheld n h, numbers_unheld ns h)
+
+  undefined_unheld : (k h : ℕ) → cells_hold (replicate k means.Undefined) h ≡ 0
+  undefined_unheld zero h = refl
+  undefined_unheld (suc k) h = undefined_unheld k h
+
+  -- at first no list is held
+  pub first_free : (h : ℕ) → cells_hold (first_meanings knows) h ≡ 0
+  first_free h =
+      let undefined : List (Meaning (Option ℕ)) = replicate fixed_locations means.Undefined in
+      let primitives : List (Meaning (Option ℕ)) = map (first_meaning knows) (range_with_len 1 primitive_count) in
+      omega (arith, sum_by-append (λ (m : Meaning (Option ℕ)). meaning_holds m h) undefined primitives, undefined_unheld fixed_locations h, numbers_unheld (range_with_len 1 primitive_count) h)
+
+  pub first_count : length (first_meanings knows) ≡ fixed_locations + primitive_count
+  first_count = refl
+
+-- among these numbers
+pub listed_is : (ns : List ℕ) (number : ℕ) → list_any (λ n. n == number) ns ≡ is_listed ns number
+listed_is [] number = refl
+listed_is (n ∷ ns) number = ap (λ (b : Bool). (n == number) || b) (listed_is ns number)

@@ -1,6 +1,6 @@
 -- The map from names to meanings: a list with a meaning for each location. A macro has the number of its list, but for
 -- the meaning of the frozen `\endwrite`, which has none.
-use Rattle.std.specs.Prelude.{ℕ, ◌+◌, ◌<◌, List, [], ◌∷◌, ◌++◌, length, map, Option, None, Some}
+use Rattle.std.specs.Prelude.{ℕ, ◌+◌, ◌<◌, Bool, List, [], ◌∷◌, ◌++◌, length, map, Option, None, Some}
 use Rattle.tex_defs.specs.declared.Name.{Name}
 use Rattle.tex_defs.specs.declared.Meaning.{Meaning}
 use Rattle.tex_defs.specs.declared.Meaning.TheVariants as means
@@ -70,3 +70,7 @@ all_numbered cells = map numbered cells
 -- INITEX's first map: each name is undefined but those of the primitives that mean something
 abbrev pub first_map : ℕ → Map
 first_map hash_size = record { cells = first_meanings is_known; hash_size = hash_size }
+
+-- the same, where these primitives mean something
+abbrev pub known_map : (ℕ → Bool) → ℕ → Map
+known_map is_known hash_size = record { cells = first_meanings is_known; hash_size = hash_size }

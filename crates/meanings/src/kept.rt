@@ -4,7 +4,7 @@ ghost use Rattle.token_lists.specs.Table.{IsHeld, holders_at};
 ghost use Rattle.token_lists.specs.Accounts.{Moves, Keeps, none};
 ghost use Rattle.token_lists.specs.Ids.{id_of};
 ghost use Rattle.plain_tokens.specs.Names.{is_known};
-ghost use Rattle.plain_tokens.specs.Meanings.{seen_as, first_meaning};
+ghost use Rattle.plain_tokens.specs.Meanings.{seen_as, first_meaning, is_listed, is_expandable, marked_meaning};
 ghost use Rattle.meanings.specs.Map.{numbered, numbered_list, without_list};
 ghost use Rattle.meanings.specs.Holding.{list_of, list_holds, meaning_holds, with_holder, without_holder, Lasts};
 
@@ -98,6 +98,43 @@ pub fn primitive(number: u16) -> Kept
     } else {
         Meaning::Undefined
     }
+}
+
+// The same, where these primitives mean something.
+pub fn known(numbers: &[u16], number: u16) -> Kept
+    ensures { numbered result ≡ first_meaning (is_listed numbers.now) number }
+{
+    if numbers.contains(&number) {
+        Meaning::Prim(number)
+    } else {
+        Meaning::Undefined
+    }
+}
+
+// Whether what means this is expanded.
+fn is_expandable(meaning: Meaning<()>) -> bool
+    ensures { result ≡ is_expandable meaning }
+{
+    match meaning {
+        Meaning::Undefined => true,
+        Meaning::Macro {
+            long: _,
+            outer: _,
+            list: (),
+        } => true,
+        Meaning::Prim(number) => 54 <= number && number <= 84,
+        _ => false,
+    }
+}
+
+// What a name means behind `\noexpand`.
+pub fn marked(meaning: Meaning<()>) -> Meaning<()>
+    ensures { result ≡ marked_meaning meaning }
+{
+    if is_expandable(meaning) {
+        return Meaning::RelaxMarked;
+    }
+    meaning
 }
 
 // One more holder of a list, if there is one.

@@ -6,11 +6,11 @@ ghost use Rattle.token_lists.specs.Table.{holders_at};
 ghost use Rattle.token_lists.specs.Accounts.{Moves, Covers, Keeps, none};
 ghost use Rattle.token_lists.specs.Ids.{id_of};
 ghost use Rattle.plain_tokens.specs.Names.{is_known};
-ghost use Rattle.plain_tokens.specs.Meanings.{fixed_locations, fixed_meaning, seen_as, seen, first_meaning, primitive_count};
-ghost use Rattle.meanings.specs.Map.{first_map, meaning_of, defined, entered, HasRoom, IsAssignable, numbered, all_numbered};
+ghost use Rattle.plain_tokens.specs.Meanings.{fixed_locations, fixed_meaning, seen_as, seen, met, whole_meaning, meaning_to_let, first_meaning, is_listed, primitive_count};
+ghost use Rattle.meanings.specs.Map.{first_map, known_map, meaning_of, defined, entered, HasRoom, IsAssignable, numbered, all_numbered};
 ghost use Rattle.meanings.specs.Holding.{held, cells_hold, list_of, meaning_holds, with_holder, without_holder, Lasts};
 
-use crate::kept::{Kept, list_of, primitive, release, seen, share, without_list};
+use crate::kept::{Kept, known, list_of, marked, primitive, release, seen, share, without_list};
 use crate::locations::{FIXED, fixed, location};
 use prim_table::COUNT;
 use std::alloc::{AllocError, Global};
@@ -66,6 +66,17 @@ fn put_primitives(cells: &mut Vec<Kept>)
     }
 }
 
+// The same, where these primitives mean something.
+fn put_known(cells: &mut Vec<Kept>, numbers: &[u16])
+    requires room { vec_len cells.old + primitive_count ≤ vec_capacity cells.old }
+    ensures after { all_numbered cells.new.items ≡ all_numbered cells.old.items ++ map (first_meaning (is_listed numbers.now)) (range_with_len 1 primitive_count) }
+    ensures capacity { vec_capacity cells.new ≡ vec_capacity cells.old }
+{
+    for k in 0..COUNT {
+        cells.push_reserved(known(numbers, k + 1));
+    }
+}
+
 impl Meanings {
     /// INITEX's meanings, with room for all names that may be entered: each name is undefined but the primitives that
     /// mean something.
@@ -82,6 +93,23 @@ impl Meanings {
         let mut cells = Vec::with_capacity(alloc, FIXED + hash_size as usize)?;
         put_undefined(&mut cells);
         put_primitives(&mut cells);
+        Ok(Meanings { cells, hash_size })
+    }
+
+    /// The same, where the primitives of these numbers mean something.
+    ///
+    /// # Errors
+    /// There is no room for them. No other call takes memory.
+    pub fn with_known(alloc: Global, sizes: &Sizes, known: &[u16]) -> Result<Meanings, AllocError>
+        requires { first_out_of_range sizes.now ≡ None }
+        ensures first { IfOk result (λ m. m ≡ known_map (is_listed known.now) sizes.now.hash_size) }
+        ensures count { IfOk result (λ m. length m.cells ≡ fixed_locations + primitive_count) }
+        ensures free { IfOk result (λ m. (h : ℕ) → held m h ≡ 0) }
+    {
+        let hash_size = sizes.hash_size;
+        let mut cells = Vec::with_capacity(alloc, FIXED + hash_size as usize)?;
+        put_undefined(&mut cells);
+        put_known(&mut cells, known);
         Ok(Meanings { cells, hash_size })
     }
 
@@ -144,6 +172,20 @@ impl Meanings {
         Seen { token, meaning }
     }
 
+    /// A token as it is handed on: a name that `\noexpand` marked is the plain name, which this once means `\relax` where it
+    /// would be expanded.
+    pub fn met(&self, token: Token) -> Seen
+        ensures { result ≡ met self.now.cells token }
+    {
+        match token {
+            Token::Marked(name) => Seen {
+                token: Token::Named(name),
+                meaning: marked(self.get(name)),
+            },
+            other => self.seen(other),
+        }
+    }
+
     /// The list of a name that is a macro. Only what the frozen `\endwrite` means is a macro without a list.
     pub fn list(&self, name: Name) -> Option<&ListRef>
         ensures list { MatchOption result (list_of (meaning_of self.now name) ≡ None) (λ r. list_of (meaning_of self.now name) ≡ Some (id_of r.now)) }
@@ -168,6 +210,40 @@ impl Meanings {
         match self.cell(name) {
             Some(kept) => share(lists, kept),
             None => without_list(fixed(name)),
+        }
+    }
+
+    // What a token means, where a macro's list has one holder more.
+    fn whole(&self, lists: &mut Lists, token: Token) -> Kept
+        requires covered { Covers lists.old (held self.now) }
+        requires countable { IfSome (list_of (whole_meaning self.now.cells token)) (λ id. holders_at lists.old id + 1 < 2 ^ 32) }
+        ensures same { numbered result ≡ whole_meaning self.now.cells token }
+        ensures held { (h : ℕ) → meaning_holds (numbered result) h ≤ held self.now h }
+        ensures after { lists.new ≡ with_holder (list_of (whole_meaning self.now.cells token)) lists.old }
+        ensures account { Moves lists.old lists.new none (meaning_holds (numbered result)) }
+        ensures kept { Keeps lists.old lists.new none }
+    {
+        match token {
+            Token::Named(name) | Token::Marked(name) => self.shared(lists, name),
+            Token::Char { cat, code } => Meaning::Char { cat, code },
+            Token::Place(_) | Token::Number(_) | Token::EndPlaces => Meaning::Undefined,
+        }
+    }
+
+    /// What `\let` gives a name from a token that was handed on (*The TeXbook*, chapter 20): what a name means, with one
+    /// holder more of a macro's list, or a character. Each list has fewer than 2^32 - 1 holders.
+    pub fn to_let(&self, lists: &mut Lists, x: Seen) -> Kept
+        requires covered { Covers lists.old (held self.now) }
+        requires countable { IfSome (list_of (meaning_to_let self.now.cells x)) (λ id. holders_at lists.old id + 1 < 2 ^ 32) }
+        ensures same { numbered result ≡ meaning_to_let self.now.cells x }
+        ensures held { (h : ℕ) → meaning_holds (numbered result) h ≤ held self.now h }
+        ensures after { lists.new ≡ with_holder (list_of (meaning_to_let self.now.cells x)) lists.old }
+        ensures account { Moves lists.old lists.new none (meaning_holds (numbered result)) }
+        ensures kept { Keeps lists.old lists.new none }
+    {
+        match x.meaning {
+            Meaning::RelaxMarked => Meaning::RelaxMarked,
+            _ => self.whole(lists, x.token),
         }
     }
 

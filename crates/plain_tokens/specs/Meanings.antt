@@ -1,6 +1,6 @@
 -- What the names mean (TeX: The Program, part 17): a list with a meaning for each location. A macro has the number of its list,
 -- but for the meaning of the frozen `\endwrite`, which has none.
-use Rattle.std.specs.Prelude.{ℕ, ◌+◌, ◌==◌, Bool, true, false, Option, None, Some, List, ◌++◌, map, replicate, slice_set, slice_index_or, if◌then◌else◌}
+use Rattle.std.specs.Prelude.{ℕ, ◌+◌, ◌==◌, ◌||◌, Bool, true, false, Option, None, Some, List, [], ◌∷◌, ◌++◌, map, replicate, slice_set, slice_index_or, if◌then◌else◌}
 use Rattle.std.specs.List.{range_with_len}
 use Rattle.tex_defs.specs.declared.Frozen.{Frozen}
 use Rattle.tex_defs.specs.declared.Frozen.TheVariants as frozen
@@ -11,6 +11,7 @@ use Rattle.tex_defs.specs.declared.Token.TheVariants as token
 use Rattle.tex_defs.specs.declared.Meaning.{Meaning}
 use Rattle.tex_defs.specs.declared.Meaning.TheVariants as means
 use Rattle.tex_defs.specs.declared.Seen.{Seen}
+use Rattle.plain_tokens.specs.Categories.{is_between}
 use Rattle.plain_tokens.specs.Names.{relax_primitive}
 
 -- how many locations stand before those of the names of two or more characters
@@ -97,3 +98,51 @@ primitive_count = 186
 
 abbrev pub first_meanings : (ℕ → Bool) → List (Meaning (Option ℕ))
 first_meanings is_known = replicate fixed_locations means.Undefined ++ map (first_meaning is_known) (range_with_len 1 primitive_count)
+
+-- the primitives of these numbers, as those that mean something
+abbrev pub is_listed : List ℕ → ℕ → Bool
+is_listed [] number = false
+is_listed (n ∷ ns) number = (n == number) || is_listed ns number
+
+-- WHAT IS HANDED ON
+
+-- the numbers of the first and the last primitive that are expanded: the expandable ones, and the conditionals
+abbrev pub first_expandable : ℕ
+first_expandable = 54
+
+abbrev pub last_expandable : ℕ
+last_expandable = 84
+
+-- What is expanded: the undefined, the macros, and these primitives (TeX: The Program, part 15, above `max_command`).
+abbrev pub is_expandable : Meaning Unit → Bool
+is_expandable means.Undefined = true
+is_expandable (means.Macro long outer list) = true
+is_expandable (means.Prim number) = is_between first_expandable last_expandable number
+is_expandable m = false
+
+-- what a name means behind `\noexpand`: this once `\relax`, where it would be expanded
+abbrev pub marked_meaning : Meaning Unit → Meaning Unit
+marked_meaning m = if is_expandable m then means.RelaxMarked else m
+
+-- A token as it is handed on: a name that `\noexpand` marked is the plain name.
+abbrev pub met : List (Meaning (Option ℕ)) → Token → Seen
+met cells (token.Marked n) = record { token = token.Named n; meaning = marked_meaning (token_meaning cells (token.Named n)) }
+met cells t = seen cells t
+
+-- WHAT `\let` GIVES (The TeXbook, chapter 20)
+
+-- what a token means: a macro with its list, which is shared
+abbrev pub whole_meaning : List (Meaning (Option ℕ)) → Token → Meaning (Option ℕ)
+whole_meaning cells (token.Char category c) = means.Char category c
+whole_meaning cells (token.Named n) = name_meaning cells n
+whole_meaning cells (token.Marked n) = name_meaning cells n
+whole_meaning cells t = means.Undefined
+
+-- a token with this meaning: what `\noexpand` made of it stays
+abbrev pub let_meaning : List (Meaning (Option ℕ)) → Token → Meaning Unit → Meaning (Option ℕ)
+let_meaning cells t means.RelaxMarked = means.RelaxMarked
+let_meaning cells t m = whole_meaning cells t
+
+-- what `\let` gives a name from this token
+abbrev pub meaning_to_let : List (Meaning (Option ℕ)) → Seen → Meaning (Option ℕ)
+meaning_to_let cells x = let_meaning cells x.token x.meaning

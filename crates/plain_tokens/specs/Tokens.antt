@@ -1,5 +1,5 @@
 -- What tokens are to a reading.
-use Rattle.std.specs.Prelude.{ℕ, ◌==◌, ◌&&◌, Bool, true, false, List, map, if◌then◌else◌}
+use Rattle.std.specs.Prelude.{ℕ, ◌==◌, ◌&&◌, Bool, true, false, List, [], ◌∷◌, ◌++◌, map, if◌then◌else◌}
 use Rattle.tex_defs.specs.declared.Token.{Token}
 use Rattle.tex_defs.specs.declared.Token.TheVariants as token
 use Rattle.tex_defs.specs.declared.Meaning.{Meaning}
@@ -31,6 +31,15 @@ made_token c = if c == 32 then space_token else token.Char other c
 
 abbrev pub made_text : List ℕ → List Token
 made_text = map made_token
+
+-- The codes of a list's characters: its other tokens have none.
+abbrev pub code_of : Token → List ℕ
+code_of (token.Char category code) = code ∷ []
+code_of t = []
+
+abbrev pub character_codes : List Token → List ℕ
+character_codes [] = []
+character_codes (t ∷ ts) = code_of t ++ character_codes ts
 
 -- the meaning is a character of this category
 abbrev pub means_category : ℕ → Meaning Unit → Bool
