@@ -7,7 +7,7 @@ use Rattle.rows.specs.declared.words.Kind.TheVariants.{Command, Integer, Text, D
 use Rattle.rows.specs.Readings.{Fed}
 use Rattle.plain_readings.specs.Lists.{build_ask, text, definition}
 use Rattle.plain_readings.specs.Calls.{call_ask, gathered}
-use Rattle.plain_readings.specs.Readings.{Kind, Reads, Spelling, Arguments, ask}
+use Rattle.plain_readings.specs.Readings.{Kind, Reads, Spelling, Behind, Arguments, ask}
 use Rattle.plain_readings.specs.Laws.{is_met, Lends}
 use Rattle.plain_readings.proofs.Lent.{row_lends}
 use Rattle.plain_readings.proofs.Steps.{integer_holds, spelling_holds}
@@ -28,5 +28,6 @@ lends (Reads Integer) fed = integer_holds (λ b a. Lends (is_met false fed) a) (
 lends (Reads (Text name expanded)) fed = build_lends (is_met false fed) (text name expanded fed)
 lends (Reads (Definition name expanded)) fed = build_lends (is_met false fed) (definition name expanded fed)
 lends (Spelling c) fed = spelling_holds (λ b a. Lends (is_met false fed) a) (λ b want. tt) (λ report back. tt) (λ b. tt) (λ b c ts. tt) c [] false fed
+lends (Behind c x) fed = tt
 lends (Arguments name long number ts) [] = tt
 lends (Arguments name long number ts) (y ∷ fed) = call_lends (is_met false (y ∷ fed)) name (gathered long ts (y ∷ fed))

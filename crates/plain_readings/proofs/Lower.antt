@@ -12,7 +12,7 @@ use Rattle.rows.specs.Run.{due}
 use Rattle.rows.proofs.Runs.{IsLow, row_holds}
 use Rattle.plain_readings.specs.Lists.{build_ask, text, definition}
 use Rattle.plain_readings.specs.Calls.{call_ask, gathered}
-use Rattle.plain_readings.specs.Readings.{Kind, Reads, Spelling, Arguments, ask}
+use Rattle.plain_readings.specs.Readings.{Kind, Reads, Spelling, Behind, Arguments, ask}
 use Rattle.plain_readings.specs.Laws.{BeginsLower, rank}
 use Rattle.plain_readings.proofs.Steps.{integer_holds, spelling_holds}
 
@@ -41,5 +41,6 @@ lower (Reads Integer) fed = integer_holds (λ b a. BeginsLower 0 a) (λ b want. 
 lower (Reads (Text name expanded)) fed = build_lower (text name expanded fed)
 lower (Reads (Definition name expanded)) fed = build_lower (definition name expanded fed)
 lower (Spelling c) fed = spelling_holds (λ b a. BeginsLower 1 a) (λ b want. tt) (λ report back. tt) (λ b. tt) (λ b c ts. tt) c [] false fed
+lower (Behind c x) fed = tt
 lower (Arguments name long number ts) [] = tt
 lower (Arguments name long number ts) (y ∷ fed) = call_lower name (gathered long ts (y ∷ fed))

@@ -13,7 +13,7 @@ use Rattle.rows.specs.Run.{due}
 use Rattle.rows.proofs.Runs.{row_holds}
 use Rattle.plain_readings.specs.Lists.{build_ask, build_fed, manner, text, definition}
 use Rattle.plain_readings.specs.Calls.{call_ask, call_fed, gathered, mode_of}
-use Rattle.plain_readings.specs.Readings.{Kind, Reads, Spelling, Arguments, ask}
+use Rattle.plain_readings.specs.Readings.{Kind, Reads, Spelling, Behind, Arguments, ask}
 use Rattle.plain_readings.specs.Laws.{reports_due}
 use Rattle.plain_readings.proofs.Quiet as quiet
 use Rattle.plain_readings.proofs.Quiet.{parameters_quiet, first_quiet}
@@ -94,4 +94,5 @@ told_quiet (Reads (Definition name expanded)) fed =
 told_quiet (Spelling c) fed =
     quiet_last (ask (Spelling c) (fed ++ Told ∷ [])) false fed
     (spelling_holds IsQuiet (λ b want. any b _ refl) (λ report back. tt) (λ b. any b _ refl) (λ b c ts. any b _ refl) c [] false (fed ++ Told ∷ []))
+told_quiet (Behind c x) fed = refl
 told_quiet (Arguments name long number ts) fed = arguments_quiet name long number ts fed

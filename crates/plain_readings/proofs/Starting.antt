@@ -10,8 +10,8 @@ use Rattle.rows.specs.declared.command.Call.{Call}
 use Rattle.rows.specs.Stages.{start}
 use Rattle.rows.specs.Table.{row_of, first_in, rest_in}
 use Rattle.rows.specs.Run.{started, behind, run, turned}
-use Rattle.plain_readings.specs.Readings.{Kind, Reads, Spelling, Arguments, ask}
-use Rattle.plain_readings.specs.Laws.{Starts, rank}
+use Rattle.plain_readings.specs.Readings.{Kind, Reads, Spelling, Behind, Arguments, ask}
+use Rattle.plain_readings.specs.Laws.{IsRead, Starts, rank}
 
 abbrev IsLow : Start → Type 0
 IsLow (Looks want) = Unit {0}
@@ -28,12 +28,13 @@ first_starts : (c : Call) (s : Stage) (ss : List Stage) (begun : Start) → IsLo
 first_starts c s ss (Looks want) low = tt
 first_starts c s ss (Begins k) low = (low, refl)
 
-pub starts : (k : Kind) → Starts (rank k) (ask k [])
-starts (Reads (Command c)) =
+pub starts : (k : Kind) → IsRead k → Starts (rank k) (ask k [])
+starts (Reads (Command c)) h =
     first_starts c (first_in (row_of c.primitive).0) (rest_in (row_of c.primitive).0) (start (first_in (row_of c.primitive).0) c [])
     (start_low (first_in (row_of c.primitive).0) c [])
-starts (Reads Integer) = tt
-starts (Reads (Text name expanded)) = tt
-starts (Reads (Definition name expanded)) = tt
-starts (Spelling c) = tt
-starts (Arguments name long number ts) = tt
+starts (Reads Integer) h = tt
+starts (Reads (Text name expanded)) h = tt
+starts (Reads (Definition name expanded)) h = tt
+starts (Spelling c) h = tt
+starts (Behind c x) h = absurd h
+starts (Arguments name long number ts) h = tt

@@ -10,7 +10,7 @@ use Rattle.rows.specs.declared.words.Kind.TheVariants.{Command, Integer, Text, D
 use Rattle.rows.specs.declared.command.Call.{Call}
 use Rattle.rows.specs.Laws.{IsValueless}
 use Rattle.rows.specs.Readings.{Fed, Tok, Told, Ask, More, Inner, Done, ActsOn, Tells, Inserts}
-use Rattle.plain_readings.specs.Readings.{Kind, Reads, Spelling, ask, lists}
+use Rattle.plain_readings.specs.Readings.{Kind, Reads, Spelling, Behind, ask, lists}
 
 -- RANKS. A reading begins only readings of a lower rank.
 abbrev pub rank : Kind → ℕ
@@ -18,14 +18,18 @@ rank (Reads (Command c)) = 1
 rank (Reads k) = 0
 rank k = 1
 
--- A READING THAT WAS FED WITH NOTHING asks for a token or begins another, not with a token.
+-- A READING THAT WAS FED WITH NOTHING asks for a token or begins another, not with a token; but for the token that waits behind another.
 abbrev pub Starts : ℕ → Ask → Type 0
 Starts n (More want) = Unit {0}
 Starts n (Inner k begins) = (rank (Reads k) < n) × (begins ≡ false)
 Starts n a = ⊥
 
+abbrev pub IsRead : Kind → Type 0
+IsRead (Behind c x) = ⊥
+IsRead k = Unit {0}
+
 abbrev pub ReadingsStart : Type 0
-ReadingsStart = (k : Kind) → Starts (rank k) (ask k [])
+ReadingsStart = (k : Kind) → IsRead k → Starts (rank k) (ask k [])
 
 -- whatever it was fed with
 abbrev pub BeginsLower : ℕ → Ask → Type 0

@@ -3,6 +3,7 @@ pub mod Lists
 pub mod Calls
 pub mod Spelling
 pub mod Readings
+pub mod Scanning
 pub mod Laws
 pub mod Weights
 pub mod Worked

@@ -2,24 +2,25 @@
 use Rattle.std.specs.Prelude.{ℕ, Bool, false, List, [], ◌∷◌, ◌++◌}
 use Rattle.tex_defs.specs.declared.Name.{Name}
 use Rattle.tex_defs.specs.declared.Token.{Token}
+use Rattle.tex_defs.specs.declared.Seen.{Seen}
 use Rattle.plain_tokens.specs.Puts.{list_of_tokens}
-use Rattle.rows.specs.declared.words.Value.{Value}
-use Rattle.rows.specs.declared.words.Value.TheVariants as value
 use Rattle.rows.specs.declared.words.Kind.{Kind as Begun}
 use Rattle.rows.specs.declared.words.Kind.TheVariants.{Command, Integer, Text, Definition}
 use Rattle.rows.specs.declared.command.Call.{Call}
-use Rattle.rows.specs.Readings.{Fed, Val, Ask}
+use Rattle.rows.specs.declared.command.Effect.TheVariants.{PutBack}
+use Rattle.rows.specs.Readings.{Fed, Ask, Acts, ActsOn, Defines}
 use Rattle.rows.specs.Run.{row}
 use Rattle.plain_readings.specs.Integers.{integer}
 use Rattle.plain_readings.specs.Lists.{build_ask, built, text, definition}
 use Rattle.plain_readings.specs.Calls.{gathered, arguments, call_lists}
 use Rattle.plain_readings.specs.Spelling.{spelling, characters}
 
--- What may be open: a command, or what a command begins; `\csname`; the arguments of a call of the macro of this name, as it was
--- written, with the macro's number and its list.
+-- What may be open: a command, or what a command begins; `\csname`; the token that `\expandafter` puts back, once what stood behind it is
+-- expanded; the arguments of a call of the macro of this name, as it was written, with the macro's number and its list.
 pub data Kind : Type 0 where
   Reads : Begun → Kind
   Spelling : Call → Kind
+  Behind : Call → Seen → Kind
   Arguments : Name → (long : Bool) → (number : ℕ) → (text : List Token) → Kind
 
 -- WHAT A READING ASKS FOR after all that it was fed with
@@ -33,23 +34,19 @@ begun_ask (Definition name expanded) fed = build_ask (definition name expanded f
 abbrev pub ask : Kind → List Fed → Ask
 ask (Reads k) fed = begun_ask k fed
 ask (Spelling c) fed = spelling c [] fed
+ask (Behind c x) fed = Acts c (PutBack x)
 ask (Arguments name long number ts) fed = arguments name long ts fed
 
 -- THE LISTS THAT IT HOLDS, its last first
 
--- a value's list; one without tokens is none
-abbrev pub value_list : Value → List Token → List (List Token)
-value_list value.List ts = list_of_tokens ts
-value_list (value.Plain d) ts = []
-
--- those of the values that a command was fed with
-abbrev pub command_lists : List Fed → List (List Token)
-command_lists [] = []
-command_lists (Val v ts ∷ fed) = command_lists fed ++ value_list v ts
-command_lists (y ∷ fed) = command_lists fed
+-- a command's is that with which it asks to do something; one without tokens is none
+abbrev pub kept_list : Ask → List (List Token)
+kept_list (ActsOn c e ts) = list_of_tokens ts
+kept_list (Defines c n ts) = list_of_tokens ts
+kept_list a = []
 
 abbrev pub begun_lists : Begun → List Fed → List (List Token)
-begun_lists (Command c) fed = command_lists fed
+begun_lists (Command c) fed = kept_list (row c fed)
 begun_lists Integer fed = []
 begun_lists (Text name expanded) fed = built (text name expanded fed) ∷ []
 begun_lists (Definition name expanded) fed = built (definition name expanded fed) ∷ []
@@ -57,4 +54,22 @@ begun_lists (Definition name expanded) fed = built (definition name expanded fed
 abbrev pub lists : Kind → List Fed → List (List Token)
 lists (Reads k) fed = begun_lists k fed
 lists (Spelling c) fed = characters fed ∷ []
+lists (Behind c x) fed = []
 lists (Arguments name long number ts) fed = call_lists (gathered long ts fed)
+
+-- A READING of the machine, with all that it was fed with. All that are open stand in a list, the innermost first.
+pub record Reading : Type 0 where
+  pub kind : Kind
+  pub fed : List Fed
+
+-- the innermost is fed
+abbrev pub fed_with : Fed → List Reading → List Reading
+fed_with y [] = []
+fed_with y (r ∷ rs) = record { kind = r.kind; fed = r.fed ++ y ∷ [] } ∷ rs
+
+-- another begins, alone or with this
+abbrev pub opened : Kind → List Reading → List Reading
+opened k work = record { kind = k; fed = [] } ∷ work
+
+abbrev pub opened_with : Kind → Fed → List Reading → List Reading
+opened_with k y work = record { kind = k; fed = y ∷ [] } ∷ work

@@ -1,45 +1,57 @@
 -- How many rules without a step may follow one another: each makes the weight of the open readings smaller, that is `frame_weight` for each
 -- of them, and what the innermost asks for.
-use Rattle.std.specs.Prelude.{ℕ, ◌+◌, ◌<◌, ◌≡◌, true, false, List, [], ◌∷◌, ◌++◌}
+use Rattle.std.specs.Prelude.{ℕ, ◌+◌, ◌<◌, ◌≤◌, ◌≡◌, true, false, List, [], ◌∷◌, ◌++◌}
 use Rattle.tex_defs.specs.declared.Token.{Token}
 use Rattle.tex_defs.specs.declared.Seen.{Seen}
 use Rattle.rows.specs.declared.words.Value.{Value}
 use Rattle.rows.specs.declared.words.Kind.{Kind as Begun}
 use Rattle.rows.specs.declared.words.Kind.TheVariants.{Command}
-use Rattle.rows.specs.Readings.{Fed, Tok, Val, Told, Ask, More, Inner, Done, Tells, Inserts}
-use Rattle.plain_readings.specs.Readings.{Kind, Reads, ask}
-use Rattle.plain_readings.specs.Laws.{after}
+use Rattle.rows.specs.declared.command.Call.{Call}
+use Rattle.rows.specs.declared.command.Effect.{Effect}
+use Rattle.rows.specs.declared.command.Effect.TheVariants.{ExpandBehind}
+use Rattle.rows.specs.Readings.{Fed, Tok, Val, Told, Ask, More, Inner, Done, Acts, Tells, Inserts}
+use Rattle.plain_readings.specs.Readings.{Kind, Reads, Behind, ask}
+use Rattle.plain_readings.specs.Laws.{IsRead, after}
 
--- what an open reading weighs, what its end with a value does, and what an act or another end does
+-- what an open reading weighs, what its end with a value does, what an act or another end does, and what `\expandafter` does, which
+-- ends, and has a token wait in its place and perhaps an expansion begin above that
 abbrev pub frame_weight : ℕ
-frame_weight = 5
+frame_weight = 6
 
 abbrev pub value_weight : ℕ
-value_weight = 4
+value_weight = 10
 
 abbrev pub act_weight : ℕ
-act_weight = 7
+act_weight = 13
 
--- what ends a reading of this kind: the readings that commands begin end with values
+abbrev pub behind_weight : ℕ
+behind_weight = 14
+
+abbrev pub effect_weight : Effect → ℕ
+effect_weight (ExpandBehind x y) = behind_weight
+effect_weight e = act_weight
+
+-- the most that the end of a reading of this kind weighs: the readings that commands begin end with values
 abbrev pub end_weight : Kind → ℕ
-end_weight (Reads (Command c)) = act_weight
+end_weight (Reads (Command c)) = behind_weight
 end_weight (Reads k) = value_weight
-end_weight k = act_weight
+end_weight k = behind_weight
 
 -- A token weighs nothing, since it is a step. A reading begun weighs more than it does then, also where it reports the token that it begins
 -- with. A report weighs more than the end behind it, and than the reports that may follow it.
-abbrev pub ask_weight : Kind → Ask → ℕ
-ask_weight k (More want) = 0
-ask_weight k (Inner j false) = 6
-ask_weight k (Inner j true) = 11
-ask_weight k (Done v back) = value_weight
-ask_weight k (Tells report back) = end_weight k + 1 + after report
-ask_weight k (Inserts t report back) = end_weight k + 1 + after report
-ask_weight k a = act_weight
+abbrev pub ask_weight : (end : ℕ) → Ask → ℕ
+ask_weight end (More want) = 0
+ask_weight end (Inner j false) = 7
+ask_weight end (Inner j true) = 18
+ask_weight end (Done v back) = value_weight
+ask_weight end (Acts c e) = effect_weight e
+ask_weight end (Tells report back) = end + 1 + after report
+ask_weight end (Inserts t report back) = end + 1 + after report
+ask_weight end a = act_weight
 
 -- what a reading weighs that was fed with this
 abbrev pub weight : Kind → List Fed → ℕ
-weight k fed = ask_weight k (ask k fed)
+weight k fed = ask_weight (end_weight k) (ask k fed)
 
 abbrev pub IsReport : Ask → Type 0
 IsReport (Tells report back) = Unit {0}
@@ -47,11 +59,15 @@ IsReport (Inserts t report back) = Unit {0}
 IsReport a = ⊥
 
 -- A reading is begun, alone or with a token; one that has a value ends, and the one beneath is fed with it; one acts or ends, and any may stand
--- beneath it; one that acts has another begun in its place; a report's note comes.
+-- beneath it; one that acts has another begun in its place; where `\expandafter` ends, its token waits, and perhaps an expansion begins above
+-- that; a report's note comes.
 pub record WeightsFall : Type 0 where
   pub begun : (k : Kind) (fed : List Fed) (j : Begun) → ask k fed ≡ Inner j false → frame_weight + weight (Reads j) [] < weight k fed
   pub begun_with : (k : Kind) (fed : List Fed) (j : Begun) (x : Seen) → ask k fed ≡ Inner j true → frame_weight + weight (Reads j) (Tok x ∷ []) < weight k fed
   pub valued : (k : Kind) (fed : List Fed) (v : Value) (ts : List Token) → weight k (fed ++ Val v ts ∷ []) < frame_weight + value_weight
   pub acted : (k : Kind) (fed : List Fed) → weight k fed < frame_weight + act_weight
-  pub begun_by_act : (k : Kind) → weight k [] < act_weight
+  pub heavy : (e : Effect) → act_weight ≤ effect_weight e
+  pub begun_by_act : (k : Kind) → IsRead k → weight k [] < act_weight
+  pub waits : (k : Kind) (fed : List Fed) (c d : Call) (x y z : Seen) → ask k fed ≡ Acts c (ExpandBehind x y) → weight (Behind d z) [] < weight k fed
+  pub expanded_behind : (k : Kind) (fed : List Fed) (c : Call) (x y : Seen) (j : Kind) → ask k fed ≡ Acts c (ExpandBehind x y) → IsRead j → frame_weight + weight j [] < weight k fed
   pub noted : (k : Kind) (fed : List Fed) → IsReport (ask k fed) → weight k (fed ++ Told ∷ []) < weight k fed

@@ -1,5 +1,5 @@
 -- Readings worked out: what each asks for, item by item, as it is fed, and the lists that it holds then.
-use Rattle.std.specs.Prelude.{ℕ, zero, suc, pos, negsuc, ◌≡◌, true, false, List, [], ◌∷◌}
+use Rattle.std.specs.Prelude.{ℕ, zero, suc, pos, negsuc, ◌≡◌, true, false, List, [], ◌∷◌, Option, Some, None}
 use Rattle.tex_defs.specs.declared.Token.{Token}
 use Rattle.tex_defs.specs.declared.Token.TheVariants as token
 use Rattle.tex_defs.specs.declared.Meaning.TheVariants as means
@@ -8,14 +8,17 @@ use Rattle.tex_syntax.specs.declared.words.Want.TheVariants.{Raw, Expanded, Copi
 use Rattle.tex_syntax.specs.declared.words.Want.TheVariants as want
 use Rattle.tex_syntax.specs.declared.words.Report.TheVariants.{ImproperConstant, MissingNumber, NumberTooBig, MissingBrace, MissingEndcsname, ExtraBrace, ParagraphEnded, UseMismatch}
 use Rattle.plain_tokens.specs.Categories.{begin_group, end_group, parameter, letter, other}
+use Rattle.rows.specs.declared.words.Datum.TheVariants.{Number}
 use Rattle.rows.specs.declared.words.Value.TheVariants as value
 use Rattle.rows.specs.declared.words.Kind.TheVariants.{Command, Integer, Text, Definition}
-use Rattle.rows.specs.declared.command.Effect.TheVariants.{MakeName}
+use Rattle.tex_syntax.specs.declared.words.Scanned.TheVariants as scanned
+use Rattle.rows.specs.declared.command.Effect.TheVariants.{MakeName, PutBack}
 use Rattle.rows.specs.Worked.{character, primitive, call, asked, x, y, x_name, a_letter, a_space}
-use Rattle.rows.specs.Readings.{Fed, Tok, Val, Told, Cut, Ask, More, Done, ActsOn, Ends, Calls, Fails, RunsAway, Tells, Inserts}
+use Rattle.rows.specs.Readings.{Fed, Tok, Val, Told, Cut, Ask, More, Done, Acts, ActsOn, Ends, Calls, Fails, RunsAway, Tells, Inserts}
 use Rattle.plain_readings.specs.Integers.{ends_with}
 use Rattle.plain_readings.specs.Calls.{par_token}
-use Rattle.plain_readings.specs.Readings.{Kind, Reads, Spelling, Arguments, ask, lists}
+use Rattle.plain_readings.specs.Readings.{Kind, Reads, Spelling, Behind, Arguments, Reading, ask, lists}
+use Rattle.plain_readings.specs.Scanning.{Scanning, scanning}
 
 -- what a reading asks for before each item and behind the last, and the lists that it holds then
 abbrev pub steps : Kind → List Fed → List Ask
@@ -114,6 +117,10 @@ pub record WorkedLists : Type 0 where
   pub brace : steps (Reads (Text x_name true)) (Tok a_letter ∷ Told ∷ Tok right ∷ []) ≡ More want.Command ∷ Tells MissingBrace true ∷ More Copied ∷ Done value.List false ∷ []
   pub message_held : holds (Reads (Command (call 9))) (Val value.List (a_letter.token ∷ []) ∷ []) ≡ [] ∷ ((a_letter.token ∷ []) ∷ []) ∷ []
   pub empty_message_held : holds (Reads (Command (call 9))) (Val value.List [] ∷ []) ≡ [] ∷ [] ∷ []
+  pub number_held : holds (Reads (Command (call 57))) (Val (value.Plain (Number (pos 7))) (a_letter.token ∷ []) ∷ []) ≡ [] ∷ [] ∷ []
+  pub def_held : holds (Reads (Command (call 26))) (Tok x ∷ Val value.List (token.EndPlaces ∷ []) ∷ []) ≡ [] ∷ [] ∷ ((token.EndPlaces ∷ []) ∷ []) ∷ []
+  pub waiting : steps (Behind (call 54) a_letter) [] ≡ Acts (call 54) (PutBack a_letter) ∷ []
+  pub waiting_held : holds (Behind (call 54) a_letter) [] ≡ [] ∷ []
   pub macro_held :
       holds (Reads (Definition x_name false)) (Tok parameter_token ∷ Tok (character other 49) ∷ Tok left ∷ Tok a_letter ∷ Tok right ∷ []) ≡
       ([] ∷ []) ∷ ([] ∷ []) ∷ ((token.Place 35 ∷ []) ∷ []) ∷ ((token.Place 35 ∷ token.EndPlaces ∷ []) ∷ []) ∷
@@ -148,9 +155,45 @@ pub record WorkedCalls : Type 0 where
   pub checked_held : holds two_places (Tok a_letter ∷ Cut ∷ []) ≡ ([] ∷ []) ∷ ([] ∷ (a_token ∷ []) ∷ []) ∷ ([] ∷ (a_token ∷ []) ∷ []) ∷ []
   pub mismatch : steps (Arguments x_name false 0 (full_stop ∷ token.EndPlaces ∷ [])) (Tok a_letter ∷ []) ≡ More Raw ∷ Fails (UseMismatch x_name) ∷ []
 
+-- CHECKS
+
+abbrev pub a_text : Reading
+a_text = record { kind = Reads (Text x_name true); fed = Tok left ∷ Tok a_letter ∷ [] }
+
+abbrev pub a_command : ℕ → Reading
+a_command n = record { kind = Reads (Command (call n)); fed = [] }
+
+abbrev pub an_integer : Reading
+an_integer = record { kind = Reads Integer; fed = [] }
+
+abbrev pub a_call : List Fed → Reading
+a_call fed = record { kind = two_places; fed = fed }
+
+abbrev pub without_places : Reading
+without_places = record { kind = Arguments x_name false 0 (full_stop ∷ token.EndPlaces ∷ []); fed = [] }
+
+abbrev pub the_text : Option Scanning
+the_text = Some (record { what = scanned.Text; name = x_name; list = a_token ∷ [] })
+
+-- in the text of `\message`; in a number within it; at `\expandafter`, and at `\string`, which reads its token under normal status, also where a
+-- number within it inherits; in a call within the text, without places and in a place; in `\message` before its text; where nothing is read
+pub record WorkedChecks : Type 0 where
+  pub text : scanning (a_text ∷ a_command 9 ∷ []) ((a_token ∷ []) ∷ []) ≡ the_text
+  pub number : scanning (an_integer ∷ a_command 57 ∷ a_text ∷ a_command 9 ∷ []) ((a_token ∷ []) ∷ []) ≡ the_text
+  pub behind : scanning (a_command 54 ∷ a_text ∷ a_command 9 ∷ []) ((a_token ∷ []) ∷ []) ≡ the_text
+  pub unguarded : scanning (a_command 59 ∷ a_text ∷ a_command 9 ∷ []) ((a_token ∷ []) ∷ []) ≡ None
+  pub within_unguarded : scanning (a_command 57 ∷ a_command 59 ∷ a_text ∷ []) ((a_token ∷ []) ∷ []) ≡ the_text
+  pub call : scanning (without_places ∷ a_text ∷ []) ((a_token ∷ []) ∷ []) ≡ Some (record { what = scanned.Use; name = x_name; list = [] })
+  pub argument :
+      scanning (a_call (Tok b_letter ∷ []) ∷ a_text ∷ []) ([] ∷ (b_token ∷ []) ∷ (a_token ∷ []) ∷ []) ≡
+      Some (record { what = scanned.Use; name = x_name; list = [] })
+  pub command : scanning (a_command 9 ∷ []) [] ≡ None
+  pub none : scanning [] [] ≡ None
+
 pub record WorkedReadings : Type 0 where
   pub integers : WorkedIntegers
   pub reports : WorkedReports
   pub names : WorkedNames
   pub built : WorkedLists
   pub calls : WorkedCalls
+  pub checks : WorkedChecks

@@ -1,21 +1,84 @@
--- The list that a frame has built.
-use Rattle.std.proofs.Common.{◌≡◌, List, [], ◌∷◌, refl, sym, ap, ◌∙◌}
+-- The lists that a frame has built, which are held.
+use Rattle.std.proofs.Common.{◌≡◌, ◌≤◌, ℕ, Bool, true, false, List, [], ◌∷◌, length, take, drop, arith, refl, sym, ap, ◌∙◌}
 use Rattle.std.proofs.lemmas.List.{append-nil}
 use Rattle.tex_defs.specs.declared.Token.{Token}
 use Rattle.tex_syntax.specs.declared.words.Manner.{Manner}
 use Rattle.list_builder.specs.declared.stage.Stage.{Stage}
 use Rattle.list_builder.specs.declared.stage.Stage.TheVariants as stage
 use Rattle.list_builder.specs.Stages as stages
+use Rattle.rows.specs.declared.words.Datum.{Datum}
+use Rattle.rows.specs.declared.stage.Stage.{Stage as RowStage}
+use Rattle.rows.specs.declared.stage.Start.{Start}
+use Rattle.rows.specs.declared.stage.Start.TheVariants.{Looks, Begins}
+use Rattle.rows.specs.declared.stage.Note.{Note}
+use Rattle.rows.specs.declared.stage.Note.TheVariants as note
+use Rattle.rows.specs.declared.command.Call.{Call}
+use Rattle.rows.specs.Readings.{Fed, Ask}
+use Rattle.rows.specs.Run.{due, started, behind, run}
+use Rattle.rows.specs.Stages.{start}
+use Rattle.rows.specs.Table.{stages_left}
+use Rattle.row_frames.specs.declared.frame.RowFrame.{RowFrame}
+use Rattle.row_frames.specs.declared.turn.Kept.{Kept}
+use Rattle.row_frames.specs.declared.turn.Kept.TheVariants as kept
+use Rattle.row_frames.specs.Data.{values}
+use Rattle.row_frames.specs.Resumes as row
+use Rattle.row_frames.specs.Resumes.{within, resume_row, turn_of}
 use Rattle.plain_readings.specs.Lists.{built}
+use Rattle.plain_readings.specs.Readings.{Reading, lists, kept_list}
 use Rattle.reading_frames.specs.Sees.{Lists, top_list}
-use Rattle.reading_frames.specs.Resumes.{building, build_at, name_list_at}
-use Rattle.reading_frames.specs.Stands.{Reading, FrameStands, builds, lists_built}
+use Rattle.reading_frames.specs.Resumes.{building, build_at, name_list_at, list_count, listed_count, listed_lists}
+use Rattle.reading_frames.specs.Stands.{FrameStands, AreHeld}
+use Rattle.reading_frames.specs.declared.command.CommandScan.TheVariants as command
 use Rattle.reading_frames.specs.declared.frame.Frame.{Frame}
-use Rattle.reading_frames.specs.declared.frame.Frame.TheVariants.{Command, Integer, Build, Spelling}
+use Rattle.reading_frames.specs.declared.frame.Frame.TheVariants.{Command, Integer, Build, Spelling, Behind}
 use Rattle.reading_frames.specs.declared.spelling.SpellPlace.{SpellPlace}
 use Rattle.reading_frames.specs.declared.spelling.SpellPlace.TheVariants as spell
 use Rattle.reading_frames.specs.declared.text.BuildPlace.{BuildPlace}
 use Rattle.reading_frames.specs.declared.text.BuildPlace.TheVariants as place
+
+-- A ROW THAT GOES ON asks for nothing with a list.
+
+due_bare : (n : Note) → kept_list (due n) ≡ []
+due_bare (note.Tells report back) = refl
+due_bare (note.Inserts t report back) = refl
+
+module _ (turn : Call → List Fed → Ask) (c : Call) (ds : List Datum) (onward : List Datum → List Fed → Ask) where
+  started_bare : (s : RowStage) (begun : Start) → kept_list (behind turn c ds onward (started s c begun [])) ≡ []
+  started_bare s (Looks want) = refl
+  started_bare s (Begins k) = refl
+
+  within_bare : (s : RowStage) (k : Kept) → kept_list (behind turn c ds onward (within s c ds k [])) ≡ []
+  within_bare s kept.Start = started_bare s (start s c ds)
+  within_bare s (kept.Looking d want) = refl
+  within_bare s (kept.Within k) = refl
+  within_bare s (kept.Noting n m) = due_bare n
+  within_bare s (kept.Retrying d want n) = due_bare n
+
+row_bare : (turn : Call → List Fed → Ask) (c : Call) (ss : List RowStage) (ds : List Datum) (k : Kept) → kept_list (resume_row turn c ss ds k []) ≡ []
+row_bare turn c [] ds k = refl
+row_bare turn c (s ∷ ss) ds k = within_bare turn c ds (λ es more. run turn c ss es more) s k
+
+frame_bare : (f : RowFrame) → kept_list (row.resume f []) ≡ []
+frame_bare f = row_bare (λ c more. turn_of f.is_turned c more) f.call (stages_left f.left) (values f.read) f.kept
+
+-- HOW MANY THEY ARE
+
+listed_length : (b : Bool) (held : Lists) → length (listed_lists b held) ≡ listed_count b
+listed_length true held = refl
+listed_length false held = refl
+
+built_length : (f : Frame) (held : Lists) → length (building f held []) ≡ list_count f
+built_length (Command (command.Reads f) p) held = ap (λ (l : Lists). length l) (frame_bare f)
+built_length (Command (command.Acts c e) p) held = refl
+built_length (Command (command.ActsOn c e b) p) held = listed_length b held
+built_length (Command (command.Defines c n b) p) held = listed_length b held
+built_length (Command command.Ended p) held = refl
+built_length (Integer scan) held = refl
+built_length (Build scan) held = refl
+built_length (Spelling scan) held = refl
+built_length (Behind c x) held = refl
+
+-- WHAT THEY ARE
 
 list_at : (m : Manner) (s : Stage) (list : List Token) → built (stages.resume m s list []) ≡ list
 list_at m stage.First list = refl
@@ -37,11 +100,34 @@ name_now : (p : SpellPlace) (list : List Token) → name_list_at p list [] ≡ l
 name_now spell.Inside list = append-nil list
 name_now p list = refl
 
-built_now : (f : Frame) (held : Lists) → building f held [] ≡ lists_built f held
-built_now (Command scan) held = refl
-built_now (Integer scan) held = refl
-built_now (Build scan) held = ap (λ (l : List Token). l ∷ []) (build_now scan.manner scan.place (top_list held))
-built_now (Spelling scan) held = ap (λ (l : List Token). l ∷ []) (name_now scan.place (top_list held))
+top_taken : (held : Lists) → 1 ≤ length held → top_list held ∷ [] ≡ take 1 held
+top_taken [] h = absurd (omega (arith, h))
+top_taken (list ∷ held) h = refl
 
-pub built_so_far : (f : Frame) (held : Lists) (r : Reading) → FrameStands f held r → builds r.kind r.fed ≡ lists_built f held
-built_so_far f held r stands = ap (builds r.kind) (sym (append-nil r.fed)) ∙ stands.builds_on [] ∙ built_now f held
+listed_now : (b : Bool) (held : Lists) → listed_count b ≤ length held → listed_lists b held ≡ take (listed_count b) held
+listed_now true held h = top_taken held h
+listed_now false held h = refl
+
+built_now : (f : Frame) (held : Lists) → list_count f ≤ length held → building f held [] ≡ take (list_count f) held
+built_now (Command (command.Reads f) p) held h = frame_bare f
+built_now (Command (command.Acts c e) p) held h = refl
+built_now (Command (command.ActsOn c e b) p) held h = listed_now b held h
+built_now (Command (command.Defines c n b) p) held h = listed_now b held h
+built_now (Command command.Ended p) held h = refl
+built_now (Integer scan) held h = refl
+built_now (Build scan) held h = ap (λ (l : List Token). l ∷ []) (build_now scan.manner scan.place (top_list held)) ∙ top_taken held h
+built_now (Spelling scan) held h = ap (λ (l : List Token). l ∷ []) (name_now scan.place (top_list held)) ∙ top_taken held h
+built_now (Behind c x) held h = refl
+
+lists_built : (f : Frame) (held : Lists) (r : Reading) → FrameStands f held r → lists r.kind r.fed ≡ building f held []
+lists_built f held r stands = ap (lists r.kind) (sym (append-nil r.fed)) ∙ stands.builds_on []
+
+pub lists_counted : (f : Frame) (held : Lists) (r : Reading) → FrameStands f held r → length (lists r.kind r.fed) ≡ list_count f
+lists_counted f held r stands = ap (λ (l : Lists). length l) (lists_built f held r stands) ∙ built_length f held
+
+pub are_held : (f : Frame) (held : Lists) (r : Reading) → FrameStands f held r → AreHeld f held r
+are_held f held r stands = record {
+  first =
+      lists_built f held r stands ∙ built_now f held stands.holds ∙ ap (λ (n : ℕ). take n held) (sym (lists_counted f held r stands));
+  beneath = ap (λ (n : ℕ). drop n held) (sym (lists_counted f held r stands));
+}

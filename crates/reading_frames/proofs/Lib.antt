@@ -1,7 +1,12 @@
 pub mod Growing
 pub mod Feeding
 pub mod Over
+pub mod Plain
 pub mod Commands
 pub mod Stacks
 pub mod Held
+pub mod Scanning
+pub mod Rows
+pub mod Weights
+pub mod Rules
 pub mod Braces

@@ -2,3 +2,4 @@ pub mod Sees
 pub mod Resumes
 pub mod Stands
 pub mod Stack
+pub mod Weights

@@ -1,17 +1,27 @@
 -- What a frame will answer on what is still to come, and the list that it will have built.
-use Rattle.std.specs.Prelude.{ℕ, ◌+◌, Bool, true, false, List, [], ◌∷◌, ◌++◌, drop}
+use Rattle.std.specs.Prelude.{ℕ, ◌≡◌, ◌+◌, Bool, true, false, not, List, [], ◌∷◌, ◌++◌, drop, Option, Some, None}
+use Rattle.tex_defs.specs.declared.Name.{Name}
 use Rattle.tex_defs.specs.declared.Token.{Token}
+use Rattle.tex_syntax.specs.declared.words.Scanned.{Scanned}
 use Rattle.tex_syntax.specs.declared.words.Manner.{Manner}
 use Rattle.plain_state.specs.Definitions as build
 use Rattle.list_builder.specs.Stages as stages
 use Rattle.list_builder.specs.Stages.{cell_count}
+use Rattle.rows.specs.declared.words.Value.{Value}
+use Rattle.rows.specs.declared.words.Value.TheVariants as value
 use Rattle.rows.specs.declared.command.Call.{Call}
+use Rattle.rows.specs.declared.command.Effect.TheVariants.{PutBack}
 use Rattle.rows.specs.Readings.{Fed, Ask, Ends}
 use Rattle.rows.specs.Readings as reading
 use Rattle.row_frames.specs.Resumes as row
+use Rattle.rows.specs.Table.{reads_under_normal}
+use Rattle.plain_readings.specs.Readings.{kept_list}
+use Rattle.plain_readings.specs.Scanning.{Status, Scans, Unguarded, Inherits, command_status}
 use Rattle.plain_readings.specs.Lists.{build_fed, build_ask, built}
 use Rattle.plain_readings.specs.Spelling.{spelling, characters, endcsname_missing, makes}
 use Rattle.scan_numbers.specs.Resumes as number
+use Rattle.reading_frames.specs.declared.ask.Ask.{Ask as Answer}
+use Rattle.reading_frames.specs.declared.ask.Ask.TheVariants as answer
 use Rattle.reading_frames.specs.declared.ask.Grown.{Grown}
 use Rattle.reading_frames.specs.declared.command.CommandScan.{CommandScan}
 use Rattle.reading_frames.specs.declared.command.CommandScan.TheVariants as command
@@ -22,28 +32,53 @@ use Rattle.reading_frames.specs.declared.text.BuildPlace.{BuildPlace}
 use Rattle.reading_frames.specs.declared.text.BuildPlace.TheVariants as place
 use Rattle.reading_frames.specs.declared.text.BuildScan.{BuildScan}
 use Rattle.reading_frames.specs.declared.frame.Frame.{Frame}
-use Rattle.reading_frames.specs.declared.frame.Frame.TheVariants.{Command, Integer, Build, Spelling}
-use Rattle.reading_frames.specs.Sees.{Lists, top_list}
+use Rattle.reading_frames.specs.declared.frame.Frame.TheVariants.{Command, Integer, Build, Spelling, Behind}
+use Rattle.reading_frames.specs.Sees.{Lists, top_list, kept_list_of}
 
--- A command, with the list that it keeps
+-- A command, and the list with which it is to do something
 
-abbrev pub resume_command : CommandScan → List Token → List Fed → Ask
-resume_command (command.Reads f) list fed = row.resume f fed
-resume_command (command.Acts c e) list fed = reading.Acts c e
-resume_command (command.ActsOn c e) list fed = reading.ActsOn c e list
-resume_command (command.Defines c n) list fed = reading.Defines c n list
-resume_command command.Ended list fed = Ends
+abbrev pub resume_command : CommandScan → Lists → List Fed → Ask
+resume_command (command.Reads f) held fed = row.resume f fed
+resume_command (command.Acts c e) held fed = reading.Acts c e
+resume_command (command.ActsOn c e listed) held fed = reading.ActsOn c e (kept_list_of listed held)
+resume_command (command.Defines c n listed) held fed = reading.Defines c n (kept_list_of listed held)
+resume_command command.Ended held fed = Ends
 
-abbrev pub command_below : CommandScan → Lists → Lists
-command_below (command.ActsOn c e) held = drop 1 held
-command_below (command.Defines c n) held = drop 1 held
-command_below s held = held
+abbrev pub listed_lists : (listed : Bool) → Lists → Lists
+listed_lists true held = top_list held ∷ []
+listed_lists false held = []
+
+-- whether the list on top is its own
+abbrev pub has_list : CommandScan → Bool
+has_list (command.ActsOn c e listed) = listed
+has_list (command.Defines c n listed) = listed
+has_list s = false
+
+abbrev pub command_lists : CommandScan → Lists → List Fed → Lists
+command_lists (command.Reads f) held fed = kept_list (row.resume f fed)
+command_lists s held fed = listed_lists (has_list s) held
+
+-- how many lists of its own are held now
+abbrev pub listed_count : (listed : Bool) → ℕ
+listed_count true = 1
+listed_count false = 0
+
+abbrev pub command_count : CommandScan → ℕ
+command_count s = listed_count (has_list s)
+
+-- a list that came with a value is kept only where it has a token
+abbrev pub keeps : Value → (is_empty : Bool) → Bool
+keeps value.List is_empty = not is_empty
+keeps (value.Plain d) is_empty = false
+
+-- a command that is over, whose list is listed or not
+abbrev pub IsOver : CommandScan → (listed : Bool) → Type 0
+IsOver (command.Reads f) listed = ⊥
+IsOver (command.ActsOn c e is_listed) listed = is_listed ≡ listed
+IsOver (command.Defines c n is_listed) listed = is_listed ≡ listed
+IsOver s listed = Unit {0}
 
 -- the list of a value, where it is kept
-abbrev pub list_kept : (kept : Bool) → (ts list : List Token) → List Token
-list_kept true ts list = ts
-list_kept false ts list = list
-
 abbrev pub with_list : (kept : Bool) → List Token → Lists → Lists
 with_list true ts held = ts ∷ held
 with_list false ts held = held
@@ -89,24 +124,54 @@ token_count g = cell_count g.first + cell_count g.second
 
 -- WHAT A FRAME ANSWERS once it is fed with this, over the lists that are held
 abbrev pub resume : Frame → Lists → List Fed → Ask
-resume (Command scan) held fed = resume_command scan (top_list held) fed
+resume (Command scan primitive) held fed = resume_command scan held fed
 resume (Integer scan) held fed = number.resume scan fed
 resume (Build scan) held fed = build_ask (resume_build scan (top_list held) fed)
 resume (Spelling scan) held fed = resume_name scan (top_list held) fed
+resume (Behind c x) held fed = reading.Acts c (PutBack x)
 
 -- the lists that it will have built then
 abbrev pub building : Frame → Lists → List Fed → Lists
-building (Command scan) held fed = []
+building (Command scan primitive) held fed = command_lists scan held fed
 building (Integer scan) held fed = []
 building (Build scan) held fed = built (resume_build scan (top_list held) fed) ∷ []
 building (Spelling scan) held fed = name_list scan (top_list held) fed ∷ []
+building (Behind c x) held fed = []
+
+-- how many lists of its own are held now
+abbrev pub list_count : Frame → ℕ
+list_count (Command scan primitive) = command_count scan
+list_count (Build scan) = 1
+list_count (Spelling scan) = 1
+list_count f = 0
 
 -- the lists of the frames beneath
 abbrev pub below : Frame → Lists → Lists
-below (Command scan) held = command_below scan held
-below (Integer scan) held = held
-below (Build scan) held = drop 1 held
-below (Spelling scan) held = drop 1 held
+below f held = drop (list_count f) held
+
+-- What ends by asking this has so many lists of its own: the list of which it speaks, where that is listed.
+abbrev pub Owns : Answer → ℕ → Type 0
+Owns (answer.ActsOn c e listed) n = n ≡ listed_count listed
+Owns (answer.Defines c name listed) n = n ≡ listed_count listed
+Owns (answer.Done value.List back) n = n ≡ 1
+Owns (answer.Done (value.Plain d) back) n = n ≡ 0
+Owns (answer.Acts c e) n = n ≡ 0
+Owns a n = Unit {0}
+
+-- what it is at a check
+abbrev pub frame_status : Frame → Status
+frame_status (Command scan primitive) = command_status (reads_under_normal primitive)
+frame_status (Build scan) = Scans scan.what scan.manner.name
+frame_status f = Inherits
+
+-- what is read at a check, and its name, where a reading is of this status; and whether it reads its token under normal status
+abbrev pub read_at : Status → Option (Scanned × Name)
+read_at (Scans what name) = Some (what, name)
+read_at s = None
+
+abbrev pub reads_unguarded : Status → Bool
+reads_unguarded Unguarded = true
+reads_unguarded s = false
 
 -- the groups that are open in the list that is built
 abbrev pub groups : Frame → ℕ

@@ -1,23 +1,32 @@
 -- What the engine's words stand for, over the lists that are held.
-use Rattle.std.specs.Prelude.{List, [], ◌∷◌, ◌++◌, drop, Option, Some, None}
+use Rattle.std.specs.Prelude.{Bool, true, false, List, [], ◌∷◌, ◌++◌, drop, Option, Some, None}
 use Rattle.tex_defs.specs.declared.Token.{Token}
 use Rattle.plain_state.specs.Definitions.{with_cell}
 use Rattle.rows.specs.Readings as reading
 use Rattle.plain_readings.specs.Readings.{Kind}
 use Rattle.plain_readings.specs.Readings as kind
 use Rattle.reading_frames.specs.declared.ask.Opening.{Opening}
-use Rattle.reading_frames.specs.declared.ask.Opening.TheVariants.{Reads, Spelling}
+use Rattle.reading_frames.specs.declared.ask.Opening.TheVariants.{Reads, Spelling, Behind}
 use Rattle.reading_frames.specs.declared.ask.Ask.{Ask}
 use Rattle.reading_frames.specs.declared.ask.Ask.TheVariants.{More, Inner, Done, Acts, ActsOn, Defines, Ends, Tells, Inserts}
 use Rattle.reading_frames.specs.declared.ask.Grown.{Grown}
 
--- The lists that open readings hold, that of the innermost first, and of each reading the last one first. One may have no token.
+-- The lists that open readings hold, that of the innermost first, and of each reading the last one first.
 abbrev pub Lists : Type 0
 Lists = List (List Token)
 
 abbrev pub top_list : Lists → List Token
 top_list [] = []
 top_list (list ∷ beneath) = list
+
+abbrev pub has_no_token : List Token → Bool
+has_no_token [] = true
+has_no_token (t ∷ ts) = false
+
+-- the list with which a command is to do something: the one on top, where it is listed, else that of no token
+abbrev pub kept_list_of : (listed : Bool) → Lists → List Token
+kept_list_of true held = top_list held
+kept_list_of false held = []
 
 -- the list on top gets a token
 abbrev pub put : Option Token → Lists → Lists
@@ -35,14 +44,15 @@ grown g list = with_cell (with_cell list g.first) g.second
 abbrev pub kind_of : Opening → Kind
 kind_of (Reads k) = kind.Reads k
 kind_of (Spelling c) = kind.Spelling c
+kind_of (Behind c x) = kind.Behind c x
 
 abbrev pub ask_of : Lists → Ask → reading.Ask
 ask_of held (More want) = reading.More want
 ask_of held (Inner k begins) = reading.Inner k begins
 ask_of held (Done v back) = reading.Done v back
 ask_of held (Acts c e) = reading.Acts c e
-ask_of held (ActsOn c e) = reading.ActsOn c e (top_list held)
-ask_of held (Defines c n) = reading.Defines c n (top_list held)
+ask_of held (ActsOn c e listed) = reading.ActsOn c e (kept_list_of listed held)
+ask_of held (Defines c n listed) = reading.Defines c n (kept_list_of listed held)
 ask_of held Ends = reading.Ends
 ask_of held (Tells report back) = reading.Tells report back
 ask_of held (Inserts t report back) = reading.Inserts t report back

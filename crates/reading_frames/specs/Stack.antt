@@ -1,12 +1,15 @@
 -- The stack of all open readings, the innermost first.
-use Rattle.std.specs.Prelude.{◌≡◌, ℕ, ◌≤◌, ◌<◌, ◌^◌, List, [], ◌∷◌, Option, Some, None, length}
+use Rattle.std.specs.Prelude.{◌≡◌, ℕ, ◌+◌, ◌≤◌, ◌<◌, ◌^◌, List, [], ◌∷◌, Option, Some, None, length, drop}
 use Rattle.tex_defs.specs.declared.Full.{Full}
+use Rattle.tex_defs.specs.declared.Name.{Name}
 use Rattle.tex_defs.specs.declared.Table.TheVariants.{ExpansionDepth}
+use Rattle.tex_syntax.specs.declared.words.Scanned.{Scanned}
 use Rattle.rows.specs.Readings as reading
-use Rattle.plain_readings.specs.Readings.{ask}
+use Rattle.plain_readings.specs.Readings.{Reading, ask}
+use Rattle.plain_readings.specs.Scanning.{Status, Scans, Unguarded, Scanning}
 use Rattle.reading_frames.specs.Sees.{Lists, top_list, ask_of}
-use Rattle.reading_frames.specs.Resumes.{below, groups}
-use Rattle.reading_frames.specs.Stands.{Reading, AreShallow}
+use Rattle.reading_frames.specs.Resumes.{resume, list_count, frame_status, groups}
+use Rattle.reading_frames.specs.Stands.{AreShallow}
 use Rattle.reading_frames.specs.declared.ask.Ask.{Ask}
 use Rattle.reading_frames.specs.declared.frame.Frame.{Frame}
 
@@ -30,7 +33,11 @@ pub record IsRoomy (innermost : Option Frame) (beneath : List Frame) (size capac
 abbrev pub depth_full : Stack → Full
 depth_full s = record { table = ExpansionDepth; used = length s.frames; size = s.size }
 
--- what the innermost reading of the machine asks for
+-- what the innermost frame asks for, and the innermost reading of the machine
+abbrev pub asks_in : List Frame → Lists → Option reading.Ask
+asks_in [] held = None
+asks_in (f ∷ fs) held = Some (resume f held [])
+
 abbrev pub asked_in : List Reading → Option reading.Ask
 asked_in [] = None
 asked_in (r ∷ work) = Some (ask r.kind r.fed)
@@ -44,10 +51,38 @@ abbrev pub innermost_groups : List Frame → ℕ
 innermost_groups [] = 0
 innermost_groups (f ∷ fs) = groups f
 
--- the lists beneath those of the innermost
+-- how many lists of its own the innermost has, and the lists beneath those
+abbrev pub innermost_count : List Frame → ℕ
+innermost_count [] = 0
+innermost_count (f ∷ fs) = list_count f
+
 abbrev pub lists_beneath : List Frame → Lists → Lists
-lists_beneath [] held = held
-lists_beneath (f ∷ fs) held = below f held
+lists_beneath fs held = drop (innermost_count fs) held
+
+-- WHAT IS READ AT A CHECK: this, under its name; its list is the one of this number among those that are held, the innermost being number 0.
+abbrev pub Found : Type 0
+Found = Option (Scanned × Name × ℕ)
+
+abbrev pub found_at : Status → ℕ → (around : Found) → Found
+found_at (Scans what name) n around = Some (what, name, n)
+found_at s n around = around
+
+-- the innermost of these, over so many lists of those within
+abbrev pub innermost_found : List Frame → ℕ → Found
+innermost_found [] n = None
+innermost_found (f ∷ fs) n = found_at (frame_status f) n (innermost_found fs (n + list_count f))
+
+abbrev pub unless_unguarded : Status → Found → Found
+unless_unguarded Unguarded o = None
+unless_unguarded s o = o
+
+abbrev pub found_in : List Frame → Found
+found_in [] = None
+found_in (f ∷ fs) = unless_unguarded (frame_status f) (innermost_found (f ∷ fs) 0)
+
+abbrev pub scanning_of : Lists → Found → Option Scanning
+scanning_of held None = None
+scanning_of held (Some found) = Some (record { what = found.0; name = found.1; list = top_list (drop found.2 held) })
 
 -- THE BRACES: where each group has its brace in its list, no more groups are open than the list on top has tokens.
 abbrev pub GroupsHaveBraces : Type 0

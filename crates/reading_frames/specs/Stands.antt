@@ -1,29 +1,21 @@
 -- The open frames stand for the open readings of the machine, one for one.
-use Rattle.std.specs.Prelude.{◌≡◌, ◌≤◌, length, List, [], ◌∷◌, ◌++◌}
+use Rattle.std.specs.Prelude.{◌≡◌, ◌≤◌, length, List, [], ◌∷◌, ◌++◌, drop, take}
 use Rattle.rows.specs.declared.words.Kind.TheVariants.{Command, Integer}
 use Rattle.rows.specs.Readings.{Fed}
-use Rattle.plain_readings.specs.Readings.{Kind, Reads, ask, lists}
+use Rattle.plain_readings.specs.Readings.{Kind, Reading, ask, lists, fed_with, opened}
+use Rattle.plain_readings.specs.Scanning.{status}
 use Rattle.reading_frames.specs.Sees.{Lists, top_list}
-use Rattle.reading_frames.specs.Resumes.{resume, building, below, groups}
+use Rattle.reading_frames.specs.Resumes.{resume, building, list_count, below, frame_status, groups}
 use Rattle.reading_frames.specs.declared.ask.Opening.{Opening}
-use Rattle.reading_frames.specs.declared.ask.Opening.TheVariants.{Reads as Opens}
+use Rattle.reading_frames.specs.declared.ask.Opening.TheVariants.{Reads, Behind}
 use Rattle.reading_frames.specs.declared.frame.Frame.{Frame}
-use Rattle.reading_frames.specs.declared.frame.Frame.TheVariants.{Build, Spelling as Name}
 
--- a reading of the machine: all that it was fed with
-pub record Reading : Type 0 where
-  pub kind : Kind
-  pub fed : List Fed
-
--- The lists that a reading builds. Those of a command are values that it was fed with; it asks to do something with the one that it keeps.
-abbrev pub builds : Kind → List Fed → Lists
-builds (Reads (Command c)) fed = []
-builds k fed = lists k fed
-
--- the frame will answer what the reading will, and build the lists that it builds
+-- The frame will answer what the reading will, and build the lists that it builds; its lists are held, and at a check it is what the reading is.
 pub record FrameStands (f : Frame) (held : Lists) (r : Reading) : Type 0 where
   pub goes_on : (fed : List Fed) → ask r.kind (r.fed ++ fed) ≡ resume f held fed
-  pub builds_on : (fed : List Fed) → builds r.kind (r.fed ++ fed) ≡ building f held fed
+  pub builds_on : (fed : List Fed) → lists r.kind (r.fed ++ fed) ≡ building f held fed
+  pub holds : list_count f ≤ length held
+  pub checks : status r.kind ≡ frame_status f
 
 -- THE STACK, innermost first, each frame with its own lists and those beneath
 abbrev pub FramesStand : List Frame → Lists → List Reading → Type 0
@@ -37,37 +29,28 @@ abbrev pub AreShallow : List Frame → Lists → Type 0
 AreShallow [] held = Unit {0}
 AreShallow (f ∷ fs) held = (groups f ≤ length (top_list held)) × AreShallow fs (below f held)
 
--- the lists that a frame has built so far
-abbrev pub lists_built : Frame → Lists → Lists
-lists_built (Build scan) held = top_list held ∷ []
-lists_built (Name scan) held = top_list held ∷ []
-lists_built f held = []
-
 -- the lists over which a reading begins: what builds one has one of no token
 abbrev pub opened_lists : Opening → Lists → Lists
-opened_lists (Opens (Command c)) held = held
-opened_lists (Opens Integer) held = held
+opened_lists (Reads (Command c)) held = held
+opened_lists (Reads Integer) held = held
+opened_lists (Behind c x) held = held
 opened_lists o held = [] ∷ held
 
 -- A reading begins: over the lists as they become, its frame answers what the reading does that was fed with nothing.
 pub record Begins (k : Kind) (f : Frame) (held new : Lists) : Type 0 where
   pub asks : (fed : List Fed) → ask k fed ≡ resume f new fed
-  pub lists_are : (fed : List Fed) → builds k fed ≡ building f new fed
+  pub lists_are : (fed : List Fed) → lists k fed ≡ building f new fed
+  pub holds : list_count f ≤ length new
   pub beneath : below f new ≡ held
+  pub checks : status k ≡ frame_status f
 
 -- A frame that is fed with this becomes another, and the lists become others.
 pub record GoesOn (old new : Frame) (held held' : Lists) (y : Fed) : Type 0 where
   pub asks : (fed : List Fed) → resume old held (y ∷ fed) ≡ resume new held' fed
   pub lists_are : (fed : List Fed) → building old held (y ∷ fed) ≡ building new held' fed
+  pub holds : list_count old ≤ length held → list_count new ≤ length held'
   pub beneath : below new held' ≡ below old held
-
--- the innermost reading is fed
-abbrev pub fed_with : Fed → List Reading → List Reading
-fed_with y [] = []
-fed_with y (r ∷ rs) = record { kind = r.kind; fed = r.fed ++ y ∷ [] } ∷ rs
-
-abbrev pub opened : Kind → List Reading → List Reading
-opened k work = record { kind = k; fed = [] } ∷ work
+  pub checks : frame_status new ≡ frame_status old
 
 -- WHAT A STACK DOES
 
@@ -86,8 +69,12 @@ ReadingsEnd =
     (f : Frame) (fs : List Frame) (held : Lists) (r : Reading) (work : List Reading) →
     FramesStand (f ∷ fs) held (r ∷ work) → FramesStand fs (below f held) work
 
--- WHAT IS HELD: the lists that the machine's reading builds are those that its frame has built.
+-- WHAT IS HELD: the lists of the machine's innermost reading come first, and behind them those of the frames beneath.
+pub record AreHeld (f : Frame) (held : Lists) (r : Reading) : Type 0 where
+  pub first : lists r.kind r.fed ≡ take (length (lists r.kind r.fed)) held
+  pub beneath : below f held ≡ drop (length (lists r.kind r.fed)) held
+
 abbrev pub ListsAreHeld : Type 0
 ListsAreHeld =
     (f : Frame) (fs : List Frame) (held : Lists) (r : Reading) (work : List Reading) →
-    FramesStand (f ∷ fs) held (r ∷ work) → builds r.kind r.fed ≡ lists_built f held
+    FramesStand (f ∷ fs) held (r ∷ work) → AreHeld f held r

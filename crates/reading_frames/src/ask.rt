@@ -1,16 +1,18 @@
 // What may be opened, what an open reading asks for, and what goes onto its list.
 use rows::{Call, Effect, Kind, Value};
-use tex_defs::{Name, Token};
+use tex_defs::{Name, Seen, Token};
 use tex_syntax::{Report, Want};
 
-/// What may be opened: a reading that a command is or begins, or `\csname`.
+/// What may be opened: a reading that a command is or begins, `\csname`, or the token that waits behind one that is expanded.
 #[derive(Clone, Copy)]
 pub enum Opening {
     Reads(Kind),
     Spelling(Call),
+    /// The command is `\expandafter`.
+    Behind(Call, Seen),
 }
 
-/// What an open reading asks for. Where a list is spoken of, it is the one on top.
+/// What an open reading asks for. Where a list is spoken of, it is the one on top, if it is listed, and else the list of no token.
 #[must_use]
 #[derive(Clone, Copy)]
 pub enum Ask {
@@ -21,10 +23,10 @@ pub enum Ask {
     Done(Value, bool),
     /// The command does this, and ends.
     Acts(Call, Effect),
-    /// The command does this with the list, and ends.
-    ActsOn(Call, Effect),
-    /// The list becomes that of the macro of this name, and the command ends.
-    Defines(Call, Name),
+    /// The command does this with the list, and whether that is listed, and ends.
+    ActsOn(Call, Effect, bool),
+    /// The list becomes that of the macro of this name, and whether it is listed, and the command ends.
+    Defines(Call, Name, bool),
     Ends,
     /// A report, and whether the last token is put back before it.
     Tells(Report, bool),

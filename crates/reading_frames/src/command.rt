@@ -1,38 +1,43 @@
 // A command that is read by its row.
-ghost use Rattle.std.specs.Prelude.{◌≡◌, List, [], ◌∷◌, IfSome, None};
+ghost use Rattle.std.specs.Prelude.{◌≡◌, ◌+◌, List, [], ◌∷◌, IfSome, None, true, false};
 ghost use Rattle.tex_defs.specs.declared.Token.{Token};
+ghost use Rattle.rows.specs.declared.words.Value.TheVariants as value_of;
 ghost use Rattle.rows.specs.Readings.{Fed, Tok, Told, Val};
 ghost use Rattle.rows.specs.Run.{row, due};
 ghost use Rattle.row_frames.specs.Sees as rows_see;
 ghost use Rattle.row_frames.specs.Resumes as rows_resume;
-ghost use Rattle.reading_frames.specs.Sees.{ask_of, Lists, top_list};
-ghost use Rattle.reading_frames.specs.Resumes.{resume_command, command_below, list_kept, with_list};
+ghost use Rattle.plain_readings.specs.Readings.{kept_list};
+ghost use Rattle.reading_frames.specs.Sees.{ask_of, has_no_token, kept_list_of, Lists};
+ghost use Rattle.reading_frames.specs.Resumes.{resume_command, command_lists, command_count, has_list, listed_count, with_list, IsOver, Owns};
+ghost use Rattle.reading_frames.specs.Resumes as resumes;
 
 use crate::ask::Ask;
 use row_frames::{Kept, RowFrame};
 use rows::{Call, Effect, Note, Value};
 use tex_defs::{Name, Seen};
 
-/// Where a command stands: in its row, or at what it does at its end. The list with which it does this is the one on top.
+/// Where a command stands: in its row, or at what it does at its end. The list with which it does this is the one on top, if it is listed, and
+/// else the list of no token.
 #[derive(Clone, Copy)]
 pub enum CommandScan {
     Reads(RowFrame),
     Acts(Call, Effect),
-    ActsOn(Call, Effect),
-    Defines(Call, Name),
+    ActsOn(Call, Effect, bool),
+    Defines(Call, Name, bool),
     Ended,
 }
 
-/// What a command asks for by its row.
+/// What a command asks for by its row, over a list of no token.
 fn of_row(asked: row_frames::Ask) -> Ask
-    ensures { (held : Lists) → ask_of held result ≡ rows_see.ask_of (top_list held) asked }
+    ensures is { (held : Lists) → ask_of held result ≡ rows_see.ask_of [] asked }
+    ensures owns { Owns result 0 }
 {
     match asked {
         row_frames::Ask::More(want) => Ask::More(want),
         row_frames::Ask::Inner(kind, begins) => Ask::Inner(kind, begins.is_some()),
         row_frames::Ask::Acts(call, effect) => Ask::Acts(call, effect),
-        row_frames::Ask::ActsOn(call, effect) => Ask::ActsOn(call, effect),
-        row_frames::Ask::Defines(call, name) => Ask::Defines(call, name),
+        row_frames::Ask::ActsOn(call, effect) => Ask::ActsOn(call, effect, false),
+        row_frames::Ask::Defines(call, name) => Ask::Defines(call, name, false),
         row_frames::Ask::Ends => Ask::Ends,
         row_frames::Ask::Tells(report, back) => Ask::Tells(report, back.is_some()),
         row_frames::Ask::Inserts(token, report, back) => {
@@ -43,7 +48,8 @@ fn of_row(asked: row_frames::Ask) -> Ask
 
 /// The note that is due.
 fn of_note(note: Note) -> Ask
-    ensures { (held : Lists) → ask_of held result ≡ due note }
+    ensures is { (held : Lists) → ask_of held result ≡ due note }
+    ensures owns { Owns result 0 }
 {
     match note {
         Note::Tells(report, back) => Ask::Tells(report, back),
@@ -53,7 +59,8 @@ fn of_note(note: Note) -> Ask
 
 /// What a command asks for where it stands in its row.
 fn asked_in(row: &RowFrame) -> Ask
-    ensures { (held : Lists) → ask_of held result ≡ rows_resume.resume row.now [] }
+    ensures is { (held : Lists) → ask_of held result ≡ rows_resume.resume row.now [] }
+    ensures owns { Owns result 0 }
 {
     if row.left.is_none() {
         let mut at_end = *row;
@@ -69,50 +76,75 @@ fn asked_in(row: &RowFrame) -> Ask
     }
 }
 
-/// A row is fed, and comes to this if it is over.
-fn over_behind(row: &mut RowFrame, y: row_frames::Fed) -> Option<CommandScan>
-    ensures over { IfSome result (λ s. (ts : List Token) (fed : List Fed) → rows_resume.resume row.old (rows_see.fed_of ts y ∷ fed) ≡ resume_command s ts fed) }
+/// A row is fed, and comes to this if it is over; the list that came last is listed or has no token.
+fn over_behind(row: &mut RowFrame, y: row_frames::Fed, listed: bool) -> Option<CommandScan>
+    ensures over { IfSome result (λ s. (ts : List Token) (held : Lists) (fed : List Fed) → ts ≡ kept_list_of listed held → rows_resume.resume row.old (rows_see.fed_of ts y ∷ fed) ≡ resume_command s held fed) }
     ensures goes_on { result ≡ None → (ts : List Token) (fed : List Fed) → rows_resume.resume row.old (rows_see.fed_of ts y ∷ fed) ≡ rows_resume.resume row.new fed }
+    ensures ended { IfSome result (λ s. IsOver s listed) }
 {
     match row.feed(y) {
         row_frames::Ask::Acts(call, effect) => Some(CommandScan::Acts(call, effect)),
-        row_frames::Ask::ActsOn(call, effect) => Some(CommandScan::ActsOn(call, effect)),
-        row_frames::Ask::Defines(call, name) => Some(CommandScan::Defines(call, name)),
+        row_frames::Ask::ActsOn(call, effect) => Some(CommandScan::ActsOn(call, effect, listed)),
+        row_frames::Ask::Defines(call, name) => Some(CommandScan::Defines(call, name, listed)),
         row_frames::Ask::Ends => Some(CommandScan::Ended),
         row_frames::Ask::More(_) | row_frames::Ask::Inner(..) => None,
         row_frames::Ask::Tells(..) | row_frames::Ask::Inserts(..) => None,
     }
 }
 
+/// Whether a list that comes with a value is kept: only where it has a token.
+fn keeps(value: Value, is_empty: bool) -> bool
+    ensures { result ≡ resumes.keeps value is_empty }
+{
+    match value {
+        Value::List => !is_empty,
+        Value::Plain(_) => false,
+    }
+}
+
 impl CommandScan {
     /// A command begins.
     pub fn new(call: Call) -> CommandScan
-        ensures asks { (list : List Token) (fed : List Fed) → row call fed ≡ resume_command result list fed }
-        ensures beneath { (held : Lists) → command_below result held ≡ held }
+        ensures asks { (held : Lists) (fed : List Fed) → row call fed ≡ resume_command result held fed }
+        ensures lists { (held : Lists) (fed : List Fed) → kept_list (row call fed) ≡ command_lists result held fed }
+        ensures count { command_count result ≡ 0 }
     {
         CommandScan::Reads(RowFrame::new(call))
     }
 
     /// What it asks for where it stands.
     pub fn ask(&self) -> Ask
-        ensures { (held : Lists) → ask_of held result ≡ resume_command self.now (top_list held) [] }
+        ensures is { (held : Lists) → ask_of held result ≡ resume_command self.now held [] }
+        ensures owns { Owns result (command_count self.now) }
     {
         match self {
             CommandScan::Reads(row) => asked_in(row),
             CommandScan::Acts(call, effect) => Ask::Acts(*call, *effect),
-            CommandScan::ActsOn(call, effect) => Ask::ActsOn(*call, *effect),
-            CommandScan::Defines(call, name) => Ask::Defines(*call, *name),
+            CommandScan::ActsOn(call, effect, listed) => Ask::ActsOn(*call, *effect, *listed),
+            CommandScan::Defines(call, name, listed) => Ask::Defines(*call, *name, *listed),
             CommandScan::Ended => Ask::Ends,
+        }
+    }
+
+    /// Whether the list on top is its own.
+    pub fn is_listed(&self) -> bool
+        ensures { result ≡ has_list self.now }
+    {
+        match self {
+            CommandScan::ActsOn(_, _, listed) => *listed,
+            CommandScan::Defines(_, _, listed) => *listed,
+            _ => false,
         }
     }
 
     /// Takes a token.
     pub fn feed(&mut self, x: Seen)
-        ensures asks { (list : List Token) (fed : List Fed) → resume_command self.old list (Tok x ∷ fed) ≡ resume_command self.new list fed }
-        ensures beneath { (held : Lists) → command_below self.new held ≡ command_below self.old held }
+        ensures asks { (held : Lists) (fed : List Fed) → resume_command self.old held (Tok x ∷ fed) ≡ resume_command self.new held fed }
+        ensures lists { (held : Lists) (fed : List Fed) → command_lists self.old held (Tok x ∷ fed) ≡ command_lists self.new held fed }
+        ensures count { command_count self.new ≡ command_count self.old }
     {
         match self {
-            CommandScan::Reads(row) => match over_behind(row, row_frames::Fed::Token(x)) {
+            CommandScan::Reads(row) => match over_behind(row, row_frames::Fed::Token(x), false) {
                 Some(over) => *self = over,
                 None => {}
             },
@@ -123,11 +155,12 @@ impl CommandScan {
 
     /// Goes on behind its report.
     pub fn told(&mut self)
-        ensures asks { (list : List Token) (fed : List Fed) → resume_command self.old list (Told ∷ fed) ≡ resume_command self.new list fed }
-        ensures beneath { (held : Lists) → command_below self.new held ≡ command_below self.old held }
+        ensures asks { (held : Lists) (fed : List Fed) → resume_command self.old held (Told ∷ fed) ≡ resume_command self.new held fed }
+        ensures lists { (held : Lists) (fed : List Fed) → command_lists self.old held (Told ∷ fed) ≡ command_lists self.new held fed }
+        ensures count { command_count self.new ≡ command_count self.old }
     {
         match self {
-            CommandScan::Reads(row) => match over_behind(row, row_frames::Fed::Told) {
+            CommandScan::Reads(row) => match over_behind(row, row_frames::Fed::Told, false) {
                 Some(over) => *self = over,
                 None => {}
             },
@@ -136,21 +169,22 @@ impl CommandScan {
         }
     }
 
-    /// Takes a value, and says whether it keeps the list that came with it.
-    pub fn feed_value(&mut self, value: Value) -> bool
-        ensures asks { (ts list : List Token) (fed : List Fed) → resume_command self.old list (Val value ts ∷ fed) ≡ resume_command self.new (list_kept result ts list) fed }
-        ensures beneath { (ts : List Token) (held : Lists) → command_below self.new (with_list result ts held) ≡ command_below self.old held }
+    /// Takes a value, and says whether it keeps the list that came with it, which may have no token.
+    pub fn feed_value(&mut self, value: Value, is_empty: bool) -> bool
+        ensures asks { (ts : List Token) → is_empty ≡ has_no_token ts → (held : Lists) (fed : List Fed) → resume_command self.old held (Val value ts ∷ fed) ≡ resume_command self.new (with_list result ts held) fed }
+        ensures lists { (ts : List Token) → is_empty ≡ has_no_token ts → (held : Lists) (fed : List Fed) → command_lists self.old held (Val value ts ∷ fed) ≡ command_lists self.new (with_list result ts held) fed }
+        ensures count { command_count self.new ≡ listed_count result + command_count self.old }
+        ensures kept { result ≡ true → is_empty ≡ false }
+        ensures list { result ≡ true → value ≡ value_of.List }
     {
+        let listed = keeps(value, is_empty);
         let CommandScan::Reads(row) = self else {
             return false;
         };
-        let Some(over) = over_behind(row, row_frames::Fed::Value(value)) else {
+        let Some(over) = over_behind(row, row_frames::Fed::Value(value), listed) else {
             return false;
         };
         *self = over;
-        match over {
-            CommandScan::ActsOn(..) | CommandScan::Defines(..) => true,
-            _ => false,
-        }
+        over.is_listed()
     }
 }

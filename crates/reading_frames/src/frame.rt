@@ -1,35 +1,43 @@
 // An open reading, in a few variables.
-ghost use Rattle.std.specs.Prelude.{◌≡◌, ◌≤◌, ◌<◌, ◌+◌, ◌^◌, List, [], ◌∷◌, length};
+ghost use Rattle.std.specs.Prelude.{◌≡◌, ◌≤◌, ◌<◌, ◌+◌, ◌^◌, List, [], ◌∷◌, length, true, false};
 ghost use Rattle.tex_defs.specs.declared.Token.{Token};
+ghost use Rattle.rows.specs.declared.words.Value.TheVariants as value_of;
 ghost use Rattle.rows.specs.Readings.{Fed, Tok, Told, Val};
-ghost use Rattle.reading_frames.specs.Sees.{ask_of, kind_of, Lists, on_top, top_list};
+ghost use Rattle.reading_frames.specs.Sees.{ask_of, has_no_token, kind_of, Lists, on_top, top_list};
 ghost use Rattle.reading_frames.specs.Stands.{Begins, opened_lists};
-ghost use Rattle.reading_frames.specs.Resumes.{resume, building, below, groups, token_count, with_list};
+ghost use Rattle.reading_frames.specs.Resumes.{resume, building, list_count, below, frame_status, groups, read_at, reads_unguarded, token_count, with_list, Owns};
+ghost use Rattle.reading_frames.specs.Weights.{asks_weight, begun_weight, frame_end, opening_end};
+ghost use Rattle.plain_readings.specs.Weights.{frame_weight, value_weight, IsReport};
 ghost use Rattle.scan_numbers.specs.Sees as numbers;
 
 use crate::ask::{Ask, Grown, Opening};
 use crate::command::CommandScan;
 use crate::spelling::SpellScan;
 use crate::text::BuildScan;
-use rows::{Datum, Kind, Value};
+use row_frames::reads_under_normal;
+use rows::{Call, Datum, Effect, Kind, Value};
 use scan_numbers::NumberScan;
-use tex_defs::Seen;
+use tex_defs::{Name, Seen};
+use tex_syntax::Scanned;
 
 /// An open reading.
 #[derive(Clone, Copy)]
 pub enum Frame {
-    /// A command or an expansion, by its row.
-    Command(CommandScan),
+    /// A command or an expansion, by its row, and the number of the primitive that began.
+    Command(CommandScan, u16),
     Integer(NumberScan),
     /// A balanced text, or the list of a macro.
     Build(BuildScan),
     /// `\csname`.
     Spelling(SpellScan),
+    /// A token that waits behind one that is expanded, and is put back then.
+    Behind(Call, Seen),
 }
 
 // What an integer's scanner asks for.
 fn of_number(asked: scan_numbers::Ask) -> Ask
-    ensures { (held : Lists) → ask_of held result ≡ numbers.ask_of asked }
+    ensures is { (held : Lists) → ask_of held result ≡ numbers.ask_of asked }
+    ensures owns { Owns result 0 }
 {
     match asked {
         scan_numbers::Ask::More(want) => Ask::More(want),
@@ -43,9 +51,13 @@ impl Frame {
     pub fn begin(opening: Opening) -> Frame
         ensures begins { (held : Lists) → Begins (kind_of opening) result held (opened_lists opening held) }
         ensures shallow { groups result ≡ 0 }
+        ensures ends { frame_end result ≡ opening_end opening }
+        ensures weight { asks_weight result ≤ begun_weight opening }
     {
         match opening {
-            Opening::Reads(Kind::Command(call)) => Frame::Command(CommandScan::new(call)),
+            Opening::Reads(Kind::Command(call)) => {
+                Frame::Command(CommandScan::new(call), call.primitive)
+            }
             Opening::Reads(Kind::Integer) => Frame::Integer(NumberScan::new()),
             Opening::Reads(Kind::Text(name, expanded)) => {
                 Frame::Build(BuildScan::text(name, expanded))
@@ -54,32 +66,38 @@ impl Frame {
                 Frame::Build(BuildScan::definition(name, expanded))
             }
             Opening::Spelling(call) => Frame::Spelling(SpellScan::new(call)),
+            Opening::Behind(call, x) => Frame::Behind(call, x),
         }
     }
 
     /// What it asks for where it stands.
     pub fn ask(&self) -> Ask
-        ensures { (held : Lists) → ask_of held result ≡ resume self.now held [] }
+        ensures is { (held : Lists) → ask_of held result ≡ resume self.now held [] }
+        ensures owns { Owns result (list_count self.now) }
     {
         match self {
-            Frame::Command(scan) => scan.ask(),
+            Frame::Command(scan, _) => scan.ask(),
             Frame::Integer(scan) => of_number(scan.ask()),
             Frame::Build(scan) => scan.ask(),
             Frame::Spelling(scan) => scan.ask(),
+            Frame::Behind(call, x) => Ask::Acts(*call, Effect::PutBack(*x)),
         }
     }
 
     /// Takes a token. Fewer than 2^64 - 1 groups are open in the list that it builds.
-    #[tactic(auto, using(crate::proofs::Growing::top_grown, crate::proofs::Growing::beneath_grown))]
+    #[tactic(auto, using(crate::proofs::Growing::top_grown, crate::proofs::Growing::beneath_grown, crate::proofs::Growing::grown_held))]
     pub fn feed(&mut self, x: Seen) -> Grown
         requires { groups self.old + 1 < 2 ^ 64 }
+        ensures ends { frame_end self.new ≡ frame_end self.old }
         ensures asks { (held : Lists) (fed : List Fed) → resume self.old held (Tok x ∷ fed) ≡ resume self.new (on_top result held) fed }
         ensures builds { (held : Lists) (fed : List Fed) → building self.old held (Tok x ∷ fed) ≡ building self.new (on_top result held) fed }
+        ensures holds { (held : Lists) → list_count self.old ≤ length held → list_count self.new ≤ length (on_top result held) }
         ensures beneath { (held : Lists) → below self.new (on_top result held) ≡ below self.old held }
+        ensures checks { frame_status self.new ≡ frame_status self.old }
         ensures shallow { groups self.new ≤ groups self.old + token_count result }
     {
         match self {
-            Frame::Command(scan) => {
+            Frame::Command(scan, _) => {
                 scan.feed(x);
                 Grown::none()
             }
@@ -89,19 +107,23 @@ impl Frame {
             }
             Frame::Build(scan) => scan.feed(x),
             Frame::Spelling(scan) => scan.feed(x),
+            Frame::Behind(..) => Grown::none(),
         }
     }
 
     /// Goes on behind its report.
-    #[tactic(auto, using(crate::proofs::Growing::top_grown, crate::proofs::Growing::beneath_grown))]
+    #[tactic(auto, using(crate::proofs::Growing::top_grown, crate::proofs::Growing::beneath_grown, crate::proofs::Growing::grown_held))]
     pub fn told(&mut self) -> Grown
+        ensures weight { IsReport (resume self.old [] []) → asks_weight self.new < asks_weight self.old }
         ensures asks { (held : Lists) (fed : List Fed) → resume self.old held (Told ∷ fed) ≡ resume self.new (on_top result held) fed }
         ensures builds { (held : Lists) (fed : List Fed) → building self.old held (Told ∷ fed) ≡ building self.new (on_top result held) fed }
+        ensures holds { (held : Lists) → list_count self.old ≤ length held → list_count self.new ≤ length (on_top result held) }
         ensures beneath { (held : Lists) → below self.new (on_top result held) ≡ below self.old held }
+        ensures checks { frame_status self.new ≡ frame_status self.old }
         ensures shallow { groups self.new ≤ groups self.old + token_count result }
     {
         match self {
-            Frame::Command(scan) => {
+            Frame::Command(scan, _) => {
                 scan.told();
                 Grown::none()
             }
@@ -114,28 +136,67 @@ impl Frame {
                 scan.told();
                 Grown::none()
             }
+            Frame::Behind(..) => Grown::none(),
         }
     }
 
-    /// Takes the value of an inner reading, and says whether it keeps the list that came with it: if so, that is on top.
-    #[tactic(auto, using(crate::proofs::Growing::kept_on_top))]
-    pub fn feed_value(&mut self, value: Value) -> bool
-        ensures asks { (ts : List Token) (held : Lists) (fed : List Fed) → resume self.old held (Val value ts ∷ fed) ≡ resume self.new (with_list result ts held) fed }
-        ensures builds { (ts : List Token) (held : Lists) (fed : List Fed) → building self.old held (Val value ts ∷ fed) ≡ building self.new (with_list result ts held) fed }
+    /// Takes the value of an inner reading, and says whether it keeps the list that came with it, which may have no token: if so, that is
+    /// on top.
+    #[tactic(auto, using(crate::proofs::Growing::beneath_kept, crate::proofs::Growing::kept_held))]
+    pub fn feed_value(&mut self, value: Value, is_empty: bool) -> bool
+        ensures asks { (ts : List Token) → is_empty ≡ has_no_token ts → (held : Lists) (fed : List Fed) → resume self.old held (Val value ts ∷ fed) ≡ resume self.new (with_list result ts held) fed }
+        ensures builds { (ts : List Token) → is_empty ≡ has_no_token ts → (held : Lists) (fed : List Fed) → building self.old held (Val value ts ∷ fed) ≡ building self.new (with_list result ts held) fed }
+        ensures holds { (ts : List Token) (held : Lists) → list_count self.old ≤ length held → list_count self.new ≤ length (with_list result ts held) }
         ensures beneath { (ts : List Token) (held : Lists) → below self.new (with_list result ts held) ≡ below self.old held }
+        ensures checks { frame_status self.new ≡ frame_status self.old }
+        ensures weight { asks_weight self.new < frame_weight + value_weight }
+        ensures kept { result ≡ true → is_empty ≡ false }
+        ensures list { result ≡ true → value ≡ value_of.List }
         ensures shallow { (ts : List Token) (held : Lists) → groups self.old ≤ length (top_list held) → groups self.new ≤ length (top_list (with_list result ts held)) }
     {
         match self {
-            Frame::Command(scan) => scan.feed_value(value),
+            Frame::Command(scan, _) => scan.feed_value(value, is_empty),
             Frame::Integer(scan) => {
                 scan.stop();
                 false
             }
-            Frame::Build(_) => false,
             Frame::Spelling(scan) => {
                 scan.stop();
                 false
             }
+            Frame::Build(_) | Frame::Behind(..) => false,
+        }
+    }
+
+    /// How many lists of its own it has.
+    pub fn list_count(&self) -> u32
+        ensures is { result ≡ list_count self.now }
+        ensures few { result ≤ 1 }
+    {
+        match self {
+            Frame::Command(scan, _) => { if scan.is_listed() { 1 } else { 0 } }
+            Frame::Build(_) | Frame::Spelling(_) => 1,
+            Frame::Integer(_) | Frame::Behind(..) => 0,
+        }
+    }
+
+    /// What is read here at a check, and its name.
+    pub fn scanned(&self) -> Option<(Scanned, Name)>
+        ensures { result ≡ read_at (frame_status self.now) }
+    {
+        match self {
+            Frame::Build(scan) => Some((scan.what, scan.manner.name)),
+            _ => None,
+        }
+    }
+
+    /// Whether its token is read under normal status, whatever is read around it.
+    pub fn is_unguarded(&self) -> bool
+        ensures { result ≡ reads_unguarded (frame_status self.now) }
+    {
+        match self {
+            Frame::Command(_, primitive) => reads_under_normal(*primitive),
+            _ => false,
         }
     }
 }

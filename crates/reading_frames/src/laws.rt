@@ -1,6 +1,7 @@
 // How frames stand for readings: the functions have no bodies, their contracts are the laws.
 ghost use Rattle.reading_frames.specs.Stands.{ReadingsBegin, ReadingsAreFed, ReadingsEnd, ListsAreHeld};
 ghost use Rattle.reading_frames.specs.Stack.{GroupsHaveBraces};
+ghost use Rattle.reading_frames.specs.Weights.{RulesAreLight, WeightsAreSmall};
 
 /// A reading that begins stands above those that are open, and these stand as they did.
 pub fn readings_begin()
@@ -17,7 +18,7 @@ pub fn readings_end()
     ensures { ReadingsEnd }
 {}
 
-/// The lists that the machine's reading builds are those that its frame has built, so what ends with a list has the machine's.
+/// The lists of the machine's innermost reading are held first, and behind them those of the frames beneath.
 pub fn lists_are_held()
     ensures { ListsAreHeld }
 {}
@@ -25,4 +26,14 @@ pub fn lists_are_held()
 /// A stack that is fed has few groups open where its lists are short.
 pub fn groups_have_braces()
     ensures { GroupsHaveBraces }
+{}
+
+/// Whatever is open weighs less than a reading that acts or ends.
+pub fn weights_are_small()
+    ensures { WeightsAreSmall }
+{}
+
+/// By what the calls say, each rule without a step makes a stack lighter.
+pub fn rules_are_light()
+    ensures { RulesAreLight }
 {}

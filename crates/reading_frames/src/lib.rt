@@ -17,6 +17,7 @@ pub use command::CommandScan;
 pub use frame::Frame;
 pub use laws::{
     groups_have_braces, lists_are_held, readings_are_fed, readings_begin, readings_end,
+    rules_are_light, weights_are_small,
 };
 pub use readings::Readings;
 pub use spelling::{SpellPlace, SpellScan};

@@ -1,18 +1,24 @@
 // All open readings.
-ghost use Rattle.std.specs.Prelude.{◌≡◌, ◌≤◌, ◌<◌, ◌+◌, ◌-◌, ◌^◌, List, [], ◌∷◌, drop, length, IfOk, IfErr, OnOk};
+ghost use Rattle.std.specs.Prelude.{◌≡◌, ◌≤◌, ◌<◌, ◌+◌, ◌-◌, ◌*◌, ◌^◌, List, [], ◌∷◌, drop, length, reverse, true, false, IfOk, IfErr, IfSome, OnOk};
 ghost use Rattle.tex_defs.specs.declared.Token.{Token};
+ghost use Rattle.rows.specs.declared.words.Value.TheVariants as value_of;
 ghost use Rattle.rows.specs.Readings.{Tok, Told, Val};
-ghost use Rattle.reading_frames.specs.Sees.{kind_of, Lists, on_top};
-ghost use Rattle.reading_frames.specs.Resumes.{with_list};
-ghost use Rattle.reading_frames.specs.Stands.{Reading, FramesStand, AreShallow, opened_lists, opened, fed_with};
-ghost use Rattle.reading_frames.specs.Stack.{Stack, depth_full, asked_in, asked_of, innermost_groups, lists_beneath};
+ghost use Rattle.plain_readings.specs.Readings.{Reading, opened, opened_with, fed_with};
+ghost use Rattle.plain_readings.specs.Scanning.{scanning};
+ghost use Rattle.plain_readings.specs.Weights.{frame_weight, value_weight, act_weight};
+ghost use Rattle.reading_frames.specs.Sees.{has_no_token, kind_of, Lists, on_top};
+ghost use Rattle.reading_frames.specs.Resumes.{with_list, listed_count, Owns};
+ghost use Rattle.reading_frames.specs.Stands.{FramesStand, AreShallow, opened_lists};
+ghost use Rattle.reading_frames.specs.Stack.{Stack, depth_full, asks_in, asked_in, asked_of, innermost_groups, innermost_count, lists_beneath, found_in, innermost_found, scanning_of};
+ghost use Rattle.reading_frames.specs.Weights.{innermost_weight, innermost_end, begun_weight, begun_with_weight, opening_end, IsReported};
 
 use crate::ask::{Ask, Grown, Opening};
 use crate::frame::Frame;
 use rows::Value;
 use std::alloc::{AllocError, Global};
 use std::marker::Model;
-use tex_defs::{Full, Seen, Table};
+use tex_defs::{Full, Name, Seen, Table};
+use tex_syntax::Scanned;
 
 /// All open readings, the innermost apart, and room for as many as the expansion depth.
 ///
@@ -34,6 +40,23 @@ impl Model for Readings {
     ghost view = { λ r. record { frames = frames_of r.innermost (reverse r.beneath.items); size = r.size } };
 
     ghost invariant = { λ r. IsRoomy r.innermost r.beneath.items r.size (vec_capacity r.beneath) };
+}
+
+/// What is being read in the innermost of these, the outermost first, that is read at a check; so many lists are held within.
+#[tactic(auto, using(crate::proofs::Scanning::passes, crate::proofs::Scanning::finds, crate::proofs::Scanning::taken_all))]
+fn scanned_among(frames: &[Frame], within: u32) -> Option<(Scanned, Name, u32)>
+    requires { within + length frames.now < 2 ^ 32 }
+    ensures { result ≡ innermost_found (reverse frames.now) within }
+{
+    let mut number = within;
+    for i in (0..frames.len()).rev() {
+        let frame = &frames[i];
+        if let Some((what, name)) = frame.scanned() {
+            return Some((what, name, number));
+        }
+        number += frame.list_count();
+    }
+    None
 }
 
 impl Readings {
@@ -66,7 +89,10 @@ impl Readings {
 
     /// What the innermost asks for.
     pub fn ask(&self) -> Option<Ask>
-        ensures { (held : Lists) (work : List Reading) → FramesStand self.now.frames held work → asked_of held result ≡ asked_in work }
+        ensures asks { (held : Lists) → asked_of held result ≡ asks_in self.now.frames held }
+        ensures stands { (held : Lists) (work : List Reading) → FramesStand self.now.frames held work → asked_of held result ≡ asked_in work }
+        ensures least { IfSome result (λ a. 1 ≤ length self.now.frames) }
+        ensures owns { IfSome result (λ a. Owns a (innermost_count self.now.frames)) }
     {
         match &self.innermost {
             None => None,
@@ -84,6 +110,9 @@ impl Readings {
         ensures room { OnOk result (length self.old.frames < self.old.size) }
         ensures count { OnOk result (length self.new.frames ≡ length self.old.frames + 1) }
         ensures size { self.new.size ≡ self.old.size }
+        ensures weight { OnOk result (innermost_weight self.new.frames ≤ begun_weight opening) }
+        ensures ends { OnOk result (innermost_end self.new.frames ≡ opening_end opening) }
+        ensures groups { OnOk result (innermost_groups self.new.frames ≡ 0) }
         ensures full { IfErr result (λ full. full ≡ depth_full self.old) }
         ensures refused { IfErr result (λ full. length self.old.frames ≡ self.old.size) }
         ensures unchanged { IfErr result (λ full. self.new ≡ self.old) }
@@ -103,9 +132,32 @@ impl Readings {
         Ok(())
     }
 
+    /// One more begins with this token, as `begin` and `feed` do it.
+    ///
+    /// # Errors
+    /// As many are open as there may be. Nothing has changed then.
+    #[tactic(auto, using(crate::proofs::Weights::begun_with_light))]
+    pub fn begin_with(&mut self, opening: Opening, x: Seen) -> Result<Grown, Full>
+        ensures begins { IfOk result (λ grown. (held : Lists) (work : List Reading) → FramesStand self.old.frames held work → FramesStand self.new.frames (on_top grown (opened_lists opening held)) (opened_with (kind_of opening) (Tok x) work)) }
+        ensures shallow { IfOk result (λ grown. (held : Lists) → AreShallow self.old.frames held → AreShallow self.new.frames (on_top grown (opened_lists opening held))) }
+        ensures room { OnOk result (length self.old.frames < self.old.size) }
+        ensures count { OnOk result (length self.new.frames ≡ length self.old.frames + 1) }
+        ensures size { self.new.size ≡ self.old.size }
+        ensures weight { OnOk result (innermost_weight self.new.frames ≤ begun_with_weight opening) }
+        ensures full { IfErr result (λ full. full ≡ depth_full self.old) }
+        ensures refused { IfErr result (λ full. length self.old.frames ≡ self.old.size) }
+        ensures unchanged { IfErr result (λ full. self.new ≡ self.old) }
+    {
+        match self.begin(opening) {
+            Ok(()) => Ok(self.feed(x)),
+            Err(full) => Err(full),
+        }
+    }
+
     /// The innermost takes a token. Fewer than 2^64 - 1 groups are open in the list that it builds.
     pub fn feed(&mut self, x: Seen) -> Grown
         requires { innermost_groups self.old.frames + 1 < 2 ^ 64 }
+        ensures ends { innermost_end self.new.frames ≡ innermost_end self.old.frames }
         ensures stands { (held : Lists) (work : List Reading) → FramesStand self.old.frames held work → FramesStand self.new.frames (on_top result held) (fed_with (Tok x) work) }
         ensures count { length self.new.frames ≡ length self.old.frames }
         ensures size { self.new.size ≡ self.old.size }
@@ -119,37 +171,76 @@ impl Readings {
 
     /// The innermost goes on behind its report.
     pub fn told(&mut self) -> Grown
+        ensures weight { IsReported (asks_in self.old.frames []) → innermost_weight self.new.frames < innermost_weight self.old.frames }
         ensures stands { (held : Lists) (work : List Reading) → FramesStand self.old.frames held work → FramesStand self.new.frames (on_top result held) (fed_with Told work) }
         ensures count { length self.new.frames ≡ length self.old.frames }
         ensures size { self.new.size ≡ self.old.size }
         ensures shallow { (held : Lists) → AreShallow self.old.frames held → AreShallow self.new.frames (on_top result held) }
     {
-        match self.innermost.as_mut() {
-            None => Grown::none(),
-            Some(frame) => frame.told(),
-        }
+        let Some(frame) = self.innermost.as_mut() else {
+            return Grown::none();
+        };
+        frame.told()
     }
 
-    /// The innermost takes the value of the reading that ended above it, and says whether it keeps the list that came with it: if so,
-    /// that is on top.
-    pub fn feed_value(&mut self, value: Value) -> bool
-        ensures stands { (ts : List Token) (held : Lists) (work : List Reading) → FramesStand self.old.frames held work → FramesStand self.new.frames (with_list result ts held) (fed_with (Val value ts) work) }
+    /// The innermost takes the value of the reading that ended above it, and says whether it keeps the list that came with it, which may
+    /// have no token: if so, that is on top.
+    pub fn feed_value(&mut self, value: Value, is_empty: bool) -> bool
+        ensures stands { (ts : List Token) → is_empty ≡ has_no_token ts → (held : Lists) (work : List Reading) → FramesStand self.old.frames held work → FramesStand self.new.frames (with_list result ts held) (fed_with (Val value ts) work) }
+        ensures kept { result ≡ true → is_empty ≡ false }
+        ensures list { result ≡ true → value ≡ value_of.List }
+        ensures weight { innermost_weight self.new.frames < frame_weight + value_weight }
         ensures count { length self.new.frames ≡ length self.old.frames }
         ensures size { self.new.size ≡ self.old.size }
         ensures shallow { (ts : List Token) (held : Lists) → AreShallow self.old.frames held → AreShallow self.new.frames (with_list result ts held) }
     {
         match self.innermost.as_mut() {
             None => false,
-            Some(frame) => frame.feed_value(value),
+            Some(frame) => frame.feed_value(value, is_empty),
         }
     }
 
-    /// The innermost ends; its lists go.
-    pub fn end(&mut self)
+    /// Whether the list on top is one of the innermost's own.
+    pub fn has_list(&self) -> bool
+        ensures { listed_count result ≡ innermost_count self.now.frames }
+    {
+        match &self.innermost {
+            None => false,
+            Some(frame) => frame.list_count() == 1,
+        }
+    }
+
+    /// The innermost ends, and says whether the list on top was its own; if so, that goes.
+    #[tactic(auto, using(crate::proofs::Weights::small))]
+    pub fn end(&mut self) -> bool
+        ensures list { listed_count result ≡ innermost_count self.old.frames }
         ensures stands { (held : Lists) (work : List Reading) → FramesStand self.old.frames held work → FramesStand self.new.frames (lists_beneath self.old.frames held) (drop 1 work) }
         ensures shallow { (held : Lists) → AreShallow self.old.frames held → AreShallow self.new.frames (lists_beneath self.old.frames held) }
+        ensures count { length self.new.frames ≡ length self.old.frames - 1 }
         ensures rest { self.new ≡ record { frames = drop 1 self.old.frames; size = self.old.size } }
+        ensures weight { innermost_weight self.new.frames < frame_weight + act_weight }
     {
+        let has_list = self.has_list();
         self.innermost = self.beneath.pop();
+        has_list
+    }
+
+    /// What is being read where a file ends or the name of an `\outer` macro comes: what it is, its name, and the number of its list among
+    /// those that are held, the innermost being number 0.
+    #[tactic(auto, using(crate::proofs::Scanning::scans, crate::proofs::Scanning::unguarded_found, crate::proofs::Scanning::first_found, crate::proofs::Scanning::beneath_found))]
+    pub fn scanned(&self) -> Option<(Scanned, Name, u32)>
+        ensures is { result ≡ found_in self.now.frames }
+        ensures scans { (held : Lists) (work : List Reading) → FramesStand self.now.frames held work → scanning work held ≡ scanning_of held result }
+    {
+        let Some(frame) = &self.innermost else {
+            return None;
+        };
+        if frame.is_unguarded() {
+            return None;
+        }
+        match frame.scanned() {
+            Some((what, name)) => Some((what, name, 0)),
+            None => scanned_among(&self.beneath, frame.list_count()),
+        }
     }
 }

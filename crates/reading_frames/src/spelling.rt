@@ -7,7 +7,7 @@ ghost use Rattle.rows.specs.Tokens as tokens;
 ghost use Rattle.plain_readings.specs.Spelling as names;
 ghost use Rattle.plain_readings.specs.Spelling.{spelling, characters};
 ghost use Rattle.reading_frames.specs.Sees.{ask_of, grown, Lists, top_list};
-ghost use Rattle.reading_frames.specs.Resumes.{resume_name, name_list};
+ghost use Rattle.reading_frames.specs.Resumes.{resume_name, name_list, Owns};
 
 use crate::ask::{Ask, Grown};
 use rows::{Call, Effect};
@@ -71,12 +71,13 @@ impl SpellScan {
 
     /// What it asks for where it stands.
     pub fn ask(&self) -> Ask
-        ensures { (held : Lists) → ask_of held result ≡ resume_name self.now (top_list held) [] }
+        ensures is { (held : Lists) → ask_of held result ≡ resume_name self.now (top_list held) [] }
+        ensures owns { Owns result 1 }
     {
         match self.place {
             SpellPlace::Inside => Ask::More(Want::Expanded),
             SpellPlace::NoEnd => Ask::Tells(Report::MissingEndcsname, true),
-            SpellPlace::Whole => Ask::ActsOn(self.call, Effect::MakeName),
+            SpellPlace::Whole => Ask::ActsOn(self.call, Effect::MakeName, true),
             SpellPlace::Stopped => Ask::Ends,
         }
     }

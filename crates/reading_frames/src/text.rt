@@ -1,18 +1,21 @@
 // A balanced text or the list of a macro, token by token.
 ghost use Rattle.std.specs.Prelude.{◌≡◌, ◌≤◌, ◌<◌, ◌+◌, ◌^◌, List, [], ◌∷◌};
+ghost use Rattle.tex_defs.specs.declared.Name.{Name};
 ghost use Rattle.tex_defs.specs.declared.Token.{Token};
+ghost use Rattle.tex_syntax.specs.declared.words.Scanned.{Scanned};
+ghost use Rattle.tex_syntax.specs.declared.words.Scanned.TheVariants as scanned;
 ghost use Rattle.rows.specs.Readings.{Fed, Tok, Told, Val};
 ghost use Rattle.plain_readings.specs.Lists as lists;
 ghost use Rattle.plain_readings.specs.Lists.{build_ask, build_fed};
 ghost use Rattle.list_builder.specs.Stages as stages;
 ghost use Rattle.reading_frames.specs.Sees.{ask_of, grown, Lists, top_list};
-ghost use Rattle.reading_frames.specs.Resumes.{resume_build, groups_in, token_count};
+ghost use Rattle.reading_frames.specs.Resumes.{resume_build, groups_in, token_count, Owns};
 
 use crate::ask::{Ask, Grown};
 use list_builder::{Due, Next, Stage, Step};
 use rows::Value;
 use tex_defs::{Name, Seen};
-use tex_syntax::Manner;
+use tex_syntax::{Manner, Scanned};
 
 /// Where the reading of a list stands.
 #[derive(Clone, Copy)]
@@ -25,6 +28,8 @@ pub enum BuildPlace {
 /// The reading of a list, which is the list on top.
 #[derive(Clone, Copy)]
 pub struct BuildScan {
+    /// A text, or the list of a macro.
+    pub what: Scanned,
     pub manner: Manner,
     pub place: BuildPlace,
 }
@@ -33,9 +38,12 @@ impl BuildScan {
     /// The balanced text of the command of this name begins, with a list of no token.
     pub fn text(name: Name, expanded: bool) -> BuildScan
         ensures shallow { groups_in result ≡ 0 }
+        ensures what { result.what ≡ scanned.Text }
+        ensures name { result.manner.name ≡ name }
         ensures goes_on { (fed : List Fed) → lists.text name expanded fed ≡ resume_build result [] fed }
     {
         BuildScan {
+            what: Scanned::Text,
             manner: Manner { name, expanded },
             place: BuildPlace::At(Stage::First),
         }
@@ -44,9 +52,12 @@ impl BuildScan {
     /// The list of the macro of this name begins, with no token.
     pub fn definition(name: Name, expanded: bool) -> BuildScan
         ensures shallow { groups_in result ≡ 0 }
+        ensures what { result.what ≡ scanned.Definition }
+        ensures name { result.manner.name ≡ name }
         ensures goes_on { (fed : List Fed) → lists.definition name expanded fed ≡ resume_build result [] fed }
     {
         BuildScan {
+            what: Scanned::Definition,
             manner: Manner { name, expanded },
             place: BuildPlace::At(Stage::Parameters(0)),
         }
@@ -54,7 +65,8 @@ impl BuildScan {
 
     /// What it asks for where it stands.
     pub fn ask(&self) -> Ask
-        ensures { (held : Lists) → ask_of held result ≡ build_ask (resume_build self.now (top_list held) []) }
+        ensures is { (held : Lists) → ask_of held result ≡ build_ask (resume_build self.now (top_list held) []) }
+        ensures owns { Owns result 1 }
     {
         match self.place {
             BuildPlace::At(stage) => match stage.due(self.manner) {
@@ -67,6 +79,7 @@ impl BuildScan {
 
     /// Goes where the step leads.
     fn go(&mut self, step: Step) -> Grown
+        ensures what { self.new.what ≡ self.old.what }
         ensures manner { self.new.manner ≡ self.old.manner }
         ensures shallow { groups_in self.new ≡ stages.depth_after step.next }
         ensures count { token_count result ≡ stages.growth step }
@@ -85,6 +98,8 @@ impl BuildScan {
     /// Takes a token. Fewer than 2^64 - 1 groups are open in the list.
     pub fn feed(&mut self, x: Seen) -> Grown
         requires { groups_in self.old + 1 < 2 ^ 64 }
+        ensures what { self.new.what ≡ self.old.what }
+        ensures name { self.new.manner.name ≡ self.old.manner.name }
         ensures goes_on { (list : List Token) (fed : List Fed) → resume_build self.old list (Tok x ∷ fed) ≡ resume_build self.new (grown result list) fed }
         ensures shallow { groups_in self.new ≤ groups_in self.old + token_count result }
     {
@@ -96,6 +111,8 @@ impl BuildScan {
 
     /// Goes on behind its report.
     pub fn told(&mut self) -> Grown
+        ensures what { self.new.what ≡ self.old.what }
+        ensures name { self.new.manner.name ≡ self.old.manner.name }
         ensures goes_on { (list : List Token) (fed : List Fed) → resume_build self.old list (Told ∷ fed) ≡ resume_build self.new (grown result list) fed }
         ensures shallow { groups_in self.new ≤ groups_in self.old + token_count result }
     {

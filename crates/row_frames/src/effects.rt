@@ -54,11 +54,11 @@ pub fn as_definition(call: Call) -> Call
     }
 }
 
-/// Whether a command's token is read under normal status, whatever is read around it.
-pub fn reads_under_normal(call: Call) -> bool
-    ensures { result ≡ table.reads_under_normal call.primitive }
+/// Whether the token of a command of this primitive is read under normal status, whatever is read around it.
+pub fn reads_under_normal(primitive: u16) -> bool
+    ensures { result ≡ table.reads_under_normal primitive }
 {
-    match row_of(call.primitive).1 {
+    match row_of(primitive).1 {
         Action::PutMarked | Action::MakeString | Action::MakeMeaning => true,
         _ => false,
     }

@@ -97,8 +97,10 @@ pub enum Effect {
     FutureLet(Name, Seen, Seen),
     /// The character of this code has this category.
     SetCategory(i32, i32),
-    /// The second token is expanded or put back, and then the first is put back.
+    /// The second token is expanded or put back, while the first waits behind it.
     ExpandBehind(Seen, Seen),
+    /// The token is put back.
+    PutBack(Seen),
     /// The token is put back, a name as a marked one.
     PutMarked(Seen),
     /// The decimal digits of the number are put in front.
