@@ -1,0 +1,191 @@
+-- The lists of the macros that are held take as many words under other numbers.
+use Rattle.std.proofs.Common.{◌≡◌, ℕ, zero, suc, ◌+◌, ◌<◌, ◌≤◌, Bool, true, false, ◌||◌, ◌⊎◌, List, [], ◌∷◌, length, Option, Some, None, refl, ap, ◌∙◌, ⊎_elim, inl, inr, arith}
+use Rattle.std.specs.Prelude.{◌==◌, if◌then◌else◌, slice_index_or}
+use Rattle.std.proofs.lemmas.Bool.{eqb-true, eq-eqb, ne_eqb, or_cases, or_left, or_right, cases_Bool, false_from_ne_true}
+use Rattle.tex_defs.specs.declared.Token.{Token}
+use Rattle.tex_defs.specs.declared.Meaning.{Meaning}
+use Rattle.tex_defs.specs.declared.Meaning.TheVariants as means
+use Rattle.plain_tokens.specs.Puts.{Put, Whole, Own, Macro}
+use Rattle.plain_tokens.specs.Tables.{list_words, means_macro, is_meant, is_whole, is_put, macro_words, held_words}
+use Rattle.tex_machine.specs.Numbers.{meaning_of, meanings_of, whole_of, puts_of, Tied}
+use Rattle.tex_machine.proofs.Renumbering.{held_words_of}
+
+abbrev is_held : List (Meaning (Option ℕ)) → List Put → ℕ → Bool
+is_held meanings puts n = is_meant n meanings || is_put n puts
+
+-- the words of the lists whose numbers pass, the first of which has the number n
+abbrev tally : (ℕ → Bool) → ℕ → List (List Token) → ℕ
+tally p n [] = 0
+tally p n (ts ∷ lists) = (if p n then list_words ts else 0) + tally p (suc n) lists
+
+tally_is : (meanings : List (Meaning (Option ℕ))) (puts : List Put) (n : ℕ) (lists : List (List Token)) → macro_words n meanings puts lists ≡ tally (is_held meanings puts) n lists
+tally_is meanings puts n [] = refl
+tally_is meanings puts n (ts ∷ lists) = ap (λ (k : ℕ). (if is_held meanings puts n then list_words ts else 0) + k) (tally_is meanings puts (suc n) lists)
+
+tally_same : (p q : ℕ → Bool) (n : ℕ) (lists : List (List Token)) → ((k : ℕ) → n ≤ k → p k ≡ q k) → tally p n lists ≡ tally q n lists
+tally_same p q n [] h = refl
+tally_same p q n (ts ∷ lists) h =
+    let here : p n ≡ q n = h n (omega arith) in
+    ap (λ (b : Bool). (if b then list_words ts else 0) + tally p (suc n) lists) here
+    ∙ ap (λ (k : ℕ). (if q n then list_words ts else 0) + k) (tally_same p q (suc n) lists (λ k l. h k (omega arith)))
+
+tally_none : (p : ℕ → Bool) (n : ℕ) (lists : List (List Token)) → ((k : ℕ) → p k ≡ false) → tally p n lists ≡ 0
+tally_none p n [] h = refl
+tally_none p n (ts ∷ lists) h = ap (λ (b : Bool). (if b then list_words ts else 0) + tally p (suc n) lists) (h n) ∙ omega (arith, tally_none p (suc n) lists h)
+
+-- all that pass but one
+abbrev without : ℕ → (ℕ → Bool) → ℕ → Bool
+without m p k = if k == m then false else p k
+
+without_other : (m k : ℕ) (p : ℕ → Bool) → (k ≡ m → ⊥) → without m p k ≡ p k
+without_other m k p h = ap (λ (b : Bool). if b then false else p k) (ne_eqb k m h)
+
+without_itself : (m k : ℕ) (p : ℕ → Bool) → k ≡ m → without m p k ≡ false
+without_itself m k p h = ap (λ (b : Bool). if b then false else p k) (eq-eqb k m h)
+
+apart_from : (m k : ℕ) (p : ℕ → Bool) → without m p k ≡ true → k ≡ m → ⊥
+apart_from m k p h e = let f : without m p k ≡ false = without_itself m k p e in cc
+
+passes : (m k : ℕ) (p : ℕ → Bool) → without m p k ≡ true → p k ≡ true
+passes m k p h = let e : without m p k ≡ p k = without_other m k p (apart_from m k p h) in cc
+
+tally_out : (p : ℕ → Bool) (i j m : ℕ) (lists : List (List Token)) → m ≡ i + j → p m ≡ true → j < length lists → tally p i lists ≡ list_words (slice_index_or lists j []) + tally (without m p) i lists
+tally_out p i j m [] e h l = absurd (omega arith)
+tally_out p i zero m (ts ∷ lists) e h l =
+    let same : i ≡ m = omega arith in
+    let here : p i ≡ true = ap p same ∙ h in
+    let gone : without m p i ≡ false = without_itself m i p same in
+    let rest : tally p (suc i) lists ≡ tally (without m p) (suc i) lists = tally_same p (without m p) (suc i) lists (λ k b. let e : without m p k ≡ p k = without_other m k p (λ a. omega arith) in cc) in
+    let left : tally p i (ts ∷ lists) ≡ list_words ts + tally p (suc i) lists = ap (λ (b : Bool). (if b then list_words ts else 0) + tally p (suc i) lists) here in
+    let right : tally (without m p) i (ts ∷ lists) ≡ 0 + tally (without m p) (suc i) lists = ap (λ (b : Bool). (if b then list_words ts else 0) + tally (without m p) (suc i) lists) gone in
+    omega arith
+tally_out p i (suc j) m (ts ∷ lists) e h l =
+    let other : without m p i ≡ p i = without_other m i p (λ a. omega arith) in
+    let rest : tally p (suc i) lists ≡ list_words (slice_index_or lists j []) + tally (without m p) (suc i) lists = tally_out p (suc i) j m lists (omega arith) h (omega arith) in
+    let right : tally (without m p) i (ts ∷ lists) ≡ (if p i then list_words ts else 0) + tally (without m p) (suc i) lists = ap (λ (b : Bool). (if b then list_words ts else 0) + tally (without m p) (suc i) lists) other in
+    omega arith
+
+-- Those that pass have their lists under their other numbers, where no others pass.
+record Renumbers (number : ℕ → ℕ) (macros lists : List (List Token)) (p q : ℕ → Bool) : Type 0 where
+  inside : (n : ℕ) → p n ≡ true → n < length lists
+  within : (n : ℕ) → p n ≡ true → number n < length macros
+  tokens : (n : ℕ) → p n ≡ true → slice_index_or macros (number n) [] ≡ slice_index_or lists n []
+  apart : (n m : ℕ) → p n ≡ true → p m ≡ true → number n ≡ number m → n ≡ m
+  forth : (n : ℕ) → p n ≡ true → q (number n) ≡ true
+  back : (m : ℕ) → q m ≡ true → (n : ℕ) × (p n ≡ true) × (number n ≡ m)
+
+module _ (number : ℕ → ℕ) (macros lists : List (List Token)) where
+  one_less : (p q : ℕ → Bool) (k : ℕ) → p k ≡ true → Renumbers number macros lists p q → Renumbers number macros lists (without k p) (without (number k) q)
+  one_less p q k h r = record {
+    inside = λ n a. r.inside n (passes k n p a);
+    within = λ n a. r.within n (passes k n p a);
+    tokens = λ n a. r.tokens n (passes k n p a);
+    apart = λ n m a b. r.apart n m (passes k n p a) (passes k m p b);
+    forth = λ n a. without_other (number k) (number n) q (λ e. apart_from k n p a (r.apart n k (passes k n p a) h e)) ∙ r.forth n (passes k n p a);
+    back = λ m a.
+        let b : (n : ℕ) × (p n ≡ true) × (number n ≡ m) = r.back m (passes (number k) m q a) in
+        (b.0, without_other k b.0 p (λ e. apart_from (number k) m q a (let s : number b.0 ≡ number k = ap number e in let t : number b.0 ≡ m = b.2 in cc)) ∙ b.1, b.2);
+  }
+
+  -- by taking out one at a time
+  step : (bound : ℕ) (p q : ℕ → Bool) → Renumbers number macros lists p q → ((n : ℕ) → p n ≡ true → n < suc bound)
+      → ((p' q' : ℕ → Bool) → Renumbers number macros lists p' q' → ((n : ℕ) → p' n ≡ true → n < bound) → tally q' 0 macros ≡ tally p' 0 lists)
+      → (p bound ≡ true) ⊎ (p bound ≡ false) → tally q 0 macros ≡ tally p 0 lists
+  step bound p q r below fewer (inl h) =
+      let k : ℕ = number bound in
+      let out : tally q 0 macros ≡ list_words (slice_index_or macros k []) + tally (without k q) 0 macros = tally_out q 0 k k macros (omega arith) (r.forth bound h) (r.within bound h) in
+      let same : list_words (slice_index_or macros k []) ≡ list_words (slice_index_or lists bound []) = ap list_words (r.tokens bound h) in
+      let gone : tally p 0 lists ≡ list_words (slice_index_or lists bound []) + tally (without bound p) 0 lists = tally_out p 0 bound bound lists (omega arith) h (r.inside bound h) in
+      let rest : tally (without k q) 0 macros ≡ tally (without bound p) 0 lists = fewer (without bound p) (without k q) (one_less p q bound h r) (λ n a. let l : n < suc bound = below n (passes bound n p a) in let d : n ≡ bound → ⊥ = apart_from bound n p a in omega arith) in
+      omega arith
+  step bound p q r below fewer (inr h) = fewer p q r (λ n a. let l : n < suc bound = below n a in let d : n ≡ bound → ⊥ = λ e. (let s : p n ≡ p bound = ap p e in cc) in omega arith)
+
+  tally_renumbered : (bound : ℕ) (p q : ℕ → Bool) → Renumbers number macros lists p q → ((n : ℕ) → p n ≡ true → n < bound) → tally q 0 macros ≡ tally p 0 lists
+  tally_renumbered zero p q r below =
+      let none : (n : ℕ) → p n ≡ false = λ n. false_from_ne_true (p n) (λ h. let l : n < 0 = below n h in omega arith) in
+      let nor : (m : ℕ) → q m ≡ false = λ m. false_from_ne_true (q m) (λ h. let b : (n : ℕ) × (p n ≡ true) × (number n ≡ m) = r.back m h in let l : b.0 < 0 = below b.0 b.1 in omega arith) in
+      tally_none q 0 macros nor ∙ (let e : tally p 0 lists ≡ 0 = tally_none p 0 lists none in cc)
+  tally_renumbered (suc bound) p q r below = step bound p q r below (tally_renumbered bound) (cases_Bool (p bound))
+
+-- WHAT IS HELD UNDER THE OTHER NUMBERS
+
+pub either : (a b c d : Bool) → (a ≡ true → c ≡ true) → (b ≡ true → d ≡ true) → (a || b) ≡ true → (c || d) ≡ true
+either a b c d f g h = ⊎_elim (λ e. or_left c d (f e)) (λ e. or_right c d (g e)) (or_cases a b h)
+
+module _ (number : ℕ → ℕ) where
+  means_forth : (n : ℕ) (m : Meaning (Option ℕ)) → means_macro n m ≡ true → means_macro (number n) (meaning_of number m) ≡ true
+  means_forth n (means.Macro long outer (Some k)) h = eq-eqb (number k) (number n) (ap number (eqb-true k n h))
+  means_forth n (means.Macro long outer None) h = cc
+  means_forth n m h = cc
+
+  meant_forth : (n : ℕ) (cells : List (Meaning (Option ℕ))) → is_meant n cells ≡ true → is_meant (number n) (meanings_of number cells) ≡ true
+  meant_forth n [] h = cc
+  meant_forth n (m ∷ cells) h = either (means_macro n m) (is_meant n cells) (means_macro (number n) (meaning_of number m)) (is_meant (number n) (meanings_of number cells)) (means_forth n m) (meant_forth n cells) h
+
+  whole_forth : (n : ℕ) (w : Whole) → is_whole n w ≡ true → is_whole (number n) (whole_of number w) ≡ true
+  whole_forth n (Own ts) h = cc
+  whole_forth n (Macro k) h = eq-eqb (number k) (number n) (ap number (eqb-true k n h))
+
+  put_forth : (n : ℕ) (puts : List Put) → is_put n puts ≡ true → is_put (number n) (puts_of number puts) ≡ true
+  put_forth n [] h = cc
+  put_forth n (p ∷ ps) h = either (is_whole n p.list) (is_put n ps) (is_whole (number n) (whole_of number p.list)) (is_put (number n) (puts_of number ps)) (whole_forth n p.list) (put_forth n ps) h
+
+  -- one that passes has this other number
+  abbrev Renumbered : (ℕ → Bool) → ℕ → Type 0
+  Renumbered p k = (n : ℕ) × (p n ≡ true) × (number n ≡ k)
+
+  one_of : (p q : ℕ → Bool) (a b : Bool) (k : ℕ) → (a ≡ true → Renumbered p k) → (b ≡ true → Renumbered q k) → (a || b) ≡ true → Renumbered (λ n. p n || q n) k
+  one_of p q a b k f g h =
+      ⊎_elim (λ e. (let x : Renumbered p k = f e in (x.0, or_left (p x.0) (q x.0) x.1, x.2)))
+      (λ e. (let x : Renumbered q k = g e in (x.0, or_right (p x.0) (q x.0) x.1, x.2))) (or_cases a b h)
+
+  means_back : (k : ℕ) (m : Meaning (Option ℕ)) → means_macro k (meaning_of number m) ≡ true → Renumbered (λ n. means_macro n m) k
+  means_back k (means.Macro long outer (Some n)) h = (n, eq-eqb n n refl, eqb-true (number n) k h)
+  means_back k (means.Macro long outer None) h = cc
+  means_back k means.Undefined h = cc
+  means_back k means.RelaxMarked h = cc
+  means_back k (means.Char category code) h = cc
+  means_back k (means.CharGiven code) h = cc
+  means_back k (means.MathGiven code) h = cc
+  means_back k (means.Register kind n) h = cc
+  means_back k (means.Prim n) h = cc
+
+  meant_back : (k : ℕ) (cells : List (Meaning (Option ℕ))) → is_meant k (meanings_of number cells) ≡ true → Renumbered (λ n. is_meant n cells) k
+  meant_back k [] h = cc
+  meant_back k (m ∷ cells) h = one_of (λ n. means_macro n m) (λ n. is_meant n cells) (means_macro k (meaning_of number m)) (is_meant k (meanings_of number cells)) k (means_back k m) (meant_back k cells) h
+
+  whole_back : (k : ℕ) (w : Whole) → is_whole k (whole_of number w) ≡ true → Renumbered (λ n. is_whole n w) k
+  whole_back k (Own ts) h = cc
+  whole_back k (Macro n) h = (n, eq-eqb n n refl, eqb-true (number n) k h)
+
+  put_back : (k : ℕ) (puts : List Put) → is_put k (puts_of number puts) ≡ true → Renumbered (λ n. is_put n puts) k
+  put_back k [] h = cc
+  put_back k (p ∷ ps) h = one_of (λ n. is_whole n p.list) (λ n. is_put n ps) (is_whole k (whole_of number p.list)) (is_put k (puts_of number ps)) k (whole_back k p.list) (put_back k ps) h
+
+  module _ (meanings : List (Meaning (Option ℕ))) (puts : List Put) where
+    held_forth : (n : ℕ) → is_held meanings puts n ≡ true → is_held (meanings_of number meanings) (puts_of number puts) (number n) ≡ true
+    held_forth n h = either (is_meant n meanings) (is_put n puts) (is_meant (number n) (meanings_of number meanings)) (is_put (number n) (puts_of number puts)) (meant_forth n meanings) (put_forth n puts) h
+
+    held_back : (k : ℕ) → is_held (meanings_of number meanings) (puts_of number puts) k ≡ true → Renumbered (is_held meanings puts) k
+    held_back k h = one_of (λ n. is_meant n meanings) (λ n. is_put n puts) (is_meant k (meanings_of number meanings)) (is_put k (puts_of number puts)) k (meant_back k meanings) (put_back k puts) h
+
+-- THE WORDS ARE THE SAME
+
+pub words_tied : (number : ℕ → ℕ) (macros : List (List Token)) (meanings : List (Meaning (Option ℕ))) (puts : List Put) (lists : List (List Token)) → Tied number macros meanings puts lists → macro_words 0 (meanings_of number meanings) (puts_of number puts) macros ≡ macro_words 0 meanings puts lists
+words_tied number macros meanings puts lists t =
+    let r : Renumbers number macros lists (is_held meanings puts) (is_held (meanings_of number meanings) (puts_of number puts)) = record {
+      inside = t.inside;
+      within = t.within;
+      tokens = t.tokens;
+      apart = t.apart;
+      forth = held_forth number meanings puts;
+      back = held_back number meanings puts;
+    } in
+    let left : macro_words 0 (meanings_of number meanings) (puts_of number puts) macros ≡ tally (is_held (meanings_of number meanings) (puts_of number puts)) 0 macros = tally_is (meanings_of number meanings) (puts_of number puts) 0 macros in
+    let right : macro_words 0 meanings puts lists ≡ tally (is_held meanings puts) 0 lists = tally_is meanings puts 0 lists in
+    let between : tally (is_held (meanings_of number meanings) (puts_of number puts)) 0 macros ≡ tally (is_held meanings puts) 0 lists = tally_renumbered number macros lists (length lists) (is_held meanings puts) (is_held (meanings_of number meanings) (puts_of number puts)) r t.inside in
+    cc
+
+-- all words of main memory
+pub all_words_tied : (number : ℕ → ℕ) (macros : List (List Token)) (meanings : List (Meaning (Option ℕ))) (puts : List Put) (lists : List (List Token)) (making : Option (List Token)) (gathered : List (List Token)) → Tied number macros meanings puts lists → macro_words 0 (meanings_of number meanings) (puts_of number puts) macros + held_words (puts_of number puts) making gathered ≡ macro_words 0 meanings puts lists + held_words puts making gathered
+all_words_tied number macros meanings puts lists making gathered t = rw (words_tied number macros meanings puts lists t, held_words_of number puts making gathered)

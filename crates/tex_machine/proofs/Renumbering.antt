@@ -1,0 +1,218 @@
+-- Each rule does the same under other numbers of the macros.
+use Rattle.std.proofs.Common.{◌≡◌, ℕ, ◌+◌, List, [], ◌∷◌, ◌++◌, length, Option, Some, None, refl, ap, ◌∙◌}
+use Rattle.std.specs.Prelude.{fold}
+use Rattle.std.proofs.Math.ListN.{get_or-map}
+use Rattle.std.proofs.lemmas.List.{map-set, length-map}
+use Rattle.tex_defs.specs.declared.Token.{Token}
+use Rattle.tex_defs.specs.declared.Token.TheVariants as token
+use Rattle.tex_defs.specs.declared.Frozen.{Frozen}
+use Rattle.tex_defs.specs.declared.Frozen.TheVariants as frozen
+use Rattle.tex_defs.specs.declared.Name.{Name}
+use Rattle.tex_defs.specs.declared.Name.TheVariants as name
+use Rattle.tex_defs.specs.declared.Meaning.{Meaning}
+use Rattle.tex_defs.specs.declared.Meaning.TheVariants as means
+use Rattle.tex_defs.specs.declared.Seen.{Seen}
+use Rattle.plain_tokens.specs.Lex.{Lexed, Gives, Invalid, UsedUp, lexed}
+use Rattle.plain_tokens.specs.Puts.{Item, First, Whole, Own, Macro, Put, put_top, with_put, settled_top, settled, without_gaps, passed_top, passed, top_item, next_item, put_levels, put_parameters, levels_of, when_some, token_put, call_put}
+use Rattle.plain_tokens.specs.Pending.{Pending, Progress, NotBegun, Begun, Closed, Pulled, TokenFrom, LexemeFrom, LineTaken, InvalidMet, FileOver, NothingLeft, with_puts, settle, put_front, from_file, from_line, from_list, from_front, pulled, after_pull}
+use Rattle.plain_tokens.specs.Meanings.{location, fixed_meaning, frozen_meaning, looked_up, name_meaning, set_at, assigned, seen_as, token_meaning, seen, met, whole_meaning, let_meaning, meaning_to_let}
+use Rattle.plain_tokens.specs.Tables.{whole_words, lists_words, argument_words, put_words, made_words, held_words, levels, file_levels, level, opened_level, parameters, file_level, next_line}
+use Rattle.tex_machine.specs.Numbers.{meaning_of, meanings_of, whole_of, put_of, puts_of, pending_of, pulled_of}
+
+module _ (number : ℕ → ℕ) where
+  -- THE LISTS IN FRONT
+
+  settled_top_of : (p : Put) (xs : List Item) (below rest : List Put) → settled_top (put_of number p) xs (puts_of number below) (puts_of number rest) ≡ puts_of number (settled_top p xs below rest)
+  settled_top_of p [] below rest = refl
+  settled_top_of p (x ∷ xs) below rest = refl
+
+  pub settled_of : (ps : List Put) → settled (puts_of number ps) ≡ puts_of number (settled ps)
+  settled_of [] = refl
+  settled_of (p ∷ ps) = rw (settled_of ps) (settled_top_of p p.items (settled ps) ps)
+
+  passed_top_of : (p : Put) (xs : List Item) (below rest : List Put) → passed_top (put_of number p) xs (puts_of number below) (puts_of number rest) ≡ puts_of number (passed_top p xs below rest)
+  passed_top_of p [] below rest = refl
+  passed_top_of p (x ∷ xs) below rest = refl
+
+  pub passed_of : (ps : List Put) → passed (puts_of number ps) ≡ puts_of number (passed ps)
+  passed_of [] = refl
+  passed_of (p ∷ ps) = rw (passed_of ps) (passed_top_of p (without_gaps p.items) (passed ps) ps)
+
+  put_top_of : (p : Put) (xs : List Item) (ps : List Put) → put_top (put_of number p) xs (puts_of number ps) ≡ puts_of number (put_top p xs ps)
+  put_top_of p [] ps = refl
+  put_top_of p (x ∷ xs) ps = refl
+
+  pub with_put_of : (p : Put) (ps : List Put) → with_put (put_of number p) (puts_of number ps) ≡ puts_of number (with_put p ps)
+  with_put_of p ps = put_top_of p p.items ps
+
+  pub call_put_of : (n : ℕ) (ts : List Token) (arguments : List (List Token)) → call_put (number n) ts arguments ≡ put_of number (call_put n ts arguments)
+  call_put_of n ts arguments = refl
+
+  pub token_put_of : (ts : List Token) → token_put ts ≡ put_of number (token_put ts)
+  token_put_of ts = refl
+
+  top_item_of : (ps : List Put) → top_item (puts_of number ps) ≡ top_item ps
+  top_item_of [] = refl
+  top_item_of (p ∷ ps) = refl
+
+  pub next_item_of : (ps : List Put) → next_item (puts_of number ps) ≡ next_item ps
+  next_item_of ps = ap top_item (passed_of ps) ∙ top_item_of (passed ps)
+
+  -- a sum over the lists that sees no number
+  sums_of : (f : Put → ℕ) → ((p : Put) → f (put_of number p) ≡ f p) → (n : ℕ) (ps : List Put) → fold (λ a p. a + f p) n (puts_of number ps) ≡ fold (λ a p. a + f p) n ps
+  sums_of f same n [] = refl
+  sums_of f same n (p ∷ ps) = ap (λ (k : ℕ). fold (λ (a : ℕ) (x : Put). a + f x) (n + k) (puts_of number ps)) (same p) ∙ sums_of f same (n + f p) ps
+
+  pub put_levels_of : (ps : List Put) → put_levels (puts_of number ps) ≡ put_levels ps
+  put_levels_of ps = sums_of (λ p. levels_of p.items) (λ p. refl) 0 ps
+
+  pub put_parameters_of : (ps : List Put) → put_parameters (puts_of number ps) ≡ put_parameters ps
+  put_parameters_of ps = sums_of (λ p. when_some p.items (length p.arguments)) (λ p. refl) 0 ps
+
+  whole_words_of : (w : Whole) → whole_words (whole_of number w) ≡ whole_words w
+  whole_words_of (Own ts) = refl
+  whole_words_of (Macro n) = refl
+
+  pub put_words_of : (ps : List Put) → put_words (puts_of number ps) ≡ put_words ps
+  put_words_of ps = sums_of (λ p. whole_words p.list + argument_words p.arguments) (λ p. ap (λ (n : ℕ). n + argument_words p.arguments) (whole_words_of p.list)) 0 ps
+
+  pub held_words_of : (ps : List Put) (making : Option (List Token)) (lists : List (List Token)) → held_words (puts_of number ps) making lists ≡ held_words ps making lists
+  held_words_of ps making lists = ap (λ (n : ℕ). n + (made_words making + lists_words lists)) (put_words_of ps)
+
+  -- WHAT IS PENDING
+
+  pub settle_of : (p : Pending) → settle (pending_of number p) ≡ pending_of number (settle p)
+  settle_of p = ap (λ (ps : List Put). with_puts ps p) (settled_of p.puts)
+
+  pub put_front_of : (x : Put) (p : Pending) → put_front (put_of number x) (pending_of number p) ≡ pending_of number (put_front x p)
+  put_front_of x p = ap (λ (ps : List Put). with_puts ps p) (with_put_of x p.puts)
+
+  file_of : (file : Progress) (n : ℕ) (bytes : List ℕ) → from_file file n bytes ≡ pulled_of number (from_file file n bytes)
+  file_of NotBegun n bytes = refl
+  file_of Begun n [] = refl
+  file_of Begun n (c ∷ cs) = refl
+  file_of Closed n bytes = refl
+
+  line_of : (p : Pending) (l : Lexed) → from_line (pending_of number p) l ≡ pulled_of number (from_line p l)
+  line_of p (Gives x state line) = refl
+  line_of p (Invalid state line) = refl
+  line_of p UsedUp = file_of p.file p.number p.rest
+
+  list_of : (categories : List ℕ) (p : Pending) (x : Put) (ps : List Put) (is : List Item) → from_list categories (pending_of number p) (put_of number x) (puts_of number ps) is ≡ pulled_of number (from_list categories p x ps is)
+  list_of categories p x ps [] = line_of p (lexed categories p.lex p.line)
+  list_of categories p x ps (i ∷ is) = refl
+
+  front_of : (categories : List ℕ) (p : Pending) (ps : List Put) → from_front categories (pending_of number p) (puts_of number ps) ≡ pulled_of number (from_front categories p ps)
+  front_of categories p [] = line_of p (lexed categories p.lex p.line)
+  front_of categories p (x ∷ ps) = list_of categories p x ps x.items
+
+  pub pulled_same : (categories : List ℕ) (p : Pending) → pulled categories (pending_of number p) ≡ pulled_of number (pulled categories p)
+  pulled_same categories p = ap (from_front categories (pending_of number p)) (passed_of p.puts) ∙ front_of categories p (passed p.puts)
+
+  pub after_pull_of : (p : Pending) (r : Pulled) → after_pull (pending_of number p) (pulled_of number r) ≡ pending_of number (after_pull p r)
+  after_pull_of p (TokenFrom t next) = refl
+  after_pull_of p (LexemeFrom x next) = refl
+  after_pull_of p (LineTaken line next) = refl
+  after_pull_of p (InvalidMet next) = refl
+  after_pull_of p (FileOver next) = refl
+  after_pull_of p NothingLeft = refl
+
+  pub after_pulled_of : (categories : List ℕ) (p : Pending) → after_pull (pending_of number p) (pulled categories (pending_of number p)) ≡ pending_of number (after_pull p (pulled categories p))
+  after_pulled_of categories p = ap (after_pull (pending_of number p)) (pulled_same categories p) ∙ after_pull_of p (pulled categories p)
+
+  -- WHAT COUNTS
+
+  pub levels_same : (p : Pending) → levels (pending_of number p) ≡ levels p
+  levels_same p = ap (λ (n : ℕ). n + file_levels p.file) (put_levels_of p.puts)
+
+  pub level_of : (p : Pending) → level (pending_of number p) ≡ level p
+  level_of p = rw (put_levels_of p.puts)
+
+  pub opened_level_of : (x : Option Item) (p : Pending) → opened_level x (pending_of number p) ≡ opened_level x p
+  opened_level_of None p = refl
+  opened_level_of (Some (First t)) p = rw (put_levels_of p.puts)
+  opened_level_of (Some x) p = refl
+
+  pub parameters_of : (x : Put) (p : Pending) → parameters (put_of number x) (pending_of number p) ≡ parameters x p
+  parameters_of x p = rw (put_parameters_of p.puts)
+
+  pub file_level_of : (file : Progress) (p : Pending) → file_level file (pending_of number p) ≡ file_level file p
+  file_level_of NotBegun p = rw (put_levels_of p.puts)
+  file_level_of file p = refl
+
+  pub next_line_of : (p : Pending) → next_line (pending_of number p) ≡ next_line p
+  next_line_of p = rw (file_level_of p.file p)
+
+  -- WHAT NAMES MEAN
+
+  frozen_of : (f : Frozen) → frozen_meaning f ≡ meaning_of number (frozen_meaning f)
+  frozen_of frozen.Relax = refl
+  frozen_of frozen.Fi = refl
+  frozen_of frozen.EndGroup = refl
+  frozen_of frozen.EndWrite = refl
+  frozen_of f = refl
+
+  fixed_of : (n : Name) → fixed_meaning n ≡ meaning_of number (fixed_meaning n)
+  fixed_of (name.Frozen f) = frozen_of f
+  fixed_of n = refl
+
+  looked_up_of : (cells : List (Meaning (Option ℕ))) (k : Option ℕ) (fixed : Meaning (Option ℕ)) → looked_up (meanings_of number cells) k (meaning_of number fixed) ≡ meaning_of number (looked_up cells k fixed)
+  looked_up_of cells None fixed = refl
+  looked_up_of cells (Some k) fixed = get_or-map (meaning_of number) cells k means.Undefined
+
+  pub name_meaning_of : (cells : List (Meaning (Option ℕ))) (n : Name) → name_meaning (meanings_of number cells) n ≡ meaning_of number (name_meaning cells n)
+  name_meaning_of cells n = ap (looked_up (meanings_of number cells) (location n)) (fixed_of n) ∙ looked_up_of cells (location n) (fixed_meaning n)
+
+  pub seen_as_of : (m : Meaning (Option ℕ)) → seen_as (meaning_of number m) ≡ seen_as m
+  seen_as_of means.Undefined = refl
+  seen_as_of means.RelaxMarked = refl
+  seen_as_of (means.Char category code) = refl
+  seen_as_of (means.CharGiven code) = refl
+  seen_as_of (means.MathGiven code) = refl
+  seen_as_of (means.Register kind n) = refl
+  seen_as_of (means.Prim n) = refl
+  seen_as_of (means.Macro long outer list) = refl
+
+  pub name_seen_of : (cells : List (Meaning (Option ℕ))) (n : Name) → seen_as (name_meaning (meanings_of number cells) n) ≡ seen_as (name_meaning cells n)
+  name_seen_of cells n = rw (name_meaning_of cells n) (seen_as_of (name_meaning cells n))
+
+  pub token_meaning_of : (cells : List (Meaning (Option ℕ))) (t : Token) → token_meaning (meanings_of number cells) t ≡ token_meaning cells t
+  token_meaning_of cells (token.Char category c) = refl
+  token_meaning_of cells (token.Named n) = name_seen_of cells n
+  token_meaning_of cells (token.Marked n) = name_seen_of cells n
+  token_meaning_of cells t = refl
+
+  pub seen_of : (cells : List (Meaning (Option ℕ))) (t : Token) → seen (meanings_of number cells) t ≡ seen cells t
+  seen_of cells t = rw (token_meaning_of cells t)
+
+  -- as it is handed on
+  pub met_of : (cells : List (Meaning (Option ℕ))) (t : Token) → met (meanings_of number cells) t ≡ met cells t
+  met_of cells (token.Marked n) = rw (name_seen_of cells n) refl
+  met_of cells t = seen_of cells t
+
+  -- what `\let` gives
+  whole_meaning_of : (cells : List (Meaning (Option ℕ))) (t : Token) → whole_meaning (meanings_of number cells) t ≡ meaning_of number (whole_meaning cells t)
+  whole_meaning_of cells (token.Named n) = name_meaning_of cells n
+  whole_meaning_of cells (token.Marked n) = name_meaning_of cells n
+  whole_meaning_of cells t = refl
+
+  let_meaning_of : (cells : List (Meaning (Option ℕ))) (t : Token) (m : Meaning Unit) → let_meaning (meanings_of number cells) t m ≡ meaning_of number (let_meaning cells t m)
+  let_meaning_of cells t means.RelaxMarked = refl
+  let_meaning_of cells t m = whole_meaning_of cells t
+
+  pub meaning_to_let_of : (cells : List (Meaning (Option ℕ))) (x : Seen) → meaning_to_let (meanings_of number cells) x ≡ meaning_of number (meaning_to_let cells x)
+  meaning_to_let_of cells x = let_meaning_of cells x.token x.meaning
+
+  set_at_of : (cells : List (Meaning (Option ℕ))) (k : Option ℕ) (m : Meaning (Option ℕ)) → set_at (meanings_of number cells) k (meaning_of number m) ≡ meanings_of number (set_at cells k m)
+  set_at_of cells None m = refl
+  set_at_of cells (Some k) m = rw (map-set (meaning_of number) cells k m)
+
+  pub assigned_of : (cells : List (Meaning (Option ℕ))) (n : Name) (m : Meaning (Option ℕ)) → assigned (meanings_of number cells) n (meaning_of number m) ≡ meanings_of number (assigned cells n m)
+  assigned_of cells n m = set_at_of cells (location n) m
+
+  pub entered_of : (cells : List (Meaning (Option ℕ))) → meanings_of number cells ++ means.Undefined ∷ [] ≡ meanings_of number (cells ++ means.Undefined ∷ [])
+  entered_of [] = refl
+  entered_of (m ∷ cells) = ap (λ (ms : List (Meaning (Option ℕ))). meaning_of number m ∷ ms) (entered_of cells)
+
+  pub length_of : (cells : List (Meaning (Option ℕ))) → length (meanings_of number cells) ≡ length cells
+  length_of cells = length-map cells (meaning_of number)

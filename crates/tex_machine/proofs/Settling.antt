@@ -1,0 +1,37 @@
+-- The finished lists in front go at once: what comes next doesn't hang on whether they have gone.
+use Rattle.std.proofs.Common.{◌≡◌, ℕ, List, [], ◌∷◌, refl, ap, ◌∙◌}
+use Rattle.plain_tokens.specs.Lex.{Lexed, Gives, Invalid, UsedUp, lexed}
+use Rattle.plain_tokens.specs.Puts.{Item, Put, settled, settled_top, passed}
+use Rattle.plain_tokens.specs.Pending.{Pending, settle, with_puts, pulled, from_front, from_list, from_line}
+
+passed_top_settled : (p : Put) (xs : List Item) (ps : List Put) → p.items ≡ xs → passed (settled ps) ≡ passed ps → passed (settled_top p xs (settled ps) ps) ≡ passed (p ∷ ps)
+passed_top_settled p [] ps e h = rw e h
+passed_top_settled p (x ∷ xs) ps e h = refl
+
+pub passed_settled : (ps : List Put) → passed (settled ps) ≡ passed ps
+passed_settled [] = refl
+passed_settled (p ∷ ps) = passed_top_settled p p.items ps refl (passed_settled ps)
+
+settled_top_twice : (p : Put) (xs : List Item) (ps : List Put) → p.items ≡ xs → settled (settled ps) ≡ settled ps → settled (settled_top p xs (settled ps) ps) ≡ settled_top p xs (settled ps) ps
+settled_top_twice p [] ps e h = h
+settled_top_twice p (x ∷ xs) ps e h = rw e refl
+
+pub settled_twice : (ps : List Put) → settled (settled ps) ≡ settled ps
+settled_twice [] = refl
+settled_twice (p ∷ ps) = settled_top_twice p p.items ps refl (settled_twice ps)
+
+line_with : (ps : List Put) (p : Pending) (l : Lexed) → from_line (with_puts ps p) l ≡ from_line p l
+line_with ps p (Gives x state line) = refl
+line_with ps p (Invalid state line) = refl
+line_with ps p UsedUp = refl
+
+list_with : (categories : List ℕ) (ps : List Put) (p : Pending) (x : Put) (qs : List Put) (is : List Item) → from_list categories (with_puts ps p) x qs is ≡ from_list categories p x qs is
+list_with categories ps p x qs [] = line_with ps p (lexed categories p.lex p.line)
+list_with categories ps p x qs (i ∷ is) = refl
+
+front_with : (categories : List ℕ) (ps : List Put) (p : Pending) (qs : List Put) → from_front categories (with_puts ps p) qs ≡ from_front categories p qs
+front_with categories ps p [] = line_with ps p (lexed categories p.lex p.line)
+front_with categories ps p (x ∷ qs) = list_with categories ps p x qs x.items
+
+pub pulled_settled : (categories : List ℕ) (p : Pending) → pulled categories (settle p) ≡ pulled categories p
+pulled_settled categories p = ap (from_front categories (settle p)) (passed_settled p.puts) ∙ front_with categories (settled p.puts) p (passed p.puts)

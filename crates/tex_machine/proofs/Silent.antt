@@ -1,0 +1,547 @@
+-- Each rule ends the run, begins with a step once the finished lists in front have gone, or makes the weight of the state smaller.
+use Rattle.std.proofs.Common.{◌≡◌, ℕ, ◌+◌, ◌*◌, ◌≤◌, ◌<◌, Bool, true, false, List, [], ◌∷◌, ◌++◌, length, refl, sym, ap, ◌∙◌, subst, arith}
+use Rattle.std.specs.Prelude.{Option, Some, None, if◌then◌else◌, nat_lt, ◌==◌, map, drop, slice_index_or}
+use Rattle.tex_syntax.specs.declared.words.Report.{Report}
+use Rattle.tex_syntax.specs.declared.words.Scanned.{Scanned}
+use Rattle.tex_syntax.specs.declared.words.Report.TheVariants.{InvalidCharacter, FileEnded, UndefinedName, ExtraEndcsname}
+use Rattle.tex_syntax.specs.declared.words.Outcome.{Outcome}
+use Rattle.tex_syntax.specs.declared.words.Outcome.TheVariants.{Finished, AtFatal}
+use Rattle.tex_syntax.specs.declared.words.Scanned.TheVariants as scanned
+use Rattle.tex_defs.specs.declared.Token.{Token}
+use Rattle.tex_defs.specs.declared.Token.TheVariants as token
+use Rattle.tex_defs.specs.declared.Seen.{Seen}
+use Rattle.tex_defs.specs.declared.Name.{Name}
+use Rattle.tex_defs.specs.declared.Meaning.{Meaning}
+use Rattle.tex_defs.specs.declared.Meaning.TheVariants as means
+use Rattle.tex_defs.specs.Places.{Transcript}
+use Rattle.tex_defs.specs.declared.Fatal.TheVariants.{HundredErrors}
+use Rattle.plain_tokens.specs.Names.{name_of, relax_primitive, end_primitive}
+use Rattle.plain_tokens.specs.Tokens.{is_undefined, made_text}
+use Rattle.plain_tokens.specs.Meanings.{name_meaning, meaning_to_let, seen_as}
+use Rattle.plain_tokens.specs.Numerals.{whole_number, roman}
+use Rattle.plain_tokens.specs.Lex.{Lexed, Gives, Invalid, UsedUp, lexed}
+use Rattle.plain_tokens.specs.LexLaws.{LeavesLess}
+use Rattle.plain_tokens.proofs.LexRests.{less}
+use Rattle.plain_tokens.specs.Puts.{Item, Put as PutList, passed, call_put}
+use Rattle.plain_tokens.specs.Pending.{Pending, Progress, NotBegun, Begun as BegunFile, Closed as ClosedFile, Pulled, TokenFrom, LexemeFrom, LineTaken, InvalidMet, FileOver, NothingLeft, settle, pulled, from_front, from_list, from_line, from_file}
+use Rattle.plain_tokens.specs.Arguments.{has_parameters}
+use Rattle.plain_state.specs.Reports.{report_bytes, error_message_bytes, fresh_line, string_text, message_bytes, hundred_line, token_line_bytes}
+use Rattle.rows.specs.declared.words.Value.{Value}
+use Rattle.rows.specs.declared.words.Kind.{Kind as Begins}
+use Rattle.rows.specs.declared.words.Kind.TheVariants.{Command as Row}
+use Rattle.rows.specs.declared.command.Call.{Call}
+use Rattle.rows.specs.declared.command.Effect.{Effect}
+use Rattle.rows.specs.declared.command.Effect.TheVariants as effect
+use Rattle.rows.specs.Table.{has_row}
+use Rattle.rows.specs.Readings.{Fed, Val, Told, Cut, Ask, More, Inner, Done, Acts, ActsOn, Defines, Ends as Closes, Calls, Fails, RunsAway, Tells, Inserts}
+use Rattle.plain_readings.specs.Readings.{Kind, Reads, Spelling, Arguments, Behind, Reading, ask, lists, fed_with}
+use Rattle.plain_readings.specs.Spelling.{endcsname_primitive}
+use Rattle.plain_readings.specs.Scanning.{Scanning, scanning}
+use Rattle.plain_readings.specs.Laws.{IsRead}
+use Rattle.plain_readings.specs.Weights.{frame_weight, value_weight, act_weight, end_weight, ask_weight, weight, IsReport, WeightsFall}
+use Rattle.tex_machine.specs.States.{State, Move, Settled, Skipped, FileClosed, Entered, Kept as KeptBytes, Grows, Feeds, Completed, Opened, ListBegun, ListGrown, Put, ListDropped, Called, SetCategoryOf, Assigned, Written, Begun, Ended, Closed, Reported, Flawed, Stopped, Handed, made}
+use Rattle.tex_machine.specs.Plan.{Page, page_of, style_of, plain_style_of, plan, planned, answered, handed, checked, check_noted, inserted_at, away_text, without_file, ran_away, page_behind, reported, behind_report, reports_room, finish, stomach, command, primitive, expansion, expanded, expanded_as, csname_primitive, jobname_primitive, is_expandable_primitive, job_in, begun, call_of, called_meaning, put_body, body_put, token_line, wanted, enters_names, feeding, given_back, grown_to, first_list, noting, noting_kind, put_one, put_text, put_made, put_characters, put_inserted, arguments_put, called_with, failed, failed_away, inner_begun, done, value_tokens, told, and_closed, expanded_behind, marked, meaning_characters, shown, natural, acts, macro_defined, character_code, newly_spelt, spelt, relax_if_undefined, name_made, entered, acts_on}
+use Rattle.tex_machine.specs.Runs.{step_of, all_made}
+use Rattle.tex_machine.proofs.Settling.{pulled_settled}
+
+-- an open reading
+abbrev pub frames : List Reading → ℕ
+frames [] = 0
+frames (r ∷ rs) = frame_weight + frames rs
+
+-- what the innermost asks for
+abbrev pub asked : List Reading → ℕ
+asked [] = 0
+asked (r ∷ rs) = weight r.kind r.fed
+
+abbrev pub work_weight : List Reading → ℕ
+work_weight work = asked work + frames work
+
+-- an invalid character may still be skipped, and the file may still end
+abbrev pub file_weight : Progress → ℕ
+file_weight ClosedFile = 0
+file_weight p = 1
+
+abbrev pub pending_weight : Pending → ℕ
+pending_weight p = length p.line + file_weight p.file
+
+-- where the file ends a call may be fed with the note of a check
+abbrev pub check_weight : ℕ
+check_weight = 19
+
+abbrev pub weight_of : Option Outcome → List Reading → Pending → ℕ
+weight_of (Some o) work p = 0
+weight_of None work p = 1 + work_weight work + check_weight * pending_weight p
+
+abbrev pub state_weight : State → ℕ
+state_weight s = weight_of s.stopped s.work s.pending
+
+pub data Rule (s : State) (ms : List Move) : Type 0 where
+  Over : ms ≡ [] → Rule s ms
+  Step : (m : Move) → (rest : List Move) → ms ≡ Settled ∷ m ∷ rest → step_of m ≡ 1 → Rule s ms
+  Falls : state_weight (all_made ms s) < state_weight s → Rule s ms
+
+-- after these moves the weight is below n
+abbrev Drops : ℕ → List Move → State → Type 0
+Drops n ms s = state_weight (all_made ms s) < n
+
+-- what a pull that gives nothing leaves weighs less
+abbrev pub Lighter : Pending → Pulled → Type 0
+Lighter p (InvalidMet q) = pending_weight q < pending_weight p
+Lighter p (FileOver q) = pending_weight q < pending_weight p
+Lighter p r = Unit {0}
+
+lighter_file : (p : Pending) (f : Progress) → p.file ≡ f → Lighter p (from_file f p.number p.rest)
+lighter_file p NotBegun e = tt
+lighter_file p BegunFile e = by_rest p.rest where
+  by_rest : (bytes : List ℕ) → Lighter p (from_file BegunFile p.number bytes)
+  by_rest [] = rw e (omega arith)
+  by_rest (c ∷ cs) = tt
+lighter_file p ClosedFile e = tt
+
+lighter_line : (categories : List ℕ) (p : Pending) (l : Lexed) → LeavesLess categories l p.line → Lighter p (from_line p l)
+lighter_line categories p (Gives x state line) h = tt
+lighter_line categories p (Invalid state line) h = omega (arith, h.shorter)
+lighter_line categories p UsedUp h = lighter_file p p.file refl
+
+lighter_list : (categories : List ℕ) (p : Pending) (x : PutList) (ps : List PutList) (is : List Item) → Lighter p (from_list categories p x ps is)
+lighter_list categories p x ps (i ∷ is) = tt
+lighter_list categories p x ps [] = lighter_line categories p (lexed categories p.lex p.line) (less categories p.lex p.line)
+
+lighter_front : (categories : List ℕ) (p : Pending) (ps : List PutList) → Lighter p (from_front categories p ps)
+lighter_front categories p (x ∷ ps) = lighter_list categories p x ps x.items
+lighter_front categories p [] = lighter_line categories p (lexed categories p.lex p.line) (less categories p.lex p.line)
+
+pub lighter : (categories : List ℕ) (p : Pending) → Lighter p (pulled categories p)
+lighter categories p = lighter_front categories p (passed p.puts)
+
+-- moves that leave the readings and the file, and go on
+abbrev is_plain : Move → Bool
+is_plain Settled = true
+is_plain (Entered name) = true
+is_plain (KeptBytes bytes) = true
+is_plain (Grows t) = true
+is_plain (Completed a) = true
+is_plain Opened = true
+is_plain ListBegun = true
+is_plain (ListGrown t) = true
+is_plain (Put ts) = true
+is_plain ListDropped = true
+is_plain (Called p) = true
+is_plain (SetCategoryOf code category) = true
+is_plain (Assigned name m) = true
+is_plain (Written p bs) = true
+is_plain Reported = true
+is_plain Flawed = true
+is_plain m = false
+
+abbrev AllPlain : List Move → Type 0
+AllPlain [] = Unit {0}
+AllPlain (m ∷ ms) = (is_plain m ≡ true) × AllPlain ms
+
+all_plain : (ms ns : List Move) → AllPlain ms → AllPlain ns → AllPlain (ms ++ ns)
+all_plain [] ns h i = i
+all_plain (m ∷ ms) ns h i = (h.0, all_plain ms ns h.1 i)
+
+record Kept (s u : State) : Type 0 where
+  work : u.work ≡ s.work
+  stopped : u.stopped ≡ s.stopped
+  pending : pending_weight u.pending ≡ pending_weight s.pending
+
+kept_none : (s : State) → Kept s s
+kept_none s = record { work = refl; stopped = refl; pending = refl }
+
+kept_same : (s : State) (ms : List Move) → Kept s (record s { due = ms })
+kept_same s ms = record { work = refl; stopped = refl; pending = refl }
+
+kept_on : (s u v : State) → Kept s u → Kept u v → Kept s v
+kept_on s u v a b = record { work = b.work ∙ a.work; stopped = b.stopped ∙ a.stopped; pending = b.pending ∙ a.pending }
+
+kept : (m : Move) (s : State) → is_plain m ≡ true → Kept s (made m s)
+kept Settled s h = record { work = refl; stopped = refl; pending = refl }
+kept (Entered name) s h = record { work = refl; stopped = refl; pending = refl }
+kept (KeptBytes bytes) s h = record { work = refl; stopped = refl; pending = refl }
+kept (Grows t) s h = record { work = refl; stopped = refl; pending = refl }
+kept (Completed a) s h = record { work = refl; stopped = refl; pending = refl }
+kept Opened s h = record { work = refl; stopped = refl; pending = refl }
+kept ListBegun s h = record { work = refl; stopped = refl; pending = refl }
+kept (ListGrown t) s h = record { work = refl; stopped = refl; pending = refl }
+kept (Put ts) s h = record { work = refl; stopped = refl; pending = refl }
+kept ListDropped s h = record { work = refl; stopped = refl; pending = refl }
+kept (Called p) s h = record { work = refl; stopped = refl; pending = refl }
+kept (SetCategoryOf code category) s h = record { work = refl; stopped = refl; pending = refl }
+kept (Assigned name m) s h = record { work = refl; stopped = refl; pending = refl }
+kept (Written p bs) s h = record { work = refl; stopped = refl; pending = refl }
+kept Reported s h = record { work = refl; stopped = refl; pending = refl }
+kept Flawed s h = record { work = refl; stopped = refl; pending = refl }
+kept (Handed t) s h = cc
+kept m s h = cc
+
+drops_plain : (n : ℕ) (s : State) (ms ns : List Move) → AllPlain ms → ((u : State) → Kept s u → Drops n ns u) → Drops n (ms ++ ns) s
+drops_plain n s [] ns h f = f s (kept_none s)
+drops_plain n s (m ∷ ms) ns h f =
+    let u : State = made m (record s { due = ms ++ ns }) in
+    let k : Kept s u = kept_on s (record s { due = ms ++ ns }) u (kept_same s (ms ++ ns)) (kept m (record s { due = ms ++ ns }) h.0) in
+    drops_plain n u ms ns h.1 (λ v l. f v (kept_on s u v k l))
+
+halted_none : (n : ℕ) (s : State) (text : List ℕ) (o : Outcome) → 0 < n → Drops n (Written Transcript text ∷ Stopped o ∷ []) s
+halted_none n s text o h = omega (arith, h)
+
+drops_behind : (n : ℕ) (s : State) (text : List ℕ) (b : Bool) (rest : List Move) → 0 < n → ((u : State) → Kept s u → Drops n rest u) →
+    Drops n (if b then rest else Written Transcript text ∷ Stopped (AtFatal HundredErrors) ∷ []) s
+drops_behind n s text true rest h f = f s (kept_none s)
+drops_behind n s text false rest h f = halted_none n s text (AtFatal HundredErrors) h
+
+-- a report's moves, and those behind it
+drops_told : (n : ℕ) (s : State) (page : Page) (text : List ℕ) (rest : List Move) → 0 < n → ((u : State) → Kept s u → Drops n rest u) →
+    Drops n (Written Transcript text ∷ Reported ∷ behind_report (plain_style_of page) page.reports rest) s
+drops_told n s page text rest h f =
+    drops_plain n s (Written Transcript text ∷ Reported ∷ []) (behind_report (plain_style_of page) page.reports rest) (refl, (refl, tt))
+    (λ u k. drops_behind n u (hundred_line (plain_style_of page)) (nat_lt page.reports reports_room) rest h (λ v l. f v (kept_on s u v k l)))
+
+drops_report : (n : ℕ) (s : State) (page : Page) (report : Report) (rest : List Move) → 0 < n → ((u : State) → Kept s u → Drops n rest u) → Drops n (reported page report rest) s
+drops_report n s page report rest h f = drops_told n s page (report_bytes (plain_style_of page) page.in_line page.line report) rest h f
+
+some_weight : (s : State) → s.stopped ≡ None → 0 < state_weight s
+some_weight s e = rw e (omega arith)
+
+-- MOVES THAT ARE PLAIN
+
+plain_one : (t : Token) → AllPlain (put_one t)
+plain_one t = (refl, (refl, (refl, (refl, tt))))
+
+plain_back : (back : Bool) (x : Seen) → AllPlain (given_back back x)
+plain_back true x = plain_one x.token
+plain_back false x = tt
+
+plain_inserted : (inserted : Option Token) → AllPlain (put_inserted inserted)
+plain_inserted None = tt
+plain_inserted (Some t) = plain_one t
+
+plain_grown : (ts : List Token) → AllPlain (map Grows ts)
+plain_grown [] = tt
+plain_grown (t ∷ ts) = (refl, plain_grown ts)
+
+plain_grown_to : (before after : List Token) → AllPlain (grown_to before after)
+plain_grown_to before after = plain_grown (drop (length before) after)
+
+plain_listed : (ts : List Token) → AllPlain (map ListGrown ts)
+plain_listed [] = tt
+plain_listed (t ∷ ts) = (refl, plain_listed ts)
+
+plain_made : (ts : List Token) → AllPlain (put_made ts)
+plain_made [] = (refl, tt)
+plain_made (t ∷ ts) = (refl, tt)
+
+plain_text : (ts : List Token) → AllPlain (put_text ts)
+plain_text ts = (refl, (refl, all_plain (map ListGrown ts) (put_made ts) (plain_listed ts) (plain_made ts)))
+
+plain_body : (p : PutList) (is : List Item) → AllPlain (body_put p is)
+plain_body p [] = tt
+plain_body p (i ∷ is) = (refl, (refl, tt))
+
+plain_line : (page : Page) (m : Meaning Unit) → AllPlain (token_line page m)
+plain_line page m = by page.quiet where
+  by : (quiet : Bool) → AllPlain (if quiet then [] else Written Transcript (token_line_bytes (plain_style_of page) page.in_line m) ∷ [])
+  by true = tt
+  by false = (refl, tt)
+
+plain_entered : (names : List (List ℕ)) → AllPlain (entered names)
+plain_entered [] = tt
+plain_entered (name ∷ names) = (refl, tt)
+
+plain_relax : (meanings : List (Meaning (Option ℕ))) (n : Name) → AllPlain (relax_if_undefined meanings n)
+plain_relax meanings n = by (is_undefined (seen_as (name_meaning meanings n))) where
+  by : (b : Bool) → AllPlain (if b then Assigned n (means.Prim relax_primitive) ∷ [] else [])
+  by true = (refl, tt)
+  by false = tt
+
+plain_name : (page : Page) (characters : List ℕ) → AllPlain (name_made page characters)
+plain_name page characters =
+    all_plain (entered (newly_spelt page.names characters)) (relax_if_undefined page.meanings (spelt page.names characters) ++ put_one (token.Named (spelt page.names characters)))
+    (plain_entered (newly_spelt page.names characters))
+    (all_plain (relax_if_undefined page.meanings (spelt page.names characters)) (put_one (token.Named (spelt page.names characters)))
+    (plain_relax page.meanings (spelt page.names characters)) (plain_one (token.Named (spelt page.names characters))))
+
+-- a rule whose moves are plain, and lighter by one more at their end
+drops_all : (n : ℕ) (s : State) (ms : List Move) → AllPlain ms → ((u : State) → Kept s u → state_weight u < n) → Drops n ms s
+drops_all n s [] h f = f s (kept_none s)
+drops_all n s (m ∷ ms) h f =
+    let u : State = made m (record s { due = ms }) in
+    let k : Kept s u = kept_on s (record s { due = ms }) u (kept_same s ms) (kept m (record s { due = ms }) h.0) in
+    drops_all n u ms h.1 (λ v l. f v (kept_on s u v k l))
+
+-- WHAT READINGS WEIGH, by the laws of the readings
+
+-- the innermost weighs less than a frame and an act
+module _ (falls : WeightsFall) where
+  asked_least : (rs : List Reading) → asked rs < frame_weight + act_weight
+  asked_least [] = omega arith
+  asked_least (r ∷ rs) = falls.acted r.kind r.fed
+
+  -- the note of a check
+  weight_checked : (rs : List Reading) → work_weight (fed_with Cut rs) < check_weight + work_weight rs
+  weight_checked [] = omega arith
+  weight_checked (r ∷ rs) = omega (arith, falls.acted r.kind (r.fed ++ Cut ∷ []))
+
+  -- the value of the reading above
+  weight_ended : (v : Value) (ts : List Token) (rs : List Reading) → work_weight (fed_with (Val v ts) rs) < frame_weight + value_weight + frames rs
+  weight_ended v ts [] = omega arith
+  weight_ended v ts (r ∷ rs) = omega (arith, falls.valued r.kind r.fed v ts)
+
+-- A move that makes what is pending lighter, and then moves that keep it, or end the run.
+module _ (falls : WeightsFall) (s : State) (q : Pending) (e : s.stopped ≡ None) (less : pending_weight q < pending_weight s.pending) (u : State) (a : u.stopped ≡ None) (b : u.work ≡ s.work) (c : u.pending ≡ q) where
+  below : (v : State) → Kept u v → state_weight v < state_weight s
+  below v k = rw (k.stopped, k.work, a, b, e) (omega (arith, k.pending, ap pending_weight c, less))
+
+  report_below : (page : Page) (report : Report) → Drops (state_weight s) (reported page report []) u
+  report_below page report = drops_report (state_weight s) u page report [] (some_weight s e) (λ v k. below v k)
+
+  checked_below : (v : State) → Kept u v → Drops (state_weight s) (Feeds Cut ∷ []) v
+  checked_below v k = rw (k.stopped, k.work, a, b, e) (omega (arith, k.pending, ap pending_weight c, less, weight_checked falls s.work))
+
+  noted_below : (what : Scanned) (v : State) → Kept u v → Drops (state_weight s) (check_noted what []) v
+  noted_below scanned.Use v k = checked_below v k
+  noted_below scanned.Definition v k = below v k
+  noted_below scanned.Text v k = below v k
+
+  away_below : (page : Page) (report : Report) (what : Scanning) → Drops (state_weight s) (ran_away page report what []) u
+  away_below page report what =
+      drops_plain (state_weight s) u (Written Transcript (away_text page what) ∷ put_one (inserted_at what.what)) (reported (page_behind page (away_text page what)) report (check_noted what.what []))
+      (refl, plain_one (inserted_at what.what))
+      (λ v k. drops_report (state_weight s) v (page_behind page (away_text page what)) report (check_noted what.what []) (some_weight s e) (λ x l. noted_below what.what x (kept_on u v x k l)))
+
+  check_below : (page : Page) (o : Option Scanning) → Drops (state_weight s) (checked page o) u
+  check_below page None = below u (kept_none u)
+  check_below page (Some what) = away_below page (FileEnded what.what what.name) what
+
+module _ (falls : WeightsFall) (s : State) (enters : Bool) (o : Option Scanning) (onward : Seen → List Move) (e : s.stopped ≡ None) where
+  -- the pull comes once the finished lists in front have gone
+  pulled_then : (p : Pulled) → pulled s.categories s.pending ≡ p → pulled s.categories (settle s.pending) ≡ p
+  pulled_then p is = pulled_settled s.categories s.pending ∙ is
+
+  abbrev settled_first : List Move → State
+  settled_first rest = made Settled (record s { due = rest })
+
+  rule_pulled : (p : Pulled) → pulled s.categories s.pending ≡ p → Lighter s.pending p → Rule s (handed (page_of s) enters o onward p)
+  rule_pulled (TokenFrom t q) is l = Step _ _ refl refl
+  rule_pulled (LexemeFrom x q) is l = Step _ _ refl refl
+  rule_pulled (LineTaken line q) is l = Step _ _ refl refl
+  rule_pulled (InvalidMet q) is l =
+      let rest : List Move = reported (page_of s) InvalidCharacter [] in
+      Falls (report_below falls s q e l (made Skipped (record (settled_first (Skipped ∷ rest)) { due = rest })) e refl (rw (pulled_then (InvalidMet q) is) refl) (page_of s) InvalidCharacter)
+  rule_pulled (FileOver q) is l =
+      let rest : List Move = checked (without_file (page_of s)) o in
+      Falls (check_below falls s q e l (made FileClosed (record (settled_first (FileClosed ∷ rest)) { due = rest })) e refl (rw (pulled_then (FileOver q) is) refl) (without_file (page_of s)) o)
+  rule_pulled NothingLeft is l = Falls (rw e (omega arith))
+
+rule_handed : WeightsFall → (s : State) (enters : Bool) (o : Option Scanning) (onward : Seen → List Move) → s.stopped ≡ None → Rule s (handed (page_of s) enters o onward (pulled s.categories s.pending))
+rule_handed falls s enters o onward e = rule_pulled falls s enters o onward e (pulled s.categories s.pending) refl (lighter s.categories s.pending)
+
+-- MOVES BEHIND WHICH A READING MAY BEGIN
+-- from a state v that weighs less than n, also with one reading more
+module _ (n : ℕ) (v : State) (e : v.stopped ≡ None) (less : state_weight v < n)
+    (more : (j : Kind) → IsRead j → 1 + (weight j [] + (frame_weight + frames v.work)) + check_weight * pending_weight v.pending < n) where
+  stays : (u : State) → Kept v u → state_weight u < n
+  stays u k = subst (λ (m : ℕ). m < n) (rw (k.stopped, k.work, e) (omega (arith, k.pending))) less
+
+  drops_stays : (u : State) (ms : List Move) → Kept v u → AllPlain ms → Drops n ms u
+  drops_stays u ms k h = drops_all n u ms h (λ x l. stays x (kept_on v u x k l))
+
+  drops_begun : (u : State) (j : Kind) → Kept v u → IsRead j → Drops n (Begun j ∷ []) u
+  drops_begun u j k h = rw (k.stopped, k.work, e) (omega (arith, k.pending, more j h))
+
+  -- a reading that begins, and ends behind moves that are plain
+  drops_ended : (u : State) (j : Kind) (ms : List Move) → Kept v u → AllPlain ms → Drops n (Begun j ∷ (ms ++ Closed ∷ [])) u
+  drops_ended u j ms k h =
+      let t : State = made (Begun j) (record u { due = ms ++ Closed ∷ [] }) in
+      drops_plain n t ms (Closed ∷ []) h (λ x l. subst (λ (m : ℕ). m < n) (rw (l.stopped, l.work, k.stopped, k.work, e) (omega (arith, l.pending, k.pending))) less)
+
+  some : 0 < n
+  some = omega (arith, less)
+
+  drops_called_by : (u : State) (b : Bool) (name : Name) (long : Bool) (number : ℕ) (ts : List Token) → Kept v u →
+      Drops n (if b then Begun (Arguments name long number ts) ∷ [] else put_body (call_put number ts [])) u
+  drops_called_by u true name long number ts k = drops_begun u (Arguments name long number ts) k tt
+  drops_called_by u false name long number ts k = drops_stays u (put_body (call_put number ts [])) k (plain_body (call_put number ts []) (call_put number ts []).items)
+
+  drops_called_meaning : (u : State) (page : Page) (name : Name) (m : Meaning (Option ℕ)) → Kept v u → Drops n (called_meaning page name m) u
+  drops_called_meaning u page name (means.Macro long outer None) k = stays u k
+  drops_called_meaning u page name (means.Macro long outer (Some number)) k =
+      drops_called_by u (has_parameters (slice_index_or page.macros number [])) name long number (slice_index_or page.macros number []) k
+  drops_called_meaning u page name m k = stays u k
+
+  drops_expansion : (u : State) (page : Page) (t : Token) (number : ℕ) → Kept v u → Drops n (expansion page t number) u
+  drops_expansion u page t number k = by (number == csname_primitive) (number == jobname_primitive) where
+    by : (b c : Bool) → Drops n (if b then Begun (Spelling (call_of t number)) ∷ [] else if c then begun t number ++ (put_characters (job_in page.strings) ++ Closed ∷ []) else begun t number) u
+    by true c = drops_begun u (Spelling (call_of t number)) k tt
+    by false true = drops_ended u (Reads (Row (call_of t number))) (put_characters (job_in page.strings)) k (plain_text (made_text (job_in page.strings)))
+    by false false = drops_begun u (Reads (Row (call_of t number))) k tt
+
+  drops_unless : (u : State) (b : Bool) (page : Page) (t : Token) (number : ℕ) (ms : List Move) → Kept v u → Drops n ms u → Drops n (if b then expansion page t number else ms) u
+  drops_unless u true page t number ms k d = drops_expansion u page t number k
+  drops_unless u false page t number ms k d = d
+
+  drops_undefined : (u : State) (page : Page) (report : Report) → Kept v u → Drops n (reported page report []) u
+  drops_undefined u page report k = drops_report n u page report [] some (λ x l. stays x (kept_on v u x k l))
+
+  -- a token is expanded, or comes to moves that stay below
+  drops_expanded : (u : State) (page : Page) (t : Token) (m : Meaning Unit) (ms : List Move) → Kept v u → Drops n ms u → Drops n (expanded_as page t m ms) u
+  drops_expanded u page t means.Undefined ms k d = drops_undefined u page UndefinedName k
+  drops_expanded u page t (means.Macro long outer list) ms k d = drops_called_meaning u page (name_of t) (name_meaning page.meanings (name_of t)) k
+  drops_expanded u page t (means.Prim number) ms k d = drops_unless u (is_expandable_primitive number) page t number ms k d
+  drops_expanded u page t m ms k d = d
+
+  drops_primitive : (u : State) (page : Page) (t : Token) (number : ℕ) → Kept v u → Drops n (primitive page t number) u
+  drops_primitive u page t number k = by (has_row number) (number == end_primitive) (number == relax_primitive) (number == endcsname_primitive) where
+    by : (b c d f : Bool) →
+        Drops n (if b then begun t number else if c then finish page.in_line else if d then [] else if f then reported page ExtraEndcsname [] else token_line page (means.Prim number)) u
+    by true c d f = drops_begun u (Reads (Row (call_of t number))) k tt
+    by false true d f = halted_none n u (fresh_line page.in_line) Finished some
+    by false false true f = stays u k
+    by false false false true = drops_undefined u page ExtraEndcsname k
+    by false false false false = drops_stays u (token_line page (means.Prim number)) k (plain_line page (means.Prim number))
+
+  drops_command : (u : State) (page : Page) (t : Token) (m : Meaning Unit) → Kept v u → Drops n (command page t m) u
+  drops_command u page t (means.Prim number) k = drops_primitive u page t number k
+  drops_command u page t means.RelaxMarked k = stays u k
+  drops_command u page t m k = drops_stays u (token_line page m) k (plain_line page m)
+
+-- THE RULES OF THE INNERMOST READING
+module _ (falls : WeightsFall) (s : State) (k : Kind) (fed : List Fed) (rs : List Reading) (e : s.stopped ≡ None) (w : s.work ≡ record { kind = k; fed = fed } ∷ rs) where
+  abbrev reading : Reading
+  reading = record { kind = k; fed = fed }
+
+  -- WHERE IT ACTS OR ENDS
+  module _ (heavy : act_weight ≤ weight k fed) where
+    falls_closed : (u : State) → Kept s u → Drops (state_weight s) (Closed ∷ []) u
+    falls_closed u h = rw (h.stopped, h.work, e, w) (omega (arith, h.pending, asked_least falls rs, heavy))
+
+    rule_closed : (ms : List Move) → AllPlain ms → Rule s (and_closed ms)
+    rule_closed ms h = Falls (drops_plain (state_weight s) s ms (Closed ∷ []) h (λ u kept. falls_closed u kept))
+
+    -- a name becomes a macro
+    rule_defined : (c : Call) (name : Name) (ts : List Token) → Rule s (macro_defined c name ts)
+    rule_defined c name [] = rule_closed [] tt
+    rule_defined c name (t ∷ ts) = Falls (rw (e, w) (omega (arith, asked_least falls rs, heavy)))
+
+    -- the body of a call is put
+    rule_put : (p : PutList) (is : List Item) → Rule s (arguments_put p is)
+    rule_put p [] = rule_closed [] tt
+    rule_put p (i ∷ is) = Falls (rw (e, w) (omega (arith, asked_least falls rs, heavy)))
+
+    rule_called : (j : Kind) (args : List (List Token)) → Rule s (called_with j args)
+    rule_called (Arguments name long number ts) args = rule_put (call_put number ts args) (call_put number ts args).items
+    rule_called j args = rule_closed [] tt
+
+    falls_failed : (page : Page) (report : Report) (u : State) → Kept s u → Drops (state_weight s) (failed page report) u
+    falls_failed page report u h = drops_report (state_weight s) u page report (Closed ∷ []) (some_weight s e) (λ v l. falls_closed v (kept_on s u v h l))
+
+    rule_away : (page : Page) (report : Report) (o : Option Scanning) → Rule s (failed_away page report o)
+    rule_away page report None = Falls (drops_plain (state_weight s) s (put_one page.last.token) (failed page report) (plain_one page.last.token) (λ u h. falls_failed page report u h))
+    rule_away page report (Some what) =
+        Falls (drops_plain (state_weight s) s (Written Transcript (away_text page what) ∷ put_one page.last.token) (failed (page_behind page (away_text page what)) report)
+        (refl, plain_one page.last.token) (λ u h. falls_failed (page_behind page (away_text page what)) report u h))
+
+    -- the command behind it is obeyed in its place
+    rule_obeyed : (page : Page) (t : Token) (m : Meaning Unit) → Rule s (Closed ∷ command page t m)
+    rule_obeyed page t m =
+        let v : State = made Closed (record s { due = command page t m }) in
+        Falls (drops_command (state_weight s) v e (rw (e, w) (omega (arith, asked_least falls rs, heavy)))
+        (λ j h. rw (e, w) (omega (arith, heavy, falls.begun_by_act j h))) v page t m (kept_none v))
+
+    rule_acts_on : (page : Page) (c : Call) (f : Effect) (ts : List Token) → Rule s (acts_on page c f ts)
+    rule_acts_on page c effect.Message ts = rule_closed (Written Transcript (message_bytes (style_of page) page.in_line ts) ∷ []) (refl, tt)
+    rule_acts_on page c effect.ErrorMessage ts =
+        Falls (drops_told (state_weight s) s page (error_message_bytes (style_of page) page.in_line page.line ts) (Closed ∷ []) (some_weight s e) (λ u h. falls_closed u h))
+    rule_acts_on page c effect.MakeName ts = rule_closed (name_made page (map character_code ts)) (plain_name page (map character_code ts))
+    rule_acts_on page c f ts = rule_closed [] tt
+
+  -- `\expandafter`: its token waits, and what stands behind it is expanded above that
+  rule_behind : (page : Page) (c : Call) (x y : Seen) → ask k fed ≡ Acts c (effect.ExpandBehind x y) → Rule s (expanded_behind page c x y)
+  rule_behind page c x y is =
+      let ms : List Move = expanded page y (put_one y.token) in
+      let t : State = made Closed (record s { due = Begun (Behind c x) ∷ ms }) in
+      let v : State = made (Begun (Behind c x)) (record t { due = ms }) in
+      let less : state_weight v < state_weight s = rw (e, w) (omega (arith, falls.waits k fed c c x y x is)) in
+      let more : (j : Kind) → IsRead j → 1 + (weight j [] + (frame_weight + frames v.work)) + check_weight * pending_weight v.pending < state_weight s =
+      λ j h. rw (e, w) (omega (arith, falls.expanded_behind k fed c x y j is h)) in
+      Falls (drops_expanded (state_weight s) v e less more v page y.token y.meaning (put_one y.token) (kept_none v)
+      (drops_stays (state_weight s) v e less more v (put_one y.token) (kept_none v) (plain_one y.token)))
+
+  module _ (c : Call) (page : Page) where
+    rule_acts : (f : Effect) → ask k fed ≡ Acts c f → Rule s (acts page c f)
+    rule_acts f is = by f is (subst (λ (n : ℕ). act_weight ≤ n) (sym (ap (ask_weight (end_weight k)) is)) (falls.heavy f)) where
+      by : (f : Effect) → ask k fed ≡ Acts c f → act_weight ≤ weight k fed → Rule s (acts page c f)
+      by (effect.Obey x) is h = rule_obeyed h page x.token x.meaning
+      by (effect.Show x) is h = rule_closed h (shown page x) (refl, (refl, tt))
+      by (effect.Let n x) is h = rule_closed h (Assigned n (meaning_to_let page.meanings x) ∷ []) (refl, tt)
+      by (effect.FutureLet n x y) is h = rule_closed h (put_one y.token ++ (put_one x.token ++ Assigned n (meaning_to_let page.meanings y) ∷ []))
+          (all_plain (put_one y.token) (put_one x.token ++ Assigned n (meaning_to_let page.meanings y) ∷ []) (plain_one y.token) (all_plain (put_one x.token) (Assigned n (meaning_to_let page.meanings y) ∷ []) (plain_one x.token) (refl, tt)))
+      by (effect.SetCategory code category) is h = rule_closed h (SetCategoryOf (natural code) (natural category) ∷ []) (refl, tt)
+      by (effect.ExpandBehind x y) is h = rule_behind page c x y is
+      by (effect.PutBack x) is h = rule_closed h (put_one x.token) (plain_one x.token)
+      by (effect.PutMarked x) is h = rule_closed h (put_one (marked x.token)) (plain_one (marked x.token))
+      by (effect.MakeNumber n) is h = rule_closed h (put_characters (whole_number n)) (plain_text (made_text (whole_number n)))
+      by (effect.MakeRoman n) is h = rule_closed h (put_characters (roman n)) (plain_text (made_text (roman n)))
+      by (effect.MakeString x) is h = rule_closed h (put_characters (string_text (style_of page) x.token)) (plain_text (made_text (string_text (style_of page) x.token)))
+      by (effect.MakeMeaning x) is h = rule_closed h (put_characters (meaning_characters page x)) (plain_text (made_text (meaning_characters page x)))
+      by f is h = rule_closed h [] tt
+
+  -- another reading begins
+  rule_inner : (j : Begins) (b : Bool) → ask k fed ≡ Inner j b → Rule s (inner_begun (Reads j) b)
+  rule_inner j true is = Falls (rw (e, w) (omega (arith, falls.begun_with k fed j s.last is)))
+  rule_inner j false is = Falls (rw (e, w) (omega (arith, falls.begun k fed j is)))
+
+  -- it ends with a value
+  falls_ended : (v : Value) (ts : List Token) → weight k fed ≡ value_weight → (u : State) → Kept s u → Drops (state_weight s) (Ended v ts ∷ []) u
+  falls_ended v ts is u h = rw (h.stopped, h.work, e, w) (omega (arith, h.pending, weight_ended falls v ts rs, is))
+
+  rule_done : (page : Page) (v : Value) (back : Bool) → weight k fed ≡ value_weight → Rule s (done page reading v back)
+  rule_done page v back is =
+      Falls (drops_plain (state_weight s) s (given_back back page.last) (Ended v (value_tokens v (lists k fed)) ∷ []) (plain_back back page.last) (λ u h. falls_ended v (value_tokens v (lists k fed)) is u h))
+
+  -- a report was written, and noted
+  module _ (reports : IsReport (ask k fed)) where
+    falls_noted : (u : State) → Kept s u → Drops (state_weight s) (Feeds Told ∷ []) u
+    falls_noted u h = rw (h.stopped, h.work, e, w) (omega (arith, h.pending, falls.noted k fed reports))
+
+    falls_noting : (j : Kind) (gone : List Fed) (u : State) → Kept s u → Drops (state_weight s) (noting_kind j gone) u
+    falls_noting (Arguments name long number ts) gone u h = falls_noted u h
+    falls_noting j gone u h =
+        drops_plain (state_weight s) u (grown_to (first_list (lists j gone)) (first_list (lists j (gone ++ Told ∷ [])))) (Feeds Told ∷ [])
+        (plain_grown_to (first_list (lists j gone)) (first_list (lists j (gone ++ Told ∷ [])))) (λ v b. falls_noted v (kept_on s u v h b))
+
+    rule_told : (page : Page) (report : Report) (inserted : Option Token) (back : Bool) → Rule s (told page report inserted back reading)
+    rule_told page report inserted back =
+        Falls (drops_plain (state_weight s) s (given_back back page.last) (put_inserted inserted ++ reported page report (noting reading)) (plain_back back page.last)
+        (λ u a. drops_plain (state_weight s) u (put_inserted inserted) (reported page report (noting reading)) (plain_inserted inserted)
+        (λ v b. drops_report (state_weight s) v page report (noting reading) (some_weight s e) (λ t c. falls_noting k fed t (kept_on s u t a (kept_on u v t b c))))))
+
+  heavy_as : (a : Ask) → ask k fed ≡ a → act_weight ≤ ask_weight (end_weight k) a → act_weight ≤ weight k fed
+  heavy_as a is h = omega (arith, h, ap (ask_weight (end_weight k)) is)
+
+  rule_asked : (a : Ask) → ask k fed ≡ a → Rule s (answered s (reading ∷ rs) reading a)
+  rule_asked (More want) is = rule_handed falls s (enters_names want) (scanning (reading ∷ rs) s.gathered) (λ x. wanted (page_of s) want (feeding reading x) x) e
+  rule_asked (Inner j b) is = rule_inner j b is
+  rule_asked (Done v back) is = rule_done (page_of s) v back (ap (ask_weight (end_weight k)) is)
+  rule_asked (Acts c f) is = rule_acts c (page_of s) f is
+  rule_asked (ActsOn c f ts) is = rule_acts_on (heavy_as _ is (omega arith)) (page_of s) c f ts
+  rule_asked (Defines c n ts) is = rule_defined (heavy_as _ is (omega arith)) c n ts
+  rule_asked Closes is = rule_closed (heavy_as _ is (omega arith)) [] tt
+  rule_asked (Calls args) is = rule_called (heavy_as _ is (omega arith)) k args
+  rule_asked (Fails report) is = Falls (falls_failed (heavy_as _ is (omega arith)) (page_of s) report s (kept_none s))
+  rule_asked (RunsAway report) is = rule_away (heavy_as _ is (omega arith)) (page_of s) report (scanning (reading ∷ rs) s.gathered)
+  rule_asked (Tells report back) is = rule_told (subst IsReport (sym is) tt) (page_of s) report None back
+  rule_asked (Inserts t report back) is = rule_told (subst IsReport (sym is) tt) (page_of s) report (Some t) back
+
+rule_work : WeightsFall → (s : State) (work : List Reading) → s.stopped ≡ None → s.work ≡ work → Rule s (planned s work)
+rule_work falls s [] e w = rule_handed falls s false None (stomach (page_of s)) e
+rule_work falls s (r ∷ rs) e w = rule_asked falls s r.kind r.fed rs e w (ask r.kind r.fed) refl
+
+rule_stopped : WeightsFall → (s : State) (o : Option Outcome) → s.stopped ≡ o → Rule s (plan s o)
+rule_stopped falls s (Some o) e = Over refl
+rule_stopped falls s None e = rule_work falls s s.work e refl
+
+pub rule : WeightsFall → (s : State) → Rule s (plan s s.stopped)
+rule falls s = rule_stopped falls s s.stopped refl

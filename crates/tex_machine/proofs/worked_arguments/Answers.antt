@@ -1,0 +1,25 @@
+use Rattle.std.proofs.Common.{refl}
+use Rattle.std.specs.Fmt.{digits}
+use Rattle.prim_table.specs.Primitives.{primitive_name, primitive_names, command_names, assignment_names, expandable_names, conditional_names, integer_names, dimension_names, glue_names, token_names}
+use Rattle.tex_machine.specs.Rows.{job_of, run_of}
+use Rattle.plain_tokens.specs.Categories.{initial_categories}
+use Rattle.plain_tokens.specs.Lex.{headed, letters, behind_letters, lexed}
+use Rattle.plain_tokens.specs.Lookup.{number_from}
+use Rattle.tex_machine.proofs.worked_arguments.Goals as goal
+
+pub returns : goal.returns
+unfolding job_of run_of initial_categories digits headed letters behind_letters lexed number_from primitive_names primitive_name command_names assignment_names expandable_names conditional_names integer_names dimension_names glue_names token_names
+returns c = record {
+  delimited = (refl, refl);
+  delimiter_overlaps = (refl, refl);
+  delimiter_with_par = (refl, refl);
+  groups = (refl, refl);
+  inner_groups = (refl, refl);
+  no_match_within_groups = (refl, refl);
+  undelimited = (refl, refl);
+  undelimited_space = (refl, refl);
+  nine = (refl, refl);
+  brace_place = (refl, refl);
+  long = (refl, refl);
+  arguments_read_again = (refl, refl);
+}

@@ -1,0 +1,27 @@
+use Rattle.std.proofs.Common.{refl}
+use Rattle.std.specs.Fmt.{digits}
+use Rattle.prim_table.specs.Primitives.{primitive_name, primitive_names, command_names, assignment_names, expandable_names, conditional_names, integer_names, dimension_names, glue_names, token_names}
+use Rattle.tex_machine.specs.Rows.{job_of, run_of}
+use Rattle.plain_tokens.specs.Categories.{initial_categories}
+use Rattle.plain_tokens.specs.Lex.{headed, letters, behind_letters, lexed}
+use Rattle.plain_tokens.specs.Lookup.{number_from}
+use Rattle.tex_machine.proofs.worked_definitions.Goals as goal
+
+pub returns : goal.returns
+unfolding job_of run_of initial_categories digits headed letters behind_letters lexed number_from primitive_names primitive_name command_names assignment_names expandable_names conditional_names integer_names dimension_names glue_names token_names
+returns c = record {
+  missing_name = (refl, refl);
+  missing_name_defined = (refl, refl);
+  numbering = (refl, refl);
+  numbering_counts = (refl, refl);
+  numbering_twice = (refl, refl);
+  numbering_at_the_end = (refl, refl);
+  tenth = (refl, refl);
+  tenth_brace = (refl, refl);
+  illegal = (refl, refl);
+  illegal_without_places = (refl, refl);
+  illegal_letter = (refl, refl);
+  illegal_brace = (refl, refl);
+  no_body = (refl, refl);
+  no_body_places = (refl, refl);
+}

@@ -1,0 +1,22 @@
+use Rattle.std.proofs.Common.{refl}
+use Rattle.std.specs.Fmt.{digits}
+use Rattle.prim_table.specs.Primitives.{primitive_name, primitive_names, command_names, assignment_names, expandable_names, conditional_names, integer_names, dimension_names, glue_names, token_names}
+use Rattle.tex_machine.specs.Rows.{job_of, run_of}
+use Rattle.plain_tokens.specs.Categories.{initial_categories}
+use Rattle.plain_tokens.specs.Lex.{headed, letters, behind_letters, lexed}
+use Rattle.plain_tokens.specs.Lookup.{number_from}
+use Rattle.tex_machine.proofs.worked_ends.Goals as goal
+
+pub returns : goal.returns
+unfolding job_of run_of initial_categories digits headed letters behind_letters lexed number_from primitive_names primitive_name command_names assignment_names expandable_names conditional_names integer_names dimension_names glue_names token_names
+returns c = record {
+  ended_parameters = (refl, refl);
+  ended_definition = (refl, refl);
+  ended_expanded = (refl, refl);
+  ended_use = (refl, refl);
+  ended_delimited = (refl, refl);
+  ended_in_a_group = (refl, refl);
+  ended_in_a_match = (refl, refl);
+  ended_before_the_first = (refl, refl);
+  ended_without_a_token = (refl, refl);
+}

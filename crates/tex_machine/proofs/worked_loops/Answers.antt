@@ -1,0 +1,18 @@
+use Rattle.std.proofs.Common.{refl}
+use Rattle.std.specs.Fmt.{digits}
+use Rattle.prim_table.specs.Primitives.{primitive_name, primitive_names, command_names, assignment_names, expandable_names, conditional_names, integer_names, dimension_names, glue_names, token_names}
+use Rattle.tex_machine.specs.Rows.{run_of}
+use Rattle.plain_tokens.specs.Categories.{initial_categories}
+use Rattle.plain_tokens.specs.Lex.{headed, letters, behind_letters, lexed}
+use Rattle.plain_tokens.specs.Lookup.{number_from}
+use Rattle.tex_machine.proofs.worked_loops.Goals as goal
+
+pub returns : goal.returns
+unfolding run_of initial_categories digits headed letters behind_letters lexed number_from primitive_names primitive_name command_names assignment_names expandable_names conditional_names integer_names dimension_names glue_names token_names
+returns c = record {
+  first_handed = (refl, refl);
+  first = (refl, refl);
+  second_handed = (refl, refl);
+  second = (refl, refl);
+  hundred = ((refl, refl), refl);
+}

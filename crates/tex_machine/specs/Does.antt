@@ -1,0 +1,97 @@
+-- Some moves done, all of them or those before one that was cut off.
+use Rattle.std.specs.Prelude.{◌≡◌, ℕ, ◌+◌, ◌≤◌, List, [], ◌∷◌, ◌++◌, take, Some, ◌⊎◌}
+use Rattle.tex_defs.specs.Places.{World, Rose}
+use Rattle.tex_defs.specs.declared.Full.{Full}
+use Rattle.tex_defs.specs.declared.Sizes.{Sizes}
+use Rattle.tex_machine.specs.States.{State, Move, Written, Settled, Taken, FileClosed}
+use Rattle.tex_machine.specs.Demands.{refusal}
+use Rattle.tex_machine.specs.Plan.{Goes, next, plan}
+use Rattle.tex_machine.specs.Runs.{Wrote, made_all, steps, step_of}
+use Rattle.tex_machine.specs.Bounded.{AllFit, FitMoves}
+
+-- the moves are done, each of them fits, and all that they write is written
+pub record Did (sizes : Sizes) (s s' : State) (w w' : World) (ms : List Move) : Type 0 where
+  pub state : made_all ms s ≡ s'
+  pub fits : AllFit sizes ms s
+  pub written : Wrote w w' ms
+
+-- Why a move isn't made: a table is full, or a call on the outside failed, or wanted memory.
+pub data Why : Type 0 where
+  IsFull : Full → Why
+  IsFault : Why
+  IsWant : Why
+
+-- a move that calls the outside
+abbrev pub IsOutside : Move → Type 0
+IsOutside (Written p bs) = Unit {0}
+IsOutside m = ⊥
+
+abbrev pub Refuses : Sizes → Why → Move → State → Type 0
+Refuses sizes (IsFull full) m s = refusal sizes m s ≡ Some full
+Refuses sizes IsFault m s = IsOutside m
+Refuses sizes IsWant m s = IsOutside m
+
+-- a fault or a want comes only where its count rose
+abbrev pub IsCause : Why → World → World → Type 0
+IsCause (IsFull full) w w' = Unit {0}
+IsCause IsFault w w' = Rose w.file_faults w'.file_faults ⊎ Rose w.sink_faults w'.sink_faults
+IsCause IsWant w w' = Rose w.file_wants w'.file_wants ⊎ Rose w.sink_wants w'.sink_wants
+
+-- the first of what a move writes
+abbrev pub front_of : ℕ → Move → List Move
+front_of n (Written p bs) = Written p (take n bs) ∷ []
+front_of n m = []
+
+-- The moves are cut off: the first of them are done and lead to s', and the next one isn't made, of which a front may be written.
+pub record Cut (sizes : Sizes) (s s' : State) (w w' : World) (ms : List Move) (why : Why) : Type 0 where
+  pub done : List Move
+  pub m : Move
+  pub rest : List Move
+  pub count : ℕ
+  pub all : ms ≡ done ++ m ∷ rest
+  pub state : made_all done s ≡ s'
+  pub fits : AllFit sizes done s
+  pub refuses : Refuses sizes why m s'
+  pub cause : IsCause why w w'
+  pub written : Wrote w w' (done ++ front_of count m)
+
+-- but for what is due
+abbrev pub but_due : State → State
+but_due s = record s { due = [] }
+
+-- A moment t of the run from s within k steps, at which it was cut off before the move m. All before it is written, and of m at
+-- most a front of its text.
+pub record CutAt (sizes : Sizes) (s : State) (k : ℕ) (t : State) (w w' : World) (why : Why) : Type 0 where
+  pub ms : List Move
+  pub m : Move
+  pub u : State
+  pub count : ℕ
+  pub moves : FitMoves sizes s ms t
+  pub goes : next t ≡ Goes m u
+  pub room : steps ms + step_of m ≤ k
+  pub refuses : Refuses sizes why m t
+  pub cause : IsCause why w w'
+  pub written : Wrote w w' (ms ++ front_of count m)
+
+-- by this move the machine reads on in its file: a line is taken, or the file goes behind its last line
+abbrev pub IsOfFile : Move → Type 0
+IsOfFile (Taken line) = Unit {0}
+IsOfFile FileClosed = Unit {0}
+IsOfFile m = ⊥
+
+-- the moves of a rule that begins with the file's next reading
+abbrev pub ReadsFile : List Move → Type 0
+ReadsFile (Settled ∷ m ∷ ms) = IsOfFile m
+ReadsFile ms = ⊥
+
+-- A moment t of the run from s within k steps, at which the file's next bytes are needed: nothing is due, and the next rule begins with
+-- the file's next reading. So the run hasn't stopped, a token is wanted, nothing is left in front of the file, and the file is open. It may
+-- be behind the last of the k steps, as the bytes mostly tell whether that reading is a step (of a file that isn't begun it always is: there
+-- this says less than could be said). All before the moment is written.
+pub record ReadAt (sizes : Sizes) (s : State) (k : ℕ) (t : State) (w w' : World) : Type 0 where
+  pub ms : List Move
+  pub moves : FitMoves sizes s ms t
+  pub within : steps ms ≤ k
+  pub due : t.due ≡ []
+  pub needs : ReadsFile (plan t t.stopped)
+  pub written : Wrote w w' ms

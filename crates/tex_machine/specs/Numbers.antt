@@ -1,0 +1,74 @@
+-- The same state with other numbers of its macros: what they are called is seen nowhere.
+use Rattle.std.specs.Prelude.{◌≡◌, ℕ, ◌<◌, ◌==◌, ◌||◌, true, List, [], length, map, slice_index_or, Option, None, Some, if◌then◌else◌}
+use Rattle.tex_defs.specs.declared.Token.{Token}
+use Rattle.tex_defs.specs.declared.Meaning.{Meaning}
+use Rattle.tex_defs.specs.declared.Meaning.TheVariants as means
+use Rattle.tex_defs.specs.declared.Seen.{Seen}
+use Rattle.plain_tokens.specs.Puts.{Put, Whole, Own, Macro}
+use Rattle.plain_tokens.specs.Pending.{Pending, with_puts, put_front, pulled, Pulled, TokenFrom, LexemeFrom, LineTaken, InvalidMet, FileOver, NothingLeft}
+use Rattle.plain_tokens.specs.Tables.{is_meant, is_put, macro_words}
+use Rattle.plain_tokens.specs.Meanings.{seen, met, meaning_to_let}
+use Rattle.plain_tokens.specs.Printed.{Style, meaning_text, meaning_tokens}
+use Rattle.tex_machine.specs.Plan.{macro_tokens}
+
+abbrev pub number_of : (ℕ → ℕ) → Option ℕ → Option ℕ
+number_of number None = None
+number_of number (Some n) = Some (number n)
+
+abbrev pub meaning_of : (ℕ → ℕ) → Meaning (Option ℕ) → Meaning (Option ℕ)
+meaning_of number (means.Macro long outer list) = means.Macro long outer (number_of number list)
+meaning_of number m = m
+
+abbrev pub meanings_of : (ℕ → ℕ) → List (Meaning (Option ℕ)) → List (Meaning (Option ℕ))
+meanings_of number cells = map (meaning_of number) cells
+
+abbrev pub whole_of : (ℕ → ℕ) → Whole → Whole
+whole_of number (Own ts) = Own ts
+whole_of number (Macro n) = Macro (number n)
+
+abbrev pub put_of : (ℕ → ℕ) → Put → Put
+put_of number p = record { list = whole_of number p.list; arguments = p.arguments; items = p.items }
+
+abbrev pub puts_of : (ℕ → ℕ) → List Put → List Put
+puts_of number puts = map (put_of number) puts
+
+abbrev pub pending_of : (ℕ → ℕ) → Pending → Pending
+pending_of number p = with_puts (puts_of number p.puts) p
+
+abbrev pub pulled_of : (ℕ → ℕ) → Pulled → Pulled
+pulled_of number (TokenFrom t next) = TokenFrom t (pending_of number next)
+pulled_of number (LexemeFrom x next) = LexemeFrom x (pending_of number next)
+pulled_of number (LineTaken line next) = LineTaken line (pending_of number next)
+pulled_of number (InvalidMet next) = InvalidMet (pending_of number next)
+pulled_of number (FileOver next) = FileOver (pending_of number next)
+pulled_of number NothingLeft = NothingLeft
+
+-- the same numbers, but for one
+abbrev pub renumbered : (number : ℕ → ℕ) → (id new : ℕ) → ℕ → ℕ
+renumbered number id new n = if n == id then new else number n
+
+-- a macro that a name means, or whose body is read
+abbrev pub IsHeld : ℕ → List (Meaning (Option ℕ)) → List Put → Type 0
+IsHeld n meanings puts = (is_meant n meanings || is_put n puts) ≡ true
+
+-- Each macro that is held has its list under its other number, and no two have the same.
+pub record Tied (number : ℕ → ℕ) (macros : List (List Token)) (meanings : List (Meaning (Option ℕ))) (puts : List Put) (lists : List (List Token)) : Type 0 where
+  pub inside : (n : ℕ) → IsHeld n meanings puts → n < length lists
+  pub within : (n : ℕ) → IsHeld n meanings puts → number n < length macros
+  pub tokens : (n : ℕ) → IsHeld n meanings puts → slice_index_or macros (number n) [] ≡ slice_index_or lists n []
+  pub apart : (n m : ℕ) → IsHeld n meanings puts → IsHeld m meanings puts → number n ≡ number m → n ≡ m
+
+-- What macros are called is seen nowhere: not in what is read, nor in what names mean and what `\let` gives, nor in what is shown of that, nor in
+-- the words that are used.
+pub record NumbersAreFree : Type 0 where
+  pub reads : (number : ℕ → ℕ) (categories : List ℕ) (p : Pending) → pulled categories (pending_of number p) ≡ pulled_of number (pulled categories p)
+  pub puts : (number : ℕ → ℕ) (x : Put) (p : Pending) → put_front (put_of number x) (pending_of number p) ≡ pending_of number (put_front x p)
+  pub means : (number : ℕ → ℕ) (cells : List (Meaning (Option ℕ))) (t : Token) → seen (meanings_of number cells) t ≡ seen cells t
+  pub meets : (number : ℕ → ℕ) (cells : List (Meaning (Option ℕ))) (t : Token) → met (meanings_of number cells) t ≡ met cells t
+  pub lets : (number : ℕ → ℕ) (cells : List (Meaning (Option ℕ))) (x : Seen) → meaning_to_let (meanings_of number cells) x ≡ meaning_of number (meaning_to_let cells x)
+  pub texts : (number : ℕ → ℕ) (macros : List (List Token)) (meanings : List (Meaning (Option ℕ))) (puts : List Put) (lists : List (List Token)) →
+      Tied number macros meanings puts lists → (style : Style) (x : Seen) → meaning_text style (macro_tokens macros) (meaning_to_let (meanings_of number meanings) x) ≡ meaning_text style (macro_tokens lists) (meaning_to_let meanings x)
+  pub shows : (number : ℕ → ℕ) (macros : List (List Token)) (meanings : List (Meaning (Option ℕ))) (puts : List Put) (lists : List (List Token)) →
+      Tied number macros meanings puts lists → (x : Seen) → meaning_tokens (macro_tokens macros) (meaning_to_let (meanings_of number meanings) x) ≡ meaning_tokens (macro_tokens lists) (meaning_to_let meanings x)
+  pub words : (number : ℕ → ℕ) (macros : List (List Token)) (meanings : List (Meaning (Option ℕ))) (puts : List Put) (lists : List (List Token)) →
+      Tied number macros meanings puts lists → macro_words 0 (meanings_of number meanings) (puts_of number puts) macros ≡ macro_words 0 meanings puts lists

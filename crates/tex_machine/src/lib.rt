@@ -1,0 +1,482 @@
+//! The plain machine: its next move, its runs, and what the program means by them.
+//!
+//! Everything here is definition. The functions have no bodies: their contracts are laws.
+#![tactic(auto)]
+
+ghost use Rattle.std.specs.Prelude.{codes, true, false, ◌++◌, ◌∷◌, [], replicate};
+ghost use Rattle.std.specs.List.{concat};
+ghost use Rattle.tex_syntax.specs.declared.words.Outcome.TheVariants.{Finished, AtFatal};
+ghost use Rattle.tex_defs.specs.declared.Fatal.TheVariants.{NoEnd, HundredErrors};
+ghost use Rattle.tex_defs.specs.declared.Table.TheVariants.{PoolSize, NumberOfStrings, HashSize, MainMemorySize, InputStackSize, ParameterStackSize, BufferSize, ExpansionDepth};
+ghost use Rattle.tex_defs.specs.Sizes.{default_sizes};
+ghost use Rattle.tex_machine.specs.Rows.{Writes, WritesAs, Counts, Runs as RunsSo, Enters, Begins, RunsWithin, Fills, FillsWithin, Fits, RowsAreRuns, EndedRowsAreWhole, RefusalsAreRuns, first_line_usual};
+ghost use Rattle.tex_machine.specs.Numbers.{NumbersAreFree};
+ghost use Rattle.tex_machine.specs.Extended.{ExtensionIsFree};
+ghost use Rattle.tex_machine.specs.Runs.{RunsAreOne, EachHasRun, SumsOfSteps, LinesAreCounted};
+ghost use Rattle.tex_machine.specs.Bounded.{BoundedRunsAreOne, EachHasBounded, BoundedIsFront};
+
+/// Two runs of one state with one bound are equal: their moves, and the state to which they lead.
+pub fn runs_are_one()
+    ensures { RunsAreOne }
+{}
+
+/// Each state has a run within each bound: moves without a step never go on for ever.
+pub fn each_has_run()
+    ensures { EachHasRun }
+{}
+
+/// A run within j + k steps is a run within j steps, and then one within k steps from where it led.
+pub fn sums_of_steps()
+    ensures { SumsOfSteps }
+{}
+
+/// The number of the line rises by no more than the steps that are taken, and by one with each line that is taken, as long as the
+/// steps are fewer than 2^64: no run that short comes to where it stands still.
+pub fn lines_are_counted()
+    ensures { LinesAreCounted }
+{}
+
+/// Two runs of one state with one bound, within the same sizes, are equal and come to the same end.
+pub fn bounded_runs_are_one()
+    ensures { BoundedRunsAreOne }
+{}
+
+/// Each state has a run within each bound and sizes: to its end, to where it needs one step more, or to the first move
+/// for which a table has no room.
+pub fn each_has_bounded_run()
+    ensures { EachHasBounded }
+{}
+
+/// A run within sizes makes the first moves of the machine's run, and all of them where no table was full.
+pub fn bounded_runs_are_fronts()
+    ensures { BoundedIsFront }
+{}
+
+/// What macros are called is seen nowhere: other numbers, no two of them the same, change nothing that is read, meant or counted.
+pub fn numbers_are_free()
+    ensures { NumbersAreFree }
+{}
+
+/// What a file has behind its next line is seen by no rule. Where the next reading is known, whichever bytes follow in the file,
+/// the next rule does the same for all of them: its moves, done or cut off, write the same and lead to the same state, but for
+/// these bytes at the file's end, and it has as many steps.
+pub fn later_bytes_are_free()
+    ensures { ExtensionIsFree }
+{}
+
+/// What is computed of a state are its first moves: what they write, the steps among them, and the names behind them. Where
+/// an end is told, they are the machine's whole run. Within sizes, the table that is told is that of the first move that has no room.
+pub fn rows_are_runs()
+    ensures moves { RowsAreRuns }
+    ensures whole { EndedRowsAreWhole }
+    ensures refusals { RefusalsAreRuns }
+{}
+
+/// The machine run on small files: what it writes, the steps it takes, and how it ends.
+pub fn worked_rows()
+    ensures usual { RunsSo (first_line_usual ++ codes "\\end\n") (codes "") 31 Finished }
+    ensures hi { RunsSo (first_line_usual ++ codes "\\message{hi}\\end\n") (codes "hi\n") 36 Finished }
+    ensures letter { Writes (first_line_usual ++ codes "\\message{hi}x\\end\n") (codes "hi\n{the letter x}\n") Finished }
+    ensures empty { RunsSo [] (codes "{\\par}\n! Emergency stop.\n*** (job aborted, no legal \\end found)\n") 2 (AtFatal NoEnd) }
+    ensures no_end { Writes (first_line_usual ++ codes "\\message{hi}%\n") (codes "hi\n! Emergency stop.\n*** (job aborted, no legal \\end found)\n") (AtFatal NoEnd) }
+    ensures two { Writes (first_line_usual ++ codes "\\message{a}%\n\\message{b}%\n\\end") (codes "a b\n") Finished }
+    ensures blank { Writes (first_line_usual ++ codes "\\message{a}\n\\end\n") (codes "a\n{blank space  }\n") Finished }
+    ensures carriage_returns { Writes (codes "\\catcode`\\{=1 \\catcode`\\}=2 \r\n\\message{x}%\r\n\\end \r\n") (codes "x\n") Finished }
+    ensures long_text { Writes (first_line_usual ++ codes "\\message{a  \n\tb{c\n}d{}}\\end\n") (codes "a ^^Ib{c }d{}\n") Finished }
+    ensures octal { Writes (codes "\\catcode'173='1\\catcode\"7D=\"2\\message{o}\\end") (codes "o\n") Finished }
+    ensures signs { Writes (codes "\\catcode - -123 1\\catcode`}+2 \\message{s}\\end") (codes "s\n") Finished }
+    ensures shown { Writes (first_line_usual ++ codes "\\message{#^%\n\\end\\message a\\catcode 1}\\end\n") (codes "##^\\end \\message a\\catcode 1\n") Finished }
+    ensures active { Writes (first_line_usual ++ codes "\\catcode`\\~=13 \\message{a~}\\end\n") (codes "! Undefined control sequence.\nl.2\na\n") Finished }
+    ensures ignored { Writes (first_line_usual ++ codes "\\catcode`\\x=9 \\message{axbx}\\end\n") (codes "ab\n") Finished }
+    ensures comment { Writes (first_line_usual ++ codes "\\catcode`\\x=14 \\message{a}xb\n\\end\n") (codes "a\n") Finished }
+    ensures other_escape { Writes (first_line_usual ++ codes "\\catcode`\\|=0 |message{|end}|end\n") (codes "\\end \n") Finished }
+    ensures null_printed { Writes (codes "\\catcode`\\{=1 \\catcode`\\}=2 \\catcode0=12 \\message{" ++ (0 ∷ 255 ∷ 127 ∷ [])) (codes "! Text line contains an invalid character.\nl.1\nRunaway text?\n\n^^ff \n! File ended while scanning text of \\message.\nl.0\n\n^^ff \n! Emergency stop.\n*** (job aborted, no legal \\end found)\n") (AtFatal NoEnd) }
+    ensures line_feed_printed { Writes (codes "\\catcode`\\{=1 \\catcode`\\}=2 \\catcode0=12 \\message{a" ++ (0 ∷ 255 ∷ codes "}\\end")) (codes "a\n^^ff\n") Finished }
+    ensures too_great { Writes (codes "\\catcode2147483648=1 ") (codes "! Number too big.\nl.1\n! Bad character code (2147483647).\nl.1\n! Emergency stop.\n*** (job aborted, no legal \\end found)\n") (AtFatal NoEnd) }
+    ensures undefined { Writes (codes "\\foo\\end") (codes "! Undefined control sequence.\nl.1\n") Finished }
+    ensures brace_missing { Writes (first_line_usual ++ codes "\\message x}\\end") (codes "! Missing { inserted.\nl.2\nx\n") Finished }
+    ensures run_away { Writes (first_line_usual ++ codes "\\message{hi") (codes "Runaway text?\nhi \n! File ended while scanning text of \\message.\nl.0\nhi \n! Emergency stop.\n*** (job aborted, no legal \\end found)\n") (AtFatal NoEnd) }
+    ensures improper { Writes (codes "\\catcode`\\foo 5 \\end") (codes "! Improper alphabetic constant.\nl.1\n! Undefined control sequence.\nl.1\n") Finished }
+    ensures improper_again { Writes (codes "\\catcode`\\foo 5 \\foo\\end") (codes "! Improper alphabetic constant.\nl.1\n! Undefined control sequence.\nl.1\n! Undefined control sequence.\nl.1\n") Finished }
+    ensures entered_raw { Enters (codes "\\catcode`\\foo 5 \\foo\\end") (codes "foo" ∷ []) }
+    ensures not_entered { Enters (codes "\\foo\\catcode`\\x\\bar=5 \\end") [] }
+    ensures entered_once { Enters (codes "\\catcode`\\foo 5 \\catcode`\\bar\\catcode`\\foo 5 \\end") (codes "foo" ∷ codes "bar" ∷ []) }
+    ensures missing { Writes (codes "\\catcode`\\x=\\end\\end") (codes "! Missing number, treated as zero.\nl.1\n") Finished }
+    ensures hats { Writes (first_line_usual ++ codes "\\message{^^41^^4a}\\end") (codes "AJ\n") Finished }
+    ensures relax { RunsSo (first_line_usual ++ codes "\\relax\\end\n") (codes "") 32 Finished }
+    ensures relax_before_a_brace { RunsSo (first_line_usual ++ codes "\\message\\relax {hi}\\end\n") (codes "hi\n") 37 Finished }
+    ensures relax_twice { Writes (first_line_usual ++ codes "\\message \\relax\\relax{hi}\\end\n") (codes "hi\n") Finished }
+    ensures global { RunsSo (first_line_usual ++ codes "\\global\\catcode`\\%=12 \\message{a%b}\\catcode`\\%=14 \\end\n") (codes "a%b\n") 54 Finished }
+    ensures long_assignment { RunsSo (first_line_usual ++ codes "\\global\\relax \\long\\catcode`\\%=12 \\message{%}\\catcode`\\%=14 \\end\n") (codes "! You can't use `\\long' or `\\outer' with `\\catcode'.\nl.2\n%\n") 54 Finished }
+    ensures prefix_before_a_message { RunsSo (first_line_usual ++ codes "\\global\\message{x}\\end\n") (codes "! You can't use a prefix with `\\message'.\nl.2\nx\n") 37 Finished }
+    ensures prefix_before_a_letter { RunsSo (first_line_usual ++ codes "\\outer x\\end\n") (codes "! You can't use a prefix with `the letter x'.\nl.2\n{the letter x}\n") 34 Finished }
+    ensures prefix_before_the_end { Writes (first_line_usual ++ codes "\\long\\foo\\global\\end\n") (codes "! Undefined control sequence.\nl.2\n! You can't use a prefix with `\\end'.\nl.2\n") Finished }
+    ensures no_category { Writes (codes "\\catcode`\\x=16 ") (codes "! Invalid code (16), should be in the range 0..15.\nl.1\n! Emergency stop.\n*** (job aborted, no legal \\end found)\n") (AtFatal NoEnd) }
+{}
+
+/// The machine run on small files with macros: the arguments of calls.
+pub fn worked_arguments()
+    ensures delimited { Writes (first_line_usual ++ codes "\\def\\a#1ab{[#1]}\\message{\\a xaab}\\end\n") (codes "[xa]\n") Finished }
+    ensures delimiter_overlaps { Writes (first_line_usual ++ codes "\\def\\a#1aab{[#1]}\\message{\\a aaab\\a aaaab}\\end\n") (codes "[a][aa]\n") Finished }
+    ensures delimiter_with_par { Writes (first_line_usual ++ codes "\\def\\a#1\\par x{[#1]}\\message{\\a y\\par x}\\end\n") (codes "[y]\n") Finished }
+    ensures groups { Writes (first_line_usual ++ codes "\\def\\a#1.{(#1)}\\message{\\a{x}.\\a{x}{y}.}\\end\n") (codes "(x)({x}{y})\n") Finished }
+    ensures inner_groups { Writes (first_line_usual ++ codes "\\def\\a#1.{[#1]}\\message{\\a{.}.\\a x{.}.\\a.\\a{{x}}.}\\end\n") (codes "[.][x{.}][][{x}]\n") Finished }
+    ensures no_match_within_groups { Writes (first_line_usual ++ codes "\\def\\a#1ab{[#1]}\\message{\\a{xa}b{ab}ab}\\end\n") (codes "[{xa}b{ab}]\n") Finished }
+    ensures undelimited { Writes (first_line_usual ++ codes "\\def\\a#1#2{(#1|#2)}\\message{\\a x {yz}}\\end\n") (codes "(x|yz)\n") Finished }
+    ensures undelimited_space { Writes (first_line_usual ++ codes "\\def\\a#1{[#1]}\\message{\\a{ }\\a  {}}\\end\n") (codes "[ ][]\n") Finished }
+    ensures nine { Writes (first_line_usual ++ codes "\\def\\a#1#2#3#4#5#6#7#8#9{#9#8#7#6#5#4#3#2#1}\\message{\\a abc{d}efghi}\\end\n") (codes "ihgfedcba\n") Finished }
+    ensures brace_place { Writes (first_line_usual ++ codes "\\def\\a#1#{(#1)}\\message{\\a xy{z}}\\end\n") (codes "(xy){z}\n") Finished }
+    ensures long { Writes (first_line_usual ++ codes "\\long\\def\\a#1.{(#1)}\\message{\\a x\\par y.}\\end\n") (codes "(x\\par y)\n") Finished }
+    ensures arguments_read_again { Writes (first_line_usual ++ codes "\\def\\a#1{\\b#1}\\def\\b#1{#1}\\message{\\a{{x}{y}}}\\end\n") (codes "x{y}\n") Finished }
+{}
+
+/// The machine run on small files with macros: what bodies give, and when.
+pub fn worked_bodies()
+    ensures long_by_name { Writes (first_line_usual ++ codes "\\def\\a#1{#1\\b}\\long\\a\\def#1.{[#1]}\\message{\\b x\\par.}\\end\n") (codes "[x\\par ]\n") Finished }
+    ensures long_behind_global { Writes (first_line_usual ++ codes "\\global\\long\\def\\a#1.{[#1]}\\message{\\a x\\par.}\\end\n") (codes "[x\\par ]\n") Finished }
+    ensures nested { Writes (first_line_usual ++ codes "\\def\\a#1{\\def\\b##1{#1##1}}\\a x\\message{\\b y}\\end\n") (codes "xy\n") Finished }
+    ensures redefined { Writes (first_line_usual ++ codes "\\def\\a{\\def\\a{n}\\message{old}}\\a\\message{\\a}\\end\n") (codes "old n\n") Finished }
+    ensures redefined_in_its_body { Writes (first_line_usual ++ codes "\\def\\a{\\def\\a{\\message{n}}\\message{o}}\\a\\a\\end\n") (codes "o n\n") Finished }
+    ensures par { Writes (first_line_usual ++ codes "\\def\\par{\\message{p}}\\def\\a#1.{}\\message{x}%\n\n\\a x\\par\\end\n") (codes "x p\nRunaway argument?\nx\n! Paragraph ended before \\a was complete.\nl.4\np\n") Finished }
+    ensures active { Writes (first_line_usual ++ codes "\\catcode`\\~=13 \\def~#1{t#1}\\message{~~x}\\end\n") (codes "ttx\n") Finished }
+    ensures active_mismatch { Writes (first_line_usual ++ codes "\\catcode`\\~=13 \\def~x{}~y\\end\n") (codes "! Use of ~ doesn't match its definition.\nl.2\n") Finished }
+    ensures number { Writes (first_line_usual ++ codes "\\def\\a{12 }\\catcode`\\%=\\a\\message{%}\\catcode`\\%=14 \\end\n") (codes "%\n") Finished }
+    ensures inner_space { Writes (first_line_usual ++ codes "\\def \\a #1{[#1]}\\def \n\\b{y}\\message{\\a x\\a\\b}\\end\n") (codes "[x][y]\n") Finished }
+    ensures space_before_the_name { Writes (first_line_usual ++ codes "\\def\\a#1{\\def#1\\b{y}}\\a{ }\\message{\\b}\\end\n") (codes "y\n") Finished }
+    ensures outer_again { Writes (first_line_usual ++ codes "\\outer\\def\\o{x}\\o\\def\\o{y}\\message{\\o}\\end\n") (codes "{the letter x}\ny\n") Finished }
+    ensures steps { RunsSo (first_line_usual ++ codes "\\def\\a#1.{#1#1}\\a xy.\\end\n") (codes "{the letter x}\n{the letter y}\n{the letter x}\n{the letter y}\n") 50 Finished }
+    ensures gap_steps { RunsSo (first_line_usual ++ codes "\\def\\a#1.{#1#1}\\a.\\end\n") (codes "") 44 Finished }
+{}
+
+/// The machine run on small files with definitions that are expanded.
+pub fn worked_expanded_definitions()
+    ensures global { Writes (first_line_usual ++ codes "\\gdef\\a{x}\\xdef\\b{\\a\\a}\\global\\edef\\c{\\b\\a}\\message{\\a\\b\\c}\\end\n") (codes "xxxxxx\n") Finished }
+    ensures expanded { Writes (first_line_usual ++ codes "\\def\\b{x}\\edef\\a{\\b\\b}\\def\\b{y}\\message{\\a}\\end\n") (codes "xx\n") Finished }
+    ensures expanded_arguments { Writes (first_line_usual ++ codes "\\def\\b#1{<#1>}\\edef\\a{\\b{x}\\b y}\\def\\b{}\\message{\\a}\\end\n") (codes "<x><y>\n") Finished }
+    ensures expanded_number { Writes (first_line_usual ++ codes "\\def\\n{1}\\edef\\a#1{#\\n#1}\\message{\\a x}\\end\n") (codes "xx\n") Finished }
+    ensures expanded_spaces { Writes (first_line_usual ++ codes "\\def\\b{ x }\\edef\\a{\\b y}\\message{\\a}\\end\n") (codes " x y\n") Finished }
+    ensures expanded_undefined { Writes (first_line_usual ++ codes "\\edef\\a{x\\foo y}\\message{\\a}\\end\n") (codes "! Undefined control sequence.\nl.2\nxy\n") Finished }
+    ensures illegal_expanded { Writes (first_line_usual ++ codes "\\edef\\a{#\\foo x}\\message{\\a}\\end\n") (codes "! Undefined control sequence.\nl.2\n! Illegal parameter number in definition of \\a.\nl.2\n##x\n") Finished }
+    ensures entered { Enters (first_line_usual ++ codes "\\def\\foo#1\\bar{\\baz}\\edef\\foo#1{\\qux}\\foo\\quux\\message{\\corge}\\end\n") (codes "foo" ∷ codes "bar" ∷ codes "baz" ∷ codes "quux" ∷ []) }
+{}
+
+/// The machine run on small files with definitions that reports come of.
+pub fn worked_definitions()
+    ensures missing_name { Writes (first_line_usual ++ codes "\\def x\\end\n") (codes "! Missing control sequence inserted.\nl.2\nRunaway definition?\nx\\end \n! File ended while scanning definition of \\inaccessible.\nl.0\n! Missing { inserted.\nl.0\n! Emergency stop.\n*** (job aborted, no legal \\end found)\n") (AtFatal NoEnd) }
+    ensures missing_name_defined { Writes (first_line_usual ++ codes "\\def x{y}\\end\n") (codes "! Missing control sequence inserted.\nl.2\n") Finished }
+    ensures numbering { Writes (first_line_usual ++ codes "\\def\\a#2{#1}\\message{\\a x}\\end\n") (codes "! Parameters must be numbered consecutively.\nl.2\n! Argument of \\a has an extra }.\nl.2\nRunaway argument?\nx\n! Paragraph ended before \\a was complete.\nl.2\n\\par \n") Finished }
+    ensures numbering_counts { Writes (first_line_usual ++ codes "\\def\\a#x{(#1)}\\message{\\a yx}\\end\n") (codes "! Parameters must be numbered consecutively.\nl.2\n(y)\n") Finished }
+    ensures numbering_twice { Writes (first_line_usual ++ codes "\\def\\a##1{(#1)}\\message{\\a y1}\\end\n") (codes "! Parameters must be numbered consecutively.\nl.2\n! Parameters must be numbered consecutively.\nl.2\n(y)\n") Finished }
+    ensures numbering_at_the_end { Writes (first_line_usual ++ codes "\\def\\a#}\\message{\\a}\\end\n") (codes "! Parameters must be numbered consecutively.\nl.2\n! Missing { inserted.\nl.2\n! Argument of \\a has an extra }.\nl.2\nRunaway argument?\n! Paragraph ended before \\a was complete.\nl.2\n\\par \n") Finished }
+    ensures tenth { Writes (first_line_usual ++ codes "\\def\\a#1#2#3#4#5#6#7#8#9#xy{#9#:}\\message{\\a 123456789y.}\\end\n") (codes "! You already have nine parameters.\nl.2\n! Illegal parameter number in definition of \\a.\nl.2\n9##:.\n") Finished }
+    ensures tenth_brace { Writes (first_line_usual ++ codes "\\def\\a#1#2#3#4#5#6#7#8#9#{[#9]}\\message{\\a 12345678{9}{x}}\\end\n") (codes "[]{9}{x}\n") Finished }
+    ensures illegal { Writes (first_line_usual ++ codes "\\def\\a#1{#2}\\message{\\a x}\\end\n") (codes "! Illegal parameter number in definition of \\a.\nl.2\n##2\n") Finished }
+    ensures illegal_without_places { Writes (first_line_usual ++ codes "\\def\\a{#1}\\message{\\a}\\end\n") (codes "! Illegal parameter number in definition of \\a.\nl.2\n##1\n") Finished }
+    ensures illegal_letter { Writes (first_line_usual ++ codes "\\def\\a#1{##1#x#1}\\message{\\a y}\\end\n") (codes "! Illegal parameter number in definition of \\a.\nl.2\n##1##xy\n") Finished }
+    ensures illegal_brace { Writes (first_line_usual ++ codes "\\def\\a#1{#}\\message{\\a x}\\end\n") (codes "! Illegal parameter number in definition of \\a.\nl.2\n##\n") Finished }
+    ensures no_body { Writes (first_line_usual ++ codes "\\def\\a}\\message{[\\a]}\\end\n") (codes "! Missing { inserted.\nl.2\n[]\n") Finished }
+    ensures no_body_places { Writes (first_line_usual ++ codes "\\def\\a#1.}\\message{[\\a x.]}\\end\n") (codes "! Missing { inserted.\nl.2\n[]\n") Finished }
+{}
+
+/// The machine run on small files with calls that fail, and with calls behind prefixes.
+pub fn worked_calls()
+    ensures mismatch { Writes (first_line_usual ++ codes "\\def\\a b#1{}\\a x\\end\n") (codes "! Use of \\a doesn't match its definition.\nl.2\n") Finished }
+    ensures mismatch_brace { Writes (first_line_usual ++ codes "\\def\\a b#1{}\\message{x\\a}\\end\n") (codes "! Use of \\a doesn't match its definition.\nl.2\nRunaway text?\nx\\end \n! File ended while scanning text of \\message.\nl.0\nx\\end \n! Emergency stop.\n*** (job aborted, no legal \\end found)\n") (AtFatal NoEnd) }
+    ensures category_differs { Writes (first_line_usual ++ codes "\\catcode`\\~=12 \\def\\a#1~{[#1]}\\catcode`\\~=11 \\message{\\a x~y}\\end\n") (codes "! Argument of \\a has an extra }.\nl.2\nRunaway argument?\nx~y\n! Paragraph ended before \\a was complete.\nl.2\n\\par \n") Finished }
+    ensures extra_brace { Writes (first_line_usual ++ codes "\\def\\a#1{}\\a}\\end\n") (codes "! Argument of \\a has an extra }.\nl.2\nRunaway argument?\n! Paragraph ended before \\a was complete.\nl.2\n{\\par}\n{end-group character }}\n") Finished }
+    ensures extra_brace_delimited { Writes (first_line_usual ++ codes "\\def\\a#1.{}\\a x}\\end\n") (codes "! Argument of \\a has an extra }.\nl.2\nRunaway argument?\nx\n! Paragraph ended before \\a was complete.\nl.2\n{\\par}\n{end-group character }}\n") Finished }
+    ensures extra_brace_long { Writes (first_line_usual ++ codes "\\long\\def\\a#1{[#1]}\\message{x\\a}\\end\n") (codes "! Argument of \\a has an extra }.\nl.2\nRunaway argument?\n! Paragraph ended before \\a was complete.\nl.2\nx\\par \n") Finished }
+    ensures extra_brace_in_a_match { Writes (first_line_usual ++ codes "\\def\\a#1ab{}\\message{\\a xa}\\end\n") (codes "! Argument of \\a has an extra }.\nl.2\nRunaway argument?\nxa\n! Paragraph ended before \\a was complete.\nl.2\n\\par \n") Finished }
+    ensures extra_brace_breaks_a_match { Writes (first_line_usual ++ codes "\\def\\a#1a\\par{[#1]}\\message{\\a xa}\\end\n") (codes "! Argument of \\a has an extra }.\nl.2\nRunaway argument?\nxa\n! Paragraph ended before \\a was complete.\nl.2\n\\par \n") Finished }
+    ensures extra_brace_then_par { Writes (first_line_usual ++ codes "\\def\\a#1\\par{[#1]}\\message{\\a x}\\end\n") (codes "! Argument of \\a has an extra }.\nl.2\n[x]\n") Finished }
+    ensures prefix { Writes (first_line_usual ++ codes "\\def\\a{\\message}\\long\\a{x}\\end\n") (codes "! You can't use a prefix with `\\message'.\nl.2\nx\n") Finished }
+    ensures prefix_letter { Writes (first_line_usual ++ codes "\\def\\a{x}\\global\\a\\end\n") (codes "! You can't use a prefix with `the letter x'.\nl.2\n{the letter x}\n") Finished }
+    ensures prefix_nothing { Writes (first_line_usual ++ codes "\\def\\a{}\\long\\a\\def\\b#1.{[#1]}\\message{\\b x\\par.}\\end\n") (codes "[x\\par ]\n") Finished }
+{}
+
+/// The machine run on small files with calls that a `\par` ends, and with long lists that run away.
+pub fn worked_paragraphs()
+    ensures paragraph { Writes (first_line_usual ++ codes "\\def\\a#1.{(#1)}\\a xy\\par z\\end\n") (codes "Runaway argument?\nxy\n! Paragraph ended before \\a was complete.\nl.2\n{\\par}\n{the letter z}\n") Finished }
+    ensures paragraph_undelimited { Writes (first_line_usual ++ codes "\\def\\a#1{(#1)}\\a \\par z\\end\n") (codes "Runaway argument?\n! Paragraph ended before \\a was complete.\nl.2\n{\\par}\n{the letter z}\n") Finished }
+    ensures paragraph_in_a_group { Writes (first_line_usual ++ codes "\\def\\a#1{[#1]}\\message{\\a{x{\\par}y}}\\end\n") (codes "Runaway argument?\n{x{\n! Paragraph ended before \\a was complete.\nl.2\n\\par \n{the letter y}\n{end-group character }}\n{end-group character }}\n") Finished }
+    ensures paragraph_like_a_delimiter { Writes (first_line_usual ++ codes "\\def\\a#1\\par x{[#1]}\\message{\\a{y\\par x}\\par x}\\end\n") (codes "Runaway argument?\n{y\n! Paragraph ended before \\a was complete.\nl.2\n\\par x\n{\\par}\n{the letter x}\n{end-group character }}\n") Finished }
+    ensures paragraph_in_a_match { Writes (first_line_usual ++ codes "\\def\\a#1ab{}\\a xa\\par\\end\n") (codes "Runaway argument?\nxa\n! Paragraph ended before \\a was complete.\nl.2\n{\\par}\n") Finished }
+    ensures cut_at_62 { Writes (first_line_usual ++ codes "\\def\\a#1.{}\\a abcdefghijklmnopqrstuvwxyzabcdefghijklmnopqrstuvwxyzabcdefghij\\par\\end\n") (codes "Runaway argument?\nabcdefghijklmnopqrstuvwxyzabcdefghijklmnopqrstuvwxyzabcdefghij\n! Paragraph ended before \\a was complete.\nl.2\n{\\par}\n") Finished }
+    ensures cut_beyond_62 { Writes (first_line_usual ++ codes "\\def\\a#1.{}\\a abcdefghijklmnopqrstuvwxyzabcdefghijklmnopqrstuvwxyzabcdefghijk\\par\\end\n") (codes "Runaway argument?\nabcdefghijklmnopqrstuvwxyzabcdefghijklmnopqrstuvwxyzabcdefghij\\ETC.\n! Paragraph ended before \\a was complete.\nl.2\n{\\par}\n") Finished }
+    ensures cut_behind_a_name { Writes (first_line_usual ++ codes "\\def\\a#1.{}\\a abcdefghijklmnopqrstuvwxyzabcdefghijklmnopqrstuvwxyzabcdefghi\\b c\\par\\end\n") (codes "Runaway argument?\nabcdefghijklmnopqrstuvwxyzabcdefghijklmnopqrstuvwxyzabcdefghi\\b \\ETC.\n! Paragraph ended before \\a was complete.\nl.2\n{\\par}\n") Finished }
+{}
+
+/// The machine run on small files that end within a definition or a call.
+pub fn worked_ends()
+    ensures ended_parameters { Writes (first_line_usual ++ codes "\\def\\a#1.") (codes "Runaway definition?\n#1. \n! File ended while scanning definition of \\a.\nl.0\n! Missing { inserted.\nl.0\n! Emergency stop.\n*** (job aborted, no legal \\end found)\n") (AtFatal NoEnd) }
+    ensures ended_definition { Writes (first_line_usual ++ codes "\\def\\a#1.{x") (codes "Runaway definition?\n#1.->x \n! File ended while scanning definition of \\a.\nl.0\n! Emergency stop.\n*** (job aborted, no legal \\end found)\n") (AtFatal NoEnd) }
+    ensures ended_expanded { Writes (first_line_usual ++ codes "\\def\\b{xy}\\edef\\a{\\b") (codes "Runaway definition?\n->xy\n! File ended while scanning definition of \\a.\nl.0\n! Emergency stop.\n*** (job aborted, no legal \\end found)\n") (AtFatal NoEnd) }
+    ensures ended_use { Writes (first_line_usual ++ codes "\\def\\a#1{}\n\\a{x") (codes "{blank space  }\nRunaway argument?\n{x \n! File ended while scanning use of \\a.\nl.0\n! Emergency stop.\n*** (job aborted, no legal \\end found)\n") (AtFatal NoEnd) }
+    ensures ended_delimited { Writes (first_line_usual ++ codes "\\def\\a#1.{}\\a xy") (codes "Runaway argument?\nxy \n! File ended while scanning use of \\a.\nl.0\n! Emergency stop.\n*** (job aborted, no legal \\end found)\n") (AtFatal NoEnd) }
+    ensures ended_in_a_group { Writes (first_line_usual ++ codes "\\def\\a#1ab{}\\a{xa%") (codes "Runaway argument?\n{xa\n! File ended while scanning use of \\a.\nl.0\n! Emergency stop.\n*** (job aborted, no legal \\end found)\n") (AtFatal NoEnd) }
+    ensures ended_in_a_match { Writes (first_line_usual ++ codes "\\def\\a#1ab{}\\a xa%") (codes "Runaway argument?\nx\n! File ended while scanning use of \\a.\nl.0\n! Emergency stop.\n*** (job aborted, no legal \\end found)\n") (AtFatal NoEnd) }
+    ensures ended_before_the_first { Writes (first_line_usual ++ codes "\\def\\a b{}\\a") (codes "Runaway argument?\n! File ended while scanning use of \\a.\nl.0\n! Use of \\a doesn't match its definition.\nl.0\n! Emergency stop.\n*** (job aborted, no legal \\end found)\n") (AtFatal NoEnd) }
+    ensures ended_without_a_token { Writes (first_line_usual ++ codes "\\def\\a#1.{}\\a") (codes "Runaway argument?\n! File ended while scanning use of \\a.\nl.0\n! Emergency stop.\n*** (job aborted, no legal \\end found)\n") (AtFatal NoEnd) }
+{}
+
+/// The machine run on small files where an `\outer` name comes within a definition, a call or a text.
+pub fn worked_outer_names()
+    ensures outer_parameters { Writes (first_line_usual ++ codes "\\outer\\def\\o{}\\def\\a#1\\o\\message{x}\\end\n") (codes "Runaway definition?\n#1\n! Forbidden control sequence found while scanning definition of \\a.\nl.2\n! Missing { inserted.\nl.2\nx\n") Finished }
+    ensures outer_parameters_behind { Writes (first_line_usual ++ codes "\\outer\\def\\o{}\\def\\a x\\o\\message{\\a x y}\\end\n") (codes "Runaway definition?\nx\n! Forbidden control sequence found while scanning definition of \\a.\nl.2\n! Missing { inserted.\nl.2\ny\n") Finished }
+    ensures outer_definition { Writes (first_line_usual ++ codes "\\outer\\def\\o{}\\def\\a#1.{#1x\\o\\message{\\a z.}\\end\n") (codes "Runaway definition?\n#1.->#1x\n! Forbidden control sequence found while scanning definition of \\a.\nl.2\nzx \n") Finished }
+    ensures outer_use { Writes (first_line_usual ++ codes "\\outer\\def\\o{}\\def\\a#1.{[#1]}\\a xy\\o z.\\end\n") (codes "Runaway argument?\nxy\n! Forbidden control sequence found while scanning use of \\a.\nl.2\n{the letter z}\n{the character .}\n") Finished }
+    ensures outer_use_long { Writes (first_line_usual ++ codes "\\outer\\def\\o{}\\long\\def\\a#1.{(#1)}\\a x\\o\\message{y}\\end\n") (codes "Runaway argument?\nx\n! Forbidden control sequence found while scanning use of \\a.\nl.2\ny\n") Finished }
+    ensures outer_in_a_match { Writes (first_line_usual ++ codes "\\outer\\def\\o{}\\def\\a#1ab{}\\a xa\\o\\message{x}\\end\n") (codes "Runaway argument?\nx\n! Forbidden control sequence found while scanning use of \\a.\nl.2\nx\n") Finished }
+    ensures outer_behind_the_first { Writes (first_line_usual ++ codes "\\outer\\def\\o{}\\def\\a b #1.{[#1]}\\a b\\o\\message{x}\\end\n") (codes "Runaway argument?\n! Forbidden control sequence found while scanning use of \\a.\nl.2\nx\n") Finished }
+    ensures outer_undelimited { Writes (first_line_usual ++ codes "\\outer\\def\\o{}\\def\\a#1{(#1)}\\a\\o\\message{x}\\end\n") (codes "Runaway argument?\n! Forbidden control sequence found while scanning use of \\a.\nl.2\nx\n") Finished }
+    ensures outer_in_a_group { Writes (first_line_usual ++ codes "\\outer\\def\\o{}\\def\\a#1{(#1)}\\a{x\\o\\message{y}\\end\n") (codes "Runaway argument?\n{x\n! Forbidden control sequence found while scanning use of \\a.\nl.2\ny\n") Finished }
+    ensures outer_before_the_first { Writes (first_line_usual ++ codes "\\outer\\def\\o{}\\def\\a b#1{}\\message{\\a\\o}\\end\n") (codes "Runaway argument?\n! Forbidden control sequence found while scanning use of \\a.\nl.2\n! Use of \\a doesn't match its definition.\nl.2\nRunaway text?\n\\par \n! Forbidden control sequence found while scanning text of \\message.\nl.2\n\\par  \n{end-group character }}\n") Finished }
+    ensures outer_then_par { Writes (first_line_usual ++ codes "\\outer\\def\\o{}\\def\\a#1\\par{[#1]}\\message{\\a x\\o y}\\end\n") (codes "Runaway argument?\nx\n! Forbidden control sequence found while scanning use of \\a.\nl.2\nRunaway text?\n[x ]\n! Forbidden control sequence found while scanning text of \\message.\nl.2\n[x ] \n{the letter y}\n{end-group character }}\n") Finished }
+    ensures outer_in_a_call_in_a_definition { Writes (first_line_usual ++ codes "\\outer\\def\\o{}\\def\\a#1.{(#1)}\\edef\\b{z\\a x\\o\\message{\\b}\\end\n") (codes "Runaway argument?\nx\n! Forbidden control sequence found while scanning use of \\a.\nl.2\nRunaway definition?\n->z\n! Forbidden control sequence found while scanning definition of \\b.\nl.2\nz \n") Finished }
+    ensures outer_text { Writes (first_line_usual ++ codes "\\outer\\def\\o{}\\message{x\\o y}\\end\n") (codes "Runaway text?\nx\n! Forbidden control sequence found while scanning text of \\message.\nl.2\nx \n{the letter y}\n{end-group character }}\n") Finished }
+    ensures outer_behind_long { Writes (first_line_usual ++ codes "\\long\\outer\\def\\o{}\\message{x\\o y}\\end\n") (codes "Runaway text?\nx\n! Forbidden control sequence found while scanning text of \\message.\nl.2\nx \n{the letter y}\n{end-group character }}\n") Finished }
+    ensures outer_in_a_text_in_a_group { Writes (first_line_usual ++ codes "\\outer\\def\\o{}\\message{x{\\o y}\\end\n") (codes "Runaway text?\nx{\n! Forbidden control sequence found while scanning text of \\message.\nl.2\nRunaway text?\nx{ }\n! Forbidden control sequence found while scanning text of \\message.\nl.2\nx{ } \n{the letter y}\n{end-group character }}\n") Finished }
+{}
+
+/// Macros that call themselves for ever: what comes at which step, and the end at the hundredth report.
+pub fn worked_loops()
+    ensures first_handed { Begins 159 (first_line_usual ++ codes "\\def\\a{x\\a}\\a") [] 38 }
+    ensures first { Begins 160 (first_line_usual ++ codes "\\def\\a{x\\a}\\a") (codes "{the letter x}\n") 38 }
+    ensures second_handed { Begins 166 (first_line_usual ++ codes "\\def\\a{x\\a}\\a") (codes "{the letter x}\n") 40 }
+    ensures second { Begins 167 (first_line_usual ++ codes "\\def\\a{x\\a}\\a") (codes "{the letter x}\n{the letter x}\n") 40 }
+    ensures hundred { RunsWithin 1200 (first_line_usual ++ codes "\\def\\a{\\foo\\a}\\a") (concat (replicate 100 (codes "! Undefined control sequence.\nl.2\n")) ++ codes "(That makes 100 errors; please try again.)\n") 236 (AtFatal HundredErrors) }
+{}
+
+/// The machine run on small files with numbers that are expanded.
+pub fn worked_numbers()
+    ensures negative { RunsSo (first_line_usual ++ codes "\\message{\\number-007 }\\end\n") (codes "-7\n") 42 Finished }
+    ensures nested { Writes (first_line_usual ++ codes "\\message{\\number\\number7 8 }\\end\n") (codes "78\n") Finished }
+    ensures of_a_macro { Writes (first_line_usual ++ codes "\\def\\a{1}\\message{\\number\\a2 x}\\end\n") (codes "12x\n") Finished }
+    ensures in_a_body { Writes (first_line_usual ++ codes "\\def\\a{\\number}\\message{\\a5\\relax}\\end\n") (codes "5\\relax \n") Finished }
+    ensures in_an_expanded_body { Writes (first_line_usual ++ codes "\\edef\\a{\\number\"FF \\number`\\a}\\message{\\a}\\end\n") (codes "25597\n") Finished }
+    ensures in_a_number { Writes (first_line_usual ++ codes "\\catcode\\number`\\%=12 \\message{%}\\end\n") (codes "%\n") Finished }
+    ensures behind_a_prefix { Writes (first_line_usual ++ codes "\\global\\number5\\end\n") (codes "! You can't use a prefix with `the character 5'.\nl.2\n{the character 5}\n") Finished }
+    ensures obeyed { RunsSo (first_line_usual ++ codes "\\number12\\end\n") (codes "{the character 1}\n{the character 2}\n") 37 Finished }
+    ensures missing { Writes (first_line_usual ++ codes "\\message{\\number\\relax}\\end\n") (codes "! Missing number, treated as zero.\nl.2\n0\\relax \n") Finished }
+    ensures too_big { Writes (first_line_usual ++ codes "\\message{\\number2147483648 }\\end\n") (codes "! Number too big.\nl.2\n2147483647\n") Finished }
+    ensures outer_in_a_definition { Writes (first_line_usual ++ codes "\\outer\\def\\o{}\\edef\\a{x\\number1\\o}\\message{\\a}\\end\n") (codes "Runaway definition?\n->x\n! Forbidden control sequence found while scanning definition of \\a.\nl.2\n{end-group character }}\nx1\n") Finished }
+    ensures outer_elsewhere { Writes (first_line_usual ++ codes "\\outer\\def\\o{y}\\number1\\o\\end\n") (codes "{the character 1}\n{the letter y}\n") Finished }
+    ensures file_ended { Writes (first_line_usual ++ codes "\\message{x\\number1%") (codes "Runaway text?\nx\n! File ended while scanning text of \\message.\nl.0\nx1\n! Emergency stop.\n*** (job aborted, no legal \\end found)\n") (AtFatal NoEnd) }
+    ensures depth { FillsWithin 400 (record default_sizes { expansion_depth = 8 }) (first_line_usual ++ codes "\\def\\a{\\number\\a}\\a") (record { table = ExpansionDepth; used = 8; size = 8 }) }
+    ensures text_words { Fills (record default_sizes { main_memory_size = 5 }) (first_line_usual ++ codes "\\message{\\number12 }\\end") (record { table = MainMemorySize; used = 5; size = 5 }) }
+    ensures text_words_fit { Fits (record default_sizes { main_memory_size = 6 }) (first_line_usual ++ codes "\\message{\\number12 }\\end") }
+    ensures text_level { Fills (record default_sizes { input_stack_size = 1 }) (codes "\\number1 \\end") (record { table = InputStackSize; used = 1; size = 1 }) }
+{}
+
+/// Small files within small sizes: the first table that is full, what is used of it, and its size.
+pub fn worked_refusals()
+    ensures fits { Fits default_sizes (first_line_usual ++ codes "\\message{hi}\\catcode`\\foo 5 \\end") }
+    ensures pool { Fills (record default_sizes { pool_size = 1691 }) (codes "\\catcode`\\foo 5 \\end") (record { table = PoolSize; used = 1689; size = 1691 }) }
+    ensures pool_fits { Fits (record default_sizes { pool_size = 1692 }) (codes "\\catcode`\\foo 5 \\end") }
+    ensures strings { Fills (record default_sizes { number_of_strings = 187 }) (codes "\\catcode`\\foo 5 \\end") (record { table = NumberOfStrings; used = 187; size = 187 }) }
+    ensures hash { Fills (record default_sizes { hash_size = 186 }) (codes "\\catcode`\\foo 5 \\end") (record { table = HashSize; used = 186; size = 186 }) }
+    ensures hash_fits { Fits (record default_sizes { hash_size = 186 }) (codes "\\foo\\end") }
+    ensures buffer { Fills (record default_sizes { buffer_size = 6 }) (codes "\\end  ") (record { table = BufferSize; used = 0; size = 6 }) }
+    ensures buffer_fits { Fits (record default_sizes { buffer_size = 7 }) (codes "\\end  ") }
+    ensures file_level { Fills (record default_sizes { input_stack_size = 0 }) (codes "\\end") (record { table = InputStackSize; used = 0; size = 0 }) }
+    ensures put_level { Fills (record default_sizes { input_stack_size = 1 }) (codes "\\catcode`\\x=1\\end") (record { table = InputStackSize; used = 1; size = 1 }) }
+    ensures finished_level { Fits (record default_sizes { input_stack_size = 2 }) (codes "\\catcode`\\x=1\\catcode`\\y=1\\end") }
+    ensures depth { Fills (record default_sizes { expansion_depth = 1 }) (codes "\\catcode`\\x=1 \\end") (record { table = ExpansionDepth; used = 1; size = 1 }) }
+    ensures text_list { Fills (record default_sizes { main_memory_size = 3 }) (first_line_usual ++ codes "\\message{abc}\\end") (record { table = MainMemorySize; used = 3; size = 3 }) }
+    ensures text_fits { Fits (record default_sizes { main_memory_size = 4 }) (first_line_usual ++ codes "\\message{abc}\\message{abc}\\end") }
+    ensures put_list { Fills (record default_sizes { main_memory_size = 1 }) (codes "\\catcode`\\x=1\\end") (record { table = MainMemorySize; used = 1; size = 1 }) }
+    ensures put_again { Fits (record default_sizes { main_memory_size = 2 }) (codes "\\catcode`\\x\\end\\end") }
+    ensures finished_list { Fits (record default_sizes { main_memory_size = 2 }) (codes "\\catcode`\\x=1\\catcode`\\y=1\\end") }
+{}
+
+/// Small files with macros within small sizes: the levels and the arguments of calls, and their readings.
+pub fn worked_levels()
+    ensures deep_calls { Fills (record default_sizes { input_stack_size = 20 }) (first_line_usual ++ codes "\\def\\a{\\a x}\\a") (record { table = InputStackSize; used = 20; size = 20 }) }
+    ensures last_calls { Fits (record default_sizes { input_stack_size = 2 }) (first_line_usual ++ codes "\\def\\a{\\b}\\def\\b{\\c}\\def\\c{xy}\\a\\end") }
+    ensures argument_level { Fills (record default_sizes { input_stack_size = 2 }) (first_line_usual ++ codes "\\def\\a#1{#1}\\a x\\end") (record { table = InputStackSize; used = 2; size = 2 }) }
+    ensures argument_level_fits { Fits (record default_sizes { input_stack_size = 3 }) (first_line_usual ++ codes "\\def\\a#1{#1}\\a x\\end") }
+    ensures gap_level { Fits (record default_sizes { input_stack_size = 2 }) (first_line_usual ++ codes "\\def\\a#1.{#1}\\a.\\end") }
+    ensures live_arguments { Fills (record default_sizes { parameter_stack_size = 9 }) (first_line_usual ++ codes "\\def\\a#1{\\a{#1}x}\\a y") (record { table = ParameterStackSize; used = 9; size = 9 }) }
+    ensures no_parameters { Fits (record default_sizes { parameter_stack_size = 0 }) (first_line_usual ++ codes "\\def\\a#1{}\\a x\\end") }
+    ensures gap_parameter { Fills (record default_sizes { parameter_stack_size = 0 }) (first_line_usual ++ codes "\\def\\a#1.{#1}\\a.\\end") (record { table = ParameterStackSize; used = 0; size = 0 }) }
+    ensures nine_parameters { Fits (record default_sizes { parameter_stack_size = 9 }) (first_line_usual ++ codes "\\def\\a#1#2#3#4#5#6#7#8#9{#1}\\a 123456789\\end") }
+    ensures ten_parameters { Fills (record default_sizes { parameter_stack_size = 9 }) (first_line_usual ++ codes "\\def\\a#1#2#3#4#5#6#7#8#9{\\b{#1}x}\\def\\b#1{#1}\\a 123456789\\end") (record { table = ParameterStackSize; used = 9; size = 9 }) }
+    ensures call_depth { Fills (record default_sizes { expansion_depth = 2 }) (first_line_usual ++ codes "\\def\\a#1{#1}\\message{\\a x}\\end") (record { table = ExpansionDepth; used = 2; size = 2 }) }
+    ensures call_depth_fits { Fits (record default_sizes { expansion_depth = 3 }) (first_line_usual ++ codes "\\def\\a#1{#1}\\message{\\a x}\\end") }
+    ensures plain_call_depth { Fits (record default_sizes { expansion_depth = 2 }) (first_line_usual ++ codes "\\def\\a{x}\\message{\\a}\\end") }
+    ensures argument_levels { Fills (record default_sizes { input_stack_size = 3 }) (first_line_usual ++ codes "\\def\\b{z}\\def\\a#1{#1}\\a{\\b y}\\end") (record { table = InputStackSize; used = 3; size = 3 }) }
+    ensures argument_levels_fit { Fits (record default_sizes { input_stack_size = 4 }) (first_line_usual ++ codes "\\def\\b{z}\\def\\a#1{#1}\\a{\\b y}\\end") }
+    ensures last_of_an_argument { Fits (record default_sizes { input_stack_size = 3 }) (first_line_usual ++ codes "\\def\\b{z}\\def\\a#1{#1}\\a{y\\b}\\end") }
+    ensures empty_body { Fits (record default_sizes { input_stack_size = 2 }) (first_line_usual ++ codes "\\def\\a{}\\def\\b#1{}\\def\\c{\\a\\b xy}\\c\\end") }
+    ensures parameters_first { Fills (record default_sizes { input_stack_size = 2; parameter_stack_size = 0 }) (first_line_usual ++ codes "\\def\\a#1{#1}\\def\\b{\\a xy}\\b\\end") (record { table = ParameterStackSize; used = 0; size = 0 }) }
+    ensures then_the_level { Fills (record default_sizes { input_stack_size = 2 }) (first_line_usual ++ codes "\\def\\a#1{#1}\\def\\b{\\a xy}\\b\\end") (record { table = InputStackSize; used = 2; size = 2 }) }
+{}
+
+/// Small files with macros within small sizes: the words of lists.
+pub fn worked_words()
+    ensures growing_in_100 { FillsWithin 900 (record default_sizes { main_memory_size = 100 }) (first_line_usual ++ codes "\\def\\b{xxxxxxxxxx}\\def\\a{\\edef\\b{\\b\\b}\\a}\\a") (record { table = MainMemorySize; used = 100; size = 100 }) }
+    ensures growing_in_101 { FillsWithin 900 (record default_sizes { main_memory_size = 101 }) (first_line_usual ++ codes "\\def\\b{xxxxxxxxxx}\\def\\a{\\edef\\b{\\b\\b}\\a}\\a") (record { table = MainMemorySize; used = 101; size = 101 }) }
+    ensures growing_in_102 { FillsWithin 900 (record default_sizes { main_memory_size = 102 }) (first_line_usual ++ codes "\\def\\b{xxxxxxxxxx}\\def\\a{\\edef\\b{\\b\\b}\\a}\\a") (record { table = MainMemorySize; used = 102; size = 102 }) }
+    ensures shared { Fills (record default_sizes { main_memory_size = 4 }) (first_line_usual ++ codes "\\def\\a{xyz}\\a\\a\\end") (record { table = MainMemorySize; used = 4; size = 4 }) }
+    ensures shared_fits { Fits (record default_sizes { main_memory_size = 5 }) (first_line_usual ++ codes "\\def\\a{xyz}\\a\\a\\end") }
+    ensures argument_words { Fills (record default_sizes { main_memory_size = 7 }) (first_line_usual ++ codes "\\def\\a#1{#1}\\a{xy}\\end") (record { table = MainMemorySize; used = 7; size = 7 }) }
+    ensures argument_words_fits { Fits (record default_sizes { main_memory_size = 8 }) (first_line_usual ++ codes "\\def\\a#1{#1}\\a{xy}\\end") }
+    ensures two_arguments { Fills (record default_sizes { main_memory_size = 10 }) (first_line_usual ++ codes "\\def\\a#1#2{#1#2}\\a{xy}z\\end") (record { table = MainMemorySize; used = 10; size = 10 }) }
+    ensures two_arguments_fits { Fits (record default_sizes { main_memory_size = 11 }) (first_line_usual ++ codes "\\def\\a#1#2{#1#2}\\a{xy}z\\end") }
+    ensures redefined { Fills (record default_sizes { main_memory_size = 17 }) (first_line_usual ++ codes "\\def\\a{\\def\\a{}\\def\\b{xx}}\\a\\end") (record { table = MainMemorySize; used = 17; size = 17 }) }
+    ensures redefined_fits { Fits (record default_sizes { main_memory_size = 18 }) (first_line_usual ++ codes "\\def\\a{\\def\\a{}\\def\\b{xx}}\\a\\end") }
+    ensures read_body { Fills (record default_sizes { main_memory_size = 9 }) (first_line_usual ++ codes "\\def\\a{\\def\\a{}}\\a\\def\\b{xxxxxx}\\end") (record { table = MainMemorySize; used = 9; size = 9 }) }
+    ensures read_body_fits { Fits (record default_sizes { main_memory_size = 10 }) (first_line_usual ++ codes "\\def\\a{\\def\\a{}}\\a\\def\\b{xxxxxx}\\end") }
+    ensures arguments_held { Fills (record default_sizes { main_memory_size = 17 }) (first_line_usual ++ codes "\\def\\a#1{\\def\\b{xx}#1#1}\\a{yy}\\end") (record { table = MainMemorySize; used = 17; size = 17 }) }
+    ensures arguments_held_fit { Fits (record default_sizes { main_memory_size = 18 }) (first_line_usual ++ codes "\\def\\a#1{\\def\\b{xx}#1#1}\\a{yy}\\end") }
+    ensures arguments_gone { Fits (record default_sizes { main_memory_size = 11 }) (first_line_usual ++ codes "\\def\\a#1{#1}\\a{xy}\\def\\b{xxxxx}\\end") }
+    ensures place_reached { Fills (record default_sizes { main_memory_size = 5 }) (first_line_usual ++ codes "\\def\\a b#1.{}\\a b.\\end") (record { table = MainMemorySize; used = 5; size = 5 }) }
+    ensures place_reached_fits { Fits (record default_sizes { main_memory_size = 6 }) (first_line_usual ++ codes "\\def\\a b#1.{}\\a b.\\end") }
+    ensures inner_call { Fills (record default_sizes { main_memory_size = 20 }) (first_line_usual ++ codes "\\def\\a#1{\\b{#1#1}}\\def\\b#1{#1}\\a{xy}\\end") (record { table = MainMemorySize; used = 20; size = 20 }) }
+    ensures inner_call_fits { Fits (record default_sizes { main_memory_size = 21 }) (first_line_usual ++ codes "\\def\\a#1{\\b{#1#1}}\\def\\b#1{#1}\\a{xy}\\end") }
+    ensures call_behind_a_finished_body { Fills (record default_sizes { main_memory_size = 25 }) (first_line_usual ++ codes "\\def\\a#1{\\def\\a{}\\b#1}\\def\\b#1{\\def\\c{yyyy}}\\a x\\end") (record { table = MainMemorySize; used = 25; size = 25 }) }
+    ensures call_behind_a_finished_body_fits { Fits (record default_sizes { main_memory_size = 26 }) (first_line_usual ++ codes "\\def\\a#1{\\def\\a{}\\b#1}\\def\\b#1{\\def\\c{yyyy}}\\a x\\end") }
+    ensures body_behind_a_finished_body { Fits (record default_sizes { main_memory_size = 19 }) (first_line_usual ++ codes "\\def\\a{\\def\\a{}\\b}\\def\\b{\\def\\c{yyyy}}\\a\\end") }
+{}
+
+/// The machine run on small files with expansions: `\expandafter`, `\noexpand`, `\string`, `\meaning`, `\romannumeral` and `\jobname`.
+pub fn worked_expansions()
+    ensures not_expanded { RunsSo (first_line_usual ++ codes "\\edef\\b{\\noexpand\\a\\string\\a}\\message{\\meaning\\b}\\end\n") (codes "macro:->\\a \\a\n") 60 Finished }
+    ensures redefined { Writes (first_line_usual ++ codes "\\def\\a{\\def\\a{n}\\message{old}}\\a\\message{\\meaning\\a}\\end\n") (codes "old macro:->n\n") Finished }
+    ensures roman { RunsSo (first_line_usual ++ codes "\\message{\\romannumeral1987,\\romannumeral-3 ,\\number-007 }\\end\n") (codes "mcmlxxxvii,,-7\n") 64 Finished }
+    ensures behind { Writes (first_line_usual ++ codes "\\def\\a#1{[#1]}\\def\\b{xy}\\message{\\expandafter\\a\\b}\\end\n") (codes "[x]y\n") Finished }
+    ensures behind_twice { RunsSo (first_line_usual ++ codes "\\def\\a{xy}\\expandafter\\message\\expandafter{\\a}\\end\n") (codes "xy\n") 47 Finished }
+    ensures behind_a_character { Writes (first_line_usual ++ codes "\\message{\\expandafter a\\expandafter b\\expandafter c\\number\\number7 8 }\\end\n") (codes "abc78\n") Finished }
+    ensures behind_the_unexpandable { RunsSo (first_line_usual ++ codes "\\expandafter\\relax\\relax\\end\n") (codes "") 36 Finished }
+    ensures behind_the_undefined { RunsSo (first_line_usual ++ codes "\\expandafter x\\zz\\end\n") (codes "! Undefined control sequence.\nl.2\n{the letter x}\n") 35 Finished }
+    ensures behind_a_mismatch { Writes (first_line_usual ++ codes "\\def\\a.{}\\expandafter x\\a y\\end\n") (codes "! Use of \\a doesn't match its definition.\nl.2\n{the letter x}\n") Finished }
+    ensures behind_at_the_end { Writes (first_line_usual ++ codes "\\expandafter") (codes "! Emergency stop.\n*** (job aborted, no legal \\end found)\n") (AtFatal NoEnd) }
+    ensures behind_at_the_end_of_a_text { Writes (first_line_usual ++ codes "\\message{\\expandafter") (codes "Runaway text?\n! File ended while scanning text of \\message.\nl.0\n! Emergency stop.\n*** (job aborted, no legal \\end found)\n") (AtFatal NoEnd) }
+    ensures behind_an_outer_name { Writes (first_line_usual ++ codes "\\outer\\def\\o{y}\\edef\\a{\\expandafter x\\o}\\message{\\meaning\\a}\\end\n") (codes "Runaway definition?\n->\n! Forbidden control sequence found while scanning definition of \\a.\nl.2\n{the letter y}\n{end-group character }}\nmacro:->x \n") Finished }
+    ensures marked { Writes (first_line_usual ++ codes "\\message{\\noexpand\\zz}\\end\n") (codes "\\zz \n") Finished }
+    ensures marked_entered { Enters (first_line_usual ++ codes "\\message{\\noexpand\\zz}\\end\n") (codes "zz" ∷ []) }
+    ensures marked_in_the_stomach { RunsSo (first_line_usual ++ codes "\\noexpand\\zz\\noexpand x\\end\n") (codes "{the letter x}\n") 37 Finished }
+    ensures marked_once { Writes (first_line_usual ++ codes "\\def\\a{x}\\message{\\noexpand\\a\\a}\\end\n") (codes "\\a x\n") Finished }
+    ensures marked_active { Writes (first_line_usual ++ codes "\\catcode`\\~=13 \\def~{t}\\message{\\noexpand~~}\\end\n") (codes "~t\n") Finished }
+    ensures marked_outer { Writes (first_line_usual ++ codes "\\outer\\def\\o{x}\\edef\\a{\\noexpand\\o}\\message{\\meaning\\a}\\end\n") (codes "macro:->\\o \n") Finished }
+    ensures outer_as_text { Writes (first_line_usual ++ codes "\\outer\\def\\o{x}\\edef\\a{[\\string\\o\\meaning\\o]}\\message{\\a}\\end\n") (codes "[\\o\\outer macro:->x]\n") Finished }
+    ensures string_of_characters { Writes (first_line_usual ++ codes "\\message{\\string a\\string{\\string\\zz\\string~\\string\\ \\string}}\\end\n") (codes "a{\\zz~\\ }\n") Finished }
+    ensures string_of_a_space { Writes (first_line_usual ++ codes "\\def\\a#1{\\message{[\\string#1]}}\\a{ }\\end\n") (codes "[ ]\n") Finished }
+    ensures string_in_the_stomach { RunsSo (first_line_usual ++ codes "\\string a\\end\n") (codes "{the character a}\n") 34 Finished }
+    ensures string_at_the_end_of_a_text { Writes (first_line_usual ++ codes "\\message{\\string") (codes "! Emergency stop.\n*** (job aborted, no legal \\end found)\n") (AtFatal NoEnd) }
+    ensures meanings_of_characters { Writes (first_line_usual ++ codes "\\message{\\meaning a,\\meaning 1,\\meaning{,\\meaning}}\\end\n") (codes "the letter a,the character 1,begin-group character {,end-group character }\n") Finished }
+    ensures meanings_of_names { Writes (first_line_usual ++ codes "\\message{\\meaning\\zz,\\meaning\\relax,\\meaning\\end,\\meaning~}\\end\n") (codes "undefined,\\relax,\\end,the character ~\n") Finished }
+    ensures job { WritesAs (codes "a/b.c/paper.x.tex") (first_line_usual ++ codes "\\message{[\\jobname]}\\end\n") (codes "[paper]\n") Finished }
+    ensures job_with_a_space { WritesAs (codes "my job.tex") (first_line_usual ++ codes "\\message{\\jobname}\\end\n") (codes "my job\n") Finished }
+    ensures job_in_the_stomach { WritesAs (codes "a1.tex") (first_line_usual ++ codes "\\jobname\\end\n") (codes "{the character a}\n{the character 1}\n") Finished }
+    ensures job_number { WritesAs (codes "42.tex") (first_line_usual ++ codes "\\message{\\romannumeral\\jobname}\\end\n") (codes "xlii\n") Finished }
+    ensures job_without_a_name { WritesAs (codes "") (first_line_usual ++ codes "\\message{[\\jobname]}\\end\n") (codes "[]\n") Finished }
+{}
+
+/// The machine run on small files with names that `\csname` spells.
+pub fn worked_spellings()
+    ensures let_behind { RunsSo (first_line_usual ++ codes "\\expandafter\\let\\csname ab\\endcsname\\relax\\end\n") (codes "") 40 Finished }
+    ensures becomes_relax { RunsSo (first_line_usual ++ codes "\\csname ab\\endcsname\\end\n") (codes "") 36 Finished }
+    ensures entered { Enters (first_line_usual ++ codes "\\csname ab\\endcsname\\csname ab\\endcsname\\csname a\\endcsname\\end\n") (codes "ab" ∷ []) }
+    ensures relax_meant { Writes (first_line_usual ++ codes "\\csname ab\\endcsname\\message{\\expandafter\\meaning\\csname ab\\endcsname}\\end\n") (codes "\\relax\n") Finished }
+    ensures one_character { Writes (first_line_usual ++ codes "\\csname a\\endcsname\\message{\\meaning\\a\\csname a\\endcsname}\\end\n") (codes "\\relax\\a \n") Finished }
+    ensures empty_name { Writes (first_line_usual ++ codes "\\message{\\expandafter\\string\\csname\\endcsname,\\csname\\endcsname}\\end\n") (codes "\\csname\\endcsname,\\csname\\endcsname \n") Finished }
+    ensures defined { Writes (first_line_usual ++ codes "\\expandafter\\def\\csname x\\number007\\endcsname{z}\\message{\\csname x7\\endcsname}\\end\n") (codes "z\n") Finished }
+    ensures expanded { RunsSo (first_line_usual ++ codes "\\def\\b{a}\\def\\aa{y}\\csname\\b\\b\\endcsname\\end\n") (codes "{the letter y}\n") 49 Finished }
+    ensures with_a_space { Writes (first_line_usual ++ codes "\\message{\\expandafter\\string\\csname a b\\endcsname}\\end\n") (codes "\\a b\n") Finished }
+    ensures with_braces { Writes (first_line_usual ++ codes "\\message{\\csname{}#1\\endcsname}\\end\n") (codes "\\{}#1 \n") Finished }
+    ensures ended_by_another_name { Writes (first_line_usual ++ codes "\\let\\e=\\endcsname\\message{\\csname ab\\e}\\end\n") (codes "\\ab \n") Finished }
+    ensures missing { Writes (first_line_usual ++ codes "\\message{\\csname ab}\\end") (codes "! Missing \\endcsname inserted.\nl.2\nRunaway text?\n\\ab} \\end \n! File ended while scanning text of \\message.\nl.0\n\\ab} \\end \n! Emergency stop.\n*** (job aborted, no legal \\end found)\n") (AtFatal NoEnd) }
+    ensures missing_before_relax { Writes (first_line_usual ++ codes "\\message{\\csname ab\\relax\\endcsname}\\end\n") (codes "! Missing \\endcsname inserted.\nl.2\n\\ab \\relax \\endcsname \n") Finished }
+    ensures missing_before_a_marked_name { Writes (first_line_usual ++ codes "\\message{\\csname a\\noexpand\\zz\\endcsname}\\end\n") (codes "! Missing \\endcsname inserted.\nl.2\n! Undefined control sequence.\nl.2\n\\a \\endcsname \n") Finished }
+    ensures within_another { Writes (first_line_usual ++ codes "\\csname a\\csname b\\endcsname\\endcsname\\end\n") (codes "! Missing \\endcsname inserted.\nl.2\n! Extra \\endcsname.\nl.2\n") Finished }
+    ensures undefined_within { Writes (first_line_usual ++ codes "\\csname a\\zz b\\endcsname\\message{\\meaning\\ab}\\end\n") (codes "! Undefined control sequence.\nl.2\n\\relax\n") Finished }
+    ensures extra { RunsSo (first_line_usual ++ codes "\\endcsname\\end\n") (codes "! Extra \\endcsname.\nl.2\n") 32 Finished }
+    ensures extra_in_a_text { Writes (first_line_usual ++ codes "\\message{\\endcsname}\\end\n") (codes "\\endcsname \n") Finished }
+    ensures outer_allowed { Enters (first_line_usual ++ codes "\\outer\\def\\o{x\\endcsname}\\csname b\\o\\end\n") (codes "bx" ∷ []) }
+    ensures outer_in_a_definition { RunsWithin 4000 (first_line_usual ++ codes "\\outer\\def\\o{}\\edef\\a{x\\csname b\\o\\endcsname}\\message{\\meaning\\a}\\end\n") (concat (replicate 100 (codes "Runaway definition?\n->x\n! Forbidden control sequence found while scanning definition of \\a.\nl.2\n")) ++ codes "(That makes 100 errors; please try again.)\n") 240 (AtFatal HundredErrors) }
+    ensures outer_spelt_in_a_text { Writes (first_line_usual ++ codes "\\outer\\def\\o{y}\\message{x\\csname o\\endcsname}\\end\n") (codes "Runaway text?\nx\n! Forbidden control sequence found while scanning text of \\message.\nl.2\nx \n{the letter y}\n{end-group character }}\n") Finished }
+    ensures ended_file { Writes (first_line_usual ++ codes "\\message{x\\csname ab") (codes "Runaway text?\nx\n! File ended while scanning text of \\message.\nl.0\n! Emergency stop.\n*** (job aborted, no legal \\end found)\n") (AtFatal NoEnd) }
+{}
+
+/// The machine run on small files with names that are let mean something: `\let`, `\futurelet` and `\ignorespaces`.
+pub fn worked_meanings()
+    ensures name { RunsSo (first_line_usual ++ codes "\\let\\a\\b\\end\n") (codes "") 34 Finished }
+    ensures equals { RunsSo (first_line_usual ++ codes "\\let\\a= \\b\\end\n") (codes "") 36 Finished }
+    ensures future { RunsSo (first_line_usual ++ codes "\\futurelet\\a\\b\\relax\\end\n") (codes "! Undefined control sequence.\nl.2\n") 37 Finished }
+    ensures letter { Writes (first_line_usual ++ codes "\\let\\b=x\\b\\message{\\meaning\\b,\\b}\\end\n") (codes "{the letter x}\nthe letter x,\\b \n") Finished }
+    ensures command { Writes (first_line_usual ++ codes "\\let\\m\\message\\m{hi}\\global\\m{x}\\end\n") (codes "hi\n! You can't use a prefix with `\\message'.\nl.2\nx\n") Finished }
+    ensures name_in_a_report { Writes (first_line_usual ++ codes "\\let\\m\\message\\m{hi") (codes "Runaway text?\nhi \n! File ended while scanning text of \\m.\nl.0\nhi \n! Emergency stop.\n*** (job aborted, no legal \\end found)\n") (AtFatal NoEnd) }
+    ensures of_a_macro { Writes (first_line_usual ++ codes "\\def\\a{x}\\let\\b=\\a\\def\\a{y}\\message{\\a\\b}\\let\\a\\a\\message{\\a}\\end\n") (codes "yx y\n") Finished }
+    ensures undefined { Writes (first_line_usual ++ codes "\\let\\relax\\zz\\relax\\end\n") (codes "! Undefined control sequence.\nl.2\n") Finished }
+    ensures undefined_entered { Enters (first_line_usual ++ codes "\\let\\a\\zz\\futurelet\\a\\relax\\yy\\end\n") (codes "zz" ∷ codes "yy" ∷ []) }
+    ensures outer { Writes (first_line_usual ++ codes "\\outer\\def\\o{x}\\let\\p=\\o\\message{\\p}\\end\n") (codes "Runaway text?\n! Forbidden control sequence found while scanning text of \\message.\nl.2\n \n{the letter x}\n{end-group character }}\n") Finished }
+    ensures equals_sign { Writes (first_line_usual ++ codes "\\let\\: = =\\message{\\meaning\\:}\\let\\a==\\message{\\meaning\\a}\\end\n") (codes "the character = the character =\n") Finished }
+    ensures second_space { Writes (first_line_usual ++ codes "\\def\\d#1{\\let\\z=#1#1x}\\d{ }\\message{[\\meaning\\z]}\\end\n") (codes "{the letter x}\n[blank space  ]\n") Finished }
+    ensures implicit_space { Writes (first_line_usual ++ codes "\\def\\:{\\let\\sp= }\\: \\message{\\number7\\sp8[\\meaning\\sp]}\\end\n") (codes "78[blank space  ]\n") Finished }
+    ensures implicit_brace { Writes (first_line_usual ++ codes "\\let\\bgroup={\\message\\bgroup hi}\\def\\a\\bgroup{x}\\message{\\meaning\\a}\\end\n") (codes "hi macro:\\bgroup ->x\n") Finished }
+    ensures implicit_parameter { Writes (first_line_usual ++ codes "\\let\\hash=#\\def\\a\\hash1{[\\hash1]}\\message{\\a x\\meaning\\a}\\end\n") (codes "[x]macro:#1->[#1]\n") Finished }
+    ensures prefixed { Writes (first_line_usual ++ codes "\\global\\let\\a=b\\long\\let\\a=c\\message{\\meaning\\a}\\end\n") (codes "! You can't use `\\long' or `\\outer' with `\\let'.\nl.2\nthe letter c\n") Finished }
+    ensures missing_name { RunsSo (first_line_usual ++ codes "\\let 5\\relax\\end\n") (codes "! Missing control sequence inserted.\nl.2\n") 36 Finished }
+    ensures behind_noexpand { Writes (first_line_usual ++ codes "\\expandafter\\let\\expandafter\\a\\noexpand\\b\\message{\\a\\meaning\\a}\\end\n") (codes "\\a \\relax\n") Finished }
+    ensures future_brace { Writes (first_line_usual ++ codes "\\futurelet\\n\\message{\\meaning\\n}\\end\n") (codes "begin-group character {\n") Finished }
+    ensures future_letter { Writes (first_line_usual ++ codes "\\def\\a#1{\\message{\\meaning\\n,#1}}\\futurelet\\n\\a xy\\end\n") (codes "the letter x,x\n{the letter y}\n") Finished }
+    ensures future_space { Writes (first_line_usual ++ codes "\\def\\a{\\message{[\\meaning\\n]}}\\def\\:{\\futurelet\\n\\a}\\: x\\end\n") (codes "[blank space  ]\n{blank space  }\n{the letter x}\n") Finished }
+    ensures ignored_spaces { RunsSo (first_line_usual ++ codes "\\ignorespaces  x\\end\n") (codes "{the letter x}\n") 33 Finished }
+    ensures ignored_spaces_expanded { RunsSo (first_line_usual ++ codes "\\def\\a{ }\\ignorespaces\\a\\a x\\end\n") (codes "{the letter x}\n") 42 Finished }
+    ensures ignored_before_a_command { Writes (first_line_usual ++ codes "\\ignorespaces\\zz\\ignorespaces\\message{hi}\\ignorespaces\\relax\\ignorespaces\\end\n") (codes "! Undefined control sequence.\nl.2\nhi\n") Finished }
+    ensures ignored_before_a_prefix { Writes (first_line_usual ++ codes "\\ignorespaces\\global\\let\\a=b\\message{\\meaning\\a}\\global\\ignorespaces x\\end\n") (codes "the letter b\n! You can't use a prefix with `\\ignorespaces'.\nl.2\n{the letter x}\n") Finished }
+{}
+
+/// The machine run on small files that show something: `\show` and `\errmessage`.
+pub fn worked_shown()
+    ensures undefined { Writes (first_line_usual ++ codes "\\show\\undefd\\end\n") (codes "> \\undefd=undefined.\nl.2\n") Finished }
+    ensures undefined_counts { Counts (first_line_usual ++ codes "\\show\\undefd\\end\n") 0 true }
+    ensures undefined_entered { Enters (first_line_usual ++ codes "\\show\\undefd\\end\n") (codes "undefd" ∷ []) }
+    ensures of_a_macro { Writes (first_line_usual ++ codes "\\def\\a{xy}\\show\\a\\end\n") (codes "> \\a=macro:\n->xy.\nl.2\n") Finished }
+    ensures long_outer_macro { Writes (first_line_usual ++ codes "\\long\\outer\\def\\a#1.{[#1]}\\show\\a\\end\n") (codes "> \\a=\\long\\outer macro:\n#1.->[#1].\nl.2\n") Finished }
+    ensures letter { RunsSo (first_line_usual ++ codes "\\show a\\end\n") (codes "> the letter a.\nl.2\n") 33 Finished }
+    ensures characters { Writes (first_line_usual ++ codes "\\def\\a#1{\\show#1}\\a{ }\\show{\\show}\\show#\\show~\\show\\par\\end\n") (codes "> blank space  .\nl.2\n> begin-group character {.\nl.2\n> end-group character }.\nl.2\n> macro parameter character #.\nl.2\n> the character ~.\nl.2\n> \\par=\\par.\nl.2\n") Finished }
+    ensures primitive_of_another_name { Writes (first_line_usual ++ codes "\\let\\l\\let\\show\\l\\end\n") (codes "> \\l=\\let.\nl.2\n") Finished }
+    ensures marked { Writes (first_line_usual ++ codes "\\expandafter\\show\\noexpand\\zz\\end\n") (codes "> \\zz=\\relax.\nl.2\n") Finished }
+    ensures active { Writes (first_line_usual ++ codes "\\catcode`\\~=13 \\def~{x}\\show~\\end\n") (codes "> ~=macro:\n->x.\nl.2\n") Finished }
+    ensures on_a_fresh_line { Writes (first_line_usual ++ codes "\\message{hi}\\show a\\message{ho}\\end\n") (codes "hi\n> the letter a.\nl.2\nho\n") Finished }
+    ensures not_counted { Counts (first_line_usual ++ codes "\\show a\\zz\\show b\\end\n") 1 true }
+    ensures no_flaw { Counts (first_line_usual ++ codes "\\message{hi}\\end\n") 0 false }
+    ensures error { Writes (first_line_usual ++ codes "\\errmessage{no {x}}\\end\n") (codes "! no {x}.\nl.2\n") Finished }
+    ensures error_counts { Counts (first_line_usual ++ codes "\\errmessage{no {x}}\\end\n") 1 false }
+    ensures error_expanded { Writes (first_line_usual ++ codes "\\def\\a{b}\\errmessage{\\a\\relax}\\errmessage{}\\end\n") (codes "! b\\relax .\nl.2\n! .\nl.2\n") Finished }
+    ensures error_without_a_brace { Writes (first_line_usual ++ codes "\\errmessage x}\\end\n") (codes "! Missing { inserted.\nl.2\n! x.\nl.2\n") Finished }
+    ensures error_behind_a_prefix { Writes (first_line_usual ++ codes "\\global\\errmessage{x}\\end\n") (codes "! You can't use a prefix with `\\errmessage'.\nl.2\n! x.\nl.2\n") Finished }
+    ensures error_at_the_end { Writes (first_line_usual ++ codes "\\errmessage{hi") (codes "Runaway text?\nhi \n! File ended while scanning text of \\errmessage.\nl.0\n! hi .\nl.0\n! Emergency stop.\n*** (job aborted, no legal \\end found)\n") (AtFatal NoEnd) }
+    ensures hundred_errors { RunsWithin 4000 (first_line_usual ++ codes "\\def\\a{\\errmessage{x}\\a}\\a\n") (concat (replicate 100 (codes "! x.\nl.2\n")) ++ codes "(That makes 100 errors; please try again.)\n") 539 (AtFatal HundredErrors) }
+{}
+
+/// Small files with expansions and names that are let mean something, within small sizes.
+pub fn worked_spelling_sizes()
+    ensures name_words { Fills (record default_sizes { main_memory_size = 4 }) (first_line_usual ++ codes "\\csname ab\\endcsname\\end") (record { table = MainMemorySize; used = 4; size = 4 }) }
+    ensures name_words_fit { Fits (record default_sizes { main_memory_size = 5 }) (first_line_usual ++ codes "\\csname ab\\endcsname\\end") }
+    ensures missing_words { Fills (record default_sizes { main_memory_size = 4 }) (first_line_usual ++ codes "\\csname ab\\relax\\end") (record { table = MainMemorySize; used = 4; size = 4 }) }
+    ensures name_pool { Fills (record default_sizes { pool_size = 1690 }) (first_line_usual ++ codes "\\csname ab\\endcsname\\end") (record { table = PoolSize; used = 1689; size = 1690 }) }
+    ensures name_pool_fits { Fits (record default_sizes { pool_size = 1691 }) (first_line_usual ++ codes "\\csname ab\\endcsname\\csname ab\\endcsname\\csname a\\endcsname\\end") }
+    ensures name_strings { Fills (record default_sizes { number_of_strings = 187 }) (first_line_usual ++ codes "\\csname ab\\endcsname\\end") (record { table = NumberOfStrings; used = 187; size = 187 }) }
+    ensures name_hash { Fills (record default_sizes { hash_size = 186 }) (first_line_usual ++ codes "\\csname ab\\endcsname\\end") (record { table = HashSize; used = 186; size = 186 }) }
+    ensures name_depth { Fills (record default_sizes { expansion_depth = 2 }) (first_line_usual ++ codes "\\message{\\csname ab\\endcsname}\\end") (record { table = ExpansionDepth; used = 2; size = 2 }) }
+    ensures name_depth_fits { Fits (record default_sizes { expansion_depth = 3 }) (first_line_usual ++ codes "\\message{\\csname ab\\endcsname}\\end") }
+    ensures job_depth { Fills (record default_sizes { expansion_depth = 2 }) (first_line_usual ++ codes "\\message{\\jobname}\\end") (record { table = ExpansionDepth; used = 2; size = 2 }) }
+    ensures behind_depth { Fills (record default_sizes { expansion_depth = 2 }) (first_line_usual ++ codes "\\message{\\expandafter xy}\\end") (record { table = ExpansionDepth; used = 2; size = 2 }) }
+    ensures behind_depth_fits { Fits (record default_sizes { expansion_depth = 3 }) (first_line_usual ++ codes "\\def\\b{y}\\message{\\expandafter x\\b}\\end") }
+    ensures call_behind_depth { Fills (record default_sizes { expansion_depth = 3 }) (first_line_usual ++ codes "\\def\\b#1{#1}\\message{\\expandafter x\\b y}\\end") (record { table = ExpansionDepth; used = 3; size = 3 }) }
+    ensures behind_levels { Fills (record default_sizes { input_stack_size = 2 }) (first_line_usual ++ codes "\\expandafter\\relax\\relax\\end") (record { table = InputStackSize; used = 2; size = 2 }) }
+    ensures behind_levels_fit { Fits (record default_sizes { input_stack_size = 3 }) (first_line_usual ++ codes "\\expandafter\\relax\\relax\\end") }
+    ensures string_level { Fills (record default_sizes { input_stack_size = 1 }) (codes "\\string a\\end") (record { table = InputStackSize; used = 1; size = 1 }) }
+    ensures string_words { Fills (record default_sizes { main_memory_size = 3 }) (first_line_usual ++ codes "\\string\\ab\\end") (record { table = MainMemorySize; used = 3; size = 3 }) }
+    ensures string_words_fit { Fits (record default_sizes { main_memory_size = 4 }) (first_line_usual ++ codes "\\string\\ab\\end") }
+    ensures empty_text_word { Fills (record default_sizes { main_memory_size = 3 }) (first_line_usual ++ codes "\\message{ab\\romannumeral0 }\\end") (record { table = MainMemorySize; used = 3; size = 3 }) }
+    ensures empty_text_word_fits { Fits (record default_sizes { main_memory_size = 4 }) (first_line_usual ++ codes "\\message{ab\\romannumeral0 }\\end") }
+    ensures shared { Fills (record default_sizes { main_memory_size = 4 }) (first_line_usual ++ codes "\\def\\a{abc}\\let\\b=\\a\\let\\c=\\a\\end") (record { table = MainMemorySize; used = 4; size = 4 }) }
+    ensures shared_fits { Fits (record default_sizes { main_memory_size = 5 }) (first_line_usual ++ codes "\\def\\a{abc}\\let\\b=\\a\\let\\c=\\a\\end") }
+    ensures shared_and_redefined { Fills (record default_sizes { main_memory_size = 10 }) (first_line_usual ++ codes "\\def\\a{abc}\\let\\b=\\a\\def\\a{}\\def\\c{xy}\\end") (record { table = MainMemorySize; used = 10; size = 10 }) }
+    ensures shared_and_redefined_fits { Fits (record default_sizes { main_memory_size = 11 }) (first_line_usual ++ codes "\\def\\a{abc}\\let\\b=\\a\\def\\a{}\\def\\c{xy}\\end") }
+    ensures let_go { Fits (record default_sizes { main_memory_size = 8 }) (first_line_usual ++ codes "\\def\\a{abcdef}\\let\\a\\relax\\def\\c{xyzuvw}\\end") }
+{}
