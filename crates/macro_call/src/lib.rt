@@ -14,7 +14,7 @@ mod present;
 mod scan;
 mod tokens;
 
-pub use cursor::Cursor;
+pub use cursor::{Cursor, at_first, at_first_built};
 pub use laws::{
     arguments_are_shortest, calls_end_at_once, checks_show_at_pars, delimited_lists_are_balanced,
     matches_restart, one_group_loses_braces, scanners_have_lists, scans_gather, worked_calls,
