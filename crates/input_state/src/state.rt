@@ -272,6 +272,13 @@ impl Input {
         self.held.list()
     }
 
+    /// How many lists the innermost reading holds.
+    pub fn list_count(&self) -> usize
+        ensures { result ≡ length self.now.builds }
+    {
+        self.held.list_count() - self.aside
+    }
+
     /// One of the innermost reading's lists, by its number from the innermost, and the memory in which it stands.
     pub fn list_number(&self, k: u32) -> (&Lists, &Build)
         requires { k < length self.now.builds }

@@ -104,11 +104,11 @@ top_taken : (held : Lists) → 1 ≤ length held → top_list held ∷ [] ≡ ta
 top_taken [] h = absurd (omega (arith, h))
 top_taken (list ∷ held) h = refl
 
-listed_now : (b : Bool) (held : Lists) → listed_count b ≤ length held → listed_lists b held ≡ take (listed_count b) held
+pub listed_now : (b : Bool) (held : Lists) → listed_count b ≤ length held → listed_lists b held ≡ take (listed_count b) held
 listed_now true held h = top_taken held h
 listed_now false held h = refl
 
-built_now : (f : Frame) (held : Lists) → list_count f ≤ length held → building f held [] ≡ take (list_count f) held
+pub built_now : (f : Frame) (held : Lists) → list_count f ≤ length held → building f held [] ≡ take (list_count f) held
 built_now (Command (command.Reads f) p) held h = frame_bare f
 built_now (Command (command.Acts c e) p) held h = refl
 built_now (Command (command.ActsOn c e b) p) held h = listed_now b held h

@@ -10,3 +10,4 @@ pub mod Rows
 pub mod Weights
 pub mod Rules
 pub mod Braces
+pub mod Whole

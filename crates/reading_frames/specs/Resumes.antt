@@ -3,6 +3,7 @@ use Rattle.std.specs.Prelude.{ℕ, ◌≡◌, ◌+◌, Bool, true, false, not, L
 use Rattle.tex_defs.specs.declared.Name.{Name}
 use Rattle.tex_defs.specs.declared.Token.{Token}
 use Rattle.tex_syntax.specs.declared.words.Scanned.{Scanned}
+use Rattle.tex_syntax.specs.declared.words.Scanned.TheVariants as scanned
 use Rattle.tex_syntax.specs.declared.words.Manner.{Manner}
 use Rattle.plain_state.specs.Definitions as build
 use Rattle.list_builder.specs.Stages as stages
@@ -158,10 +159,15 @@ Owns (answer.Done (value.Plain d) back) n = n ≡ 0
 Owns (answer.Acts c e) n = n ≡ 0
 Owns a n = Unit {0}
 
+-- what is read where a list is built: that of a macro, or a text
+abbrev pub built_as : (defines : Bool) → Scanned
+built_as true = scanned.Definition
+built_as false = scanned.Text
+
 -- what it is at a check
 abbrev pub frame_status : Frame → Status
 frame_status (Command scan primitive) = command_status (reads_under_normal primitive)
-frame_status (Build scan) = Scans scan.what scan.manner.name
+frame_status (Build scan) = Scans (built_as scan.defines) scan.manner.name
 frame_status f = Inherits
 
 -- what is read at a check, and its name, where a reading is of this status; and whether it reads its token under normal status

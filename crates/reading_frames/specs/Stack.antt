@@ -5,10 +5,11 @@ use Rattle.tex_defs.specs.declared.Name.{Name}
 use Rattle.tex_defs.specs.declared.Table.TheVariants.{ExpansionDepth}
 use Rattle.tex_syntax.specs.declared.words.Scanned.{Scanned}
 use Rattle.rows.specs.Readings as reading
+use Rattle.rows.specs.Readings.{Fed}
 use Rattle.plain_readings.specs.Readings.{Reading, ask}
 use Rattle.plain_readings.specs.Scanning.{Status, Scans, Unguarded, Scanning}
 use Rattle.reading_frames.specs.Sees.{Lists, top_list, ask_of}
-use Rattle.reading_frames.specs.Resumes.{resume, list_count, frame_status, groups}
+use Rattle.reading_frames.specs.Resumes.{resume, building, list_count, frame_status, groups}
 use Rattle.reading_frames.specs.Stands.{AreShallow}
 use Rattle.reading_frames.specs.declared.ask.Ask.{Ask}
 use Rattle.reading_frames.specs.declared.frame.Frame.{Frame}
@@ -58,6 +59,24 @@ innermost_count (f ∷ fs) = list_count f
 
 abbrev pub lists_beneath : List Frame → Lists → Lists
 lists_beneath fs held = drop (innermost_count fs) held
+
+-- the lists that the innermost will have built
+abbrev pub innermost_lists : List Frame → Lists → List Fed → Lists
+innermost_lists [] held fed = []
+innermost_lists (f ∷ fs) held fed = building f held fed
+
+-- the innermost, and all with this one in its place
+abbrev pub innermost_of : List Frame → Option Frame
+innermost_of [] = None
+innermost_of (f ∷ fs) = Some f
+
+abbrev pub in_place : Frame → List Frame → List Frame
+in_place f [] = []
+in_place f (g ∷ fs) = f ∷ fs
+
+abbrev pub with_innermost : Option Frame → List Frame → List Frame
+with_innermost None fs = fs
+with_innermost (Some f) fs = in_place f fs
 
 -- WHAT IS READ AT A CHECK: this, under its name; its list is the one of this number among those that are held, the innermost being number 0.
 abbrev pub Found : Type 0

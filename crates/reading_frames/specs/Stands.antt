@@ -2,7 +2,7 @@
 use Rattle.std.specs.Prelude.{◌≡◌, ◌≤◌, length, List, [], ◌∷◌, ◌++◌, drop, take}
 use Rattle.rows.specs.declared.words.Kind.TheVariants.{Command, Integer}
 use Rattle.rows.specs.Readings.{Fed}
-use Rattle.plain_readings.specs.Readings.{Kind, Reading, ask, lists, fed_with, opened}
+use Rattle.plain_readings.specs.Readings.{Kind, Arguments, Reading, ask, lists, fed_with, opened}
 use Rattle.plain_readings.specs.Scanning.{status}
 use Rattle.reading_frames.specs.Sees.{Lists, top_list}
 use Rattle.reading_frames.specs.Resumes.{resume, building, list_count, below, frame_status, groups}
@@ -10,12 +10,18 @@ use Rattle.reading_frames.specs.declared.ask.Opening.{Opening}
 use Rattle.reading_frames.specs.declared.ask.Opening.TheVariants.{Reads, Behind}
 use Rattle.reading_frames.specs.declared.frame.Frame.{Frame}
 
+-- not the arguments of a call
+abbrev pub IsFramed : Kind → Type 0
+IsFramed (Arguments name long number text) = ⊥
+IsFramed k = Unit {0}
+
 -- The frame will answer what the reading will, and build the lists that it builds; its lists are held, and at a check it is what the reading is.
 pub record FrameStands (f : Frame) (held : Lists) (r : Reading) : Type 0 where
   pub goes_on : (fed : List Fed) → ask r.kind (r.fed ++ fed) ≡ resume f held fed
   pub builds_on : (fed : List Fed) → lists r.kind (r.fed ++ fed) ≡ building f held fed
   pub holds : list_count f ≤ length held
   pub checks : status r.kind ≡ frame_status f
+  pub framed : IsFramed r.kind
 
 -- THE STACK, innermost first, each frame with its own lists and those beneath
 abbrev pub FramesStand : List Frame → Lists → List Reading → Type 0
@@ -43,6 +49,7 @@ pub record Begins (k : Kind) (f : Frame) (held new : Lists) : Type 0 where
   pub holds : list_count f ≤ length new
   pub beneath : below f new ≡ held
   pub checks : status k ≡ frame_status f
+  pub framed : IsFramed k
 
 -- A frame that is fed with this becomes another, and the lists become others.
 pub record GoesOn (old new : Frame) (held held' : Lists) (y : Fed) : Type 0 where

@@ -95,6 +95,7 @@ impl Frame {
         ensures beneath { (held : Lists) → below self.new (on_top result held) ≡ below self.old held }
         ensures checks { frame_status self.new ≡ frame_status self.old }
         ensures shallow { groups self.new ≤ groups self.old + token_count result }
+        ensures listed { 1 ≤ token_count result → list_count self.old ≡ 1 }
     {
         match self {
             Frame::Command(scan, _) => {
@@ -121,6 +122,7 @@ impl Frame {
         ensures beneath { (held : Lists) → below self.new (on_top result held) ≡ below self.old held }
         ensures checks { frame_status self.new ≡ frame_status self.old }
         ensures shallow { groups self.new ≤ groups self.old + token_count result }
+        ensures listed { 1 ≤ token_count result → list_count self.old ≡ 1 }
     {
         match self {
             Frame::Command(scan, _) => {
@@ -168,6 +170,16 @@ impl Frame {
         }
     }
 
+    /// The groups that are open in the list that it builds.
+    pub fn groups(&self) -> usize
+        ensures { result ≡ groups self.now }
+    {
+        match self {
+            Frame::Build(scan) => scan.groups(),
+            _ => 0,
+        }
+    }
+
     /// How many lists of its own it has.
     pub fn list_count(&self) -> u32
         ensures is { result ≡ list_count self.now }
@@ -185,7 +197,7 @@ impl Frame {
         ensures { result ≡ read_at (frame_status self.now) }
     {
         match self {
-            Frame::Build(scan) => Some((scan.what, scan.manner.name)),
+            Frame::Build(scan) => Some((scan.what(), scan.manner.name)),
             _ => None,
         }
     }

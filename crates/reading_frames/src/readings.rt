@@ -1,15 +1,15 @@
 // All open readings.
-ghost use Rattle.std.specs.Prelude.{◌≡◌, ◌≤◌, ◌<◌, ◌+◌, ◌-◌, ◌*◌, ◌^◌, List, [], ◌∷◌, drop, length, reverse, true, false, IfOk, IfErr, IfSome, OnOk};
+ghost use Rattle.std.specs.Prelude.{◌≡◌, ◌≤◌, ◌<◌, ◌+◌, ◌-◌, ◌*◌, ◌^◌, List, [], ◌∷◌, ◌++◌, drop, length, reverse, true, false, IfOk, IfErr, IfSome, OnOk, MatchBool};
 ghost use Rattle.tex_defs.specs.declared.Token.{Token};
 ghost use Rattle.rows.specs.declared.words.Value.TheVariants as value_of;
-ghost use Rattle.rows.specs.Readings.{Tok, Told, Val};
-ghost use Rattle.plain_readings.specs.Readings.{Reading, opened, opened_with, fed_with};
+ghost use Rattle.rows.specs.Readings.{Fed, Tok, Told, Val};
+ghost use Rattle.plain_readings.specs.Readings.{Reading, lists, opened, opened_with, fed_with};
 ghost use Rattle.plain_readings.specs.Scanning.{scanning};
 ghost use Rattle.plain_readings.specs.Weights.{frame_weight, value_weight, act_weight};
 ghost use Rattle.reading_frames.specs.Sees.{has_no_token, kind_of, Lists, on_top};
-ghost use Rattle.reading_frames.specs.Resumes.{with_list, listed_count, Owns};
+ghost use Rattle.reading_frames.specs.Resumes.{with_list, listed_count, token_count, Owns};
 ghost use Rattle.reading_frames.specs.Stands.{FramesStand, AreShallow, opened_lists};
-ghost use Rattle.reading_frames.specs.Stack.{Stack, depth_full, asks_in, asked_in, asked_of, innermost_groups, innermost_count, lists_beneath, found_in, innermost_found, scanning_of};
+ghost use Rattle.reading_frames.specs.Stack.{Stack, depth_full, asks_in, asked_in, asked_of, innermost_groups, innermost_count, innermost_lists, innermost_of, with_innermost, lists_beneath, found_in, innermost_found, scanning_of};
 ghost use Rattle.reading_frames.specs.Weights.{innermost_weight, innermost_end, begun_weight, begun_with_weight, opening_end, IsReported};
 
 use crate::ask::{Ask, Grown, Opening};
@@ -87,6 +87,39 @@ impl Readings {
         }
     }
 
+    /// How many there may be.
+    pub fn size(&self) -> u32
+        ensures { result ≡ self.now.size }
+    {
+        self.size
+    }
+
+    /// The innermost, if one is open.
+    pub fn innermost(&self) -> Option<Frame>
+        ensures { result ≡ innermost_of self.now.frames }
+    {
+        self.innermost
+    }
+
+    /// This frame takes the place of the innermost, if one is open.
+    pub fn restore(&mut self, frame: Option<Frame>)
+        ensures { self.new ≡ record { frames = with_innermost frame self.old.frames; size = self.old.size } }
+    {
+        if frame.is_some() && self.innermost.is_some() {
+            self.innermost = frame;
+        }
+    }
+
+    /// Whether fewer than 2^64 - 1 groups are open in the list of the innermost, so that it may be fed.
+    pub fn has_few_groups(&self) -> bool
+        ensures { MatchBool result (innermost_groups self.now.frames + 1 < 2 ^ 64) (2 ^ 64 ≤ innermost_groups self.now.frames + 1) }
+    {
+        match &self.innermost {
+            None => true,
+            Some(frame) => frame.groups() < usize::MAX,
+        }
+    }
+
     /// What the innermost asks for.
     pub fn ask(&self) -> Option<Ask>
         ensures asks { (held : Lists) → asked_of held result ≡ asks_in self.now.frames held }
@@ -113,6 +146,11 @@ impl Readings {
         ensures weight { OnOk result (innermost_weight self.new.frames ≤ begun_weight opening) }
         ensures ends { OnOk result (innermost_end self.new.frames ≡ opening_end opening) }
         ensures groups { OnOk result (innermost_groups self.new.frames ≡ 0) }
+        ensures rest { OnOk result (drop 1 self.new.frames ≡ self.old.frames) }
+        ensures builds { OnOk result ((held : Lists) (fed : List Fed) → lists (kind_of opening) fed ≡ innermost_lists self.new.frames (opened_lists opening held) fed) }
+        ensures beneath { OnOk result ((held : Lists) → lists_beneath self.new.frames (opened_lists opening held) ≡ held) }
+        ensures holds { OnOk result ((held : Lists) → innermost_count self.new.frames ≤ length (opened_lists opening held)) }
+        ensures lists { OnOk result ((held : Lists) → lists (kind_of opening) [] ++ held ≡ opened_lists opening held) }
         ensures full { IfErr result (λ full. full ≡ depth_full self.old) }
         ensures refused { IfErr result (λ full. length self.old.frames ≡ self.old.size) }
         ensures unchanged { IfErr result (λ full. self.new ≡ self.old) }
@@ -144,6 +182,10 @@ impl Readings {
         ensures count { OnOk result (length self.new.frames ≡ length self.old.frames + 1) }
         ensures size { self.new.size ≡ self.old.size }
         ensures weight { OnOk result (innermost_weight self.new.frames ≤ begun_with_weight opening) }
+        ensures rest { OnOk result (drop 1 self.new.frames ≡ self.old.frames) }
+        ensures beneath { IfOk result (λ grown. (held : Lists) → lists_beneath self.new.frames (on_top grown (opened_lists opening held)) ≡ held) }
+        ensures lists { IfOk result (λ grown. (held : Lists) → lists (kind_of opening) (Tok x ∷ []) ++ held ≡ on_top grown (opened_lists opening held)) }
+        ensures listed { IfOk result (λ grown. 1 ≤ token_count grown → (held : Lists) → opened_lists opening held ≡ [] ∷ held) }
         ensures full { IfErr result (λ full. full ≡ depth_full self.old) }
         ensures refused { IfErr result (λ full. length self.old.frames ≡ self.old.size) }
         ensures unchanged { IfErr result (λ full. self.new ≡ self.old) }
@@ -162,6 +204,11 @@ impl Readings {
         ensures count { length self.new.frames ≡ length self.old.frames }
         ensures size { self.new.size ≡ self.old.size }
         ensures shallow { (held : Lists) → AreShallow self.old.frames held → AreShallow self.new.frames (on_top result held) }
+        ensures rest { drop 1 self.new.frames ≡ drop 1 self.old.frames }
+        ensures built { (held : Lists) → innermost_lists self.old.frames held (Tok x ∷ []) ≡ innermost_lists self.new.frames (on_top result held) [] }
+        ensures beneath { (held : Lists) → lists_beneath self.new.frames (on_top result held) ≡ lists_beneath self.old.frames held }
+        ensures holds { (held : Lists) → innermost_count self.old.frames ≤ length held → innermost_count self.new.frames ≤ length (on_top result held) }
+        ensures listed { 1 ≤ token_count result → innermost_count self.old.frames ≡ 1 }
     {
         match self.innermost.as_mut() {
             None => Grown::none(),
@@ -176,6 +223,11 @@ impl Readings {
         ensures count { length self.new.frames ≡ length self.old.frames }
         ensures size { self.new.size ≡ self.old.size }
         ensures shallow { (held : Lists) → AreShallow self.old.frames held → AreShallow self.new.frames (on_top result held) }
+        ensures rest { drop 1 self.new.frames ≡ drop 1 self.old.frames }
+        ensures built { (held : Lists) → innermost_lists self.old.frames held (Told ∷ []) ≡ innermost_lists self.new.frames (on_top result held) [] }
+        ensures beneath { (held : Lists) → lists_beneath self.new.frames (on_top result held) ≡ lists_beneath self.old.frames held }
+        ensures holds { (held : Lists) → innermost_count self.old.frames ≤ length held → innermost_count self.new.frames ≤ length (on_top result held) }
+        ensures listed { 1 ≤ token_count result → innermost_count self.old.frames ≡ 1 }
     {
         let Some(frame) = self.innermost.as_mut() else {
             return Grown::none();
@@ -193,6 +245,7 @@ impl Readings {
         ensures count { length self.new.frames ≡ length self.old.frames }
         ensures size { self.new.size ≡ self.old.size }
         ensures shallow { (ts : List Token) (held : Lists) → AreShallow self.old.frames held → AreShallow self.new.frames (with_list result ts held) }
+        ensures beneath { (ts : List Token) (held : Lists) → lists_beneath self.new.frames (with_list result ts held) ≡ lists_beneath self.old.frames held }
     {
         match self.innermost.as_mut() {
             None => false,

@@ -1,15 +1,14 @@
 // A balanced text or the list of a macro, token by token.
-ghost use Rattle.std.specs.Prelude.{◌≡◌, ◌≤◌, ◌<◌, ◌+◌, ◌^◌, List, [], ◌∷◌};
+ghost use Rattle.std.specs.Prelude.{◌≡◌, ◌≤◌, ◌<◌, ◌+◌, ◌^◌, List, [], ◌∷◌, true, false};
 ghost use Rattle.tex_defs.specs.declared.Name.{Name};
 ghost use Rattle.tex_defs.specs.declared.Token.{Token};
 ghost use Rattle.tex_syntax.specs.declared.words.Scanned.{Scanned};
-ghost use Rattle.tex_syntax.specs.declared.words.Scanned.TheVariants as scanned;
 ghost use Rattle.rows.specs.Readings.{Fed, Tok, Told, Val};
 ghost use Rattle.plain_readings.specs.Lists as lists;
 ghost use Rattle.plain_readings.specs.Lists.{build_ask, build_fed};
 ghost use Rattle.list_builder.specs.Stages as stages;
 ghost use Rattle.reading_frames.specs.Sees.{ask_of, grown, Lists, top_list};
-ghost use Rattle.reading_frames.specs.Resumes.{resume_build, groups_in, token_count, Owns};
+ghost use Rattle.reading_frames.specs.Resumes.{resume_build, groups_in, built_as, token_count, Owns};
 
 use crate::ask::{Ask, Grown};
 use list_builder::{Due, Next, Stage, Step};
@@ -28,8 +27,8 @@ pub enum BuildPlace {
 /// The reading of a list, which is the list on top.
 #[derive(Clone, Copy)]
 pub struct BuildScan {
-    /// A text, or the list of a macro.
-    pub what: Scanned,
+    /// Whether it is the list of a macro, and no text.
+    pub defines: bool,
     pub manner: Manner,
     pub place: BuildPlace,
 }
@@ -38,12 +37,12 @@ impl BuildScan {
     /// The balanced text of the command of this name begins, with a list of no token.
     pub fn text(name: Name, expanded: bool) -> BuildScan
         ensures shallow { groups_in result ≡ 0 }
-        ensures what { result.what ≡ scanned.Text }
+        ensures what { result.defines ≡ false }
         ensures name { result.manner.name ≡ name }
         ensures goes_on { (fed : List Fed) → lists.text name expanded fed ≡ resume_build result [] fed }
     {
         BuildScan {
-            what: Scanned::Text,
+            defines: false,
             manner: Manner { name, expanded },
             place: BuildPlace::At(Stage::First),
         }
@@ -52,14 +51,25 @@ impl BuildScan {
     /// The list of the macro of this name begins, with no token.
     pub fn definition(name: Name, expanded: bool) -> BuildScan
         ensures shallow { groups_in result ≡ 0 }
-        ensures what { result.what ≡ scanned.Definition }
+        ensures what { result.defines ≡ true }
         ensures name { result.manner.name ≡ name }
         ensures goes_on { (fed : List Fed) → lists.definition name expanded fed ≡ resume_build result [] fed }
     {
         BuildScan {
-            what: Scanned::Definition,
+            defines: true,
             manner: Manner { name, expanded },
             place: BuildPlace::At(Stage::Parameters(0)),
+        }
+    }
+
+    /// What is read at a check.
+    pub fn what(&self) -> Scanned
+        ensures { result ≡ built_as self.now.defines }
+    {
+        if self.defines {
+            Scanned::Definition
+        } else {
+            Scanned::Text
         }
     }
 
@@ -77,9 +87,19 @@ impl BuildScan {
         }
     }
 
+    /// The groups that are open in the list.
+    pub fn groups(&self) -> usize
+        ensures { result ≡ groups_in self.now }
+    {
+        match self.place {
+            BuildPlace::At(stage) => stage.depth(),
+            BuildPlace::Whole => 0,
+        }
+    }
+
     /// Goes where the step leads.
     fn go(&mut self, step: Step) -> Grown
-        ensures what { self.new.what ≡ self.old.what }
+        ensures what { self.new.defines ≡ self.old.defines }
         ensures manner { self.new.manner ≡ self.old.manner }
         ensures shallow { groups_in self.new ≡ stages.depth_after step.next }
         ensures count { token_count result ≡ stages.growth step }
@@ -98,7 +118,7 @@ impl BuildScan {
     /// Takes a token. Fewer than 2^64 - 1 groups are open in the list.
     pub fn feed(&mut self, x: Seen) -> Grown
         requires { groups_in self.old + 1 < 2 ^ 64 }
-        ensures what { self.new.what ≡ self.old.what }
+        ensures what { self.new.defines ≡ self.old.defines }
         ensures name { self.new.manner.name ≡ self.old.manner.name }
         ensures goes_on { (list : List Token) (fed : List Fed) → resume_build self.old list (Tok x ∷ fed) ≡ resume_build self.new (grown result list) fed }
         ensures shallow { groups_in self.new ≤ groups_in self.old + token_count result }
@@ -111,7 +131,7 @@ impl BuildScan {
 
     /// Goes on behind its report.
     pub fn told(&mut self) -> Grown
-        ensures what { self.new.what ≡ self.old.what }
+        ensures what { self.new.defines ≡ self.old.defines }
         ensures name { self.new.manner.name ≡ self.old.manner.name }
         ensures goes_on { (list : List Token) (fed : List Fed) → resume_build self.old list (Told ∷ fed) ≡ resume_build self.new (grown result list) fed }
         ensures shallow { groups_in self.new ≤ groups_in self.old + token_count result }

@@ -1,11 +1,13 @@
 -- Those that were open stand beneath the one that begins.
-use Rattle.std.proofs.Common.{◌≡◌, List, reverse, subst, arith}
+use Rattle.std.proofs.Common.{◌≡◌, List, [], ◌∷◌, reverse, subst, arith}
 use Rattle.reading_frames.specs.Sees.{kind_of}
 use Rattle.reading_frames.specs.Stack.{frames_of}
 use Rattle.reading_frames.specs.Stands.{FramesStand, opened_lists}
 use Rattle.reading_frames.specs.declared.frame.Frame.{Frame}
 use Rattle.reading_frames.proofs.Feeding.{begun}
 use Rattle.reading_frames.proofs.Stacks.{pushed}
+use Rattle.reading_frames.proofs.Whole.{whole}
+use Rattle.plain_readings.specs.Readings.{lists}
 use Rattle.reading_frames.proofs.readings.Readings.begin.Goals as goal
 use Rattle.reading_frames.proofs.readings.Readings.begin.Goals.{in-Some, in_default}
 
@@ -21,3 +23,8 @@ returns-clause-begins c = λ held work stands.
     ] in
     begun (kind_of c.args.opening) c.begin.result (reverse c.match-self.self-inside.beneath.items) held (opened_lists c.args.opening held) work (c.begin.ensures.begins held)
     (subst (λ (fs : List Frame). FramesStand fs held work) same stands)
+
+pub returns-clause-lists : goal.returns-clause-lists
+returns-clause-lists c = λ held.
+    let b = c.begin.ensures.begins held in
+    whole (c.begin.result ∷ []) (opened_lists c.args.opening held) (lists (kind_of c.args.opening) []) held (b.lists_are []) b.holds b.beneath
