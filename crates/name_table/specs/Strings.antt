@@ -30,3 +30,8 @@ name_refusal strings name = refused strings.sizes (new_name name strings.names s
 -- the first of pool size and number of strings that has no room for another string
 abbrev pub other_refusal : Strings → List ℕ → Option Full
 other_refusal strings bytes = refused strings.sizes (string bytes strings.names strings.others)
+
+-- the first of these strings, or that of no byte
+abbrev pub first_of : List (List ℕ) → List ℕ
+first_of [] = []
+first_of (bytes ∷ strings) = bytes

@@ -9,7 +9,7 @@ ghost use Rattle.tex_defs.specs.Sizes.{first_out_of_range};
 ghost use Rattle.prim_table.specs.Primitives.{primitive_names};
 ghost use Rattle.plain_tokens.specs.Lookup.{number_of};
 ghost use Rattle.cs_hash.specs.Names.{Knows, entered};
-ghost use Rattle.name_table.specs.Strings.{name_refusal, other_refusal, primitives_alone, with_name, with_other};
+ghost use Rattle.name_table.specs.Strings.{name_refusal, other_refusal, primitives_alone, with_name, with_other, first_of};
 
 use cs_hash::{CsHash, NameNo};
 use prim_table::COUNT;
@@ -130,6 +130,16 @@ impl NameTable {
         ensures { result ≡ length self.now.names }
     {
         self.hash.count()
+    }
+
+    /// The first of the strings that aren't names, or no bytes where none is kept.
+    pub fn first_string(&self) -> &[u8]
+        ensures { result.now ≡ first_of self.now.others }
+    {
+        match self.others.first() {
+            Some(number) => self.pool.bytes(*number),
+            None => b"",
+        }
     }
 
     /// The hash and the pool of its names' bytes.
