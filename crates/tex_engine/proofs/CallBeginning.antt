@@ -1,0 +1,411 @@
+-- The name of a macro is expanded: its body is put, or its arguments are gathered.
+use Rattle.std.proofs.Common.{◌≡◌, ℕ, List, [], ◌∷◌, ◌++◌, refl, sym, ap, subst, ◌∙◌, Bool, true, false}
+use Rattle.std.specs.Prelude.{Option, Some, None, Result, Ok, Err, OnOk, OnErr, IfErr, MatchResult, ◌||◌, ◌&&◌, if◌then◌else◌, take}
+use Rattle.tex_defs.specs.declared.Full.{Full}
+use Rattle.tex_defs.specs.declared.Meaning.{Meaning}
+use Rattle.tex_defs.specs.declared.Meaning.TheVariants as means
+use Rattle.tex_defs.specs.declared.Name.{Name}
+use Rattle.tex_defs.specs.declared.Sizes.{Sizes}
+use Rattle.tex_defs.specs.declared.Token.{Token}
+use Rattle.tex_defs.specs.Places.{World}
+use Rattle.plain_tokens.specs.Arguments.{ParMode, arguments_in, work_in, call, start_of, delimiters_of, is_nil, is_some_place, begins_with_place, has_parameters, gathering}
+use Rattle.plain_tokens.specs.Meanings.{name_meaning}
+use Rattle.plain_tokens.specs.Names.{name_of}
+use Rattle.plain_tokens.specs.Pending.{Pending, put_front, settle, with_puts}
+use Rattle.plain_tokens.specs.Puts.{Item, Put, call_put, put_top, settled}
+use Rattle.plain_readings.specs.Readings as reading
+use Rattle.plain_readings.specs.Calls.{call_fed, mode_of as reading_mode}
+use Rattle.plain_readings.specs.Readings.{Reading}
+use Rattle.tex_machine.specs.States.{State, Settled, Called, Begun, made}
+use Rattle.plain_tokens.specs.Tables.{Demand, level, lists_words, memory, refused, is_meant, is_put}
+use Rattle.tex_machine.specs.Demands.{refusal}
+use Rattle.tex_machine.specs.Does.{Did}
+use Rattle.tex_machine.specs.Numbers.{IsHeld, meaning_of, pending_of, put_of as numbered}
+use Rattle.tex_machine.specs.Plan.{Page, body_put, called, called_by, called_meaning}
+use Rattle.tex_machine.proofs.Doing.{did_join, did_one, wrote_none}
+use Rattle.tex_machine.proofs.Renumbering.{name_meaning_of, settle_of, put_front_of, level_of}
+use Rattle.tex_machine.proofs.Ties.{tied_settled, tied_put}
+use Rattle.macro_call.specs.Modes.{mode_of}
+use Rattle.macro_call.specs.PlainScans.{Scan, first_by, first_scan, scan_work}
+use Rattle.macro_call.proofs.PlainScans.{scans_gather}
+use Rattle.input_state.specs.declared.answer.CallKind.TheVariants as kind
+use Rattle.input_state.specs.Callings.{Calling, Gathering, call_lists, scan_lists}
+use Rattle.input_state.specs.Calls.{after_call, begun_lists, call_kind, called_put, called_top, macro_text, text_of, when_called}
+use Rattle.input_state.specs.Macros.{list_at}
+use Rattle.input_state.specs.Stored.{KeepsMacros, call_refusal, words}
+use Rattle.tex_engine.specs.declared.broken.Broken.TheVariants as broken
+use Rattle.tex_engine.specs.declared.engine.Engine.{Engine}
+use Rattle.tex_engine.specs.Book.{Book, with_work}
+use Rattle.tex_engine.specs.Calls.{AllStand, CallStands, Gathers, HasWork, open_call}
+use Rattle.tex_engine.specs.Stands.{IsSound, SameFrames, SameStore, Stands, state_of, page_of}
+use Rattle.tex_engine.specs.Rules.{Cuts, Went}
+use Rattle.tex_engine.proofs.Bare.{all_of}
+use Rattle.tex_engine.proofs.CallKept.{all_still, meant_by}
+use Rattle.tex_engine.proofs.Cutting.{later_cuts, full_cuts, cuts_by}
+use Rattle.tex_engine.proofs.Joining.{quiet_here, went_by}
+use Rattle.tex_engine.proofs.Storing.{sound_still, store_scan}
+use Rattle.tex_engine.proofs.CallLists.{gathers_lists}
+use Rattle.tex_engine.proofs.Ending.{none_found}
+
+-- a reading that has begun
+abbrev fresh : reading.Kind → Reading
+fresh k = record { kind = k; fed = [] }
+
+-- WHERE SOMETHING CAME OUT WELL
+
+pub on_ok : {T E : Type 0} {P Q R : Type 0} → (S : E → Type 0) (r : Result T E) → (P → Q → R) → OnOk r P → MatchResult r (λ x. Q) S → OnOk r R
+on_ok S (Ok x) f a b = f a b
+on_ok S (Err x) f a b = tt
+
+pub on_both : {T E : Type 0} {P Q R : Type 0} → (r : Result T E) → (P → Q → R) → OnOk r P → OnOk r Q → OnOk r R
+on_both (Ok x) f a b = f a b
+on_both (Err x) f a b = tt
+
+pub if_err : {T E : Type 0} {P : Type 0} {Q R : E → Type 0} → (S : Type 0) (r : Result T E) → ((x : E) → P → Q x → R x) → OnErr r P → MatchResult r (λ x. S) Q → IfErr r R
+if_err S (Ok x) f a b = tt
+if_err S (Err x) f a b = f x a b
+
+pub if_both : {T E : Type 0} {P : Type 0} {Q R : E → Type 0} → (r : Result T E) → ((x : E) → P → Q x → R x) → OnErr r P → IfErr r Q → IfErr r R
+if_both (Ok x) f a b = tt
+if_both (Err x) f a b = f x a b
+
+-- HOW A NAME IS CALLED
+
+-- it means a macro with a list
+pub record HasList (m : Meaning (Option ℕ)) : Type 0 where
+  pub long : Bool
+  pub outer : Bool
+  pub id : ℕ
+  pub meaning : m ≡ means.Macro long outer (Some id)
+
+has_list : (lists : List (List Token)) (m : Meaning (Option ℕ)) → (call_kind lists m ≡ kind.None → ⊥) → HasList m
+has_list lists (means.Macro long outer (Some id)) h = record { long = long; outer = outer; id = id; meaning = refl }
+has_list lists (means.Macro long outer None) h = absurd (h refl)
+has_list lists m h = absurd (h refl)
+
+pub at_once_has : (lists : List (List Token)) (m : Meaning (Option ℕ)) → call_kind lists m ≡ kind.AtOnce → HasList m
+at_once_has lists m is = has_list lists m (λ none. (let no : kind.None ≡ kind.AtOnce = sym none ∙ is in cc))
+
+pub gathers_has : (lists : List (List Token)) (m : Meaning (Option ℕ)) → call_kind lists m ≡ kind.Gathers → HasList m
+gathers_has lists m is = has_list lists m (λ none. (let no : kind.None ≡ kind.Gathers = sym none ∙ is in cc))
+
+gathers_some : (b : Bool) → (if b then kind.Gathers else kind.AtOnce) ≡ kind.Gathers → b ≡ true
+gathers_some true is = refl
+gathers_some false is = cc
+
+gathers_none : (b : Bool) → (if b then kind.Gathers else kind.AtOnce) ≡ kind.AtOnce → b ≡ false
+gathers_none true is = cc
+gathers_none false is = refl
+
+some_kind : (b : Bool) → (if b then kind.Gathers else kind.AtOnce) ≡ kind.None → ⊥
+some_kind true is = cc
+some_kind false is = cc
+
+-- where it is called in no way, the machine does nothing
+none_called : (page : Page) (number : ℕ → ℕ) (name : Name) (lists : List (List Token)) (m : Meaning (Option ℕ)) → call_kind lists m ≡ kind.None → called_meaning page name (meaning_of number m) ≡ []
+none_called page number name lists (means.Macro long outer (Some id)) is = absurd (some_kind (has_parameters (list_at lists id)) is)
+none_called page number name lists (means.Macro long outer None) is = refl
+none_called page number name lists m is = refl
+
+-- the machine's meaning of a name is the engine's, under its own number
+called_is : (e : Engine) (book : Book) (t : Token) (name : Name) → name ≡ name_of t → called (page_of e book) t ≡ called_meaning (page_of e book) name (meaning_of book.number (name_meaning e.input.meanings name))
+called_is e book t name is_name =
+    ap (λ (n : Name). called_meaning (page_of e book) n (name_meaning (page_of e book).meanings n)) (sym is_name)
+    ∙ ap (called_meaning (page_of e book) name) (name_meaning_of book.number e.input.meanings name)
+
+pub called_none : (e : Engine) (book : Book) (t : Token) (name : Name) → name ≡ name_of t → call_kind e.input.lists (name_meaning e.input.meanings name) ≡ kind.None → called (page_of e book) t ≡ []
+called_none e book t name is_name is = called_is e book t name is_name ∙ none_called (page_of e book) book.number name e.input.lists (name_meaning e.input.meanings name) is
+
+-- A SCANNER THAT BEGINS
+
+mode_same : (long : Bool) → reading_mode long ≡ mode_of long
+mode_same true = refl
+mode_same false = refl
+
+first_args : (begins : Bool) (mode : ParMode) → (first_by begins mode).args ≡ []
+first_args true mode = refl
+first_args false mode = refl
+
+answer_args : (mode : ParMode) (start : List Token) (places : List (List Token)) → arguments_in (call mode start places []) ≡ []
+answer_args mode [] [] = refl
+answer_args mode [] (ds ∷ places) = refl
+answer_args mode (d ∷ ds) places = refl
+
+answer_work : (mode other : ParMode) (start : List Token) (places : List (List Token)) → work_in (call mode start (take 9 places) []) ≡ scan_work (first_by (is_nil start && is_some_place places) other)
+answer_work mode other [] [] = refl
+answer_work mode other [] (ds ∷ places) = refl
+answer_work mode other (d ∷ ds) places = refl
+
+-- nothing has been gathered yet
+first_gathers : (long : Bool) (text : List Token) → Gathers long text (first_scan text (mode_of long)) []
+first_gathers long text = record {
+  args = answer_args (reading_mode long) (start_of text) _ ∙ sym (first_args (begins_with_place text) (mode_of long));
+  work = answer_work (reading_mode long) (mode_of long) (start_of text) (delimiters_of text);
+  goes_on = λ more. ap (λ (m : ParMode). gathering text m (call_fed more)) (mode_same long) ∙ sym (scans_gather.first text (mode_of long) (call_fed more));
+}
+
+first_has : (begins : Bool) (mode : ParMode) → HasWork (first_by begins mode)
+first_has begins mode none = first_args begins mode
+
+first_lists : (begins : Bool) (mode : ParMode) → scan_lists (first_by begins mode) ≡ (if begins then [] ∷ [] else [])
+first_lists true mode = refl
+first_lists false mode = refl
+
+-- its list is begun with it, where its first place comes first
+pub begun_are : (name : Name) (long : Bool) (number : ℕ) (text : List Token) → reading.lists (reading.Arguments name long number text) [] ≡ begun_lists text
+begun_are name long number text = gathers_lists long text (first_scan text (mode_of long)) [] (first_gathers long text) ∙ first_lists (begins_with_place text) (mode_of long)
+
+-- the words that are asked for
+pub begun_words : (e : Engine) (name : Name) (long : Bool) (number : ℕ) (o : Option Full) → refused e.input.sizes (memory (lists_words (begun_lists (text_of e.input.lists e.input.meanings name))) (words e.input) ∷ []) ≡ o →
+    refused e.input.sizes (memory (lists_words (reading.lists (reading.Arguments name long number (text_of e.input.lists e.input.meanings name)) [])) (words e.input) ∷ []) ≡ o
+begun_words e name long number o h = ap (λ (l : List (List Token)). refused e.input.sizes (memory (lists_words l) (words e.input) ∷ [])) (begun_are name long number (text_of e.input.lists e.input.meanings name)) ∙ h
+
+-- A MACRO WITH A LIST
+
+module _ (sizes : Sizes) (e : Engine) (book : Book) (t : Token) (name : Name) (is_name : name ≡ name_of t) (st : Stands sizes e book) (h : HasList (name_meaning e.input.meanings name)) where
+  abbrev ts : List Token
+  ts = list_at e.input.lists h.id
+
+  meant : is_meant h.id e.input.meanings ≡ true
+  meant = meant_by e.input.meanings name h.long h.outer h.id h.meaning
+
+  held : IsHeld h.id e.input.meanings e.input.pending.puts
+  held = ap (λ (b : Bool). b || is_put h.id e.input.pending.puts) meant
+
+  called_list : called (page_of e book) t ≡ called_by name h.long (book.number h.id) ts
+  called_list =
+      called_is e book t name is_name ∙ ap (λ (m : Meaning (Option ℕ)). called_meaning (page_of e book) name (meaning_of book.number m)) h.meaning
+      ∙ ap (called_by name h.long (book.number h.id)) (st.sound.tied.tokens h.id held)
+
+  kind_is : call_kind e.input.lists (name_meaning e.input.meanings name) ≡ (if has_parameters ts then kind.Gathers else kind.AtOnce)
+  kind_is = ap (call_kind e.input.lists) h.meaning
+
+  text_is : text_of e.input.lists e.input.meanings name ≡ ts
+  text_is = ap (macro_text e.input.lists) h.meaning
+
+  -- ITS ARGUMENTS ARE GATHERED
+
+  abbrev K : reading.Kind
+  K = reading.Arguments name h.long (book.number h.id) ts
+
+  begun_moves : call_kind e.input.lists (name_meaning e.input.meanings name) ≡ kind.Gathers → called (page_of e book) t ≡ Begun K ∷ []
+  begun_moves is =
+      called_list ∙ ap (λ (b : Bool). if b then Begun K ∷ [] else body_put (call_put (book.number h.id) ts []) (call_put (book.number h.id) ts []).items) (gathers_some (has_parameters ts) (sym kind_is ∙ is))
+
+  -- what is asked for
+  begun_asked : (long : Bool) (o : Option Full) → long ≡ h.long → ((number : ℕ) → refusal sizes (Begun (reading.Arguments name long number (text_of e.input.lists e.input.meanings name))) (state_of e book) ≡ o) → refusal sizes (Begun K) (state_of e book) ≡ o
+  begun_asked long o same asked =
+      ap (λ (x : List Token). refusal sizes (Begun (reading.Arguments name h.long (book.number h.id) x)) (state_of e book)) (sym text_is)
+      ∙ ap (λ (b : Bool). refusal sizes (Begun (reading.Arguments name b (book.number h.id) (text_of e.input.lists e.input.meanings name))) (state_of e book)) (sym same)
+      ∙ asked (book.number h.id)
+
+  pub begun_cuts : (long : Bool) (e2 : Engine) (w : World) (full : Full) → long ≡ h.long → call_kind e.input.lists (name_meaning e.input.meanings name) ≡ kind.Gathers → e2 ≡ e →
+      ((number : ℕ) → refusal sizes (Begun (reading.Arguments name long number (text_of e.input.lists e.input.meanings name))) (state_of e book) ≡ Some full) →
+      Cuts sizes (state_of e book) e2 book w w (called (page_of e book) t) (broken.Full full)
+  begun_cuts long e2 w full same is after refuses =
+      cuts_by sizes _ e2 book w w _ _ (broken.Full full) (begun_moves is)
+      (full_cuts sizes (state_of e book) e2 book w (Begun K) [] full (broken.Full full) refl (begun_asked long (Some full) same refuses) (ap (λ (x : Engine). state_of x book) (sym after)))
+
+  abbrev scan : Scan
+  scan = first_scan ts (mode_of h.long)
+
+  -- the engine with the call, its lists as they were
+  abbrev calling : Engine
+  calling = record e { call = Some (open_call name); input = record e.input { call = Gathering name scan } }
+
+  call_stands : has_parameters ts ≡ true → CallStands calling book.number (open_call name) (fresh K)
+  call_stands places = record {
+    long = h.long;
+    outer = h.outer;
+    id = h.id;
+    meaning = h.meaning;
+    kind = refl;
+    places = places;
+    asked = refl;
+    at = (refl, (first_has (begins_with_place ts) (mode_of h.long), first_gathers h.long ts));
+    holds = gathers_lists h.long ts scan [] (first_gathers h.long ts);
+  }
+
+  calling_stands : has_parameters ts ≡ true → AllStand sizes calling (with_work (fresh K ∷ book.work) book)
+  calling_stands places = record {
+    sound = sound_still sizes e calling book.number book.macros refl refl refl refl (store_scan e.input calling.input (Gathering name scan) refl) st.sound;
+    idle = st.idle;
+    all = (call_stands places, record { frames = st.readings.frames; shallow = st.readings.shallow; aside = st.readings.aside });
+  }
+
+  module _ (long : Bool) (e2 : Engine) (same : long ≡ h.long) (after : e2 ≡ record e { call = Some (open_call name); input = record e.input { call = Gathering name (first_scan (text_of e.input.lists e.input.meanings name) (mode_of long)); lists = e2.input.lists } }) (macros : KeepsMacros e.input e2.input) where
+    now : e2 ≡ record calling { input = record calling.input { lists = e2.input.lists } }
+    now =
+        after
+        ∙ ap (λ (b : Bool). record e { call = Some (open_call name); input = record e.input { call = Gathering name (first_scan (text_of e.input.lists e.input.meanings name) (mode_of b)); lists = e2.input.lists } }) same
+        ∙ ap (λ (x : List Token). record e { call = Some (open_call name); input = record e.input { call = Gathering name (first_scan x (mode_of h.long)); lists = e2.input.lists } }) text_is
+
+    store : SameStore calling.input e2.input
+    store = record {
+      sizes = ap (λ (y : Engine). y.input.sizes) now;
+      hash = ap (λ (y : Engine). y.input.hash_size) now;
+      meanings = ap (λ (y : Engine). y.input.meanings) now;
+      puts = λ n g. subst (λ (y : Engine). is_put n y.input.pending.puts ≡ true) now g;
+      lists = record { tokens = macros.tokens };
+    }
+
+    frames_same : SameFrames calling e2
+    frames_same = record {
+      readings = ap (λ (y : Engine). y.readings) now;
+      lists = ap (λ (y : Engine). y.input.builds) now;
+      aside = ap (λ (y : Engine). y.input.aside) now;
+      call = ap (λ (y : Engine). y.call) now;
+      calling = ap (λ (y : Engine). y.input.call) now;
+    }
+
+    begun_stands : has_parameters ts ≡ true → AllStand sizes e2 (with_work (fresh K ∷ book.work) book)
+    begun_stands places = let was = calling_stands places in
+        all_still sizes calling e2 (with_work (fresh K ∷ book.work) book) frames_same store
+        (sound_still sizes calling e2 book.number book.macros (ap (λ (y : Engine). y.sizes) now) (ap (λ (y : Engine). y.readings.size) now) (ap (λ (y : Engine). y.names) now) (ap (λ (y : Engine). y.reports) now) store was.sound)
+        (ap (λ (y : Engine). y.input.making) now ∙ st.idle) was
+
+    begun_state : made (Begun K) (state_of e book) ≡ state_of e2 (with_work (fresh K ∷ book.work) book)
+    begun_state =
+        ap (λ (l : List (List Token)). record (state_of e book) { work = fresh K ∷ book.work; gathered = reading.lists K [] ++ l }) (ap (λ (k : Calling). call_lists k ++ (e.input.builds ++ e.input.aside)) st.uncalled.input)
+        ∙ ap (λ (l : List (List Token)). record (state_of e book) { work = fresh K ∷ book.work; gathered = l ++ (e.input.builds ++ e.input.aside) }) (gathers_lists h.long ts scan [] (first_gathers h.long ts))
+        ∙ ap (λ (y : Engine). state_of y (with_work (fresh K ∷ book.work) book)) (sym now)
+
+    pub begun_went : (w : World) → call_kind e.input.lists (name_meaning e.input.meanings name) ≡ kind.Gathers →
+        ((number : ℕ) → refusal sizes (Begun (reading.Arguments name long number (text_of e.input.lists e.input.meanings name))) (state_of e book) ≡ None) →
+        Went sizes (state_of e book) e2 w w (called (page_of e book) t) 0
+    begun_went w is fits =
+        went_by sizes _ e2 w w _ _ 0 (begun_moves is) (record {
+          book' = with_work (fresh K ∷ book.work) book;
+          stands = begun_stands (gathers_some (has_parameters ts) (sym kind_is ∙ is));
+          did = did_one sizes (Begun K) _ _ w w (begun_asked long None same fits) begun_state (quiet_here (Begun K) w tt);
+          count = refl;
+        })
+
+  -- ITS BODY IS PUT
+
+  abbrev p : Put
+  p = call_put h.id ts []
+
+  abbrev P : Put
+  P = numbered book.number p
+
+  what : called_put e.input.lists (name_meaning e.input.meanings name) ≡ p
+  what = ap (called_put e.input.lists) h.meaning
+
+  put_moves : call_kind e.input.lists (name_meaning e.input.meanings name) ≡ kind.AtOnce → called (page_of e book) t ≡ body_put P p.items
+  put_moves is =
+      called_list ∙ ap (λ (b : Bool). if b then Begun K ∷ [] else body_put P p.items) (gathers_none (has_parameters ts) (sym kind_is ∙ is))
+
+  abbrev settled_state : State
+  settled_state = record (state_of e book) { pending = settle (pending_of book.number e.input.pending) }
+
+  did_settled : (w : World) → Did sizes (state_of e book) settled_state w w (Settled ∷ [])
+  did_settled w = did_one sizes Settled (state_of e book) settled_state w w refl refl (quiet_here Settled w tt)
+
+  -- what is asked for
+  level_asked : (o : Option Full) (x : Item) (xs : List Item) → p.items ≡ x ∷ xs → call_refusal p e.input ≡ o → refusal sizes (Called P) settled_state ≡ o
+  level_asked o x xs some refuses =
+      ap (λ (q : Pending). refused sizes (level q ∷ [])) (settle_of book.number e.input.pending)
+      ∙ ap (λ (d : Demand). refused sizes (d ∷ [])) (level_of book.number (settle e.input.pending))
+      ∙ ap (λ (s : Sizes). refused s (level (settle e.input.pending) ∷ [])) (sym st.sound.sized.input)
+      ∙ sym (ap (λ (ys : List Item). refused e.input.sizes (when_called ys (level (settle e.input.pending)))) some) ∙ refuses
+
+  -- there is no room for it
+  body_cuts : (e2 : Engine) (w : World) (full : Full) → e2 ≡ record e { input = record e.input { pending = settle e.input.pending; lists = e2.input.lists } } → call_refusal p e.input ≡ Some full → Cuts sizes (state_of e book) e2 book w w (body_put P p.items) (broken.Full full)
+  body_cuts e2 w full after refuses = by_items p.items refl where
+    by_items : (xs : List Item) → p.items ≡ xs → Cuts sizes (state_of e book) e2 book w w (body_put P xs) (broken.Full full)
+    by_items [] none = let nothing : refused e.input.sizes [] ≡ Some full = sym (ap (λ (ys : List Item). refused e.input.sizes (when_called ys (level (settle e.input.pending)))) none) ∙ refuses in absurd (none_found full nothing)
+    by_items (x ∷ xs) some =
+        later_cuts sizes _ settled_state e2 book w w w (Settled ∷ []) (Called P ∷ []) (broken.Full full) (did_settled w)
+        (full_cuts sizes settled_state e2 book w (Called P) [] full (broken.Full full) refl (level_asked (Some full) x xs some refuses)
+        (ap (λ (q : Pending). record (state_of e book) { pending = q }) (settle_of book.number e.input.pending) ∙ ap (λ (y : Engine). state_of y book) (sym after)))
+
+  pub called_cuts : (e2 : Engine) (w : World) (full : Full) → call_kind e.input.lists (name_meaning e.input.meanings name) ≡ kind.AtOnce →
+      e2 ≡ record e { input = record e.input { pending = settle e.input.pending; lists = e2.input.lists } } → call_refusal (called_put e.input.lists (name_meaning e.input.meanings name)) e.input ≡ Some full →
+      Cuts sizes (state_of e book) e2 book w w (called (page_of e book) t) (broken.Full full)
+  called_cuts e2 w full is after refuses =
+      cuts_by sizes _ e2 book w w _ _ (broken.Full full) (put_moves is) (body_cuts e2 w full after (ap (λ (x : Put). call_refusal x e.input) (sym what) ∙ refuses))
+
+  -- one without items changes nothing
+  pending_same : p.items ≡ [] → after_call p e.input.pending ≡ e.input.pending
+  pending_same none = ap (λ (xs : List Item). with_puts (called_top p xs e.input.pending.puts) e.input.pending) none
+
+  pending_put : (x : Item) (xs : List Item) → p.items ≡ x ∷ xs → after_call p e.input.pending ≡ put_front p (settle e.input.pending)
+  pending_put x xs some =
+      ap (λ (ys : List Item). with_puts (called_top p ys e.input.pending.puts) e.input.pending) some
+      ∙ sym (ap (λ (ys : List Item). with_puts (put_top p ys (settled e.input.pending.puts)) e.input.pending) some)
+
+  -- the engine with the body in front, its lists as they were
+  abbrev putting : Engine
+  putting = record e { input = record e.input { pending = put_front p (settle e.input.pending) } }
+
+  putting_sound : IsSound sizes putting book.number book.macros
+  putting_sound = record {
+    sized = record { few_reports = st.sound.sized.few_reports; small = st.sound.sized.small; own = st.sound.sized.own; readings = st.sound.sized.readings; input = st.sound.sized.input; names = st.sound.sized.names; hash = st.sound.sized.hash; located = st.sound.sized.located };
+    tied = tied_put book.number book.macros e.input.meanings (settled e.input.pending.puts) e.input.lists (tied_settled book.number book.macros e.input.meanings e.input.pending.puts e.input.lists st.sound.tied) h.id p refl (ap (λ (b : Bool). b || is_put h.id (settled e.input.pending.puts)) meant);
+    bodies = st.sound.bodies;
+  }
+
+  putting_stands : AllStand sizes putting book
+  putting_stands = all_of sizes putting book (record { sound = putting_sound; idle = st.idle; readings = record { frames = st.readings.frames; shallow = st.readings.shallow; aside = st.readings.aside }; uncalled = record { none = st.uncalled.none; input = st.uncalled.input } })
+
+  -- the lists of the memory have changed alone
+  module _ (e1 e2 : Engine) (st1 : AllStand sizes e1 book) (now : e2 ≡ record e1 { input = record e1.input { lists = e2.input.lists } }) (macros : KeepsMacros e1.input e2.input) where
+    lists_store : SameStore e1.input e2.input
+    lists_store = record {
+      sizes = ap (λ (y : Engine). y.input.sizes) now;
+      hash = ap (λ (y : Engine). y.input.hash_size) now;
+      meanings = ap (λ (y : Engine). y.input.meanings) now;
+      puts = λ n g. subst (λ (y : Engine). is_put n y.input.pending.puts ≡ true) now g;
+      lists = macros;
+    }
+
+    lists_stand : AllStand sizes e2 book
+    lists_stand =
+        all_still sizes e1 e2 book (record {
+          readings = ap (λ (y : Engine). y.readings) now;
+          lists = ap (λ (y : Engine). y.input.builds) now;
+          aside = ap (λ (y : Engine). y.input.aside) now;
+          call = ap (λ (y : Engine). y.call) now;
+          calling = ap (λ (y : Engine). y.input.call) now;
+        }) lists_store
+        (sound_still sizes e1 e2 book.number book.macros (ap (λ (y : Engine). y.sizes) now) (ap (λ (y : Engine). y.readings.size) now) (ap (λ (y : Engine). y.names) now) (ap (λ (y : Engine). y.reports) now) lists_store st1.sound)
+        (ap (λ (y : Engine). y.input.making) now ∙ st1.idle) st1
+
+  module _ (e2 : Engine) (after : e2 ≡ record e { input = record e.input { pending = after_call p e.input.pending; lists = e2.input.lists } }) (macros : KeepsMacros e.input e2.input) where
+    -- nothing has changed
+    same_now : p.items ≡ [] → e2 ≡ record e { input = record e.input { lists = e2.input.lists } }
+    same_now none = after ∙ ap (λ (q : Pending). record e { input = record e.input { pending = q; lists = e2.input.lists } }) (pending_same none)
+
+    put_now : (x : Item) (xs : List Item) → p.items ≡ x ∷ xs → e2 ≡ record putting { input = record putting.input { lists = e2.input.lists } }
+    put_now x xs some = after ∙ ap (λ (q : Pending). record e { input = record e.input { pending = q; lists = e2.input.lists } }) (pending_put x xs some)
+
+    put_state : (x : Item) (xs : List Item) → p.items ≡ x ∷ xs → made (Called P) settled_state ≡ state_of e2 book
+    put_state x xs some =
+        ap (λ (q : Pending). record (state_of e book) { pending = put_front P q }) (settle_of book.number e.input.pending)
+        ∙ ap (λ (q : Pending). record (state_of e book) { pending = q }) (put_front_of book.number p (settle e.input.pending))
+        ∙ ap (λ (y : Engine). state_of y book) (sym (put_now x xs some))
+
+    body_went : (w : World) → call_refusal p e.input ≡ None → Went sizes (state_of e book) e2 w w (body_put P p.items) 0
+    body_went w fits = by_items p.items refl where
+      by_items : (xs : List Item) → p.items ≡ xs → Went sizes (state_of e book) e2 w w (body_put P xs) 0
+      by_items [] none = record {
+        book' = book;
+        stands = lists_stand e e2 (all_of sizes e book st) (same_now none) macros;
+        did = record { state = ap (λ (y : Engine). state_of y book) (sym (same_now none)); fits = tt; written = wrote_none w };
+        count = refl;
+      }
+      by_items (x ∷ xs) some = record {
+        book' = book;
+        stands = lists_stand putting e2 putting_stands (put_now x xs some) (record { tokens = macros.tokens });
+        did = did_join sizes _ _ _ w w w (Settled ∷ []) (Called P ∷ []) (did_settled w)
+            (did_one sizes (Called P) _ _ w w (level_asked None x xs some fits) (put_state x xs some) (quiet_here (Called P) w tt));
+        count = refl;
+      }
+
+  pub called_went : (e2 : Engine) (w : World) → call_kind e.input.lists (name_meaning e.input.meanings name) ≡ kind.AtOnce →
+      e2 ≡ record e { input = record e.input { pending = after_call (called_put e.input.lists (name_meaning e.input.meanings name)) e.input.pending; lists = e2.input.lists } } → KeepsMacros e.input e2.input →
+      call_refusal (called_put e.input.lists (name_meaning e.input.meanings name)) e.input ≡ None → Went sizes (state_of e book) e2 w w (called (page_of e book) t) 0
+  called_went e2 w is after macros fits =
+      went_by sizes _ e2 w w _ _ 0 (put_moves is)
+      (body_went e2 (after ∙ ap (λ (x : Put). record e { input = record e.input { pending = after_call x e.input.pending; lists = e2.input.lists } }) what) macros w (ap (λ (x : Put). call_refusal x e.input) (sym what) ∙ fits))

@@ -1,0 +1,208 @@
+-- A call that is fed with a token goes on behind it.
+use Rattle.std.proofs.Common.{◌≡◌, ℕ, ◌+◌, ◌≤◌, List, [], ◌∷◌, ◌++◌, length, drop, sym, ap, subst, ◌∙◌, Bool, true, false, arith}
+use Rattle.std.specs.Prelude.{Option, Some, MatchBool, unwrap_or}
+use Rattle.tex_defs.specs.declared.Name.{Name}
+use Rattle.tex_defs.specs.declared.Seen.{Seen}
+use Rattle.tex_defs.specs.declared.Sizes.{Sizes}
+use Rattle.tex_defs.specs.declared.Token.{Token}
+use Rattle.tex_defs.specs.Places.{World}
+use Rattle.plain_tokens.specs.Arguments as call
+use Rattle.plain_tokens.specs.Arguments.{Answer, arguments_in, work_in, has_parameters}
+use Rattle.rows.specs.Readings.{Tok}
+use Rattle.plain_readings.specs.Calls.{gathered}
+use Rattle.plain_readings.specs.Readings as reading
+use Rattle.plain_readings.specs.Readings.{Reading}
+use Rattle.tex_machine.specs.States.{State, Move}
+use Rattle.plain_tokens.specs.Tables.{lists_words}
+use Rattle.tex_machine.specs.Demands.{words}
+use Rattle.tex_machine.specs.Plan.{feeding, feeding_kind, argument_fed}
+use Rattle.tex_machine.specs.Does.{Did}
+use Rattle.macro_call.specs.Growths.{target_by}
+use Rattle.macro_call.specs.PlainScans.{Scan, resume_scan, scan_work}
+use Rattle.input_state.specs.CallFeeds.{IsTaking, Comes, Feeds, scan_growth, growth}
+use Rattle.input_state.specs.Callings as calls
+use Rattle.input_state.specs.Callings.{Calling, call_lists}
+use Rattle.input_state.specs.Calls.{macro_text, text_of}
+use Rattle.input_state.specs.Macros.{list_at}
+use Rattle.input_state.specs.Stored.{KeepsMacros, words as stored_words}
+use Rattle.input_state.specs.declared.answer.CallTold.{CallTold}
+use Rattle.tex_engine.specs.declared.engine.Engine.{Engine}
+use Rattle.tex_engine.specs.Book.{Book, with_work}
+use Rattle.tex_engine.specs.CallAsks.{ask_behind}
+use Rattle.tex_engine.specs.Calls.{AllStand, ReadingsStand, CallStands, CallAt, Gathers, open_call}
+use Rattle.tex_engine.specs.Stands.{IsSound, SameStore, state_of}
+use Rattle.tex_engine.specs.Rules.{Went}
+use Rattle.tex_engine.proofs.CallEnding.{here as here_call}
+use Rattle.tex_engine.proofs.CallFeedingAnswers.{Taking, taking, in_front, scan_turn, lists_after, asked_after, at_after}
+use Rattle.tex_engine.proofs.CallLists.{lists_of, lists_by, answer_lists}
+use Rattle.tex_engine.proofs.CallFeedingMoves.{fed_reading, turn_leads, state_at, other_words, words_at}
+use Rattle.tex_engine.proofs.CallKept.{list_still}
+use Rattle.tex_machine.specs.Runs.{steps}
+use Rattle.tex_machine.proofs.Pulls.{pulls, steps_pull, kind_none}
+use Rattle.tex_engine.proofs.Storing.{sound_still, store_call, words_are}
+
+-- moves that pull nothing are no steps
+no_steps : (ms : List Move) → pulls ms ≡ 0 → steps ms ≡ 0
+no_steps ms h = omega (arith, h, steps_pull ms)
+
+-- the scanner of the call that takes tokens, over the list of its macro
+pub scanner : (e : Engine) (number : ℕ → ℕ) (name : Name) (r : Reading) (h : CallStands e number (open_call name) r) → Taking name h.long (list_at e.input.lists h.id) r.fed e.input.call
+scanner e number name r h = taking name h.long (list_at e.input.lists h.id) r.fed e.input.call h.at
+
+-- its list is the macro's
+pub text_is : (e : Engine) (number : ℕ → ℕ) (name : Name) (r : Reading) (h : CallStands e number (open_call name) r) → text_of e.input.lists e.input.meanings name ≡ list_at e.input.lists h.id
+text_is e number name r h = ap (macro_text e.input.lists) h.meaning
+
+-- THE MOVES
+
+module _ (e : Engine) (number : ℕ → ℕ) (name : Name) (r : Reading) (x : Seen) (h : CallStands e number (open_call name) r) where
+  abbrev ts : List Token
+  ts = list_at e.input.lists h.id
+
+  abbrev t : Taking name h.long ts r.fed e.input.call
+  t = scanner e number name r h
+
+  abbrev pub answer_to : Answer
+  answer_to = resume_scan ts t.scan (call.Tok x.token ∷ [])
+
+  abbrev pub scan_before : Scan
+  scan_before = t.scan
+
+  now_front : gathered h.long ts r.fed ≡ resume_scan ts t.scan []
+  now_front = in_front h.long ts t.scan r.fed t.gathers
+
+  pub now_after : gathered h.long ts (r.fed ++ Tok x ∷ []) ≡ answer_to
+  now_after = let g : Gathers h.long ts t.scan r.fed = t.gathers in g.goes_on (Tok x ∷ [])
+
+  pub feeding_is : feeding r x ≡ argument_fed x (scan_work t.scan) (drop (length t.scan.args) (arguments_in answer_to)) (work_in answer_to)
+  feeding_is =
+      let g : Gathers h.long ts t.scan r.fed = t.gathers in
+      ap (λ (k : reading.Kind). feeding_kind k r.fed x) h.kind
+      ∙ ap (λ (a : Answer). argument_fed x (work_in (gathered h.long ts r.fed)) (drop (length (arguments_in (gathered h.long ts r.fed))) (arguments_in a)) (work_in a)) now_after
+      ∙ ap (λ (o : Option (List Token)). argument_fed x o (drop (length (arguments_in (gathered h.long ts r.fed))) (arguments_in answer_to)) (work_in answer_to)) g.work
+      ∙ ap (λ (args : List (List Token)). argument_fed x (scan_work t.scan) (drop (length args) (arguments_in answer_to)) (work_in answer_to)) g.args
+
+  pub growth_is : scan_growth ts x.token t.scan ≡ drop (length (unwrap_or (scan_work t.scan) [])) (target_by (drop (length t.scan.args) (arguments_in answer_to)) (work_in answer_to))
+  growth_is =
+      let g : Gathers h.long ts t.scan r.fed = t.gathers in
+      let work : work_in (resume_scan ts t.scan []) ≡ scan_work t.scan = sym (ap work_in now_front) ∙ g.work in
+      let args : arguments_in (resume_scan ts t.scan []) ≡ t.scan.args = sym (ap arguments_in now_front) ∙ g.args in
+      ap (λ (o : Option (List Token)). drop (length (unwrap_or o [])) (target_by (drop (length (arguments_in (resume_scan ts t.scan []))) (arguments_in answer_to)) (work_in answer_to))) work
+      ∙ ap (λ (us : List (List Token)). drop (length (unwrap_or (scan_work t.scan) [])) (target_by (drop (length us) (arguments_in answer_to)) (work_in answer_to))) args
+
+  -- as the input says it
+  pub growth_now : growth (text_of e.input.lists e.input.meanings) x.token e.input.call ≡ drop (length (unwrap_or (scan_work t.scan) [])) (target_by (drop (length t.scan.args) (arguments_in answer_to)) (work_in answer_to))
+  growth_now =
+      ap (growth (text_of e.input.lists e.input.meanings) x.token) t.is
+      ∙ ap (λ (text : List Token). scan_growth text x.token t.scan) (text_is e number name r h)
+      ∙ growth_is
+
+  pub lists_before : call_lists e.input.call ≡ lists_of t.scan.args (scan_work t.scan)
+  lists_before = ap call_lists t.is
+
+-- THE CALL GOES ON
+
+module _ (sizes : Sizes) (e e2 : Engine) (book : Book) (r : Reading) (rs : List Reading) (name : Name) (x : Seen) (answer : CallTold) (is : e.call ≡ Some (open_call name)) (st : AllStand sizes e (with_work (r ∷ rs) book))
+    (behind : e2 ≡ record e { call = Some (record { name = name; ask = ask_behind answer }); last = x; input = record e.input { call = e2.input.call; lists = e2.input.lists } }) (macros : KeepsMacros e.input e2.input)
+    (comes : Feeds (text_of e.input.lists e.input.meanings) x.token answer e.input.call e2.input.call) where
+  abbrev W : Book
+  W = with_work (r ∷ rs) book
+
+  stood : ReadingsStand (Some (open_call name)) e book.number (r ∷ rs)
+  stood = here_call sizes e book (open_call name) r rs is st
+
+  abbrev h : CallStands e book.number (open_call name) r
+  h = stood.0
+
+  abbrev text : List Token
+  text = list_at e.input.lists h.id
+
+  abbrev k : Taking name h.long text r.fed e.input.call
+  k = scanner e book.number name r h
+
+  abbrev a : Answer
+  a = answer_to e book.number name r x h
+
+  came : Comes text x.token answer name k.scan e2.input.call
+  came =
+      let at : Feeds (text_of e.input.lists e.input.meanings) x.token answer (calls.Gathering name k.scan) e2.input.call = subst (λ (c : Calling). Feeds (text_of e.input.lists e.input.meanings) x.token answer c e2.input.call) k.is comes in
+      subst (λ (ts : List Token). Comes ts x.token answer name k.scan e2.input.call) (text_is e book.number name r h) at
+
+  store : SameStore e.input e2.input
+  store = store_call e.input e2.input e2.input.call (ap (λ (y : Engine). y.input) behind) macros
+
+  sound : IsSound sizes e2 book.number book.macros
+  sound = sound_still sizes e e2 book.number book.macros (ap (λ (y : Engine). y.sizes) behind) (ap (λ (y : Engine). y.readings.size) behind) (ap (λ (y : Engine). y.names) behind) (ap (λ (y : Engine). y.reports) behind) store st.sound
+
+  -- the reading behind the token
+  abbrev fed : Reading
+  fed = fed_reading r x
+
+  abbrev W' : Book
+  W' = with_work (fed ∷ rs) book
+
+  abbrev now : Engine
+  now = record e { call = Some (record { name = name; ask = ask_behind answer }); last = x; input = record e.input { call = e2.input.call; lists = e2.input.lists } }
+
+  held : list_at e2.input.lists h.id ≡ text
+  held = list_still e.input e2.input name h.long h.outer h.id store h.meaning
+
+  call_stands : CallStands now book.number (record { name = name; ask = ask_behind answer }) fed
+  call_stands = record {
+    long = h.long;
+    outer = h.outer;
+    id = h.id;
+    meaning = h.meaning;
+    kind = h.kind ∙ ap (reading.Arguments name h.long (book.number h.id)) (sym held);
+    places = ap has_parameters held ∙ h.places;
+    asked = asked_after name h.long text k.scan r.fed x answer k.has_work k.gathers e2.input.call came ∙ ap (λ (kind : reading.Kind). reading.ask kind (r.fed ++ Tok x ∷ [])) (sym h.kind);
+    at = subst (λ (ts : List Token). CallAt (ask_behind answer) name h.long ts e2.input.call (r.fed ++ Tok x ∷ [])) (sym held) (at_after name h.long text k.scan r.fed x answer k.has_work k.gathers e2.input.call came);
+    holds = ap (λ (kind : reading.Kind). reading.lists kind (r.fed ++ Tok x ∷ [])) h.kind ∙ answer_lists (gathered h.long text (r.fed ++ Tok x ∷ [])) ∙ ap lists_by (now_after e book.number name r x h) ∙ sym (lists_after name h.long text k.scan r.fed x answer k.has_work k.gathers e2.input.call came);
+  }
+
+  fed_stands : AllStand sizes e2 W'
+  fed_stands = record {
+    sound = sound;
+    idle = ap (λ (y : Engine). y.input.making) behind ∙ st.idle;
+    all = subst (λ (y : Engine). ReadingsStand y.call y book.number (fed ∷ rs)) (sym behind) (call_stands, record { frames = stood.1.frames; shallow = stood.1.shallow; aside = stood.1.aside });
+  }
+
+  -- the states before and behind
+  start : state_at (state_of e W) (r ∷ rs) e.last (lists_of k.scan.args (scan_work k.scan) ++ (e.input.builds ++ e.input.aside)) ≡ state_of e W
+  start = ap (λ (l : List (List Token)). record (state_of e W) { gathered = l ++ (e.input.builds ++ e.input.aside) }) (sym (lists_before e book.number name r x h))
+
+  finish : state_at (state_of e W) (fed ∷ rs) x (lists_by a ++ (e.input.builds ++ e.input.aside)) ≡ state_of e2 W'
+  finish =
+      ap (λ (l : List (List Token)). record (state_of e W) { work = fed ∷ rs; last = x; gathered = l ++ (e.input.builds ++ e.input.aside) }) (sym (lists_after name h.long text k.scan r.fed x answer k.has_work k.gathers e2.input.call came))
+      ∙ ap (λ (y : Engine). state_of y W') (sym behind)
+
+  -- the machine's words
+  words_before : other_words (state_of e W) + lists_words (lists_of k.scan.args (scan_work k.scan) ++ (e.input.builds ++ e.input.aside)) ≡ stored_words e.input
+  words_before = sym (words_at (state_of e W) (r ∷ rs) e.last (lists_of k.scan.args (scan_work k.scan) ++ (e.input.builds ++ e.input.aside))) ∙ ap words start ∙ words_are sizes e W st.sound
+
+  words_behind : other_words (state_of e W) + lists_words (lists_by a ++ (e.input.builds ++ e.input.aside)) ≡ stored_words e2.input
+  words_behind = sym (words_at (state_of e W) (fed ∷ rs) x (lists_by a ++ (e.input.builds ++ e.input.aside))) ∙ ap words finish ∙ words_are sizes e2 W' sound
+
+  pub fed_went : (w : World) → stored_words e.input + length (growth (text_of e.input.lists e.input.meanings) x.token e.input.call) ≤ e.input.sizes.main_memory_size → stored_words e2.input ≤ e2.input.sizes.main_memory_size →
+      Went sizes (state_of e W) e2 w w (feeding r x) 0
+  fed_went w fits within =
+      let own : e.input.sizes.main_memory_size ≡ sizes.main_memory_size = ap (λ (s : Sizes). s.main_memory_size) st.sound.sized.input in
+      let own2 : e2.input.sizes.main_memory_size ≡ sizes.main_memory_size = ap (λ (s : Sizes). s.main_memory_size) sound.sized.input in
+      let grows = ap (length {A = Token}) (growth_now e book.number name r x h) in
+      record {
+        book' = W';
+        stands = fed_stands;
+        did = subst (λ (ms : List Move). Did sizes (state_of e W) (state_of e2 W') w w ms) (sym (feeding_is e book.number name r x h))
+            (subst (λ (u : State). Did sizes u (state_of e2 W') w w (argument_fed x (scan_work k.scan) (drop (length k.scan.args) (arguments_in a)) (work_in a))) start
+            (subst (λ (u : State). Did sizes (state_at (state_of e W) (r ∷ rs) e.last (lists_of k.scan.args (scan_work k.scan) ++ (e.input.builds ++ e.input.aside))) u w w (argument_fed x (scan_work k.scan) (drop (length k.scan.args) (arguments_in a)) (work_in a))) finish
+            (turn_leads sizes (state_of e W) w r rs e.last x k.scan.args (scan_work k.scan) a (e.input.builds ++ e.input.aside) (scan_turn h.long text k.scan r.fed x k.has_work k.gathers) (omega (arith, fits, own, grows, words_before)) (omega (arith, within, own2, words_behind)))));
+        count = no_steps (feeding r x) (kind_none r.kind r.fed x);
+      }
+
+-- the call takes tokens
+pub none_taken : (sizes : Sizes) (e : Engine) (book : Book) (r : Reading) (rs : List Reading) (name : Name) → e.call ≡ Some (open_call name) → AllStand sizes e (with_work (r ∷ rs) book) →
+    (b : Bool) → b ≡ false → MatchBool b (IsTaking e.input.call) (IsTaking e.input.call → ⊥) → ⊥
+none_taken sizes e book r rs name is st true not_so never = absurd cc
+none_taken sizes e book r rs name is st false not_so never =
+    let k = scanner e book.number name r (here_call sizes e book (open_call name) r rs is st).0 in
+    never (subst IsTaking (sym k.is) tt)

@@ -1,0 +1,222 @@
+-- What is scanned where a check comes.
+use Rattle.std.proofs.Common.{◌≡◌, ◌≤◌, ◌<◌, ◌+◌, ℕ, List, [], ◌∷◌, ◌++◌, length, drop, refl, sym, ap, subst, ◌∙◌, Bool, true, false, arith}
+use Rattle.std.proofs.lemmas.List.{drop-drop, length-drop}
+use Rattle.std.specs.Prelude.{Option, Some, None, IsSome, IfSome, option_to_list}
+use Rattle.tex_syntax.specs.declared.words.Scanned.{Scanned}
+use Rattle.tex_syntax.specs.declared.words.Want.{Want}
+use Rattle.tex_syntax.specs.declared.words.Scanned.TheVariants as scanned
+use Rattle.tex_defs.specs.declared.Name.{Name}
+use Rattle.tex_defs.specs.declared.Sizes.{Sizes}
+use Rattle.tex_defs.specs.declared.Token.{Token}
+use Rattle.rows.specs.Readings.{Fed}
+use Rattle.rows.specs.Table.{reads_under_normal}
+use Rattle.plain_readings.specs.Readings.{Kind, Reading, lists}
+use Rattle.plain_readings.specs.Scanning.{Status, Scans as ScansAs, Unguarded, Inherits, command_status, status, first_of, scanned_at, unless_unguarded, innermost_scanned, Scanning, scanning}
+use Rattle.reading_frames.specs.declared.frame.Frame.{Frame}
+use Rattle.reading_frames.specs.declared.frame.Frame.TheVariants as frame
+use Rattle.reading_frames.specs.Resumes.{list_count, frame_status, built_as}
+use Rattle.reading_frames.specs.Sees.{Lists, top_list}
+use Rattle.reading_frames.specs.Stack.{Found, found_at, innermost_found, found_in, asks_in, scanning_of as scanning_found, unless_unguarded as unless_found}
+use Rattle.reading_frames.specs.Stands as frames
+use Rattle.reading_frames.proofs.Scanning.{scans}
+use Rattle.tex_machine.specs.Plan.{first_list}
+use Rattle.macro_call.specs.PlainScans.{Scan, scan_work}
+use Rattle.input_state.specs.CallFeeds.{IsTaking as IsTakingCall, call_work}
+use Rattle.input_state.specs.Callings as calls
+use Rattle.input_state.specs.Callings.{Calling, call_lists, last_first}
+use Rattle.input_state.specs.Stored.{gathered}
+use Rattle.tex_engine.specs.declared.call.Call.{Call}
+use Rattle.tex_engine.specs.declared.call.CallAsk.{CallAsk}
+use Rattle.tex_engine.specs.declared.engine.Engine.{Engine}
+use Rattle.tex_engine.specs.Book.{Book}
+use Rattle.tex_engine.specs.Calls.{ReadingsStand, CallStands, IsTaking, HasWork, open_call, work_or_none}
+use Rattle.tex_engine.specs.Stands.{Stands}
+use Rattle.tex_engine.specs.Rules.{IsScanned, Scans, Takes, WantsHere, scanned_list, scanning_of}
+use Rattle.tex_engine.proofs.Bare.{bare, beneath_call, framed}
+
+-- FRAMES
+
+-- what is found among them is a text or a definition
+abbrev pub IsBuilt : (Scanned × Name × ℕ) → Type 0
+IsBuilt found = found.0 ≡ scanned.Use → ⊥
+
+built_other : (b : Bool) → built_as b ≡ scanned.Use → ⊥
+built_other true = λ e. cc
+built_other false = λ e. cc
+
+command_passes : (b : Bool) (n : ℕ) (o : Found) (P : (Scanned × Name × ℕ) → Type 0) → IfSome o P → IfSome (found_at (command_status b) n o) P
+command_passes true n o P h = h
+command_passes false n o P h = h
+
+frame_built : (f : Frame) (n : ℕ) (o : Found) → IfSome o IsBuilt → IfSome (found_at (frame_status f) n o) IsBuilt
+frame_built (frame.Command scan p) n o h = command_passes (reads_under_normal p) n o IsBuilt h
+frame_built (frame.Integer scan) n o h = h
+frame_built (frame.Build scan) n o h = built_other scan.defines
+frame_built (frame.Spelling scan) n o h = h
+frame_built (frame.Behind c x) n o h = h
+
+all_built : (fs : List Frame) (n : ℕ) → IfSome (innermost_found fs n) IsBuilt
+all_built [] n = tt
+all_built (f ∷ fs) n = frame_built f n (innermost_found fs (n + list_count f)) (all_built fs (n + list_count f))
+
+guarded : (s : Status) (o : Found) (P : (Scanned × Name × ℕ) → Type 0) → IfSome o P → IfSome (unless_found s o) P
+guarded (ScansAs what name) o P h = h
+guarded Unguarded o P h = tt
+guarded Inherits o P h = h
+
+found_built : (fs : List Frame) → IfSome (found_in fs) IsBuilt
+found_built [] = tt
+found_built (f ∷ fs) = guarded (frame_status f) (innermost_found (f ∷ fs) 0) IsBuilt (all_built (f ∷ fs) 0)
+
+-- and its list is held
+abbrev IsBelow : ℕ → (Scanned × Name × ℕ) → Type 0
+IsBelow m found = found.2 < m
+
+frame_held : (f : Frame) (n m : ℕ) (o : Found) → n + list_count f ≤ m → IfSome o (IsBelow m) → IfSome (found_at (frame_status f) n o) (IsBelow m)
+frame_held (frame.Command scan p) n m o le h = command_passes (reads_under_normal p) n o (IsBelow m) h
+frame_held (frame.Integer scan) n m o le h = h
+frame_held (frame.Build scan) n m o le h = omega (arith, le)
+frame_held (frame.Spelling scan) n m o le h = h
+frame_held (frame.Behind c x) n m o le h = h
+
+all_held : (fs : List Frame) (n : ℕ) (held : Lists) (work : List Reading) → n ≤ length held → frames.FramesStand fs (drop n held) work → IfSome (innermost_found fs n) (IsBelow (length held))
+all_held [] n held work le h = tt
+all_held (f ∷ fs) n held [] le h = absurd h
+all_held (f ∷ fs) n held (r ∷ rs) le h =
+    let room : n + list_count f ≤ length held = omega (arith, le, h.0.holds, length-drop n held) in
+    frame_held f n (length held) (innermost_found fs (n + list_count f)) room
+    (all_held fs (n + list_count f) held rs room (subst (λ (l : Lists). frames.FramesStand fs l rs) (drop-drop (list_count f) n held) h.1))
+
+found_held : (fs : List Frame) (held : Lists) (work : List Reading) → frames.FramesStand fs held work → IfSome (found_in fs) (IsBelow (length held))
+found_held [] held work h = tt
+found_held (f ∷ fs) held work h = guarded (frame_status f) (innermost_found (f ∷ fs) 0) (IsBelow (length held)) (all_held (f ∷ fs) 0 held work (omega arith) h)
+
+top_is : (lists : Lists) → top_list lists ≡ first_list lists
+top_is [] = refl
+top_is (ts ∷ lists) = refl
+
+none_found : (fs : List Frame) (held : Lists) → asks_in fs held ≡ None → found_in fs ≡ None
+none_found [] held h = refl
+none_found (f ∷ fs) held h = absurd cc
+
+-- THE ENGINE
+
+module _ (e : Engine) where
+  asked_as : (s : Scanned) (k : ℕ) → (s ≡ scanned.Use → ⊥) → k < length e.input.builds → IsScanned s k e
+  asked_as scanned.Use k other some = absurd (other refl)
+  asked_as scanned.Text k other some = some
+  asked_as scanned.Definition k other some = some
+
+  -- what was found is built, and its list there
+  pub frame_asked : (s : Scanned × Name × ℕ) → Some s ≡ found_in e.readings.frames → s.2 < length e.input.builds → IsScanned s.0 s.2 e
+  frame_asked s is some = asked_as s.0 s.2 (subst (λ (o : Found). IfSome o IsBuilt) (sym is) (found_built e.readings.frames)) some
+
+  abbrev as_scanned : Scanned → Name → List Token → Option Scanning
+  as_scanned s name list = Some (record { what = s; name = name; list = list })
+
+  scan_as : (s : Scanned) (name : Name) (k : ℕ) → (s ≡ scanned.Use → ⊥) → as_scanned s name (top_list (drop k e.input.builds)) ≡ as_scanned s name (scanned_list s k e)
+  scan_as scanned.Use name k other = absurd (other refl)
+  scan_as scanned.Text name k other = ap (as_scanned scanned.Text name) (top_is (drop k e.input.builds))
+  scan_as scanned.Definition name k other = ap (as_scanned scanned.Definition name) (top_is (drop k e.input.builds))
+
+  -- without a call
+  module _ (sizes : Sizes) (book : Book) (uncalled : e.call ≡ None) where
+    here : (want : Option Want) → Takes sizes want e book → WantsHere None want e
+    here want t = subst (λ (c : Option Call). WantsHere c want e) uncalled t.0
+
+    stood : (want : Option Want) → Takes sizes want e book → Stands sizes e book
+    stood want t = framed sizes e book uncalled t.1
+
+    scanned_here : (want : Option Want) → Takes sizes want e book → scanning_of e book.work ≡ scanning_found e.input.builds (found_in e.readings.frames)
+    scanned_here want t =
+        let st : Stands sizes e book = stood want t in
+        ap (scanning book.work) (bare e.input st.uncalled.input st.readings.aside) ∙ scans e.readings.frames e.input.builds book.work st.readings.frames
+
+    wanted_some : (s : Scanned × Name × ℕ) → Some s ≡ found_in e.readings.frames → (want : Option Want) → Takes sizes want e book → IsSome want
+    wanted_some s is None t = absurd (subst (λ (o : Found). IfSome o (λ x. ⊥)) (sym (is ∙ none_found e.readings.frames e.input.builds (here None t))) tt)
+    wanted_some s is (Some want) t = refl
+
+    pub frame_scan : (s : Scanned × Name × ℕ) → Some s ≡ found_in e.readings.frames → (want : Option Want) → Takes sizes want e book → Scans (s.0, s.1, s.2) e book × IsSome want
+    frame_scan s is want t = (
+      scanned_here want t ∙ ap (scanning_found e.input.builds) (sym is) ∙ scan_as s.0 s.1 s.2 (subst (λ (o : Found). IfSome o IsBuilt) (sym is) (found_built e.readings.frames)),
+      wanted_some s is want t,
+    )
+
+    -- nothing is found
+    pub frames_skip : None ≡ found_in e.readings.frames → (want : Option Want) → Takes sizes want e book → scanning_of e book.work ≡ None
+    frames_skip is want t = scanned_here want t ∙ ap (scanning_found e.input.builds) (sym is)
+
+    -- its list is always there
+    pub list_there : (s : Scanned × Name × ℕ) → Some s ≡ found_in e.readings.frames → (want : Option Want) → Takes sizes want e book → s.2 < length e.input.builds
+    list_there s is want t =
+        subst (λ (o : Found). IfSome o (IsBelow (length e.input.builds))) (sym is) (found_held e.readings.frames e.input.builds book.work (stood want t).readings.frames)
+
+-- A CALL
+
+-- its present argument is the first of its lists
+first_work : (o : Option (List Token)) (rest builds : List (List Token)) (n : ℕ) → n ≡ length (option_to_list o ++ rest) → (o ≡ None → rest ≡ []) → first_of n ((option_to_list o ++ rest) ++ builds) ≡ work_or_none o
+first_work (Some work) rest builds n is none = ap (λ (k : ℕ). first_of k (work ∷ (rest ++ builds))) is
+first_work None rest builds n is none = ap (λ (k : ℕ). first_of k (rest ++ builds)) (is ∙ ap (length {A = List Token}) (none refl))
+
+no_args : (scan : Scan) → HasWork scan → scan_work scan ≡ None → last_first scan.args [] ≡ []
+no_args scan h none = ap (λ (args : List (List Token)). last_first args []) (h none)
+
+taking_list : (name : Name) (long : Bool) (text : List Token) (k : Calling) (fed : List Fed) (builds : List (List Token)) (n : ℕ) → IsTaking name long text k fed → n ≡ length (call_lists k) → first_of n (call_lists k ++ builds) ≡ work_or_none (call_work k)
+taking_list name long text calls.NotCalling fed builds n h is = absurd h
+taking_list name long text (calls.Gathering m scan) fed builds n h is = first_work (scan_work scan) (last_first scan.args []) builds n is (no_args scan h.1.0)
+taking_list name long text (calls.Stopped m scan) fed builds n h is = absurd h
+taking_list name long text (calls.Gathered m args) fed builds n h is = absurd h
+
+is_taking : (name : Name) (long : Bool) (text : List Token) (k : Calling) (fed : List Fed) → IsTaking name long text k fed → IsTakingCall k
+is_taking name long text calls.NotCalling fed h = absurd h
+is_taking name long text (calls.Gathering m scan) fed h = tt
+is_taking name long text (calls.Stopped m scan) fed h = absurd h
+is_taking name long text (calls.Gathered m args) fed h = absurd h
+
+-- a call that takes tokens is the innermost reading
+pub record Using (sizes : Sizes) (e : Engine) (c : Call) (want : Option Want) (book : Book) : Type 0 where
+  pub r : Reading
+  pub rs : List Reading
+  pub work : book.work ≡ r ∷ rs
+  pub opened : e.call ≡ Some (open_call c.name)
+  pub readings : ReadingsStand (Some (open_call c.name)) e book.number (r ∷ rs)
+  pub wants : IsSome want
+
+pub using : (sizes : Sizes) (e : Engine) (c : Call) (want : Option Want) (book : Book) → e.call ≡ Some c → Takes sizes want e book → Using sizes e c want book
+using sizes e c None book is t = absurd (subst (λ (o : Option Call). WantsHere o None e) is t.0)
+using sizes e c (Some want) book is t = by_work book.work refl where
+  wants : WantsHere (Some c) (Some want) e
+  wants = subst (λ (o : Option Call). WantsHere o (Some want) e) is t.0
+
+  opened : e.call ≡ Some (open_call c.name)
+  opened = is ∙ ap (λ (a : CallAsk). Some (record { name = c.name; ask = a })) wants.0
+
+  all : ReadingsStand (Some (open_call c.name)) e book.number book.work
+  all = subst (λ (o : Option Call). ReadingsStand o e book.number book.work) opened t.1.all
+
+  by_work : (work : List Reading) → book.work ≡ work → Using sizes e c (Some want) book
+  by_work [] none = absurd (subst (λ (rs : List Reading). ReadingsStand (Some (open_call c.name)) e book.number rs) none all)
+  by_work (r ∷ rs) is = record { r = r; rs = rs; work = is; opened = opened; readings = subst (λ (rs : List Reading). ReadingsStand (Some (open_call c.name)) e book.number rs) is all; wants = refl }
+
+module _ (sizes : Sizes) (e : Engine) (c : Call) (want : Option Want) (book : Book) (is : e.call ≡ Some c) (t : Takes sizes want e book) where
+  u : Using sizes e c want book
+  u = using sizes e c want book is t
+
+  h : CallStands e book.number (open_call c.name) u.r
+  h = u.readings.0
+
+  abbrev scans_at : Kind → ℕ → Option Scanning
+  scans_at k n = unless_unguarded (status k) (scanned_at (status k) (first_of n (gathered e.input)) (innermost_scanned u.rs (drop n (gathered e.input))))
+
+  pub use_scans : Scans (scanned.Use, c.name, 0) e book × IsSome want
+  use_scans = (
+    ap (λ (work : List Reading). scanning work (gathered e.input)) u.work
+        ∙ ap (λ (k : Kind). scans_at k (length (lists u.r.kind u.r.fed))) h.kind
+        ∙ ap (λ (ts : List Token). Some (record { what = scanned.Use; name = c.name; list = ts }))
+        (ap (first_of (length (lists u.r.kind u.r.fed))) (beneath_call e.input u.readings.1.aside)
+        ∙ taking_list c.name h.long _ e.input.call u.r.fed e.input.builds (length (lists u.r.kind u.r.fed)) h.at (ap (length {A = List Token}) h.holds)),
+    u.wants,
+  )
+
+  pub use_taking : IsTakingCall e.input.call
+  use_taking = is_taking c.name h.long _ e.input.call u.r.fed h.at

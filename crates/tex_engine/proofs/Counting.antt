@@ -1,0 +1,89 @@
+-- The engine's tables count as the machine's.
+use Rattle.std.proofs.Common.{◌≡◌, ℕ, ◌+◌, ◌<◌, ◌≤◌, List, [], ◌∷◌, ◌++◌, length, refl, ap, ◌∙◌, take, arith}
+use Rattle.std.specs.Prelude.{Option, Some, None, Bool, true, false, nat_le, if◌then◌else◌}
+use Rattle.tex_defs.specs.declared.Token.{Token}
+use Rattle.std.proofs.lemmas.Bool.Decides.{nat_tests}
+use Rattle.tex_defs.specs.declared.Sizes.{Sizes}
+use Rattle.tex_defs.specs.declared.Table.TheVariants.{ExpansionDepth, DelayedWrites}
+use Rattle.tex_defs.specs.Sizes.{first_out_of_range, first_out_among, is_in_range, size_of, tables}
+use Rattle.tex_defs.specs.declared.Table.{Table}
+use Rattle.tex_defs.specs.declared.Full.{Full}
+use Rattle.rows.specs.Readings.{Tok}
+use Rattle.plain_readings.specs.Readings.{Kind, Reading, lists}
+use Rattle.plain_tokens.specs.Tables.{memory, lists_words, refused}
+use Rattle.reading_frames.specs.declared.frame.Frame.{Frame}
+use Rattle.reading_frames.specs.Resumes.{below}
+use Rattle.reading_frames.specs.Sees.{Lists}
+use Rattle.reading_frames.specs.Stands as frames
+use Rattle.tex_machine.specs.States.{Begun, BegunWith}
+use Rattle.tex_machine.specs.Demands.{refusal}
+use Rattle.input_state.specs.Stored.{Stored, words as stored_words}
+use Rattle.tex_engine.specs.declared.call.Call.{Call}
+use Rattle.tex_engine.specs.declared.engine.Engine.{Engine}
+use Rattle.tex_engine.specs.Book.{Book}
+use Rattle.tex_engine.specs.Calls.{AllStand, ReadingsStand}
+use Rattle.tex_engine.specs.Stands.{Stands, Counts, state_of, depth, call_count, depth_full}
+use Rattle.tex_engine.proofs.Bare.{all_of}
+use Rattle.tex_engine.proofs.Storing.{words_more}
+
+pub frames_depth : (fs : List Frame) (held : Lists) (work : List Reading) → frames.FramesStand fs held work → length work ≡ length fs
+frames_depth [] held [] h = refl
+frames_depth [] held (r ∷ rs) h = absurd h
+frames_depth (f ∷ fs) held [] h = absurd h
+frames_depth (f ∷ fs) held (r ∷ rs) h = omega (arith, frames_depth fs (below f held) rs h.1)
+
+-- a call counts
+count_by : (e : Engine) (number : ℕ → ℕ) (c : Option Call) (work : List Reading) → ReadingsStand c e number work → length work ≡ length e.readings.frames + call_count c
+count_by e number None work h = omega (arith, frames_depth e.readings.frames e.input.builds work h.0.frames)
+count_by e number (Some c) [] h = absurd h
+count_by e number (Some c) (r ∷ rs) h = omega (arith, frames_depth e.readings.frames e.input.builds rs h.1.frames)
+
+pub call_counts : (sizes : Sizes) (e : Engine) (book : Book) → AllStand sizes e book → Counts sizes e book
+call_counts sizes e book st = record { sound = st.sound; depth = count_by e book.number e.call book.work st.all }
+
+pub counts_of : (sizes : Sizes) (e : Engine) (book : Book) → Stands sizes e book → Counts sizes e book
+counts_of sizes e book st = call_counts sizes e book (all_of sizes e book st)
+
+pub none_of : {A : Type 0} → (o : Option A) → ((x : A) → o ≡ Some x → ⊥) → o ≡ None
+none_of None h = refl
+none_of (Some x) h = absurd (h x refl)
+
+-- one reading more
+pub has_room : (used size : ℕ) → used < size → None ≡ depth_full used size
+has_room used size less = grind (arith, nat_tests)
+
+-- no reading more
+pub no_room : (used size u s : ℕ) → size ≤ used → u ≡ used → s ≡ size → Some (record { table = ExpansionDepth; used = u; size = s }) ≡ depth_full used size
+no_room used size u s le same_used same_size = grind (arith, nat_tests)
+
+if_in : (b : Bool) (x : Option Table) (t : Table) → (if b then x else Some t) ≡ None → (b ≡ true) × (x ≡ None)
+if_in true x t h = (refl, h)
+if_in false x t h = absurd cc
+
+-- where no table is out of its range, this one is in its own
+in_range : (sizes : Sizes) (before behind : List Table) (t : Table) → first_out_among sizes (before ++ t ∷ behind) ≡ None → is_in_range t (size_of sizes t) ≡ true
+in_range sizes [] behind t h = (if_in (is_in_range t (size_of sizes t)) (first_out_among sizes behind) t h).0
+in_range sizes (v ∷ before) behind t h = in_range sizes before behind t (if_in (is_in_range v (size_of sizes v)) (first_out_among sizes (before ++ t ∷ behind)) v h).1
+
+-- the readings of a run can be counted
+pub small_depth : (sizes : Sizes) → first_out_of_range sizes ≡ None → sizes.expansion_depth < 4294967294
+small_depth sizes h =
+    let k = in_range sizes (take 11 tables) (DelayedWrites ∷ []) ExpansionDepth h in
+    grind (arith, nat_tests, k)
+
+-- one reading more, by the machine and by the engine
+module _ (sizes : Sizes) (e : Engine) (book : Book) (k : Kind) (o : Option Full) (counts : Counts sizes e book) (room : depth e < e.readings.size) where
+  within : nat_le (length book.work + 1) sizes.expansion_depth ≡ true
+  within = grind (arith, nat_tests, counts.depth, counts.sound.sized.readings, room)
+
+  pub begun_refusal : refused e.input.sizes (memory (lists_words (lists k [])) (stored_words e.input) ∷ []) ≡ o → refusal sizes (Begun k) (state_of e book) ≡ o
+  begun_refusal h = rw within (words_more sizes e book (lists_words (lists k [])) o counts.sound h)
+
+  pub begun_with_refusal : refused e.input.sizes (memory (lists_words (lists k (Tok e.last ∷ []))) (stored_words e.input) ∷ []) ≡ o → refusal sizes (BegunWith k) (state_of e book) ≡ o
+  begun_with_refusal h = rw within (words_more sizes e book (lists_words (lists k (Tok e.last ∷ []))) o counts.sound h)
+
+-- a reading without a list asks for no word
+pub bare_room : (i : Stored) (lists : List (List Token)) → lists ≡ [] → stored_words i ≤ i.sizes.main_memory_size → refused i.sizes (memory (lists_words lists) (stored_words i) ∷ []) ≡ None
+bare_room i lists none within =
+    let fits : nat_le (stored_words i + 0) i.sizes.main_memory_size ≡ true = grind (arith, nat_tests, within) in
+    ap (λ (l : List (List Token)). refused i.sizes (memory (lists_words l) (stored_words i) ∷ [])) none ∙ rw fits refl

@@ -1,0 +1,356 @@
+-- Texts, reports and ends that the engine writes.
+use Rattle.std.proofs.Common.{◌≡◌, ℕ, zero, suc, ◌+◌, ◌≤◌, List, [], ◌∷◌, ◌++◌, refl, sym, ap, ◌∙◌, subst, Bool, true, false, arith}
+use Rattle.std.specs.Prelude.{Option, Some, None, Result, Ok, Err, IfErr, IsErrAnd, nat_lt, if◌then◌else◌}
+use Rattle.tex_syntax.specs.declared.words.Outcome.{Outcome}
+use Rattle.tex_syntax.specs.declared.words.Outcome.TheVariants.{AtFatal, Finished}
+use Rattle.tex_syntax.specs.declared.words.Report.{Report}
+use Rattle.tex_syntax.specs.declared.words.Scanned.TheVariants as scanned
+use Rattle.tex_defs.specs.declared.Sizes.{Sizes}
+use Rattle.tex_defs.specs.declared.Token.{Token}
+use Rattle.tex_defs.specs.declared.Meaning.{Meaning}
+use Rattle.tex_defs.specs.declared.Full.{Full}
+use Rattle.tex_defs.specs.declared.Fatal.{Fatal}
+use Rattle.tex_defs.specs.declared.Fatal.TheVariants as fatal
+use Rattle.prim_table.specs.Primitives.{primitive_names}
+use Rattle.tex_defs.specs.Places.{World, Transcript}
+use Rattle.plain_tokens.specs.Printed.{Style, initial_style}
+use Rattle.plain_state.specs.Reports as reports
+use Rattle.plain_state.specs.Reports.{plain_style, report_bytes, hundred_line, token_line_bytes, missing_file_bytes, runaway_bytes}
+use Rattle.plain_readings.specs.Readings.{Reading}
+use Rattle.tex_machine.specs.States.{State, Move, Written, Reported, Stopped, made}
+use Rattle.tex_machine.specs.Demands.{refusal}
+use Rattle.tex_machine.specs.Plan.{Page, reported, reports_room, token_line, no_file}
+use Rattle.tex_machine.specs.Numbers.{pending_of, meanings_of}
+use Rattle.tex_machine.specs.Runs.{Wrote, steps, step_of}
+use Rattle.tex_machine.specs.Does.{Did}
+use Rattle.tex_machine.proofs.Doing.{did_join, did_one, wrote_join}
+use Rattle.world_io.specs.Told.{FilesTold, SinkTold, world}
+use Rattle.world_io.specs.declared.traits.Fault.{Fault}
+use Rattle.transcript.specs.Taken.{Took, TookFront}
+use Rattle.token_lists.specs.Table.{Entry, tokens_at}
+use Rattle.input_state.specs.HeldLists.{first_list as first_held}
+use Rattle.input_state.specs.Macros.{list_at}
+use Rattle.input_state.specs.Stored.{gathered}
+use Rattle.reading_frames.specs.Sees.{kept_list_of}
+use Rattle.tex_engine.specs.declared.broken.Broken.{Broken}
+use Rattle.tex_engine.specs.declared.engine.Engine.{Engine}
+use Rattle.tex_engine.specs.declared.broken.Broken.TheVariants as broken
+use Rattle.tex_engine.specs.declared.outcome.Last.{Last}
+use Rattle.tex_engine.specs.declared.outcome.Last.TheVariants as last
+use Rattle.tex_engine.specs.Faults.{broken_by}
+use Rattle.tex_engine.specs.Begins.{outcome_of_last, last_moves, last_bytes}
+use Rattle.tex_engine.specs.Book.{Book, with_work}
+use Rattle.tex_engine.specs.Calls.{AllStand, work_or_none}
+use Rattle.tex_engine.specs.Stands.{Stands, IsSized, IsSound, IsUncalled, SameFrames, SameStore, SameBut, SameOthers, OnlyColumn, state_of, page_of}
+use Rattle.tex_engine.specs.Rules.{world_of, list_number, counted, CountsOn, Cuts, CountsReports, Went, Halts, Reports}
+use Rattle.tex_engine.proofs.Bare.{all_of}
+use Rattle.tex_engine.proofs.CallKept.{frames_kept}
+use Rattle.tex_engine.proofs.Cutting.{cuts_by, full_cuts, later_cuts, did_out, cut_out}
+use Rattle.tex_engine.proofs.Joining.{IsQuiet, quiet_here, quiet_wrote, halts_on}
+use Rattle.tex_engine.proofs.Storing.{store_is, store_same, sound_sized, sound_still}
+
+-- WRITES
+
+-- the style of a view
+pub style_is : (style : Style) (categories : List ℕ) (found names : List (List ℕ)) → style ≡ initial_style categories found → found ≡ names → style ≡ initial_style categories names
+style_is style categories found names h n = h ∙ ap (λ (x : List (List ℕ)). initial_style categories x) n
+
+-- and a text of tokens in it
+pub shown_is : (text : Style → List Token → List ℕ) (style style' : Style) (ts us : List Token) → style ≡ style' → ts ≡ us → text style ts ≡ text style' us
+shown_is text style style' ts us s t = cc
+
+-- a list by its number
+number_same : (lists : List (List Token)) (k : ℕ) → list_at lists k ≡ list_number k lists
+number_same [] zero = refl
+number_same [] (suc k) = refl
+number_same (ts ∷ lists) zero = refl
+number_same (ts ∷ lists) (suc k) = number_same lists k
+
+pub number_is : (table held : List (Option Entry)) (id k : ℕ) (lists : List (List Token)) → table ≡ held → tokens_at held id ≡ list_at lists k → tokens_at table id ≡ list_number k lists
+number_is table held id k lists t h = ap (λ (x : List (Option Entry)). tokens_at x id) t ∙ (h ∙ number_same lists k)
+
+-- the innermost, where it is listed
+listed_same : (listed : Bool) (lists : List (List Token)) → listed ≡ true → first_held lists ≡ kept_list_of listed lists
+listed_same true [] is = refl
+listed_same true (ts ∷ lists) is = refl
+listed_same false lists is = cc
+
+pub listed_is : (listed : Bool) (table held : List (Option Entry)) (id : ℕ) (lists : List (List Token)) → listed ≡ true → table ≡ held → tokens_at held id ≡ first_held lists → tokens_at table id ≡ kept_list_of listed lists
+listed_is listed table held id lists is t h = ap (λ (x : List (Option Entry)). tokens_at x id) t ∙ (h ∙ listed_same listed lists is)
+
+-- no list
+pub unlisted_is : (listed : Bool) (lists : List (List Token)) → (listed ≡ true → lists ≡ []) → [] ≡ kept_list_of listed lists
+unlisted_is false lists none = refl
+unlisted_is true lists none = ap (kept_list_of true) (sym (none refl))
+
+-- an argument's list
+pub work_is : (table held : List (Option Entry)) (id : ℕ) (o : Option (List Token)) → table ≡ held → o ≡ Some (tokens_at held id) → tokens_at table id ≡ work_or_none o
+work_is table held id o t is = ap (λ (x : List (Option Entry)). tokens_at x id) t ∙ ap work_or_none (sym is)
+
+pub empty_is : (categories : List ℕ) (names : List (List ℕ)) (b : Bool) (text : List ℕ) (o : Option (List Token)) → o ≡ None → text ≡ runaway_bytes scanned.Use (initial_style categories names) b [] → text ≡ runaway_bytes scanned.Use (initial_style categories names) b (work_or_none o)
+empty_is categories names b text o none is = is ∙ ap (λ (x : Option (List Token)). runaway_bytes scanned.Use (initial_style categories names) b (work_or_none x)) (sym none)
+
+module _ (s s' : SinkTold) (e : Engine) (b' : Bool) (text shown : List ℕ) (is : shown ≡ text) where
+  only_column : OnlyColumn e (record e { in_line = b' })
+  only_column = record { same = refl }
+
+  -- what was taken, in other words
+  pub took_out : Took s s' e.in_line b' shown → (sizes : Sizes) (f : FilesTold) (book : Book) →
+      Did sizes (state_of e book) (state_of (record e { in_line = b' }) book) (world_of f s e) (world f s' b') (Written Transcript text ∷ [])
+  took_out h sizes f book = did_out sizes f s s' e (record e { in_line = b' }) book only_column text (subst (λ (bs : List ℕ). Took s s' e.in_line b' bs) is h)
+
+  -- and before a fault
+  pub err_out : {T : Type 0} → (r : Result T Broken) (fault : Fault) → IsErrAnd r (λ b. b ≡ broken_by fault) → TookFront s s' e.in_line b' shown fault →
+      IfErr r (λ b. (sizes : Sizes) (f : FilesTold) (book : Book) (more : List Move) →
+      Cuts sizes (state_of e book) (record e { in_line = b' }) book (world_of f s e) (world f s' b') (Written Transcript text ∷ more) b)
+  err_out (Ok x) fault h front = tt
+  err_out (Err b) fault h front = λ sizes f book more.
+      cut_out sizes f s s' e (record e { in_line = b' }) book only_column b fault text more h (subst (λ (bs : List ℕ). TookFront s s' e.in_line b' bs fault) is front)
+
+-- a token line that is written
+pub loud : (page : Page) (m : Meaning Unit) → page.quiet ≡ false → token_line page m ≡ Written Transcript (token_line_bytes (plain_style page.names) page.in_line m) ∷ []
+loud page m e = rw e refl
+
+-- and that is cut off
+pub loud_cuts : {T : Type 0} → (r : Result T Broken) (s s' : SinkTold) (e e' : Engine) (m : Meaning Unit) → e.quiet ≡ false →
+    IfErr r (λ b. (sizes : Sizes) (f : FilesTold) (book : Book) (more : List Move) →
+    Cuts sizes (state_of e book) e' book (world_of f s e) (world_of f s' e') (Written Transcript (token_line_bytes (plain_style e.names.names) e.in_line m) ∷ more) b) →
+    IfErr r (λ b. (sizes : Sizes) (f : FilesTold) (book : Book) → Cuts sizes (state_of e book) e' book (world_of f s e) (world_of f s' e') (token_line (page_of e book) m) b)
+loud_cuts (Ok x) s s' e e' m q h = tt
+loud_cuts (Err b) s s' e e' m q h = λ sizes f book. cuts_by sizes _ e' book _ _ _ _ b (loud (page_of e book) m q) (h sizes f book [])
+
+-- REPORTS
+
+abbrev no_file_lines : List ℕ
+no_file_lines = reports.emergency (plain_style []) ++ reports.no_file_line (plain_style [])
+
+counted_on : (page : Page) (rest : List Move) → nat_lt page.reports reports_room ≡ true → counted page rest ≡ Reported ∷ rest
+counted_on page rest e = rw e refl
+
+counted_end : (page : Page) (rest : List Move) → nat_lt page.reports reports_room ≡ false →
+    counted page rest ≡ Reported ∷ Written Transcript (hundred_line (plain_style page.names)) ∷ Stopped (AtFatal fatal.HundredErrors) ∷ []
+counted_end page rest e = rw e refl
+
+-- the machine stops behind its last text
+stops_did : (sizes : Sizes) (s : State) (w w' : World) (bs : List ℕ) (o : Outcome) → Wrote w w' (Written Transcript bs ∷ []) →
+    Did sizes s (made (Stopped o) (made (Written Transcript bs) s)) w w' (Written Transcript bs ∷ Stopped o ∷ [])
+stops_did sizes s w w' bs o wrote = record {
+  state = refl;
+  fits = (refl, (refl, tt));
+  written = wrote_join w w' w' (Written Transcript bs ∷ []) (Stopped o ∷ []) wrote (quiet_here (Stopped o) w' tt);
+}
+
+-- and the engine stands for its state, but for how it stopped
+stops_at : (sizes : Sizes) (s : State) (e' : Engine) (book : Book) (w w' : World) (bs : List ℕ) (o : Outcome) → Did sizes s (state_of e' book) w w' (Written Transcript bs ∷ []) →
+    record (made (Stopped o) (made (Written Transcript bs) s)) { stopped = None } ≡ state_of e' book
+stops_at sizes s e' book w w' bs o d = ap (λ (x : State). record x { stopped = None }) d.state
+
+stops : (sizes : Sizes) (s : State) (e' : Engine) (book : Book) (w w' : World) (bs : List ℕ) (o : Outcome) → s.due ≡ [] → CountsReports o s e' → Did sizes s (state_of e' book) w w' (Written Transcript bs ∷ []) →
+    Halts sizes s e' book w w' (Written Transcript bs ∷ Stopped o ∷ []) o 0
+stops sizes s e' book w w' bs o due counts d = record {
+  t = made (Stopped o) (made (Written Transcript bs) s);
+  did = stops_did sizes s w w' bs o d.written;
+  stopped = refl;
+  due = due;
+  reports = by_outcome o counts;
+  same = λ few. stops_at sizes s e' book w w' bs o d;
+  count = omega arith;
+} where
+  by_outcome : (o : Outcome) → CountsReports o s e' → CountsReports o (made (Stopped o) (made (Written Transcript bs) s)) e'
+  by_outcome Finished h = h
+  by_outcome (AtFatal f) h = tt
+
+-- where the machine stops of itself
+pub last_is : (sizes : Sizes) (st : State) (e' : Engine) (book : Book) (w w' : World) (b : Bool) (l : Last) → st.due ≡ [] → e'.reports ≡ st.reports → e'.flawed ≡ st.flawed → Did sizes st (state_of e' book) w w' (Written Transcript (last_bytes b l) ∷ []) →
+    Halts sizes st e' book w w' (last_moves b l) (outcome_of_last l) 0
+last_is sizes st e' book w w' b last.End due is flawed d = stops sizes st e' book w w' _ _ due (sym is, sym flawed) d
+last_is sizes st e' book w w' b last.NoEnd due is flawed d = stops sizes st e' book w w' _ _ due tt d
+
+pub last_cut : (sizes : Sizes) (s : State) (e' : Engine) (book : Book) (w w' : World) (b : Bool) (l : Last) (k : Broken) →
+    ((more : List Move) → Cuts sizes s e' book w w' (Written Transcript (last_bytes b l) ∷ more) k) → Cuts sizes s e' book w w' (last_moves b l) k
+last_cut sizes s e' book w w' b last.End k h = h _
+last_cut sizes s e' book w w' b last.NoEnd k h = h _
+
+-- a report that is counted
+module _ (sizes : Sizes) (s u : State) (w w1 : World) (text : List ℕ) (first : Did sizes s u w w1 (Written Transcript text ∷ [])) where
+  counted_first : Did sizes s (made Reported u) w w1 (Written Transcript text ∷ Reported ∷ [])
+  counted_first = did_join sizes s u (made Reported u) w w1 w1 (Written Transcript text ∷ []) (Reported ∷ []) first (did_one sizes Reported u (made Reported u) w1 w1 refl refl (quiet_here Reported w1 tt))
+
+  -- and behind which the run ends
+  module _ (w2 : World) (line : List ℕ) (f : Fatal) where
+    ends_behind : (v : State) (e' : Engine) (book : Book) → u.due ≡ [] → Did sizes v (state_of e' book) w1 w2 (Written Transcript line ∷ []) → (s.reports ≤ reports_room → made Reported u ≡ v) →
+        Halts sizes s e' book w w2 (Written Transcript text ∷ Reported ∷ Written Transcript line ∷ Stopped (AtFatal f) ∷ []) (AtFatal f) 0
+    ends_behind v e' book due second is = record {
+      t = made (Stopped (AtFatal f)) (made (Written Transcript line) (made Reported u));
+      did = did_join sizes s (made Reported u) _ w w1 w2 (Written Transcript text ∷ Reported ∷ []) (Written Transcript line ∷ Stopped (AtFatal f) ∷ []) counted_first (stops_did sizes (made Reported u) w1 w2 line (AtFatal f) second.written);
+      stopped = refl;
+      due = due;
+      reports = tt;
+      same = λ few. ap (λ (x : State). record (made (Stopped (AtFatal f)) (made (Written Transcript line) x)) { stopped = None }) (is few) ∙ stops_at sizes v e' book w1 w2 line (AtFatal f) second;
+      count = omega arith;
+    }
+
+    -- and its last line is cut off
+    cuts_behind : (v : State) (e' : Engine) (book : Book) (b : Broken) → made Reported u ≡ v → ((more : List Move) → Cuts sizes v e' book w1 w2 (Written Transcript line ∷ more) b) →
+        Cuts sizes s e' book w w2 (Written Transcript text ∷ Reported ∷ Written Transcript line ∷ Stopped (AtFatal f) ∷ []) b
+    cuts_behind v e' book b is h =
+        later_cuts sizes s v e' book w w1 w2 (Written Transcript text ∷ Reported ∷ []) (Written Transcript line ∷ Stopped (AtFatal f) ∷ []) b
+        (subst (λ (x : State). Did sizes s x w w1 (Written Transcript text ∷ Reported ∷ [])) is counted_first) (h (Stopped (AtFatal f) ∷ []))
+
+-- A REPORT IS COUNTED
+
+-- the engine counts a report
+pub counted_last : (e : Engine) (book : Book) (n : ℕ) → e.reports + 1 ≡ n → made Reported (state_of e book) ≡ state_of (record e { reports = n }) book
+counted_last e book n is = ap (λ (k : ℕ). record (state_of e book) { reports = k }) is
+
+-- and the run goes on
+pub counts_on : (sizes : Sizes) (e : Engine) (book : Book) (n : ℕ) (w : World) (rest : List Move) → e.reports + 1 ≡ n → nat_lt e.reports reports_room ≡ true →
+    CountsOn sizes (state_of e book) (state_of (record e { reports = n }) book) w w (page_of e book) rest
+counts_on sizes e book n w rest is room = record {
+  moves = counted_on (page_of e book) rest room;
+  did = did_one sizes Reported _ _ w w refl (counted_last e book n is) (quiet_here Reported w tt);
+}
+
+-- or it was the hundredth
+module _ (sizes : Sizes) (e e' : Engine) (book : Book) (w w' : World) (rest : List Move) (full : nat_lt e.reports reports_room ≡ false) where
+  abbrev hundred : List ℕ
+  hundred = hundred_line (plain_style e.names.names)
+
+  reported_here : Did sizes (state_of e book) (made Reported (state_of e book)) w w (Reported ∷ [])
+  reported_here = did_one sizes Reported _ _ w w refl refl (quiet_here Reported w tt)
+
+  pub counted_halts : (v : State) → Did sizes v (state_of e' book) w w' (Written Transcript hundred ∷ []) → (e.reports ≤ reports_room → made Reported (state_of e book) ≡ v) →
+      Halts sizes (state_of e book) e' book w w' (counted (page_of e book) rest) (AtFatal fatal.HundredErrors) 0
+  counted_halts v second is =
+      subst (λ (ms : List Move). Halts sizes (state_of e book) e' book w w' ms (AtFatal fatal.HundredErrors) 0) (sym (counted_end (page_of e book) rest full))
+      (record {
+        t = made (Stopped (AtFatal fatal.HundredErrors)) (made (Written Transcript hundred) (made Reported (state_of e book)));
+        did = did_join sizes _ (made Reported (state_of e book)) _ w w w' (Reported ∷ []) (Written Transcript hundred ∷ Stopped (AtFatal fatal.HundredErrors) ∷ []) reported_here (stops_did sizes (made Reported (state_of e book)) w w' hundred (AtFatal fatal.HundredErrors) second.written);
+        stopped = refl;
+        due = refl;
+        reports = tt;
+        same = λ few. ap (λ (x : State). record (made (Stopped (AtFatal fatal.HundredErrors)) (made (Written Transcript hundred) x)) { stopped = None }) (is few) ∙ stops_at sizes v e' book w w' hundred (AtFatal fatal.HundredErrors) second;
+        count = omega arith;
+      })
+
+  pub counted_cuts : (v : State) (b : Broken) → made Reported (state_of e book) ≡ v → ((more : List Move) → Cuts sizes v e' book w w' (Written Transcript hundred ∷ more) b) → Cuts sizes (state_of e book) e' book w w' (counted (page_of e book) rest) b
+  counted_cuts v b is h =
+      cuts_by sizes _ e' book w w' _ _ b (counted_end (page_of e book) rest full)
+      (later_cuts sizes _ v e' book w w w' (Reported ∷ []) (Written Transcript hundred ∷ Stopped (AtFatal fatal.HundredErrors) ∷ []) b
+      (subst (λ (x : State). Did sizes (state_of e book) x w w (Reported ∷ [])) is reported_here) (h (Stopped (AtFatal fatal.HundredErrors) ∷ [])))
+
+-- A TEXT, AND IT IS COUNTED
+
+module _ (sizes : Sizes) (e e1 e' : Engine) (book : Book) (only : OnlyColumn e e1) (w w1 w' : World) (text : List ℕ) (rest : List Move) (first : Did sizes (state_of e book) (state_of e1 book) w w1 (Written Transcript text ∷ [])) where
+  -- what is counted depends on no column
+  same_counted : counted (page_of e book) rest ≡ counted (page_of e1 book) rest
+  same_counted = ap (λ (x : Engine). counted (page_of x book) rest) (sym only.same)
+
+  pub text_moves : CountsOn sizes (state_of e1 book) (state_of e' book) w1 w' (page_of e1 book) rest → Written Transcript text ∷ counted (page_of e book) rest ≡ Written Transcript text ∷ Reported ∷ rest
+  text_moves h = ap (λ (ms : List Move). Written Transcript text ∷ ms) (same_counted ∙ h.moves)
+
+  pub text_did : CountsOn sizes (state_of e1 book) (state_of e' book) w1 w' (page_of e1 book) rest → Did sizes (state_of e book) (state_of e' book) w w' (Written Transcript text ∷ Reported ∷ [])
+  text_did h = did_join sizes _ _ _ w w1 w' (Written Transcript text ∷ []) (Reported ∷ []) first h.did
+
+  pub text_halts : (o : Outcome) → Halts sizes (state_of e1 book) e' book w1 w' (counted (page_of e1 book) rest) o 0 → Halts sizes (state_of e book) e' book w w' (Written Transcript text ∷ counted (page_of e book) rest) o 0
+  text_halts o h =
+      subst (λ (ms : List Move). Halts sizes (state_of e book) e' book w w' (Written Transcript text ∷ ms) o 0) (sym same_counted)
+      (halts_on sizes _ _ e' book w w1 w' (Written Transcript text ∷ []) (counted (page_of e1 book) rest) o 0 0 (ap (λ (x : Engine). x.reports) only.same) first refl h)
+
+  pub text_cut : (b : Broken) → Cuts sizes (state_of e1 book) e' book w1 w' (counted (page_of e1 book) rest) b → Cuts sizes (state_of e book) e' book w w' (Written Transcript text ∷ counted (page_of e book) rest) b
+  text_cut b h =
+      subst (λ (ms : List Move). Cuts sizes (state_of e book) e' book w w' (Written Transcript text ∷ ms) b) (sym same_counted)
+      (later_cuts sizes _ _ e' book w w1 w' (Written Transcript text ∷ []) (counted (page_of e1 book) rest) b first h)
+
+-- a job whose file isn't held
+no_file_is : (file : List ℕ) (names : List (List ℕ)) (b : Bool) → names ≡ primitive_names → b ≡ false →
+    no_file file ≡ Written Transcript (missing_file_bytes (plain_style names) b 0 file) ∷ Reported ∷ Written Transcript no_file_lines ∷ Stopped (AtFatal fatal.NoFile) ∷ []
+no_file_is file names b n c =
+    ap (λ (bs : List ℕ). Written Transcript bs ∷ Reported ∷ Written Transcript no_file_lines ∷ Stopped (AtFatal fatal.NoFile) ∷ [])
+    (ap (λ (x : List (List ℕ)). missing_file_bytes (plain_style x) false 0 file) (sym n) ∙ ap (λ (x : Bool). missing_file_bytes (plain_style names) x 0 file) (sym c))
+
+module _ (sizes : Sizes) (file : List ℕ) (names : List (List ℕ)) (b : Bool) (names_are : names ≡ primitive_names) (column : b ≡ false) (s : State) where
+  -- the first text is cut off
+  pub missing_cuts : (e' : Engine) (book : Book) (w w' : World) (k : Broken) → ((more : List Move) → Cuts sizes s e' book w w' (Written Transcript (missing_file_bytes (plain_style names) b 0 file) ∷ more) k) →
+      Cuts sizes s e' book w w' (no_file file) k
+  missing_cuts e' book w w' k h = cuts_by sizes s e' book w w' _ _ k (no_file_is file names b names_are column) (h (Reported ∷ Written Transcript no_file_lines ∷ Stopped (AtFatal fatal.NoFile) ∷ []))
+
+  module _ (u : State) (w w1 w2 : World) (first : Did sizes s u w w1 (Written Transcript (missing_file_bytes (plain_style names) b 0 file) ∷ [])) where
+    pub job_halts : (v : State) (e' : Engine) (book : Book) → u.due ≡ [] → Did sizes v (state_of e' book) w1 w2 (Written Transcript no_file_lines ∷ []) → (s.reports ≤ reports_room → made Reported u ≡ v) →
+        Halts sizes s e' book w w2 (no_file file) (AtFatal fatal.NoFile) 0
+    job_halts v e' book due second is =
+        subst (λ (ms : List Move). Halts sizes s e' book w w2 ms (AtFatal fatal.NoFile) 0) (sym (no_file_is file names b names_are column))
+        (ends_behind sizes s u w w1 (missing_file_bytes (plain_style names) b 0 file) first w2 no_file_lines fatal.NoFile v e' book due second is)
+
+    pub job_cuts : (v : State) (e' : Engine) (book : Book) (k : Broken) → made Reported u ≡ v → ((more : List Move) → Cuts sizes v e' book w1 w2 (Written Transcript no_file_lines ∷ more) k) → Cuts sizes s e' book w w2 (no_file file) k
+    job_cuts v e' book k is h = cuts_by sizes s e' book w w2 _ _ k (no_file_is file names b names_are column)
+        (cuts_behind sizes s u w w1 (missing_file_bytes (plain_style names) b 0 file) first w2 no_file_lines fatal.NoFile v e' book k is h)
+
+-- WHAT STAYS
+
+-- and no call is gathered
+uncalled_still : (e e' : Engine) → SameFrames e e' → IsUncalled e → IsUncalled e'
+uncalled_still e e' same h = record { none = same.call ∙ h.none; input = same.calling ∙ h.input }
+
+-- the engine whose readings are as they were
+pub stands_still : (sizes : Sizes) (e e' : Engine) (book : Book) → SameFrames e e' → IsSound sizes e' book.number book.macros → e'.input.making ≡ None → Stands sizes e book → Stands sizes e' book
+stands_still sizes e e' book same sound idle st = record { sound = sound; idle = idle; readings = frames_kept e e' book.work same st.readings; uncalled = uncalled_still e e' same st.uncalled }
+
+-- with these readings, the lists that they hold, and the token that they were fed with last
+pub reads_now : (e e' : Engine) (book : Book) (work : List Reading) → SameBut e e' → record (state_of e book) { work = work; gathered = gathered e'.input; last = e'.last } ≡ state_of e' (with_work work book)
+reads_now e e' book work same = let h = same.others in
+    let pending : pending_of book.number e'.input.pending ≡ pending_of book.number e.input.pending = ap (pending_of book.number) same.pending in
+    let meanings : meanings_of book.number e'.input.meanings ≡ meanings_of book.number e.input.meanings = ap (meanings_of book.number) same.store.meanings in
+    cc (pending, meanings, same.making, h.names, h.categories, h.in_line, h.reports, h.flawed, h.quiet)
+
+-- a report alone
+pub reports_went : (sizes : Sizes) (e e' : Engine) (book : Book) (w w' : World) (report : Report) → AllStand sizes e' book → Reports sizes (state_of e book) (state_of e' book) w w' (page_of e book) report [] →
+    Went sizes (state_of e book) e' w w' (reported (page_of e book) report []) 0
+reports_went sizes e e' book w w' report st h = record {
+  book' = book;
+  stands = st;
+  did = subst (λ (ms : List Move). Did sizes (state_of e book) (state_of e' book) w w' ms) (sym h.moves) h.did;
+  count = ap steps h.moves;
+}
+
+-- WHAT BECOMES OF A TOKEN
+
+-- a move for which a table has no room: nothing has changed
+pub full_out : (sizes : Sizes) (e e' : Engine) (f : FilesTold) (s : SinkTold) (book : Book) (m : Move) (rest : List Move) (full : Full) → e' ≡ e → refusal sizes m (state_of e book) ≡ Some full →
+    Cuts sizes (state_of e book) e' book (world_of f s e) (world_of f s e') (m ∷ rest) (broken.Full full)
+full_out sizes e e' f s book m rest full is refused =
+    subst (λ (x : Engine). Cuts sizes (state_of e book) x book (world_of f s e) (world_of f s x) (m ∷ rest) (broken.Full full)) (sym is)
+    (full_cuts sizes (state_of e book) e book (world_of f s e) m rest full (broken.Full full) refl refused refl)
+
+-- a move of the readings alone
+pub reading_went : (sizes : Sizes) (e e' : Engine) (book : Book) (work : List Reading) (f : FilesTold) (s : SinkTold) (m : Move) → IsQuiet m → step_of m ≡ 0 → refusal sizes m (state_of e book) ≡ None →
+    made m (state_of e book) ≡ record (state_of e book) { work = work; gathered = gathered e'.input; last = e'.last } → SameBut e e' → Stands sizes e' (with_work work book) → Went sizes (state_of e book) e' (world_of f s e) (world_of f s e') (m ∷ []) 0
+reading_went sizes e e' book work f s m quiet silent fits is same stands = record {
+  book' = with_work work book;
+  stands = all_of sizes e' (with_work work book) stands;
+  did = did_one sizes m _ _ _ _ fits (is ∙ reads_now e e' book work same) (quiet_wrote m f s e.in_line e'.in_line quiet same.others.in_line);
+  count = omega (arith, silent);
+}
+
+-- an engine that has the same input
+pub input_sound : (sizes : Sizes) (e e' : Engine) (book : Book) → e'.input ≡ e.input → (IsSized sizes e → IsSized sizes e') → IsSound sizes e book.number book.macros → IsSound sizes e' book.number book.macros
+input_sound sizes e e' book is sized h = sound_sized sizes e e' book.number book.macros (sized h.sized) (store_is e.input e'.input is) h
+
+-- or that has put a token in front
+pub others_sound : (sizes : Sizes) (e e' : Engine) (book : Book) → SameOthers e e' → SameStore e.input e'.input → IsSound sizes e book.number book.macros → IsSound sizes e' book.number book.macros
+others_sound sizes e e' book others store h = sound_still sizes e e' book.number book.macros others.sizes others.depth others.names others.reports store h
+
+-- an engine that has written
+pub column_sound : (sizes : Sizes) (e e' : Engine) (number : ℕ → ℕ) (macros : List (List Token)) → OnlyColumn e e' → IsSound sizes e number macros → IsSound sizes e' number macros
+column_sound sizes e e' number macros only h = subst (λ (x : Engine). IsSound sizes x number macros) (sym only.same) (sound_still sizes e (record e { in_line = e'.in_line }) number macros refl refl refl refl (store_same e.input) h)
+
+-- a token's line alone
+line_silent : (page : Page) (m : Meaning Unit) → steps (token_line page m) ≡ 0
+line_silent page m = silent page.quiet where
+  silent : (b : Bool) → steps (if b then [] else Written Transcript (token_line_bytes (plain_style page.names) page.in_line m) ∷ []) ≡ 0
+  silent true = refl
+  silent false = refl
+
+pub line_went : (sizes : Sizes) (e e' : Engine) (book : Book) (w w' : World) (m : Meaning Unit) → AllStand sizes e' book → Did sizes (state_of e book) (state_of e' book) w w' (token_line (page_of e book) m) →
+    Went sizes (state_of e book) e' w w' (token_line (page_of e book) m) 0
+line_went sizes e e' book w w' m st did = record { book' = book; stands = st; did = did; count = line_silent (page_of e book) m }

@@ -1,0 +1,191 @@
+-- The macros that the input holds keep their numbers.
+use Rattle.std.proofs.Common.{◌≡◌, ℕ, zero, suc, ◌+◌, ◌<◌, ◌≤◌, List, [], ◌∷◌, length, Option, None, inl, inr, refl, sym, ap, ◌∙◌, subst, true, arith}
+use Rattle.std.specs.Prelude.{slice_index_or}
+use Rattle.std.proofs.lemmas.Bool.{cases_lt}
+use Rattle.std.proofs.lemmas.List.{get_or_past}
+use Rattle.tex_defs.specs.declared.Token.{Token}
+use Rattle.tex_defs.specs.declared.Meaning.{Meaning}
+use Rattle.tex_defs.specs.declared.Full.{Full}
+use Rattle.tex_defs.specs.declared.Sizes.{Sizes}
+use Rattle.plain_tokens.specs.Puts.{token_put}
+use Rattle.plain_tokens.specs.Pending.{Pending, settle, put_front}
+use Rattle.plain_tokens.specs.Tables.{is_meant, is_put, memory, refused}
+use Rattle.tex_machine.specs.Demands.{words}
+use Rattle.tex_machine.specs.Numbers.{IsHeld, Tied}
+use Rattle.tex_machine.specs.Plan.{reports_room}
+use Rattle.tex_machine.proofs.MacroWords.{all_words_tied}
+use Rattle.tex_machine.proofs.Ties.{put_settled, put_with_put, held_more}
+use Rattle.name_table.specs.Strings.{Strings}
+use Rattle.input_state.specs.Callings.{Calling}
+use Rattle.input_state.specs.Stored.{Stored, KeepsMacros, gathered, words as stored_words}
+use Rattle.tex_engine.specs.declared.engine.Engine.{Engine}
+use Rattle.tex_engine.specs.Book.{Book, AreBodies}
+use Rattle.tex_engine.specs.Stands.{IsSized, IsSound, SameStore, SameBut, SameElse, state_of}
+
+-- WHAT STAYS OF THE INPUT
+
+pub store_same : (i : Stored) → SameStore i i
+store_same i = record { sizes = refl; hash = refl; meanings = refl; puts = λ n h. h; lists = record { tokens = λ n h. refl } }
+
+pub store_is : (i j : Stored) → j ≡ i → SameStore i j
+store_is i j is = subst (λ (x : Stored). SameStore i x) (sym is) (store_same i)
+
+-- what is held then was held
+pub held_back : (i j : Stored) → SameStore i j → (n : ℕ) → IsHeld n j.meanings j.pending.puts → IsHeld n i.meanings i.pending.puts
+held_back i j s n h = held_more n j.meanings i.meanings j.pending.puts i.pending.puts (λ a. subst (λ (ms : List (Meaning (Option ℕ))). is_meant n ms ≡ true) s.meanings a) (s.puts n) h
+
+pub store_join : (i j k : Stored) → SameStore i j → SameStore j k → SameStore i k
+store_join i j k a b = record {
+  sizes = b.sizes ∙ a.sizes;
+  hash = b.hash ∙ a.hash;
+  meanings = b.meanings ∙ a.meanings;
+  puts = λ n h. a.puts n (b.puts n h);
+  lists = record { tokens = λ n h. b.lists.tokens n h ∙ a.lists.tokens n (held_back j k b n h) };
+}
+
+-- no macro's body is put
+pub store_with : (i j : Stored) (p : Pending) (making : Option (List Token)) (gathered : List (List Token)) (buffer : List ℕ) →
+    j ≡ record i { pending = p; making = making; builds = gathered; buffer = buffer; lists = j.lists } → ((n : ℕ) → is_put n p.puts ≡ true → is_put n i.pending.puts ≡ true) → KeepsMacros i j → SameStore i j
+store_with i j p making gathered buffer is fewer macros = record {
+  sizes = ap (λ (x : Stored). x.sizes) is;
+  hash = ap (λ (x : Stored). x.hash_size) is;
+  meanings = ap (λ (x : Stored). x.meanings) is;
+  puts = λ n h. fewer n (subst (λ (x : Stored). is_put n x.pending.puts ≡ true) is h);
+  lists = macros;
+}
+
+pub store_gathered : (i j : Stored) (gathered : List (List Token)) → j ≡ record i { builds = gathered; lists = j.lists } → KeepsMacros i j → SameStore i j
+store_gathered i j gathered is macros = store_with i j i.pending i.making gathered i.buffer is (λ n h. h) macros
+
+-- the call is another one
+pub store_call : (i j : Stored) (k : Calling) → j ≡ record i { call = k; lists = j.lists } → KeepsMacros i j → SameStore i j
+store_call i j k is macros = record {
+  sizes = ap (λ (x : Stored). x.sizes) is;
+  hash = ap (λ (x : Stored). x.hash_size) is;
+  meanings = ap (λ (x : Stored). x.meanings) is;
+  puts = λ n h. subst (λ (x : Stored). is_put n x.pending.puts ≡ true) is h;
+  lists = macros;
+}
+
+-- its scanner alone
+pub store_scan : (i j : Stored) (k : Calling) → j ≡ record i { call = k } → SameStore i j
+store_scan i j k is = subst (λ (x : Stored). SameStore i x) (sym is) (record { sizes = refl; hash = refl; meanings = refl; puts = λ n h. h; lists = record { tokens = λ n h. refl } })
+
+pub store_making : (i j : Stored) (making : Option (List Token)) → j ≡ record i { making = making; lists = j.lists } → KeepsMacros i j → SameStore i j
+store_making i j making is macros = store_with i j i.pending making i.builds i.buffer is (λ n h. h) macros
+
+pub store_settled : (i j : Stored) → j ≡ record i { pending = settle i.pending; lists = j.lists } → KeepsMacros i j → SameStore i j
+store_settled i j is macros = store_with i j (settle i.pending) i.making i.builds i.buffer is (λ n h. put_settled n i.pending.puts h) macros
+
+own_put : (n : ℕ) (ts : List Token) (p : Pending) → is_put n (put_front (token_put ts) p).puts ≡ true → is_put n p.puts ≡ true
+own_put n ts p h = elim (put_with_put n (token_put ts) p.puts h) [
+  | inl a ↦ cc
+  | inr a ↦ a
+]
+
+pub store_put : (i j : Stored) (ts : List Token) → j ≡ record i { pending = put_front (token_put ts) i.pending; making = None; lists = j.lists } → KeepsMacros i j → SameStore i j
+store_put i j ts is macros = store_with i j (put_front (token_put ts) i.pending) None i.builds i.buffer is (λ n h. own_put n ts i.pending h) macros
+
+-- THE MACROS
+
+pub body_at : (macros : List (List Token)) (k : ℕ) → AreBodies macros → k < length macros → slice_index_or macros k [] ≡ [] → ⊥
+body_at [] k h below none = omega (arith, below)
+body_at (ts ∷ macros) zero h below none = h.0 none
+body_at (ts ∷ macros) (suc k) h below none = body_at macros k h.1 (omega (arith, below)) none
+
+-- a list that has a token is there
+pub inside_by : (lists : List (List Token)) (n : ℕ) → (slice_index_or lists n [] ≡ [] → ⊥) → n < length lists
+inside_by lists n some = elim (cases_lt n (length lists)) [
+  | inl below ↦ below
+  | inr past ↦ absurd (some (get_or_past lists n [] past))
+]
+
+module _ (number : ℕ → ℕ) (macros : List (List Token)) where
+  pub tied_store : (i j : Stored) → AreBodies macros → SameStore i j → Tied number macros i.meanings i.pending.puts i.lists → Tied number macros j.meanings j.pending.puts j.lists
+  tied_store i j bodies s t = record {
+    inside = λ n h. inside_by j.lists n (λ none. body_at macros (number n) bodies (t.within n (held_back i j s n h)) (tokens n h ∙ none));
+    within = λ n h. t.within n (held_back i j s n h);
+    tokens = tokens;
+    apart = λ n m h k e. t.apart n m (held_back i j s n h) (held_back i j s m k) e;
+  } where
+    tokens : (n : ℕ) → IsHeld n j.meanings j.pending.puts → slice_index_or macros (number n) [] ≡ slice_index_or j.lists n []
+    tokens n h = t.tokens n (held_back i j s n h) ∙ sym (s.lists.tokens n h)
+
+-- WHAT STAYS OF THE ENGINE
+
+pub sized_still : (sizes : Sizes) (e e' : Engine) → e'.sizes ≡ e.sizes → e'.readings.size ≡ e.readings.size → e'.names ≡ e.names → e'.reports ≡ e.reports → SameStore e.input e'.input → IsSized sizes e → IsSized sizes e'
+sized_still sizes e e' own depth names reports store h = record {
+  few_reports = omega (arith, reports, h.few_reports);
+  small = h.small;
+  own = own ∙ h.own;
+  readings = depth ∙ h.readings;
+  input = store.sizes ∙ h.input;
+  names = ap (λ (n : Strings). n.sizes) names ∙ h.names;
+  hash = store.hash ∙ h.hash;
+  located = ap (length {A = Meaning (Option ℕ)}) store.meanings ∙ h.located ∙ ap (λ (n : Strings). 514 + length n.names) (sym names);
+}
+
+-- the count of reports changed
+pub counted_here : (sizes : Sizes) (e : Engine) (n : ℕ) → n ≤ reports_room → IsSized sizes e → IsSized sizes (record e { reports = n })
+counted_here sizes e n few h = record {
+  few_reports = few;
+  small = h.small;
+  own = h.own;
+  readings = h.readings;
+  input = h.input;
+  names = h.names;
+  hash = h.hash;
+  located = h.located;
+}
+
+module _ (sizes : Sizes) (e e' : Engine) (number : ℕ → ℕ) (macros : List (List Token)) where
+  pub sound_sized : IsSized sizes e' → SameStore e.input e'.input → IsSound sizes e number macros → IsSound sizes e' number macros
+  sound_sized sized store h = record {
+    sized = sized;
+    tied = tied_store number macros e.input e'.input h.bodies store h.tied;
+    bodies = h.bodies;
+  }
+
+  pub sound_still : e'.sizes ≡ e.sizes → e'.readings.size ≡ e.readings.size → e'.names ≡ e.names → e'.reports ≡ e.reports → SameStore e.input e'.input → IsSound sizes e number macros → IsSound sizes e' number macros
+  sound_still own depth names reports store h = sound_sized (sized_still sizes e e' own depth names reports store h.sized) store h
+
+-- but for the lists that readings hold
+pub same_lists : (e e' : Engine) (i : Stored) (gathered : List (List Token)) → SameElse e e' → i ≡ record e.input { builds = gathered; lists = i.lists } → KeepsMacros e.input i → e'.input ≡ i → SameBut e e'
+same_lists e e' i gathered others is kept same = record {
+  others = others;
+  pending = ap (λ (x : Stored). x.pending) same ∙ ap (λ (x : Stored). x.pending) is;
+  making = ap (λ (x : Stored). x.making) same ∙ ap (λ (x : Stored). x.making) is;
+  calling = ap (λ (x : Stored). x.call) same ∙ ap (λ (x : Stored). x.call) is;
+  aside = ap (λ (x : Stored). x.aside) same ∙ ap (λ (x : Stored). x.aside) is;
+  store = subst (λ (x : Stored). SameStore e.input x) (sym same) (store_gathered e.input i gathered is kept);
+}
+
+pub same_join : (e e1 e2 : Engine) → SameBut e e1 → SameBut e1 e2 → SameBut e e2
+same_join e e1 e2 a b = record {
+  others = record {
+    depth = b.others.depth ∙ a.others.depth;
+    call = b.others.call ∙ a.others.call;
+    names = b.others.names ∙ a.others.names;
+    categories = b.others.categories ∙ a.others.categories;
+    in_line = b.others.in_line ∙ a.others.in_line;
+    reports = b.others.reports ∙ a.others.reports;
+    flawed = b.others.flawed ∙ a.others.flawed;
+    quiet = b.others.quiet ∙ a.others.quiet;
+    sizes = b.others.sizes ∙ a.others.sizes;
+  };
+  pending = b.pending ∙ a.pending;
+  making = b.making ∙ a.making;
+  calling = b.calling ∙ a.calling;
+  aside = b.aside ∙ a.aside;
+  store = store_join e.input e1.input e2.input a.store b.store;
+}
+
+-- the words that are used are the machine's
+pub words_are : (sizes : Sizes) (e : Engine) (book : Book) → IsSound sizes e book.number book.macros → words (state_of e book) ≡ stored_words e.input
+words_are sizes e book h = all_words_tied book.number book.macros e.input.meanings e.input.pending.puts e.input.lists e.input.making (gathered e.input) h.tied
+
+-- so many words more, by the machine and by the input
+pub words_more : (sizes : Sizes) (e : Engine) (book : Book) (need : ℕ) (o : Option Full) → IsSound sizes e book.number book.macros →
+    refused e.input.sizes (memory need (stored_words e.input) ∷ []) ≡ o → refused sizes (memory need (words (state_of e book)) ∷ []) ≡ o
+words_more sizes e book need o sound h =
+    ap (λ (n : ℕ). refused sizes (memory need n ∷ [])) (words_are sizes e book sound) ∙ (ap (λ (s : Sizes). refused s (memory need (stored_words e.input) ∷ [])) (sym sound.sized.input) ∙ h)

@@ -1,0 +1,22 @@
+use Rattle.std.proofs.Common.{arith, refl, ap}
+use Rattle.tex_engine.specs.declared.engine.Engine.{Engine}
+use Rattle.tex_engine.specs.Stands.{state_of}
+use Rattle.tex_engine.proofs.Joining.{same_err}
+use Rattle.tex_engine.proofs.Reporting.{missing_cuts, job_halts, job_cuts, counted_last}
+use Rattle.tex_engine.proofs.engine.Engine.write_refusal.Goals as goal
+
+pub returns-in_err-write_missing-clause-err : goal.returns-in_err-write_missing-clause-err
+returns-in_err-write_missing-clause-err g c = let e = c.args.self.now in let i = c.in_err-write_missing in
+    same_err c.from_residual.result i.field-0.0 _ c.from_residual.ensures.1
+    (λ sizes f book column names none. missing_cuts sizes c.args.file.now e.names.names e.in_line names column (state_of e book) _ book _ _ i.field-0.0 (i.ensures.err sizes f book))
+
+pub returns-in_err-write_text-clause-err : goal.returns-in_err-write_text-clause-err
+returns-in_err-write_text-clause-err g c = let e = c.args.self.now in let e1 = c.write_missing.new.self in let i = c.in_err-write_text in
+    same_err c.from_residual-in_err-write_text.result i.field-0.0 _ c.from_residual-in_err-write_text.ensures.1
+    (λ sizes f book column names none. job_cuts sizes c.args.file.now e.names.names e.in_line names column (state_of e book) (state_of e1 book) _ _ _ (c.in_ok-write_missing.ensures.did sizes f book) _ _ book i.field-0.0
+    (counted_last e1 book _ (omega (arith, none, ap (λ (x : Engine). x.reports) c.write_missing.ensures.only.same))) (i.ensures.err sizes f book))
+
+pub returns-clause-run : goal.returns-clause-run
+returns-clause-run g c = λ sizes f book column names. let e = c.args.self.now in let e1 = c.write_missing.new.self in
+    job_halts sizes c.args.file.now e.names.names e.in_line names column (state_of e book) (state_of e1 book) _ _ _ (c.in_ok-write_missing.ensures.did sizes f book) _ c.write_text.new.self book refl (c.in_ok-write_text.ensures.did sizes f book)
+    (λ few. counted_last e1 book _ (omega (arith, few, ap (λ (x : Engine). x.reports) c.write_missing.ensures.only.same)))

@@ -1,0 +1,15 @@
+pub mod Begins
+pub mod Book
+pub mod CallAsks
+pub mod Calls
+pub mod Entering
+pub mod Faults
+pub mod Feeding
+pub mod First
+pub mod Making
+pub mod Near
+pub mod Rules
+pub mod Stands
+pub mod Stepping
+pub mod Steps
+pub mod Turns

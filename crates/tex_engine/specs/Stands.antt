@@ -1,0 +1,175 @@
+-- What an engine stands for: a state of the machine, once its open readings are named.
+use Rattle.std.specs.Prelude.{◌≡◌, ℕ, ◌+◌, ◌<◌, ◌≤◌, true, List, [], length, nat_lt, if◌then◌else◌, Option, Some, None}
+use Rattle.tex_defs.specs.declared.Token.{Token}
+use Rattle.tex_defs.specs.declared.Sizes.{Sizes}
+use Rattle.tex_defs.specs.declared.Full.{Full}
+use Rattle.tex_defs.specs.declared.Table.TheVariants.{ExpansionDepth}
+use Rattle.plain_tokens.specs.Meanings.{fixed_locations}
+use Rattle.plain_tokens.specs.Tables.{is_put}
+use Rattle.plain_readings.specs.Readings.{Reading}
+use Rattle.reading_frames.specs.Stands as frames
+use Rattle.reading_frames.specs.Stands.{AreShallow}
+use Rattle.tex_machine.specs.States.{State}
+use Rattle.tex_machine.specs.Plan.{Page, reports_room}
+use Rattle.tex_machine.specs.Numbers.{Tied, pending_of, meanings_of}
+use Rattle.input_state.specs.Stored.{Stored, KeepsMacros, gathered}
+use Rattle.input_state.specs.Callings.{NotCalling}
+use Rattle.tex_engine.specs.declared.engine.Engine.{Engine}
+use Rattle.tex_engine.specs.declared.call.Call.{Call}
+use Rattle.tex_engine.specs.Book.{Book, AreBodies}
+
+-- The state that it stands for: the machine has its own numbers for the macros.
+abbrev pub state_of : Engine → Book → State
+state_of e book = record {
+  pending = pending_of book.number e.input.pending;
+  categories = e.categories;
+  names = e.names.names;
+  strings = e.names.others;
+  meanings = meanings_of book.number e.input.meanings;
+  macros = book.macros;
+  last = e.last;
+  work = book.work;
+  gathered = gathered e.input;
+  making = e.input.making;
+  in_line = e.in_line;
+  reports = e.reports;
+  flawed = e.flawed;
+  quiet = e.quiet;
+  stopped = None;
+  due = [];
+}
+
+-- what the texts of a rule depend on
+abbrev pub page_of : Engine → Book → Page
+page_of e book = record {
+  categories = e.categories;
+  names = e.names.names;
+  strings = e.names.others;
+  meanings = meanings_of book.number e.input.meanings;
+  macros = book.macros;
+  last = e.last;
+  in_line = e.in_line;
+  line = e.input.pending.number;
+  reports = e.reports;
+  quiet = e.quiet;
+}
+
+-- THE TABLES
+
+-- the tables' sizes are these, a reading more than may be open can be counted, the last report that a run may have hasn't come,
+-- and each name that is entered has a location
+pub record IsSized (sizes : Sizes) (e : Engine) : Type 0 where
+  pub few_reports : e.reports ≤ reports_room
+  pub small : sizes.expansion_depth < 4294967294
+  pub own : e.sizes ≡ sizes
+  pub readings : e.readings.size ≡ sizes.expansion_depth
+  pub input : e.input.sizes ≡ sizes
+  pub names : e.names.sizes ≡ sizes
+  pub hash : e.input.hash_size ≡ sizes.hash_size
+  pub located : length e.input.meanings ≡ fixed_locations + length e.names.names
+
+-- The macros that the input holds are these, under these numbers.
+pub record IsSound (sizes : Sizes) (e : Engine) (number : ℕ → ℕ) (macros : List (List Token)) : Type 0 where
+  pub sized : IsSized sizes e
+  pub tied : Tied number macros e.input.meanings e.input.pending.puts e.input.lists
+  pub bodies : AreBodies macros
+
+-- THE OPEN READINGS
+
+-- The frames, with all lists that are gathered but those of a call, stand for these readings.
+pub record FramesStand (e : Engine) (work : List Reading) : Type 0 where
+  pub frames : frames.FramesStand e.readings.frames e.input.builds work
+  pub shallow : AreShallow e.readings.frames e.input.builds
+  pub aside : e.input.aside ≡ []
+
+-- no call gathers its arguments
+pub record IsUncalled (e : Engine) : Type 0 where
+  pub none : e.call ≡ None
+  pub input : e.input.call ≡ NotCalling
+
+-- The engine's open readings and its macros are those of the book, no list is being made, and no call gathers its arguments.
+pub record Stands (sizes : Sizes) (e : Engine) (book : Book) : Type 0 where
+  pub sound : IsSound sizes e book.number book.macros
+  pub idle : e.input.making ≡ None
+  pub readings : FramesStand e book.work
+  pub uncalled : IsUncalled e
+
+-- a call that gathers its arguments is one more
+abbrev pub call_count : Option Call → ℕ
+call_count None = 0
+call_count (Some c) = 1
+
+abbrev pub depth : Engine → ℕ
+depth e = length e.readings.frames + call_count e.call
+
+-- The engine counts the open readings and the macros as the machine.
+pub record Counts (sizes : Sizes) (e : Engine) (book : Book) : Type 0 where
+  pub sound : IsSound sizes e book.number book.macros
+  pub depth : length book.work ≡ depth e
+
+-- why there is no room for one more reading
+abbrev pub depth_full : ℕ → ℕ → Option Full
+depth_full used size = if nat_lt used size then None else Some (record { table = ExpansionDepth; used = used; size = size })
+
+-- WHAT STAYS
+
+-- the readings are as they were
+pub record SameReadings (e e' : Engine) : Type 0 where
+  pub readings : e'.readings ≡ e.readings
+  pub lists : e'.input.builds ≡ e.input.builds
+  pub aside : e'.input.aside ≡ e.input.aside
+  pub call : e'.call ≡ e.call
+
+-- and a call has what it had
+pub record SameFrames (e e' : Engine) : Type 0 where
+  pub readings : e'.readings ≡ e.readings
+  pub lists : e'.input.builds ≡ e.input.builds
+  pub aside : e'.input.aside ≡ e.input.aside
+  pub call : e'.call ≡ e.call
+  pub calling : e'.input.call ≡ e.input.call
+
+-- all but the readings and the input is as it was
+pub record SameOthers (e e' : Engine) : Type 0 where
+  pub depth : e'.readings.size ≡ e.readings.size
+  pub call : e'.call ≡ e.call
+  pub names : e'.names ≡ e.names
+  pub categories : e'.categories ≡ e.categories
+  pub last : e'.last ≡ e.last
+  pub in_line : e'.in_line ≡ e.in_line
+  pub reports : e'.reports ≡ e.reports
+  pub flawed : e'.flawed ≡ e.flawed
+  pub quiet : e'.quiet ≡ e.quiet
+  pub sizes : e'.sizes ≡ e.sizes
+
+-- the same, but for the token that a reading was fed with last
+pub record SameElse (e e' : Engine) : Type 0 where
+  pub depth : e'.readings.size ≡ e.readings.size
+  pub call : e'.call ≡ e.call
+  pub names : e'.names ≡ e.names
+  pub categories : e'.categories ≡ e.categories
+  pub in_line : e'.in_line ≡ e.in_line
+  pub reports : e'.reports ≡ e.reports
+  pub flawed : e'.flawed ≡ e.flawed
+  pub quiet : e'.quiet ≡ e.quiet
+  pub sizes : e'.sizes ≡ e.sizes
+
+-- the names mean what they meant, no macro's body is put, and each macro that is held keeps its tokens
+pub record SameStore (old new : Stored) : Type 0 where
+  pub sizes : new.sizes ≡ old.sizes
+  pub hash : new.hash_size ≡ old.hash_size
+  pub meanings : new.meanings ≡ old.meanings
+  pub puts : (n : ℕ) → is_put n new.pending.puts ≡ true → is_put n old.pending.puts ≡ true
+  pub lists : KeepsMacros old new
+
+-- all but the frames and the lists that they hold is as it was, but that a reading may have been fed
+pub record SameBut (e e' : Engine) : Type 0 where
+  pub others : SameElse e e'
+  pub pending : e'.input.pending ≡ e.input.pending
+  pub making : e'.input.making ≡ e.input.making
+  pub calling : e'.input.call ≡ e.input.call
+  pub aside : e'.input.aside ≡ e.input.aside
+  pub store : SameStore e.input e'.input
+
+-- nothing but the column has changed
+pub record OnlyColumn (e e' : Engine) : Type 0 where
+  pub same : e' ≡ record e { in_line = e'.in_line }

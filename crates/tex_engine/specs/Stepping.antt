@@ -1,0 +1,132 @@
+-- What one step of expansion comes to.
+use Rattle.std.specs.Prelude.{◌≡◌, ◌≤◌, Bool, true, false, List, [], ◌∷◌, ◌++◌, Option, Some}
+use Rattle.tex_syntax.specs.declared.words.Report.TheVariants.{UndefinedName}
+use Rattle.tex_syntax.specs.declared.words.Want.{Want}
+use Rattle.tex_syntax.specs.declared.words.Want.TheVariants.{Raw}
+use Rattle.tex_defs.specs.Places.{World}
+use Rattle.tex_defs.specs.declared.Meaning.{Meaning}
+use Rattle.tex_defs.specs.declared.Meaning.TheVariants as means
+use Rattle.tex_defs.specs.declared.Seen.{Seen}
+use Rattle.tex_defs.specs.declared.Sizes.{Sizes}
+use Rattle.plain_readings.specs.Readings.{Kind}
+use Rattle.reading_frames.specs.Sees.{kind_of}
+use Rattle.reading_frames.specs.Weights.{begun_weight}
+use Rattle.tex_machine.specs.States.{State, Move, Begun, Closed}
+use Rattle.tex_machine.specs.Plan.{Page, reported, called, is_expandable_primitive, job_in, put_characters}
+use Rattle.tex_engine.specs.declared.engine.Engine.{Engine}
+use Rattle.tex_engine.specs.declared.outcome.Ruled.{Ruled}
+use Rattle.tex_engine.specs.declared.outcome.Ruled.TheVariants as ruled
+use Rattle.tex_engine.specs.Book.{Book}
+use Rattle.tex_engine.specs.Rules.{Comes, Went, Halts}
+use Rattle.tex_engine.specs.declared.expansion.Expansion.{Expansion}
+use Rattle.tex_engine.specs.declared.expansion.Expansion.TheVariants as by
+use Rattle.tex_engine.specs.declared.expansion.Once.{Once}
+use Rattle.tex_engine.specs.declared.expansion.Once.TheVariants as once
+use Rattle.tex_engine.specs.declared.expansion.Once.TheVariants.{Expanded}
+use Rattle.tex_engine.specs.declared.expansion.Stepped.{Stepped}
+use Rattle.tex_engine.specs.declared.expansion.Stepped.TheVariants.{More, Skipped, Unexpandable, Over}
+
+-- a meaning that is expanded
+abbrev pub expands : {L : Type 0} → Meaning L → Bool
+expands means.Undefined = true
+expands (means.Macro long outer list) = true
+expands (means.Prim number) = is_expandable_primitive number
+expands m = false
+
+-- a token stays where it is wanted as it stands, and where it can't be expanded
+abbrev pub Stays : Option Want → Seen → Type 0
+Stays (Some Raw) x = Unit {0}
+Stays want x = expands x.meaning ≡ false
+
+-- ONE EXPANSION
+
+-- `\jobname`: its reading begins, and ends at once behind the name that is put
+abbrev pub job_moves : Page → Kind → List Move
+job_moves page k = Begun k ∷ (put_characters (job_in page.strings) ++ Closed ∷ [])
+
+-- by which a token comes to these moves, one that isn't expanded to others
+abbrev pub ExpandsTo : Expansion → Page → (others moves : List Move) → Type 0
+ExpandsTo by.Undefined page others moves = moves ≡ reported page UndefinedName []
+ExpandsTo by.Unexpandable page others moves = moves ≡ others
+ExpandsTo (by.Call t) page others moves = moves ≡ called page t
+ExpandsTo (by.Begin o) page others moves = moves ≡ Begun (kind_of o) ∷ []
+ExpandsTo (by.JobName o) page others moves = moves ≡ job_moves page (kind_of o)
+
+-- what begins weighs little
+abbrev pub IsLight : Expansion → Type 0
+IsLight (by.Begin o) = begun_weight o ≤ 7
+IsLight e = Unit {0}
+
+abbrev pub is_expansion : Expansion → Bool
+is_expansion by.Unexpandable = false
+is_expansion e = true
+
+-- The moves are done, or the token stays and these others are left.
+abbrev pub ExpandsOnce : Sizes → State → Engine → Book → World → World → (moves others : List Move) → Once → Type 0
+ExpandsOnce sizes s e' book w w' moves others Expanded = Went sizes s e' w w' moves 0
+ExpandsOnce sizes s e' book w w' moves others once.Stays = moves ≡ others
+ExpandsOnce sizes s e' book w w' moves others (once.Over o) = Halts sizes s e' book w w' moves o 0
+
+abbrev pub changes : Once → Bool
+changes once.Stays = false
+changes n = true
+
+abbrev pub IsExpanded : Once → Type 0
+IsExpanded Expanded = Unit {0}
+IsExpanded n = ⊥
+
+abbrev pub IsStayed : Once → Type 0
+IsStayed once.Stays = Unit {0}
+IsStayed n = ⊥
+
+abbrev pub EndsRun : Once → Type 0
+EndsRun (once.Over o) = Unit {0}
+EndsRun n = ⊥
+
+-- a report behind which the token has gone
+abbrev pub once_by : Ruled → Once
+once_by ruled.Step = Expanded
+once_by ruled.Free = Expanded
+once_by (ruled.Halted o) = once.Over o
+
+-- A STEP
+
+-- a token that was handed on: where it stays nothing was done
+abbrev pub Expands : Sizes → Option Want → State → Engine → Book → World → World → List Move → Seen → Stepped → Type 0
+Expands sizes want s e' book w w' moves x More = Went sizes s e' w w' moves 0
+Expands sizes want s e' book w w' moves x Skipped = ⊥
+Expands sizes want s e' book w w' moves x (Unexpandable y) = Comes sizes want s e' book w w' moves y 0 × Stays want y
+Expands sizes want s e' book w w' moves x (Over o) = Halts sizes s e' book w w' moves o 0
+
+-- one step
+abbrev pub Steps : Sizes → Option Want → State → Engine → Book → World → World → List Move → Stepped → Type 0
+Steps sizes want s e' book w w' moves More = Went sizes s e' w w' moves 1
+Steps sizes want s e' book w w' moves Skipped = Went sizes s e' w w' moves 0
+Steps sizes want s e' book w w' moves (Unexpandable x) = Comes sizes want s e' book w w' moves x 1 × Stays want x
+Steps sizes want s e' book w w' moves (Over o) = Halts sizes s e' book w w' moves o 1
+
+-- no step was taken
+abbrev pub IsSkipped : Stepped → Type 0
+IsSkipped Skipped = Unit {0}
+IsSkipped n = ⊥
+
+-- a token stays
+abbrev pub IsKept : Stepped → Type 0
+IsKept (Unexpandable x) = Unit {0}
+IsKept n = ⊥
+
+abbrev pub IsOver : Stepped → Type 0
+IsOver (Over o) = Unit {0}
+IsOver n = ⊥
+
+-- the run has ended
+abbrev pub ends_run : Stepped → Bool
+ends_run (Over o) = true
+ends_run n = false
+
+-- it has a step exactly where one comes next
+abbrev pub StepStepsIf : Stepped → Bool → Type 0
+StepStepsIf More b = b ≡ true
+StepStepsIf Skipped b = b ≡ false
+StepStepsIf (Unexpandable x) b = b ≡ true
+StepStepsIf (Over o) b = Unit {0}

@@ -1,0 +1,135 @@
+-- Whether the next rule needs a step, and how many rules without a step may follow.
+use Rattle.std.specs.Prelude.{◌≡◌, ℕ, ◌+◌, ◌*◌, length, Bool, true, false, ◌&&◌, Option, Some, None}
+use Rattle.tex_syntax.specs.declared.words.Outcome.TheVariants.{AtFatal}
+use Rattle.tex_defs.specs.declared.Fatal.TheVariants.{HundredErrors}
+use Rattle.tex_defs.specs.declared.Seen.{Seen}
+use Rattle.plain_tokens.specs.Pending.{Pending, Progress, Closed, pulled}
+use Rattle.rows.specs.Readings as reading
+use Rattle.plain_readings.specs.Weights.{frame_weight}
+use Rattle.reading_frames.specs.Stack.{asks_in}
+use Rattle.reading_frames.specs.Weights.{stack_weight}
+use Rattle.input_state.specs.Reads.{gives_step}
+use Rattle.tex_engine.specs.declared.call.Call.{Call}
+use Rattle.tex_engine.specs.declared.call.CallAsk.{CallAsk}
+use Rattle.tex_engine.specs.declared.call.CallAsk.TheVariants as call
+use Rattle.tex_engine.specs.declared.engine.Engine.{Engine}
+use Rattle.tex_engine.specs.declared.outcome.Ruled.{Ruled}
+use Rattle.tex_engine.specs.declared.outcome.Ruled.TheVariants.{Step, Free, Halted}
+use Rattle.tex_engine.specs.declared.outcome.Next.{Next}
+use Rattle.tex_engine.specs.declared.outcome.Next.TheVariants.{Token, Line, Skipped, Over}
+
+-- WHETHER A TOKEN IS WANTED
+
+abbrev pub asks_more : reading.Ask → Bool
+asks_more (reading.More want) = true
+asks_more a = false
+
+-- what the innermost frame asks for, over the lists that are gathered
+abbrev pub asked : Engine → Option reading.Ask
+asked e = asks_in e.readings.frames e.input.builds
+
+-- by the innermost frame, or where no reading is open
+abbrev pub frames_want : Option reading.Ask → Bool
+frames_want None = true
+frames_want (Some a) = asks_more a
+
+abbrev pub call_asks_more : CallAsk → Bool
+call_asks_more call.More = true
+call_asks_more a = false
+
+-- by a call, where there is one, and else by the frames
+abbrev pub all_want : Option Call → Option reading.Ask → Bool
+all_want None a = frames_want a
+all_want (Some c) a = call_asks_more c.ask
+
+-- the next rule has a step
+abbrev pub stepping : Engine → Bool
+stepping e = all_want e.call (asked e) && gives_step (pulled e.categories e.input.pending)
+
+-- WEIGHTS
+
+-- an invalid character may still be skipped, and the file may still end
+abbrev pub file_weight : Progress → ℕ
+file_weight Closed = 0
+file_weight p = 1
+
+abbrev pub pending_weight : Pending → ℕ
+pending_weight p = length p.line + file_weight p.file
+
+-- a call: as much as a reading, and what it asks for
+abbrev pub call_weight : CallAsk → ℕ
+call_weight call.More = 0
+call_weight call.ExtraBrace = 14
+call_weight a = 13
+
+-- the open readings: a call stands above the frames
+abbrev pub readings_weight : Option Call → Engine → ℕ
+readings_weight None e = stack_weight e.readings
+readings_weight (Some c) e = frame_weight * length e.readings.frames + (frame_weight + call_weight c.ask)
+
+-- a rule without a step makes the engine lighter
+abbrev pub weight : Engine → ℕ
+weight e = readings_weight e.call e + pending_weight e.input.pending
+
+-- RULES
+
+abbrev pub IsStep : Ruled → Type 0
+IsStep Step = Unit {0}
+IsStep Free = ⊥
+IsStep (Halted o) = ⊥
+
+abbrev pub IsFree : Ruled → Type 0
+IsFree Free = Unit {0}
+IsFree r = ⊥
+
+abbrev pub IsHalted : Ruled → Type 0
+IsHalted (Halted o) = Unit {0}
+IsHalted r = ⊥
+
+-- the run has ended
+abbrev pub stops_run : Ruled → Bool
+stops_run (Halted o) = true
+stops_run r = false
+
+-- a rule that goes on has a step exactly where one comes next
+abbrev pub StepsIf : Ruled → Bool → Type 0
+StepsIf Step b = b ≡ true
+StepsIf Free b = b ≡ false
+StepsIf (Halted o) b = Unit {0}
+
+abbrev pub freed : Ruled → Ruled
+freed Step = Free
+freed r = r
+
+-- THE NEXT READING
+
+-- no step was taken
+abbrev pub IsSkipped : Next → Type 0
+IsSkipped Skipped = Unit {0}
+IsSkipped n = ⊥
+
+abbrev pub IsOver : Next → Type 0
+IsOver (Over o) = Unit {0}
+IsOver n = ⊥
+
+-- the run has ended
+abbrev pub ends_run : Next → Bool
+ends_run (Over o) = true
+ends_run n = false
+
+-- it has a step exactly where one comes next
+abbrev pub NextStepsIf : Next → Bool → Type 0
+NextStepsIf (Token x) b = b ≡ true
+NextStepsIf Line b = b ≡ true
+NextStepsIf Skipped b = b ≡ false
+NextStepsIf (Over o) b = Unit {0}
+
+-- a token that was met, and moves without a step
+abbrev pub next_met : Option Seen → Next
+next_met (Some x) = Token x
+next_met None = Over (AtFatal HundredErrors)
+
+abbrev pub next_free : Ruled → Next
+next_free Step = Skipped
+next_free Free = Skipped
+next_free (Halted o) = Over o

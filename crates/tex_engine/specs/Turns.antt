@@ -1,0 +1,34 @@
+-- What one rule does, over any files.
+use Rattle.std.specs.Prelude.{◌≡◌, Bool, Option}
+use Rattle.tex_syntax.specs.declared.words.Want.{Want}
+use Rattle.tex_defs.specs.declared.Sizes.{Sizes}
+use Rattle.world_io.specs.Told.{FilesTold, SinkTold}
+use Rattle.tex_engine.specs.declared.broken.Broken.{Broken}
+use Rattle.tex_engine.specs.declared.engine.Engine.{Engine}
+use Rattle.tex_engine.specs.declared.outcome.Next.{Next}
+use Rattle.tex_engine.specs.declared.outcome.Ruled.{Ruled}
+use Rattle.tex_engine.specs.Book.{Book}
+use Rattle.tex_engine.specs.Calls.{AllStand}
+use Rattle.tex_engine.specs.Near.{CutsIn}
+use Rattle.tex_engine.specs.Stands.{state_of}
+use Rattle.tex_engine.specs.Rules.{world_of, plan_of, enters_of, next_moves, Takes, Nexts, DoesRule}
+
+-- The next reading does this, over any files and for whatever wants a token, and enters names so.
+abbrev pub ReadsNext : (enters : Bool) → (e e' : Engine) → (before after : SinkTold) → Next → Type 0
+ReadsNext enters e e' before after next = (sizes : Sizes) (f : FilesTold) (book : Book) (want : Option Want) → enters ≡ enters_of want → Takes sizes want e book →
+    Nexts sizes want (state_of e book) e' book (world_of f before e) (world_of f after e') (next_moves want e book) next
+
+-- it is cut off
+abbrev pub CutsNext : (enters : Bool) → (e e' : Engine) → (before after : SinkTold) → Broken → Type 0
+CutsNext enters e e' before after b = (sizes : Sizes) (f : FilesTold) (book : Book) (want : Option Want) → enters ≡ enters_of want → Takes sizes want e book →
+    CutsIn sizes (state_of e book) e' (world_of f before e) (world_of f after e') (next_moves want e book) b
+
+-- The rule that comes next does this, over any files.
+abbrev pub DoesPlan : (e e' : Engine) → (before after : SinkTold) → Ruled → Type 0
+DoesPlan e e' before after ruled = (sizes : Sizes) (f : FilesTold) (book : Book) → AllStand sizes e book →
+    DoesRule sizes (state_of e book) e' book (world_of f before e) (world_of f after e') (plan_of e book) ruled
+
+-- it is cut off
+abbrev pub CutsPlan : (e e' : Engine) → (before after : SinkTold) → Broken → Type 0
+CutsPlan e e' before after b = (sizes : Sizes) (f : FilesTold) (book : Book) → AllStand sizes e book →
+    CutsIn sizes (state_of e book) e' (world_of f before e) (world_of f after e') (plan_of e book) b

@@ -1,0 +1,92 @@
+// The name of a macro is expanded.
+ghost use Rattle.std.specs.Prelude.{◌≡◌, ◌≤◌, ◌+◌, ◌*◌, ℕ, length, Bool, Some, None, IfErr, OnOk, OnErr};
+ghost use Rattle.tex_defs.specs.declared.Sizes.{Sizes};
+ghost use Rattle.tex_defs.specs.declared.Meaning.TheVariants.{Macro};
+ghost use Rattle.tex_defs.specs.Places.{World};
+ghost use Rattle.plain_tokens.specs.Meanings.{name_meaning};
+ghost use Rattle.plain_readings.specs.Readings.{Arguments};
+ghost use Rattle.plain_readings.specs.Weights.{frame_weight, act_weight};
+ghost use Rattle.reading_frames.specs.Weights.{innermost_weight};
+ghost use Rattle.tex_machine.specs.States.{Begun};
+ghost use Rattle.tex_machine.specs.Demands.{refusal};
+ghost use Rattle.tex_machine.specs.Plan.{called};
+ghost use Rattle.macro_call.specs.Modes.{mode_of};
+ghost use Rattle.macro_call.specs.PlainScans.{first_scan};
+ghost use Rattle.input_state.specs.declared.answer.CallKind.TheVariants.{Gathers};
+ghost use Rattle.input_state.specs.Callings.{NotCalling};
+ghost use Rattle.input_state.specs.Callings as calls;
+ghost use Rattle.input_state.specs.Calls.{call_kind, text_of};
+ghost use Rattle.input_state.specs.Stored.{KeepsMacros};
+ghost use Rattle.tex_engine.specs.Book.{Book};
+ghost use Rattle.tex_engine.specs.Calls.{open_call};
+ghost use Rattle.tex_engine.specs.Stands.{Stands, Counts, SameFrames, state_of, page_of};
+ghost use Rattle.tex_engine.specs.Rules.{Cuts, Went};
+ghost use Rattle.tex_engine.specs.Steps.{weight, pending_weight};
+ghost use Rattle.tex_engine.specs.declared.broken.Broken.TheVariants as broken;
+
+use crate::call::{Call, CallAsk};
+use crate::engine::Engine;
+use crate::meaning::name_of;
+use input_state::CallKind;
+use tex_defs::{Full, Meaning, Name, Seen, Token};
+
+/// Expands the name of a macro: the body of one without a parameter text is put in front, another begins to gather its
+/// arguments, and one without a list comes to nothing. *TeX: The Program*, part 25 (`macro_call`).
+///
+/// # Errors
+/// There is no room for the level, for one more reading or for the first argument's list; the finished lists in front
+/// have gone where a level was asked for.
+pub(crate) fn call_name(engine: &mut Engine, token: Token) -> Result<(), Full>
+    ensures ok { OnOk result ((sizes : Sizes) (w : World) (book : Book) → Stands sizes engine.old book →
+        Went sizes (state_of engine.old book) engine.new w w (called (page_of engine.old book) token) 0) }
+    ensures err { IfErr result (λ full. (sizes : Sizes) (w : World) (book : Book) → Stands sizes engine.old book →
+        Cuts sizes (state_of engine.old book) engine.new book w w (called (page_of engine.old book) token) (broken.Full full)) }
+    ensures frames { OnErr result (SameFrames engine.old engine.new) }
+    ensures column { engine.new.in_line ≡ engine.old.in_line }
+    ensures idle { engine.new.input.making ≡ engine.old.input.making }
+    ensures light { OnOk result (engine.old.call ≡ None → innermost_weight engine.old.readings.frames ≤ act_weight → weight engine.new ≤ frame_weight * length engine.old.readings.frames + act_weight + pending_weight engine.old.input.pending) }
+{
+    if engine.input.is_calling() {
+        return Ok(());
+    }
+    let name = name_of(token);
+    match engine.input.call_kind(name) {
+        CallKind::None => Ok(()),
+        CallKind::AtOnce => engine.input.call_macro(name),
+        CallKind::Gathers => {
+            let long = is_long(engine.input.seen(Token::Named(name)));
+            begin_call(engine, name, long)
+        }
+    }
+}
+
+/// Begins to gather the arguments of a call: one more reading is asked for first, and then its list.
+///
+/// # Errors
+/// There is no room for them; nothing has changed.
+fn begin_call(engine: &mut Engine, name: Name, long: bool) -> Result<(), Full>
+    requires none { engine.old.input.call ≡ NotCalling }
+    requires gathers { call_kind engine.old.input.lists (name_meaning engine.old.input.meanings name) ≡ Gathers }
+    ensures ok { OnOk result (engine.new ≡ record engine.old { call = Some (open_call name); input = record engine.old.input { call = calls.Gathering name (first_scan (text_of engine.old.input.lists engine.old.input.meanings name) (mode_of long)); lists = engine.new.input.lists } }) }
+    ensures fits { OnOk result ((sizes : Sizes) (book : Book) (number : ℕ) → Counts sizes engine.old book → refusal sizes (Begun (Arguments name long number (text_of engine.old.input.lists engine.old.input.meanings name))) (state_of engine.old book) ≡ None) }
+    ensures refused { IfErr result (λ full. (sizes : Sizes) (book : Book) (number : ℕ) → Counts sizes engine.old book → refusal sizes (Begun (Arguments name long number (text_of engine.old.input.lists engine.old.input.meanings name))) (state_of engine.old book) ≡ Some full) }
+    ensures err { OnErr result (engine.new ≡ engine.old) }
+    ensures macros { KeepsMacros engine.old.input engine.new.input }
+{
+    if let Some(full) = engine.depth_refusal() {
+        return Err(full);
+    }
+    engine.input.begin_call(name, long)?;
+    engine.call = Some(Call {
+        name,
+        ask: CallAsk::More,
+    });
+    Ok(())
+}
+
+/// Whether it is the name of a `\long` macro.
+fn is_long(x: Seen) -> bool
+    ensures { (long outer : Bool) (list : Unit) → x.meaning ≡ Macro long outer list → result ≡ long }
+{
+    matches!(x.meaning, Meaning::Macro { long: true, .. })
+}

@@ -1,0 +1,81 @@
+// A call of a macro is fed with a token.
+ghost use Rattle.std.specs.Prelude.{◌≡◌, ◌+◌, ◌≤◌, List, [], ◌∷◌, Some, None, IfOk, IfErr, OnOk, OnErr, length};
+ghost use Rattle.tex_defs.specs.Places.{World};
+ghost use Rattle.tex_defs.specs.declared.Sizes.{Sizes};
+ghost use Rattle.plain_readings.specs.Readings.{Reading};
+ghost use Rattle.plain_tokens.specs.Tables.{memory, refused};
+ghost use Rattle.tex_machine.specs.Plan.{feeding};
+ghost use Rattle.input_state.specs.Calls.{text_of};
+ghost use Rattle.input_state.specs.CallFeeds.{IsTaking, Feeds, CutShort, call_work, growth};
+ghost use Rattle.input_state.specs.Stored.{KeepsMacros, words};
+ghost use Rattle.tex_engine.specs.Book.{Book, with_work};
+ghost use Rattle.tex_engine.specs.CallAsks.{ask_behind};
+ghost use Rattle.tex_engine.specs.Calls.{AllStand, open_call};
+ghost use Rattle.tex_engine.specs.Near.{CutsIn};
+ghost use Rattle.tex_engine.specs.Stands.{state_of};
+ghost use Rattle.tex_engine.specs.Rules.{Went};
+ghost use Rattle.tex_engine.specs.declared.broken.Broken.TheVariants as broken;
+
+use crate::call::{Call, CallAsk};
+use crate::engine::Engine;
+use input_state::CallTold;
+use tex_defs::{Full, Seen, Token};
+
+/// Feeds the call with a token. *TeX: The Program*, part 25 (`macro_call`).
+///
+/// # Errors
+/// The main memory is full: the engine stands for the moment before the token or the list that has no room.
+pub(crate) fn feed_call(engine: &mut Engine, call: Call, seen: Seen) -> Result<(), Full>
+    ensures ok { OnOk result ((sizes : Sizes) (w : World) (book : Book) (r : Reading) (rs : List Reading) → engine.old.call ≡ Some (open_call call.name) → AllStand sizes engine.old (with_work (r ∷ rs) book) →
+        Went sizes (state_of engine.old (with_work (r ∷ rs) book)) engine.new w w (feeding r seen) 0) }
+    ensures err { IfErr result (λ full. (sizes : Sizes) (w : World) (book : Book) (r : Reading) (rs : List Reading) → engine.old.call ≡ Some (open_call call.name) → AllStand sizes engine.old (with_work (r ∷ rs) book) →
+        CutsIn sizes (state_of engine.old (with_work (r ∷ rs) book)) engine.new w w (feeding r seen) (broken.Full full)) }
+    ensures column { engine.new.in_line ≡ engine.old.in_line }
+    ensures idle { engine.new.input.making ≡ engine.old.input.making }
+{
+    if !engine.input.is_taking() {
+        return Ok(());
+    }
+    let told = take_token(engine, seen)?;
+    engine.call = Some(Call {
+        name: call.name,
+        ask: told_ask(told),
+    });
+    Ok(())
+}
+
+/// The call of the input takes a token.
+fn take_token(engine: &mut Engine, seen: Seen) -> Result<CallTold, Full>
+    requires { IsTaking engine.old.input.call }
+    ensures ok { IfOk result (λ told. Feeds (text_of engine.old.input.lists engine.old.input.meanings) seen.token told engine.old.input.call engine.new.input.call) }
+    ensures fits { OnOk result (words engine.old.input + length (growth (text_of engine.old.input.lists engine.old.input.meanings) seen.token engine.old.input.call) ≤ engine.old.input.sizes.main_memory_size) }
+    ensures err { OnErr result (CutShort (text_of engine.old.input.lists engine.old.input.meanings) seen.token engine.old.input.call engine.new.input.call) }
+    ensures full { IfErr result (λ full. refused engine.new.input.sizes (memory 1 (words engine.new.input) ∷ []) ≡ Some full) }
+    ensures within { words engine.new.input ≤ engine.new.input.sizes.main_memory_size }
+    ensures last { OnOk result (engine.new.last ≡ seen) }
+    ensures fed { OnErr result (call_work engine.new.input.call ≡ None → engine.new.last ≡ seen) }
+    ensures unfed { OnErr result ((work : List Token) → call_work engine.new.input.call ≡ Some work → engine.new.last ≡ engine.old.last) }
+    ensures others { engine.new ≡ record engine.old { last = engine.new.last; input = record engine.old.input { call = engine.new.input.call; lists = engine.new.input.lists } } }
+    ensures macros { KeepsMacros engine.old.input engine.new.input }
+{
+    let told = engine.input.feed_call(seen.token);
+    if told.is_ok() || engine.input.call_list().is_none() {
+        engine.last = seen;
+    }
+    // What is used of the main memory is at most its size.
+    let _used = engine.input.words();
+    told
+}
+
+/// What the call asks for behind a token of which it is told this.
+fn told_ask(told: CallTold) -> CallAsk
+    ensures { result ≡ ask_behind told }
+{
+    match told {
+        CallTold::More => CallAsk::More,
+        CallTold::ExtraBrace => CallAsk::ExtraBrace,
+        CallTold::Gathered => CallAsk::Gathered,
+        CallTold::Mismatch => CallAsk::Mismatch,
+        CallTold::ParEnded(silent) => CallAsk::ParEnded(silent),
+    }
+}

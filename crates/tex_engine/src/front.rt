@@ -1,0 +1,81 @@
+// Lists that are put in front.
+ghost use Rattle.std.specs.Prelude.{◌≡◌, ◌+◌, List, ◌++◌, IfErr, OnOk, None};
+ghost use Rattle.tex_defs.specs.Places.{World};
+ghost use Rattle.tex_defs.specs.declared.Sizes.{Sizes};
+ghost use Rattle.tex_machine.specs.States.{Move};
+ghost use Rattle.tex_machine.specs.Plan.{given_back, put_inserted, put_one};
+ghost use Rattle.tex_machine.specs.Does.{Did};
+ghost use Rattle.tex_engine.specs.Book.{Book};
+ghost use Rattle.tex_engine.specs.Stands.{Counts, SameStore, SameOthers, SameFrames, state_of, page_of};
+ghost use Rattle.tex_engine.specs.Rules.{Cuts};
+ghost use Rattle.tex_engine.specs.Steps.{pending_weight};
+
+use crate::broken::Broken;
+use crate::engine::Engine;
+use tex_defs::{Sizes, Token};
+
+impl Engine {
+    /// Puts a token in front: a list of it is begun, grown and put, once the finished lists in front have gone.
+    ///
+    /// # Errors
+    /// The main memory or the input stack is full: of the list there is what had room.
+    pub fn put_one(&mut self, token: Token) -> Result<(), Broken>
+        requires idle { self.old.input.making ≡ None }
+        ensures did { OnOk result ((sizes : Sizes) (w : World) (book : Book) → Counts sizes self.old book → self.old.input.making ≡ None → Did sizes (state_of self.old book) (state_of self.new book) w w (put_one token)) }
+        ensures err { IfErr result (λ b. (sizes : Sizes) (w : World) (book : Book) (more : List Move) → Counts sizes self.old book → self.old.input.making ≡ None → Cuts sizes (state_of self.old book) self.new book w w (put_one token ++ more) b) }
+        ensures frames { SameFrames self.old self.new }
+        ensures others { SameOthers self.old self.new }
+        ensures store { SameStore self.old.input self.new.input }
+        ensures light { pending_weight self.new.input.pending ≡ pending_weight self.old.input.pending }
+        ensures page { (book : Book) → page_of self.new book ≡ page_of self.old book }
+        ensures idle { OnOk result (self.new.input.making ≡ None) }
+    {
+        self.input.settle();
+        self.input.make_list()?;
+        self.input.grow_made(token)?;
+        self.input.put_made()?;
+        Ok(())
+    }
+
+    /// Puts the token back that a reading was fed with last, where it is given back.
+    ///
+    /// # Errors
+    /// As [`Engine::put_one`].
+    pub fn put_back(&mut self, back: bool) -> Result<(), Broken>
+        requires idle { self.old.input.making ≡ None }
+        ensures did { OnOk result ((sizes : Sizes) (w : World) (book : Book) → Counts sizes self.old book → self.old.input.making ≡ None → Did sizes (state_of self.old book) (state_of self.new book) w w (given_back back self.old.last)) }
+        ensures err { IfErr result (λ b. (sizes : Sizes) (w : World) (book : Book) (more : List Move) → Counts sizes self.old book → self.old.input.making ≡ None → Cuts sizes (state_of self.old book) self.new book w w (given_back back self.old.last ++ more) b) }
+        ensures frames { SameFrames self.old self.new }
+        ensures others { SameOthers self.old self.new }
+        ensures store { SameStore self.old.input self.new.input }
+        ensures light { pending_weight self.new.input.pending ≡ pending_weight self.old.input.pending }
+        ensures page { (book : Book) → page_of self.new book ≡ page_of self.old book }
+        ensures idle { OnOk result (self.new.input.making ≡ None) }
+    {
+        if back {
+            self.put_one(self.last.token)?;
+        }
+        Ok(())
+    }
+
+    /// Inserts a token, if there is one.
+    ///
+    /// # Errors
+    /// As [`Engine::put_one`].
+    pub fn insert(&mut self, inserted: Option<Token>) -> Result<(), Broken>
+        requires idle { self.old.input.making ≡ None }
+        ensures did { OnOk result ((sizes : Sizes) (w : World) (book : Book) → Counts sizes self.old book → self.old.input.making ≡ None → Did sizes (state_of self.old book) (state_of self.new book) w w (put_inserted inserted)) }
+        ensures err { IfErr result (λ b. (sizes : Sizes) (w : World) (book : Book) (more : List Move) → Counts sizes self.old book → self.old.input.making ≡ None → Cuts sizes (state_of self.old book) self.new book w w (put_inserted inserted ++ more) b) }
+        ensures frames { SameFrames self.old self.new }
+        ensures others { SameOthers self.old self.new }
+        ensures store { SameStore self.old.input self.new.input }
+        ensures light { pending_weight self.new.input.pending ≡ pending_weight self.old.input.pending }
+        ensures page { (book : Book) → page_of self.new book ≡ page_of self.old book }
+        ensures idle { OnOk result (self.new.input.making ≡ None) }
+    {
+        if let Some(token) = inserted {
+            self.put_one(token)?;
+        }
+        Ok(())
+    }
+}

@@ -1,0 +1,214 @@
+// A call that gathers its arguments.
+ghost use Rattle.std.specs.Prelude.{◌≡◌, ◌++◌, ◌∷◌, ◌<◌, [], List, None, Some, IfOk, IfErr, OnOk, OnErr, MatchResult, false, true};
+ghost use Rattle.tex_syntax.specs.declared.words.Report.TheVariants.{ParagraphEnded, ExtraBrace};
+ghost use Rattle.tex_syntax.specs.declared.words.Want.TheVariants.{Raw};
+ghost use Rattle.tex_defs.specs.declared.Sizes.{Sizes};
+ghost use Rattle.plain_readings.specs.Calls.{par_token};
+ghost use Rattle.rows.specs.Readings.{Told};
+ghost use Rattle.plain_readings.specs.Readings.{Reading};
+ghost use Rattle.tex_machine.specs.States.{Feeds};
+ghost use Rattle.tex_machine.specs.Plan.{failed, put_one, reported};
+ghost use Rattle.world_io.specs.Told.{FilesTold};
+ghost use Rattle.macro_call.specs.PlainScans.{settled_scan};
+ghost use Rattle.input_state.specs.CallFeeds.{with_scan};
+ghost use Rattle.plain_tokens.specs.Pending.{settle};
+ghost use Rattle.input_state.specs.Callings.{NotCalling, IsComplete};
+ghost use Rattle.input_state.specs.Calls.{after_call, put_of};
+ghost use Rattle.input_state.specs.Stored.{KeepsMacros, put_refusal};
+ghost use Rattle.tex_engine.specs.Book.{Book, with_work};
+ghost use Rattle.tex_engine.specs.Calls.{AllStand, argument_bytes, brace_call, open_call, call_away_moves};
+ghost use Rattle.tex_engine.specs.Near.{CutsIn};
+ghost use Rattle.tex_engine.specs.Stands.{SameFrames, state_of, page_of};
+ghost use Rattle.tex_engine.specs.Rules.{world_of, next_moves, Takes, Cuts, DoesRule};
+ghost use Rattle.tex_engine.specs.declared.call.CallAsk.TheVariants.{More as AsksMore};
+ghost use Rattle.input_state.specs.Reads.{gives_step};
+ghost use Rattle.plain_tokens.specs.Pending.{pulled};
+ghost use Rattle.tex_engine.specs.Steps.{stepping, call_asks_more, stops_run, IsStep, IsFree, IsHalted, StepsIf, weight};
+ghost use Rattle.tex_engine.specs.Turns.{DoesPlan, CutsPlan};
+ghost use Rattle.tex_engine.specs.declared.call.Call.{Call};
+
+use crate::broken::Broken;
+use crate::call::{Call, CallAsk};
+use crate::check::PAR;
+use crate::engine::Engine;
+use crate::feeding::feed_call;
+use crate::outcome::{Next, Ruled, stops};
+use tex_defs::{Fatal, Full, Name};
+use tex_syntax::{Outcome, Report};
+use world_io::Sink;
+
+/// Does the rule of the call that gathers its arguments, the innermost reading of all: at most one step.
+///
+/// # Errors
+/// There is no room for what comes, or a write failed: the engine stands for the moment before.
+pub fn gather<S: Sink>(engine: &mut Engine, out: &mut S, call: Call) -> Result<Ruled, Broken>
+    requires idle { engine.old.input.making ≡ None }
+    requires running { engine.old.stopped ≡ false }
+    requires call { engine.old.call ≡ Some call }
+    ensures light { IfOk result (λ ruled. IsFree ruled → weight engine.new < weight engine.old) }
+    ensures step { IfOk result (λ ruled. StepsIf ruled (stepping engine.old)) }
+    ensures rule { IfOk result (λ ruled. DoesPlan engine.old engine.new (S.told out.old) (S.told out.new) ruled) }
+    ensures err { IfErr result (λ b. CutsPlan engine.old engine.new (S.told out.old) (S.told out.new) b) }
+    ensures halts { IfOk result (λ ruled. IsHalted ruled → SameFrames engine.old engine.new) }
+    ensures idle { OnOk result (engine.new.input.making ≡ None) }
+    ensures stopped { MatchResult result (λ ruled. engine.new.stopped ≡ stops_run ruled) (λ _. engine.new.stopped ≡ true) }
+{
+    let ruled = call_rule(engine, out, call);
+    engine.stopped = stops(&ruled);
+    ruled
+}
+
+/// The rule of the call; no stop is noted.
+fn call_rule<S: Sink>(engine: &mut Engine, out: &mut S, call: Call) -> Result<Ruled, Broken>
+    requires idle { engine.old.input.making ≡ None }
+    requires running { engine.old.stopped ≡ false }
+    requires call { engine.old.call ≡ Some call }
+    ensures light { IfOk result (λ ruled. IsFree ruled → weight engine.new < weight engine.old) }
+    ensures step { IfOk result (λ ruled. StepsIf ruled (stepping engine.old)) }
+    ensures rule { IfOk result (λ ruled. DoesPlan engine.old engine.new (S.told out.old) (S.told out.new) ruled) }
+    ensures err { IfErr result (λ b. CutsPlan engine.old engine.new (S.told out.old) (S.told out.new) b) }
+    ensures halts { IfOk result (λ ruled. IsHalted ruled → SameFrames engine.old engine.new) }
+    ensures idle { OnOk result (engine.new.input.making ≡ None) }
+{
+    match call.ask {
+        CallAsk::More => take(engine, out, call),
+        CallAsk::ExtraBrace => settle_brace(engine, out, call.name),
+        CallAsk::Gathered => {
+            put_call(engine)?;
+            Ok(Ruled::Free)
+        }
+        CallAsk::Mismatch => fail_call(engine, out, Report::UseMismatch(call.name)),
+        CallAsk::ParEnded(false) => run_away_call(engine, out, call.name),
+        CallAsk::ParEnded(true) => {
+            close_call(engine);
+            Ok(Ruled::Free)
+        }
+    }
+}
+
+/// The call takes the next token.
+fn take<S: Sink>(engine: &mut Engine, out: &mut S, call: Call) -> Result<Ruled, Broken>
+    requires idle { engine.old.input.making ≡ None }
+    requires running { engine.old.stopped ≡ false }
+    requires call { engine.old.call ≡ Some call }
+    requires asks { call.ask ≡ AsksMore }
+    ensures light { IfOk result (λ ruled. IsFree ruled → weight engine.new < weight engine.old) }
+    ensures step { IfOk result (λ ruled. StepsIf ruled (gives_step (pulled engine.old.categories engine.old.input.pending))) }
+    ensures rule { IfOk result (λ ruled. (sizes : Sizes) (f : FilesTold) (book : Book) → Takes sizes (Some Raw) engine.old book →
+        DoesRule sizes (state_of engine.old book) engine.new book (world_of f (S.told out.old) engine.old) (world_of f (S.told out.new) engine.new) (next_moves (Some Raw) engine.old book) ruled) }
+    ensures err { IfErr result (λ b. (sizes : Sizes) (f : FilesTold) (book : Book) → Takes sizes (Some Raw) engine.old book →
+        CutsIn sizes (state_of engine.old book) engine.new (world_of f (S.told out.old) engine.old) (world_of f (S.told out.new) engine.new) (next_moves (Some Raw) engine.old book) b) }
+    ensures halts { IfOk result (λ ruled. IsHalted ruled → SameFrames engine.old engine.new) }
+    ensures idle { OnOk result (engine.new.input.making ≡ None) }
+{
+    match engine.next_token(out, true)? {
+        Next::Token(seen) => {
+            feed_call(engine, call, seen)?;
+            Ok(Ruled::Step)
+        }
+        Next::Line => Ok(Ruled::Step),
+        Next::Skipped => Ok(Ruled::Free),
+        Next::Over(outcome) => Ok(Ruled::Halted(outcome)),
+    }
+}
+
+/// The arguments pass to the body of the macro, which is put; one without items isn't. The call has ended.
+fn put_call(engine: &mut Engine) -> Result<(), Full>
+    ensures ok { OnOk result (IsComplete engine.old.input.call → engine.new ≡ record engine.old { call = None; input = record engine.old.input { pending = after_call (put_of engine.old.input.lists engine.old.input.meanings engine.old.input.call) engine.old.input.pending; call = NotCalling; lists = engine.new.input.lists } }) }
+    ensures fits { OnOk result (IsComplete engine.old.input.call → put_refusal (put_of engine.old.input.lists engine.old.input.meanings engine.old.input.call) engine.old.input ≡ None) }
+    ensures light { OnOk result ((call : Call) → engine.old.call ≡ Some call → call_asks_more call.ask ≡ false → weight engine.new < weight engine.old) }
+    ensures refused { IfErr result (λ full. put_refusal (put_of engine.old.input.lists engine.old.input.meanings engine.old.input.call) engine.old.input ≡ Some full) }
+    ensures err { OnErr result (engine.new ≡ record engine.old { input = record engine.old.input { pending = settle engine.old.input.pending; lists = engine.new.input.lists } }) }
+    ensures macros { KeepsMacros engine.old.input engine.new.input }
+    ensures idle { engine.new.input.making ≡ engine.old.input.making }
+    ensures column { engine.new.in_line ≡ engine.old.in_line }
+{
+    if engine.input.is_complete() {
+        engine.input.put_call()?;
+    }
+    engine.call = None;
+    Ok(())
+}
+
+/// The call reports, and ends without its arguments.
+fn fail_call<S: Sink>(engine: &mut Engine, out: &mut S, report: Report) -> Result<Ruled, Broken>
+    requires idle { engine.old.input.making ≡ None }
+    ensures rule { IfOk result (λ ruled. (sizes : Sizes) (f : FilesTold) (book : Book) (r : Reading) (rs : List Reading) (call : Call) → engine.old.call ≡ Some call → AllStand sizes engine.old (with_work (r ∷ rs) book) →
+        DoesRule sizes (state_of engine.old (with_work (r ∷ rs) book)) engine.new (with_work (r ∷ rs) book) (world_of f (S.told out.old) engine.old) (world_of f (S.told out.new) engine.new) (failed (page_of engine.old book) report) ruled) }
+    ensures err { IfErr result (λ b. (sizes : Sizes) (f : FilesTold) (book : Book) (r : Reading) (rs : List Reading) → AllStand sizes engine.old (with_work (r ∷ rs) book) →
+        Cuts sizes (state_of engine.old (with_work (r ∷ rs) book)) engine.new (with_work (r ∷ rs) book) (world_of f (S.told out.old) engine.old) (world_of f (S.told out.new) engine.new) (failed (page_of engine.old book) report) b) }
+    ensures step { IfOk result (λ ruled. IsStep ruled → ⊥) }
+    ensures light { IfOk result (λ ruled. IsFree ruled → (call : Call) → engine.old.call ≡ Some call → call_asks_more call.ask ≡ false → weight engine.new < weight engine.old) }
+    ensures frames { OnErr result (SameFrames engine.old engine.new) }
+    ensures halts { IfOk result (λ ruled. IsHalted ruled → SameFrames engine.old engine.new) }
+    ensures idle { OnOk result (engine.new.input.making ≡ None) }
+{
+    if !engine.report(out, report)? {
+        return Ok(Ruled::Halted(Outcome::AtFatal(Fatal::HundredErrors)));
+    }
+    close_call(engine);
+    Ok(Ruled::Free)
+}
+
+/// A paragraph ended the call: the argument runs away, the token is put back, and the call reports and ends.
+fn run_away_call<S: Sink>(engine: &mut Engine, out: &mut S, name: Name) -> Result<Ruled, Broken>
+    requires idle { engine.old.input.making ≡ None }
+    ensures rule { IfOk result (λ ruled. (sizes : Sizes) (f : FilesTold) (book : Book) (r : Reading) (rs : List Reading) (call : Call) → engine.old.call ≡ Some call → AllStand sizes engine.old (with_work (r ∷ rs) book) →
+        DoesRule sizes (state_of engine.old (with_work (r ∷ rs) book)) engine.new (with_work (r ∷ rs) book) (world_of f (S.told out.old) engine.old) (world_of f (S.told out.new) engine.new) (call_away_moves (page_of engine.old book) (argument_bytes engine.old) engine.old.last.token (ParagraphEnded name)) ruled) }
+    ensures err { IfErr result (λ b. (sizes : Sizes) (f : FilesTold) (book : Book) (r : Reading) (rs : List Reading) → AllStand sizes engine.old (with_work (r ∷ rs) book) →
+        Cuts sizes (state_of engine.old (with_work (r ∷ rs) book)) engine.new (with_work (r ∷ rs) book) (world_of f (S.told out.old) engine.old) (world_of f (S.told out.new) engine.new) (call_away_moves (page_of engine.old book) (argument_bytes engine.old) engine.old.last.token (ParagraphEnded name)) b) }
+    ensures step { IfOk result (λ ruled. IsStep ruled → ⊥) }
+    ensures light { IfOk result (λ ruled. IsFree ruled → (call : Call) → engine.old.call ≡ Some call → call_asks_more call.ask ≡ false → weight engine.new < weight engine.old) }
+    ensures frames { OnErr result (SameFrames engine.old engine.new) }
+    ensures halts { IfOk result (λ ruled. IsHalted ruled → SameFrames engine.old engine.new) }
+    ensures idle { OnOk result (engine.new.input.making ≡ None) }
+{
+    let token = engine.last.token;
+    engine.write_argument(out)?;
+    engine.put_one(token)?;
+    fail_call(engine, out, Report::ParagraphEnded(name))
+}
+
+/// An extra right brace is put back, and `\par` inserted; the call reports, and goes on.
+fn settle_brace<S: Sink>(engine: &mut Engine, out: &mut S, name: Name) -> Result<Ruled, Broken>
+    requires idle { engine.old.input.making ≡ None }
+    ensures rule { IfOk result (λ ruled. (sizes : Sizes) (f : FilesTold) (book : Book) (r : Reading) (rs : List Reading) → engine.old.call ≡ Some (brace_call name) → AllStand sizes engine.old (with_work (r ∷ rs) book) →
+        DoesRule sizes (state_of engine.old (with_work (r ∷ rs) book)) engine.new (with_work (r ∷ rs) book) (world_of f (S.told out.old) engine.old) (world_of f (S.told out.new) engine.new) (put_one engine.old.last.token ++ (put_one par_token ++ reported (page_of engine.old book) (ExtraBrace name) (Feeds Told ∷ []))) ruled) }
+    ensures err { IfErr result (λ b. (sizes : Sizes) (f : FilesTold) (book : Book) (r : Reading) (rs : List Reading) → AllStand sizes engine.old (with_work (r ∷ rs) book) →
+        Cuts sizes (state_of engine.old (with_work (r ∷ rs) book)) engine.new (with_work (r ∷ rs) book) (world_of f (S.told out.old) engine.old) (world_of f (S.told out.new) engine.new) (put_one engine.old.last.token ++ (put_one par_token ++ reported (page_of engine.old book) (ExtraBrace name) (Feeds Told ∷ []))) b) }
+    ensures step { IfOk result (λ ruled. IsStep ruled → ⊥) }
+    ensures light { IfOk result (λ ruled. IsFree ruled → engine.old.call ≡ Some (brace_call name) → weight engine.new < weight engine.old) }
+    ensures frames { OnErr result (SameFrames engine.old engine.new) }
+    ensures halts { IfOk result (λ ruled. IsHalted ruled → SameFrames engine.old engine.new) }
+    ensures idle { OnOk result (engine.new.input.making ≡ None) }
+{
+    engine.put_one(engine.last.token)?;
+    engine.put_one(PAR)?;
+    if !engine.report(out, Report::ExtraBrace(name))? {
+        return Ok(Ruled::Halted(Outcome::AtFatal(Fatal::HundredErrors)));
+    }
+    go_on_behind_brace(engine, name);
+    Ok(Ruled::Free)
+}
+
+/// The call asks for more behind its extra brace.
+fn go_on_behind_brace(engine: &mut Engine, name: Name)
+    ensures { engine.new ≡ record engine.old { call = Some (open_call name); input = record engine.old.input { call = with_scan settled_scan engine.old.input.call } } }
+{
+    if engine.input.is_taking() {
+        engine.input.settle_call();
+    }
+    engine.call = Some(Call {
+        name,
+        ask: CallAsk::More,
+    });
+}
+
+/// The call ends without its arguments, and its lists go.
+fn close_call(engine: &mut Engine)
+    ensures after { engine.new ≡ record engine.old { call = None; input = record engine.old.input { call = NotCalling; lists = engine.new.input.lists } } }
+    ensures macros { KeepsMacros engine.old.input engine.new.input }
+{
+    engine.input.drop_call();
+    engine.call = None;
+}

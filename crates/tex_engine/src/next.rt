@@ -1,0 +1,152 @@
+// The next token.
+ghost use Rattle.std.specs.Prelude.{◌≡◌, ◌<◌, IfOk, IfErr, OnOk, OnErr, MatchResult, Option, None, false, true};
+ghost use Rattle.tex_syntax.specs.declared.words.Want.{Want};
+ghost use Rattle.tex_defs.specs.declared.Sizes.{Sizes};
+ghost use Rattle.plain_tokens.specs.Pending.{pulled};
+ghost use Rattle.plain_tokens.specs.Lex.{Lexeme};
+ghost use Rattle.world_io.specs.Told.{FilesTold};
+ghost use Rattle.input_state.specs.Reads.{gives_step, IsLexeme};
+ghost use Rattle.plain_tokens.specs.Lookup.{token_of, new_name};
+ghost use Rattle.tex_engine.specs.Book.{Book};
+ghost use Rattle.tex_engine.specs.Near.{CutsIn};
+ghost use Rattle.tex_engine.specs.Entering.{with_names, EntryFits, EntryRefused};
+ghost use Rattle.tex_engine.specs.Stands.{IsSized, SameFrames, SameReadings, state_of, page_of};
+ghost use Rattle.tex_engine.specs.Rules.{world_of, onward_of, enters_of, name_moves, scanning_of, Takes, Meets};
+ghost use Rattle.tex_engine.specs.Turns.{ReadsNext, CutsNext};
+ghost use Rattle.tex_engine.specs.Steps.{weight, IsSkipped, IsOver, NextStepsIf, ends_run, next_met, next_free};
+
+use crate::broken::Broken;
+use crate::engine::Engine;
+use crate::names::resolve;
+use crate::outcome::{Last, Next, Ruled};
+use input_state::Pulled;
+use line_lexer::Lexed;
+use tex_defs::{Fatal, Full, Seen, Sizes, Token};
+use tex_syntax::{Outcome, Report};
+use world_io::Sink;
+
+impl Engine {
+    /// The token that a line gives. A name that joins those that are entered gets its location with them.
+    fn resolve(&mut self, lexed: Lexed, enters: bool) -> Result<Token, Full>
+        ensures token { IfOk result (λ t. (x : Lexeme) → IsLexeme self.old.input.buffer lexed x → t ≡ token_of enters self.old.names.names x) }
+        ensures after { OnOk result ((sizes : Sizes) (x : Lexeme) → IsSized sizes self.old → IsLexeme self.old.input.buffer lexed x → self.new ≡ with_names (new_name enters self.old.names.names x) self.old) }
+        ensures fits { OnOk result ((x : Lexeme) → IsLexeme self.old.input.buffer lexed x → EntryFits self.old.names (new_name enters self.old.names.names x)) }
+        ensures refused { IfErr result (λ full. (x : Lexeme) → IsLexeme self.old.input.buffer lexed x → EntryRefused self.old.names (new_name enters self.old.names.names x) full) }
+        ensures err { OnErr result (self.new ≡ self.old) }
+        ensures frames { SameFrames self.old self.new }
+        ensures idle { self.new.input.making ≡ self.old.input.making }
+        ensures column { self.new.in_line ≡ self.old.in_line }
+    {
+        let known = self.names.count();
+        let token = resolve(&mut self.names, self.input.buffer(), lexed, enters)?;
+        if self.names.count() > known && self.input.has_name_room() {
+            self.input.enter_name();
+        }
+        Ok(token)
+    }
+
+    /// A character or a name of the line: a new name is entered where the reading enters names.
+    fn meet_name<S: Sink>(
+        &mut self,
+        out: &mut S,
+        enters: bool,
+        lexed: Lexed,
+    ) -> Result<Option<Seen>, Broken>
+        requires idle { self.old.input.making ≡ None }
+        ensures rule { IfOk result (λ met. (sizes : Sizes) (f : FilesTold) (book : Book) (want : Option Want) (x : Lexeme) → enters ≡ enters_of want → IsLexeme self.old.input.buffer lexed x → Takes sizes want self.old book →
+            Meets sizes want (state_of self.old book) self.new book (world_of f (S.told out.old) self.old) (world_of f (S.told out.new) self.new) (name_moves (page_of self.old book) (scanning_of self.old book.work) (enters_of want) (onward_of (page_of self.old book) want book.work) x) met) }
+        ensures err { IfErr result (λ b. (sizes : Sizes) (f : FilesTold) (book : Book) (want : Option Want) (x : Lexeme) → enters ≡ enters_of want → IsLexeme self.old.input.buffer lexed x → Takes sizes want self.old book →
+            CutsIn sizes (state_of self.old book) self.new (world_of f (S.told out.old) self.old) (world_of f (S.told out.new) self.new) (name_moves (page_of self.old book) (scanning_of self.old book.work) (enters_of want) (onward_of (page_of self.old book) want book.work) x) b) }
+        ensures halts { IfOk result (λ met. met ≡ None → SameFrames self.old self.new) }
+        ensures readings { SameReadings self.old self.new }
+        ensures idle { OnOk result (self.new.input.making ≡ None) }
+    {
+        let token = self.resolve(lexed, enters)?;
+        self.meet(out, token)
+    }
+
+    /// The next token or line, by one rule of the machine: at most one step. A reading that `enters` has new names entered.
+    /// *TeX: The Program*, part 24 (`get_next`).
+    ///
+    /// # Errors
+    /// There is no room for what comes, or a write failed: the engine stands for the moment before.
+    pub fn next_token<S: Sink>(&mut self, out: &mut S, enters: bool) -> Result<Next, Broken>
+        requires idle { self.old.input.making ≡ None }
+        requires running { self.old.stopped ≡ false }
+        ensures light { IfOk result (λ next. IsSkipped next → weight self.new < weight self.old) }
+        ensures step { IfOk result (λ next. NextStepsIf next (gives_step (pulled self.old.categories self.old.input.pending))) }
+        ensures rule { IfOk result (λ next. ReadsNext enters self.old self.new (S.told out.old) (S.told out.new) next) }
+        ensures err { IfErr result (λ b. CutsNext enters self.old self.new (S.told out.old) (S.told out.new) b) }
+        ensures halts { IfOk result (λ next. IsOver next → SameFrames self.old self.new) }
+        ensures readings { SameReadings self.old self.new }
+        ensures idle { OnOk result (self.new.input.making ≡ None) }
+        ensures stopped { MatchResult result (λ next. self.new.stopped ≡ ends_run next) (λ _. self.new.stopped ≡ true) }
+    {
+        let next = self.next_reading(out, enters);
+        self.stopped = has_stopped(&next);
+        next
+    }
+
+    /// The next token or line; no stop is noted.
+    fn next_reading<S: Sink>(&mut self, out: &mut S, enters: bool) -> Result<Next, Broken>
+        requires idle { self.old.input.making ≡ None }
+        ensures light { IfOk result (λ next. IsSkipped next → weight self.new < weight self.old) }
+        ensures step { IfOk result (λ next. NextStepsIf next (gives_step (pulled self.old.categories self.old.input.pending))) }
+        ensures rule { IfOk result (λ next. ReadsNext enters self.old self.new (S.told out.old) (S.told out.new) next) }
+        ensures err { IfErr result (λ b. CutsNext enters self.old self.new (S.told out.old) (S.told out.new) b) }
+        ensures halts { IfOk result (λ next. IsOver next → SameFrames self.old self.new) }
+        ensures readings { SameReadings self.old self.new }
+        ensures idle { OnOk result (self.new.input.making ≡ None) }
+    {
+        match self.input.pull(&self.categories)? {
+            Pulled::Token(token) => {
+                let met = self.meet(out, token)?;
+                Ok(met_next(met))
+            }
+            Pulled::Lexeme(lexed) => {
+                let met = self.meet_name(out, enters, lexed)?;
+                Ok(met_next(met))
+            }
+            Pulled::Taken => Ok(Next::Line),
+            Pulled::Invalid => {
+                let ruled = self.report_only(out, Report::InvalidCharacter)?;
+                Ok(skipping(ruled))
+            }
+            Pulled::FileOver => {
+                let ruled = self.check(out)?;
+                Ok(skipping(ruled))
+            }
+            Pulled::Nothing => {
+                let ruled = self.halt(out, Last::NoEnd)?;
+                Ok(skipping(ruled))
+            }
+        }
+    }
+}
+
+/// Whether the run has stopped, by what the next reading came to.
+fn has_stopped(next: &Result<Next, Broken>) -> bool
+    ensures { MatchResult next.now (λ next. result ≡ ends_run next) (λ _. result ≡ true) }
+{
+    matches!(next, Ok(Next::Over(_)) | Err(_))
+}
+
+/// A token that was met, or that a check ended the run.
+fn met_next(met: Option<Seen>) -> Next
+    ensures { result ≡ next_met met }
+{
+    match met {
+        Some(seen) => Next::Token(seen),
+        None => Next::Over(Outcome::AtFatal(Fatal::HundredErrors)),
+    }
+}
+
+/// A rule without a step.
+fn skipping(ruled: Ruled) -> Next
+    ensures { result ≡ next_free ruled }
+{
+    match ruled {
+        Ruled::Halted(outcome) => Next::Over(outcome),
+        _ => Next::Skipped,
+    }
+}

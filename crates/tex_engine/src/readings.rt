@@ -1,0 +1,322 @@
+// The open readings: frames, and the lists that they hold.
+ghost use Rattle.std.specs.Prelude.{◌≡◌, ◌<◌, ◌≤◌, ◌+◌, ◌-◌, List, [], ◌∷◌, length, drop, IfErr, OnOk, OnErr, Some, None, IsSome};
+ghost use Rattle.tex_defs.specs.Places.{World};
+ghost use Rattle.tex_defs.specs.declared.Sizes.{Sizes};
+ghost use Rattle.rows.specs.Readings.{Tok, Told, Val, Done};
+ghost use Rattle.plain_readings.specs.Readings.{Reading, fed_with, opened, opened_with, lists};
+ghost use Rattle.plain_readings.specs.Weights.{frame_weight as reading_weight, value_weight, act_weight};
+ghost use Rattle.plain_tokens.specs.Tables.{memory, refused};
+ghost use Rattle.reading_frames.specs.Sees.{kind_of, has_no_token, on_top};
+ghost use Rattle.reading_frames.specs.Resumes.{listed_lists, token_count};
+ghost use Rattle.reading_frames.specs.Stands.{opened_lists};
+ghost use Rattle.input_state.specs.Callings.{NotCalling};
+ghost use Rattle.input_state.specs.Stored.{KeepsMacros, words as stored_words};
+ghost use Rattle.reading_frames.specs.Weights.{innermost_weight, begun_weight, begun_with_weight, IsReported};
+ghost use Rattle.reading_frames.specs.Stack.{asks_in};
+ghost use Rattle.tex_machine.specs.States.{Begun, BegunWith, Closed, Ended, made};
+ghost use Rattle.tex_machine.specs.Demands.{refusal};
+ghost use Rattle.tex_machine.specs.Plan.{noting, value_tokens};
+ghost use Rattle.tex_machine.specs.Does.{Did};
+ghost use Rattle.tex_engine.specs.Book.{Book, with_work};
+ghost use Rattle.tex_engine.specs.Near.{CutsIn, with_token};
+ghost use Rattle.tex_engine.specs.Feeding.{HasTop, IsKept, TokensFit, TokensCut, with_tokens};
+ghost use Rattle.tex_engine.specs.Stands.{Stands, Counts, IsSound, SameBut, state_of, depth, depth_full};
+ghost use Rattle.tex_engine.specs.Rules.{feeds_of};
+ghost use Rattle.tex_engine.specs.Steps.{asked};
+ghost use Rattle.tex_engine.specs.declared.broken.Broken.TheVariants as broken;
+
+use crate::engine::Engine;
+use reading_frames::{Frame, Grown, Opening};
+use rows::{Kind, Value};
+use tex_defs::{Full, Seen, Sizes, Table, Token};
+
+/// The words of the list that a reading has from the beginning, if it has one.
+fn list_need(opening: Opening) -> u32
+    ensures { result ≡ length (opened_lists opening []) }
+{
+    match opening {
+        Opening::Reads(Kind::Text(..) | Kind::Definition(..)) | Opening::Spelling(_) => 1,
+        _ => 0,
+    }
+}
+
+/// The words of these tokens.
+fn token_need(grown: Grown) -> u32
+    ensures is { result ≡ token_count grown }
+    ensures few { result ≤ 2 }
+{
+    u32::from(grown.first.is_some()) + u32::from(grown.second.is_some())
+}
+
+impl Engine {
+    /// How many readings are open.
+    fn depth(&self) -> u64
+        ensures is { result ≡ depth self.now }
+        ensures within { result ≤ self.now.readings.size + 1 }
+    {
+        u64::from(self.readings.count()) + u64::from(self.call.is_some())
+    }
+
+    /// Why there is no room for one more reading.
+    pub fn depth_refusal(&self) -> Option<Full>
+        ensures room { result ≡ None → depth self.now < self.now.readings.size }
+        ensures is { self.now.readings.size < 4294967294 → result ≡ depth_full (depth self.now) self.now.readings.size }
+    {
+        let used = self.depth();
+        let size = self.readings.size();
+        if used < u64::from(size) {
+            return None;
+        }
+        Some(Full {
+            table: Table::ExpansionDepth,
+            used: used.min(u64::from(u32::MAX)) as u32,
+            size,
+        })
+    }
+
+    /// Begins a reading, and with it the list that it builds.
+    ///
+    /// # Errors
+    /// There is no room for one more reading, or for its list; nothing has changed.
+    pub fn begin(&mut self, opening: Opening) -> Result<(), Full>
+        ensures stands { OnOk result ((sizes : Sizes) (book : Book) → Stands sizes self.old book → Stands sizes self.new (with_work (opened (kind_of opening) book.work) book)) }
+        ensures state { OnOk result ((sizes : Sizes) (book : Book) → Stands sizes self.old book → made (Begun (kind_of opening)) (state_of self.old book) ≡ state_of self.new (with_work (opened (kind_of opening) book.work) book)) }
+        ensures fits { OnOk result ((sizes : Sizes) (book : Book) → Counts sizes self.old book → refusal sizes (Begun (kind_of opening)) (state_of self.old book) ≡ None) }
+        ensures refused { IfErr result (λ full. (sizes : Sizes) (book : Book) → Counts sizes self.old book → refusal sizes (Begun (kind_of opening)) (state_of self.old book) ≡ Some full) }
+        ensures err { OnErr result (self.new ≡ self.old) }
+        ensures same { SameBut self.old self.new }
+        ensures weight { OnOk result (innermost_weight self.new.readings.frames ≤ begun_weight opening) }
+        ensures count { OnOk result (length self.new.readings.frames ≡ length self.old.readings.frames + 1) }
+        ensures beneath { OnOk result (drop 1 self.new.readings.frames ≡ self.old.readings.frames) }
+    {
+        if let Some(full) = self.depth_refusal() {
+            return Err(full);
+        }
+        if let Err(full) = self.readings.begin(opening) {
+            return Err(full);
+        }
+        if let Err(full) = self.begin_list(opening) {
+            self.readings.end();
+            return Err(full);
+        }
+        Ok(())
+    }
+
+    /// Begins a reading with the token that the innermost one looked at, which it was fed with last.
+    ///
+    /// # Errors
+    /// There is no room for one more reading, or for its list; nothing has changed.
+    pub fn begin_with(&mut self, opening: Opening) -> Result<(), Full>
+        ensures stands { OnOk result ((sizes : Sizes) (book : Book) → Stands sizes self.old book → Stands sizes self.new (with_work (opened_with (kind_of opening) (Tok self.old.last) book.work) book)) }
+        ensures state { OnOk result ((sizes : Sizes) (book : Book) → Stands sizes self.old book → made (BegunWith (kind_of opening)) (state_of self.old book) ≡ state_of self.new (with_work (opened_with (kind_of opening) (Tok self.old.last) book.work) book)) }
+        ensures fits { OnOk result ((sizes : Sizes) (book : Book) → Counts sizes self.old book → refusal sizes (BegunWith (kind_of opening)) (state_of self.old book) ≡ None) }
+        ensures refused { IfErr result (λ full. (sizes : Sizes) (book : Book) → Counts sizes self.old book → refusal sizes (BegunWith (kind_of opening)) (state_of self.old book) ≡ Some full) }
+        ensures err { OnErr result (self.new ≡ self.old) }
+        ensures same { SameBut self.old self.new }
+        ensures weight { OnOk result (innermost_weight self.new.readings.frames ≤ begun_with_weight opening) }
+        ensures count { OnOk result (length self.new.readings.frames ≡ length self.old.readings.frames + 1) }
+        ensures beneath { OnOk result (drop 1 self.new.readings.frames ≡ self.old.readings.frames) }
+    {
+        if let Some(full) = self.depth_refusal() {
+            return Err(full);
+        }
+        let grown = match self.readings.begin_with(opening, self.last) {
+            Ok(grown) => grown,
+            Err(full) => return Err(full),
+        };
+        if let Some(full) = self.list_refusal(opening, grown) {
+            self.readings.end();
+            return Err(full);
+        }
+        self.begin_grown(opening, grown);
+        Ok(())
+    }
+
+    /// The innermost frame takes a token.
+    ///
+    /// # Errors
+    /// The main memory is full before a token that goes into its list; one in front of it may be there, and the frame stands as before.
+    pub fn feed(&mut self, x: Seen) -> Result<(), Full>
+        ensures stands { OnOk result ((sizes : Sizes) (book : Book) → Stands sizes self.old book → Stands sizes self.new (with_work (fed_with (Tok x) book.work) book)) }
+        ensures did { OnOk result ((sizes : Sizes) (w : World) (book : Book) (r : Reading) (rs : List Reading) → Stands sizes self.old (with_work (r ∷ rs) book) → Did sizes (state_of self.old (with_work (r ∷ rs) book)) (state_of self.new (with_work (fed_with (Tok x) (r ∷ rs)) book)) w w (feeds_of (r ∷ rs) x)) }
+        ensures refused { IfErr result (λ full. (sizes : Sizes) (w : World) (book : Book) (r : Reading) (rs : List Reading) → Stands sizes self.old (with_work (r ∷ rs) book) → CutsIn sizes (state_of self.old (with_work (r ∷ rs) book)) self.new w w (feeds_of (r ∷ rs) x) (broken.Full full)) }
+        ensures column { self.new.in_line ≡ self.old.in_line }
+        ensures idle { self.new.input.making ≡ self.old.input.making }
+        ensures call { self.new.call ≡ self.old.call }
+    {
+        // No more groups are open than there are words.
+        let _used = self.input.words();
+        if !self.readings.has_few_groups() {
+            return Ok(());
+        }
+        let kept = self.frame_at_risk();
+        let grown = self.readings.feed(x);
+        if let Err(full) = self.take(grown) {
+            self.readings.restore(kept);
+            return Err(full);
+        }
+        self.last = x;
+        Ok(())
+    }
+
+    /// The innermost frame goes on behind its report.
+    ///
+    /// # Errors
+    /// The main memory is full; as [`Engine::feed`].
+    pub fn note(&mut self) -> Result<(), Full>
+        ensures stands { OnOk result ((sizes : Sizes) (book : Book) → Stands sizes self.old book → Stands sizes self.new (with_work (fed_with Told book.work) book)) }
+        ensures did { OnOk result ((sizes : Sizes) (w : World) (book : Book) (r : Reading) (rs : List Reading) → Stands sizes self.old (with_work (r ∷ rs) book) → Did sizes (state_of self.old (with_work (r ∷ rs) book)) (state_of self.new (with_work (fed_with Told (r ∷ rs)) book)) w w (noting r)) }
+        ensures refused { IfErr result (λ full. (sizes : Sizes) (w : World) (book : Book) (r : Reading) (rs : List Reading) → Stands sizes self.old (with_work (r ∷ rs) book) → CutsIn sizes (state_of self.old (with_work (r ∷ rs) book)) self.new w w (noting r) (broken.Full full)) }
+        ensures weight { OnOk result (IsReported (asks_in self.old.readings.frames []) → innermost_weight self.new.readings.frames < innermost_weight self.old.readings.frames) }
+        ensures count { OnOk result (length self.new.readings.frames ≡ length self.old.readings.frames) }
+        ensures same { OnOk result (SameBut self.old self.new) }
+        ensures column { self.new.in_line ≡ self.old.in_line }
+        ensures idle { self.new.input.making ≡ self.old.input.making }
+        ensures call { self.new.call ≡ self.old.call }
+    {
+        let kept = self.frame_at_risk();
+        let grown = self.readings.told();
+        if let Err(full) = self.take(grown) {
+            self.readings.restore(kept);
+            return Err(full);
+        }
+        Ok(())
+    }
+
+    /// Ends the innermost reading with this value, with which the one beneath is fed; its list, where it has one with a token, goes there too.
+    pub fn end(&mut self, value: Value)
+        ensures stands { (sizes : Sizes) (book : Book) (r : Reading) (rs : List Reading) (back : _) → Stands sizes self.old (with_work (r ∷ rs) book) → asked self.old ≡ Some (Done value back) → Stands sizes self.new (with_work (fed_with (Val value (value_tokens value (lists r.kind r.fed))) rs) book) }
+        ensures state { (sizes : Sizes) (book : Book) (r : Reading) (rs : List Reading) (back : _) → Stands sizes self.old (with_work (r ∷ rs) book) → asked self.old ≡ Some (Done value back) → made (Ended value (value_tokens value (lists r.kind r.fed))) (state_of self.old (with_work (r ∷ rs) book)) ≡ state_of self.new (with_work (fed_with (Val value (value_tokens value (lists r.kind r.fed))) rs) book) }
+        ensures same { SameBut self.old self.new }
+        ensures weight { innermost_weight self.new.readings.frames < reading_weight + value_weight }
+        ensures count { self.new.readings.frames ≡ [] → innermost_weight self.new.readings.frames ≡ 0 }
+        ensures frames { length self.new.readings.frames ≡ length self.old.readings.frames - 1 }
+    {
+        let listed = self.readings.end();
+        let is_empty = self.is_value_empty(value, listed);
+        let kept = self.readings.feed_value(value, is_empty);
+        if listed && !kept {
+            self.drop_top();
+        }
+    }
+
+    /// Ends the innermost reading without a value; its lists go.
+    pub fn close_reading(&mut self)
+        ensures stands { (sizes : Sizes) (book : Book) (r : Reading) (rs : List Reading) → Stands sizes self.old (with_work (r ∷ rs) book) → Stands sizes self.new (with_work rs book) }
+        ensures state { (sizes : Sizes) (book : Book) (r : Reading) (rs : List Reading) → Stands sizes self.old (with_work (r ∷ rs) book) → made Closed (state_of self.old (with_work (r ∷ rs) book)) ≡ state_of self.new (with_work rs book) }
+        ensures same { SameBut self.old self.new }
+        ensures weight { innermost_weight self.new.readings.frames < reading_weight + act_weight }
+        ensures frames { length self.new.readings.frames ≡ length self.old.readings.frames - 1 }
+        ensures beneath { self.new.readings.frames ≡ drop 1 self.old.readings.frames }
+    {
+        if self.readings.end() {
+            self.drop_top();
+        }
+    }
+
+    /// Begins the list of a reading, if it has one from the beginning.
+    fn begin_list(&mut self, opening: Opening) -> Result<(), Full>
+        ensures ok { OnOk result (self.new ≡ record self.old { input = record self.old.input { builds = opened_lists opening self.old.input.builds; lists = self.new.input.lists } }) }
+        ensures fits { OnOk result (refused self.old.input.sizes (memory (length (opened_lists opening [])) (stored_words self.old.input) ∷ []) ≡ None) }
+        ensures refused { IfErr result (λ full. refused self.old.input.sizes (memory (length (opened_lists opening [])) (stored_words self.old.input) ∷ []) ≡ Some full) }
+        ensures macros { KeepsMacros self.old.input self.new.input }
+        ensures err { OnErr result (self.new ≡ self.old) }
+    {
+        match opening {
+            Opening::Reads(Kind::Text(..) | Kind::Definition(..)) | Opening::Spelling(_) => {
+                self.input.begin_list()
+            }
+            _ => {
+                // What is used of the main memory is at most its size.
+                let _used = self.input.words();
+                Ok(())
+            }
+        }
+    }
+
+    /// Why there is no room for the list of a reading, if it has one from the beginning, with these tokens.
+    fn list_refusal(&self, opening: Opening, grown: Grown) -> Option<Full>
+        ensures { result ≡ refused self.now.sizes (memory (length (opened_lists opening []) + token_count grown) (stored_words self.now.input) ∷ []) }
+    {
+        let need = list_need(opening) + token_need(grown);
+        let used = self.input.words();
+        let size = self.sizes.main_memory_size;
+        if u64::from(used) + u64::from(need) <= u64::from(size) {
+            return None;
+        }
+        Some(Full {
+            table: Table::MainMemorySize,
+            used,
+            size,
+        })
+    }
+
+    /// Begins the list of a reading, if it has one from the beginning, with these tokens. There is room for it.
+    fn begin_grown(&mut self, opening: Opening, grown: Grown)
+        ensures only { self.new ≡ record self.old { input = record self.old.input { builds = self.new.input.builds; lists = self.new.input.lists } } }
+        ensures macros { KeepsMacros self.old.input self.new.input }
+        ensures grows { (sizes : Sizes) (book : Book) → IsSound sizes self.old book.number book.macros → self.old.input.call ≡ NotCalling → HasTop opening grown → refused self.old.sizes (memory (length (opened_lists opening []) + token_count grown) (stored_words self.old.input) ∷ []) ≡ None → self.new.input.builds ≡ on_top grown (opened_lists opening self.old.input.builds) }
+    {
+        let _begun = self.begin_list(opening);
+        let _grown = self.take(grown);
+    }
+
+    /// The innermost frame, where the main memory may be full before it is fed: it has room for less than two tokens.
+    fn frame_at_risk(&self) -> Option<Frame>
+        ensures { IsKept result self.now }
+    {
+        let used = self.input.words();
+        if u64::from(used) + 2 <= u64::from(self.sizes.main_memory_size) {
+            return None;
+        }
+        self.readings.innermost()
+    }
+
+    /// The list on top gets these tokens, if there is one.
+    fn take(&mut self, grown: Grown) -> Result<(), Full>
+        ensures ok { OnOk result (self.new ≡ record self.old { input = record self.old.input { builds = with_tokens grown self.old.input.builds; lists = self.new.input.lists } }) }
+        ensures only { self.new ≡ record self.old { input = record self.old.input { builds = self.new.input.builds; lists = self.new.input.lists } } }
+        ensures macros { KeepsMacros self.old.input self.new.input }
+        ensures fits { OnOk result (TokensFit grown self.old.input) }
+        ensures err { IfErr result (λ full. TokensCut grown full self.old self.new) }
+    {
+        self.grow(grown.first)?;
+        self.grow(grown.second)?;
+        Ok(())
+    }
+
+    /// A token, if there is one, goes onto the list on top, if there is one.
+    fn grow(&mut self, token: Option<Token>) -> Result<(), Full>
+        ensures ok { OnOk result (self.new ≡ record self.old { input = record self.old.input { builds = with_token token self.old.input.builds; lists = self.new.input.lists } }) }
+        ensures macros { KeepsMacros self.old.input self.new.input }
+        ensures fits { OnOk result (IsSome token → (self.old.input.builds ≡ [] → ⊥) → refused self.old.input.sizes (memory 1 (stored_words self.old.input) ∷ []) ≡ None) }
+        ensures grows { OnErr result (IsSome token × (self.old.input.builds ≡ [] → ⊥)) }
+        ensures refused { IfErr result (λ full. refused self.old.input.sizes (memory 1 (stored_words self.old.input) ∷ []) ≡ Some full) }
+        ensures err { OnErr result (self.new ≡ self.old) }
+    {
+        match token {
+            Some(token) if self.input.has_list() => self.input.grow_list(token),
+            _ => Ok(()),
+        }
+    }
+
+    /// Whether the value of a reading has no token; the list on top may be its own.
+    fn is_value_empty(&self, value: Value, listed: bool) -> bool
+        ensures { result ≡ has_no_token (value_tokens value (listed_lists listed self.now.input.builds)) }
+    {
+        match value {
+            Value::List if listed && self.input.has_list() => self.input.is_list_empty(),
+            _ => true,
+        }
+    }
+
+    /// The list on top goes, if there is one.
+    fn drop_top(&mut self)
+        ensures after { self.new ≡ record self.old { input = record self.old.input { builds = drop 1 self.old.input.builds; lists = self.new.input.lists } } }
+        ensures macros { KeepsMacros self.old.input self.new.input }
+    {
+        if self.input.has_list() {
+            self.input.drop_list();
+        }
+    }
+}

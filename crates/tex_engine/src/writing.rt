@@ -1,0 +1,287 @@
+// What the engine writes.
+ghost use Rattle.std.specs.Prelude.{◌≡◌, ◌≤◌, ◌<◌, ℕ, length, List, [], ◌∷◌, ◌++◌, IfOk, IfErr, OnOk, None, true, false};
+ghost use Rattle.tex_syntax.specs.declared.words.Outcome.TheVariants.{AtFatal};
+ghost use Rattle.tex_syntax.specs.declared.words.Scanned.TheVariants as scanned;
+ghost use Rattle.tex_defs.specs.Places.{Transcript};
+ghost use Rattle.tex_defs.specs.declared.Sizes.{Sizes};
+ghost use Rattle.tex_defs.specs.declared.Fatal.TheVariants as fatal;
+ghost use Rattle.plain_tokens.specs.Printed.{initial_style};
+ghost use Rattle.plain_state.specs.Reports.{plain_style, report_bytes, message_bytes, error_message_bytes, runaway_bytes};
+ghost use Rattle.tex_machine.specs.States.{Move, Written};
+ghost use Rattle.tex_machine.specs.Plan.{reported, reported_as, token_line, reports_room};
+ghost use Rattle.tex_machine.specs.Does.{Did};
+ghost use Rattle.world_io.specs.Told.{FilesTold};
+ghost use Rattle.reading_frames.specs.Sees.{kept_list_of};
+ghost use Rattle.tex_engine.specs.Book.{Book};
+ghost use Rattle.tex_engine.specs.Calls.{AllStand, argument_bytes};
+ghost use Rattle.tex_engine.specs.Begins.{outcome_of_last, last_moves, last_bytes};
+ghost use Rattle.tex_engine.specs.Stands.{IsSized, SameFrames, OnlyColumn, state_of, page_of};
+ghost use Rattle.tex_engine.specs.Rules.{world_of, list_number, counted, CountsOn, Cuts, Reports, ReportsAs, Halts, DoesOnward};
+ghost use Rattle.tex_engine.specs.Steps.{IsFree};
+ghost use Rattle.tex_engine.specs.declared.outcome.Ruled.TheVariants.{Halted};
+
+use crate::broken::Broken;
+use crate::engine::Engine;
+use crate::outcome::{Last, Ruled};
+use tex_defs::{Fatal, Meaning, Sizes};
+use tex_syntax::{Outcome, Report, Scanned};
+use transcript::{
+    initial_view, put, write_error_message, write_message, write_report, write_runaway,
+    write_token_line,
+};
+use world_io::Sink;
+
+/// The reports that a run may have, but for the last.
+pub(crate) const REPORTS_ROOM: u32 = 99;
+
+impl Engine {
+    /// Writes text to the transcript.
+    pub(crate) fn write_text<S: Sink>(&mut self, out: &mut S, text: &[u8]) -> Result<(), Broken>
+        ensures did { OnOk result ((sizes : Sizes) (f : FilesTold) (book : Book) → Did sizes (state_of self.old book) (state_of self.new book) (world_of f (S.told out.old) self.old) (world_of f (S.told out.new) self.new) (Written Transcript text.now ∷ [])) }
+        ensures err { IfErr result (λ b. (sizes : Sizes) (f : FilesTold) (book : Book) (more : List Move) → Cuts sizes (state_of self.old book) self.new book (world_of f (S.told out.old) self.old) (world_of f (S.told out.new) self.new) (Written Transcript text.now ∷ more) b) }
+        ensures only { OnlyColumn self.old self.new }
+    {
+        put(out, &mut self.in_line, text)?;
+        Ok(())
+    }
+
+    /// Writes a message: the innermost of the lists that readings hold, if it is listed, and else that of no token.
+    ///
+    /// # Errors
+    /// A write failed or wanted memory: a front of the text was written.
+    pub fn write_message<S: Sink>(&mut self, out: &mut S, listed: bool) -> Result<(), Broken>
+        ensures did { OnOk result ((sizes : Sizes) (f : FilesTold) (book : Book) → Did sizes (state_of self.old book) (state_of self.new book) (world_of f (S.told out.old) self.old) (world_of f (S.told out.new) self.new) (Written Transcript (message_bytes (initial_style self.old.categories self.old.names.names) self.old.in_line (kept_list_of listed self.old.input.builds)) ∷ [])) }
+        ensures err { IfErr result (λ b. (sizes : Sizes) (f : FilesTold) (book : Book) (more : List Move) → Cuts sizes (state_of self.old book) self.new book (world_of f (S.told out.old) self.old) (world_of f (S.told out.new) self.new) (Written Transcript (message_bytes (initial_style self.old.categories self.old.names.names) self.old.in_line (kept_list_of listed self.old.input.builds)) ∷ more) b) }
+        ensures only { OnlyColumn self.old self.new }
+    {
+        let (hash, pool) = self.names.parts();
+        if listed && self.input.has_list() {
+            let (lists, list) = self.input.list();
+            let view = initial_view(lists, hash, pool, &self.categories);
+            write_message(out, &mut self.in_line, view, Some(list))?;
+        } else {
+            let view = initial_view(self.input.lists(), hash, pool, &self.categories);
+            write_message(out, &mut self.in_line, view, None)?;
+        }
+        Ok(())
+    }
+
+    /// Writes the report of such a list.
+    ///
+    /// # Errors
+    /// A write failed or wanted memory: a front of the report was written.
+    pub fn write_error_message<S: Sink>(&mut self, out: &mut S, listed: bool) -> Result<(), Broken>
+        ensures did { OnOk result ((sizes : Sizes) (f : FilesTold) (book : Book) → Did sizes (state_of self.old book) (state_of self.new book) (world_of f (S.told out.old) self.old) (world_of f (S.told out.new) self.new) (Written Transcript (error_message_bytes (initial_style self.old.categories self.old.names.names) self.old.in_line self.old.input.pending.number (kept_list_of listed self.old.input.builds)) ∷ [])) }
+        ensures err { IfErr result (λ b. (sizes : Sizes) (f : FilesTold) (book : Book) (more : List Move) → Cuts sizes (state_of self.old book) self.new book (world_of f (S.told out.old) self.old) (world_of f (S.told out.new) self.new) (Written Transcript (error_message_bytes (initial_style self.old.categories self.old.names.names) self.old.in_line self.old.input.pending.number (kept_list_of listed self.old.input.builds)) ∷ more) b) }
+        ensures only { OnlyColumn self.old self.new }
+    {
+        let line = self.input.line_number();
+        let (hash, pool) = self.names.parts();
+        if listed && self.input.has_list() {
+            let (lists, list) = self.input.list();
+            let view = initial_view(lists, hash, pool, &self.categories);
+            write_error_message(out, &mut self.in_line, view, line, Some(list))?;
+        } else {
+            let view = initial_view(self.input.lists(), hash, pool, &self.categories);
+            write_error_message(out, &mut self.in_line, view, line, None)?;
+        }
+        Ok(())
+    }
+
+    /// Writes what is shown of a text or a definition that runs away: the list of this number, the innermost being number 0.
+    pub(crate) fn write_runaway<S: Sink>(
+        &mut self,
+        out: &mut S,
+        what: Scanned,
+        number: u32,
+    ) -> Result<(), Broken>
+        requires { number < length self.old.input.builds }
+        ensures did { OnOk result ((sizes : Sizes) (f : FilesTold) (book : Book) → Did sizes (state_of self.old book) (state_of self.new book) (world_of f (S.told out.old) self.old) (world_of f (S.told out.new) self.new) (Written Transcript (runaway_bytes what (initial_style self.old.categories self.old.names.names) self.old.in_line (list_number number self.old.input.builds)) ∷ [])) }
+        ensures err { IfErr result (λ b. (sizes : Sizes) (f : FilesTold) (book : Book) (more : List Move) → Cuts sizes (state_of self.old book) self.new book (world_of f (S.told out.old) self.old) (world_of f (S.told out.new) self.new) (Written Transcript (runaway_bytes what (initial_style self.old.categories self.old.names.names) self.old.in_line (list_number number self.old.input.builds)) ∷ more) b) }
+        ensures only { OnlyColumn self.old self.new }
+    {
+        let (hash, pool) = self.names.parts();
+        let (lists, list) = self.input.list_number(number);
+        let view = initial_view(lists, hash, pool, &self.categories);
+        write_runaway(out, &mut self.in_line, view, what, list)?;
+        Ok(())
+    }
+
+    /// Writes what is shown of an argument that runs away: the list in work, if a place is reached.
+    ///
+    /// # Errors
+    /// A write failed or wanted memory: a front of the text was written.
+    pub fn write_argument<S: Sink>(&mut self, out: &mut S) -> Result<(), Broken>
+        ensures did { OnOk result ((sizes : Sizes) (f : FilesTold) (book : Book) → Did sizes (state_of self.old book) (state_of self.new book) (world_of f (S.told out.old) self.old) (world_of f (S.told out.new) self.new) (Written Transcript (argument_bytes self.old) ∷ [])) }
+        ensures err { IfErr result (λ b. (sizes : Sizes) (f : FilesTold) (book : Book) (more : List Move) → Cuts sizes (state_of self.old book) self.new book (world_of f (S.told out.old) self.old) (world_of f (S.told out.new) self.new) (Written Transcript (argument_bytes self.old) ∷ more) b) }
+        ensures only { OnlyColumn self.old self.new }
+    {
+        let (hash, pool) = self.names.parts();
+        match self.input.call_list() {
+            Some((lists, list)) => {
+                let view = initial_view(lists, hash, pool, &self.categories);
+                write_runaway(out, &mut self.in_line, view, Scanned::Use, list)?;
+                Ok(())
+            }
+            None => self.write_text(out, empty_argument(self.in_line)),
+        }
+    }
+
+    /// The line of a token that only typesetting would use.
+    ///
+    /// # Errors
+    /// A write failed or wanted memory: a front of the text was written.
+    pub fn token_line<S: Sink>(&mut self, out: &mut S, meaning: Meaning<()>) -> Result<(), Broken>
+        ensures did { OnOk result ((sizes : Sizes) (f : FilesTold) (book : Book) →
+            Did sizes (state_of self.old book) (state_of self.new book) (world_of f (S.told out.old) self.old) (world_of f (S.told out.new) self.new) (token_line (page_of self.old book) meaning)) }
+        ensures err { IfErr result (λ b. (sizes : Sizes) (f : FilesTold) (book : Book) → Cuts sizes (state_of self.old book) self.new book (world_of f (S.told out.old) self.old) (world_of f (S.told out.new) self.new) (token_line (page_of self.old book) meaning) b) }
+        ensures only { OnlyColumn self.old self.new }
+    {
+        if self.quiet {
+            return Ok(());
+        }
+        let (hash, pool) = self.names.parts();
+        let view = initial_view(self.input.lists(), hash, pool, &self.categories);
+        write_token_line(out, &mut self.in_line, view, meaning)?;
+        Ok(())
+    }
+
+    /// Writes a report on a fresh line, and counts it. Answers whether the run goes on behind it.
+    ///
+    /// # Errors
+    /// A write failed or wanted memory: a front of the report was written, which isn't counted, or the report is counted and a front of the
+    /// last line written, which comes behind the hundredth.
+    pub fn report<S: Sink>(&mut self, out: &mut S, report: Report) -> Result<bool, Broken>
+        ensures on { IfOk result (λ on. on ≡ true → (sizes : Sizes) (f : FilesTold) (book : Book) (rest : List Move) →
+            Reports sizes (state_of self.old book) (state_of self.new book) (world_of f (S.told out.old) self.old) (world_of f (S.told out.new) self.new) (page_of self.old book) report rest) }
+        ensures last { IfOk result (λ on. on ≡ false → (sizes : Sizes) (f : FilesTold) (book : Book) (rest : List Move) →
+            Halts sizes (state_of self.old book) self.new book (world_of f (S.told out.old) self.old) (world_of f (S.told out.new) self.new) (reported (page_of self.old book) report rest) (AtFatal fatal.HundredErrors) 0) }
+        ensures err { IfErr result (λ b. (sizes : Sizes) (f : FilesTold) (book : Book) (rest : List Move) → self.old.reports ≤ reports_room →
+            Cuts sizes (state_of self.old book) self.new book (world_of f (S.told out.old) self.old) (world_of f (S.told out.new) self.new) (reported (page_of self.old book) report rest) b) }
+        ensures frames { SameFrames self.old self.new }
+        ensures input { self.new.input ≡ self.old.input }
+        ensures sized { IfOk result (λ on. on ≡ true → (sizes : Sizes) → IsSized sizes self.old → IsSized sizes self.new) }
+    {
+        self.write_report(out, report)?;
+        self.count_report(out)
+    }
+
+    /// Writes the report whose text is the innermost of the lists that readings hold, if it is listed, and else that of no token, and counts it.
+    /// Answers whether the run goes on behind it.
+    ///
+    /// # Errors
+    /// As [`Engine::report`].
+    pub fn report_as<S: Sink>(&mut self, out: &mut S, listed: bool) -> Result<bool, Broken>
+        ensures on { IfOk result (λ on. on ≡ true → (sizes : Sizes) (f : FilesTold) (book : Book) (rest : List Move) →
+            ReportsAs sizes (state_of self.old book) (state_of self.new book) (world_of f (S.told out.old) self.old) (world_of f (S.told out.new) self.new) (page_of self.old book) (kept_list_of listed self.old.input.builds) rest) }
+        ensures last { IfOk result (λ on. on ≡ false → (sizes : Sizes) (f : FilesTold) (book : Book) (rest : List Move) →
+            Halts sizes (state_of self.old book) self.new book (world_of f (S.told out.old) self.old) (world_of f (S.told out.new) self.new) (reported_as (page_of self.old book) (kept_list_of listed self.old.input.builds) rest) (AtFatal fatal.HundredErrors) 0) }
+        ensures err { IfErr result (λ b. (sizes : Sizes) (f : FilesTold) (book : Book) (rest : List Move) → self.old.reports ≤ reports_room →
+            Cuts sizes (state_of self.old book) self.new book (world_of f (S.told out.old) self.old) (world_of f (S.told out.new) self.new) (reported_as (page_of self.old book) (kept_list_of listed self.old.input.builds) rest) b) }
+        ensures frames { SameFrames self.old self.new }
+        ensures input { self.new.input ≡ self.old.input }
+        ensures sized { IfOk result (λ on. on ≡ true → (sizes : Sizes) → IsSized sizes self.old → IsSized sizes self.new) }
+    {
+        self.write_error_message(out, listed)?;
+        self.count_report(out)
+    }
+
+    /// Counts a report, and writes the last line behind the hundredth. Answers whether the run goes on.
+    fn count_report<S: Sink>(&mut self, out: &mut S) -> Result<bool, Broken>
+        ensures on { IfOk result (λ on. on ≡ true → (sizes : Sizes) (f : FilesTold) (book : Book) (rest : List Move) →
+            CountsOn sizes (state_of self.old book) (state_of self.new book) (world_of f (S.told out.old) self.old) (world_of f (S.told out.new) self.new) (page_of self.old book) rest) }
+        ensures last { IfOk result (λ on. on ≡ false → (sizes : Sizes) (f : FilesTold) (book : Book) (rest : List Move) →
+            Halts sizes (state_of self.old book) self.new book (world_of f (S.told out.old) self.old) (world_of f (S.told out.new) self.new) (counted (page_of self.old book) rest) (AtFatal fatal.HundredErrors) 0) }
+        ensures err { IfErr result (λ b. (sizes : Sizes) (f : FilesTold) (book : Book) (rest : List Move) → self.old.reports ≤ reports_room →
+            Cuts sizes (state_of self.old book) self.new book (world_of f (S.told out.old) self.old) (world_of f (S.told out.new) self.new) (counted (page_of self.old book) rest) b) }
+        ensures frames { SameFrames self.old self.new }
+        ensures input { self.new.input ≡ self.old.input }
+        ensures sized { IfOk result (λ on. on ≡ true → (sizes : Sizes) → IsSized sizes self.old → IsSized sizes self.new) }
+    {
+        if self.reports < REPORTS_ROOM {
+            self.reports += 1;
+            return Ok(true);
+        }
+        self.reports = REPORTS_ROOM + 1;
+        self.write_text(out, HUNDRED_LINE)?;
+        Ok(false)
+    }
+
+    /// Writes a report.
+    fn write_report<S: Sink>(&mut self, out: &mut S, report: Report) -> Result<(), Broken>
+        ensures did { OnOk result ((sizes : Sizes) (f : FilesTold) (book : Book) → Did sizes (state_of self.old book) (state_of self.new book) (world_of f (S.told out.old) self.old) (world_of f (S.told out.new) self.new) (Written Transcript (report_bytes (plain_style self.old.names.names) self.old.in_line self.old.input.pending.number report) ∷ [])) }
+        ensures err { IfErr result (λ b. (sizes : Sizes) (f : FilesTold) (book : Book) (more : List Move) → Cuts sizes (state_of self.old book) self.new book (world_of f (S.told out.old) self.old) (world_of f (S.told out.new) self.new) (Written Transcript (report_bytes (plain_style self.old.names.names) self.old.in_line self.old.input.pending.number report) ∷ more) b) }
+        ensures only { OnlyColumn self.old self.new }
+    {
+        let line = self.input.line_number();
+        let (hash, pool) = self.names.parts();
+        let view = initial_view(self.input.lists(), hash, pool, &self.categories);
+        write_report(out, &mut self.in_line, view, line, report)?;
+        Ok(())
+    }
+
+    /// A report, behind which the rule ends.
+    ///
+    /// # Errors
+    /// As [`Engine::report`].
+    pub fn report_only<S: Sink>(&mut self, out: &mut S, report: Report) -> Result<Ruled, Broken>
+        requires idle { self.old.input.making ≡ None }
+        ensures rule { IfOk result (λ ruled. (sizes : Sizes) (f : FilesTold) (book : Book) → AllStand sizes self.old book →
+            DoesOnward sizes (state_of self.old book) self.new book (world_of f (S.told out.old) self.old) (world_of f (S.told out.new) self.new) (reported (page_of self.old book) report []) ruled) }
+        ensures err { IfErr result (λ b. (sizes : Sizes) (f : FilesTold) (book : Book) → self.old.reports ≤ reports_room →
+            Cuts sizes (state_of self.old book) self.new book (world_of f (S.told out.old) self.old) (world_of f (S.told out.new) self.new) (reported (page_of self.old book) report []) b) }
+        ensures frames { SameFrames self.old self.new }
+        ensures input { self.new.input ≡ self.old.input }
+        ensures on { IfOk result (λ ruled. IsFree ruled → ⊥) }
+        ensures idle { OnOk result (self.new.input.making ≡ None) }
+    {
+        if self.report(out, report)? {
+            Ok(Ruled::Step)
+        } else {
+            Ok(Ruled::Halted(Outcome::AtFatal(Fatal::HundredErrors)))
+        }
+    }
+
+    /// Writes what the machine writes where it stops, and ends the run.
+    ///
+    /// # Errors
+    /// A write failed or wanted memory: a front of the text was written.
+    pub fn halt<S: Sink>(&mut self, out: &mut S, last: Last) -> Result<Ruled, Broken>
+        requires idle { self.old.input.making ≡ None }
+        ensures rule { IfOk result (λ ruled. (sizes : Sizes) (f : FilesTold) (book : Book) →
+            DoesOnward sizes (state_of self.old book) self.new book (world_of f (S.told out.old) self.old) (world_of f (S.told out.new) self.new) (last_moves self.old.in_line last) ruled) }
+        ensures err { IfErr result (λ b. (sizes : Sizes) (f : FilesTold) (book : Book) → Cuts sizes (state_of self.old book) self.new book (world_of f (S.told out.old) self.old) (world_of f (S.told out.new) self.new) (last_moves self.old.in_line last) b) }
+        ensures ends { IfOk result (λ ruled. ruled ≡ Halted (outcome_of_last last)) }
+        ensures frames { SameFrames self.old self.new }
+        ensures idle { OnOk result (self.new.input.making ≡ None) }
+    {
+        self.write_text(out, last_text(self.in_line, last))?;
+        Ok(Ruled::Halted(last.outcome()))
+    }
+}
+
+/// What comes behind the hundredth report.
+const HUNDRED_LINE: &[u8] = b"(That makes 100 errors; please try again.)\n";
+
+/// The text that the machine writes where it stops.
+fn last_text(in_line: bool, last: Last) -> &'static [u8]
+    ensures { result.now ≡ last_bytes in_line last }
+{
+    match (last, in_line) {
+        (Last::End, true) => b"\n",
+        (Last::End, false) => b"",
+        (Last::NoEnd, true) => b"\n! Emergency stop.\n*** (job aborted, no legal \\end found)\n",
+        (Last::NoEnd, false) => b"! Emergency stop.\n*** (job aborted, no legal \\end found)\n",
+    }
+}
+
+/// What is shown of an argument that runs away before it has a list.
+fn empty_argument(in_line: bool) -> &'static [u8]
+    ensures { (categories : List ℕ) (names : List (List ℕ)) → result.now ≡ runaway_bytes scanned.Use (initial_style categories names) in_line [] }
+{
+    if in_line {
+        b"\nRunaway argument?\n"
+    } else {
+        b"Runaway argument?\n"
+    }
+}
