@@ -1,5 +1,5 @@
 -- A call stands as it did.
-use Rattle.std.proofs.Common.{◌≡◌, ℕ, zero, suc, List, [], ◌∷◌, length, refl, sym, ap, subst, ◌∙◌, Bool, true, false}
+use Rattle.std.proofs.Common.{◌≡◌, ℕ, zero, suc, List, [], ◌∷◌, refl, sym, ap, subst, ◌∙◌, Bool, true, false}
 use Rattle.std.specs.Prelude.{Option, Some, None, ◌||◌, ◌==◌, slice_index_or}
 use Rattle.std.proofs.lemmas.Bool.Decides.{nat_tests}
 use Rattle.std.proofs.Common.{arith}
@@ -12,19 +12,34 @@ use Rattle.tex_defs.specs.declared.Meaning.{Meaning}
 use Rattle.tex_defs.specs.declared.Meaning.TheVariants as means
 use Rattle.plain_tokens.specs.Arguments.{has_parameters}
 use Rattle.plain_tokens.specs.Meanings.{name_meaning, looked_up, location, fixed_meaning}
-use Rattle.plain_state.specs.Readings as reading
-use Rattle.plain_state.specs.States.{Reading}
+use Rattle.plain_readings.specs.Readings.{Reading, Arguments}
 use Rattle.plain_tokens.specs.Tables.{is_meant, is_put, means_macro}
 use Rattle.input_state.specs.Callings.{Calling, call_lists}
 use Rattle.input_state.specs.Macros.{list_at, is_macro}
 use Rattle.input_state.specs.Stored.{Stored}
-use Rattle.frames.specs.declared.frame.Frame.{Frame}
+use Rattle.reading_frames.specs.declared.frame.Frame.{Frame}
+use Rattle.reading_frames.specs.Stack.{Stack}
+use Rattle.reading_frames.specs.Stands as frames
+use Rattle.reading_frames.specs.Stands.{AreShallow}
 use Rattle.engine_state.specs.declared.call.Call.{Call}
 use Rattle.engine_state.specs.declared.engine.Engine.{Engine}
 use Rattle.engine_state.specs.Book.{Book}
-use Rattle.engine_state.specs.Calls.{AllStand, ReadingsStand, CallStands, CallAt, WantsToken, asks_of}
-use Rattle.engine_state.specs.Stands.{IsSound, SameFrames, SameStore}
-use Rattle.engine_state.proofs.Reporting.{frames_still}
+use Rattle.engine_state.specs.Calls.{AllStand, ReadingsStand, CallStands, CallAt, asks_of}
+use Rattle.engine_state.specs.Stands.{IsSound, FramesStand, SameReadings, SameFrames, SameStore}
+
+-- THE FRAMES
+
+-- they stand for the same readings
+pub readings_still : (e e' : Engine) (work : List Reading) → SameReadings e e' → FramesStand e work → FramesStand e' work
+readings_still e e' work same h =
+    let items : e'.readings.frames ≡ e.readings.frames = ap (λ (s : Stack). s.frames) same.readings in
+    record {
+      frames = subst (λ (l : List (List Token)). frames.FramesStand e'.readings.frames l work) (sym same.lists) (subst (λ (fs : List Frame). frames.FramesStand fs e.input.builds work) (sym items) h.frames);
+      shallow = subst (λ (l : List (List Token)). AreShallow e'.readings.frames l) (sym same.lists) (subst (λ (fs : List Frame). AreShallow fs e.input.builds) (sym items) h.shallow);
+    }
+
+pub frames_kept : (e e' : Engine) (work : List Reading) → SameFrames e e' → FramesStand e work → FramesStand e' work
+frames_kept e e' work same h = readings_still e e' work (record { readings = same.readings; lists = same.lists; call = same.call }) h
 
 -- A NAME THAT MEANS A MACRO
 
@@ -77,27 +92,22 @@ call_still e e' number c r same store h =
       outer = h.outer;
       id = h.id;
       meaning = ap (λ (cells : List (Meaning (Option ℕ))). name_meaning cells c.name) store.meanings ∙ h.meaning;
-      kind = h.kind ∙ ap (reading.Arguments c.name h.long (number h.id)) (sym list);
+      kind = h.kind ∙ ap (Arguments c.name h.long (number h.id)) (sym list);
       places = ap has_parameters list ∙ h.places;
       asked = ap (asks_of c) same ∙ h.asked;
       at = subst (λ (k : Calling). CallAt c.ask c.name h.long (list_at e'.input.lists h.id) k r.fed) (sym same)
           (subst (λ (ts : List Token). CallAt c.ask c.name h.long ts e.input.call r.fed) (sym list) h.at);
-      holds = h.holds ∙ sym (ap (λ (k : Calling). length (call_lists k)) same);
-      last = h.last;
-      not_lent = h.not_lent;
+      holds = h.holds ∙ sym (ap call_lists same);
     }
 
-wants_still : (e e' : Engine) → SameFrames e e' → WantsToken e.top e.ask → WantsToken e'.top e'.ask
-wants_still e e' same h = subst (λ (t : Option Frame). WantsToken t e'.ask) (sym same.top) (subst (WantsToken e.top) (sym same.ask) h)
-
-readings_still : (e e' : Engine) (number : ℕ → ℕ) (c : Option Call) (work : List Reading) → SameFrames e e' → SameStore e.input e'.input → ReadingsStand c e number work → ReadingsStand c e' number work
-readings_still e e' number None work same store h = (frames_still e e' work same h.0, (h.1.0, same.calling ∙ h.1.1))
-readings_still e e' number (Some c) [] same store h = h
-readings_still e e' number (Some c) (r ∷ rs) same store h = (call_still e e' number c r same.calling store h.0, (frames_still e e' rs same h.1.0, (h.1.1.0, wants_still e e' same h.1.1.1)))
+all_by : (e e' : Engine) (number : ℕ → ℕ) (c : Option Call) (work : List Reading) → SameFrames e e' → SameStore e.input e'.input → ReadingsStand c e number work → ReadingsStand c e' number work
+all_by e e' number None work same store h = (frames_kept e e' work same h.0, same.calling ∙ h.1)
+all_by e e' number (Some c) [] same store h = h
+all_by e e' number (Some c) (r ∷ rs) same store h = (call_still e e' number c r same.calling store h.0, frames_kept e e' rs same h.1)
 
 pub all_still : (sizes : Sizes) (e e' : Engine) (book : Book) → SameFrames e e' → SameStore e.input e'.input → IsSound sizes e' book.number book.macros → e'.input.making ≡ None → AllStand sizes e book → AllStand sizes e' book
 all_still sizes e e' book same store sound idle st = record {
   sound = sound;
   idle = idle;
-  all = subst (λ (c : Option Call). ReadingsStand c e' book.number book.work) (sym same.call) (readings_still e e' book.number e.call book.work same store st.all);
+  all = subst (λ (c : Option Call). ReadingsStand c e' book.number book.work) (sym same.call) (all_by e e' book.number e.call book.work same store st.all);
 }

@@ -9,7 +9,6 @@ use Rattle.tex_defs.specs.declared.Token.TheVariants as token
 use Rattle.tex_defs.specs.declared.Meaning.{Meaning}
 use Rattle.tex_defs.specs.declared.Meaning.TheVariants as means
 use Rattle.prim_table.specs.Primitives.{primitive_names, command_names, assignment_names, expandable_names, conditional_names, integer_names, dimension_names, glue_names, token_names}
-use Rattle.plain_tokens.specs.Names.{is_known}
 use Rattle.plain_tokens.specs.Tokens.{is_outer}
 use Rattle.plain_tokens.specs.Lex.{Lexeme, Character, ActiveName, SingleName, WordName, EmptyName, ParName}
 use Rattle.plain_tokens.specs.Lookup.{token_of, name_among, number_of, numbered, joins, new_among, new_name}
@@ -23,11 +22,11 @@ known : length primitive_names ≡ 186
 unfolding primitive_names command_names assignment_names expandable_names conditional_names integer_names dimension_names glue_names token_names
 known = refl
 
-first_length : length (first_meanings is_known) ≡ 514 + 186
-first_length = refl
+first_length : (is_known : ℕ → Bool) → length (first_meanings is_known) ≡ 514 + 186
+first_length is_known = refl
 
-pub first_located : (cells : List Cell) (names : List (List ℕ)) → cells ≡ first_meanings is_known → names ≡ primitive_names → length cells ≡ fixed_locations + length names
-first_located cells names c n = ap (length {A = Cell}) c ∙ first_length ∙ ap (λ (k : ℕ). 514 + k) (sym known) ∙ ap (λ (ns : List (List ℕ)). 514 + length ns) (sym n)
+pub first_located : (is_known : ℕ → Bool) (cells : List Cell) (names : List (List ℕ)) → cells ≡ first_meanings is_known → names ≡ primitive_names → length cells ≡ fixed_locations + length names
+first_located is_known cells names c n = ap (length {A = Cell}) c ∙ first_length is_known ∙ ap (λ (k : ℕ). 514 + k) (sym known) ∙ ap (λ (ns : List (List ℕ)). 514 + length ns) (sym n)
 
 -- A NAME MORE is undefined, as it was
 

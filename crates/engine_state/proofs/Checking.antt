@@ -1,234 +1,124 @@
 -- What is scanned where a check comes.
-use Rattle.std.proofs.Common.{◌≡◌, ℕ, zero, suc, List, [], ◌∷◌, ◌++◌, length, take, drop, refl, sym, ap, subst, ◌∙◌, reverse, Bool}
-use Rattle.std.proofs.lemmas.List.{take-append-drop}
-use Rattle.std.specs.Prelude.{Option, Some, None, IsSome, IfSome, MatchOption, option_to_list}
+use Rattle.std.proofs.Common.{◌≡◌, ◌≤◌, ◌<◌, ◌+◌, ℕ, List, [], ◌∷◌, ◌++◌, length, drop, refl, sym, ap, subst, ◌∙◌, Bool, true, false, arith}
+use Rattle.std.proofs.lemmas.List.{drop-drop, length-drop}
+use Rattle.std.specs.Prelude.{Option, Some, None, IsSome, IfSome, option_to_list}
 use Rattle.tex_syntax.specs.declared.words.Scanned.{Scanned}
 use Rattle.tex_syntax.specs.declared.words.Want.{Want}
 use Rattle.tex_syntax.specs.declared.words.Scanned.TheVariants as scanned
 use Rattle.tex_defs.specs.declared.Name.{Name}
 use Rattle.tex_defs.specs.declared.Sizes.{Sizes}
 use Rattle.tex_defs.specs.declared.Token.{Token}
-use Rattle.plain_state.specs.Readings as reading
-use Rattle.plain_state.specs.Readings.{Fed, list_or_none}
-use Rattle.plain_state.specs.States.{Reading}
-use Rattle.plain_machine.specs.Plan.{Scanning, scanning, scanning_kind, first_of}
+use Rattle.rows.specs.Readings.{Fed}
+use Rattle.rows.specs.Table.{reads_under_normal}
+use Rattle.plain_readings.specs.Readings.{Kind, Reading, lists}
+use Rattle.plain_readings.specs.Scanning.{Status, Scans as ScansAs, Unguarded, Inherits, command_status, status, first_of, scanned_at, unless_unguarded, innermost_scanned, Scanning, scanning}
+use Rattle.reading_frames.specs.declared.frame.Frame.{Frame}
+use Rattle.reading_frames.specs.declared.frame.Frame.TheVariants as frame
+use Rattle.reading_frames.specs.Resumes.{list_count, frame_status, built_as}
+use Rattle.reading_frames.specs.Sees.{Lists, top_list}
+use Rattle.reading_frames.specs.Stack.{Found, found_at, innermost_found, found_in, asks_in, scanning_of as scanning_found, unless_unguarded as unless_found}
+use Rattle.reading_frames.specs.Stands as frames
+use Rattle.reading_frames.proofs.Scanning.{scans}
+use Rattle.plain_machine.specs.Plan.{first_list}
 use Rattle.macro_call.specs.PlainScans.{Scan, scan_work}
 use Rattle.input_state.specs.CallFeeds.{IsTaking as IsTakingCall, call_work}
 use Rattle.input_state.specs.Callings as calls
 use Rattle.input_state.specs.Callings.{Calling, call_lists, last_first}
 use Rattle.input_state.specs.Stored.{gathered}
-use Rattle.frames.specs.Sees.{first_list}
-use Rattle.frames.specs.Resumes.{frame_kind, waiting_kind, frame_scans, beneath_scans, first_of as first_scanned, list_count, IsOpen, Owns}
-use Rattle.frames.specs.declared.outer.Beneath.{Beneath}
-use Rattle.frames.specs.declared.outer.Beneath.TheVariants as beneath
-use Rattle.frames.specs.declared.scan.Ask.{Ask}
-use Rattle.frames.specs.declared.scan.Ask.TheVariants.{More}
-use Rattle.frames.specs.declared.frame.Frame.{Frame}
-use Rattle.frames.specs.declared.frame.Frame.TheVariants as frame
-use Rattle.frames.specs.declared.frame.Waiting.{Waiting}
-use Rattle.frames.specs.declared.frame.Waiting.TheVariants as waiting
 use Rattle.engine_state.specs.declared.call.Call.{Call}
 use Rattle.engine_state.specs.declared.call.CallAsk.{CallAsk}
 use Rattle.engine_state.specs.declared.engine.Engine.{Engine}
 use Rattle.engine_state.specs.Book.{Book}
-use Rattle.engine_state.specs.Calls.{ReadingsStand, CallStands, IsTaking, HasWork, open_call}
-use Rattle.engine_state.specs.Stands.{Stands, WorkStands, OuterStand, FrameStands}
+use Rattle.engine_state.specs.Calls.{ReadingsStand, CallStands, IsTaking, HasWork, open_call, work_or_none}
+use Rattle.engine_state.specs.Stands.{Stands}
 use Rattle.engine_state.specs.Rules.{IsScanned, Scans, Takes, WantsHere, scanned_list, scanning_of}
-use Rattle.engine_state.proofs.Bare.{bare, framed}
+use Rattle.engine_state.proofs.Bare.{framed}
+use Rattle.engine_state.proofs.FramesHeld.{gathered_is}
 
 -- FRAMES
 
--- what is scanned under this name, with this list, or else what is beneath
-abbrev pub first_scan : Option (Scanned × Name) → List Token → Option Scanning → Option Scanning
-first_scan None list o = o
-first_scan (Some s) list o = Some (record { what = s.0; name = s.1; list = list })
+-- what is found among them is a text or a definition
+abbrev pub IsBuilt : (Scanned × Name × ℕ) → Type 0
+IsBuilt found = found.0 ≡ scanned.Use → ⊥
 
--- commands that wait build no list
-kind_beneath : (w : Waiting) (list : List Token) (o : Option Scanning) → scanning_kind (waiting_kind w) list o ≡ o
-kind_beneath (waiting.Catcode scan) list o = refl
-kind_beneath (waiting.Message name) list o = refl
-kind_beneath (waiting.Prefixed long outer scan) list o = refl
-kind_beneath (waiting.Define expanded scan) list o = refl
-kind_beneath waiting.Number list o = refl
+built_other : (b : Bool) → built_as b ≡ scanned.Use → ⊥
+built_other true = λ e. cc
+built_other false = λ e. cc
 
--- a frame that scans something has the first list
-by_frame : (g : Frame) (own more : List (List Token)) (o : Option Scanning) → Owns g own → scanning_kind (frame_kind g) (first_of (length own) (own ++ more)) o ≡ first_scan (frame_scans g) (first_list (own ++ more)) o
-by_frame (frame.Waits w) own more o h = kind_beneath w (first_of (length own) (own ++ more)) o
-by_frame (frame.Integer scan) own more o h = refl
-by_frame (frame.Text name scan) [] more o h = absurd cc
-by_frame (frame.Text name scan) (ts ∷ own) more o h = refl
-by_frame (frame.Definition name expanded scan) [] more o h = absurd cc
-by_frame (frame.Definition name expanded scan) (ts ∷ own) more o h = refl
+command_passes : (b : Bool) (n : ℕ) (o : Found) (P : (Scanned × Name × ℕ) → Type 0) → IfSome o P → IfSome (found_at (command_status b) n o) P
+command_passes true n o P h = h
+command_passes false n o P h = h
 
-behind_own : (own more : List (List Token)) → drop (length own) (own ++ more) ≡ more
-behind_own [] more = refl
-behind_own (ts ∷ own) more = behind_own own more
+frame_built : (f : Frame) (n : ℕ) (o : Found) → IfSome o IsBuilt → IfSome (found_at (frame_status f) n o) IsBuilt
+frame_built (frame.Command scan p) n o h = command_passes (reads_under_normal p) n o IsBuilt h
+frame_built (frame.Integer scan) n o h = h
+frame_built (frame.Build scan) n o h = built_other scan.defines
+frame_built (frame.Spelling scan) n o h = h
+frame_built (frame.Behind c x) n o h = h
 
-frame_scanning : (g : Frame) (own more : List (List Token)) (r : Reading) (rs : List Reading) → FrameStands g own r → r.holds ≡ length own →
-    scanning (r ∷ rs) (own ++ more) ≡ first_scan (frame_scans g) (first_list (own ++ more)) (scanning rs more)
-frame_scanning g own more r rs below holds =
-    ap (λ (k : reading.Kind). scanning_kind k (first_of r.holds (own ++ more)) (scanning rs (drop r.holds (own ++ more)))) below.kind
-    ∙ ap (λ (n : ℕ). scanning_kind (frame_kind g) (first_of n (own ++ more)) (scanning rs (drop n (own ++ more)))) holds
-    ∙ ap (λ (l : List (List Token)). scanning_kind (frame_kind g) (first_of (length own) (own ++ more)) (scanning rs l)) (behind_own own more)
-    ∙ by_frame g own more (scanning rs more) below.owns
+all_built : (fs : List Frame) (n : ℕ) → IfSome (innermost_found fs n) IsBuilt
+all_built [] n = tt
+all_built (f ∷ fs) n = frame_built f n (innermost_found fs (n + list_count f)) (all_built fs (n + list_count f))
 
--- where it scans nothing, it has no list
-none_owned : (g : Frame) (own : List (List Token)) → frame_scans g ≡ None → Owns g own → own ≡ []
-none_owned (frame.Waits w) own none h = h
-none_owned (frame.Integer scan) own none h = h
-none_owned (frame.Text name scan) own none h = cc
-none_owned (frame.Definition name expanded scan) own none h = cc
+guarded : (s : Status) (o : Found) (P : (Scanned × Name × ℕ) → Type 0) → IfSome o P → IfSome (unless_found s o) P
+guarded (ScansAs what name) o P h = h
+guarded Unguarded o P h = tt
+guarded Inherits o P h = h
 
-no_count : (g : Frame) → frame_scans g ≡ None → list_count g ≡ 0
-no_count (frame.Waits w) none = refl
-no_count (frame.Integer scan) none = refl
-no_count (frame.Text name scan) none = cc
-no_count (frame.Definition name expanded scan) none = cc
+found_built : (fs : List Frame) → IfSome (found_in fs) IsBuilt
+found_built [] = tt
+found_built (f ∷ fs) = guarded (frame_status f) (innermost_found (f ∷ fs) 0) IsBuilt (all_built (f ∷ fs) 0)
 
--- what the first of two scans
-scan_twice : (o p : Option (Scanned × Name)) (list more : List Token) (q : Option Scanning) → (o ≡ None → more ≡ list) → first_scan o list (first_scan p more q) ≡ first_scan (first_scanned o p) list q
-scan_twice None p list more q same = ap (λ (ts : List Token). first_scan p ts q) (same refl)
-scan_twice (Some s) p list more q same = refl
+-- and its list is held
+abbrev IsBelow : ℕ → (Scanned × Name × ℕ) → Type 0
+IsBelow m found = found.2 < m
 
-whole : (n : ℕ) (lists : List (List Token)) → take n lists ++ drop n lists ≡ lists
-whole n lists = take-append-drop n lists
+frame_held : (f : Frame) (n m : ℕ) (o : Found) → n + list_count f ≤ m → IfSome o (IsBelow m) → IfSome (found_at (frame_status f) n o) (IsBelow m)
+frame_held (frame.Command scan p) n m o le h = command_passes (reads_under_normal p) n o (IsBelow m) h
+frame_held (frame.Integer scan) n m o le h = h
+frame_held (frame.Build scan) n m o le h = omega (arith, le)
+frame_held (frame.Spelling scan) n m o le h = h
+frame_held (frame.Behind c x) n m o le h = h
 
--- the readings beneath
-outer_scanning : (k : reading.Kind) (fs : List Beneath) (lists : List (List Token)) (rs : List Reading) → OuterStand k fs lists rs → scanning rs lists ≡ first_scan (beneath_scans fs) (first_list lists) None
-outer_scanning k [] lists [] h = refl
-outer_scanning k [] lists (r ∷ rs) h = absurd h
-outer_scanning k (f ∷ fs) lists [] h = absurd h
-outer_scanning k (beneath.Waits w ∷ fs) lists (r ∷ rs) h =
-    ap (λ (j : reading.Kind). scanning_kind j (first_of r.holds lists) (scanning rs (drop r.holds lists))) h.0.1.kind
-    ∙ kind_beneath w (first_of r.holds lists) (scanning rs (drop r.holds lists))
-    ∙ ap (λ (n : ℕ). scanning rs (drop n lists)) h.0.1.none
-    ∙ outer_scanning r.kind fs lists rs h.1
-outer_scanning k (beneath.Expands f want ∷ fs) lists (r ∷ rs) h =
-    let own : List (List Token) = take (list_count f) lists in
-    let more : List (List Token) = drop (list_count f) lists in
-    let all : own ++ more ≡ lists = whole (list_count f) lists in
-    ap (λ (l : List (List Token)). scanning (r ∷ rs) l) (sym all)
-    ∙ frame_scanning f own more r rs (h.0.1.open_frame tt) h.0.1.holds
-    ∙ ap (λ (o : Option Scanning). first_scan (frame_scans f) (first_list (own ++ more)) o) (outer_scanning r.kind fs more rs h.1)
-    ∙ ap (λ (l : List (List Token)). first_scan (frame_scans f) (first_list l) (first_scan (beneath_scans fs) (first_list more) None)) all
-    ∙ scan_twice (frame_scans f) (beneath_scans fs) (first_list lists) (first_list more) None (λ none. ap (λ (n : ℕ). first_list (drop n lists)) (no_count f none))
+all_held : (fs : List Frame) (n : ℕ) (held : Lists) (work : List Reading) → n ≤ length held → frames.FramesStand fs (drop n held) work → IfSome (innermost_found fs n) (IsBelow (length held))
+all_held [] n held work le h = tt
+all_held (f ∷ fs) n held [] le h = absurd h
+all_held (f ∷ fs) n held (r ∷ rs) le h =
+    let room : n + list_count f ≤ length held = omega (arith, le, h.0.holds, length-drop n held) in
+    frame_held f n (length held) (innermost_found fs (n + list_count f)) room
+    (all_held fs (n + list_count f) held rs room (subst (λ (l : Lists). frames.FramesStand fs l rs) (drop-drop (list_count f) n held) h.1))
 
-abbrev none_list : List (List Token)
-none_list = []
+found_held : (fs : List Frame) (held : Lists) (work : List Reading) → frames.FramesStand fs held work → IfSome (found_in fs) (IsBelow (length held))
+found_held [] held work h = tt
+found_held (f ∷ fs) held work h = guarded (frame_status f) (innermost_found (f ∷ fs) 0) (IsBelow (length held)) (all_held (f ∷ fs) 0 held work (omega arith) h)
 
--- where they hold no list, they scan nothing
-none_held : (k : reading.Kind) (fs : List Beneath) (lists : List (List Token)) (rs : List Reading) → lists ≡ [] → OuterStand k fs lists rs → beneath_scans fs ≡ None
-none_held k [] lists [] none h = refl
-none_held k [] lists (r ∷ rs) none h = absurd h
-none_held k (f ∷ fs) lists [] none h = absurd h
-none_held k (beneath.Waits w ∷ fs) lists (r ∷ rs) none h = none_held r.kind fs lists rs none h.1
-none_held k (beneath.Expands f want ∷ fs) lists (r ∷ rs) none h =
-    ap (λ (o : Option (Scanned × Name)). first_scanned o (beneath_scans fs)) (bare_frame f (take (list_count f) lists) (ap (take (list_count f)) none ∙ take_none (list_count f)) (h.0.1.open_frame tt).owns)
-    ∙ none_held r.kind fs (drop (list_count f) lists) rs (ap (drop (list_count f)) none ∙ drop_none (list_count f)) h.1 where
-      bare_frame : (g : Frame) (own : List (List Token)) → own ≡ [] → Owns g own → frame_scans g ≡ None
-      bare_frame (frame.Waits w) own e o = refl
-      bare_frame (frame.Integer scan) own e o = refl
-      bare_frame (frame.Text name scan) own e o = absurd cc
-      bare_frame (frame.Definition name expanded scan) own e o = absurd cc
+top_is : (lists : Lists) → top_list lists ≡ first_list lists
+top_is [] = refl
+top_is (ts ∷ lists) = refl
 
-      take_none : (n : ℕ) → take n none_list ≡ []
-      take_none zero = refl
-      take_none (suc n) = refl
-
-      drop_none : (n : ℕ) → drop n none_list ≡ []
-      drop_none zero = refl
-      drop_none (suc n) = refl
+none_found : (fs : List Frame) (held : Lists) → asks_in fs held ≡ None → found_in fs ≡ None
+none_found [] held h = refl
+none_found (f ∷ fs) held h = absurd cc
 
 -- THE ENGINE
 
--- what the frames scan
-abbrev pub scans_of : Option Frame → List Beneath → Option (Scanned × Name)
-scans_of None outer = None
-scans_of (Some f) outer = first_scanned (frame_scans f) (beneath_scans (reverse outer))
-
-work_scanning : (t : Option Frame) (a : Ask) (want : Want) (outer : List Beneath) (lists aside : List (List Token)) (work : List Reading) → a ≡ More want → WorkStands a t outer lists aside work →
-    scanning work (lists ++ aside) ≡ first_scan (scans_of t outer) (first_list (lists ++ aside)) None
-work_scanning None a want outer lists aside [] is h = refl
-work_scanning None a want outer lists aside (r ∷ rs) is h = absurd h
-work_scanning (Some f) a want outer lists aside [] is h = absurd h
-work_scanning (Some f) a want outer lists aside (r ∷ rs) is h =
-    let below : FrameStands f lists r = h.0.open_frame (subst IsOpen (sym is) tt) in
-    frame_scanning f lists aside r rs below h.0.holds
-    ∙ ap (λ (o : Option Scanning). first_scan (frame_scans f) (first_list (lists ++ aside)) o) (outer_scanning r.kind (reverse outer) aside rs h.1)
-    ∙ scan_twice (frame_scans f) (beneath_scans (reverse outer)) (first_list (lists ++ aside)) (first_list aside) None (λ none. sym (ap (λ (l : List (List Token)). first_list (l ++ aside)) (none_owned f lists none below.owns)))
-
--- where no list is held, nothing is scanned
-work_bare : (t : Option Frame) (a : Ask) (want : Want) (outer : List Beneath) (lists aside : List (List Token)) (work : List Reading) → a ≡ More want → lists ++ aside ≡ [] → WorkStands a t outer lists aside work → scanning work (lists ++ aside) ≡ None
-work_bare None a want outer lists aside [] is none h = refl
-work_bare None a want outer lists aside (r ∷ rs) is none h = absurd h
-work_bare (Some f) a want outer lists aside [] is none h = absurd h
-work_bare (Some f) a want outer [] aside (r ∷ rs) is none h =
-    work_scanning (Some f) a want outer [] aside (r ∷ rs) is h
-    ∙ ap (λ (o : Option (Scanned × Name)). first_scan o (first_list aside) None)
-    (ap (λ (o : Option (Scanned × Name)). first_scanned o (beneath_scans (reverse outer))) (bare_top f (h.0.open_frame (subst IsOpen (sym is) tt)).owns) ∙ none_held r.kind (reverse outer) aside rs none h.1) where
-      bare_top : (g : Frame) → Owns g [] → frame_scans g ≡ None
-      bare_top (frame.Waits w) o = refl
-      bare_top (frame.Integer scan) o = refl
-      bare_top (frame.Text name scan) o = absurd cc
-      bare_top (frame.Definition name expanded scan) o = absurd cc
-work_bare (Some f) a want outer (ts ∷ lists) aside (r ∷ rs) is none h = cc
-
-work_none : (t : Option Frame) (a : Ask) (outer : List Beneath) (lists aside : List (List Token)) (work : List Reading) → t ≡ None → WorkStands a t outer lists aside work → scanning work (lists ++ aside) ≡ None
-work_none None a outer lists aside [] none h = refl
-work_none None a outer lists aside (r ∷ rs) none h = absurd h
-work_none (Some g) a outer lists aside work none h = absurd cc
-
--- frames scan texts and definitions
-abbrev pub IsListed : Option (Scanned × Name) → Type 0
-IsListed None = Unit {0}
-IsListed (Some s) = s.0 ≡ scanned.Use → ⊥
-
-listed_first : (o p : Option (Scanned × Name)) → IsListed o → IsListed p → IsListed (first_scanned o p)
-listed_first None p h i = i
-listed_first (Some s) p h i = h
-
-listed_frame : (f : Frame) → IsListed (frame_scans f)
-listed_frame (frame.Waits w) = tt
-listed_frame (frame.Integer s) = tt
-listed_frame (frame.Text name s) = λ e. cc
-listed_frame (frame.Definition name expanded s) = λ e. cc
-
-listed_beneath : (fs : List Beneath) → IsListed (beneath_scans fs)
-listed_beneath [] = tt
-listed_beneath (beneath.Waits w ∷ fs) = listed_beneath fs
-listed_beneath (beneath.Expands f want ∷ fs) = listed_first (frame_scans f) (beneath_scans fs) (listed_frame f) (listed_beneath fs)
-
-listed_all : (t : Option Frame) (outer : List Beneath) → IsListed (scans_of t outer)
-listed_all None outer = tt
-listed_all (Some f) outer = listed_first (frame_scans f) (beneath_scans (reverse outer)) (listed_frame f) (listed_beneath (reverse outer))
-
-none_open : (o : Option Frame) → o ≡ None → IsSome o → ⊥
-none_open None a b = cc
-none_open (Some f) a b = cc
-
 module _ (e : Engine) where
-  abbrev lists : List (List Token)
-  lists = e.input.builds ++ e.input.aside
+  asked_as : (s : Scanned) (k : ℕ) → (s ≡ scanned.Use → ⊥) → k < length e.input.builds → IsScanned s k e
+  asked_as scanned.Use k other some = absurd (other refl)
+  asked_as scanned.Text k other some = some
+  asked_as scanned.Definition k other some = some
 
-  asked_as : (s : Scanned) → (s ≡ scanned.Use → ⊥) → (lists ≡ [] → ⊥) → IsScanned s e
-  asked_as scanned.Use other some = absurd (other refl)
-  asked_as scanned.Text other some = some
-  asked_as scanned.Definition other some = some
-
-  -- a list is held then
-  pub frame_asked : (o : Option (Scanned × Name)) → o ≡ scans_of e.top e.outer.items → (lists ≡ [] → ⊥) → IfSome o (λ s. IsScanned s.0 e)
-  frame_asked o is some = by_listed o (subst IsListed (sym is) (listed_all e.top e.outer.items)) where
-    by_listed : (o : Option (Scanned × Name)) → IsListed o → IfSome o (λ s. IsScanned s.0 e)
-    by_listed None h = tt
-    by_listed (Some s) h = asked_as s.0 h some
+  -- what was found is built, and its list there
+  pub frame_asked : (s : Scanned × Name × ℕ) → Some s ≡ found_in e.readings.frames → s.2 < length e.input.builds → IsScanned s.0 s.2 e
+  frame_asked s is some = asked_as s.0 s.2 (subst (λ (o : Found). IfSome o IsBuilt) (sym is) (found_built e.readings.frames)) some
 
   abbrev as_scanned : Scanned → Name → List Token → Option Scanning
   as_scanned s name list = Some (record { what = s; name = name; list = list })
 
-  scan_as : (s : Scanned) (name : Name) → (s ≡ scanned.Use → ⊥) → as_scanned s name (first_list lists) ≡ as_scanned s name (scanned_list s e)
-  scan_as scanned.Use name other = absurd (other refl)
-  scan_as scanned.Text name other = refl
-  scan_as scanned.Definition name other = refl
+  scan_as : (s : Scanned) (name : Name) (k : ℕ) → (s ≡ scanned.Use → ⊥) → as_scanned s name (top_list (drop k e.input.builds)) ≡ as_scanned s name (scanned_list s k e)
+  scan_as scanned.Use name k other = absurd (other refl)
+  scan_as scanned.Text name k other = ap (as_scanned scanned.Text name) (top_is (drop k e.input.builds))
+  scan_as scanned.Definition name k other = ap (as_scanned scanned.Definition name) (top_is (drop k e.input.builds))
 
   -- without a call
   module _ (sizes : Sizes) (book : Book) (uncalled : e.call ≡ None) where
@@ -238,51 +128,41 @@ module _ (e : Engine) where
     stood : (want : Option Want) → Takes sizes want e book → Stands sizes e book
     stood want t = framed sizes e book uncalled t.1
 
-    lists_here : (want : Option Want) → Takes sizes want e book → scanning_of e book.work ≡ scanning book.work lists
-    lists_here want t = ap (scanning book.work) (bare e.input (stood want t).uncalled.input)
+    scanned_here : (want : Option Want) → Takes sizes want e book → scanning_of e book.work ≡ scanning_found e.input.builds (found_in e.readings.frames)
+    scanned_here want t =
+        let st : Stands sizes e book = stood want t in
+        ap (scanning book.work) (gathered_is e.input st.uncalled.input) ∙ scans e.readings.frames e.input.builds book.work st.readings.frames
 
-    scanned_here : (want : Want) → Takes sizes (Some want) e book → scanning_of e book.work ≡ first_scan (scans_of e.top e.outer.items) (first_list lists) None
-    scanned_here want t = lists_here (Some want) t ∙ work_scanning e.top e.ask want e.outer.items e.input.builds e.input.aside book.work (here (Some want) t) (stood (Some want) t).readings
+    wanted_some : (s : Scanned × Name × ℕ) → Some s ≡ found_in e.readings.frames → (want : Option Want) → Takes sizes want e book → IsSome want
+    wanted_some s is None t = absurd (subst (λ (o : Found). IfSome o (λ x. ⊥)) (sym (is ∙ none_found e.readings.frames e.input.builds (here None t))) tt)
+    wanted_some s is (Some want) t = refl
 
-    none_here : Takes sizes None e book → scanning_of e book.work ≡ None
-    none_here t = lists_here None t ∙ work_none e.top e.ask e.outer.items e.input.builds e.input.aside book.work (here None t) (stood None t).readings
+    pub frame_scan : (s : Scanned × Name × ℕ) → Some s ≡ found_in e.readings.frames → (want : Option Want) → Takes sizes want e book → Scans (s.0, s.1, s.2) e book × IsSome want
+    frame_scan s is want t = (
+      scanned_here want t ∙ ap (scanning_found e.input.builds) (sym is) ∙ scan_as s.0 s.1 s.2 (subst (λ (o : Found). IfSome o IsBuilt) (sym is) (found_built e.readings.frames)),
+      wanted_some s is want t,
+    )
 
-    frame_scan : (s : Scanned × Name) → Some s ≡ scans_of e.top e.outer.items → IsSome e.top → (want : Option Want) → Takes sizes want e book → Scans (s.0, s.1) e book × IsSome want
-    frame_scan s is some None t = absurd (none_open e.top (here None t) some)
-    frame_scan s is some (Some want) t =
-        (scanned_here want t ∙ ap (λ (o : Option (Scanned × Name)). first_scan o (first_list lists) None) (sym is) ∙ scan_as s.0 s.1 (subst IsListed (sym is) (listed_all e.top e.outer.items)), refl)
+    -- nothing is found
+    pub frames_skip : None ≡ found_in e.readings.frames → (want : Option Want) → Takes sizes want e book → scanning_of e book.work ≡ None
+    frames_skip is want t = scanned_here want t ∙ ap (scanning_found e.input.builds) (sym is)
 
-    pub frames_skip : None ≡ scans_of e.top e.outer.items → (want : Option Want) → Takes sizes want e book → scanning_of e book.work ≡ None
-    frames_skip is None t = none_here t
-    frames_skip is (Some want) t = scanned_here want t ∙ ap (λ (o : Option (Scanned × Name)). first_scan o (first_list lists) None) (sym is)
-
-    pub bare_skip : lists ≡ [] → (want : Option Want) → Takes sizes want e book → scanning_of e book.work ≡ None
-    bare_skip none None t = none_here t
-    bare_skip none (Some want) t = lists_here (Some want) t ∙ work_bare e.top e.ask want e.outer.items e.input.builds e.input.aside book.work (here (Some want) t) none (stood (Some want) t).readings
-
-  pub frames_scan : e.call ≡ None → (o : Option (Scanned × Name)) → o ≡ scans_of e.top e.outer.items → IsSome e.top → IfSome o (λ s. (sizes : Sizes) (book : Book) (want : Option Want) → Takes sizes want e book → Scans (s.0, s.1) e book × IsSome want)
-  frames_scan uncalled None is some = tt
-  frames_scan uncalled (Some s) is some = λ sizes book want t. frame_scan sizes book uncalled s is some want t
-
-  -- the innermost frame scans nothing
-  pub scans_beneath : (f : Frame) (o : Option (Scanned × Name)) → e.top ≡ Some f → frame_scans f ≡ None → o ≡ beneath_scans (reverse e.outer.items) → o ≡ scans_of e.top e.outer.items
-  scans_beneath f o top none is =
-      is ∙ sym (ap (λ (p : Option (Scanned × Name)). first_scanned p (beneath_scans (reverse e.outer.items))) none) ∙ sym (ap (λ (t : Option Frame). scans_of t e.outer.items) top)
-
-  pub open_top : (f : Frame) → e.top ≡ Some f → IsSome e.top
-  open_top f top = subst (λ (t : Option Frame). IsSome t) (sym top) refl
+    -- its list is always there
+    pub list_there : (s : Scanned × Name × ℕ) → Some s ≡ found_in e.readings.frames → (want : Option Want) → Takes sizes want e book → s.2 < length e.input.builds
+    list_there s is want t =
+        subst (λ (o : Found). IfSome o (IsBelow (length e.input.builds))) (sym is) (found_held e.readings.frames e.input.builds book.work (stood want t).readings.frames)
 
 -- A CALL
 
 -- its present argument is the first of its lists
-first_work : (o : Option (List Token)) (rest builds : List (List Token)) (n : ℕ) → n ≡ length (option_to_list o ++ rest) → (o ≡ None → rest ≡ []) → first_of n ((option_to_list o ++ rest) ++ builds) ≡ list_or_none o
+first_work : (o : Option (List Token)) (rest builds : List (List Token)) (n : ℕ) → n ≡ length (option_to_list o ++ rest) → (o ≡ None → rest ≡ []) → first_of n ((option_to_list o ++ rest) ++ builds) ≡ work_or_none o
 first_work (Some work) rest builds n is none = ap (λ (k : ℕ). first_of k (work ∷ (rest ++ builds))) is
 first_work None rest builds n is none = ap (λ (k : ℕ). first_of k (rest ++ builds)) (is ∙ ap (length {A = List Token}) (none refl))
 
 no_args : (scan : Scan) → HasWork scan → scan_work scan ≡ None → last_first scan.args [] ≡ []
 no_args scan h none = ap (λ (args : List (List Token)). last_first args []) (h none)
 
-taking_list : (name : Name) (long : Bool) (text : List Token) (k : Calling) (fed : List Fed) (builds : List (List Token)) (n : ℕ) → IsTaking name long text k fed → n ≡ length (call_lists k) → first_of n (call_lists k ++ builds) ≡ list_or_none (call_work k)
+taking_list : (name : Name) (long : Bool) (text : List Token) (k : Calling) (fed : List Fed) (builds : List (List Token)) (n : ℕ) → IsTaking name long text k fed → n ≡ length (call_lists k) → first_of n (call_lists k ++ builds) ≡ work_or_none (call_work k)
 taking_list name long text calls.NotCalling fed builds n h is = absurd h
 taking_list name long text (calls.Gathering m scan) fed builds n h is = first_work (scan_work scan) (last_first scan.args []) builds n is (no_args scan h.1.0)
 taking_list name long text (calls.Stopped m scan) fed builds n h is = absurd h
@@ -326,26 +206,17 @@ module _ (sizes : Sizes) (e : Engine) (c : Call) (want : Option Want) (book : Bo
   h : CallStands e book.number (open_call c.name) u.r
   h = u.readings.0
 
-  pub use_scans : Scans (scanned.Use, c.name) e book × IsSome want
+  abbrev scans_at : Kind → ℕ → Option Scanning
+  scans_at k n = unless_unguarded (status k) (scanned_at (status k) (first_of n (gathered e.input)) (innermost_scanned u.rs (drop n (gathered e.input))))
+
+  pub use_scans : Scans (scanned.Use, c.name, 0) e book × IsSome want
   use_scans = (
     ap (λ (work : List Reading). scanning work (gathered e.input)) u.work
-        ∙ ap (λ (k : reading.Kind). scanning_kind k (first_of u.r.holds (gathered e.input)) (scanning u.rs (drop u.r.holds (gathered e.input)))) h.kind
-        ∙ ap (λ (ts : List Token). Some (record { what = scanned.Use; name = c.name; list = ts })) (taking_list c.name h.long _ e.input.call u.r.fed (e.input.builds ++ e.input.aside) u.r.holds h.at h.holds),
+        ∙ ap (λ (k : Kind). scans_at k (length (lists u.r.kind u.r.fed))) h.kind
+        ∙ ap (λ (ts : List Token). Some (record { what = scanned.Use; name = c.name; list = ts }))
+        (taking_list c.name h.long _ e.input.call u.r.fed e.input.builds (length (lists u.r.kind u.r.fed)) h.at (ap (length {A = List Token}) h.holds)),
     u.wants,
   )
 
   pub use_taking : IsTakingCall e.input.call
   use_taking = is_taking c.name h.long _ e.input.call u.r.fed h.at
-
--- an answer that is told by what it is
-pub some_of : {T : Type 0} (P : Type 0) (Q R : T → Type 0) (o : Option T) → ((x : T) → Q x → R x) → MatchOption o P Q → IfSome o R
-some_of P Q R (Some x) f told = f x told
-some_of P Q R None f told = tt
-
-pub none_of : {T : Type 0} (P : Type 0) (Q : T → Type 0) (o : Option T) → o ≡ None → MatchOption o P Q → P
-none_of P Q (Some x) is told = absurd cc
-none_of P Q None is told = told
-
-pub same_some : {T : Type 0} → (o : Option T) (x y : T) (P : T → Type 0) → o ≡ Some x → o ≡ Some y → P y → P x
-same_some None x y P a b h = absurd cc
-same_some (Some z) x y P a b h = let is : y ≡ x = cc (a, b) in subst P is h

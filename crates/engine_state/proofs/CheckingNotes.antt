@@ -9,9 +9,11 @@ use Rattle.tex_defs.specs.declared.Sizes.{Sizes}
 use Rattle.tex_defs.specs.declared.Token.{Token}
 use Rattle.plain_tokens.specs.Arguments as call
 use Rattle.plain_tokens.specs.Arguments.{ParMode, Answer, arguments_in, work_in, start_of, places_of, delimiters_of, is_nil, is_some_place, is_par, has_parameters}
-use Rattle.plain_state.specs.Readings as reading
-use Rattle.plain_state.specs.Readings.{Fed, Tok, Cut, gathered_by, call_fed, call_ask, mode_of}
-use Rattle.plain_state.specs.States.{Reading, Checked, fed_with, made}
+use Rattle.rows.specs.Readings as reading
+use Rattle.rows.specs.Readings.{Fed, Tok, Cut}
+use Rattle.plain_readings.specs.Calls.{gathered, call_fed, call_ask, mode_of, arguments, work_list, argument_lists}
+use Rattle.plain_readings.specs.Readings.{Kind, Reading, Arguments, ask, lists, fed_with}
+use Rattle.plain_machine.specs.States.{Feeds, made}
 use Rattle.plain_machine.specs.Plan.{feeding, feeding_kind, argument_fed}
 use Rattle.plain_machine.specs.Does.{Did}
 use Rattle.plain_machine.proofs.Doing.{did_one}
@@ -56,10 +58,10 @@ asks_at name rest scan None is = is ∙ ap (call_ask name) (call_begins scan.mod
 asks_at name rest scan (Some s) is = refl
 
 module _ (long : Bool) (text : List Token) (scan : Scan) (fed : List Fed) (g : Gathers long text scan fed) where
-  here : gathered_by long text fed ≡ resume_scan text scan []
-  here = ap (gathered_by long text) (sym (append-nil fed)) ∙ g.goes_on []
+  here : gathered long text fed ≡ resume_scan text scan []
+  here = ap (gathered long text) (sym (append-nil fed)) ∙ g.goes_on []
 
-  cuts : (more : List Fed) → gathered_by long text (fed ++ Cut ∷ more) ≡ resume_scan text (cut_scan scan) (call_fed more)
+  cuts : (more : List Fed) → gathered long text (fed ++ Cut ∷ more) ≡ resume_scan text (cut_scan scan) (call_fed more)
   cuts more = g.goes_on (Cut ∷ more) ∙ scans_gather.cut text scan (call_fed more)
 
   -- the scanner behind it
@@ -67,32 +69,40 @@ module _ (long : Bool) (text : List Token) (scan : Scan) (fed : List Fed) (g : G
   cut_gathers = record {
     args = ap arguments_in (cuts []) ∙ checks_show.args text scan ∙ sym (ap arguments_in here) ∙ g.args;
     work = ap work_in (cuts []) ∙ checks_show.work text scan ∙ sym (ap work_in here) ∙ g.work;
-    goes_on = λ more. ap (gathered_by long text) (append_assoc fed (Cut ∷ []) more) ∙ cuts more;
+    goes_on = λ more. ap (gathered long text) (append_assoc fed (Cut ∷ []) more) ∙ cuts more;
   }
 
   -- it asks for more, as before
-  cut_ask : (name : Name) → has_parameters text ≡ true → reading.More Raw ≡ reading.arguments_ask name long text fed → reading.More Raw ≡ reading.arguments_ask name long text (fed ++ Cut ∷ [])
+  cut_ask : (name : Name) → has_parameters text ≡ true → reading.More Raw ≡ arguments name long text fed → reading.More Raw ≡ arguments name long text (fed ++ Cut ∷ [])
   cut_ask name places asked = by_fed fed here (cuts []) asked where
-    by_fed : (fed : List Fed) → gathered_by long text fed ≡ resume_scan text scan [] → gathered_by long text (fed ++ Cut ∷ []) ≡ resume_scan text (cut_scan scan) [] →
-        reading.More Raw ≡ reading.arguments_ask name long text fed → reading.More Raw ≡ reading.arguments_ask name long text (fed ++ Cut ∷ [])
+    by_fed : (fed : List Fed) → gathered long text fed ≡ resume_scan text scan [] → gathered long text (fed ++ Cut ∷ []) ≡ resume_scan text (cut_scan scan) [] →
+        reading.More Raw ≡ arguments name long text fed → reading.More Raw ≡ arguments name long text (fed ++ Cut ∷ [])
     by_fed [] now behind asked = begun_at name (mode_of long) (start_of text) (delimiters_of text) places
     by_fed (x ∷ fed) now behind asked = asks_at name (drop scan.at text) scan scan.present (asked ∙ ap (call_ask name) now) ∙ sym (ap (call_ask name) behind)
 
   -- a token that is no `\par` comes to the same
-  cut_feeds : (x : Seen) → is_par x.token ≡ false → (name : Name) (number : ℕ) → feeding_kind (reading.Arguments name long number text) (fed ++ Cut ∷ []) x ≡ feeding_kind (reading.Arguments name long number text) fed x
+  cut_feeds : (x : Seen) → is_par x.token ≡ false → (name : Name) (number : ℕ) → feeding_kind (Arguments name long number text) (fed ++ Cut ∷ []) x ≡ feeding_kind (Arguments name long number text) fed x
   cut_feeds x plain name number =
-      let after : gathered_by long text ((fed ++ Cut ∷ []) ++ Tok x ∷ []) ≡ gathered_by long text (fed ++ Tok x ∷ []) =
+      let after : gathered long text ((fed ++ Cut ∷ []) ++ Tok x ∷ []) ≡ gathered long text (fed ++ Tok x ∷ []) =
       cut_gathers.goes_on (Tok x ∷ []) ∙ checks_show.answer text scan x.token plain ∙ sym (g.goes_on (Tok x ∷ [])) in
-      let args : arguments_in (gathered_by long text (fed ++ Cut ∷ [])) ≡ arguments_in (gathered_by long text fed) = cut_gathers.args ∙ sym g.args in
-      let work : work_in (gathered_by long text (fed ++ Cut ∷ [])) ≡ work_in (gathered_by long text fed) = cut_gathers.work ∙ sym g.work in
-      ap (λ (a : Answer). argument_fed x (work_in (gathered_by long text (fed ++ Cut ∷ []))) (drop (length (arguments_in (gathered_by long text (fed ++ Cut ∷ [])))) (arguments_in a)) (work_in a)) after
-      ∙ ap (λ (o : Option (List Token)). argument_fed x o (drop (length (arguments_in (gathered_by long text (fed ++ Cut ∷ [])))) (arguments_in (gathered_by long text (fed ++ Tok x ∷ [])))) (work_in (gathered_by long text (fed ++ Tok x ∷ [])))) work
-      ∙ ap (λ (us : List (List Token)). argument_fed x (work_in (gathered_by long text fed)) (drop (length us) (arguments_in (gathered_by long text (fed ++ Tok x ∷ [])))) (work_in (gathered_by long text (fed ++ Tok x ∷ [])))) args
+      let args : arguments_in (gathered long text (fed ++ Cut ∷ [])) ≡ arguments_in (gathered long text fed) = cut_gathers.args ∙ sym g.args in
+      let work : work_in (gathered long text (fed ++ Cut ∷ [])) ≡ work_in (gathered long text fed) = cut_gathers.work ∙ sym g.work in
+      ap (λ (a : Answer). argument_fed x (work_in (gathered long text (fed ++ Cut ∷ []))) (drop (length (arguments_in (gathered long text (fed ++ Cut ∷ [])))) (arguments_in a)) (work_in a)) after
+      ∙ ap (λ (o : Option (List Token)). argument_fed x o (drop (length (arguments_in (gathered long text (fed ++ Cut ∷ [])))) (arguments_in (gathered long text (fed ++ Tok x ∷ [])))) (work_in (gathered long text (fed ++ Tok x ∷ [])))) work
+      ∙ ap (λ (us : List (List Token)). argument_fed x (work_in (gathered long text fed)) (drop (length us) (arguments_in (gathered long text (fed ++ Tok x ∷ [])))) (work_in (gathered long text (fed ++ Tok x ∷ [])))) args
+
+  -- and it holds the same lists
+  cut_lists : (name : Name) (number : ℕ) → lists (Arguments name long number text) (fed ++ Cut ∷ []) ≡ lists (Arguments name long number text) fed
+  cut_lists name number =
+      let args : arguments_in (gathered long text (fed ++ Cut ∷ [])) ≡ arguments_in (gathered long text fed) = cut_gathers.args ∙ sym g.args in
+      let work : work_in (gathered long text (fed ++ Cut ∷ [])) ≡ work_in (gathered long text fed) = cut_gathers.work ∙ sym g.work in
+      ap (λ (o : Option (List Token)). work_list o ++ argument_lists (arguments_in (gathered long text (fed ++ Cut ∷ [])))) work
+      ∙ ap (λ (us : List (List Token)). work_list (work_in (gathered long text fed)) ++ argument_lists us) args
 
 -- THE CALL
 
 abbrev pub cut_reading : Reading → Reading
-cut_reading r = record { kind = r.kind; fed = r.fed ++ Cut ∷ []; lent = false; holds = r.holds }
+cut_reading r = record { kind = r.kind; fed = r.fed ++ Cut ∷ [] }
 
 -- where it stands, by the scanner
 pub record Checks (e : Engine) (number : ℕ → ℕ) (name : Name) (r : Reading) (k : Calling) : Type 0 where
@@ -102,19 +112,19 @@ pub record Checks (e : Engine) (number : ℕ → ℕ) (name : Name) (r : Reading
 
 checks : (e : Engine) (number : ℕ → ℕ) (name : Name) (r : Reading) → CallStands e number (open_call name) r → Checks e number name r e.input.call
 checks e number name r h = by_calling e.input.call h.at h.asked h.holds where
-  by_calling : (k : Calling) → IsTaking name h.long (list_at e.input.lists h.id) k r.fed → reading.More Raw ≡ reading.ask r.kind r.fed → r.holds ≡ length (call_lists k) → Checks e number name r k
-  by_calling calls.NotCalling where_it ask holds = absurd where_it
-  by_calling (calls.Stopped n scan) where_it ask holds = absurd where_it
-  by_calling (calls.Gathered n args) where_it ask holds = absurd where_it
-  by_calling (calls.Gathering n scan) where_it ask holds =
+  by_calling : (k : Calling) → IsTaking name h.long (list_at e.input.lists h.id) k r.fed → reading.More Raw ≡ ask r.kind r.fed → lists r.kind r.fed ≡ call_lists k → Checks e number name r k
+  by_calling calls.NotCalling where_it wanted holds = absurd where_it
+  by_calling (calls.Stopped n scan) where_it wanted holds = absurd where_it
+  by_calling (calls.Gathered n args) where_it wanted holds = absurd where_it
+  by_calling (calls.Gathering n scan) where_it wanted holds =
       let ts : List Token = list_at e.input.lists h.id in
       let g : Gathers h.long ts scan r.fed = where_it.1.1 in
       record {
         lists = refl;
         feeds = λ x plain.
-            ap (λ (k : reading.Kind). feeding_kind k (r.fed ++ Cut ∷ []) x) h.kind
+            ap (λ (k : Kind). feeding_kind k (r.fed ++ Cut ∷ []) x) h.kind
             ∙ cut_feeds h.long ts scan r.fed g x plain name (number h.id)
-            ∙ sym (ap (λ (k : reading.Kind). feeding_kind k r.fed x) h.kind);
+            ∙ sym (ap (λ (k : Kind). feeding_kind k r.fed x) h.kind);
         stands = λ e' is. subst (λ (y : Engine). CallStands y number (open_call name) (cut_reading r)) (sym is) (record {
           long = h.long;
           outer = h.outer;
@@ -122,11 +132,10 @@ checks e number name r h = by_calling e.input.call h.at h.asked h.holds where
           meaning = h.meaning;
           kind = h.kind;
           places = h.places;
-          asked = cut_ask h.long ts scan r.fed g name h.places (ask ∙ ap (λ (k : reading.Kind). reading.ask k r.fed) h.kind) ∙ ap (λ (k : reading.Kind). reading.ask k (r.fed ++ Cut ∷ [])) (sym h.kind);
+          asked = cut_ask h.long ts scan r.fed g name h.places (wanted ∙ ap (λ (k : Kind). ask k r.fed) h.kind) ∙ ap (λ (k : Kind). ask k (r.fed ++ Cut ∷ [])) (sym h.kind);
           at = (where_it.0, (where_it.1.0, cut_gathers h.long ts scan r.fed g));
-          holds = holds;
-          last = tt;
-          not_lent = refl;
+          holds =
+              ap (λ (k : Kind). lists k (r.fed ++ Cut ∷ [])) h.kind ∙ cut_lists h.long ts scan r.fed g name (number h.id) ∙ ap (λ (k : Kind). lists k r.fed) (sym h.kind) ∙ holds;
         });
       }
 
@@ -142,21 +151,21 @@ module _ (sizes : Sizes) (e e2 : Engine) (book : Book) (name : Name) (r : Readin
 
   pub noted_stands : AllStand sizes e2 (with_work now book)
   noted_stands = record {
-    sound = sound_still sizes e e2 book.number book.macros (ap (λ (y : Engine). y.sizes) after) (ap (λ (y : Engine). y.outer.size) after) (ap (λ (y : Engine). y.names) after) (ap (λ (y : Engine). y.reports) after)
+    sound = sound_still sizes e e2 book.number book.macros (ap (λ (y : Engine). y.sizes) after) (ap (λ (y : Engine). y.readings.size) after) (ap (λ (y : Engine). y.names) after) (ap (λ (y : Engine). y.reports) after)
         (store_scan e.input e2.input (with_scan cut_scan e.input.call) (ap (λ (y : Engine). y.input) after)) st.sound;
     idle = ap (λ (y : Engine). y.input.making) after ∙ st.idle;
     all = subst (λ (y : Engine). ReadingsStand y.call y book.number now) (sym after)
-        (subst (λ (o : _). ReadingsStand o (record e { input = record e.input { call = with_scan cut_scan e.input.call } }) book.number now) (sym is) (c.stands _ refl, (k.1.0, (k.1.1.0, k.1.1.1))));
+        (subst (λ (o : _). ReadingsStand o (record e { input = record e.input { call = with_scan cut_scan e.input.call } }) book.number now) (sym is) (c.stands _ refl, record { frames = k.1.frames; shallow = k.1.shallow }));
   }
 
-  made_now : made Checked (state_of e book) ≡ state_of e2 (with_work now book)
+  made_now : made (Feeds Cut) (state_of e book) ≡ state_of e2 (with_work now book)
   made_now =
       ap (λ (rs : List Reading). record (state_of e book) { work = fed_with Cut rs }) work
-      ∙ ap (λ (l : List (List Token)). record (state_of e book) { work = now; gathered = l ++ (e.input.builds ++ e.input.aside) }) (sym c.lists)
+      ∙ ap (λ (l : List (List Token)). record (state_of e book) { work = now; gathered = l ++ e.input.builds }) (sym c.lists)
       ∙ ap (λ (y : Engine). state_of y (with_work now book)) (sym after)
 
-  pub noted_did : (f : FilesTold) (s : SinkTold) → Did sizes (state_of e book) (state_of e2 (with_work now book)) (world_of f s e) (world_of f s e2) (Checked ∷ [])
-  noted_did f s = did_one sizes Checked _ _ _ _ refl made_now (quiet_wrote Checked f s e.in_line e2.in_line tt (ap (λ (y : Engine). y.in_line) after))
+  pub noted_did : (f : FilesTold) (s : SinkTold) → Did sizes (state_of e book) (state_of e2 (with_work now book)) (world_of f s e) (world_of f s e2) (Feeds Cut ∷ [])
+  noted_did f s = did_one sizes (Feeds Cut) _ _ _ _ refl made_now (quiet_wrote (Feeds Cut) f s e.in_line e2.in_line tt (ap (λ (y : Engine). y.in_line) after))
 
   pub noted_feeds : (x : Seen) → is_par x.token ≡ false → feeding (cut_reading r) x ≡ feeding r x
   noted_feeds x plain = c.feeds x plain

@@ -8,7 +8,7 @@ use Rattle.tex_defs.specs.declared.Fatal.TheVariants.{HundredErrors}
 use Rattle.tex_defs.specs.declared.Seen.{Seen}
 use Rattle.tex_defs.specs.declared.Sizes.{Sizes}
 use Rattle.tex_defs.specs.Places.{World}
-use Rattle.plain_state.specs.States.{State, Move}
+use Rattle.plain_machine.specs.States.{State, Move}
 use Rattle.plain_machine.specs.Does.{Did}
 use Rattle.plain_machine.specs.Runs.{steps}
 use Rattle.plain_machine.proofs.Doing.{did_join}

@@ -1,88 +1,52 @@
 -- The engine's tables count as the machine's.
-use Rattle.std.proofs.Common.{◌≡◌, ℕ, ◌+◌, ◌<◌, ◌≤◌, List, [], ◌∷◌, ◌++◌, length, refl, sym, ap, ◌∙◌, reverse, take, drop, arith}
-use Rattle.std.specs.Prelude.{Option, Some, None, IsSome, Bool, true, false, nat_le, if◌then◌else◌}
-use Rattle.std.proofs.lemmas.List.{length-reverse}
+use Rattle.std.proofs.Common.{◌≡◌, ℕ, ◌+◌, ◌<◌, ◌≤◌, List, [], ◌∷◌, ◌++◌, length, refl, ap, ◌∙◌, take, arith}
+use Rattle.std.specs.Prelude.{Option, Some, None, Bool, true, false, nat_le, if◌then◌else◌}
 use Rattle.tex_defs.specs.declared.Token.{Token}
 use Rattle.std.proofs.lemmas.Bool.Decides.{nat_tests}
 use Rattle.tex_defs.specs.declared.Sizes.{Sizes}
 use Rattle.tex_defs.specs.declared.Table.TheVariants.{ExpansionDepth, DelayedWrites}
 use Rattle.tex_defs.specs.Sizes.{first_out_of_range, first_out_among, is_in_range, size_of, tables}
 use Rattle.tex_defs.specs.declared.Table.{Table}
-use Rattle.plain_state.specs.States.{Reading, Begun}
-use Rattle.plain_state.specs.Readings.{Kind, own_lists}
-use Rattle.plain_tokens.specs.Tables.{memory, lists_words, refused}
-use Rattle.plain_state.specs.Demands.{refusal, words}
-use Rattle.input_state.specs.Stored.{Stored, words as stored_words}
 use Rattle.tex_defs.specs.declared.Full.{Full}
-use Rattle.frames.specs.declared.scan.Ask.{Ask}
-use Rattle.frames.specs.declared.frame.Frame.{Frame}
-use Rattle.frames.specs.declared.frame.Waiting.{Waiting}
-use Rattle.frames.specs.declared.outer.Beneath.{Beneath}
-use Rattle.frames.specs.declared.outer.Beneath.TheVariants as beneath
-use Rattle.frames.specs.Resumes.{list_count}
+use Rattle.rows.specs.Readings.{Tok}
+use Rattle.plain_readings.specs.Readings.{Kind, Reading, lists}
+use Rattle.plain_tokens.specs.Tables.{memory, lists_words, refused}
+use Rattle.reading_frames.specs.declared.frame.Frame.{Frame}
+use Rattle.reading_frames.specs.Resumes.{below}
+use Rattle.reading_frames.specs.Sees.{Lists}
+use Rattle.reading_frames.specs.Stands as frames
+use Rattle.plain_machine.specs.States.{Begun, BegunWith}
+use Rattle.plain_machine.specs.Demands.{refusal}
+use Rattle.input_state.specs.Stored.{Stored, words as stored_words}
+use Rattle.engine_state.specs.declared.call.Call.{Call}
 use Rattle.engine_state.specs.declared.engine.Engine.{Engine}
 use Rattle.engine_state.specs.Book.{Book}
-use Rattle.engine_state.specs.Stands.{Stands, Waits, WaitsFirst, WaitsWith, WorkStands, WaitStands, OuterStand, IsSound, Counts, state_of, frames, top_count, call_count, depth_full}
-use Rattle.engine_state.proofs.Storing.{words_are}
+use Rattle.engine_state.specs.Calls.{AllStand, ReadingsStand}
+use Rattle.engine_state.specs.Stands.{Stands, Counts, state_of, depth, call_count, depth_full}
+use Rattle.engine_state.proofs.Bare.{all_of}
+use Rattle.engine_state.proofs.Storing.{words_more}
 
-pub outer_depth : (k : Kind) (fs : List Beneath) (lists : List (List Token)) (rs : List Reading) → OuterStand k fs lists rs → length rs ≡ length fs
-outer_depth k [] lists [] h = refl
-outer_depth k [] lists (r ∷ rs) h = absurd h
-outer_depth k (f ∷ fs) lists [] h = absurd h
-outer_depth k (beneath.Waits w ∷ fs) lists (r ∷ rs) h = omega (arith, outer_depth r.kind fs lists rs h.1)
-outer_depth k (beneath.Expands f want ∷ fs) lists (r ∷ rs) h = omega (arith, outer_depth r.kind fs (drop (list_count f) lists) rs h.1)
+pub frames_depth : (fs : List Frame) (held : Lists) (work : List Reading) → frames.FramesStand fs held work → length work ≡ length fs
+frames_depth [] held [] h = refl
+frames_depth [] held (r ∷ rs) h = absurd h
+frames_depth (f ∷ fs) held [] h = absurd h
+frames_depth (f ∷ fs) held (r ∷ rs) h = omega (arith, frames_depth fs (below f held) rs h.1)
 
-top_depth : (r : Reading) (outer : List Beneath) (lists : List (List Token)) (rs : List Reading) → OuterStand r.kind (reverse outer) lists rs → length (r ∷ rs) ≡ length outer + 1
-top_depth r outer lists rs o = omega (arith, outer_depth r.kind (reverse outer) lists rs o, length-reverse outer)
+-- a call counts
+count_by : (e : Engine) (number : ℕ → ℕ) (c : Option Call) (work : List Reading) → ReadingsStand c e number work → length work ≡ length e.readings.frames + call_count c
+count_by e number None work h = omega (arith, frames_depth e.readings.frames e.input.builds work h.0.frames)
+count_by e number (Some c) [] h = absurd h
+count_by e number (Some c) (r ∷ rs) h = omega (arith, frames_depth e.readings.frames e.input.builds rs h.1.frames)
 
-pub work_depth : (a : Ask) (t : Option Frame) (outer : List Beneath) (lists aside : List (List Token)) (work : List Reading) → WorkStands a t outer lists aside work → length work ≡ length outer + top_count t
-work_depth a None outer lists aside [] h = omega (arith, ap (length {A = Beneath}) h.0)
-work_depth a None outer lists aside (r ∷ rs) h = absurd h
-work_depth a (Some f) outer lists aside [] h = absurd h
-work_depth a (Some f) outer lists aside (r ∷ rs) h = top_depth r outer aside rs h.1
-
-wait_depth : (t : Option Frame) (outer : List Beneath) (lists aside : List (List Token)) (work : List Reading) → WaitStands t outer lists aside work → length work ≡ length outer + top_count t
-wait_depth None outer lists aside [] h = omega (arith, ap (length {A = Beneath}) h.0)
-wait_depth None outer lists aside (r ∷ rs) h = absurd h
-wait_depth (Some f) outer lists aside [] h = absurd h
-wait_depth (Some f) outer lists aside (r ∷ rs) h = top_depth r outer aside rs h.1.1
-
--- no call counts
-uncounted : (e : Engine) (n : ℕ) → e.call ≡ None → n ≡ length e.outer.items + top_count e.top → n ≡ frames e
-uncounted e n none h = omega (arith, h, ap call_count none)
+pub call_counts : (sizes : Sizes) (e : Engine) (book : Book) → AllStand sizes e book → Counts sizes e book
+call_counts sizes e book st = record { sound = st.sound; depth = count_by e book.number e.call book.work st.all }
 
 pub counts_of : (sizes : Sizes) (e : Engine) (book : Book) → Stands sizes e book → Counts sizes e book
-counts_of sizes e book h = record {
-  sound = h.sound;
-  depth = uncounted e (length book.work) h.uncalled.none (work_depth e.ask e.top e.outer.items e.input.builds e.input.aside book.work h.readings);
-}
-
-pub waits_count : (sizes : Sizes) (e : Engine) (book : Book) → Waits sizes e book → Counts sizes e book
-waits_count sizes e book h = record {
-  sound = h.sound;
-  depth = uncounted e (length book.work) h.uncalled.none (wait_depth e.top e.outer.items e.input.builds e.input.aside book.work h.readings);
-}
-
-open_count : (t : Option Frame) → IsSome t → top_count t ≡ 1
-open_count None h = cc
-open_count (Some f) h = refl
-
--- a command waits in place of the innermost reading
-pub inner_count : (sizes : Sizes) (e : Engine) (waiting : Waiting) (book : Book) → IsSome e.top → WaitsWith sizes e (Some waiting) book → Counts sizes e book
-inner_count sizes e waiting book o h = record { sound = h.sound; depth = uncounted e (length book.work) h.uncalled.none (at book.work h.readings) } where
-  at : (work : List Reading) → WaitsFirst e waiting work → length work ≡ length e.outer.items + top_count e.top
-  at [] w = absurd w
-  at (r ∷ rs) w = top_depth r e.outer.items e.input.aside rs w.1 ∙ ap (λ (n : ℕ). length e.outer.items + n) (sym (open_count e.top o))
+counts_of sizes e book st = call_counts sizes e book (all_of sizes e book st)
 
 pub none_of : {A : Type 0} → (o : Option A) → ((x : A) → o ≡ Some x → ⊥) → o ≡ None
 none_of None h = refl
 none_of (Some x) h = absurd (h x refl)
-
--- so many words more, by the machine and by the input
-pub words_more : (sizes : Sizes) (e : Engine) (book : Book) (need : ℕ) (o : Option Full) → IsSound sizes e book.number book.macros →
-    refused e.input.sizes (memory need (stored_words e.input) ∷ []) ≡ o → refused sizes (memory need (words (state_of e book)) ∷ []) ≡ o
-words_more sizes e book need o sound h =
-    ap (λ (n : ℕ). refused sizes (memory need n ∷ [])) (words_are sizes e book sound) ∙ (ap (λ (s : Sizes). refused s (memory need (stored_words e.input) ∷ [])) (sym sound.sized.input) ∙ h)
 
 -- one reading more
 pub has_room : (used size : ℕ) → used < size → None ≡ depth_full used size
@@ -108,14 +72,18 @@ small_depth sizes h =
     grind (arith, nat_tests, k)
 
 -- one reading more, by the machine and by the engine
-pub begun_refusal : (sizes : Sizes) (e : Engine) (book : Book) (k : Kind) (o : Option Full) → Counts sizes e book → frames e < e.outer.size →
-    refused e.input.sizes (memory (lists_words (own_lists k)) (stored_words e.input) ∷ []) ≡ o → refusal sizes (Begun k) (state_of e book) ≡ o
-begun_refusal sizes e book k o counts room h =
-    let within : nat_le (length book.work + 1) sizes.expansion_depth ≡ true = grind (arith, nat_tests, counts.depth, counts.sound.sized.outer, room) in
-    rw within (words_more sizes e book (lists_words (own_lists k)) o counts.sound h)
+module _ (sizes : Sizes) (e : Engine) (book : Book) (k : Kind) (o : Option Full) (counts : Counts sizes e book) (room : depth e < e.readings.size) where
+  within : nat_le (length book.work + 1) sizes.expansion_depth ≡ true
+  within = grind (arith, nat_tests, counts.depth, counts.sound.sized.readings, room)
+
+  pub begun_refusal : refused e.input.sizes (memory (lists_words (lists k [])) (stored_words e.input) ∷ []) ≡ o → refusal sizes (Begun k) (state_of e book) ≡ o
+  begun_refusal h = rw within (words_more sizes e book (lists_words (lists k [])) o counts.sound h)
+
+  pub begun_with_refusal : refused e.input.sizes (memory (lists_words (lists k (Tok e.last ∷ []))) (stored_words e.input) ∷ []) ≡ o → refusal sizes (BegunWith k) (state_of e book) ≡ o
+  begun_with_refusal h = rw within (words_more sizes e book (lists_words (lists k (Tok e.last ∷ []))) o counts.sound h)
 
 -- a reading without a list asks for no word
-pub bare_room : (i : Stored) (k : Kind) → own_lists k ≡ [] → stored_words i ≤ i.sizes.main_memory_size → refused i.sizes (memory (lists_words (own_lists k)) (stored_words i) ∷ []) ≡ None
-bare_room i k none within =
+pub bare_room : (i : Stored) (lists : List (List Token)) → lists ≡ [] → stored_words i ≤ i.sizes.main_memory_size → refused i.sizes (memory (lists_words lists) (stored_words i) ∷ []) ≡ None
+bare_room i lists none within =
     let fits : nat_le (stored_words i + 0) i.sizes.main_memory_size ≡ true = grind (arith, nat_tests, within) in
     ap (λ (l : List (List Token)). refused i.sizes (memory (lists_words l) (stored_words i) ∷ [])) none ∙ rw fits refl

@@ -4,8 +4,8 @@ use Rattle.std.specs.Prelude.{Bool, Some}
 use Rattle.tex_defs.specs.declared.Sizes.{Sizes}
 use Rattle.tex_defs.specs.declared.Full.{Full}
 use Rattle.tex_defs.specs.Places.{World, Place, Transcript, OfFile, grown}
-use Rattle.plain_state.specs.States.{State, Move, Written}
-use Rattle.plain_state.specs.Demands.{refusal}
+use Rattle.plain_machine.specs.States.{State, Move, Written}
+use Rattle.plain_machine.specs.Demands.{refusal}
 use Rattle.plain_machine.specs.Runs.{Wrote, after}
 use Rattle.plain_machine.specs.Does.{Did, IsFault, IsWant}
 use Rattle.plain_machine.proofs.Doing.{did_one, cut_first, cut_later, cut_in, cut_full}
@@ -54,7 +54,7 @@ wrote_out f s s' b b' bs h = record {
 
 -- the engine's state behind a text, and behind a front of it
 column_state : (e e' : Engine) (book : Book) → OnlyColumn e e' → record (state_of e book) { in_line = e'.in_line } ≡ state_of e' book
-column_state e e' book only = cc (only.input, only.names, only.categories, only.reports, only.quiet)
+column_state e e' book only = ap (λ (x : Engine). state_of x book) (sym only.same)
 
 module _ (sizes : Sizes) (f : FilesTold) (s s' : SinkTold) (e e' : Engine) (book : Book) (only : OnlyColumn e e') where
   pub did_out : (text : List ℕ) → Took s s' e.in_line e'.in_line text → Did sizes (state_of e book) (state_of e' book) (world_of f s e) (world_of f s' e') (Written Transcript text ∷ [])

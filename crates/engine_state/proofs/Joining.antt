@@ -1,10 +1,10 @@
 -- What the engine does, one thing after another.
 use Rattle.std.proofs.Common.{◌≡◌, ℕ, ◌+◌, ◌≤◌, List, [], ◌∷◌, ◌++◌, refl, sym, ◌∙◌, subst, Bool, arith}
-use Rattle.std.specs.Prelude.{Result, Ok, Err, IfOk, IfErr, OnOk, OnErr, IsErrAnd}
+use Rattle.std.specs.Prelude.{Result, Ok, Err, IfOk, IfErr, OnOk, OnErr, IsErrAnd, MatchBool, true, false}
 use Rattle.tex_syntax.specs.declared.words.Outcome.{Outcome}
 use Rattle.tex_defs.specs.declared.Sizes.{Sizes}
 use Rattle.tex_defs.specs.Places.{World}
-use Rattle.plain_state.specs.States.{State, Move, Handed, Written}
+use Rattle.plain_machine.specs.States.{State, Move, Handed, Written}
 use Rattle.plain_machine.specs.Plan.{reports_room}
 use Rattle.plain_machine.specs.Runs.{Wrote, steps}
 use Rattle.plain_machine.specs.Does.{Did}
@@ -50,6 +50,11 @@ skip_onward sizes e book w stands = record { book' = book; stands = stands; did 
 -- the world that is told when the column stays
 pub column_went : (sizes : Sizes) (st : State) (e' : Engine) (f : FilesTold) (s : SinkTold) (b : Bool) (ms : List Move) (k : ℕ) → e'.in_line ≡ b → Went sizes st e' (world f s b) (world f s b) ms k → Went sizes st e' (world f s b) (world_of f s e') ms k
 column_went sizes st e' f s b ms k is h = subst (λ (x : Bool). Went sizes st e' (world f s b) (world f s x) ms k) (sym is) h
+
+-- of two facts that which holds
+pub when_true : (P Q : Type 0) → (b : Bool) → b ≡ true → MatchBool b P Q → P
+when_true P Q true is h = h
+when_true P Q false is h = cc
 
 -- an error that `?` hands on
 pub same_err : {T E : Type 0} → (r : Result T E) (x : E) (P : E → Type 0) → IsErrAnd r (λ e. e ≡ x) → P x → IfErr r P

@@ -4,44 +4,41 @@ use Rattle.std.specs.Prelude.{Bool, Option, Some, None}
 use Rattle.tex_defs.specs.declared.Sizes.{Sizes}
 use Rattle.tex_defs.specs.declared.Token.{Token}
 use Rattle.tex_defs.specs.Places.{World}
-use Rattle.plain_state.specs.States.{State, Reading, Move}
+use Rattle.plain_readings.specs.Readings.{Reading}
+use Rattle.plain_machine.specs.States.{State, Move}
 use Rattle.plain_machine.specs.Does.{Did}
 use Rattle.world_io.specs.Told.{FilesTold, SinkTold, world}
 use Rattle.input_state.specs.Callings.{Calling}
-use Rattle.frames.specs.declared.scan.Ask.{Ask}
-use Rattle.frames.specs.declared.frame.Frame.{Frame}
-use Rattle.frames.specs.declared.outer.Beneath.{Beneath}
+use Rattle.reading_frames.specs.Stack.{Stack}
+use Rattle.reading_frames.specs.Stands as frames
+use Rattle.reading_frames.specs.declared.frame.Frame.{Frame}
 use Rattle.engine_state.specs.declared.broken.Broken.{Broken}
 use Rattle.engine_state.specs.declared.call.Call.{Call}
 use Rattle.engine_state.specs.declared.engine.Engine.{Engine}
 use Rattle.engine_state.specs.Book.{Book}
 use Rattle.engine_state.specs.Calls.{AllStand, ReadingsStand}
-use Rattle.engine_state.specs.Near.{AsFed, CallNear, FramesIn, FramesNear, CutsIn, MayLead}
+use Rattle.engine_state.specs.Near.{AsFed, CallNear, FramesIn, FramesNear, CutsIn}
 use Rattle.engine_state.specs.Rules.{world_of, Cuts}
-use Rattle.engine_state.specs.Stands.{Stands, FramesStand, WorkStands, SameFrames, state_of}
+use Rattle.engine_state.specs.Stands.{Stands, FramesStand, SameFrames, state_of}
 use Rattle.engine_state.proofs.Bare.{all_of, call_reads}
 use Rattle.engine_state.proofs.Cutting.{first_cuts, later_cuts}
 
 -- THE OPEN READINGS
 
 frames_at : (b : Broken) (e : Engine) (number : ℕ → ℕ) (c : Option Call) (work : List Reading) → ReadingsStand c e number work → FramesIn b c e e.input.builds work
-frames_at b e number None work h = h.0
+frames_at b e number None work h = h.0.frames
 frames_at b e number (Some c) [] h = h
-frames_at b e number (Some c) (r ∷ rs) h = (AsFed (call_reads e number c r h.0), h.1.0)
+frames_at b e number (Some c) (r ∷ rs) h = (AsFed (call_reads e number c r h.0), h.1.frames)
 
 pub near_all : (sizes : Sizes) (b : Broken) (e : Engine) (book : Book) → AllStand sizes e book → FramesNear b e book.work
 near_all sizes b e book st = record { lists = e.input.builds; front = None; grown = refl; leads = tt; stand = frames_at b e book.number e.call book.work st.all }
 
 -- where no call gathers its arguments
 pub near_none : (b : Broken) (e : Engine) (work : List Reading) → e.call ≡ None → FramesStand e work → FramesNear b e work
-near_none b e work none h = record { lists = e.input.builds; front = None; grown = refl; leads = tt; stand = subst (λ (c : Option Call). FramesIn b c e e.input.builds work) (sym none) h }
+near_none b e work none h = record { lists = e.input.builds; front = None; grown = refl; leads = tt; stand = subst (λ (c : Option Call). FramesIn b c e e.input.builds work) (sym none) h.frames }
 
-work_still : (e e' : Engine) (lists : List (List Token)) (work : List Reading) → SameFrames e e' → WorkStands e.ask e.top e.outer.items lists e.input.aside work → WorkStands e'.ask e'.top e'.outer.items lists e'.input.aside work
-work_still e e' lists work same h =
-    subst (λ (x : List (List Token)). WorkStands e'.ask e'.top e'.outer.items lists x work) (sym same.aside)
-    (subst (λ (x : List Beneath). WorkStands e'.ask e'.top x lists e.input.aside work) (sym (ap (λ (o : _). o.items) same.outer))
-    (subst (λ (x : Option Frame). WorkStands e'.ask x e.outer.items lists e.input.aside work) (sym same.top)
-    (subst (λ (x : Ask). WorkStands x e.top e.outer.items lists e.input.aside work) (sym same.ask) h)))
+work_still : (e e' : Engine) (lists : List (List Token)) (work : List Reading) → SameFrames e e' → frames.FramesStand e.readings.frames lists work → frames.FramesStand e'.readings.frames lists work
+work_still e e' lists work same h = subst (λ (x : List Frame). frames.FramesStand x lists work) (sym (ap (λ (r : Stack). r.frames) same.readings)) h
 
 in_still : (b : Broken) (e e' : Engine) (c : Option Call) (lists : List (List Token)) (work : List Reading) → SameFrames e e' → FramesIn b c e lists work → FramesIn b c e' lists work
 in_still b e e' None lists work same h = work_still e e' lists work same h
@@ -54,14 +51,14 @@ near_still b e e' work same h = record {
   lists = h.lists;
   front = h.front;
   grown = same.lists ∙ h.grown;
-  leads = subst (λ (t : Option Frame). MayLead b t h.front) (sym same.top) h.leads;
+  leads = h.leads;
   stand = subst (λ (c : Option Call). FramesIn b c e' h.lists work) (sym same.call) (in_still b e e' e.call h.lists work same h.stand);
 }
 
 -- CUT OFF
 
 pub cuts_in : (sizes : Sizes) (e e' : Engine) (book : Book) (w w' : World) (moves : List Move) (b : Broken) → Cuts sizes (state_of e book) e' book w w' moves b → SameFrames e e' → AllStand sizes e book → CutsIn sizes (state_of e book) e' w w' moves b
-cuts_in sizes e e' book w w' moves b cuts same st = record { book' = book; cuts = cuts; frames = near_still b e e' book.work same (near_all sizes b e book st) }
+cuts_in sizes e e' book w w' moves b cuts same st = record { book' = book; cuts = cuts; near = near_still b e e' book.work same (near_all sizes b e book st) }
 
 -- where no call gathers its arguments
 pub stands_in : (sizes : Sizes) (e e' : Engine) (book : Book) (w w' : World) (moves : List Move) (b : Broken) → Cuts sizes (state_of e book) e' book w w' moves b → SameFrames e e' → Stands sizes e book → CutsIn sizes (state_of e book) e' w w' moves b
@@ -73,11 +70,11 @@ in_by sizes s e' w w' ms ns b e h = subst (λ (x : List Move). CutsIn sizes s e'
 
 -- cut off already in the first of two
 pub first_in : (sizes : Sizes) (s : State) (e' : Engine) (w w' : World) (ms ns : List Move) (b : Broken) → CutsIn sizes s e' w w' ms b → CutsIn sizes s e' w w' (ms ++ ns) b
-first_in sizes s e' w w' ms ns b h = record { book' = h.book'; cuts = first_cuts sizes s e' h.book' w w' ms ns b h.cuts; frames = h.frames }
+first_in sizes s e' w w' ms ns b h = record { book' = h.book'; cuts = first_cuts sizes s e' h.book' w w' ms ns b h.cuts; near = h.near }
 
 -- cut off behind moves that were done
 pub later_in : (sizes : Sizes) (s s1 : State) (e' : Engine) (w w1 w' : World) (ms ns : List Move) (b : Broken) → Did sizes s s1 w w1 ms → CutsIn sizes s1 e' w1 w' ns b → CutsIn sizes s e' w w' (ms ++ ns) b
-later_in sizes s s1 e' w w1 w' ms ns b d h = record { book' = h.book'; cuts = later_cuts sizes s s1 e' h.book' w w1 w' ms ns b d h.cuts; frames = h.frames }
+later_in sizes s s1 e' w w1 w' ms ns b d h = record { book' = h.book'; cuts = later_cuts sizes s s1 e' h.book' w w1 w' ms ns b d h.cuts; near = h.near }
 
 -- the world that is told when the column stays
 pub column_in : (sizes : Sizes) (st : State) (e' : Engine) (f : FilesTold) (s : SinkTold) (c : Bool) (ms : List Move) (b : Broken) → e'.in_line ≡ c → CutsIn sizes st e' (world f s c) (world f s c) ms b → CutsIn sizes st e' (world f s c) (world_of f s e') ms b

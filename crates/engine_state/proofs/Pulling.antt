@@ -1,8 +1,7 @@
 -- What becomes of what was pulled.
-use Rattle.std.proofs.Common.{◌≡◌, ℕ, ◌+◌, ◌<◌, ◌≤◌, List, [], ◌∷◌, ◌++◌, length, map, refl, sym, ap, ◌∙◌, subst, Bool, true, false, arith}
-use Rattle.std.specs.Prelude.{Option, Some, None, codes, nat_le, ◌||◌, if◌then◌else◌}
+use Rattle.std.proofs.Common.{◌≡◌, ℕ, ◌+◌, ◌*◌, ◌<◌, List, [], ◌∷◌, ◌++◌, length, map, refl, sym, ap, ◌∙◌, subst, Bool, true, false, arith}
+use Rattle.std.specs.Prelude.{Option, Some, None, codes, ◌||◌}
 use Rattle.std.proofs.lemmas.List.{append-nil, length-append, length-map}
-use Rattle.std.proofs.lemmas.Bool.Decides.{nat_tests}
 use Rattle.std.proofs.lemmas.List.Sums.{sum_by-cons}
 use Rattle.tex_syntax.specs.declared.words.Want.{Want}
 use Rattle.tex_syntax.specs.declared.words.Outcome.{Outcome}
@@ -13,37 +12,38 @@ use Rattle.tex_defs.specs.declared.Seen.{Seen}
 use Rattle.tex_defs.specs.declared.Sizes.{Sizes}
 use Rattle.tex_defs.specs.declared.Full.{Full}
 use Rattle.tex_defs.specs.declared.Table.TheVariants.{InputStackSize}
-use Rattle.tex_defs.specs.Sizes.{size_of}
 use Rattle.tex_defs.specs.Places.{World}
 use Rattle.plain_tokens.specs.Puts.{Item, Text, First, Later, Gap, Put as PutList, settled, settled_top, passed, next_item, top_item, first_item, put_levels, levels_of}
 use Rattle.plain_tokens.specs.Pending.{Pending, Progress, NotBegun, Begun as BegunFile, Closed, Pulled, TokenFrom, LexemeFrom, LineTaken, InvalidMet, FileOver, NothingLeft, settle, pulled, after_pull, taken_line, from_front, from_list, from_line, from_file}
-use Rattle.plain_tokens.specs.Lex.{Lexeme, WordName, ParName, Lexed, Gives, Invalid, UsedUp, lexed}
+use Rattle.plain_tokens.specs.Lex.{Lexeme, Character, ActiveName, SingleName, EmptyName, WordName, ParName, Lexed, Gives, Invalid, UsedUp, lexed}
 use Rattle.plain_tokens.specs.Lookup.{number_of, token_of, joins, new_among, new_name}
 use Rattle.tex_defs.specs.declared.Meaning.{Meaning}
 use Rattle.tex_defs.specs.declared.Meaning.TheVariants as means
 use Rattle.plain_tokens.specs.Tokens.{is_outer}
-use Rattle.plain_tokens.specs.Meanings.{seen}
-use Rattle.plain_state.specs.States.{State, Reading, Move, Handed, Taken, Settled, Skipped, FileClosed, Entered, made}
-use Rattle.plain_tokens.specs.Tables.{means_macro, is_meant, is_put, Demand, level, opened_level, file_levels, file_level, buffer, next_line, refused, full, string, hash, new_name as name_demands}
-use Rattle.plain_state.specs.Demands.{refusal}
-use Rattle.plain_machine.specs.Plan.{Page, handed, met, entered, without_file, Scanning, scanning, checked, reported}
+use Rattle.plain_tokens.specs.Meanings.{seen, met as met_token}
+use Rattle.plain_readings.specs.Readings.{Reading}
+use Rattle.plain_readings.specs.Scanning.{Scanning, scanning}
+use Rattle.plain_machine.specs.States.{State, Move, Handed, Taken, Settled, Skipped, FileClosed, Entered, made}
+use Rattle.plain_tokens.specs.Tables.{means_macro, is_meant, is_put, Demand, level, opened_level, file_levels, file_level, buffer, next_line, refused, full, hash, new_name as name_demands}
+use Rattle.plain_machine.specs.Demands.{refusal}
+use Rattle.plain_machine.specs.Plan.{Page, handed, met, entered, without_file, checked, reported}
 use Rattle.plain_machine.specs.Numbers.{pending_of, pulled_of}
 use Rattle.plain_machine.specs.Runs.{steps}
 use Rattle.plain_machine.specs.Does.{Did}
 use Rattle.plain_machine.proofs.Doing.{did_join, did_one, wrote_none}
-use Rattle.plain_machine.proofs.Renumbering.{settle_of, next_item_of, opened_level_of, next_line_of, pulled_same, seen_of, entered_of}
+use Rattle.plain_machine.proofs.Renumbering.{settle_of, next_item_of, opened_level_of, next_line_of, pulled_same, met_of, entered_of}
 use Rattle.plain_machine.proofs.Ties.{put_settled, put_pulled, held_more, tied_fewer}
 use Rattle.plain_machine.proofs.Settling.{pulled_settled, passed_settled}
 use Rattle.plain_machine.proofs.Silent.{Lighter, lighter}
 use Rattle.world_io.specs.Told.{FilesTold, SinkTold, world}
-use Rattle.name_table.specs.Strings.{Strings}
-use Rattle.input_state.specs.Macros.{HasNameRoom}
 use Rattle.input_state.specs.Stored.{Stored, KeepsMacros, gathered}
 use Rattle.input_state.specs.Reads.{Pulls, ReadsLexeme, step_demands, pull_refusal}
 use Rattle.input_state.specs.declared.answer.Pulled as answers
 use Rattle.input_state.specs.declared.answer.Pulled.TheVariants as answer
 use Rattle.line_lexer.specs.declared.Lexed as answered
-use Rattle.frames.specs.Weights.{ask_weight}
+use Rattle.reading_frames.specs.Stack.{Stack, asks_in}
+use Rattle.reading_frames.specs.Weights.{stack_weight}
+use Rattle.plain_readings.specs.Weights.{frame_weight}
 use Rattle.engine_state.specs.declared.broken.Broken.{Broken}
 use Rattle.engine_state.specs.declared.broken.Broken.TheVariants as broken
 use Rattle.engine_state.specs.declared.call.Call.{Call}
@@ -52,12 +52,12 @@ use Rattle.engine_state.specs.declared.outcome.Ruled.{Ruled}
 use Rattle.engine_state.specs.declared.outcome.Ruled.TheVariants.{Step, Free, Halted}
 use Rattle.engine_state.specs.declared.outcome.Last.TheVariants as last
 use Rattle.engine_state.specs.Begins.{last_moves}
-use Rattle.engine_state.specs.Steps.{IsHalted, IsSkipped, IsOver, NextStepsIf, next_met, next_free, pending_weight, call_weight, weight}
+use Rattle.engine_state.specs.Steps.{IsHalted, IsSkipped, IsOver, NextStepsIf, next_met, next_free, pending_weight, readings_weight, call_weight, weight, asked}
 use Rattle.engine_state.specs.declared.outcome.Next.{Next}
 use Rattle.engine_state.specs.Book.{Book}
 use Rattle.engine_state.specs.Calls.{AllStand, ReadingsStand, CallStands}
-use Rattle.engine_state.specs.Entering.{joined, located, with_names, EntryFits, EntryRefused}
-use Rattle.engine_state.specs.Stands.{Counts, IsSized, IsSound, SameStore, SameFrames, OnlyColumn, state_of, page_of, frames}
+use Rattle.engine_state.specs.Entering.{located, with_names, EntryFits, EntryRefused}
+use Rattle.engine_state.specs.Stands.{Counts, IsSized, IsSound, SameStore, SameFrames, FramesStand, call_count, state_of, page_of, depth}
 use Rattle.engine_state.specs.Near.{CutsIn}
 use Rattle.engine_state.specs.Rules.{world_of, onward_of, enters_of, scanning_of, token_moves, name_moves, WantsHere, Takes, Cuts, Went, Meets, Nexts, DoesOnward}
 use Rattle.engine_state.proofs.CallKept.{all_still}
@@ -70,25 +70,31 @@ use Rattle.engine_state.proofs.Coming.{meets_by, meets_later, next_by, next_late
 
 -- AN ENGINE THAT HAS WRITTEN
 
-pub column_frames : (e e' : Engine) → OnlyColumn e e' → SameFrames e e'
-column_frames e e' only = record { outer = only.outer; top = only.top; ask = only.ask; lists = ap (λ (x : Stored). x.builds) only.input; aside = ap (λ (x : Stored). x.aside) only.input; call = only.call; calling = ap (λ (x : Stored). x.call) only.input }
-
-pub same_frames : (e e' : Engine) → SameFrames e e' → frames e' ≡ frames e
-same_frames e e' h = rw (h.outer, h.top, h.call) refl
+pub same_depth : (e e' : Engine) → SameFrames e e' → depth e' ≡ depth e
+same_depth e e' h = ap (λ (s : Stack). length s.frames + call_count e'.call) h.readings ∙ ap (λ (c : Option Call). length e.readings.frames + call_count c) h.call
 
 pub counts_still : (sizes : Sizes) (e e' : Engine) (book : Book) → SameFrames e e' → IsSound sizes e' book.number book.macros → Counts sizes e book → Counts sizes e' book
-counts_still sizes e e' book same sound h = record { sound = sound; depth = h.depth ∙ sym (same_frames e e' same) }
+counts_still sizes e e' book same sound h = record { sound = sound; depth = h.depth ∙ sym (same_depth e e' same) }
 
 -- a token is wanted where it was
-wants_by : (e e' : Engine) (c : Option Call) (want : Option Want) → e'.top ≡ e.top → e'.ask ≡ e.ask → WantsHere c want e → WantsHere c want e'
-wants_by e e' None None top ask h = top ∙ h
-wants_by e e' None (Some want) top ask h = ask ∙ h
-wants_by e e' (Some c) None top ask h = h
-wants_by e e' (Some c) (Some want) top ask h = h
+wants_by : (e e' : Engine) (c : Option Call) (want : Option Want) → asked e' ≡ asked e → WantsHere c want e → WantsHere c want e'
+wants_by e e' None None same h = same ∙ h
+wants_by e e' None (Some want) same h = same ∙ h
+wants_by e e' (Some c) None same h = h
+wants_by e e' (Some c) (Some want) same h = h
 
 -- a token that isn't the name of an \outer macro goes on
 inner_meets : (page : Page) (o : Option Scanning) (onward : Seen → List Move) (x : Seen) → is_outer x.meaning ≡ false → met page o onward x ≡ onward x
 inner_meets page o onward x is = rw is refl
+
+-- a token of the line is no marked name
+lexed_met : (cells : List (Meaning (Option ℕ))) (enters : Bool) (names : List (List ℕ)) (x : Lexeme) → met_token cells (token_of enters names x) ≡ seen cells (token_of enters names x)
+lexed_met cells enters names (WordName bytes) = refl
+lexed_met cells enters names ParName = refl
+lexed_met cells enters names (Character category code) = refl
+lexed_met cells enters names (ActiveName code) = refl
+lexed_met cells enters names (SingleName code) = refl
+lexed_met cells enters names EmptyName = refl
 
 -- NAMES: at most one joins them, and none where the reading enters none
 
@@ -116,7 +122,7 @@ none_new names ParName = refl
 none_new names x = refl
 
 -- none of them
-none_names : (new : List (List ℕ)) (e : Engine) → new ≡ [] → with_names new e ≡ e
+pub none_names : (new : List (List ℕ)) (e : Engine) → new ≡ [] → with_names new e ≡ e
 none_names new e none =
     ap (λ (ns : List (List ℕ)). with_names ns e) none
     ∙ ap (λ (names : List (List ℕ)). record e { names = record e.names { names = names }; input = located [] e.input }) (append-nil e.names.names)
@@ -137,51 +143,15 @@ entered_none : (new : List (List ℕ)) → steps (entered new) ≡ 0
 entered_none [] = refl
 entered_none (n ∷ ns) = refl
 
--- The input has a location for each name: so there is room for one where it is entered.
-fits_if : (b : Bool) (x : Option Full) (y : Full) → (if b then x else Some y) ≡ None → (b ≡ true) × (x ≡ None)
-fits_if true x y h = (refl, h)
-fits_if false x y h = absurd cc
-
-last_fits : (sizes : Sizes) (ds : List Demand) (d : Demand) → refused sizes (ds ++ d ∷ []) ≡ None → nat_le (d.used + d.need) (size_of sizes d.table) ≡ true
-last_fits sizes [] d h = (fits_if (nat_le (d.used + d.need) (size_of sizes d.table)) None (full sizes d) h).0
-last_fits sizes (x ∷ ds) d h = last_fits sizes ds d (fits_if (nat_le (x.used + x.need) (size_of sizes x.table)) (refused sizes (ds ++ d ∷ [])) (full sizes x) h).1
-
-module _ (sizes : Sizes) (e : Engine) (sized : IsSized sizes e) where
-  room_of : (n : List ℕ) (new : List (List ℕ)) → EntryFits e.names (n ∷ new) → HasNameRoom e.input.meanings e.input.hash_size
-  room_of n new fits =
-      let le : nat_le (length e.names.names + 1) e.names.sizes.hash_size ≡ true = last_fits e.names.sizes (string n e.names.names e.names.others) (hash e.names.names) fits in
-      let below : length e.names.names + 1 ≤ e.names.sizes.hash_size = grind (arith, nat_tests, le) in
-      let same : e.names.sizes.hash_size ≡ e.input.hash_size = ap (λ (s : Sizes). s.hash_size) sized.names ∙ sym sized.hash in
-      omega (arith, below, same, sized.located)
-
-  module _ (names : Strings) (new : List (List ℕ)) (few : FewNames new) (after : names ≡ joined e.names new) where
-    longer : length names.names ≡ length e.names.names + length new
-    longer = ap (λ (n : Strings). length n.names) after ∙ length-append e.names.names new
-
-    -- one has joined the others
-    pub one_entered : (e' : Engine) → length e.names.names < length names.names → e' ≡ record e { names = names; input = record e.input { meanings = e.input.meanings ++ means.Undefined ∷ [] } } → e' ≡ with_names new e
-    one_entered e' more is = is ∙ by_new new few after (omega (arith, more, longer)) where
-      by_new : (new : List (List ℕ)) → FewNames new → names ≡ joined e.names new → 0 < length new → record e { names = names; input = record e.input { meanings = e.input.meanings ++ means.Undefined ∷ [] } } ≡ with_names new e
-      by_new [] few after some = absurd (omega (arith, some))
-      by_new (n ∷ []) few after some = ap (λ (ns : Strings). record e { names = ns; input = located (n ∷ []) e.input }) after
-      by_new (n ∷ m ∷ ns) few after some = absurd few
-
-    -- none has
-    pub none_entered : (e' : Engine) → EntryFits e.names new → (length e.names.names < length names.names → HasNameRoom e.input.meanings e.input.hash_size → ⊥) → e' ≡ record e { names = names } → e' ≡ with_names new e
-    none_entered e' fits nowhere is = is ∙ by_new new after fits longer where
-      by_new : (new : List (List ℕ)) → names ≡ joined e.names new → EntryFits e.names new → length names.names ≡ length e.names.names + length new → record e { names = names } ≡ with_names new e
-      by_new [] after fits count = ap (λ (ns : Strings). record e { names = ns }) after ∙ ap (λ (cells : List (Meaning (Option ℕ))). record e { names = joined e.names []; input = record e.input { meanings = cells } }) (sym (append-nil e.input.meanings))
-      by_new (n ∷ ns) after fits count = absurd (nowhere (omega (arith, count)) (room_of n ns fits))
-
 module _ (sizes : Sizes) (e : Engine) (book : Book) where
-  did_entered : (new : List (List ℕ)) (w : World) → FewNames new → IsSized sizes e → EntryFits e.names new → Did sizes (state_of e book) (state_of (with_names new e) book) w w (entered new)
+  pub did_entered : (new : List (List ℕ)) (w : World) → FewNames new → IsSized sizes e → EntryFits e.names new → Did sizes (state_of e book) (state_of (with_names new e) book) w w (entered new)
   did_entered [] w few sized fits = record { state = ap (λ (x : Engine). state_of x book) (sym (none_names [] e refl)); fits = tt; written = wrote_none w }
   did_entered (n ∷ []) w few sized fits =
       did_one sizes (Entered n) _ _ w w (subst (λ (x : Sizes). refused x (name_demands n e.names.names e.names.others) ≡ None) sized.names fits)
       (ap (λ (cells : List (Meaning (Option ℕ))). record (state_of (with_names (n ∷ []) e) book) { meanings = cells }) (entered_of book.number e.input.meanings)) (quiet_here (Entered n) w tt)
   did_entered (n ∷ m ∷ ns) w few sized fits = absurd few
 
-  cut_entered : (e' : Engine) (new : List (List ℕ)) (w : World) (rest : List Move) (full : Full) → IsSized sizes e → e' ≡ e → EntryRefused e.names new full →
+  pub cut_entered : (e' : Engine) (new : List (List ℕ)) (w : World) (rest : List Move) (full : Full) → IsSized sizes e → e' ≡ e → EntryRefused e.names new full →
       Cuts sizes (state_of e book) e' book w w (entered new ++ rest) (broken.Full full)
   cut_entered e' [] w rest full sized same r = absurd r
   cut_entered e' (n ∷ ns) w rest full sized same r =
@@ -194,14 +164,14 @@ module _ (sizes : Sizes) (e : Engine) (book : Book) where
     few_reports = h.few_reports;
     small = h.small;
     own = h.own;
-    outer = h.outer;
+    readings = h.readings;
     input = h.input;
     names = h.names;
     hash = h.hash;
     located = omega (arith, h.located, length-append e.input.meanings (map undefined new), length-map new undefined, length-append e.names.names new);
   }
 
-  sound_names : (new : List (List ℕ)) → IsSound sizes e book.number book.macros → IsSound sizes (with_names new e) book.number book.macros
+  pub sound_names : (new : List (List ℕ)) → IsSound sizes e book.number book.macros → IsSound sizes (with_names new e) book.number book.macros
   sound_names new h = record {
     sized = sized_names new h.sized;
     tied = tied_fewer book.number book.macros e.input.meanings e.input.pending.puts e.input.lists h.tied (with_names new e).input.meanings e.input.pending.puts
@@ -220,17 +190,18 @@ module _ (sizes : Sizes) (e : Engine) (book : Book) where
     asked = h.asked;
     at = h.at;
     holds = h.holds;
-    last = h.last;
-    not_lent = h.not_lent;
   }
 
+  pub frames_names : (new : List (List ℕ)) (work : List Reading) → FramesStand e work → FramesStand (with_names new e) work
+  frames_names new work h = record { frames = h.frames; shallow = h.shallow }
+
   readings_names : (new : List (List ℕ)) (c : Option Call) (work : List Reading) → ReadingsStand c e book.number work → ReadingsStand c (with_names new e) book.number work
-  readings_names new None work h = h
+  readings_names new None work h = (frames_names new work h.0, h.1)
   readings_names new (Some c) [] h = h
-  readings_names new (Some c) (r ∷ rs) h = (call_names new c r h.0, h.1)
+  readings_names new (Some c) (r ∷ rs) h = (call_names new c r h.0, frames_names new rs h.1)
 
   pub takes_names : (want : Option Want) (new : List (List ℕ)) → Takes sizes want e book → Takes sizes want (with_names new e) book
-  takes_names want new h = (wants_by e (with_names new e) e.call want refl refl h.0, record { sound = sound_names new h.1.sound; idle = h.1.idle; all = readings_names new e.call book.work h.1.all })
+  takes_names want new h = (wants_by e (with_names new e) e.call want refl h.0, record { sound = sound_names new h.1.sound; idle = h.1.idle; all = readings_names new e.call book.work h.1.all })
 
   module _ (want : Option Want) (x : Lexeme) (t : Token) (is : t ≡ token_of (enters_of want) e.names.names x) (sound : IsSound sizes e book.number book.macros) where
     abbrev new : List (List ℕ)
@@ -243,8 +214,11 @@ module _ (sizes : Sizes) (e : Engine) (book : Book) where
     abbrev moves_in : Engine → Token → List Move
     moves_in y u = token_moves (page_of y book) (scanning_of y book.work) (onward_of (page_of y book) want book.work) u
 
-    seen_now : seen (page_of e book).meanings t ≡ seen (page_of named book).meanings t
-    seen_now = seen_of book.number e.input.meanings t ∙ sym (seen_more e.input.meanings new t) ∙ sym (seen_of book.number named.input.meanings t)
+    meant : (cells : List (Meaning (Option ℕ))) → met_token cells t ≡ seen cells t
+    meant cells = ap (met_token cells) is ∙ lexed_met cells (enters_of want) e.names.names x ∙ sym (ap (seen cells) is)
+
+    met_now : met_token (page_of e book).meanings t ≡ met_token (page_of named book).meanings t
+    met_now = met_of book.number e.input.meanings t ∙ meant e.input.meanings ∙ sym (seen_more e.input.meanings new t) ∙ sym (meant named.input.meanings) ∙ sym (met_of book.number named.input.meanings t)
 
     entering : (new ≡ [] → ⊥) → enters_of want ≡ true
     entering some = by_enters (enters_of want) some where
@@ -260,18 +234,18 @@ module _ (sizes : Sizes) (e : Engine) (book : Book) where
     raw_onward p q (Some asks.Nonblank) y h = cc
     raw_onward p q (Some asks.Command) y h = cc
 
-    inner_here : (new ≡ [] → ⊥) → is_outer (seen (page_of e book).meanings t).meaning ≡ false
+    inner_here : (new ≡ [] → ⊥) → is_outer (met_token (page_of e book).meanings t).meaning ≡ false
     inner_here some =
-        ap (λ (y : Seen). is_outer y.meaning) (seen_of book.number e.input.meanings t) ∙ ap (λ (u : Token). is_outer (seen e.input.meanings u).meaning) is
+        ap (λ (y : Seen). is_outer y.meaning) (met_of book.number e.input.meanings t ∙ meant e.input.meanings) ∙ ap (λ (u : Token). is_outer (seen e.input.meanings u).meaning) is
         ∙ inner_new e.input.meanings e.names.names sound.sized.located (enters_of want) x some
 
     -- the name is new, or none is
     some_now : (new ≡ [] → ⊥) → moves_in e t ≡ moves_in named t
     some_now some =
-        inner_meets (page_of e book) (scanning_of e book.work) (onward_of (page_of e book) want book.work) (seen (page_of e book).meanings t) (inner_here some)
-        ∙ raw_onward (page_of e book) (page_of named book) want (seen (page_of e book).meanings t) (entering some)
-        ∙ ap (onward_of (page_of named book) want book.work) seen_now
-        ∙ sym (inner_meets (page_of named book) (scanning_of named book.work) (onward_of (page_of named book) want book.work) (seen (page_of named book).meanings t) (ap (λ (y : Seen). is_outer y.meaning) (sym seen_now) ∙ inner_here some))
+        inner_meets (page_of e book) (scanning_of e book.work) (onward_of (page_of e book) want book.work) (met_token (page_of e book).meanings t) (inner_here some)
+        ∙ raw_onward (page_of e book) (page_of named book) want (met_token (page_of e book).meanings t) (entering some)
+        ∙ ap (onward_of (page_of named book) want book.work) met_now
+        ∙ sym (inner_meets (page_of named book) (scanning_of named book.work) (onward_of (page_of named book) want book.work) (met_token (page_of named book).meanings t) (ap (λ (y : Seen). is_outer y.meaning) (sym met_now) ∙ inner_here some))
 
     by_new : (ns : List (List ℕ)) → new ≡ ns → moves_in e t ≡ moves_in named t
     by_new [] none = ap (λ (y : Engine). moves_in y t) (sym (none_names new e none))
@@ -439,7 +413,7 @@ module _ (e : Engine) (i : Stored) where
   lighter_close is = subst (Lighter e.input.pending) is (lighter e.categories e.input.pending)
 
 pub frames_now : (e : Engine) (i : Stored) → i ≡ record e.input { pending = i.pending; buffer = i.buffer; lists = i.lists } → SameFrames e (record e { input = i })
-frames_now e i others = record { outer = refl; top = refl; ask = refl; lists = ap (λ (x : Stored). x.builds) others; aside = ap (λ (x : Stored). x.aside) others; call = refl; calling = ap (λ (x : Stored). x.call) others }
+frames_now e i others = record { readings = refl; lists = ap (λ (x : Stored). x.builds) others; call = refl; calling = ap (λ (x : Stored). x.call) others }
 
 module _ (sizes : Sizes) (e : Engine) (i : Stored) (others : i ≡ record e.input { pending = i.pending; buffer = i.buffer; lists = i.lists }) where
   abbrev now : Engine
@@ -460,7 +434,7 @@ module _ (sizes : Sizes) (e : Engine) (i : Stored) (others : i ≡ record e.inpu
   stands_now book store st = all_still sizes e now book (frames_now e i others) store (sound_still sizes e now book.number book.macros refl refl refl refl store st.sound) (ap (λ (x : Stored). x.making) others ∙ st.idle) st
 
   pub takes_still : (want : Option Want) (book : Book) → SameStore e.input i → Takes sizes want e book → Takes sizes want now book
-  takes_still want book store h = (wants_by e now e.call want refl refl h.0, stands_now book store h.1)
+  takes_still want book store h = (wants_by e now e.call want (ap (λ (x : Stored). asks_in e.readings.frames x.builds) others) h.0, stands_now book store h.1)
 
   -- the text that is read is the same
   pub scanning_still : (work : List Reading) → scanning_of now work ≡ scanning_of e work
@@ -684,13 +658,20 @@ module _ (p : Pulled) (a : answers.Pulled) (old new : Stored) (h : Pulls p a old
 
 -- WHAT IS ANSWERED
 
+weight_by : (e e' : Engine) (c : Option Call) → e'.readings ≡ e.readings → readings_weight c e' ≡ readings_weight c e
+weight_by e e' None same = ap stack_weight same
+weight_by e e' (Some c) same = ap (λ (s : Stack). frame_weight * length s.frames + (frame_weight + call_weight c.ask)) same
+
+pub same_weight : (e e' : Engine) → e'.readings ≡ e.readings → e'.call ≡ e.call → readings_weight e'.call e' ≡ readings_weight e.call e
+same_weight e e' readings call = ap (λ (c : Option Call). readings_weight c e') call ∙ weight_by e e' e.call readings
+
 pub lighter_after : (e e' : Engine) → SameFrames e e' → pending_weight e'.input.pending < pending_weight e.input.pending → weight e' < weight e
-lighter_after e e' h less = let asked : ask_weight e'.ask ≡ ask_weight e.ask = ap ask_weight h.ask in omega (arith, same_frames e e' h, asked, less, ap call_weight h.call)
+lighter_after e e' h less = omega (arith, same_weight e e' h.readings h.call, less)
 
 pub skipped_light : (e : Engine) (i : Stored) (e' : Engine) → SameFrames e (record e { input = i }) → SameFrames (record e { input = i }) e' → e'.input ≡ i → pending_weight i.pending < pending_weight e.input.pending → weight e' < weight e
 skipped_light e i e' first second input less =
     let pending : pending_weight e'.input.pending ≡ pending_weight i.pending = ap (λ (x : Stored). pending_weight x.pending) input in
-    lighter_after e e' (record { outer = second.outer; top = second.top; ask = second.ask; lists = second.lists ∙ first.lists; aside = second.aside ∙ first.aside; call = second.call; calling = second.calling ∙ first.calling }) (omega (arith, pending, less))
+    lighter_after e e' (record { readings = second.readings; lists = second.lists ∙ first.lists; call = second.call; calling = second.calling ∙ first.calling }) (omega (arith, pending, less))
 
 -- the answer
 pub steps_met : (o : Option Seen) (n : Next) (b : Bool) → n ≡ next_met o → b ≡ true → NextStepsIf n b

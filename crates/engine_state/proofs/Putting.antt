@@ -1,6 +1,6 @@
--- A token that is put in front, and a string that is kept; where a reading ends or reports.
+-- A token that is put in front, and a string that is kept; where a reading reports.
 use Rattle.std.proofs.Common.{◌≡◌, ℕ, List, [], ◌∷◌, ◌++◌, length, drop, map, refl, sym, ap, ◌∙◌, append_assoc, subst, arith}
-use Rattle.std.specs.Prelude.{Option, Some, None, Bool, true, false, is_some}
+use Rattle.std.specs.Prelude.{Option, Some, None, Bool, true, false}
 use Rattle.tex_syntax.specs.declared.words.Report.{Report}
 use Rattle.tex_syntax.specs.declared.words.Outcome.{Outcome}
 use Rattle.tex_defs.specs.declared.Token.{Token}
@@ -10,35 +10,34 @@ use Rattle.tex_defs.specs.declared.Full.{Full}
 use Rattle.tex_defs.specs.Places.{World, Transcript}
 use Rattle.plain_tokens.specs.Puts.{Item, Put as PutList, token_put, settled, settled_top, grown_by}
 use Rattle.plain_tokens.specs.Pending.{Pending, settle, put_front}
-use Rattle.plain_state.specs.Reports.{plain_style, report_bytes}
-use Rattle.plain_state.specs.Readings.{Fed, Told, Value, value_lists, so_far}
-use Rattle.plain_state.specs.States.{State, Reading, Move, Settled, Kept, Grows, Noted, ListBegun, ListGrown, Put, Written, Ended, Reported, made, fed_with, ended_with, beneath}
 use Rattle.plain_tokens.specs.Tables.{Demand, refused, memory, level, string}
-use Rattle.plain_state.specs.Demands.{refusal}
-use Rattle.plain_machine.specs.Plan.{Page, put_one, put_all, put_inserted, given_back, last_seen, reported, told, is_told, noting}
+use Rattle.plain_state.specs.Reports.{plain_style, report_bytes}
+use Rattle.rows.specs.Readings.{Fed, Told}
+use Rattle.plain_readings.specs.Readings.{Kind, Reads, Spelling, Arguments, Behind, Reading, fed_with, lists}
+use Rattle.plain_machine.specs.States.{State, Move, Settled, Kept, Grows, Feeds, ListBegun, ListGrown, Put, Written, Reported, made}
+use Rattle.plain_machine.specs.Demands.{refusal}
+use Rattle.plain_machine.specs.Plan.{Page, put_one, put_inserted, given_back, reported, told, noting, noting_kind, grown_and_fed, first_list}
 use Rattle.plain_machine.specs.Numbers.{pending_of}
-use Rattle.plain_machine.specs.Runs.{Wrote, steps}
+use Rattle.plain_machine.specs.Runs.{steps}
 use Rattle.plain_machine.specs.Does.{Did}
 use Rattle.plain_machine.proofs.Doing.{did_join, did_one}
 use Rattle.plain_machine.proofs.Joins.{steps_join}
 use Rattle.plain_machine.proofs.Renumbering.{settle_of, put_front_of, level_of}
 use Rattle.name_table.specs.Strings.{Strings, other_refusal}
 use Rattle.world_io.specs.Told.{FilesTold, SinkTold, world}
-use Rattle.input_state.specs.Stored.{Stored, KeepsMacros, gathered, words as stored_words}
+use Rattle.input_state.specs.Stored.{Stored, KeepsMacros, words as stored_words}
 use Rattle.input_state.specs.HeldLists.{made as made_list}
+use Rattle.reading_frames.specs.Stack.{Stack}
 use Rattle.engine_state.specs.declared.broken.Broken.{Broken}
 use Rattle.engine_state.specs.declared.broken.Broken.TheVariants as broken
 use Rattle.engine_state.specs.declared.engine.Engine.{Engine}
 use Rattle.engine_state.specs.Book.{Book, with_work}
-use Rattle.frames.specs.Stack.{Stack}
-use Rattle.engine_state.specs.Stands.{SameFrames, top_count, call_count, Counts, IsSized, IsSound, IsLast, Stands, SameStore, SameState, state_of, page_of}
+use Rattle.engine_state.specs.Stands.{SameFrames, call_count, Counts, IsSized, IsSound, Stands, SameStore, state_of, page_of}
 use Rattle.engine_state.specs.Rules.{world_of, Cuts, Went, Reports, Halts}
 use Rattle.engine_state.proofs.Bare.{all_of}
 use Rattle.engine_state.proofs.Cutting.{cuts_by, later_cuts, full_cuts}
-use Rattle.engine_state.proofs.Counting.{words_more}
-use Rattle.engine_state.proofs.Reporting.{ended_state}
-use Rattle.engine_state.proofs.Storing.{store_join, store_making, store_settled, store_put, sound_still}
 use Rattle.engine_state.proofs.Joining.{IsQuiet, quiet_here, went_by, halts_on, halts_least}
+use Rattle.engine_state.proofs.Storing.{store_join, store_making, store_settled, store_put, sound_still, words_more}
 
 -- a string for which there is no room
 pub kept_cuts : (sizes : Sizes) (e : Engine) (names : Strings) (book : Book) (w : World) (bytes : List ℕ) (more : List Move) (full : Full) →
@@ -159,43 +158,19 @@ module _ (i i1 i2 i3 : Stored) (a1 : i1 ≡ record i { pending = settle i.pendin
 pub counts_still : (sizes : Sizes) (e e1 : Engine) (book : Book) → SameFrames e e1 → IsSound sizes e1 book.number book.macros → Counts sizes e book → Counts sizes e1 book
 counts_still sizes e e1 book same sound h = record {
   sound = sound;
-  depth = omega (arith, h.depth, ap (λ (o : Stack). length o.items) same.outer, ap top_count same.top, ap call_count same.call);
+  depth = omega (arith, h.depth, ap (λ (r : Stack). length r.frames) same.readings, ap call_count same.call);
 }
 
 -- BACK
 
--- the token looked at, where it is put back
-given_one : (y x : Seen) (fed : List Fed) → y ≡ x → last_seen fed ≡ y ∷ [] → given_back true fed ≡ put_one x.token
-given_one y x fed is last = ap put_all last ∙ ap (λ (s : Seen). put_one s.token) is
-
-pub given_is : (back : Option Seen) (x : Seen) (fed : List Fed) → back ≡ Some x → IsLast back fed → given_back (is_some back) fed ≡ put_one x.token
-given_is None x fed is last = cc
-given_is (Some y) x fed is last = given_one y x fed (cc) last
-
-pub given_none : (back : Option Seen) (fed : List Fed) → back ≡ None → given_back (is_some back) fed ≡ []
-given_none None fed is = refl
-given_none (Some y) fed is = cc
+pub given_true : (back : Bool) (last : Seen) → back ≡ true → given_back back last ≡ put_one last.token
+given_true back last is = rw is refl
 
 -- no step
-all_none : (xs : List Seen) → steps (put_all xs) ≡ 0
-all_none [] = refl
-all_none (x ∷ xs) = refl
 
-pub back_none : (back : Bool) (fed : List Fed) → steps (given_back back fed) ≡ 0
-back_none false fed = refl
-back_none true fed = all_none (last_seen fed)
-
--- THE INNERMOST READING ENDS
-
-module _ (sizes : Sizes) (e e1 e2 : Engine) (book : Book) (r : Reading) (rs : List Reading) (w w1 w2 : World) (ms : List Move) (v : Value) where
-  pub ended_went : Did sizes (state_of e (with_work (r ∷ rs) book)) (state_of e1 (with_work (r ∷ rs) book)) w w1 ms → steps ms ≡ 0 → SameState e1 e2 → Wrote w1 w2 (Ended v ∷ []) → value_lists v ++ beneath (r ∷ rs) (gathered e1.input) ≡ gathered e2.input → Stands sizes e2 (with_work (ended_with v (r ∷ rs)) book) →
-      Went sizes (state_of e (with_work (r ∷ rs) book)) e2 w w2 (ms ++ Ended v ∷ []) 0
-  ended_went d n same wrote lists stands = record {
-    book' = with_work (ended_with v (r ∷ rs)) book;
-    stands = all_of sizes e2 (with_work (ended_with v (r ∷ rs)) book) stands;
-    did = did_join sizes _ _ _ w w1 w2 ms (Ended v ∷ []) d (did_one sizes (Ended v) _ _ w1 w2 refl (ended_state e1 e2 book r rs v same lists) wrote);
-    count = steps_join ms (Ended v ∷ []) ∙ omega (arith, n);
-  }
+pub back_none : (back : Bool) (last : Seen) → steps (given_back back last) ≡ 0
+back_none false last = refl
+back_none true last = refl
 
 -- THE INNERMOST READING REPORTS
 
@@ -204,8 +179,19 @@ grows_none : (ts : List Token) → steps (map Grows ts) ≡ 0
 grows_none [] = refl
 grows_none (t ∷ ts) = omega (arith, grows_none ts)
 
+grown_none : (k : Kind) (fed : List Fed) → steps (grown_and_fed k fed Told) ≡ 0
+grown_none k fed =
+    let ts = drop (length (first_list (lists k fed))) (first_list (lists k (fed ++ Told ∷ []))) in
+    steps_join (map Grows ts) (Feeds Told ∷ []) ∙ omega (arith, grows_none ts)
+
+noting_kind_none : (k : Kind) (fed : List Fed) → steps (noting_kind k fed) ≡ 0
+noting_kind_none (Arguments name long number ts) fed = refl
+noting_kind_none (Reads k) fed = grown_none (Reads k) fed
+noting_kind_none (Spelling c) fed = grown_none (Spelling c) fed
+noting_kind_none (Behind c x) fed = grown_none (Behind c x) fed
+
 noting_none : (r : Reading) → steps (noting r) ≡ 0
-noting_none r = let ts = drop (length (so_far r.kind r.fed)) (so_far r.kind (r.fed ++ Told ∷ [])) in steps_join (map Grows ts) (Noted ∷ []) ∙ omega (arith, grows_none ts)
+noting_none r = noting_kind_none r.kind r.fed
 
 inserted_none : (o : Option Token) → steps (put_inserted o) ≡ 0
 inserted_none None = refl
@@ -216,36 +202,32 @@ inserted_is None t is = cc
 inserted_is (Some u) t is = ap put_inserted is
 
 -- a token is given back, and another inserted
-abbrev pub fronts : Option Token → Bool → Reading → List Move
-fronts inserted back r = given_back back r.fed ++ put_inserted inserted
+abbrev pub fronts : Option Token → Bool → Seen → List Move
+fronts inserted back last = given_back back last ++ put_inserted inserted
 
-fronts_none : (inserted : Option Token) (back : Bool) (r : Reading) → steps (fronts inserted back r) ≡ 0
-fronts_none inserted back r = steps_join (given_back back r.fed) (put_inserted inserted) ∙ omega (arith, back_none back r.fed, inserted_none inserted)
+fronts_none : (inserted : Option Token) (back : Bool) (last : Seen) → steps (fronts inserted back last) ≡ 0
+fronts_none inserted back last = steps_join (given_back back last) (put_inserted inserted) ∙ omega (arith, back_none back last, inserted_none inserted)
 
-told_flat : (page : Page) (report : Report) (inserted : Option Token) (back : Bool) (r : Reading) → is_told r.fed ≡ false → told page report inserted back r ≡ given_back back r.fed ++ (put_inserted inserted ++ reported page report (noting r))
-told_flat page report inserted back r once = rw once refl
+told_is : (page : Page) (report : Report) (inserted : Option Token) (back : Bool) (r : Reading) → told page report inserted back r ≡ fronts inserted back page.last ++ reported page report (noting r)
+told_is page report inserted back r = sym (append_assoc (given_back back page.last) (put_inserted inserted) (reported page report (noting r)))
 
-told_is : (page : Page) (report : Report) (inserted : Option Token) (back : Bool) (r : Reading) → is_told r.fed ≡ false → told page report inserted back r ≡ fronts inserted back r ++ reported page report (noting r)
-told_is page report inserted back r once = told_flat page report inserted back r once ∙ sym (append_assoc (given_back back r.fed) (put_inserted inserted) (reported page report (noting r)))
-
-module _ (sizes : Sizes) (e : Engine) (f : FilesTold) (s0 : SinkTold) (book : Book) (r : Reading) (rs : List Reading) (report : Report) (inserted : Option Token) (back : Bool) (once : is_told r.fed ≡ false) where
+module _ (sizes : Sizes) (e : Engine) (f : FilesTold) (s0 : SinkTold) (book : Book) (r : Reading) (rs : List Reading) (report : Report) (inserted : Option Token) (back : Bool) where
   -- already the token that is given back has no room
   pub told_first : (e1 : Engine) (b : Broken) → e1.in_line ≡ e.in_line →
-      Cuts sizes (state_of e (with_work (r ∷ rs) book)) e1 (with_work (r ∷ rs) book) (world_of f s0 e) (world_of f s0 e) (given_back back r.fed ++ (put_inserted inserted ++ reported (page_of e book) report (noting r))) b →
+      Cuts sizes (state_of e (with_work (r ∷ rs) book)) e1 (with_work (r ∷ rs) book) (world_of f s0 e) (world_of f s0 e) (given_back back e.last ++ (put_inserted inserted ++ reported (page_of e book) report (noting r))) b →
       Cuts sizes (state_of e (with_work (r ∷ rs) book)) e1 (with_work (r ∷ rs) book) (world_of f s0 e) (world_of f s0 e1) (told (page_of e book) report inserted back r) b
   told_first e1 b column h =
-      cuts_by sizes _ e1 (with_work (r ∷ rs) book) _ _ _ _ b (told_flat (page_of e book) report inserted back r once)
-      (subst (λ (x : Bool). Cuts sizes (state_of e (with_work (r ∷ rs) book)) e1 (with_work (r ∷ rs) book) (world_of f s0 e) (world f s0 x) (given_back back r.fed ++ (put_inserted inserted ++ reported (page_of e book) report (noting r))) b) (sym column) h)
+      (subst (λ (x : Bool). Cuts sizes (state_of e (with_work (r ∷ rs) book)) e1 (with_work (r ∷ rs) book) (world_of f s0 e) (world f s0 x) (given_back back e.last ++ (put_inserted inserted ++ reported (page_of e book) report (noting r))) b) (sym column) h)
 
   -- or the one that is inserted
-  pub told_second : (e1 e2 : Engine) (b : Broken) → e2.in_line ≡ e.in_line → Did sizes (state_of e (with_work (r ∷ rs) book)) (state_of e1 (with_work (r ∷ rs) book)) (world_of f s0 e) (world_of f s0 e) (given_back back r.fed) →
+  pub told_second : (e1 e2 : Engine) (b : Broken) → e2.in_line ≡ e.in_line → Did sizes (state_of e (with_work (r ∷ rs) book)) (state_of e1 (with_work (r ∷ rs) book)) (world_of f s0 e) (world_of f s0 e) (given_back back e.last) →
       Cuts sizes (state_of e1 (with_work (r ∷ rs) book)) e2 (with_work (r ∷ rs) book) (world_of f s0 e) (world_of f s0 e) (put_inserted inserted ++ reported (page_of e book) report (noting r)) b →
       Cuts sizes (state_of e (with_work (r ∷ rs) book)) e2 (with_work (r ∷ rs) book) (world_of f s0 e) (world_of f s0 e2) (told (page_of e book) report inserted back r) b
   told_second e1 e2 b column given h =
-      told_first e2 b column (later_cuts sizes _ (state_of e1 (with_work (r ∷ rs) book)) e2 (with_work (r ∷ rs) book) _ _ _ (given_back back r.fed) (put_inserted inserted ++ reported (page_of e book) report (noting r)) b given h)
+      told_first e2 b column (later_cuts sizes _ (state_of e1 (with_work (r ∷ rs) book)) e2 (with_work (r ∷ rs) book) _ _ _ (given_back back e.last) (put_inserted inserted ++ reported (page_of e book) report (noting r)) b given h)
 
   -- behind both
-  module _ (e1 e2 : Engine) (s2 : SinkTold) (page : page_of e1 book ≡ page_of e book) (front : Did sizes (state_of e (with_work (r ∷ rs) book)) (state_of e1 (with_work (r ∷ rs) book)) (world_of f s0 e) (world_of f s0 e) (fronts inserted back r)) where
+  module _ (e1 e2 : Engine) (s2 : SinkTold) (page : page_of e1 book ≡ page_of e book) (front : Did sizes (state_of e (with_work (r ∷ rs) book)) (state_of e1 (with_work (r ∷ rs) book)) (world_of f s0 e) (world_of f s0 e) (fronts inserted back e.last)) where
     on_page : Reports sizes (state_of e1 (with_work (r ∷ rs) book)) (state_of e2 (with_work (r ∷ rs) book)) (world_of f s0 e1) (world_of f s2 e2) (page_of e1 book) report (noting r) →
         Reports sizes (state_of e1 (with_work (r ∷ rs) book)) (state_of e2 (with_work (r ∷ rs) book)) (world_of f s0 e) (world_of f s2 e2) (page_of e book) report (noting r)
     on_page rep = subst (λ (p : Page). Reports sizes (state_of e1 (with_work (r ∷ rs) book)) (state_of e2 (with_work (r ∷ rs) book)) (world f s0 p.in_line) (world_of f s2 e2) p report (noting r)) page rep
@@ -253,8 +235,8 @@ module _ (sizes : Sizes) (e : Engine) (f : FilesTold) (s0 : SinkTold) (book : Bo
     abbrev written : List Move
     written = Written Transcript (report_bytes (plain_style e.names.names) e.in_line e.input.pending.number report) ∷ Reported ∷ []
 
-    whole_is : Reports sizes (state_of e1 (with_work (r ∷ rs) book)) (state_of e2 (with_work (r ∷ rs) book)) (world_of f s0 e) (world_of f s2 e2) (page_of e book) report (noting r) → told (page_of e book) report inserted back r ≡ fronts inserted back r ++ (written ++ noting r)
-    whole_is h = told_is (page_of e book) report inserted back r once ∙ ap (λ (x : List Move). fronts inserted back r ++ x) h.moves
+    whole_is : Reports sizes (state_of e1 (with_work (r ∷ rs) book)) (state_of e2 (with_work (r ∷ rs) book)) (world_of f s0 e) (world_of f s2 e2) (page_of e book) report (noting r) → told (page_of e book) report inserted back r ≡ fronts inserted back e.last ++ (written ++ noting r)
+    whole_is h = told_is (page_of e book) report inserted back r ∙ ap (λ (x : List Move). fronts inserted back e.last ++ x) h.moves
 
     pub told_went : (e3 : Engine) → Reports sizes (state_of e1 (with_work (r ∷ rs) book)) (state_of e2 (with_work (r ∷ rs) book)) (world_of f s0 e1) (world_of f s2 e2) (page_of e1 book) report (noting r) → e3.in_line ≡ e2.in_line →
         Did sizes (state_of e2 (with_work (r ∷ rs) book)) (state_of e3 (with_work (fed_with Told (r ∷ rs)) book)) (world_of f s2 e2) (world_of f s2 e2) (noting r) → Stands sizes e3 (with_work (fed_with Told (r ∷ rs)) book) →
@@ -263,11 +245,11 @@ module _ (sizes : Sizes) (e : Engine) (f : FilesTold) (s0 : SinkTold) (book : Bo
         let h = on_page rep in
         let noted' : Did sizes (state_of e2 (with_work (r ∷ rs) book)) (state_of e3 (with_work (fed_with Told (r ∷ rs)) book)) (world_of f s2 e2) (world_of f s2 e3) (noting r) =
         subst (λ (x : Bool). Did sizes (state_of e2 (with_work (r ∷ rs) book)) (state_of e3 (with_work (fed_with Told (r ∷ rs)) book)) (world_of f s2 e2) (world f s2 x) (noting r)) (sym column) noted in
-        went_by sizes _ e3 _ _ (fronts inserted back r ++ (written ++ noting r)) _ 0 (whole_is h) (record {
+        went_by sizes _ e3 _ _ (fronts inserted back e.last ++ (written ++ noting r)) _ 0 (whole_is h) (record {
           book' = with_work (fed_with Told (r ∷ rs)) book;
           stands = all_of sizes e3 (with_work (fed_with Told (r ∷ rs)) book) stands;
-          did = did_join sizes _ _ _ _ _ _ (fronts inserted back r) (written ++ noting r) front (did_join sizes _ _ _ _ _ _ written (noting r) h.did noted');
-          count = steps_join (fronts inserted back r) (written ++ noting r) ∙ omega (arith, fronts_none inserted back r, steps_join written (noting r), noting_none r);
+          did = did_join sizes _ _ _ _ _ _ (fronts inserted back e.last) (written ++ noting r) front (did_join sizes _ _ _ _ _ _ written (noting r) h.did noted');
+          count = steps_join (fronts inserted back e.last) (written ++ noting r) ∙ omega (arith, fronts_none inserted back e.last, steps_join written (noting r), noting_none r);
         })
 
     -- the list has no room for what comes behind the report
@@ -279,7 +261,7 @@ module _ (sizes : Sizes) (e : Engine) (f : FilesTold) (s0 : SinkTold) (book : Bo
         let cuts' : Cuts sizes (state_of e2 (with_work (r ∷ rs) book)) e3 (with_work (r ∷ rs) book) (world_of f s2 e2) (world_of f s2 e3) (noting r) b =
         subst (λ (x : Bool). Cuts sizes (state_of e2 (with_work (r ∷ rs) book)) e3 (with_work (r ∷ rs) book) (world_of f s2 e2) (world f s2 x) (noting r) b) (sym (ap (λ (y : Engine). y.in_line) is)) cuts in
         cuts_by sizes _ e3 (with_work (r ∷ rs) book) _ _ _ _ b (whole_is h)
-        (later_cuts sizes _ _ e3 (with_work (r ∷ rs) book) _ _ _ (fronts inserted back r) (written ++ noting r) b front
+        (later_cuts sizes _ _ e3 (with_work (r ∷ rs) book) _ _ _ (fronts inserted back e.last) (written ++ noting r) b front
         (later_cuts sizes _ _ e3 (with_work (r ∷ rs) book) _ _ _ written (noting r) b h.did cuts'))
 
     pub told_halts : (o : Outcome) → e1.reports ≡ e.reports → Halts sizes (state_of e1 (with_work (r ∷ rs) book)) e2 (with_work (r ∷ rs) book) (world_of f s0 e1) (world_of f s2 e2) (reported (page_of e1 book) report (noting r)) o 0 →
@@ -287,13 +269,13 @@ module _ (sizes : Sizes) (e : Engine) (f : FilesTold) (s0 : SinkTold) (book : Bo
     told_halts o counted halts =
         let h : Halts sizes (state_of e1 (with_work (r ∷ rs) book)) e2 (with_work (r ∷ rs) book) (world_of f s0 e) (world_of f s2 e2) (reported (page_of e book) report (noting r)) o 0 =
         subst (λ (p : Page). Halts sizes (state_of e1 (with_work (r ∷ rs) book)) e2 (with_work (r ∷ rs) book) (world f s0 p.in_line) (world_of f s2 e2) (reported p report (noting r)) o 0) page halts in
-        subst (λ (ms : List Move). Halts sizes (state_of e (with_work (r ∷ rs) book)) e2 (with_work (r ∷ rs) book) (world_of f s0 e) (world_of f s2 e2) ms o 1) (sym (told_is (page_of e book) report inserted back r once))
+        subst (λ (ms : List Move). Halts sizes (state_of e (with_work (r ∷ rs) book)) e2 (with_work (r ∷ rs) book) (world_of f s0 e) (world_of f s2 e2) ms o 1) (sym (told_is (page_of e book) report inserted back r))
         (halts_least sizes _ e2 (with_work (r ∷ rs) book) _ _ _ o 0 1 (omega arith)
-        (halts_on sizes (state_of e (with_work (r ∷ rs) book)) (state_of e1 (with_work (r ∷ rs) book)) e2 (with_work (r ∷ rs) book) _ _ _ (fronts inserted back r) (reported (page_of e book) report (noting r)) o 0 0 counted front (fronts_none inserted back r) h))
+        (halts_on sizes (state_of e (with_work (r ∷ rs) book)) (state_of e1 (with_work (r ∷ rs) book)) e2 (with_work (r ∷ rs) book) _ _ _ (fronts inserted back e.last) (reported (page_of e book) report (noting r)) o 0 0 counted front (fronts_none inserted back e.last) h))
 
     pub told_cuts : (b : Broken) → Cuts sizes (state_of e1 (with_work (r ∷ rs) book)) e2 (with_work (r ∷ rs) book) (world_of f s0 e1) (world_of f s2 e2) (reported (page_of e1 book) report (noting r)) b →
         Cuts sizes (state_of e (with_work (r ∷ rs) book)) e2 (with_work (r ∷ rs) book) (world_of f s0 e) (world_of f s2 e2) (told (page_of e book) report inserted back r) b
     told_cuts b cuts =
         let h : Cuts sizes (state_of e1 (with_work (r ∷ rs) book)) e2 (with_work (r ∷ rs) book) (world_of f s0 e) (world_of f s2 e2) (reported (page_of e book) report (noting r)) b =
         subst (λ (p : Page). Cuts sizes (state_of e1 (with_work (r ∷ rs) book)) e2 (with_work (r ∷ rs) book) (world f s0 p.in_line) (world_of f s2 e2) (reported p report (noting r)) b) page cuts in
-        cuts_by sizes _ e2 (with_work (r ∷ rs) book) _ _ _ _ b (told_is (page_of e book) report inserted back r once) (later_cuts sizes _ _ e2 (with_work (r ∷ rs) book) _ _ _ (fronts inserted back r) (reported (page_of e book) report (noting r)) b front h)
+        cuts_by sizes _ e2 (with_work (r ∷ rs) book) _ _ _ _ b (told_is (page_of e book) report inserted back r) (later_cuts sizes _ _ e2 (with_work (r ∷ rs) book) _ _ _ (fronts inserted back e.last) (reported (page_of e book) report (noting r)) b front h)

@@ -1,10 +1,10 @@
 -- Texts, reports and ends that the engine writes.
-use Rattle.std.proofs.Common.{◌≡◌, ℕ, ◌+◌, ◌≤◌, List, [], ◌∷◌, ◌++◌, length, refl, sym, ap, ◌∙◌, subst, Bool, true, false, reverse, arith}
+use Rattle.std.proofs.Common.{◌≡◌, ℕ, zero, suc, ◌+◌, ◌≤◌, List, [], ◌∷◌, ◌++◌, refl, sym, ap, ◌∙◌, subst, Bool, true, false, arith}
 use Rattle.std.specs.Prelude.{Option, Some, None, Result, Ok, Err, IfErr, IsErrAnd, nat_lt, if◌then◌else◌}
 use Rattle.tex_syntax.specs.declared.words.Outcome.{Outcome}
 use Rattle.tex_syntax.specs.declared.words.Outcome.TheVariants.{AtFatal, Finished}
-use Rattle.tex_syntax.specs.declared.words.Want.{Want}
 use Rattle.tex_syntax.specs.declared.words.Report.{Report}
+use Rattle.tex_syntax.specs.declared.words.Scanned.TheVariants as scanned
 use Rattle.tex_defs.specs.declared.Sizes.{Sizes}
 use Rattle.tex_defs.specs.declared.Token.{Token}
 use Rattle.tex_defs.specs.declared.Meaning.{Meaning}
@@ -14,47 +14,40 @@ use Rattle.tex_defs.specs.declared.Fatal.TheVariants as fatal
 use Rattle.prim_table.specs.Primitives.{primitive_names}
 use Rattle.tex_defs.specs.Places.{World, Transcript}
 use Rattle.plain_tokens.specs.Printed.{Style, initial_style}
-use Rattle.plain_state.specs.Readings as reading
 use Rattle.plain_state.specs.Reports as reports
-use Rattle.plain_state.specs.Reports.{plain_style, report_bytes, hundred_line, token_line_bytes, missing_file_bytes}
-use Rattle.plain_state.specs.States.{State, Reading, Move, Written, Ended, Reported, Stopped, made, ended_with, beneath, fresh}
-use Rattle.plain_state.specs.Demands.{refusal}
-use Rattle.plain_machine.specs.Plan.{Page, reported, reports_room, token_line, no_file, effect}
+use Rattle.plain_state.specs.Reports.{plain_style, report_bytes, hundred_line, token_line_bytes, missing_file_bytes, runaway_bytes}
+use Rattle.plain_readings.specs.Readings.{Reading}
+use Rattle.plain_machine.specs.States.{State, Move, Written, Reported, Stopped, made}
+use Rattle.plain_machine.specs.Demands.{refusal}
+use Rattle.plain_machine.specs.Plan.{Page, reported, reports_room, token_line, no_file}
 use Rattle.plain_machine.specs.Numbers.{pending_of, meanings_of}
 use Rattle.plain_machine.specs.Runs.{Wrote, steps, step_of}
 use Rattle.plain_machine.specs.Does.{Did}
 use Rattle.plain_machine.proofs.Doing.{did_join, did_one, wrote_join}
-use Rattle.plain_machine.proofs.Joins.{steps_join}
 use Rattle.world_io.specs.Told.{FilesTold, SinkTold, world}
 use Rattle.world_io.specs.declared.traits.Fault.{Fault}
 use Rattle.transcript.specs.Taken.{Took, TookFront}
-use Rattle.string_pool.specs.Pool.{Pool}
 use Rattle.token_lists.specs.Table.{Entry, tokens_at}
 use Rattle.input_state.specs.HeldLists.{first_list as first_held}
+use Rattle.input_state.specs.Macros.{list_at}
 use Rattle.input_state.specs.Stored.{gathered}
-use Rattle.frames.specs.Stack.{Stack}
-use Rattle.frames.specs.Sees.{first_list}
-use Rattle.frames.specs.declared.scan.Ask.{Ask}
-use Rattle.frames.specs.declared.scan.Ask.TheVariants.{More}
-use Rattle.frames.specs.declared.frame.Frame.{Frame}
-use Rattle.frames.specs.declared.outer.Beneath.{Beneath}
+use Rattle.reading_frames.specs.Sees.{kept_list_of}
 use Rattle.engine_state.specs.declared.broken.Broken.{Broken}
-use Rattle.engine_state.specs.declared.call.Call.{Call}
 use Rattle.engine_state.specs.declared.engine.Engine.{Engine}
 use Rattle.engine_state.specs.declared.broken.Broken.TheVariants as broken
 use Rattle.engine_state.specs.declared.outcome.Last.{Last}
 use Rattle.engine_state.specs.declared.outcome.Last.TheVariants as last
 use Rattle.engine_state.specs.Faults.{broken_by}
-use Rattle.engine_state.specs.Begins.{outcome_of_last, last_moves, last_bytes, IsCommand}
+use Rattle.engine_state.specs.Begins.{outcome_of_last, last_moves, last_bytes}
 use Rattle.engine_state.specs.Book.{Book, with_work}
-use Rattle.engine_state.specs.Calls.{AllStand, WantsToken}
-use Rattle.engine_state.specs.Chained.{HasBody}
-use Rattle.engine_state.specs.Stands.{Stands, FramesStand, WorkStands, Waits, WaitStands, EndsHere, OuterStand, AtMostOne, IsSized, IsSound, AreOrderly, IsUncalled, SameFrames, SameStore, SameState, SameOthers, OnlyColumn, state_of, page_of}
-use Rattle.engine_state.specs.Rules.{world_of, Takes, WantsHere, Cuts, CountsReports, Went, Halts, Reports, SameReadings}
-use Rattle.engine_state.proofs.Bare.{all_of, framed}
+use Rattle.engine_state.specs.Calls.{AllStand, work_or_none}
+use Rattle.engine_state.specs.Stands.{Stands, IsSized, IsSound, IsUncalled, SameFrames, SameStore, SameBut, SameOthers, OnlyColumn, state_of, page_of}
+use Rattle.engine_state.specs.Rules.{world_of, list_number, counted, CountsOn, Cuts, CountsReports, Went, Halts, Reports}
+use Rattle.engine_state.proofs.Bare.{all_of}
+use Rattle.engine_state.proofs.CallKept.{frames_kept}
 use Rattle.engine_state.proofs.Cutting.{cuts_by, full_cuts, later_cuts, did_out, cut_out}
-use Rattle.engine_state.proofs.Joining.{IsQuiet, quiet_here, quiet_wrote}
-use Rattle.engine_state.proofs.Storing.{store_is, sound_sized, sound_still}
+use Rattle.engine_state.proofs.Joining.{IsQuiet, quiet_here, quiet_wrote, halts_on}
+use Rattle.engine_state.proofs.Storing.{store_is, store_same, sound_sized, sound_still}
 
 -- WRITES
 
@@ -66,17 +59,40 @@ style_is style categories found names h n = h ∙ ap (λ (x : List (List ℕ)). 
 pub shown_is : (text : Style → List Token → List ℕ) (style style' : Style) (ts us : List Token) → style ≡ style' → ts ≡ us → text style ts ≡ text style' us
 shown_is text style style' ts us s t = cc
 
-first_same : (lists : List (List Token)) → first_held lists ≡ first_list lists
-first_same [] = refl
-first_same (ts ∷ lists) = refl
+-- a list by its number
+number_same : (lists : List (List Token)) (k : ℕ) → list_at lists k ≡ list_number k lists
+number_same [] zero = refl
+number_same [] (suc k) = refl
+number_same (ts ∷ lists) zero = refl
+number_same (ts ∷ lists) (suc k) = number_same lists k
 
--- the list that the innermost reading holds
-pub list_is : (table held : List (Option Entry)) (id : ℕ) (lists : List (List Token)) → table ≡ held → tokens_at held id ≡ first_held lists → tokens_at table id ≡ first_list lists
-list_is table held id lists t h = ap (λ (x : List (Option Entry)). tokens_at x id) t ∙ (h ∙ first_same lists)
+pub number_is : (table held : List (Option Entry)) (id k : ℕ) (lists : List (List Token)) → table ≡ held → tokens_at held id ≡ list_at lists k → tokens_at table id ≡ list_number k lists
+number_is table held id k lists t h = ap (λ (x : List (Option Entry)). tokens_at x id) t ∙ (h ∙ number_same lists k)
+
+-- the innermost, where it is listed
+listed_same : (listed : Bool) (lists : List (List Token)) → listed ≡ true → first_held lists ≡ kept_list_of listed lists
+listed_same true [] is = refl
+listed_same true (ts ∷ lists) is = refl
+listed_same false lists is = cc
+
+pub listed_is : (listed : Bool) (table held : List (Option Entry)) (id : ℕ) (lists : List (List Token)) → listed ≡ true → table ≡ held → tokens_at held id ≡ first_held lists → tokens_at table id ≡ kept_list_of listed lists
+listed_is listed table held id lists is t h = ap (λ (x : List (Option Entry)). tokens_at x id) t ∙ (h ∙ listed_same listed lists is)
+
+-- no list
+pub unlisted_is : (listed : Bool) (lists : List (List Token)) → (listed ≡ true → lists ≡ []) → [] ≡ kept_list_of listed lists
+unlisted_is false lists none = refl
+unlisted_is true lists none = ap (kept_list_of true) (sym (none refl))
+
+-- an argument's list
+pub work_is : (table held : List (Option Entry)) (id : ℕ) (o : Option (List Token)) → table ≡ held → o ≡ Some (tokens_at held id) → tokens_at table id ≡ work_or_none o
+work_is table held id o t is = ap (λ (x : List (Option Entry)). tokens_at x id) t ∙ ap work_or_none (sym is)
+
+pub empty_is : (categories : List ℕ) (names : List (List ℕ)) (b : Bool) (text : List ℕ) (o : Option (List Token)) → o ≡ None → text ≡ runaway_bytes scanned.Use (initial_style categories names) b [] → text ≡ runaway_bytes scanned.Use (initial_style categories names) b (work_or_none o)
+empty_is categories names b text o none is = is ∙ ap (λ (x : Option (List Token)). runaway_bytes scanned.Use (initial_style categories names) b (work_or_none x)) (sym none)
 
 module _ (s s' : SinkTold) (e : Engine) (b' : Bool) (text shown : List ℕ) (is : shown ≡ text) where
   only_column : OnlyColumn e (record e { in_line = b' })
-  only_column = record { outer = refl; top = refl; ask = refl; call = refl; input = refl; names = refl; categories = refl; reports = refl; quiet = refl; sizes = refl }
+  only_column = record { same = refl }
 
   -- what was taken, in other words
   pub took_out : Took s s' e.in_line b' shown → (sizes : Sizes) (f : FilesTold) (book : Book) →
@@ -108,16 +124,12 @@ loud_cuts (Err b) s s' e e' m q h = λ sizes f book. cuts_by sizes _ e' book _ _
 abbrev no_file_lines : List ℕ
 no_file_lines = reports.emergency (plain_style []) ++ reports.no_file_line (plain_style [])
 
-abbrev first_text : Page → Report → List ℕ
-first_text page report = report_bytes (plain_style page.names) page.in_line page.line report
+counted_on : (page : Page) (rest : List Move) → nat_lt page.reports reports_room ≡ true → counted page rest ≡ Reported ∷ rest
+counted_on page rest e = rw e refl
 
-report_on : (page : Page) (report : Report) (rest : List Move) → nat_lt page.reports reports_room ≡ true →
-    reported page report rest ≡ Written Transcript (first_text page report) ∷ Reported ∷ rest
-report_on page report rest e = rw e refl
-
-report_last : (page : Page) (report : Report) (rest : List Move) → nat_lt page.reports reports_room ≡ false →
-    reported page report rest ≡ Written Transcript (first_text page report) ∷ Reported ∷ Written Transcript (hundred_line (plain_style page.names)) ∷ Stopped (AtFatal fatal.HundredErrors) ∷ []
-report_last page report rest e = rw e refl
+counted_end : (page : Page) (rest : List Move) → nat_lt page.reports reports_room ≡ false →
+    counted page rest ≡ Reported ∷ Written Transcript (hundred_line (plain_style page.names)) ∷ Stopped (AtFatal fatal.HundredErrors) ∷ []
+counted_end page rest e = rw e refl
 
 -- the machine stops behind its last text
 stops_did : (sizes : Sizes) (s : State) (w w' : World) (bs : List ℕ) (o : Outcome) → Wrote w w' (Written Transcript bs ∷ []) →
@@ -149,10 +161,10 @@ stops sizes s e' book w w' bs o due counts d = record {
   by_outcome (AtFatal f) h = tt
 
 -- where the machine stops of itself
-pub last_is : (sizes : Sizes) (st : State) (e' : Engine) (book : Book) (w w' : World) (b : Bool) (l : Last) → st.due ≡ [] → e'.reports ≡ st.reports → Did sizes st (state_of e' book) w w' (Written Transcript (last_bytes b l) ∷ []) →
+pub last_is : (sizes : Sizes) (st : State) (e' : Engine) (book : Book) (w w' : World) (b : Bool) (l : Last) → st.due ≡ [] → e'.reports ≡ st.reports → e'.flawed ≡ st.flawed → Did sizes st (state_of e' book) w w' (Written Transcript (last_bytes b l) ∷ []) →
     Halts sizes st e' book w w' (last_moves b l) (outcome_of_last l) 0
-last_is sizes st e' book w w' b last.End due is d = stops sizes st e' book w w' _ _ due (sym is) d
-last_is sizes st e' book w w' b last.NoEnd due is d = stops sizes st e' book w w' _ _ due tt d
+last_is sizes st e' book w w' b last.End due is flawed d = stops sizes st e' book w w' _ _ due (sym is, sym flawed) d
+last_is sizes st e' book w w' b last.NoEnd due is flawed d = stops sizes st e' book w w' _ _ due tt d
 
 pub last_cut : (sizes : Sizes) (s : State) (e' : Engine) (book : Book) (w w' : World) (b : Bool) (l : Last) (k : Broken) →
     ((more : List Move) → Cuts sizes s e' book w w' (Written Transcript (last_bytes b l) ∷ more) k) → Cuts sizes s e' book w w' (last_moves b l) k
@@ -185,24 +197,70 @@ module _ (sizes : Sizes) (s u : State) (w w1 : World) (text : List ℕ) (first :
         later_cuts sizes s v e' book w w1 w2 (Written Transcript text ∷ Reported ∷ []) (Written Transcript line ∷ Stopped (AtFatal f) ∷ []) b
         (subst (λ (x : State). Did sizes s x w w1 (Written Transcript text ∷ Reported ∷ [])) is counted_first) (h (Stopped (AtFatal f) ∷ []))
 
-module _ (sizes : Sizes) (page : Page) (report : Report) (rest : List Move) (s u : State) (w w1 : World) (first : Did sizes s u w w1 (Written Transcript (first_text page report) ∷ [])) where
-  pub reports_on : (s' : State) → nat_lt page.reports reports_room ≡ true → made Reported u ≡ s' → Reports sizes s s' w w1 page report rest
-  reports_on s' room is = record {
-    moves = report_on page report rest room;
-    did = subst (λ (x : State). Did sizes s x w w1 (Written Transcript (first_text page report) ∷ Reported ∷ [])) is (counted_first sizes s u w w1 (first_text page report) first);
-  }
+-- A REPORT IS COUNTED
 
-  -- the hundredth
-  module _ (w2 : World) (full : nat_lt page.reports reports_room ≡ false) where
-    pub hundredth : (v : State) (e' : Engine) (book : Book) → u.due ≡ [] → Did sizes v (state_of e' book) w1 w2 (Written Transcript (hundred_line (plain_style page.names)) ∷ []) → (s.reports ≤ reports_room → made Reported u ≡ v) →
-        Halts sizes s e' book w w2 (reported page report rest) (AtFatal fatal.HundredErrors) 0
-    hundredth v e' book due second is =
-        subst (λ (ms : List Move). Halts sizes s e' book w w2 ms (AtFatal fatal.HundredErrors) 0) (sym (report_last page report rest full))
-        (ends_behind sizes s u w w1 (first_text page report) first w2 (hundred_line (plain_style page.names)) fatal.HundredErrors v e' book due second is)
+-- the engine counts a report
+pub counted_last : (e : Engine) (book : Book) (n : ℕ) → e.reports + 1 ≡ n → made Reported (state_of e book) ≡ state_of (record e { reports = n }) book
+counted_last e book n is = ap (λ (k : ℕ). record (state_of e book) { reports = k }) is
 
-    pub hundred_cuts : (v : State) (e' : Engine) (book : Book) (b : Broken) → made Reported u ≡ v → ((more : List Move) → Cuts sizes v e' book w1 w2 (Written Transcript (hundred_line (plain_style page.names)) ∷ more) b) →
-        Cuts sizes s e' book w w2 (reported page report rest) b
-    hundred_cuts v e' book b is h = cuts_by sizes s e' book w w2 _ _ b (report_last page report rest full) (cuts_behind sizes s u w w1 (first_text page report) first w2 (hundred_line (plain_style page.names)) fatal.HundredErrors v e' book b is h)
+-- and the run goes on
+pub counts_on : (sizes : Sizes) (e : Engine) (book : Book) (n : ℕ) (w : World) (rest : List Move) → e.reports + 1 ≡ n → nat_lt e.reports reports_room ≡ true →
+    CountsOn sizes (state_of e book) (state_of (record e { reports = n }) book) w w (page_of e book) rest
+counts_on sizes e book n w rest is room = record {
+  moves = counted_on (page_of e book) rest room;
+  did = did_one sizes Reported _ _ w w refl (counted_last e book n is) (quiet_here Reported w tt);
+}
+
+-- or it was the hundredth
+module _ (sizes : Sizes) (e e' : Engine) (book : Book) (w w' : World) (rest : List Move) (full : nat_lt e.reports reports_room ≡ false) where
+  abbrev hundred : List ℕ
+  hundred = hundred_line (plain_style e.names.names)
+
+  reported_here : Did sizes (state_of e book) (made Reported (state_of e book)) w w (Reported ∷ [])
+  reported_here = did_one sizes Reported _ _ w w refl refl (quiet_here Reported w tt)
+
+  pub counted_halts : (v : State) → Did sizes v (state_of e' book) w w' (Written Transcript hundred ∷ []) → (e.reports ≤ reports_room → made Reported (state_of e book) ≡ v) →
+      Halts sizes (state_of e book) e' book w w' (counted (page_of e book) rest) (AtFatal fatal.HundredErrors) 0
+  counted_halts v second is =
+      subst (λ (ms : List Move). Halts sizes (state_of e book) e' book w w' ms (AtFatal fatal.HundredErrors) 0) (sym (counted_end (page_of e book) rest full))
+      (record {
+        t = made (Stopped (AtFatal fatal.HundredErrors)) (made (Written Transcript hundred) (made Reported (state_of e book)));
+        did = did_join sizes _ (made Reported (state_of e book)) _ w w w' (Reported ∷ []) (Written Transcript hundred ∷ Stopped (AtFatal fatal.HundredErrors) ∷ []) reported_here (stops_did sizes (made Reported (state_of e book)) w w' hundred (AtFatal fatal.HundredErrors) second.written);
+        stopped = refl;
+        due = refl;
+        reports = tt;
+        same = λ few. ap (λ (x : State). record (made (Stopped (AtFatal fatal.HundredErrors)) (made (Written Transcript hundred) x)) { stopped = None }) (is few) ∙ stops_at sizes v e' book w w' hundred (AtFatal fatal.HundredErrors) second;
+        count = omega arith;
+      })
+
+  pub counted_cuts : (v : State) (b : Broken) → made Reported (state_of e book) ≡ v → ((more : List Move) → Cuts sizes v e' book w w' (Written Transcript hundred ∷ more) b) → Cuts sizes (state_of e book) e' book w w' (counted (page_of e book) rest) b
+  counted_cuts v b is h =
+      cuts_by sizes _ e' book w w' _ _ b (counted_end (page_of e book) rest full)
+      (later_cuts sizes _ v e' book w w w' (Reported ∷ []) (Written Transcript hundred ∷ Stopped (AtFatal fatal.HundredErrors) ∷ []) b
+      (subst (λ (x : State). Did sizes (state_of e book) x w w (Reported ∷ [])) is reported_here) (h (Stopped (AtFatal fatal.HundredErrors) ∷ [])))
+
+-- A TEXT, AND IT IS COUNTED
+
+module _ (sizes : Sizes) (e e1 e' : Engine) (book : Book) (only : OnlyColumn e e1) (w w1 w' : World) (text : List ℕ) (rest : List Move) (first : Did sizes (state_of e book) (state_of e1 book) w w1 (Written Transcript text ∷ [])) where
+  -- what is counted depends on no column
+  same_counted : counted (page_of e book) rest ≡ counted (page_of e1 book) rest
+  same_counted = ap (λ (x : Engine). counted (page_of x book) rest) (sym only.same)
+
+  pub text_moves : CountsOn sizes (state_of e1 book) (state_of e' book) w1 w' (page_of e1 book) rest → Written Transcript text ∷ counted (page_of e book) rest ≡ Written Transcript text ∷ Reported ∷ rest
+  text_moves h = ap (λ (ms : List Move). Written Transcript text ∷ ms) (same_counted ∙ h.moves)
+
+  pub text_did : CountsOn sizes (state_of e1 book) (state_of e' book) w1 w' (page_of e1 book) rest → Did sizes (state_of e book) (state_of e' book) w w' (Written Transcript text ∷ Reported ∷ [])
+  text_did h = did_join sizes _ _ _ w w1 w' (Written Transcript text ∷ []) (Reported ∷ []) first h.did
+
+  pub text_halts : (o : Outcome) → Halts sizes (state_of e1 book) e' book w1 w' (counted (page_of e1 book) rest) o 0 → Halts sizes (state_of e book) e' book w w' (Written Transcript text ∷ counted (page_of e book) rest) o 0
+  text_halts o h =
+      subst (λ (ms : List Move). Halts sizes (state_of e book) e' book w w' (Written Transcript text ∷ ms) o 0) (sym same_counted)
+      (halts_on sizes _ _ e' book w w1 w' (Written Transcript text ∷ []) (counted (page_of e1 book) rest) o 0 0 (ap (λ (x : Engine). x.reports) only.same) first refl h)
+
+  pub text_cut : (b : Broken) → Cuts sizes (state_of e1 book) e' book w1 w' (counted (page_of e1 book) rest) b → Cuts sizes (state_of e book) e' book w w' (Written Transcript text ∷ counted (page_of e book) rest) b
+  text_cut b h =
+      subst (λ (ms : List Move). Cuts sizes (state_of e book) e' book w w' (Written Transcript text ∷ ms) b) (sym same_counted)
+      (later_cuts sizes _ _ e' book w w1 w' (Written Transcript text ∷ []) (counted (page_of e1 book) rest) b first h)
 
 -- a job whose file isn't held
 no_file_is : (file : List ℕ) (names : List (List ℕ)) (b : Bool) → names ≡ primitive_names → b ≡ false →
@@ -228,23 +286,7 @@ module _ (sizes : Sizes) (file : List ℕ) (names : List (List ℕ)) (b : Bool) 
     job_cuts v e' book k is h = cuts_by sizes s e' book w w2 _ _ k (no_file_is file names b names_are column)
         (cuts_behind sizes s u w w1 (missing_file_bytes (plain_style names) b 0 file) first w2 no_file_lines fatal.NoFile v e' book k is h)
 
--- the engine counts a report
-pub counted_last : (e : Engine) (book : Book) (n : ℕ) → e.reports + 1 ≡ n → made Reported (state_of e book) ≡ state_of (record e { reports = n }) book
-counted_last e book n is = ap (λ (k : ℕ). record (state_of e book) { reports = k }) is
-
 -- WHAT STAYS
-
--- the frames stand for the same readings
-pub readings_still : (e e' : Engine) (work : List Reading) → SameReadings e e' → FramesStand e work → FramesStand e' work
-readings_still e e' work same h =
-    subst (λ (x : List (List Token)). WorkStands e'.ask e'.top e'.outer.items e'.input.builds x work) (sym same.aside)
-    (subst (λ (x : List (List Token)). WorkStands e'.ask e'.top e'.outer.items x e.input.aside work) (sym same.lists)
-    (subst (λ (x : List Beneath). WorkStands e'.ask e'.top x e.input.builds e.input.aside work) (sym (ap (λ (o : _). o.items) same.outer))
-    (subst (λ (x : Option Frame). WorkStands e'.ask x e.outer.items e.input.builds e.input.aside work) (sym same.top)
-    (subst (λ (x : Ask). WorkStands x e.top e.outer.items e.input.builds e.input.aside work) (sym same.ask) h))))
-
-pub frames_still : (e e' : Engine) (work : List Reading) → SameFrames e e' → FramesStand e work → FramesStand e' work
-frames_still e e' work same h = readings_still e e' work (record { outer = same.outer; top = same.top; ask = same.ask; lists = same.lists; aside = same.aside; call = same.call }) h
 
 -- and no call is gathered
 uncalled_still : (e e' : Engine) → SameFrames e e' → IsUncalled e → IsUncalled e'
@@ -252,45 +294,14 @@ uncalled_still e e' same h = record { none = same.call ∙ h.none; input = same.
 
 -- the engine whose readings are as they were
 pub stands_still : (sizes : Sizes) (e e' : Engine) (book : Book) → SameFrames e e' → IsSound sizes e' book.number book.macros → e'.input.making ≡ None → Stands sizes e book → Stands sizes e' book
-stands_still sizes e e' book same sound idle st = record { sound = sound; idle = idle; readings = frames_still e e' book.work same st.readings; orderly = st.orderly; uncalled = uncalled_still e e' same st.uncalled }
+stands_still sizes e e' book same sound idle st = record { sound = sound; idle = idle; readings = frames_kept e e' book.work same st.readings; uncalled = uncalled_still e e' same st.uncalled }
 
--- or waits, as it did
-pub waits_still : (sizes : Sizes) (e e' : Engine) (book : Book) → SameFrames e e' → IsSound sizes e' book.number book.macros → e'.input.making ≡ None → Waits sizes e book → Waits sizes e' book
-waits_still sizes e e' book same sound idle st = record {
-  sound = sound;
-  idle = idle;
-  readings =
-      subst (λ (x : List (List Token)). WaitStands e'.top e'.outer.items e'.input.builds x book.work) (sym same.aside)
-      (subst (λ (x : List (List Token)). WaitStands e'.top e'.outer.items x e.input.aside book.work) (sym same.lists)
-      (subst (λ (x : List Beneath). WaitStands e'.top x e.input.builds e.input.aside book.work) (sym (ap (λ (o : _). o.items) same.outer))
-      (subst (λ (x : Option Frame). WaitStands x e.outer.items e.input.builds e.input.aside book.work) (sym same.top) st.readings)));
-  rooted = st.rooted;
-  chained = st.chained;
-  uncalled = uncalled_still e e' same st.uncalled;
-}
-
-pub ends_still : (sizes : Sizes) (e e' : Engine) (v : reading.Value) (r : Reading) (rs : List Reading) (book : Book) → SameFrames e e' → IsSound sizes e' book.number book.macros → e'.input.making ≡ None → EndsHere sizes e v r rs book → EndsHere sizes e' v r rs book
-ends_still sizes e e' v r rs book same sound idle h = record {
-  sound = sound;
-  idle = idle;
-  few = subst AtMostOne (sym same.lists) h.few;
-  holds = h.holds ∙ sym (ap (length {A = List Token}) same.lists);
-  taken = h.taken;
-  chained = h.chained;
-  rooted = h.rooted;
-  ends = h.ends;
-  outer =
-      subst (λ (x : List (List Token)). OuterStand r.kind (reverse e'.outer.items) x rs) (sym same.aside)
-      (subst (λ (x : List Beneath). OuterStand r.kind (reverse x) e.input.aside rs) (sym (ap (λ (o : _). o.items) same.outer)) h.outer);
-  uncalled = uncalled_still e e' same h.uncalled;
-}
-
--- with these readings, and the lists that they hold
-pub reads_now : (e e' : Engine) (book : Book) (work : List Reading) → SameState e e' → record (state_of e book) { work = work; gathered = gathered e'.input } ≡ state_of e' (with_work work book)
+-- with these readings, the lists that they hold, and the token that they were fed with last
+pub reads_now : (e e' : Engine) (book : Book) (work : List Reading) → SameBut e e' → record (state_of e book) { work = work; gathered = gathered e'.input; last = e'.last } ≡ state_of e' (with_work work book)
 reads_now e e' book work same = let h = same.others in
     let pending : pending_of book.number e'.input.pending ≡ pending_of book.number e.input.pending = ap (pending_of book.number) same.pending in
     let meanings : meanings_of book.number e'.input.meanings ≡ meanings_of book.number e.input.meanings = ap (meanings_of book.number) same.store.meanings in
-    cc (pending, meanings, same.making, h.names, h.categories, h.in_line, h.reports, h.quiet)
+    cc (pending, meanings, same.making, h.names, h.categories, h.in_line, h.reports, h.flawed, h.quiet)
 
 -- a report alone
 pub reports_went : (sizes : Sizes) (e e' : Engine) (book : Book) (w w' : World) (report : Report) → AllStand sizes e' book → Reports sizes (state_of e book) (state_of e' book) w w' (page_of e book) report [] →
@@ -300,28 +311,6 @@ reports_went sizes e e' book w w' report st h = record {
   stands = st;
   did = subst (λ (ms : List Move). Did sizes (state_of e book) (state_of e' book) w w' ms) (sym h.moves) h.did;
   count = ap steps h.moves;
-}
-
-pub effect_none : (s : State) (ef : reading.Effect) → steps (effect s ef) ≡ 0
-effect_none s (reading.SetCategory code category) = refl
-effect_none s (reading.Say ts) = refl
-effect_none s (reading.SetMacro name long outer ts) = refl
-
--- the innermost reading ends
-pub ended_state : (e e' : Engine) (book : Book) (r : Reading) (rs : List Reading) (v : reading.Value) → SameState e e' → reading.value_lists v ++ beneath (r ∷ rs) (gathered e.input) ≡ gathered e'.input →
-    made (Ended v) (state_of e (with_work (r ∷ rs) book)) ≡ state_of e' (with_work (ended_with v (r ∷ rs)) book)
-ended_state e e' book r rs v same lists = ap (λ (l : List (List Token)). record (state_of e (with_work (r ∷ rs) book)) { work = ended_with v (r ∷ rs); gathered = l }) lists ∙ reads_now e e' (with_work (r ∷ rs) book) (ended_with v (r ∷ rs)) same
-
--- and so behind moves without a step
-pub ends_behind_moves : (sizes : Sizes) (e e1 e2 : Engine) (book : Book) (r : Reading) (rs : List Reading) (f : FilesTold) (w : World) (s : SinkTold) (ms : List Move) (v : reading.Value) →
-    Did sizes (state_of e (with_work (r ∷ rs) book)) (state_of e1 (with_work (r ∷ rs) book)) w (world_of f s e1) ms → steps ms ≡ 0 → SameState e1 e2 → reading.value_lists v ++ beneath (r ∷ rs) (gathered e1.input) ≡ gathered e2.input → Stands sizes e2 (with_work (ended_with v (r ∷ rs)) book) →
-    Went sizes (state_of e (with_work (r ∷ rs) book)) e2 w (world_of f s e2) (ms ++ Ended v ∷ []) 0
-ends_behind_moves sizes e e1 e2 book r rs f w s ms v d n same lists stands = record {
-  book' = with_work (ended_with v (r ∷ rs)) book;
-  stands = all_of sizes e2 (with_work (ended_with v (r ∷ rs)) book) stands;
-  did = did_join sizes _ _ _ w _ _ ms (Ended v ∷ []) d
-      (did_one sizes (Ended v) _ _ _ _ refl (ended_state e1 e2 book r rs v same lists) (quiet_wrote (Ended v) f s e1.in_line e2.in_line tt same.others.in_line));
-  count = steps_join ms (Ended v ∷ []) ∙ omega (arith, n);
 }
 
 -- WHAT BECOMES OF A TOKEN
@@ -335,7 +324,7 @@ full_out sizes e e' f s book m rest full is refused =
 
 -- a move of the readings alone
 pub reading_went : (sizes : Sizes) (e e' : Engine) (book : Book) (work : List Reading) (f : FilesTold) (s : SinkTold) (m : Move) → IsQuiet m → step_of m ≡ 0 → refusal sizes m (state_of e book) ≡ None →
-    made m (state_of e book) ≡ record (state_of e book) { work = work; gathered = gathered e'.input } → SameState e e' → Stands sizes e' (with_work work book) → Went sizes (state_of e book) e' (world_of f s e) (world_of f s e') (m ∷ []) 0
+    made m (state_of e book) ≡ record (state_of e book) { work = work; gathered = gathered e'.input; last = e'.last } → SameBut e e' → Stands sizes e' (with_work work book) → Went sizes (state_of e book) e' (world_of f s e) (world_of f s e') (m ∷ []) 0
 reading_went sizes e e' book work f s m quiet silent fits is same stands = record {
   book' = with_work work book;
   stands = all_of sizes e' (with_work work book) stands;
@@ -353,7 +342,7 @@ others_sound sizes e e' book others store h = sound_still sizes e e' book.number
 
 -- an engine that has written
 pub column_sound : (sizes : Sizes) (e e' : Engine) (number : ℕ → ℕ) (macros : List (List Token)) → OnlyColumn e e' → IsSound sizes e number macros → IsSound sizes e' number macros
-column_sound sizes e e' number macros only h = sound_still sizes e e' number macros only.sizes (ap (λ (o : Stack). o.size) only.outer) only.names only.reports (store_is e.input e'.input only.input) h
+column_sound sizes e e' number macros only h = subst (λ (x : Engine). IsSound sizes x number macros) (sym only.same) (sound_still sizes e (record e { in_line = e'.in_line }) number macros refl refl refl refl (store_same e.input) h)
 
 -- a token's line alone
 line_silent : (page : Page) (m : Meaning Unit) → steps (token_line page m) ≡ 0
@@ -365,37 +354,3 @@ line_silent page m = silent page.quiet where
 pub line_went : (sizes : Sizes) (e e' : Engine) (book : Book) (w w' : World) (m : Meaning Unit) → AllStand sizes e' book → Did sizes (state_of e book) (state_of e' book) w w' (token_line (page_of e book) m) →
     Went sizes (state_of e book) e' w w' (token_line (page_of e book) m) 0
 line_went sizes e e' book w w' m st did = record { book' = book; stands = st; did = did; count = line_silent (page_of e book) m }
-
--- where no reading is open
-token_first : (e : Engine) → e.top ≡ None → WantsToken e.top e.ask
-token_first e top = subst (λ (t : Option Frame). WantsToken t e.ask) (sym top) tt
-
--- a frame that wants a token
-token_more : (t : Option Frame) (want : Want) → WantsToken t (More want)
-token_more None want = tt
-token_more (Some f) want = tt
-
-token_wanted : (e : Engine) (want : Want) → e.ask ≡ More want → WantsToken e.top e.ask
-token_wanted e want asks = subst (WantsToken e.top) (sym asks) (token_more e.top want)
-
--- where no call gathers its arguments, the frames want it
-pub token_here : (sizes : Sizes) (e : Engine) (want : Option Want) (book : Book) → e.call ≡ None → Takes sizes want e book → WantsToken e.top e.ask × Stands sizes e book
-token_here sizes e want book none t = (by_want want (subst (λ (c : Option Call). WantsHere c want e) none t.0), framed sizes e book none t.1) where
-  by_want : (want : Option Want) → WantsHere None want e → WantsToken e.top e.ask
-  by_want None h = token_first e h
-  by_want (Some w) h = token_wanted e w h
-
--- where no reading is open, a command begins
-bodiless : (k : reading.Kind) → IsCommand k → HasBody (reading.ask k [])
-bodiless reading.Catcode h = tt
-bodiless (reading.Message name) h = tt
-bodiless (reading.Prefixed long outer) h = tt
-bodiless (reading.Define expanded) h = tt
-bodiless reading.Number h = tt
-bodiless k h = absurd h
-
-pub orderly_first : (sizes : Sizes) (e : Engine) (k : reading.Kind) (book : Book) → e.top ≡ None → IsCommand k → Stands sizes e book → AreOrderly (fresh k ∷ book.work)
-orderly_first sizes e k book top is st = at book.work (subst (λ (t : Option Frame). WorkStands e.ask t e.outer.items e.input.builds e.input.aside book.work) top st.readings) where
-  at : (work : List Reading) → WorkStands e.ask None e.outer.items e.input.builds e.input.aside work → AreOrderly (fresh k ∷ work)
-  at [] w = record { rooted = is; chained = (bodiless k is, tt) }
-  at (s ∷ rs) w = absurd w

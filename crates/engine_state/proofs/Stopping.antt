@@ -7,7 +7,7 @@ use Rattle.tex_syntax.specs.declared.words.Want.{Want}
 use Rattle.tex_defs.specs.declared.Seen.{Seen}
 use Rattle.tex_defs.specs.declared.Sizes.{Sizes}
 use Rattle.tex_defs.specs.Places.{World}
-use Rattle.plain_state.specs.States.{State, Move}
+use Rattle.plain_machine.specs.States.{State, Move}
 use Rattle.world_io.specs.Told.{SinkTold}
 use Rattle.engine_state.specs.declared.broken.Broken.{Broken}
 use Rattle.engine_state.specs.declared.call.Call.{Call}
@@ -19,27 +19,29 @@ use Rattle.engine_state.specs.declared.outcome.Ruled.TheVariants as ruled
 use Rattle.engine_state.specs.Book.{Book}
 use Rattle.engine_state.specs.Calls.{AllStand}
 use Rattle.engine_state.specs.Near.{FramesNear, CutsIn}
-use Rattle.engine_state.specs.Stands.{SameFrames, OnlyColumn}
-use Rattle.engine_state.specs.Rules.{WantsHere, Takes, CountsReports, Went, Halts, Cuts, Comes, Nexts, DoesRule, SameReadings}
+use Rattle.engine_state.specs.Stands.{SameFrames, SameReadings}
+use Rattle.engine_state.specs.Rules.{WantsHere, Takes, CountsReports, Went, Halts, Cuts, Comes, Nexts, DoesRule}
 use Rattle.engine_state.specs.Turns.{ReadsNext, CutsNext, DoesPlan, CutsPlan}
 use Rattle.engine_state.proofs.Nearing.{near_still}
-use Rattle.engine_state.proofs.Standing.{only_frames, column_all}
+use Rattle.engine_state.proofs.CallKept.{all_still}
+use Rattle.engine_state.proofs.Storing.{store_same, sound_still}
 
 -- with this noted
 abbrev pub noted : Bool → Engine → Engine
 noted b e = record e { stopped = b }
 
-noted_only : (b : Bool) (e : Engine) → OnlyColumn e (noted b e)
-noted_only b e = record { outer = refl; top = refl; ask = refl; call = refl; input = refl; names = refl; categories = refl; reports = refl; quiet = refl; sizes = refl }
+pub noted_same : (b : Bool) (e : Engine) → SameFrames e (noted b e)
+noted_same b e = record { readings = refl; lists = refl; call = refl; calling = refl }
 
 pub noted_stands : (b : Bool) (sizes : Sizes) (e : Engine) (book : Book) → AllStand sizes e book → AllStand sizes (noted b e) book
-noted_stands b sizes e book st = column_all sizes e (noted b e) book (noted_only b e) st
+noted_stands b sizes e book st =
+    all_still sizes e (noted b e) book (noted_same b e) (store_same e.input) (sound_still sizes e (noted b e) book.number book.macros refl refl refl refl (store_same e.input) st.sound) st.idle st
 
 pub noted_frames : (b : Bool) (e e' : Engine) → SameFrames e e' → SameFrames e (noted b e')
-noted_frames b e e' h = record { outer = h.outer; top = h.top; ask = h.ask; lists = h.lists; aside = h.aside; call = h.call; calling = h.calling }
+noted_frames b e e' h = record { readings = h.readings; lists = h.lists; call = h.call; calling = h.calling }
 
 pub noted_readings : (b : Bool) (e e' : Engine) → SameReadings e e' → SameReadings e (noted b e')
-noted_readings b e e' h = record { outer = h.outer; top = h.top; ask = h.ask; lists = h.lists; aside = h.aside; call = h.call }
+noted_readings b e e' h = record { readings = h.readings; lists = h.lists; call = h.call }
 
 wants_noted : (b : Bool) (e : Engine) (c : Option Call) (want : Option Want) → WantsHere c want e → WantsHere c want (noted b e)
 wants_noted b e None None h = h
@@ -55,7 +57,7 @@ noted_counts b Finished t e h = h
 noted_counts b (AtFatal f) t e h = h
 
 pub noted_near : (b : Bool) (x : Broken) (e : Engine) (book : Book) → FramesNear x e book.work → FramesNear x (noted b e) book.work
-noted_near b x e book h = near_still x e (noted b e) book.work (only_frames e (noted b e) (noted_only b e)) h
+noted_near b x e book h = near_still x e (noted b e) book.work (noted_same b e) h
 
 module _ (b : Bool) (sizes : Sizes) (s : State) (e : Engine) (w w' : World) (moves : List Move) where
   pub noted_went : (k : ℕ) → Went sizes s e w w' moves k → Went sizes s (noted b e) w w' moves k
@@ -68,7 +70,7 @@ module _ (b : Bool) (sizes : Sizes) (s : State) (e : Engine) (w w' : World) (mov
   noted_cuts book x h = record { at = h.at; cut = h.cut; same = h.same }
 
   pub noted_in : (x : Broken) → CutsIn sizes s e w w' moves x → CutsIn sizes s (noted b e) w w' moves x
-  noted_in x h = record { book' = h.book'; cuts = noted_cuts h.book' x h.cuts; frames = noted_near b x e h.book' h.frames }
+  noted_in x h = record { book' = h.book'; cuts = noted_cuts h.book' x h.cuts; near = noted_near b x e h.book' h.near }
 
   pub noted_comes : (want : Option Want) (book : Book) (x : Seen) (k : ℕ) → Comes sizes want s e book w w' moves x k → Comes sizes want s (noted b e) book w w' moves x k
   noted_comes want book x k h = record { book' = h.book'; still = h.still; takes = noted_takes b sizes want e h.book' h.takes; front = h.front; did = h.did; whole = h.whole; count = h.count }

@@ -5,22 +5,22 @@ use Rattle.std.proofs.lemmas.Bool.{cases_lt}
 use Rattle.std.proofs.lemmas.List.{get_or_past}
 use Rattle.tex_defs.specs.declared.Token.{Token}
 use Rattle.tex_defs.specs.declared.Meaning.{Meaning}
+use Rattle.tex_defs.specs.declared.Full.{Full}
 use Rattle.tex_defs.specs.declared.Sizes.{Sizes}
 use Rattle.plain_tokens.specs.Puts.{token_put}
 use Rattle.plain_tokens.specs.Pending.{Pending, settle, put_front}
-use Rattle.plain_tokens.specs.Tables.{is_meant, is_put}
-use Rattle.plain_state.specs.Demands.{words}
+use Rattle.plain_tokens.specs.Tables.{is_meant, is_put, memory, refused}
+use Rattle.plain_machine.specs.Demands.{words}
 use Rattle.plain_machine.specs.Numbers.{IsHeld, Tied}
 use Rattle.plain_machine.specs.Plan.{reports_room}
 use Rattle.plain_machine.proofs.MacroWords.{all_words_tied}
 use Rattle.plain_machine.proofs.Ties.{put_settled, put_with_put, held_more}
-use Rattle.frames.specs.Stack.{Stack}
 use Rattle.name_table.specs.Strings.{Strings}
 use Rattle.input_state.specs.Callings.{Calling}
 use Rattle.input_state.specs.Stored.{Stored, KeepsMacros, gathered, words as stored_words}
 use Rattle.engine_state.specs.declared.engine.Engine.{Engine}
 use Rattle.engine_state.specs.Book.{Book, AreBodies}
-use Rattle.engine_state.specs.Stands.{IsSized, IsSound, OnlyColumn, SameStore, SameState, SameOthers, state_of}
+use Rattle.engine_state.specs.Stands.{IsSized, IsSound, SameStore, SameBut, SameElse, state_of}
 
 -- WHAT STAYS OF THE INPUT
 
@@ -113,29 +113,29 @@ module _ (number : ℕ → ℕ) (macros : List (List Token)) where
 
 -- WHAT STAYS OF THE ENGINE
 
-pub sized_still : (sizes : Sizes) (e e' : Engine) → e'.sizes ≡ e.sizes → e'.outer.size ≡ e.outer.size → e'.names ≡ e.names → e'.reports ≡ e.reports → SameStore e.input e'.input → IsSized sizes e → IsSized sizes e'
-sized_still sizes e e' own outer names reports store h = record {
+pub sized_still : (sizes : Sizes) (e e' : Engine) → e'.sizes ≡ e.sizes → e'.readings.size ≡ e.readings.size → e'.names ≡ e.names → e'.reports ≡ e.reports → SameStore e.input e'.input → IsSized sizes e → IsSized sizes e'
+sized_still sizes e e' own depth names reports store h = record {
   few_reports = omega (arith, reports, h.few_reports);
   small = h.small;
   own = own ∙ h.own;
-  outer = outer ∙ h.outer;
+  readings = depth ∙ h.readings;
   input = store.sizes ∙ h.input;
   names = ap (λ (n : Strings). n.sizes) names ∙ h.names;
   hash = store.hash ∙ h.hash;
   located = ap (length {A = Meaning (Option ℕ)}) store.meanings ∙ h.located ∙ ap (λ (n : Strings). 514 + length n.names) (sym names);
 }
 
--- only the column changed, and then the count of reports
-pub counted_sized : (sizes : Sizes) (e e' : Engine) (n : ℕ) → OnlyColumn e e' → n ≤ reports_room → IsSized sizes e → IsSized sizes (record e' { reports = n })
-counted_sized sizes e e' n only few h = record {
+-- the count of reports changed
+pub counted_here : (sizes : Sizes) (e : Engine) (n : ℕ) → n ≤ reports_room → IsSized sizes e → IsSized sizes (record e { reports = n })
+counted_here sizes e n few h = record {
   few_reports = few;
   small = h.small;
-  own = only.sizes ∙ h.own;
-  outer = ap (λ (o : Stack). o.size) only.outer ∙ h.outer;
-  input = ap (λ (i : Stored). i.sizes) only.input ∙ h.input;
-  names = ap (λ (s : Strings). s.sizes) only.names ∙ h.names;
-  hash = ap (λ (i : Stored). i.hash_size) only.input ∙ h.hash;
-  located = ap (λ (i : Stored). length i.meanings) only.input ∙ h.located ∙ ap (λ (s : Strings). 514 + length s.names) (sym only.names);
+  own = h.own;
+  readings = h.readings;
+  input = h.input;
+  names = h.names;
+  hash = h.hash;
+  located = h.located;
 }
 
 module _ (sizes : Sizes) (e e' : Engine) (number : ℕ → ℕ) (macros : List (List Token)) where
@@ -146,21 +146,20 @@ module _ (sizes : Sizes) (e e' : Engine) (number : ℕ → ℕ) (macros : List (
     bodies = h.bodies;
   }
 
-  pub sound_still : e'.sizes ≡ e.sizes → e'.outer.size ≡ e.outer.size → e'.names ≡ e.names → e'.reports ≡ e.reports → SameStore e.input e'.input → IsSound sizes e number macros → IsSound sizes e' number macros
-  sound_still own outer names reports store h = sound_sized (sized_still sizes e e' own outer names reports store h.sized) store h
+  pub sound_still : e'.sizes ≡ e.sizes → e'.readings.size ≡ e.readings.size → e'.names ≡ e.names → e'.reports ≡ e.reports → SameStore e.input e'.input → IsSound sizes e number macros → IsSound sizes e' number macros
+  sound_still own depth names reports store h = sound_sized (sized_still sizes e e' own depth names reports store h.sized) store h
 
 -- but for the lists that readings hold
-pub same_lists : (e e' : Engine) (i : Stored) (gathered : List (List Token)) → SameOthers e e' → i ≡ record e.input { builds = gathered; lists = i.lists } → KeepsMacros e.input i → e'.input ≡ i → SameState e e'
+pub same_lists : (e e' : Engine) (i : Stored) (gathered : List (List Token)) → SameElse e e' → i ≡ record e.input { builds = gathered; lists = i.lists } → KeepsMacros e.input i → e'.input ≡ i → SameBut e e'
 same_lists e e' i gathered others is kept same = record {
   others = others;
   pending = ap (λ (x : Stored). x.pending) same ∙ ap (λ (x : Stored). x.pending) is;
   making = ap (λ (x : Stored). x.making) same ∙ ap (λ (x : Stored). x.making) is;
   calling = ap (λ (x : Stored). x.call) same ∙ ap (λ (x : Stored). x.call) is;
-  aside = ap (λ (x : Stored). x.aside) same ∙ ap (λ (x : Stored). x.aside) is;
   store = subst (λ (x : Stored). SameStore e.input x) (sym same) (store_gathered e.input i gathered is kept);
 }
 
-pub same_join : (e e1 e2 : Engine) → SameState e e1 → SameState e1 e2 → SameState e e2
+pub same_join : (e e1 e2 : Engine) → SameBut e e1 → SameBut e1 e2 → SameBut e e2
 same_join e e1 e2 a b = record {
   others = record {
     depth = b.others.depth ∙ a.others.depth;
@@ -169,16 +168,22 @@ same_join e e1 e2 a b = record {
     categories = b.others.categories ∙ a.others.categories;
     in_line = b.others.in_line ∙ a.others.in_line;
     reports = b.others.reports ∙ a.others.reports;
+    flawed = b.others.flawed ∙ a.others.flawed;
     quiet = b.others.quiet ∙ a.others.quiet;
     sizes = b.others.sizes ∙ a.others.sizes;
   };
   pending = b.pending ∙ a.pending;
   making = b.making ∙ a.making;
   calling = b.calling ∙ a.calling;
-  aside = b.aside ∙ a.aside;
   store = store_join e.input e1.input e2.input a.store b.store;
 }
 
 -- the words that are used are the machine's
 pub words_are : (sizes : Sizes) (e : Engine) (book : Book) → IsSound sizes e book.number book.macros → words (state_of e book) ≡ stored_words e.input
 words_are sizes e book h = all_words_tied book.number book.macros e.input.meanings e.input.pending.puts e.input.lists e.input.making (gathered e.input) h.tied
+
+-- so many words more, by the machine and by the input
+pub words_more : (sizes : Sizes) (e : Engine) (book : Book) (need : ℕ) (o : Option Full) → IsSound sizes e book.number book.macros →
+    refused e.input.sizes (memory need (stored_words e.input) ∷ []) ≡ o → refused sizes (memory need (words (state_of e book)) ∷ []) ≡ o
+words_more sizes e book need o sound h =
+    ap (λ (n : ℕ). refused sizes (memory need n ∷ [])) (words_are sizes e book sound) ∙ (ap (λ (s : Sizes). refused s (memory need (stored_words e.input) ∷ [])) (sym sound.sized.input) ∙ h)

@@ -1,51 +1,38 @@
 -- A made text that is put in front.
-use Rattle.std.proofs.Common.{◌≡◌, ℕ, ◌+◌, ◌<◌, ◌≤◌, suc, List, [], ◌∷◌, ◌++◌, length, take, drop, get_or, map, refl, sym, ap, ◌∙◌, subst, append_assoc, add-one, take_all}
-use Rattle.std.specs.Prelude.{Option, Some, None}
-use Rattle.std.proofs.Math.Seq.{take-suc, drop-cons}
+use Rattle.std.proofs.Common.{◌≡◌, ℕ, ◌+◌, ◌<◌, ◌≤◌, List, [], ◌∷◌, ◌++◌, length, take, drop, get_or, map, refl, sym, ap, ◌∙◌, subst, append_assoc, append-nil, add-one, take_all}
+use Rattle.std.specs.Prelude.{Option, Some, None, IsSome}
+use Rattle.std.proofs.Math.Seq.{take-suc}
 use Rattle.std.proofs.lemmas.List.{map-append, take-append-drop}
 use Rattle.tex_defs.specs.declared.Token.{Token}
 use Rattle.tex_defs.specs.declared.Sizes.{Sizes}
 use Rattle.tex_defs.specs.declared.Full.{Full}
 use Rattle.tex_defs.specs.Places.{World}
-use Rattle.plain_tokens.specs.Puts.{token_put, grown_by}
-use Rattle.plain_tokens.specs.Pending.{Pending, settle, put_front}
+use Rattle.plain_tokens.specs.Puts.{Put as PutList, token_put, grown_by, settled, with_put}
+use Rattle.plain_tokens.specs.Pending.{Pending, settle, put_front, with_puts}
 use Rattle.plain_tokens.specs.Tokens.{made_token, made_text}
-use Rattle.plain_state.specs.States.{State, Move, Settled, ListBegun, ListGrown, Put, made}
 use Rattle.plain_tokens.specs.Tables.{Demand, refused, memory, level}
-use Rattle.plain_state.specs.Demands.{refusal}
-use Rattle.plain_machine.specs.Plan.{put_text}
+use Rattle.plain_machine.specs.States.{State, Move, Settled, ListBegun, ListGrown, ListDropped, Put, made}
+use Rattle.plain_machine.specs.Demands.{refusal}
+use Rattle.plain_machine.specs.Plan.{put_text, put_made}
 use Rattle.plain_machine.specs.Numbers.{pending_of}
 use Rattle.plain_machine.specs.Does.{Did}
-use Rattle.plain_machine.proofs.Doing.{did_join, did_one}
+use Rattle.plain_machine.proofs.Doing.{did_join, did_one, did_none}
 use Rattle.plain_machine.proofs.Renumbering.{settle_of, put_front_of, level_of}
 use Rattle.input_state.specs.Stored.{Stored, KeepsMacros, words as stored_words}
 use Rattle.input_state.specs.HeldLists.{made as made_list}
+use Rattle.engine_state.specs.Steps.{pending_weight}
+use Rattle.engine_state.specs.declared.broken.Broken.{Broken}
 use Rattle.engine_state.specs.declared.broken.Broken.TheVariants as broken
 use Rattle.engine_state.specs.declared.engine.Engine.{Engine}
 use Rattle.engine_state.specs.Book.{Book}
-use Rattle.engine_state.specs.Stands.{IsSound, SameStore, state_of}
+use Rattle.engine_state.specs.Making.{grown_with, HasGrown, GrowsNot, IsInFront}
+use Rattle.engine_state.specs.Stands.{IsSound, SameStore, state_of, page_of}
 use Rattle.engine_state.specs.Rules.{Cuts}
-use Rattle.engine_state.proofs.Counting.{words_more}
 use Rattle.engine_state.proofs.Cutting.{cuts_by, later_cuts, full_cuts}
 use Rattle.engine_state.proofs.Joining.{IsQuiet, quiet_here}
-use Rattle.engine_state.proofs.Storing.{store_join, store_making, store_settled, store_put, sound_still}
-
--- THE TEXT
-
--- one character more
-text_on : (text : List ℕ) (k : ℕ) → k < length text → made_text (take (k + 1) text) ≡ made_text (take k text) ++ made_token (get_or text k 0) ∷ []
-text_on text k below = rw (add-one, take-suc text k 0 below) (map-append made_token (take k text) (get_or text k 0 ∷ []))
-
--- the moves that grow the list, with one of them in the middle
-moves_at : (text : List ℕ) (k : ℕ) (more : List Move) → k < length text →
-    map ListGrown (made_text text) ++ more ≡ map ListGrown (made_text (take k text)) ++ (ListGrown (made_token (get_or text k 0)) ∷ (map ListGrown (made_text (drop (suc k) text)) ++ more))
-moves_at text k more below =
-    let parts : text ≡ take k text ++ (get_or text k 0 ∷ drop (suc k) text) = sym (take-append-drop k text) ∙ ap (λ (cs : List ℕ). take k text ++ cs) (drop-cons text k 0 below) in
-    let behind : List ℕ = get_or text k 0 ∷ drop (suc k) text in
-    ap (λ (cs : List ℕ). map ListGrown (made_text cs) ++ more) parts
-    ∙ ap (λ (ts : List Token). map ListGrown ts ++ more) (map-append made_token (take k text) behind)
-    ∙ ap (λ (ms : List Move). ms ++ more) (map-append ListGrown (made_text (take k text)) (made_text behind))
-    ∙ append_assoc (map ListGrown (made_text (take k text))) (map ListGrown (made_text behind)) more
+use Rattle.engine_state.proofs.Putting.{settled_still}
+use Rattle.engine_state.proofs.Standing.{frames_join}
+use Rattle.engine_state.proofs.Storing.{store_same, store_join, store_making, store_settled, store_put, sound_still, words_more}
 
 -- MOVES ON THE INPUT ALONE
 
@@ -64,115 +51,280 @@ module _ (sizes : Sizes) (e : Engine) (w : World) (book : Book) where
 
 -- THE LIST GROWS
 
--- The list that is made was without tokens, and has these.
-pub record HasGrown (i j : Stored) (ts : List Token) : Type 0 where
-  pub is : j ≡ record i { making = Some ts; lists = j.lists }
-  pub macros : KeepsMacros i j
-  pub did : (sizes : Sizes) (e : Engine) (w : World) (book : Book) → IsSound sizes (record e { input = i }) book.number book.macros →
-      Did sizes (state_of (record e { input = i }) book) (state_of (record e { input = j }) book) w w (map ListGrown ts)
+with_none : (o : Option (List Token)) → grown_with [] o ≡ o
+with_none None = refl
+with_none (Some ts) = ap (λ (us : List Token). Some us) (append-nil ts)
+
+with_one : (t : Token) (o : Option (List Token)) → grown_by t o ≡ grown_with (t ∷ []) o
+with_one t None = refl
+with_one t (Some ts) = refl
+
+with_both : (ts us : List Token) (o : Option (List Token)) → grown_with us (grown_with ts o) ≡ grown_with (ts ++ us) o
+with_both ts us None = refl
+with_both ts us (Some before) = ap (λ (vs : List Token). Some vs) (append_assoc before ts us)
+
+pub with_some : (ts : List Token) (o : Option (List Token)) → IsSome o → IsSome (grown_with ts o)
+with_some ts None h = cc
+with_some ts (Some us) h = h
 
 growth_store : (i j : Stored) (ts : List Token) → HasGrown i j ts → SameStore i j
-growth_store i j ts h = store_making i j (Some ts) h.is h.macros
+growth_store i j ts h = store_making i j (grown_with ts i.making) h.is h.macros
 
-module _ (i j k : Stored) (ts : List Token) (t : Token) (h : HasGrown i j ts) (is : k ≡ record j { making = grown_by t j.making; lists = k.lists }) (kept : KeepsMacros j k) where
-  kept_on : KeepsMacros i k
-  kept_on = (store_join i j k (growth_store i j ts h) (store_making j k (grown_by t j.making) is kept)).lists
+pub grown_none : (i : Stored) → HasGrown i i []
+grown_none i = record {
+  is = ap (λ (o : Option (List Token)). record i { making = o }) (sym (with_none i.making));
+  macros = (store_same i).lists;
+  did = λ sizes e w book sound. did_none sizes (state_of (record e { input = i }) book) w;
+}
 
-  grown_on : refused j.sizes (memory 1 (stored_words j) ∷ []) ≡ None → HasGrown i k (ts ++ t ∷ [])
-  grown_on fits = record {
-    is = is ∙ ap (λ (x : Stored). record x { making = grown_by t x.making; lists = k.lists }) h.is;
-    macros = kept_on;
+pub grown_one : (i j : Stored) (t : Token) → j ≡ record i { making = grown_by t i.making; lists = j.lists } → KeepsMacros i j → refused i.sizes (memory 1 (stored_words i) ∷ []) ≡ None → HasGrown i j (t ∷ [])
+grown_one i j t is kept fits = record {
+  is = is ∙ ap (λ (o : Option (List Token)). record i { making = o; lists = j.lists }) (with_one t i.making);
+  macros = kept;
+  did = λ sizes e w book sound. moved sizes e w book i j (ListGrown t) (words_more sizes (with_input e i) book 1 None sound fits) (ap (at sizes e w book) (sym is)) tt;
+}
+
+pub grown_not : (i j : Stored) (t : Token) (full : Full) → j ≡ i → refused i.sizes (memory 1 (stored_words i) ∷ []) ≡ Some full → GrowsNot i j (t ∷ []) full
+grown_not i j t full same r = record {
+  is = subst (λ (x : Stored). x ≡ record i { making = x.making; lists = x.lists }) (sym same) refl;
+  macros = subst (λ (x : Stored). KeepsMacros i x) (sym same) (store_same i).lists;
+  cuts = λ sizes e w book more sound. full_cuts sizes (at sizes e w book i) (with_input e j) book w (ListGrown t) more full (broken.Full full) refl (words_more sizes (with_input e i) book 1 (Some full) sound r) (ap (at sizes e w book) (sym same));
+}
+
+module _ (i j k : Stored) (ts us : List Token) (h : HasGrown i j ts) where
+  both_at : (sizes : Sizes) (e : Engine) (w : World) (book : Book) → IsSound sizes (record e { input = i }) book.number book.macros → IsSound sizes (record e { input = j }) book.number book.macros
+  both_at sizes e w book sound = sound_in sizes e w book i j (growth_store i j ts h) sound
+
+  pub grown_both : HasGrown j k us → HasGrown i k (ts ++ us)
+  grown_both g = record {
+    is = g.is ∙ ap (λ (x : Stored). record x { making = grown_with us x.making; lists = k.lists }) h.is ∙ ap (λ (o : Option (List Token)). record i { making = o; lists = k.lists }) (with_both ts us i.making);
+    macros = (store_join i j k (growth_store i j ts h) (growth_store j k us g)).lists;
     did = λ sizes e w book sound.
-        subst (λ (ms : List Move). Did sizes (state_of (record e { input = i }) book) (state_of (record e { input = k }) book) w w ms) (sym (map-append ListGrown ts (t ∷ [])))
-        (did_join sizes _ _ _ w w w (map ListGrown ts) (ListGrown t ∷ []) (h.did sizes e w book sound)
-        (moved sizes e w book j k (ListGrown t) (words_more sizes (with_input e j) book 1 None (sound_in sizes e w book i j (growth_store i j ts h) sound) fits) (ap (at sizes e w book) (sym is)) tt));
+        subst (λ (ms : List Move). Did sizes (state_of (record e { input = i }) book) (state_of (record e { input = k }) book) w w ms) (sym (map-append ListGrown ts us))
+        (did_join sizes _ _ _ w w w (map ListGrown ts) (map ListGrown us) (h.did sizes e w book sound) (g.did sizes e w book (both_at sizes e w book sound)));
   }
 
--- by one character of a text
-pub text_grown : (i j k : Stored) (text : List ℕ) (n : ℕ) (t : Token) → HasGrown i j (made_text (take n text)) → n < length text → t ≡ made_token (get_or text n 0) →
-    k ≡ record j { making = grown_by t j.making; lists = k.lists } → KeepsMacros j k → refused j.sizes (memory 1 (stored_words j) ∷ []) ≡ None → HasGrown i k (made_text (take (n + 1) text))
-text_grown i j k text n t h below token is kept fits =
-    subst (HasGrown i k) (ap (λ (x : Token). made_text (take n text) ++ x ∷ []) token ∙ sym (text_on text n below)) (grown_on i j k (made_text (take n text)) t h is kept fits)
+  pub later_not : (full : Full) → GrowsNot j k us full → GrowsNot i k (ts ++ us) full
+  later_not full g = record {
+    is = g.is ∙ ap (λ (x : Stored). record x { making = k.making; lists = k.lists }) h.is;
+    macros = (store_join i j k (growth_store i j ts h) (store_making j k k.making g.is g.macros)).lists;
+    cuts = λ sizes e w book more sound.
+        cuts_by sizes _ (with_input e k) book w w (map ListGrown ts ++ (map ListGrown us ++ more)) (map ListGrown (ts ++ us) ++ more) (broken.Full full)
+        (ap (λ (ms : List Move). ms ++ more) (map-append ListGrown ts us) ∙ append_assoc (map ListGrown ts) (map ListGrown us) more)
+        (later_cuts sizes _ (at sizes e w book j) (with_input e k) book w w w (map ListGrown ts) (map ListGrown us ++ more) (broken.Full full) (h.did sizes e w book sound) (g.cuts sizes e w book more (both_at sizes e w book sound)));
+  }
+
+pub first_not : (i k : Stored) (ts us : List Token) (full : Full) → GrowsNot i k ts full → GrowsNot i k (ts ++ us) full
+first_not i k ts us full g = record {
+  is = g.is;
+  macros = g.macros;
+  cuts = λ sizes e w book more sound.
+      cuts_by sizes _ (with_input e k) book w w (map ListGrown ts ++ (map ListGrown us ++ more)) (map ListGrown (ts ++ us) ++ more) (broken.Full full)
+      (ap (λ (ms : List Move). ms ++ more) (map-append ListGrown ts us) ∙ append_assoc (map ListGrown ts) (map ListGrown us) more)
+      (g.cuts sizes e w book (map ListGrown us ++ more) sound);
+}
+
+pub not_by : (i k : Stored) (ts us : List Token) (full : Full) → us ≡ ts → GrowsNot i k ts full → GrowsNot i k us full
+not_by i k ts us full is g = subst (λ (x : List Token). GrowsNot i k x full) (sym is) g
+
+-- A TEXT, CHARACTER BY CHARACTER
+
+-- one character more
+text_on : (text : List ℕ) (k : ℕ) → k < length text → made_text (take (k + 1) text) ≡ made_text (take k text) ++ made_token (get_or text k 0) ∷ []
+text_on text k below = rw (add-one, take-suc text k 0 below) (map-append made_token (take k text) (get_or text k 0 ∷ []))
+
+pub text_none : (i : Stored) (text : List ℕ) → HasGrown i i (made_text (take 0 text))
+text_none i text = grown_none i
+
+pub grown_as : (i j : Stored) (t : Token) (code : ℕ) → t ≡ made_token code → HasGrown i j (t ∷ []) → HasGrown i j (made_text (code ∷ []))
+grown_as i j t code is h = subst (λ (x : Token). HasGrown i j (x ∷ [])) is h
+
+pub not_as : (i j : Stored) (t : Token) (code : ℕ) (full : Full) → t ≡ made_token code → GrowsNot i j (t ∷ []) full → GrowsNot i j (made_text (code ∷ [])) full
+not_as i j t code full is h = subst (λ (x : Token). GrowsNot i j (x ∷ []) full) is h
+
+pub grown_some : (i j : Stored) (ts : List Token) → HasGrown i j ts → IsSome i.making → IsSome j.making
+grown_some i j ts h some = subst IsSome (sym (ap (λ (x : Stored). x.making) h.is)) (with_some ts i.making some)
+
+module _ (i j k : Stored) (text : List ℕ) (n : ℕ) (h : HasGrown i j (made_text (take n text))) (below : n < length text) where
+  pub text_grown : HasGrown j k (made_text (get_or text n 0 ∷ [])) → HasGrown i k (made_text (take (n + 1) text))
+  text_grown g = subst (HasGrown i k) (sym (text_on text n below)) (grown_both i j k (made_text (take n text)) (made_text (get_or text n 0 ∷ [])) h g)
+
+  whole_at : made_text text ≡ (made_text (take n text) ++ made_text (get_or text n 0 ∷ [])) ++ made_text (drop (n + 1) text)
+  whole_at =
+      ap made_text (sym (take-append-drop (n + 1) text)) ∙ map-append made_token (take (n + 1) text) (drop (n + 1) text)
+      ∙ ap (λ (ts : List Token). ts ++ made_text (drop (n + 1) text)) (text_on text n below)
+
+  -- it has no room for one more
+  pub text_not : (full : Full) → GrowsNot j k (made_text (get_or text n 0 ∷ [])) full → GrowsNot i k (made_text text) full
+  text_not full g = not_by i k ((made_text (take n text) ++ made_text (get_or text n 0 ∷ [])) ++ made_text (drop (n + 1) text)) (made_text text) full whole_at
+      (first_not i k (made_text (take n text) ++ made_text (get_or text n 0 ∷ [])) (made_text (drop (n + 1) text)) full
+      (later_not i j k (made_text (take n text)) (made_text (get_or text n 0 ∷ [])) h full g))
 
 -- by all of them
 pub all_grown : (i j : Stored) (text : List ℕ) (n : ℕ) → HasGrown i j (made_text (take n text)) → length text ≤ n → HasGrown i j (made_text text)
 all_grown i j text n h past = subst (λ (cs : List ℕ). HasGrown i j (made_text cs)) (take_all n text past) h
 
--- it has no room for one more
-pub grown_cuts : (i j k : Stored) (text : List ℕ) (n : ℕ) (full : Full) → HasGrown i j (made_text (take n text)) → n < length text → k ≡ j → refused j.sizes (memory 1 (stored_words j) ∷ []) ≡ Some full →
-    (sizes : Sizes) (e : Engine) (w : World) (book : Book) (more : List Move) → IsSound sizes (record e { input = i }) book.number book.macros →
-    Cuts sizes (state_of (record e { input = i }) book) (record e { input = k }) book w w (map ListGrown (made_text text) ++ more) (broken.Full full)
-grown_cuts i j k text n full h below same r sizes e w book more sound =
-    let t : Token = made_token (get_or text n 0) in
-    let rest : List Move = map ListGrown (made_text (drop (suc n) text)) ++ more in
-    cuts_by sizes _ (with_input e k) book w w (map ListGrown (made_text (take n text)) ++ (ListGrown t ∷ rest)) (map ListGrown (made_text text) ++ more) (broken.Full full) (moves_at text n more below)
-    (later_cuts sizes _ (at sizes e w book j) (with_input e k) book w w w (map ListGrown (made_text (take n text))) (ListGrown t ∷ rest) (broken.Full full) (h.did sizes e w book sound)
-    (full_cuts sizes (at sizes e w book j) (with_input e k) book w (ListGrown t) rest full (broken.Full full) refl
-    (words_more sizes (with_input e j) book 1 (Some full) (sound_in sizes e w book i j (growth_store i j (made_text (take n text)) h) sound) r) (ap (at sizes e w book) (sym same))))
-
 -- THE LIST THAT IS MADE
 
--- begun behind the finished lists in front, grown and put
-module _ (sizes : Sizes) (e : Engine) (w : World) (book : Book) (sound : IsSound sizes e book.number book.macros) (ts : List Token)
-    (i1 i2 : Stored) (a1 : i1 ≡ record e.input { pending = settle e.input.pending; lists = i1.lists }) (k1 : KeepsMacros e.input i1) (f1 : refused i1.sizes (memory 1 (stored_words i1) ∷ []) ≡ None)
-    (a2 : i2 ≡ record i1 { making = Some []; lists = i2.lists }) (k2 : KeepsMacros i1 i2) where
+-- a text with a token is put
+made_of : (ts : List Token) → (ts ≡ [] → ⊥) → put_made ts ≡ Put ts ∷ []
+made_of [] some = absurd (some refl)
+made_of (t ∷ ts) some = refl
+
+made_none : (ts : List Token) → ts ≡ [] → put_made ts ≡ ListDropped ∷ []
+made_none ts is = ap put_made is
+
+-- begun behind the finished lists in front
+module _ (sizes : Sizes) (e : Engine) (w : World) (book : Book) (sound : IsSound sizes e book.number book.macros)
+    (i1 i2 : Stored) (a1 : i1 ≡ record e.input { pending = settle e.input.pending; lists = i1.lists }) (k1 : KeepsMacros e.input i1) where
   store1 : SameStore e.input i1
   store1 = store_settled e.input i1 a1 k1
 
-  store2 : SameStore e.input i2
-  store2 = store_join e.input i1 i2 store1 (store_making i1 i2 (Some []) a2 k2)
+  done_settled : Did sizes (at sizes e w book e.input) (at sizes e w book i1) w w (Settled ∷ [])
+  done_settled = moved sizes e w book e.input i1 Settled refl (ap (λ (p : Pending). record (at sizes e w book e.input) { pending = p }) (settle_of book.number e.input.pending) ∙ ap (at sizes e w book) (sym a1)) tt
 
-  sound2 : IsSound sizes (with_input e i2) book.number book.macros
-  sound2 = sound_in sizes e w book e.input i2 store2 sound
+  pub begun_cuts : (full : Full) (rest : List Move) → i2 ≡ i1 → refused i1.sizes (memory 1 (stored_words i1) ∷ []) ≡ Some full →
+      Cuts sizes (at sizes e w book e.input) (with_input e i2) book w w (Settled ∷ ListBegun ∷ rest) (broken.Full full)
+  begun_cuts full rest same r =
+      later_cuts sizes _ (at sizes e w book i1) (with_input e i2) book w w w (Settled ∷ []) (ListBegun ∷ rest) (broken.Full full) done_settled
+      (full_cuts sizes (at sizes e w book i1) (with_input e i2) book w ListBegun rest full (broken.Full full) refl (words_more sizes (with_input e i1) book 1 (Some full) (sound_in sizes e w book e.input i1 store1 sound) r) (ap (at sizes e w book) (sym same)))
 
-  done_begun : Did sizes (at sizes e w book e.input) (at sizes e w book i2) w w (Settled ∷ ListBegun ∷ [])
-  done_begun = did_join sizes _ _ _ w w w (Settled ∷ []) (ListBegun ∷ [])
-      (moved sizes e w book e.input i1 Settled refl (ap (λ (p : Pending). record (at sizes e w book e.input) { pending = p }) (settle_of book.number e.input.pending) ∙ ap (at sizes e w book) (sym a1)) tt)
+  pub done_begun : refused i1.sizes (memory 1 (stored_words i1) ∷ []) ≡ None → i2 ≡ record i1 { making = Some []; lists = i2.lists } → Did sizes (at sizes e w book e.input) (at sizes e w book i2) w w (Settled ∷ ListBegun ∷ [])
+  done_begun f1 a2 = did_join sizes _ _ _ w w w (Settled ∷ []) (ListBegun ∷ []) done_settled
       (moved sizes e w book i1 i2 ListBegun (words_more sizes (with_input e i1) book 1 None (sound_in sizes e w book e.input i1 store1 sound) f1) (ap (at sizes e w book) (sym a2)) tt)
 
+-- and put, or dropped where it has no token
+module _ (sizes : Sizes) (e : Engine) (w : World) (book : Book) (sound : IsSound sizes e book.number book.macros) (ts : List Token) (is : e.input.making ≡ Some ts) (j : Stored) where
+  level_at : (o : Option Full) → refused e.input.sizes (level e.input.pending ∷ []) ≡ o → refused sizes (level (pending_of book.number e.input.pending) ∷ []) ≡ o
+  level_at o r = ap (λ (d : Demand). refused sizes (d ∷ [])) (level_of book.number e.input.pending) ∙ ap (λ (x : Sizes). refused x (level e.input.pending ∷ [])) (sym sound.sized.input) ∙ r
+
+  -- there is no level for it
+  pub unput_cuts : (ts ≡ [] → ⊥) → (full : Full) (more : List Move) → j ≡ record e.input { lists = j.lists } → refused e.input.sizes (level e.input.pending ∷ []) ≡ Some full →
+      Cuts sizes (state_of e book) (with_input e j) book w w (put_made ts ++ more) (broken.Full full)
+  unput_cuts some full more same r =
+      cuts_by sizes _ (with_input e j) book w w (Put ts ∷ more) (put_made ts ++ more) (broken.Full full) (ap (λ (ms : List Move). ms ++ more) (made_of ts some))
+      (full_cuts sizes (state_of e book) (with_input e j) book w (Put ts) more full (broken.Full full) refl (level_at (Some full) r) (ap (at sizes e w book) (sym same)))
+
+  pub text_put : (ts ≡ [] → ⊥) → j ≡ record e.input { pending = put_front (token_put (made_list e.input.making)) e.input.pending; making = None; lists = j.lists } → refused e.input.sizes (level e.input.pending ∷ []) ≡ None →
+      Did sizes (state_of e book) (at sizes e w book j) w w (put_made ts)
+  text_put some a f =
+      subst (λ (ms : List Move). Did sizes (state_of e book) (at sizes e w book j) w w ms) (sym (made_of ts some))
+      (moved sizes e w book e.input j (Put ts) (level_at None f)
+      (ap (λ (p : Pending). record (state_of e book) { pending = p; making = None }) (put_front_of book.number (token_put ts) e.input.pending)
+      ∙ ap (λ (us : List Token). at sizes e w book (record e.input { pending = put_front (token_put us) e.input.pending; making = None })) (sym (ap made_list is)) ∙ ap (at sizes e w book) (sym a)) tt)
+
+  pub text_dropped : ts ≡ [] → j ≡ record e.input { making = None; lists = j.lists } → Did sizes (state_of e book) (at sizes e w book j) w w (put_made ts)
+  text_dropped none a =
+      subst (λ (ms : List Move). Did sizes (state_of e book) (at sizes e w book j) w w ms) (sym (made_none ts none))
+      (moved sizes e w book e.input j ListDropped refl (ap (at sizes e w book) (sym a)) tt)
+
+-- ALL TOGETHER
+
+-- a text of these tokens, put in front
+pub text_done : (sizes : Sizes) (s s1 s2 s3 : State) (w : World) (ts : List Token) → Did sizes s s1 w w (Settled ∷ ListBegun ∷ []) → Did sizes s1 s2 w w (map ListGrown ts) → Did sizes s2 s3 w w (put_made ts) → Did sizes s s3 w w (put_text ts)
+text_done sizes s s1 s2 s3 w ts a b c = did_join sizes s s1 s3 w w w (Settled ∷ ListBegun ∷ []) (map ListGrown ts ++ put_made ts) a (did_join sizes s1 s2 s3 w w w (map ListGrown ts) (put_made ts) b c)
+
+module _ (sizes : Sizes) (s s1 : State) (e' : Engine) (book : Book) (w : World) (ts : List Token) (more : List Move) (b : Broken) (a : Did sizes s s1 w w (Settled ∷ ListBegun ∷ [])) where
+  whole_text : put_text ts ++ more ≡ (Settled ∷ ListBegun ∷ []) ++ (map ListGrown ts ++ (put_made ts ++ more))
+  whole_text = ap (λ (ms : List Move). Settled ∷ ListBegun ∷ ms) (append_assoc (map ListGrown ts) (put_made ts) more)
+
   -- the list doesn't grow to its end
-  pub text_cuts : (new : Stored) (full : Full) (more : List Move) →
-      (IsSound sizes (with_input e i2) book.number book.macros → Cuts sizes (at sizes e w book i2) (with_input e new) book w w (map ListGrown ts ++ (Put ts ∷ more)) (broken.Full full)) →
-      Cuts sizes (at sizes e w book e.input) (with_input e new) book w w (put_text ts ++ more) (broken.Full full)
-  text_cuts new full more cuts =
-      cuts_by sizes _ (with_input e new) book w w (Settled ∷ ListBegun ∷ (map ListGrown ts ++ (Put ts ∷ more))) (put_text ts ++ more) (broken.Full full)
-      (ap (λ (ms : List Move). Settled ∷ ListBegun ∷ ms) (append_assoc (map ListGrown ts) (Put ts ∷ []) more))
-      (later_cuts sizes _ (at sizes e w book i2) (with_input e new) book w w w (Settled ∷ ListBegun ∷ []) (map ListGrown ts ++ (Put ts ∷ more)) (broken.Full full) done_begun (cuts sound2))
+  pub text_cuts : Cuts sizes s1 e' book w w (map ListGrown ts ++ (put_made ts ++ more)) b → Cuts sizes s e' book w w (put_text ts ++ more) b
+  text_cuts cuts = cuts_by sizes s e' book w w _ _ b whole_text (later_cuts sizes s s1 e' book w w w (Settled ∷ ListBegun ∷ []) (map ListGrown ts ++ (put_made ts ++ more)) b a cuts)
 
-  module _ (i3 : Stored) (a3 : i3 ≡ record i2 { making = Some ts; lists = i3.lists }) (k3 : KeepsMacros i2 i3)
-      (grown : IsSound sizes (with_input e i2) book.number book.macros → Did sizes (at sizes e w book i2) (at sizes e w book i3) w w (map ListGrown ts)) where
-    level_at : (o : Option Full) → refused i3.sizes (level i3.pending ∷ []) ≡ o → refused sizes (level (pending_of book.number i3.pending) ∷ []) ≡ o
-    level_at o r =
-        let sound3 : IsSound sizes (with_input e i3) book.number book.macros = sound_in sizes e w book i2 i3 (store_making i2 i3 (Some ts) a3 k3) sound2 in
-        ap (λ (d : Demand). refused sizes (d ∷ [])) (level_of book.number i3.pending) ∙ ap (λ (x : Sizes). refused x (level i3.pending ∷ [])) (sym sound3.sized.input) ∙ r
+  -- or isn't put
+  pub end_cuts : (s2 : State) → Did sizes s1 s2 w w (map ListGrown ts) → Cuts sizes s2 e' book w w (put_made ts ++ more) b → Cuts sizes s e' book w w (put_text ts ++ more) b
+  end_cuts s2 g cuts = text_cuts (later_cuts sizes s1 s2 e' book w w w (map ListGrown ts) (put_made ts ++ more) b g cuts)
 
-    -- there is no level for it
-    pub unput_cuts : (new : Stored) (full : Full) (more : List Move) → new ≡ record i3 { lists = new.lists } → refused i3.sizes (level i3.pending ∷ []) ≡ Some full →
-        Cuts sizes (at sizes e w book e.input) (with_input e new) book w w (put_text ts ++ more) (broken.Full full)
-    unput_cuts new full more same r =
-        text_cuts new full more (λ s.
-        later_cuts sizes _ (at sizes e w book i3) (with_input e new) book w w w (map ListGrown ts) (Put ts ∷ more) (broken.Full full) (grown s)
-        (full_cuts sizes (at sizes e w book i3) (with_input e new) book w (Put ts) more full (broken.Full full) refl (level_at (Some full) r) (ap (at sizes e w book) (sym same))))
+-- WHAT STAYS
 
-    -- and it is put
-    pub text_put : (i4 : Stored) → i4 ≡ record i3 { pending = put_front (token_put (made_list i3.making)) i3.pending; making = None; lists = i4.lists } → refused i3.sizes (level i3.pending ∷ []) ≡ None →
-        Did sizes (at sizes e w book e.input) (at sizes e w book i4) w w (put_text ts)
-    text_put i4 a4 f3 =
-        let whole : made_list i3.making ≡ ts = ap made_list (ap (λ (i : Stored). i.making) a3) in
-        did_join sizes _ _ _ w w w (Settled ∷ ListBegun ∷ []) (map ListGrown ts ++ Put ts ∷ []) done_begun
-        (did_join sizes _ _ _ w w w (map ListGrown ts) (Put ts ∷ []) (grown sound2)
-        (moved sizes e w book i3 i4 (Put ts) (level_at None f3)
-        (ap (λ (p : Pending). record (at sizes e w book i3) { pending = p; making = None }) (put_front_of book.number (token_put ts) i3.pending)
-        ∙ ap (λ (us : List Token). at sizes e w book (record i3 { pending = put_front (token_put us) i3.pending; making = None })) (sym whole) ∙ ap (at sizes e w book) (sym a4)) tt))
+pub in_front : (e : Engine) (j : Stored) (puts : List PutList) (making : Option (List Token)) → j ≡ record e.input { pending = with_puts puts e.input.pending; making = making; lists = j.lists } → SameStore e.input j → IsInFront e (with_input e j)
+in_front e j puts making is store = record {
+  frames = record { readings = refl; lists = ap (λ (x : Stored). x.builds) is; call = refl; calling = ap (λ (x : Stored). x.call) is };
+  others = record { depth = refl; call = refl; names = refl; categories = refl; last = refl; in_line = refl; reports = refl; flawed = refl; quiet = refl; sizes = refl };
+  store = store;
+  light = ap (λ (x : Stored). pending_weight x.pending) is;
+  page = λ book. ap (λ (x : Stored). page_of (with_input e x) book) is;
+}
 
--- what the input keeps behind each of these
-module _ (i i1 i2 i3 : Stored) (making : Option (List Token)) (a1 : i1 ≡ record i { pending = settle i.pending; lists = i1.lists }) (k1 : KeepsMacros i i1)
-    (a2 : i2 ≡ record i1 { making = Some []; lists = i2.lists }) (k2 : KeepsMacros i1 i2) (a3 : i3 ≡ record i2 { making = making; lists = i3.lists }) (k3 : KeepsMacros i2 i3) where
-  pub text_store : SameStore i i3
-  text_store = store_join i i2 i3 (store_join i i1 i2 (store_settled i i1 a1 k1) (store_making i1 i2 (Some []) a2 k2)) (store_making i2 i3 making a3 k3)
+pub front_join : (e e1 e2 : Engine) → IsInFront e e1 → IsInFront e1 e2 → IsInFront e e2
+front_join e e1 e2 a b = record {
+  frames = frames_join e e1 e2 a.frames b.frames;
+  others = record {
+    depth = b.others.depth ∙ a.others.depth;
+    call = b.others.call ∙ a.others.call;
+    names = b.others.names ∙ a.others.names;
+    categories = b.others.categories ∙ a.others.categories;
+    last = b.others.last ∙ a.others.last;
+    in_line = b.others.in_line ∙ a.others.in_line;
+    reports = b.others.reports ∙ a.others.reports;
+    flawed = b.others.flawed ∙ a.others.flawed;
+    quiet = b.others.quiet ∙ a.others.quiet;
+    sizes = b.others.sizes ∙ a.others.sizes;
+  };
+  store = store_join e.input e1.input e2.input a.store b.store;
+  light = b.light ∙ a.light;
+  page = λ book. b.page book ∙ a.page book;
+}
 
-  pub unput_text_store : (new : Stored) → new ≡ record i3 { lists = new.lists } → KeepsMacros i3 new → SameStore i new
-  unput_text_store new same k4 = store_join i i3 new text_store (store_making i3 new i3.making same k4)
+pub begun_front : (e : Engine) (i1 i2 : Stored) (making : Option (List Token)) → i1 ≡ record e.input { pending = settle e.input.pending; lists = i1.lists } → KeepsMacros e.input i1 → i2 ≡ record i1 { making = making; lists = i2.lists } → KeepsMacros i1 i2 → IsInFront e (with_input e i2)
+begun_front e i1 i2 making a1 k1 a2 k2 =
+    in_front e i2 (settled e.input.pending.puts) making (a2 ∙ ap (λ (x : Stored). record x { making = making; lists = i2.lists }) a1) (store_join e.input i1 i2 (store_settled e.input i1 a1 k1) (store_making i1 i2 making a2 k2))
 
-  pub put_text_store : (new : Stored) → new ≡ record i3 { pending = put_front (token_put (made_list i3.making)) i3.pending; making = None; lists = new.lists } → KeepsMacros i3 new → SameStore i new
-  put_text_store new same k4 = store_join i i3 new text_store (store_put i3 new (made_list i3.making) same k4)
+pub making_front : (e : Engine) (j : Stored) (making : Option (List Token)) → j ≡ record e.input { making = making; lists = j.lists } → KeepsMacros e.input j → IsInFront e (with_input e j)
+making_front e j making a k = in_front e j e.input.pending.puts making a (store_making e.input j making a k)
+
+pub put_front_of_text : (e : Engine) (j : Stored) (ts : List Token) → j ≡ record e.input { pending = put_front (token_put ts) e.input.pending; making = None; lists = j.lists } → KeepsMacros e.input j → IsInFront e (with_input e j)
+put_front_of_text e j ts a k = in_front e j (with_put (token_put ts) e.input.pending.puts) None a (store_put e.input j ts a k)
+
+pub begun_none : (e : Engine) (i1 i2 : Stored) → i1 ≡ record e.input { pending = settle e.input.pending; lists = i1.lists } → KeepsMacros e.input i1 → i2 ≡ i1 → IsInFront e (with_input e i2)
+begun_none e i1 i2 a k same = subst (λ (x : Stored). IsInFront e (with_input e x)) (sym same) (in_front e i1 (settled e.input.pending.puts) e.input.making a (store_settled e.input i1 a k))
+
+pub same_front : (e : Engine) (j : Stored) → j ≡ record e.input { lists = j.lists } → KeepsMacros e.input j → IsInFront e (with_input e j)
+same_front e j a k = making_front e j e.input.making a k
+
+pub front_sound : (sizes : Sizes) (e e' : Engine) (book : Book) → IsInFront e e' → IsSound sizes e book.number book.macros → IsSound sizes e' book.number book.macros
+front_sound sizes e e' book h sound = sound_still sizes e e' book.number book.macros h.others.sizes h.others.depth h.others.names h.others.reports h.store sound
+
+-- the list that is made
+pub some_made : (o : Option (List Token)) → IsSome o → o ≡ Some (made_list o)
+some_made None h = cc
+some_made (Some ts) h = refl
+
+pub made_with : (i j : Stored) (ts : List Token) → i.making ≡ Some [] → HasGrown i j ts → j.making ≡ Some ts
+made_with i j ts empty h = ap (λ (x : Stored). x.making) h.is ∙ ap (grown_with ts) empty
+
+some_text : (text : List ℕ) → (text ≡ [] → ⊥) → made_text text ≡ [] → ⊥
+some_text [] some is = some refl
+some_text (c ∷ cs) some is = cc
+
+-- A TEXT IN FRONT, of an engine whose list is begun and grows to it
+module _ (e e1 : Engine) (i2 : Stored) (ts : List Token) (begun : e1.input.making ≡ Some []) (front : IsInFront e e1) (same : e1.input.pending ≡ settle e.input.pending) where
+  module _ (grown : HasGrown e1.input i2 ts) where
+    pub grown_making : i2.making ≡ Some ts
+    grown_making = made_with e1.input i2 ts begun grown
+
+    pub grown_front : IsInFront e (with_input e1 i2)
+    grown_front = front_join e e1 (with_input e1 i2) front (making_front e1 i2 (grown_with ts e1.input.making) grown.is grown.macros)
+
+    pub grown_settled : i2.pending ≡ settle i2.pending
+    grown_settled = settled_still e.input.pending i2.pending (ap (λ (x : Stored). x.pending) grown.is ∙ same)
+
+    module _ (sizes : Sizes) (w : World) (book : Book) (sound : IsSound sizes e book.number book.macros) (d : Did sizes (state_of e book) (state_of e1 book) w w (Settled ∷ ListBegun ∷ [])) (e3 : Engine) where
+      pub whole_did : (IsSound sizes (with_input e1 i2) book.number book.macros → Did sizes (state_of (with_input e1 i2) book) (state_of e3 book) w w (put_made (made_list i2.making))) → Did sizes (state_of e book) (state_of e3 book) w w (put_text ts)
+      whole_did h =
+          text_done sizes _ _ (state_of (with_input e1 i2) book) _ w ts d (grown.did sizes e1 w book (front_sound sizes e e1 book front sound))
+          (subst (λ (us : List Token). Did sizes (state_of (with_input e1 i2) book) (state_of e3 book) w w (put_made us)) (ap made_list grown_making) (h (front_sound sizes e (with_input e1 i2) book grown_front sound)))
+
+      pub whole_cuts : (b : Broken) (more : List Move) → (IsSound sizes (with_input e1 i2) book.number book.macros → Cuts sizes (state_of (with_input e1 i2) book) e3 book w w (put_made (made_list i2.making) ++ more) b) → Cuts sizes (state_of e book) e3 book w w (put_text ts ++ more) b
+      whole_cuts b more h =
+          end_cuts sizes _ _ e3 book w ts more b d _ (grown.did sizes e1 w book (front_sound sizes e e1 book front sound))
+          (subst (λ (us : List Token). Cuts sizes (state_of (with_input e1 i2) book) e3 book w w (put_made us ++ more) b) (ap made_list grown_making) (h (front_sound sizes e (with_input e1 i2) book grown_front sound)))
+
+  -- or doesn't
+  module _ (full : Full) (stopped : GrowsNot e1.input i2 ts full) where
+    pub stopped_front : IsInFront e (with_input e1 i2)
+    stopped_front = front_join e e1 (with_input e1 i2) front (making_front e1 i2 i2.making stopped.is stopped.macros)
+
+    pub stopped_cuts : (sizes : Sizes) (w : World) (book : Book) (more : List Move) → IsSound sizes e book.number book.macros → Did sizes (state_of e book) (state_of e1 book) w w (Settled ∷ ListBegun ∷ []) → Cuts sizes (state_of e book) (with_input e1 i2) book w w (put_text ts ++ more) (broken.Full full)
+    stopped_cuts sizes w book more sound d = text_cuts sizes _ _ (with_input e1 i2) book w ts more (broken.Full full) d (stopped.cuts sizes e1 w book (put_made ts ++ more) (front_sound sizes e e1 book front sound))

@@ -5,11 +5,10 @@ use Rattle.tex_syntax.specs.declared.words.Outcome.TheVariants.{Finished, AtFata
 use Rattle.tex_syntax.specs.declared.words.Scanned.{Scanned}
 use Rattle.tex_syntax.specs.declared.words.Report.{Report}
 use Rattle.tex_defs.specs.Places.{Transcript}
-use Rattle.plain_state.specs.States.{Move, Written}
 use Rattle.tex_defs.specs.declared.Fatal.TheVariants.{NoEnd as FatalNoEnd}
 use Rattle.plain_state.specs.Reports.{plain_style, fresh_line, emergency, no_end_line}
+use Rattle.plain_machine.specs.States.{Move, Written}
 use Rattle.plain_machine.specs.Plan.{Page, reported, finish, no_end, page_behind, put_one, inserted_at, check_noted}
-use Rattle.plain_state.specs.Readings as reading
 use Rattle.engine_state.specs.declared.outcome.Last.{Last}
 use Rattle.engine_state.specs.declared.outcome.Last.TheVariants.{End, NoEnd}
 
@@ -29,21 +28,3 @@ last_bytes in_line NoEnd = fresh_line in_line ++ (emergency (plain_style []) ++ 
 -- what is scanned runs away, and this is shown of it: `}` or `\par` is inserted, the report comes, and a call notes the check
 abbrev pub away_moves : Page → Scanned → List ℕ → Report → (rest : List Move) → List Move
 away_moves page what text report rest = Written Transcript text ∷ (put_one (inserted_at what) ++ reported (page_behind page text) report (check_noted what rest))
-
--- the expansion of a primitive
-abbrev pub IsExpansion : reading.Kind → Type 0
-IsExpansion reading.Number = Unit {0}
-IsExpansion k = ⊥
-
-abbrev pub IsNoExpansion : reading.Kind → Type 0
-IsNoExpansion reading.Number = ⊥
-IsNoExpansion k = Unit {0}
-
--- a command of the stomach, or an expansion
-abbrev pub IsCommand : reading.Kind → Type 0
-IsCommand reading.Catcode = Unit {0}
-IsCommand (reading.Message name) = Unit {0}
-IsCommand (reading.Prefixed long outer) = Unit {0}
-IsCommand (reading.Define expanded) = Unit {0}
-IsCommand reading.Number = Unit {0}
-IsCommand k = ⊥

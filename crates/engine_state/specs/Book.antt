@@ -1,7 +1,7 @@
 -- What stands beside an engine.
 use Rattle.std.specs.Prelude.{◌≢◌, ℕ, List, [], ◌∷◌}
 use Rattle.tex_defs.specs.declared.Token.{Token}
-use Rattle.plain_state.specs.States.{Reading}
+use Rattle.plain_readings.specs.Readings.{Reading}
 
 -- The open readings, what the machine calls each list of the memory that is a macro's, and the lists of all macros so far.
 pub record Book : Type 0 where

@@ -1,11 +1,10 @@
 -- A call that gathers its arguments: the innermost reading of all.
-use Rattle.std.specs.Prelude.{◌≡◌, ℕ, Bool, true, false, List, [], ◌∷◌, ◌++◌, length, Option, Some, None}
+use Rattle.std.specs.Prelude.{◌≡◌, ℕ, Bool, true, false, List, [], ◌∷◌, ◌++◌, Option, Some, None}
 use Rattle.tex_syntax.specs.declared.words.Want.TheVariants.{Raw}
 use Rattle.tex_syntax.specs.declared.words.Report.{Report}
 use Rattle.tex_syntax.specs.declared.words.Scanned.TheVariants as scanned
 use Rattle.tex_syntax.specs.declared.words.Report.TheVariants as reports
 use Rattle.tex_defs.specs.Places.{Transcript}
-use Rattle.tex_defs.specs.declared.Seen.{Seen}
 use Rattle.tex_defs.specs.declared.Sizes.{Sizes}
 use Rattle.tex_defs.specs.declared.Token.{Token}
 use Rattle.tex_defs.specs.declared.Name.{Name}
@@ -13,24 +12,23 @@ use Rattle.tex_defs.specs.declared.Meaning.TheVariants.{Macro}
 use Rattle.plain_tokens.specs.Arguments.{arguments_in, work_in, has_parameters}
 use Rattle.plain_tokens.specs.Meanings.{name_meaning}
 use Rattle.plain_tokens.specs.Printed.{initial_style}
-use Rattle.plain_state.specs.Readings as reading
-use Rattle.plain_state.specs.Readings.{Fed, gathered_by, call_fed, par_token, list_or_none}
+use Rattle.rows.specs.Readings as reading
+use Rattle.rows.specs.Readings.{Fed}
+use Rattle.plain_readings.specs.Calls.{gathered, call_fed, par_token}
+use Rattle.plain_readings.specs.Readings.{Reading, Arguments, ask, lists}
 use Rattle.plain_state.specs.Reports as texts
-use Rattle.plain_state.specs.States.{Reading, Move, Written}
-use Rattle.plain_machine.specs.Plan.{Page, is_told, last_seen, put_one, failed, page_behind}
+use Rattle.plain_machine.specs.States.{Move, Written}
+use Rattle.plain_machine.specs.Plan.{Page, put_one, failed, page_behind}
 use Rattle.macro_call.specs.PlainScans.{Scan, resume_scan, scan_work}
 use Rattle.input_state.specs.CallFeeds.{call_work}
 use Rattle.input_state.specs.Callings.{Calling, NotCalling, Gathering, Stopped, Gathered, call_lists}
 use Rattle.input_state.specs.Macros.{list_at}
-use Rattle.frames.specs.declared.scan.Ask.{Ask}
-use Rattle.frames.specs.declared.scan.Ask.TheVariants as asks
-use Rattle.frames.specs.declared.frame.Frame.{Frame}
 use Rattle.engine_state.specs.declared.call.Call.{Call}
 use Rattle.engine_state.specs.declared.call.CallAsk.{CallAsk}
 use Rattle.engine_state.specs.declared.call.CallAsk.TheVariants as call
 use Rattle.engine_state.specs.declared.engine.Engine.{Engine}
 use Rattle.engine_state.specs.Book.{Book}
-use Rattle.engine_state.specs.Stands.{FramesStand, AreOrderly, IsSound}
+use Rattle.engine_state.specs.Stands.{FramesStand, IsSound}
 
 -- the arguments, where all of them are there
 abbrev pub args_of : Calling → List (List Token)
@@ -42,20 +40,20 @@ args_of (Gathered name args) = args
 -- what the call of a macro asks for, as its reading does
 abbrev pub asks_by : Name → CallAsk → Calling → reading.Ask
 asks_by name call.More k = reading.More Raw
-asks_by name (call.ExtraBrace x) k = reading.Inserts par_token (reports.ExtraBrace name) true
+asks_by name call.ExtraBrace k = reading.Inserts par_token (reports.ExtraBrace name) true
 asks_by name call.Gathered k = reading.Calls (args_of k)
 asks_by name call.Mismatch k = reading.Fails (reports.UseMismatch name)
-asks_by name (call.ParEnded (Some x)) k = reading.RunsAway (reports.ParagraphEnded name)
-asks_by name (call.ParEnded None) k = reading.Closes
+asks_by name (call.ParEnded false) k = reading.RunsAway (reports.ParagraphEnded name)
+asks_by name (call.ParEnded true) k = reading.Ends
 
 abbrev pub asks_of : Call → Calling → reading.Ask
 asks_of c k = asks_by c.name c.ask k
 
 -- The scanner has the arguments and the list in work of the reading, and goes on as it.
 pub record Gathers (long : Bool) (text : List Token) (scan : Scan) (fed : List Fed) : Type 0 where
-  pub args : arguments_in (gathered_by long text fed) ≡ scan.args
-  pub work : work_in (gathered_by long text fed) ≡ scan_work scan
-  pub goes_on : (more : List Fed) → gathered_by long text (fed ++ more) ≡ resume_scan text scan (call_fed more)
+  pub args : arguments_in (gathered long text fed) ≡ scan.args
+  pub work : work_in (gathered long text fed) ≡ scan_work scan
+  pub goes_on : (more : List Fed) → gathered long text (fed ++ more) ≡ resume_scan text scan (call_fed more)
 
 -- it has no argument where it has no list in work
 abbrev pub HasWork : Scan → Type 0
@@ -85,16 +83,20 @@ IsGathered name (Gathered n args) = n ≡ name
 -- where it stands, by what it asks for
 abbrev pub CallAt : CallAsk → Name → (long : Bool) → (text : List Token) → Calling → List Fed → Type 0
 CallAt call.More name long text k fed = IsTaking name long text k fed
-CallAt (call.ExtraBrace x) name long text k fed = IsTaking name long text k fed
+CallAt call.ExtraBrace name long text k fed = IsTaking name long text k fed
 CallAt call.Gathered name long text k fed = IsGathered name k
 CallAt call.Mismatch name long text k fed = IsStopped name k
-CallAt (call.ParEnded x) name long text k fed = IsStopped name k
+CallAt (call.ParEnded silent) name long text k fed = IsStopped name k
 
--- the token that is given back is the last
-abbrev pub GivesLast : CallAsk → List Fed → Type 0
-GivesLast (call.ExtraBrace x) fed = (last_seen fed ≡ x ∷ []) × (is_told fed ≡ false)
-GivesLast (call.ParEnded (Some x)) fed = last_seen fed ≡ x ∷ []
-GivesLast a fed = Unit {0}
+-- The call is this reading, over the list of its macro.
+pub record CallReads (c : Call) (k : Calling) (r : Reading) : Type 0 where
+  pub long : Bool
+  pub number : ℕ
+  pub text : List Token
+  pub kind : r.kind ≡ Arguments c.name long number text
+  pub asked : asks_of c k ≡ ask r.kind r.fed
+  pub at : CallAt c.ask c.name long text k r.fed
+  pub holds : lists r.kind r.fed ≡ call_lists k
 
 -- The call is this reading: that of a macro with a list that has a parameter text.
 pub record CallStands (e : Engine) (number : ℕ → ℕ) (c : Call) (r : Reading) : Type 0 where
@@ -102,37 +104,18 @@ pub record CallStands (e : Engine) (number : ℕ → ℕ) (c : Call) (r : Readin
   pub outer : Bool
   pub id : ℕ
   pub meaning : name_meaning e.input.meanings c.name ≡ Macro long outer (Some id)
-  pub kind : r.kind ≡ reading.Arguments c.name long (number id) (list_at e.input.lists id)
+  pub kind : r.kind ≡ Arguments c.name long (number id) (list_at e.input.lists id)
   pub places : has_parameters (list_at e.input.lists id) ≡ true
-  pub asked : asks_of c e.input.call ≡ reading.ask r.kind r.fed
+  pub asked : asks_of c e.input.call ≡ ask r.kind r.fed
   pub at : CallAt c.ask c.name long (list_at e.input.lists id) e.input.call r.fed
-  pub holds : r.holds ≡ length (call_lists e.input.call)
-  pub last : GivesLast c.ask r.fed
-  pub not_lent : r.lent ≡ false
+  pub holds : lists r.kind r.fed ≡ call_lists e.input.call
 
--- the call is this reading, over the list of its macro
-pub record CallReads (c : Call) (k : Calling) (r : Reading) : Type 0 where
-  pub long : Bool
-  pub number : ℕ
-  pub text : List Token
-  pub kind : r.kind ≡ reading.Arguments c.name long number text
-  pub asked : asks_of c k ≡ reading.ask r.kind r.fed
-  pub at : CallAt c.ask c.name long text k r.fed
-  pub holds : r.holds ≡ length (call_lists k)
-  pub last : GivesLast c.ask r.fed
-  pub not_lent : r.lent ≡ false
-
--- a call begins where a token is wanted
-abbrev pub WantsToken : Option Frame → Ask → Type 0
-WantsToken None a = Unit {0}
-WantsToken (Some f) (asks.More want) = Unit {0}
-WantsToken (Some f) a = ⊥
-
--- A call is the innermost reading; the frames, with the lists that they hold, are those beneath it, or all of them.
+-- A call is the innermost reading, and begins where a token is wanted or what stands behind `\expandafter` is expanded; the frames, with the lists
+-- that they hold, are those beneath it, or all of them.
 abbrev pub ReadingsStand : Option Call → Engine → (number : ℕ → ℕ) → List Reading → Type 0
-ReadingsStand None e number work = FramesStand e work × (AreOrderly work × (e.input.call ≡ NotCalling))
+ReadingsStand None e number work = FramesStand e work × (e.input.call ≡ NotCalling)
 ReadingsStand (Some c) e number [] = ⊥
-ReadingsStand (Some c) e number (r ∷ rs) = CallStands e number c r × (FramesStand e rs × (AreOrderly rs × WantsToken e.top e.ask))
+ReadingsStand (Some c) e number (r ∷ rs) = CallStands e number c r × FramesStand e rs
 
 -- The engine's open readings and its macros are those of the book, and no list is being made; a call gathers its arguments or none does.
 pub record AllStand (sizes : Sizes) (e : Engine) (book : Book) : Type 0 where
@@ -148,9 +131,13 @@ FramesOf (Some c) e (r ∷ rs) = CallReads c e.input.call r × FramesStand e rs
 
 -- AN ARGUMENT THAT RUNS AWAY
 
+abbrev pub work_or_none : Option (List Token) → List Token
+work_or_none None = []
+work_or_none (Some ts) = ts
+
 -- what is shown of it: the list in work, if a place is reached
 abbrev pub argument_bytes : Engine → List ℕ
-argument_bytes e = texts.runaway_bytes scanned.Use (initial_style e.categories e.names.names) e.in_line (list_or_none (call_work e.input.call))
+argument_bytes e = texts.runaway_bytes scanned.Use (initial_style e.categories e.names.names) e.in_line (work_or_none (call_work e.input.call))
 
 -- it is shown, the token put back, and the call reports and ends
 abbrev pub call_away_moves : Page → (text : List ℕ) → Token → Report → List Move
@@ -161,5 +148,5 @@ abbrev pub open_call : Name → Call
 open_call name = record { name = name; ask = call.More }
 
 -- the call in which an extra right brace came
-abbrev pub brace_call : Name → Seen → Call
-brace_call name x = record { name = name; ask = call.ExtraBrace x }
+abbrev pub brace_call : Name → Call
+brace_call name = record { name = name; ask = call.ExtraBrace }

@@ -3,8 +3,7 @@ use Rattle.std.specs.Prelude.{◌≡◌, ℕ, Bool, false, List, [], Option, Som
 use Rattle.tex_defs.specs.declared.Sizes.{Sizes}
 use Rattle.prim_table.specs.Primitives.{primitive_names}
 use Rattle.plain_tokens.specs.Categories.{initial_categories}
-use Rattle.plain_tokens.specs.Names.{is_known}
-use Rattle.plain_machine.specs.Plan.{first_state, job_due}
+use Rattle.plain_machine.specs.Plan.{first_state, is_known, job_due}
 use Rattle.input_state.specs.Stored.{unread}
 use Rattle.engine_state.specs.declared.engine.Engine.{Engine}
 use Rattle.engine_state.specs.Book.{first_book}
@@ -20,6 +19,7 @@ pub record Begins (sizes : Sizes) (e : Engine) (quiet : Bool) (job : Option (Lis
   pub state : (file : List ℕ) → record (state_of e first_book) { due = job_due file job } ≡ first_state is_known initial_categories quiet file job
   pub column : e.in_line ≡ false
   pub reports : e.reports ≡ 0
+  pub flawed : e.flawed ≡ false
   pub running : e.stopped ≡ false
   pub unread : e.input.pending ≡ unread job
   pub names : e.names.names ≡ primitive_names

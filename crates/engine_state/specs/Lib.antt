@@ -1,11 +1,11 @@
 pub mod Begins
 pub mod Book
 pub mod Calls
-pub mod Chained
 pub mod Entering
 pub mod Faults
 pub mod Feeding
 pub mod First
+pub mod Making
 pub mod Near
 pub mod Rules
 pub mod Stands

@@ -1,26 +1,24 @@
 -- Where a rule is cut off within what a token comes to.
-use Rattle.std.specs.Prelude.{◌≡◌, ℕ, Bool, false, List, [], ◌∷◌, ◌++◌, length, Option, Some, None}
+use Rattle.std.specs.Prelude.{◌≡◌, ℕ, Bool, List, [], ◌∷◌, ◌++◌, Option, Some, None}
 use Rattle.tex_defs.specs.Places.{World}
 use Rattle.tex_defs.specs.declared.Full.{Full}
 use Rattle.tex_defs.specs.declared.Seen.{Seen}
 use Rattle.tex_defs.specs.declared.Sizes.{Sizes}
 use Rattle.tex_defs.specs.declared.Token.{Token}
-use Rattle.plain_state.specs.Readings as reading
-use Rattle.plain_state.specs.Readings.{Fed, Tok}
+use Rattle.rows.specs.Readings.{Fed, Tok}
+use Rattle.plain_readings.specs.Readings.{Reading, Arguments, ask}
 use Rattle.plain_tokens.specs.Puts.{grow_first}
-use Rattle.plain_state.specs.States.{Reading, State, Move}
+use Rattle.plain_machine.specs.States.{State, Move}
 use Rattle.macro_call.specs.PlainScans.{Scan}
 use Rattle.input_state.specs.CallFeeds.{IsCutInGrowth, IsCutBetween}
-use Rattle.input_state.specs.Callings.{Calling, Stopped, call_lists}
-use Rattle.frames.specs.declared.frame.Frame.{Frame}
-use Rattle.frames.specs.Resumes.{frame_kind, IsNoDefinition}
+use Rattle.input_state.specs.Callings.{Calling, Stopped}
+use Rattle.reading_frames.specs.Stands as frames
 use Rattle.engine_state.specs.declared.broken.Broken.{Broken}
 use Rattle.engine_state.specs.declared.broken.Broken.TheVariants as broken
 use Rattle.engine_state.specs.declared.call.Call.{Call}
 use Rattle.engine_state.specs.Calls.{Gathers, CallReads, asks_of}
 use Rattle.engine_state.specs.declared.engine.Engine.{Engine}
 use Rattle.engine_state.specs.Book.{Book}
-use Rattle.engine_state.specs.Stands.{WorkStands}
 use Rattle.engine_state.specs.Rules.{Cuts}
 
 -- A CALL THAT IS CUT OFF
@@ -52,10 +50,8 @@ pub record CutFull (b : Broken) (c : Call) (k : Calling) (r : Reading) : Type 0 
   pub long : Bool
   pub number : ℕ
   pub text : List Token
-  pub kind : r.kind ≡ reading.Arguments c.name long number text
-  pub asked : asks_of c k ≡ reading.ask r.kind r.fed
-  pub holds : r.holds ≡ length (call_lists k)
-  pub not_lent : r.lent ≡ false
+  pub kind : r.kind ≡ Arguments c.name long number text
+  pub asked : asks_of c k ≡ ask r.kind r.fed
   pub next : Scan
   pub stopped : k ≡ Stopped c.name next
   pub at : CutScan long text next r.fed
@@ -69,32 +65,32 @@ pub data CallNear (b : Broken) (c : Call) (k : Calling) (r : Reading) : Type 0 w
 
 -- they are these, where the frames held these lists
 abbrev pub FramesIn : Broken → Option Call → Engine → (lists : List (List Token)) → List Reading → Type 0
-FramesIn b None e lists work = WorkStands e.ask e.top e.outer.items lists e.input.aside work
+FramesIn b None e lists work = frames.FramesStand e.readings.frames lists work
 FramesIn b (Some c) e lists [] = ⊥
-FramesIn b (Some c) e lists (r ∷ rs) = CallNear b c e.input.call r × WorkStands e.ask e.top e.outer.items lists e.input.aside rs
+FramesIn b (Some c) e lists (r ∷ rs) = CallNear b c e.input.call r × frames.FramesStand e.readings.frames lists rs
 
 -- the innermost list has one token more, or none
 abbrev pub with_token : Option Token → List (List Token) → List (List Token)
 with_token None lists = lists
 with_token (Some t) lists = grow_first t lists
 
--- such a token may be there: where a table is full, and the innermost frame's list is a definition's
-abbrev pub MayLead : Broken → Option Frame → Option Token → Type 0
-MayLead b top None = Unit {0}
-MayLead (broken.Full full) (Some f) (Some t) = IsNoDefinition (frame_kind f) → ⊥
-MayLead b top (Some t) = ⊥
+-- such a token may be there: where a table is full
+abbrev pub MayLead : Broken → Option Token → Type 0
+MayLead b None = Unit {0}
+MayLead (broken.Full full) (Some t) = Unit {0}
+MayLead b (Some t) = ⊥
 
--- The open readings are these. Only where a table is full: of two tokens that one token brings into a definition's list, the first may be
+-- The open readings are these. Only where a table is full: of two tokens that one token brings into a list, the first may be
 -- there, and a call may be cut off within what a token brings.
 pub record FramesNear (b : Broken) (e : Engine) (work : List Reading) : Type 0 where
   pub lists : List (List Token)
   pub front : Option Token
   pub grown : e.input.builds ≡ with_token front lists
-  pub leads : MayLead b e.top front
+  pub leads : MayLead b front
   pub stand : FramesIn b e.call e lists work
 
 -- The moves are cut off: the engine stands for the moment before the move that wasn't made, with these readings.
 pub record CutsIn (sizes : Sizes) (s : State) (e' : Engine) (w w' : World) (moves : List Move) (b : Broken) : Type 0 where
   pub book' : Book
   pub cuts : Cuts sizes s e' book' w w' moves b
-  pub frames : FramesNear b e' book'.work
+  pub near : FramesNear b e' book'.work

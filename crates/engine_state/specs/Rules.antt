@@ -1,5 +1,5 @@
 -- What the engine does for one rule of the machine.
-use Rattle.std.specs.Prelude.{◌≡◌, ℕ, ◌≤◌, Bool, false, List, [], ◌∷◌, ◌++◌, Option, Some, None}
+use Rattle.std.specs.Prelude.{◌≡◌, ℕ, ◌≤◌, Bool, false, ◌<◌, List, [], ◌∷◌, ◌++◌, length, drop, Option, Some, None}
 use Rattle.tex_syntax.specs.declared.words.Outcome.TheVariants.{Finished, AtFatal}
 use Rattle.tex_syntax.specs.declared.words.Outcome.{Outcome}
 use Rattle.tex_syntax.specs.declared.words.Scanned.{Scanned}
@@ -12,18 +12,19 @@ use Rattle.tex_defs.specs.declared.Seen.{Seen}
 use Rattle.tex_defs.specs.declared.Token.{Token as PlainToken}
 use Rattle.tex_defs.specs.declared.Sizes.{Sizes}
 use Rattle.plain_tokens.specs.Printed.{initial_style}
-use Rattle.plain_state.specs.Reports.{plain_style, report_bytes, runaway_bytes}
-use Rattle.plain_state.specs.Readings.{list_or_none}
+use Rattle.plain_state.specs.Reports.{plain_style, report_bytes, error_message_bytes, runaway_bytes}
 use Rattle.tex_defs.specs.declared.Name.{Name}
 use Rattle.plain_tokens.specs.Lex.{Lexeme}
 use Rattle.plain_tokens.specs.Lookup.{new_name, token_of}
-use Rattle.plain_tokens.specs.Meanings.{seen}
+use Rattle.plain_tokens.specs.Meanings.{met as met_token}
 use Rattle.plain_tokens.specs.Tokens.{space_token}
-use Rattle.plain_state.specs.States.{Reading, State, Move, Written, Reported}
-use Rattle.plain_state.specs.States as machine
+use Rattle.rows.specs.Readings.{More}
+use Rattle.plain_readings.specs.Readings.{Reading}
+use Rattle.plain_readings.specs.Scanning.{Scanning, scanning}
+use Rattle.plain_machine.specs.States.{State, Move, Written, Reported}
 use Rattle.plain_tokens.specs.Pending.{pulled}
 use Rattle.plain_machine.specs.Numbers.{pending_of}
-use Rattle.plain_machine.specs.Plan.{Page, planned, stomach, wanted, feeding, scanning, Scanning, handed, met, reported, entered, enters_names, reports_room}
+use Rattle.plain_machine.specs.Plan.{Page, planned, stomach, wanted, feeding, first_list, handed, met, reported, reported_as, behind_report, entered, enters_names, reports_room}
 use Rattle.plain_machine.specs.Runs.{steps}
 use Rattle.plain_machine.specs.Does.{Did, Cut, Why, IsFull, IsFault, IsWant}
 use Rattle.world_io.specs.Told.{FilesTold, SinkTold, world}
@@ -35,11 +36,10 @@ use Rattle.engine_state.specs.declared.outcome.Next.{Next}
 use Rattle.engine_state.specs.declared.outcome.Next.TheVariants.{Token, Line, Skipped, Over}
 use Rattle.tex_defs.specs.declared.Fatal.TheVariants.{HundredErrors}
 use Rattle.engine_state.specs.Faults.{why_of}
-use Rattle.frames.specs.declared.scan.Ask.TheVariants.{More}
-use Rattle.frames.specs.Sees.{first_list}
 use Rattle.input_state.specs.Stored.{gathered}
 use Rattle.engine_state.specs.Book.{Book}
-use Rattle.engine_state.specs.Calls.{AllStand}
+use Rattle.engine_state.specs.Calls.{AllStand, work_or_none}
+use Rattle.engine_state.specs.Steps.{asked}
 use Rattle.engine_state.specs.declared.call.Call.{Call}
 use Rattle.engine_state.specs.declared.call.CallAsk.TheVariants as call
 use Rattle.input_state.specs.CallFeeds.{IsTaking, call_work}
@@ -60,9 +60,9 @@ pub record Went (sizes : Sizes) (s : State) (e' : Engine) (w w' : World) (moves 
   pub did : Did sizes s (state_of e' book') w w' moves
   pub count : steps moves ≡ k
 
--- where a run has ended at `\end`, the engine has counted its reports
+-- where a run has ended at `\end`, the engine has counted its reports, and knows whether the status is to be 1 without one
 abbrev pub CountsReports : Outcome → State → Engine → Type 0
-CountsReports Finished t e = t.reports ≡ e.reports
+CountsReports Finished t e = (t.reports ≡ e.reports) × (t.flawed ≡ e.flawed)
 CountsReports (AtFatal f) t e = Unit {0}
 
 -- The machine has stopped, behind at most k steps. The engine stands for its last state, but for how it stopped, with the same
@@ -80,6 +80,19 @@ pub record Halts (sizes : Sizes) (s : State) (e' : Engine) (book : Book) (w w' :
 pub record Reports (sizes : Sizes) (s s' : State) (w w' : World) (page : Page) (report : Report) (rest : List Move) : Type 0 where
   pub moves : reported page report rest ≡ Written Transcript (report_bytes (plain_style page.names) page.in_line page.line report) ∷ Reported ∷ rest
   pub did : Did sizes s s' w w' (Written Transcript (report_bytes (plain_style page.names) page.in_line page.line report) ∷ Reported ∷ [])
+
+-- So is one whose text is this list.
+pub record ReportsAs (sizes : Sizes) (s s' : State) (w w' : World) (page : Page) (ts : List PlainToken) (rest : List Move) : Type 0 where
+  pub moves : reported_as page ts rest ≡ Written Transcript (error_message_bytes (initial_style page.categories page.names) page.in_line page.line ts) ∷ Reported ∷ rest
+  pub did : Did sizes s s' w w' (Written Transcript (error_message_bytes (initial_style page.categories page.names) page.in_line page.line ts) ∷ Reported ∷ [])
+
+-- what comes behind the text of a report: it is counted
+abbrev pub counted : Page → List Move → List Move
+counted page rest = Reported ∷ behind_report (plain_style page.names) page.reports rest
+
+pub record CountsOn (sizes : Sizes) (s s' : State) (w w' : World) (page : Page) (rest : List Move) : Type 0 where
+  pub moves : counted page rest ≡ Reported ∷ rest
+  pub did : Did sizes s s' w w' (Reported ∷ [])
 
 -- how the innermost reading, if there is one, is fed with a token
 abbrev pub feeds_of : List Reading → Seen → List Move
@@ -101,34 +114,38 @@ scanning_of e work = scanning work (gathered e.input)
 
 -- what becomes of a token of a list
 abbrev pub token_moves : Page → Option Scanning → (onward : Seen → List Move) → PlainToken → List Move
-token_moves page scanned onward t = met page scanned onward (seen page.meanings t)
+token_moves page scanned onward t = met page scanned onward (met_token page.meanings t)
 
 -- what becomes of a character or a name of the line
 abbrev pub name_moves : Page → Option Scanning → (enters : Bool) → (onward : Seen → List Move) → Lexeme → List Move
 name_moves page scanned enters onward x = entered (new_name enters page.names x) ++ token_moves page scanned onward (token_of enters page.names x)
 
--- the list of what is scanned: of a call the present argument, if a place is reached, and else the innermost list that frames hold
-abbrev pub scanned_list : Scanned → Engine → List PlainToken
-scanned_list scanned.Use e = list_or_none (call_work e.input.call)
-scanned_list what e = first_list (e.input.builds ++ e.input.aside)
+-- the list with this number among those that are gathered but for a call's, the innermost first
+abbrev pub list_number : ℕ → List (List PlainToken) → List PlainToken
+list_number k lists = first_list (drop k lists)
+
+-- the list of what is scanned: of a call the present argument, if a place is reached, and else the list with this number
+abbrev pub scanned_list : Scanned → ℕ → Engine → List PlainToken
+scanned_list scanned.Use k e = work_or_none (call_work e.input.call)
+scanned_list what k e = list_number k e.input.builds
 
 -- what is shown of it where it runs away
-abbrev pub away_text : Scanned → Engine → List ℕ
-away_text what e = runaway_bytes what (initial_style e.categories e.names.names) e.in_line (scanned_list what e)
+abbrev pub away_text : Scanned → ℕ → Engine → List ℕ
+away_text what k e = runaway_bytes what (initial_style e.categories e.names.names) e.in_line (scanned_list what k e)
 
--- a call takes tokens, or a list is held
-abbrev pub IsScanned : Scanned → Engine → Type 0
-IsScanned scanned.Use e = IsTaking e.input.call
-IsScanned what e = e.input.builds ++ e.input.aside ≡ [] → ⊥
+-- a call takes tokens, or there is such a list
+abbrev pub IsScanned : Scanned → ℕ → Engine → Type 0
+IsScanned scanned.Use k e = IsTaking e.input.call
+IsScanned what k e = k < length e.input.builds
 
 -- such a thing is scanned, under this name
-abbrev pub Scans : (Scanned × Name) → Engine → Book → Type 0
-Scans s e book = scanning_of e book.work ≡ Some (record { what = s.0; name = s.1; list = scanned_list s.0 e })
+abbrev pub Scans : (Scanned × Name × ℕ) → Engine → Book → Type 0
+Scans s e book = scanning_of e book.work ≡ Some (record { what = s.0; name = s.1; list = scanned_list s.0 s.2 e })
 
 -- such a token is wanted: by a call that takes tokens, as it stands, by the innermost frame, or where no reading is open
 abbrev pub WantsHere : Option Call → Option Want → Engine → Type 0
-WantsHere None None e = e.top ≡ None
-WantsHere None (Some want) e = e.ask ≡ More want
+WantsHere None None e = asked e ≡ None
+WantsHere None (Some want) e = asked e ≡ Some (More want)
 WantsHere (Some c) None e = ⊥
 WantsHere (Some c) (Some want) e = (c.ask ≡ call.More) × (want ≡ Raw)
 
@@ -143,7 +160,7 @@ Wants sizes e book = (want : Option Want) × Takes sizes want e book
 -- a space is handed on to where it is wanted, if it is
 abbrev pub space_moves : Page → Option Want → List Reading → List Move
 space_moves page None work = []
-space_moves page (Some want) work = onward_of page (Some want) work (seen page.meanings space_token)
+space_moves page (Some want) work = onward_of page (Some want) work (met_token page.meanings space_token)
 
 -- the machine's state at the moment, and that of the engine: the engine's column is that of the bytes really written
 abbrev pub IsMoment : Why → State → State → Type 0
@@ -206,17 +223,3 @@ pub record Behind (sizes : Sizes) (want space : Option Want) (s : State) (e' : E
   pub did : Did sizes s (state_of e' book2) w w' front
   pub whole : moves ≡ front ++ space_moves page space book2.work
   pub free : steps front ≡ 0
-
--- the open readings are as they were, but that a call may have noted a check
-pub record SameReadings (e e' : Engine) : Type 0 where
-  pub outer : e'.outer ≡ e.outer
-  pub top : e'.top ≡ e.top
-  pub ask : e'.ask ≡ e.ask
-  pub lists : e'.input.builds ≡ e.input.builds
-  pub aside : e'.input.aside ≡ e.input.aside
-  pub call : e'.call ≡ e.call
-
--- an open call has what it had
-abbrev pub CallStays : Option Call → Engine → Engine → Type 0
-CallStays None e e' = Unit {0}
-CallStays (Some c) e e' = e'.input.call ≡ e.input.call

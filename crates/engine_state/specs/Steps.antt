@@ -1,12 +1,14 @@
 -- Whether the next rule needs a step, and how many rules without a step may follow.
 use Rattle.std.specs.Prelude.{◌≡◌, ℕ, ◌+◌, ◌*◌, length, Bool, true, false, ◌&&◌, Option, Some, None}
 use Rattle.tex_syntax.specs.declared.words.Outcome.TheVariants.{AtFatal}
+use Rattle.tex_defs.specs.declared.Fatal.TheVariants.{HundredErrors}
+use Rattle.tex_defs.specs.declared.Seen.{Seen}
 use Rattle.plain_tokens.specs.Pending.{Pending, Progress, Closed, pulled}
+use Rattle.rows.specs.Readings as reading
+use Rattle.plain_readings.specs.Weights.{frame_weight}
+use Rattle.reading_frames.specs.Stack.{asks_in}
+use Rattle.reading_frames.specs.Weights.{stack_weight}
 use Rattle.input_state.specs.Reads.{gives_step}
-use Rattle.frames.specs.Weights.{ask_weight}
-use Rattle.frames.specs.declared.scan.Ask.{Ask}
-use Rattle.frames.specs.declared.scan.Ask.TheVariants.{More}
-use Rattle.frames.specs.declared.frame.Frame.{Frame}
 use Rattle.engine_state.specs.declared.call.Call.{Call}
 use Rattle.engine_state.specs.declared.call.CallAsk.{CallAsk}
 use Rattle.engine_state.specs.declared.call.CallAsk.TheVariants as call
@@ -15,35 +17,36 @@ use Rattle.engine_state.specs.declared.outcome.Ruled.{Ruled}
 use Rattle.engine_state.specs.declared.outcome.Ruled.TheVariants.{Step, Free, Halted}
 use Rattle.engine_state.specs.declared.outcome.Next.{Next}
 use Rattle.engine_state.specs.declared.outcome.Next.TheVariants.{Token, Line, Skipped, Over}
-use Rattle.tex_defs.specs.declared.Fatal.TheVariants.{HundredErrors}
-use Rattle.tex_defs.specs.declared.Seen.{Seen}
-use Rattle.engine_state.specs.Stands.{frames}
 
-abbrev pub asks_more : Ask → Bool
-asks_more (More want) = true
+-- WHETHER A TOKEN IS WANTED
+
+abbrev pub asks_more : reading.Ask → Bool
+asks_more (reading.More want) = true
 asks_more a = false
 
-abbrev pub wants_token : Option Frame → Ask → Bool
-wants_token None a = true
-wants_token (Some f) a = asks_more a
+-- what the innermost frame asks for, over the lists that are gathered
+abbrev pub asked : Engine → Option reading.Ask
+asked e = asks_in e.readings.frames e.input.builds
+
+-- by the innermost frame, or where no reading is open
+abbrev pub frames_want : Option reading.Ask → Bool
+frames_want None = true
+frames_want (Some a) = asks_more a
 
 abbrev pub call_asks_more : CallAsk → Bool
 call_asks_more call.More = true
 call_asks_more a = false
 
--- a call, where there is one, and else the innermost frame
-abbrev pub all_want : Option Call → Option Frame → Ask → Bool
-all_want None t a = wants_token t a
-all_want (Some c) t a = call_asks_more c.ask
+-- by a call, where there is one, and else by the frames
+abbrev pub all_want : Option Call → Option reading.Ask → Bool
+all_want None a = frames_want a
+all_want (Some c) a = call_asks_more c.ask
 
 -- the next rule has a step
 abbrev pub stepping : Engine → Bool
-stepping e = all_want e.call e.top e.ask && gives_step (pulled e.categories e.input.pending)
+stepping e = all_want e.call (asked e) && gives_step (pulled e.categories e.input.pending)
 
-abbrev pub IsStep : Ruled → Type 0
-IsStep Step = Unit {0}
-IsStep Free = ⊥
-IsStep (Halted o) = ⊥
+-- WEIGHTS
 
 -- an invalid character may still be skipped, and the file may still end
 abbrev pub file_weight : Progress → ℕ
@@ -53,22 +56,27 @@ file_weight p = 1
 abbrev pub pending_weight : Pending → ℕ
 pending_weight p = length p.line + file_weight p.file
 
-abbrev pub brace_weight : CallAsk → ℕ
-brace_weight (call.ExtraBrace x) = 1
-brace_weight a = 0
+-- a call: as much as a reading, and what it asks for
+abbrev pub call_weight : CallAsk → ℕ
+call_weight call.More = 0
+call_weight call.ExtraBrace = 14
+call_weight a = 13
 
--- a call goes on behind an extra brace
-abbrev pub call_weight : Option Call → ℕ
-call_weight None = 0
-call_weight (Some c) = brace_weight c.ask
-
--- the frames, and what is pending
-abbrev pub frame_weight : Engine → ℕ
-frame_weight e = 2 * frames e + ask_weight e.ask + pending_weight e.input.pending
+-- the open readings: a call stands above the frames
+abbrev pub readings_weight : Option Call → Engine → ℕ
+readings_weight None e = stack_weight e.readings
+readings_weight (Some c) e = frame_weight * length e.readings.frames + (frame_weight + call_weight c.ask)
 
 -- a rule without a step makes the engine lighter
 abbrev pub weight : Engine → ℕ
-weight e = frame_weight e + call_weight e.call
+weight e = readings_weight e.call e + pending_weight e.input.pending
+
+-- RULES
+
+abbrev pub IsStep : Ruled → Type 0
+IsStep Step = Unit {0}
+IsStep Free = ⊥
+IsStep (Halted o) = ⊥
 
 abbrev pub IsFree : Ruled → Type 0
 IsFree Free = Unit {0}

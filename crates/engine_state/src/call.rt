@@ -2,21 +2,21 @@
 ghost use Rattle.std.specs.Prelude.{◌≡◌};
 ghost use Rattle.engine_state.specs.Steps.{call_asks_more};
 
-use tex_defs::{Name, Seen};
+use tex_defs::Name;
 
 /// What a call asks for.
 #[derive(Clone, Copy)]
 pub enum CallAsk {
     /// A token, as it stands.
     More,
-    /// An extra `}`, this token, is given back, and `\par` inserted.
-    ExtraBrace(Seen),
+    /// An extra `}`, the last token, is given back, and `\par` inserted.
+    ExtraBrace,
     /// The arguments are there.
     Gathered,
     /// The tokens don't match.
     Mismatch,
-    /// A paragraph has ended: behind this token, which is given back; or, where a check came before, without a report.
-    ParEnded(Option<Seen>),
+    /// A paragraph has ended: the last token is given back and the end reported, or, where a check came before, it is silent.
+    ParEnded(bool),
 }
 
 /// A call that gathers its arguments, the innermost reading of all: the macro's name, and what it asks for.

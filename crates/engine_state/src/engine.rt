@@ -8,8 +8,8 @@ ghost use Rattle.tex_defs.specs.declared.Fatal.TheVariants as fatal;
 ghost use Rattle.plain_tokens.specs.Categories.{initial_categories as first_categories};
 ghost use Rattle.prim_table.specs.Primitives.{primitive_names};
 ghost use Rattle.plain_state.specs.Reports.{plain_style, missing_file_bytes};
-ghost use Rattle.plain_state.specs.Demands.{words};
-ghost use Rattle.plain_state.specs.States.{Move, Kept, Written};
+ghost use Rattle.plain_machine.specs.Demands.{words};
+ghost use Rattle.plain_machine.specs.States.{Move, Kept, Written};
 ghost use Rattle.plain_machine.specs.Plan.{no_file};
 ghost use Rattle.plain_machine.specs.Does.{Did};
 ghost use Rattle.world_io.specs.Told.{FilesTold};
@@ -21,12 +21,12 @@ ghost use Rattle.engine_state.specs.First.{Begins, IsUnread};
 use crate::broken::Broken;
 use crate::call::Call;
 use crate::writing::REPORTS_ROOM;
-use frames::{Ask, Frame, Outer};
 use input_state::Input;
 use name_table::NameTable;
+use reading_frames::Readings;
 use std::alloc::{AllocError, Global};
-use tex_defs::{Fatal, Sizes};
-use tex_syntax::{Outcome, Want};
+use tex_defs::{Fatal, Meaning, Name, Seen, Sizes, Token};
+use tex_syntax::Outcome;
 use transcript::{initial_view, write_missing_file};
 use world_io::Sink;
 
@@ -37,18 +37,18 @@ pub struct Engine {
     pub input: Input,
     pub names: NameTable,
     pub categories: [u8; 256],
-    /// The open readings but the innermost.
-    pub outer: Outer,
-    /// The innermost open reading.
-    pub top: Option<Frame>,
-    /// What it asks for.
-    pub ask: Ask,
-    /// The call that gathers its arguments, if one does.
+    /// The open readings but a call's.
+    pub readings: Readings,
+    /// The call that gathers its arguments, if one does: the innermost reading.
     pub call: Option<Call>,
+    /// The token that a reading was fed with last.
+    pub last: Seen,
     /// Whether the last byte that the transcript took isn't a line feed.
     pub in_line: bool,
     /// The reports so far.
     pub reports: u32,
+    /// Whether the status is to be 1 without a report.
+    pub flawed: bool,
     /// Whether token lines are left out.
     pub quiet: bool,
     /// Whether the last rule or run has answered with a stop: no step is taken behind it.
@@ -69,6 +69,18 @@ const INITIAL: [u8; 256] = [
     12, 12, 12, 12, 12, 12, 12, 12, 12, 12, 12, 12, 12, 12, 12, 12,
 ];
 
+/// The primitives that mean something: those that a row reads, and `\\relax`, `\\endcsname`, `\\par`, `\\end`, `\\csname` and `\\jobname`.
+const KNOWN: &[u16] = &[
+    1, 4, 5, 6, 8, 9, 10, 11, 23, 24, 25, 26, 27, 28, 29, 30, 31, 35, 54, 55, 56, 57, 58, 59, 60,
+    61,
+];
+
+/// Before a reading is fed with a token.
+const NO_TOKEN: Seen = Seen {
+    token: Token::Named(Name::Empty),
+    meaning: Meaning::Undefined,
+};
+
 /// The category codes of INITEX's first state.
 #[tactic(auto, unfolding(plain_tokens::specs::Categories::initial_categories))]
 fn initial_categories() -> [u8; 256]
@@ -86,7 +98,7 @@ impl Engine {
         requires { first_out_of_range sizes.now ≡ None }
         ensures { IfOk result (λ e. Begins sizes.now e quiet (Some [])) }
     {
-        let input = Input::new(alloc, sizes, true)?;
+        let input = Input::new(alloc, sizes, true, KNOWN)?;
         let names = match NameTable::new(alloc, sizes) {
             Ok(names) => names,
             Err(e) => {
@@ -94,8 +106,8 @@ impl Engine {
                 return Err(e);
             }
         };
-        let outer = match Outer::new(alloc, sizes.expansion_depth) {
-            Ok(outer) => outer,
+        let readings = match Readings::new(alloc, sizes.expansion_depth) {
+            Ok(readings) => readings,
             Err(e) => {
                 input.close();
                 return Err(e);
@@ -106,12 +118,12 @@ impl Engine {
             input,
             names,
             categories: initial_categories(),
-            outer,
-            top: None,
-            ask: Ask::More(Want::Expanded),
+            readings,
             call: None,
+            last: NO_TOKEN,
             in_line: false,
             reports: 0,
+            flawed: false,
             quiet,
             stopped: false,
         })
@@ -132,12 +144,12 @@ impl Engine {
             input,
             names: _,
             categories: _,
-            outer: _,
-            top: _,
-            ask: _,
+            readings: _,
             call: _,
+            last: _,
             in_line: _,
             reports: _,
+            flawed: _,
             quiet: _,
             stopped: _,
         } = self;

@@ -1,19 +1,18 @@
 // Lists that are put in front.
-ghost use Rattle.std.specs.Prelude.{◌≡◌, ◌+◌, List, ◌++◌, IfErr, OnOk, None, is_some};
+ghost use Rattle.std.specs.Prelude.{◌≡◌, ◌+◌, List, ◌++◌, IfErr, OnOk, None};
 ghost use Rattle.tex_defs.specs.Places.{World};
 ghost use Rattle.tex_defs.specs.declared.Sizes.{Sizes};
-ghost use Rattle.plain_state.specs.Readings.{Fed};
-ghost use Rattle.plain_state.specs.States.{Move};
+ghost use Rattle.plain_machine.specs.States.{Move};
 ghost use Rattle.plain_machine.specs.Plan.{given_back, put_inserted, put_one};
 ghost use Rattle.plain_machine.specs.Does.{Did};
 ghost use Rattle.engine_state.specs.Book.{Book};
-ghost use Rattle.engine_state.specs.Stands.{IsLast, Counts, SameStore, SameOthers, SameFrames, state_of, page_of};
+ghost use Rattle.engine_state.specs.Stands.{Counts, SameStore, SameOthers, SameFrames, state_of, page_of};
 ghost use Rattle.engine_state.specs.Rules.{Cuts};
 ghost use Rattle.engine_state.specs.Steps.{pending_weight};
 
 use crate::broken::Broken;
 use crate::engine::Engine;
-use tex_defs::{Seen, Sizes, Token};
+use tex_defs::{Sizes, Token};
 
 impl Engine {
     /// Puts a token in front: a list of it is begun, grown and put, once the finished lists in front have gone.
@@ -38,14 +37,14 @@ impl Engine {
         Ok(())
     }
 
-    /// Puts a token back, if there is one.
+    /// Puts the token back that a reading was fed with last, where it is given back.
     ///
     /// # Errors
     /// As [`Engine::put_one`].
-    pub fn put_back(&mut self, back: Option<Seen>) -> Result<(), Broken>
+    pub fn put_back(&mut self, back: bool) -> Result<(), Broken>
         requires idle { self.old.input.making ≡ None }
-        ensures did { OnOk result ((sizes : Sizes) (w : World) (book : Book) (fed : List Fed) → Counts sizes self.old book → self.old.input.making ≡ None → IsLast back fed → Did sizes (state_of self.old book) (state_of self.new book) w w (given_back (is_some back) fed)) }
-        ensures err { IfErr result (λ b. (sizes : Sizes) (w : World) (book : Book) (fed : List Fed) (more : List Move) → Counts sizes self.old book → self.old.input.making ≡ None → IsLast back fed → Cuts sizes (state_of self.old book) self.new book w w (given_back (is_some back) fed ++ more) b) }
+        ensures did { OnOk result ((sizes : Sizes) (w : World) (book : Book) → Counts sizes self.old book → self.old.input.making ≡ None → Did sizes (state_of self.old book) (state_of self.new book) w w (given_back back self.old.last)) }
+        ensures err { IfErr result (λ b. (sizes : Sizes) (w : World) (book : Book) (more : List Move) → Counts sizes self.old book → self.old.input.making ≡ None → Cuts sizes (state_of self.old book) self.new book w w (given_back back self.old.last ++ more) b) }
         ensures frames { SameFrames self.old self.new }
         ensures others { SameOthers self.old self.new }
         ensures store { SameStore self.old.input self.new.input }
@@ -53,8 +52,8 @@ impl Engine {
         ensures page { (book : Book) → page_of self.new book ≡ page_of self.old book }
         ensures idle { OnOk result (self.new.input.making ≡ None) }
     {
-        if let Some(seen) = back {
-            self.put_one(seen.token)?;
+        if back {
+            self.put_one(self.last.token)?;
         }
         Ok(())
     }

@@ -1,8 +1,7 @@
 //! The engine of a run: what it keeps of the plain machine's state, its next token, its reports and its open readings.
 //!
-//! An [`Engine`] stands for a state of the plain machine (`Stands` and `AllStand` in `specs`, beside a `Book`). Each of its
-//! calls says which moves of the machine it makes, what it writes, and where it was cut off. *TeX: The Program*, parts 22
-//! to 24 (`get_next`, `check_outer_validity`) and 6 (`error`).
+//! An [`Engine`] stands for a state of the plain machine (`AllStand` in `specs`, beside a `Book`). Each of its calls says which moves of the
+//! machine it makes, what it writes, and where it was cut off. *TeX: The Program*, parts 6 and 22 to 25.
 #![tactic(auto)]
 
 mod broken;
@@ -23,4 +22,6 @@ pub use call::{Call, CallAsk};
 pub use check::PAR;
 pub use engine::Engine;
 pub use meaning::name_of;
+pub use names::name;
 pub use outcome::{Last, Next, Ruled, stops};
+pub use text::Made;

@@ -10,7 +10,7 @@ use name_table::NameTable;
 use tex_defs::{Frozen, Full, Name, Token};
 
 /// The name of these characters, two or more. A new one is entered where the reading enters names.
-fn name(names: &mut NameTable, bytes: &[u8], enters: bool) -> Result<Name, Full>
+pub fn name(names: &mut NameTable, bytes: &[u8], enters: bool) -> Result<Name, Full>
     ensures name { IfOk result (λ n. n ≡ name_among enters names.old.names bytes.now) }
     ensures after { OnOk result (names.new ≡ joined names.old (new_among enters names.old.names bytes.now)) }
     ensures fits { OnOk result (EntryFits names.old (new_among enters names.old.names bytes.now)) }

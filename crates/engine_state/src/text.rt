@@ -1,23 +1,51 @@
-// A made text that is put in front.
-ghost use Rattle.std.specs.Prelude.{◌≡◌, List, [], ◌++◌, map, IfErr, OnErr, OnOk, Some, None};
+// Made texts that are put in front.
+ghost use Rattle.std.specs.Prelude.{◌≡◌, ◌≢◌, List, [], ◌∷◌, ◌++◌, IfErr, IfOk, OnOk, IsSome, IfSome, MatchBool, Some, None};
 ghost use Rattle.tex_defs.specs.Places.{World};
 ghost use Rattle.tex_defs.specs.declared.Sizes.{Sizes};
-ghost use Rattle.plain_state.specs.States.{Move, ListGrown};
+ghost use Rattle.plain_machine.specs.States.{Move, Settled, ListBegun};
 ghost use Rattle.plain_tokens.specs.Tokens.{made_token, made_text};
-ghost use Rattle.plain_machine.specs.Plan.{put_text};
+ghost use Rattle.plain_tokens.specs.Pending.{settle};
+ghost use Rattle.plain_tokens.specs.Meanings.{seen_as, meaning_to_let};
+ghost use Rattle.plain_tokens.specs.Numerals.{whole_number, roman};
+ghost use Rattle.plain_tokens.specs.Printed.{initial_style, list_text, meaning_text, meaning_tokens};
+ghost use Rattle.plain_state.specs.Reports.{string_text};
+ghost use Rattle.token_lists.specs.Table.{tokens_at, IsHeld};
+ghost use Rattle.token_lists.specs.Ids.{id_of};
+ghost use Rattle.token_show.specs.Views.{names_style, IsNamesView};
+ghost use Rattle.transcript.specs.Given.{tokens_given};
+ghost use Rattle.input_state.specs.Calls.{text_of};
+ghost use Rattle.plain_machine.specs.Plan.{put_text, put_made, put_characters, job_in, meaning_characters, macro_tokens};
 ghost use Rattle.plain_machine.specs.Does.{Did};
-ghost use Rattle.input_state.specs.Stored.{KeepsMacros};
+ghost use Rattle.input_state.specs.HeldLists.{made};
 ghost use Rattle.engine_state.specs.Book.{Book};
+ghost use Rattle.engine_state.specs.Making.{HasGrown, GrowsNot, IsInFront, characters_in, characters_of};
 ghost use Rattle.engine_state.specs.Stands.{Counts, IsSound, SameStore, SameOthers, SameFrames, state_of, page_of};
 ghost use Rattle.engine_state.specs.Rules.{Cuts};
 ghost use Rattle.engine_state.specs.Steps.{pending_weight};
-ghost use Rattle.engine_state.specs.declared.broken.Broken.TheVariants as broken;
-ghost use Rattle.engine_state.specs.declared.engine.Engine.{Engine};
 
 use crate::broken::Broken;
 use crate::engine::Engine;
-use input_state::Input;
-use tex_defs::{Full, Sizes, Token};
+use crate::meaning::name_of;
+use char_text::{Roman, Text, whole_number_length};
+use input_state::{Input, walks_stay};
+use tex_defs::{Full, Meaning, Name, Seen, Sizes, Token};
+use token_lists::{ListRef, Lists};
+use token_show::{NamesView, TokenText, last_after, places_after};
+use transcript::initial_names;
+
+/// What a text is made of.
+#[derive(Clone, Copy)]
+pub enum Made {
+    /// The job's name.
+    JobName,
+    Number(i32),
+    /// The number's roman letters.
+    Roman(i32),
+    /// A token, as `\string` has it.
+    Spelling(Token),
+    /// What the token means.
+    Meaning(Seen),
+}
 
 /// The token of a character of a made text: a space token, or a character of category 12.
 fn made_token(code: u8) -> Token
@@ -30,25 +58,190 @@ fn made_token(code: u8) -> Token
     }
 }
 
-/// The list that is made, which has no token yet, gets the tokens of a made text. At `Err` it has a front of them.
+/// The list that is made gets the token of a character of a made text.
+fn grow_character(input: &mut Input, code: u8) -> Result<(), Full>
+    requires { IsSome input.old.making }
+    ensures ok { OnOk result (HasGrown input.old input.new (made_text (code ∷ []))) }
+    ensures err { IfErr result (λ full. GrowsNot input.old input.new (made_text (code ∷ [])) full) }
+{
+    input.grow_made(made_token(code))?;
+    Ok(())
+}
+
+/// The list that is made gets the tokens of a made text. At `Err` it has a front of them.
 fn grow_text(input: &mut Input, text: &[u8]) -> Result<(), Full>
-    requires { input.old.making ≡ Some [] }
-    ensures ok { OnOk result (input.new ≡ record input.old { making = Some (made_text text.now); lists = input.new.lists }) }
-    ensures err { OnErr result (input.new ≡ record input.old { making = input.new.making; lists = input.new.lists }) }
-    ensures macros { KeepsMacros input.old input.new }
-    ensures did { OnOk result ((sizes : Sizes) (e : Engine) (w : World) (book : Book) → IsSound sizes (record e { input = input.old }) book.number book.macros →
-        Did sizes (state_of (record e { input = input.old }) book) (state_of (record e { input = input.new }) book) w w (map ListGrown (made_text text.now))) }
-    ensures full { IfErr result (λ full. (sizes : Sizes) (e : Engine) (w : World) (book : Book) (more : List Move) → IsSound sizes (record e { input = input.old }) book.number book.macros →
-        Cuts sizes (state_of (record e { input = input.old }) book) (record e { input = input.new }) book w w (map ListGrown (made_text text.now) ++ more) (broken.Full full)) }
+    requires { IsSome input.old.making }
+    ensures ok { OnOk result (HasGrown input.old input.new (made_text text.now)) }
+    ensures err { IfErr result (λ full. GrowsNot input.old input.new (made_text text.now) full) }
 {
     for code in text {
-        input.grow_made(made_token(*code))?;
+        grow_character(input, *code)?;
     }
     Ok(())
 }
 
+/// The list that is made gets the characters of a text that stands somewhere. Answers whether there was one.
+fn grow_bytes(input: &mut Input, text: &[u8]) -> Result<bool, Full>
+    requires { IsSome input.old.making }
+    ensures ok { OnOk result (HasGrown input.old input.new (made_text text.now)) }
+    ensures err { IfErr result (λ full. GrowsNot input.old input.new (made_text text.now) full) }
+    ensures some { IfOk result (λ some. MatchBool some (text.now ≢ []) (text.now ≡ [])) }
+{
+    grow_text(input, text)?;
+    Ok(!text.is_empty())
+}
+
+/// The list that is made gets the characters of a piece of a text. Answers whether there was one.
+fn grow_piece(input: &mut Input, piece: TokenText<'_>) -> Result<bool, Full>
+    requires { IsSome input.old.making }
+    ensures ok { OnOk result (HasGrown input.old input.new (made_text piece.entry)) }
+    ensures err { IfErr result (λ full. GrowsNot input.old input.new (made_text piece.entry) full) }
+    ensures some { IfOk result (λ some. MatchBool some (piece.entry ≢ []) (piece.entry ≡ [])) }
+{
+    let mut piece = piece;
+    let mut some = false;
+    while let Some(code) = piece.next() {
+        grow_character(input, code)?;
+        some = true;
+    }
+    Ok(some)
+}
+
+/// The list that is made gets the letters of a roman numeral. Answers whether there was one.
+fn grow_letters(input: &mut Input, letters: Roman) -> Result<bool, Full>
+    requires { IsSome input.old.making }
+    ensures ok { OnOk result (HasGrown input.old input.new (made_text letters)) }
+    ensures err { IfErr result (λ full. GrowsNot input.old input.new (made_text letters) full) }
+    ensures some { IfOk result (λ some. MatchBool some (letters ≢ []) (letters ≡ [])) }
+{
+    let mut left = letters;
+    let mut some = false;
+    while let Some(code) = left.next() {
+        grow_character(input, code)?;
+        some = true;
+    }
+    Ok(some)
+}
+
+/// The list that is made gets a number's roman letters. Answers whether there was one.
+fn grow_roman(input: &mut Input, n: i32) -> Result<bool, Full>
+    requires { IsSome input.old.making }
+    ensures ok { OnOk result (HasGrown input.old input.new (made_text (roman n))) }
+    ensures err { IfErr result (λ full. GrowsNot input.old input.new (made_text (roman n)) full) }
+    ensures some { IfOk result (λ some. MatchBool some (roman n ≢ []) (roman n ≡ [])) }
+{
+    grow_letters(input, Roman::new(n))
+}
+
+/// The list that is made gets the characters of a number. Answers whether there was one.
+fn grow_number(input: &mut Input, n: i32) -> Result<bool, Full>
+    requires { IsSome input.old.making }
+    ensures ok { OnOk result (HasGrown input.old input.new (made_text (whole_number n))) }
+    ensures err { IfErr result (λ full. GrowsNot input.old input.new (made_text (whole_number n)) full) }
+    ensures some { IfOk result (λ some. MatchBool some (whole_number n ≢ []) (whole_number n ≡ [])) }
+{
+    whole_number_length(n);
+    let mut text = Text::new();
+    text.put_int(n);
+    grow_bytes(input, text.bytes())
+}
+
+/// What the token means now, as `\\let` would give it.
+fn given_meaning(input: &Input, x: Seen) -> Meaning<()>
+    ensures { result ≡ seen_as (meaning_to_let input.now.meanings x) }
+{
+    match x.meaning {
+        Meaning::RelaxMarked => Meaning::RelaxMarked,
+        _ => input.seen(x.token).meaning,
+    }
+}
+
+/// The list of the macro that the token means now, as `\\let` would give it, if there is one, and the memory in which all lists
+/// stand.
+pub(crate) fn given_list(input: &Input, x: Seen) -> (&Lists, Option<&ListRef>)
+    ensures held { IfSome result.1 (λ r. IsHeld result.0.now (id_of r.now)) }
+    ensures tokens { tokens_given (λ r. tokens_at result.0.now (id_of r.now)) result.1 ≡ meaning_tokens (macro_tokens input.now.lists) (meaning_to_let input.now.meanings x) }
+{
+    match given_meaning(input, x) {
+        Meaning::Macro { .. } => input.macro_list(name_of(x.token)),
+        _ => (input.lists(), None),
+    }
+}
+
+/// The list that is made gets the characters of the list of the macro that a name means. Answers whether there was one.
+fn grow_list(input: &mut Input, names: NamesView<'_>, name: Name) -> Result<bool, Full>
+    requires making { IsSome input.old.making }
+    requires names { IsNamesView names }
+    ensures ok { OnOk result (HasGrown input.old input.new (made_text (list_text (names_style names.entry) (text_of input.old.lists input.old.meanings name)))) }
+    ensures err { IfErr result (λ full. GrowsNot input.old input.new (made_text (list_text (names_style names.entry) (text_of input.old.lists input.old.meanings name))) full) }
+    ensures some { IfOk result (λ some. MatchBool some (list_text (names_style names.entry) (text_of input.old.lists input.old.meanings name) ≢ []) (list_text (names_style names.entry) (text_of input.old.lists input.old.meanings name) ≡ [])) }
+{
+    walks_stay();
+    let mut walk = input.walk(name);
+    let mut places = 0;
+    let mut last = b'#';
+    let mut some = false;
+    while let Some((token, next)) = input.walk_on(walk) {
+        let text = TokenText::of_token(names, places, last, token);
+        some = grow_piece(input, text)? || some;
+        places = places_after(places, token);
+        last = last_after(last, token);
+        walk = next;
+    }
+    Ok(some)
+}
+
+/// The list that is made gets the characters of what the token means. Answers whether there was one.
+fn grow_meaning(input: &mut Input, names: NamesView<'_>, x: Seen) -> Result<bool, Full>
+    requires making { IsSome input.old.making }
+    requires names { IsNamesView names }
+    ensures ok { OnOk result (HasGrown input.old input.new (made_text (meaning_text (names_style names.entry) (macro_tokens input.old.lists) (meaning_to_let input.old.meanings x)))) }
+    ensures err { IfErr result (λ full. GrowsNot input.old input.new (made_text (meaning_text (names_style names.entry) (macro_tokens input.old.lists) (meaning_to_let input.old.meanings x))) full) }
+    ensures some { IfOk result (λ some. MatchBool some (meaning_text (names_style names.entry) (macro_tokens input.old.lists) (meaning_to_let input.old.meanings x) ≢ []) (meaning_text (names_style names.entry) (macro_tokens input.old.lists) (meaning_to_let input.old.meanings x) ≡ [])) }
+{
+    let meaning = given_meaning(input, x);
+    let some = grow_piece(input, TokenText::of_meaning_head(names, &meaning))?;
+    match meaning {
+        Meaning::Macro { .. } => Ok(grow_list(input, names, name_of(x.token))? || some),
+        _ => Ok(some),
+    }
+}
+
 impl Engine {
-    /// Puts a made text in front: a list of its characters is begun, grown and put, once the finished lists in front have gone.
+    /// The finished lists in front go, and the list that is made is begun.
+    fn begin_text(&mut self) -> Result<(), Broken>
+        requires idle { self.old.input.making ≡ None }
+        ensures did { OnOk result ((sizes : Sizes) (w : World) (book : Book) → IsSound sizes self.old book.number book.macros → Did sizes (state_of self.old book) (state_of self.new book) w w (Settled ∷ ListBegun ∷ [])) }
+        ensures err { IfErr result (λ b. (sizes : Sizes) (w : World) (book : Book) (rest : List Move) → IsSound sizes self.old book.number book.macros → Cuts sizes (state_of self.old book) self.new book w w (Settled ∷ ListBegun ∷ rest) b) }
+        ensures begun { OnOk result (self.new.input.making ≡ Some []) }
+        ensures settled { self.new.input.pending ≡ settle self.old.input.pending }
+        ensures front { IsInFront self.old self.new }
+    {
+        self.input.settle();
+        self.input.make_list()?;
+        Ok(())
+    }
+
+    /// The list that is made is put in front; one without tokens goes.
+    fn end_text(&mut self, some: bool) -> Result<(), Broken>
+        requires making { IsSome self.old.input.making }
+        requires settled { self.old.input.pending ≡ settle self.old.input.pending }
+        requires some { MatchBool some (made self.old.input.making ≢ []) (made self.old.input.making ≡ []) }
+        ensures did { OnOk result ((sizes : Sizes) (w : World) (book : Book) → IsSound sizes self.old book.number book.macros → Did sizes (state_of self.old book) (state_of self.new book) w w (put_made (made self.old.input.making))) }
+        ensures err { IfErr result (λ b. (sizes : Sizes) (w : World) (book : Book) (more : List Move) → IsSound sizes self.old book.number book.macros → Cuts sizes (state_of self.old book) self.new book w w (put_made (made self.old.input.making) ++ more) b) }
+        ensures front { IsInFront self.old self.new }
+        ensures idle { OnOk result (self.new.input.making ≡ None) }
+    {
+        if some {
+            self.input.put_made()?;
+        } else {
+            self.input.drop_made();
+        }
+        Ok(())
+    }
+
+    /// Puts a made text in front: a list of its characters is begun, grown and put, once the finished lists in front have gone;
+    /// one without characters goes.
     ///
     /// # Errors
     /// The main memory or the input stack is full: of the list there is what had room.
@@ -63,10 +256,140 @@ impl Engine {
         ensures page { (book : Book) → page_of self.new book ≡ page_of self.old book }
         ensures idle { OnOk result (self.new.input.making ≡ None) }
     {
-        self.input.settle();
-        self.input.make_list()?;
+        self.begin_text()?;
         grow_text(&mut self.input, text)?;
-        self.input.put_made()?;
-        Ok(())
+        self.end_text(!text.is_empty())
+    }
+
+    /// The list that is made gets the characters of such a text. Answers whether there was one.
+    fn grow_made(&mut self, made: Made) -> Result<bool, Full>
+        requires { IsSome self.old.input.making }
+        ensures ok { OnOk result (HasGrown self.old.input self.new.input (made_text (characters_in self.old made))) }
+        ensures err { IfErr result (λ full. GrowsNot self.old.input self.new.input (made_text (characters_in self.old made)) full) }
+        ensures some { IfOk result (λ some. MatchBool some (characters_in self.old made ≢ []) (characters_in self.old made ≡ [])) }
+        ensures rest { self.new ≡ record self.old { input = self.new.input } }
+    {
+        let (hash, pool) = self.names.parts();
+        let names = initial_names(hash, pool, &self.categories);
+        match made {
+            Made::JobName => grow_bytes(&mut self.input, self.names.first_string()),
+            Made::Number(n) => grow_number(&mut self.input, n),
+            Made::Roman(n) => grow_roman(&mut self.input, n),
+            Made::Spelling(token) => grow_piece(
+                &mut self.input,
+                TokenText::of_string(names, token),
+            ),
+            Made::Meaning(x) => grow_meaning(&mut self.input, names, x),
+        }
+    }
+
+    /// Puts such a text in front, as [`Engine::put_text`] does.
+    ///
+    /// # Errors
+    /// As [`Engine::put_text`].
+    fn put_characters(&mut self, made: Made) -> Result<(), Broken>
+        requires idle { self.old.input.making ≡ None }
+        ensures did { OnOk result ((sizes : Sizes) (w : World) (book : Book) → Counts sizes self.old book → self.old.input.making ≡ None → Did sizes (state_of self.old book) (state_of self.new book) w w (put_characters (characters_of (page_of self.old book) made))) }
+        ensures err { IfErr result (λ b. (sizes : Sizes) (w : World) (book : Book) (more : List Move) → Counts sizes self.old book → self.old.input.making ≡ None → Cuts sizes (state_of self.old book) self.new book w w (put_characters (characters_of (page_of self.old book) made) ++ more) b) }
+        ensures frames { SameFrames self.old self.new }
+        ensures others { SameOthers self.old self.new }
+        ensures store { SameStore self.old.input self.new.input }
+        ensures light { pending_weight self.new.input.pending ≡ pending_weight self.old.input.pending }
+        ensures page { (book : Book) → page_of self.new book ≡ page_of self.old book }
+        ensures idle { OnOk result (self.new.input.making ≡ None) }
+    {
+        self.begin_text()?;
+        let some = self.grow_made(made)?;
+        self.end_text(some)
+    }
+
+    /// Puts the job's name in front: the first string that was kept. *The TeXbook*, chapter 20 (`\jobname`).
+    ///
+    /// # Errors
+    /// As [`Engine::put_text`].
+    pub fn put_job_name(&mut self) -> Result<(), Broken>
+        requires idle { self.old.input.making ≡ None }
+        ensures did { OnOk result ((sizes : Sizes) (w : World) (book : Book) → Counts sizes self.old book → self.old.input.making ≡ None → Did sizes (state_of self.old book) (state_of self.new book) w w (put_characters (job_in self.old.names.others))) }
+        ensures err { IfErr result (λ b. (sizes : Sizes) (w : World) (book : Book) (more : List Move) → Counts sizes self.old book → self.old.input.making ≡ None → Cuts sizes (state_of self.old book) self.new book w w (put_characters (job_in self.old.names.others) ++ more) b) }
+        ensures frames { SameFrames self.old self.new }
+        ensures others { SameOthers self.old self.new }
+        ensures store { SameStore self.old.input self.new.input }
+        ensures light { pending_weight self.new.input.pending ≡ pending_weight self.old.input.pending }
+        ensures page { (book : Book) → page_of self.new book ≡ page_of self.old book }
+        ensures idle { OnOk result (self.new.input.making ≡ None) }
+    {
+        self.put_characters(Made::JobName)
+    }
+
+    /// Puts a number's characters in front. *The TeXbook*, chapter 20 (`\number`).
+    ///
+    /// # Errors
+    /// As [`Engine::put_text`].
+    pub fn put_number(&mut self, n: i32) -> Result<(), Broken>
+        requires idle { self.old.input.making ≡ None }
+        ensures did { OnOk result ((sizes : Sizes) (w : World) (book : Book) → Counts sizes self.old book → self.old.input.making ≡ None → Did sizes (state_of self.old book) (state_of self.new book) w w (put_characters (whole_number n))) }
+        ensures err { IfErr result (λ b. (sizes : Sizes) (w : World) (book : Book) (more : List Move) → Counts sizes self.old book → self.old.input.making ≡ None → Cuts sizes (state_of self.old book) self.new book w w (put_characters (whole_number n) ++ more) b) }
+        ensures frames { SameFrames self.old self.new }
+        ensures others { SameOthers self.old self.new }
+        ensures store { SameStore self.old.input self.new.input }
+        ensures light { pending_weight self.new.input.pending ≡ pending_weight self.old.input.pending }
+        ensures page { (book : Book) → page_of self.new book ≡ page_of self.old book }
+        ensures idle { OnOk result (self.new.input.making ≡ None) }
+    {
+        self.put_characters(Made::Number(n))
+    }
+
+    /// Puts a number's roman letters in front. *The TeXbook*, chapter 20 (`\romannumeral`).
+    ///
+    /// # Errors
+    /// As [`Engine::put_text`].
+    pub fn put_roman(&mut self, n: i32) -> Result<(), Broken>
+        requires idle { self.old.input.making ≡ None }
+        ensures did { OnOk result ((sizes : Sizes) (w : World) (book : Book) → Counts sizes self.old book → self.old.input.making ≡ None → Did sizes (state_of self.old book) (state_of self.new book) w w (put_characters (roman n))) }
+        ensures err { IfErr result (λ b. (sizes : Sizes) (w : World) (book : Book) (more : List Move) → Counts sizes self.old book → self.old.input.making ≡ None → Cuts sizes (state_of self.old book) self.new book w w (put_characters (roman n) ++ more) b) }
+        ensures frames { SameFrames self.old self.new }
+        ensures others { SameOthers self.old self.new }
+        ensures store { SameStore self.old.input self.new.input }
+        ensures light { pending_weight self.new.input.pending ≡ pending_weight self.old.input.pending }
+        ensures page { (book : Book) → page_of self.new book ≡ page_of self.old book }
+        ensures idle { OnOk result (self.new.input.making ≡ None) }
+    {
+        self.put_characters(Made::Roman(n))
+    }
+
+    /// Puts a token's characters in front. *The TeXbook*, chapter 20 (`\string`).
+    ///
+    /// # Errors
+    /// As [`Engine::put_text`].
+    pub fn put_string(&mut self, token: Token) -> Result<(), Broken>
+        requires idle { self.old.input.making ≡ None }
+        ensures did { OnOk result ((sizes : Sizes) (w : World) (book : Book) → Counts sizes self.old book → self.old.input.making ≡ None → Did sizes (state_of self.old book) (state_of self.new book) w w (put_characters (string_text (initial_style self.old.categories self.old.names.names) token))) }
+        ensures err { IfErr result (λ b. (sizes : Sizes) (w : World) (book : Book) (more : List Move) → Counts sizes self.old book → self.old.input.making ≡ None → Cuts sizes (state_of self.old book) self.new book w w (put_characters (string_text (initial_style self.old.categories self.old.names.names) token) ++ more) b) }
+        ensures frames { SameFrames self.old self.new }
+        ensures others { SameOthers self.old self.new }
+        ensures store { SameStore self.old.input self.new.input }
+        ensures light { pending_weight self.new.input.pending ≡ pending_weight self.old.input.pending }
+        ensures page { (book : Book) → page_of self.new book ≡ page_of self.old book }
+        ensures idle { OnOk result (self.new.input.making ≡ None) }
+    {
+        self.put_characters(Made::Spelling(token))
+    }
+
+    /// Puts the characters of what a token means in front. *The TeXbook*, chapter 20 (`\meaning`).
+    ///
+    /// # Errors
+    /// As [`Engine::put_text`].
+    pub fn put_meaning(&mut self, x: Seen) -> Result<(), Broken>
+        requires idle { self.old.input.making ≡ None }
+        ensures did { OnOk result ((sizes : Sizes) (w : World) (book : Book) → Counts sizes self.old book → self.old.input.making ≡ None → Did sizes (state_of self.old book) (state_of self.new book) w w (put_characters (meaning_characters (page_of self.old book) x))) }
+        ensures err { IfErr result (λ b. (sizes : Sizes) (w : World) (book : Book) (more : List Move) → Counts sizes self.old book → self.old.input.making ≡ None → Cuts sizes (state_of self.old book) self.new book w w (put_characters (meaning_characters (page_of self.old book) x) ++ more) b) }
+        ensures frames { SameFrames self.old self.new }
+        ensures others { SameOthers self.old self.new }
+        ensures store { SameStore self.old.input self.new.input }
+        ensures light { pending_weight self.new.input.pending ≡ pending_weight self.old.input.pending }
+        ensures page { (book : Book) → page_of self.new book ≡ page_of self.old book }
+        ensures idle { OnOk result (self.new.input.making ≡ None) }
+    {
+        self.put_characters(Made::Meaning(x))
     }
 }

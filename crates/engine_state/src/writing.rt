@@ -1,31 +1,36 @@
 // What the engine writes.
-ghost use Rattle.std.specs.Prelude.{◌≡◌, ◌≤◌, ℕ, List, [], ◌∷◌, ◌++◌, IfOk, IfErr, OnOk, None, true, false};
+ghost use Rattle.std.specs.Prelude.{◌≡◌, ◌≤◌, ◌<◌, ℕ, length, List, [], ◌∷◌, ◌++◌, IfOk, IfErr, OnOk, None, true, false};
 ghost use Rattle.tex_syntax.specs.declared.words.Outcome.TheVariants.{AtFatal};
 ghost use Rattle.tex_syntax.specs.declared.words.Scanned.TheVariants as scanned;
 ghost use Rattle.tex_defs.specs.Places.{Transcript};
 ghost use Rattle.tex_defs.specs.declared.Sizes.{Sizes};
 ghost use Rattle.tex_defs.specs.declared.Fatal.TheVariants as fatal;
-ghost use Rattle.plain_tokens.specs.Printed.{initial_style};
-ghost use Rattle.plain_state.specs.Reports.{plain_style, report_bytes, message_bytes, runaway_bytes};
-ghost use Rattle.plain_state.specs.States.{Move, Written};
-ghost use Rattle.plain_machine.specs.Plan.{reported, token_line, reports_room};
+ghost use Rattle.plain_tokens.specs.Meanings.{meaning_to_let};
+ghost use Rattle.plain_tokens.specs.Printed.{initial_style, meaning_tokens};
+ghost use Rattle.plain_state.specs.Reports.{plain_style, report_bytes, message_bytes, error_message_bytes, runaway_bytes, shown_meaning_bytes};
+ghost use Rattle.plain_machine.specs.States.{Move, Written};
+ghost use Rattle.plain_machine.specs.Plan.{reported, reported_as, token_line, reports_room, macro_tokens, shown};
 ghost use Rattle.plain_machine.specs.Does.{Did};
 ghost use Rattle.world_io.specs.Told.{FilesTold};
-ghost use Rattle.frames.specs.Sees.{first_list};
+ghost use Rattle.reading_frames.specs.Sees.{kept_list_of};
 ghost use Rattle.engine_state.specs.Book.{Book};
 ghost use Rattle.engine_state.specs.Calls.{AllStand, argument_bytes};
 ghost use Rattle.engine_state.specs.Begins.{outcome_of_last, last_moves, last_bytes};
-ghost use Rattle.engine_state.specs.Stands.{IsSized, SameFrames, OnlyColumn, state_of, page_of};
-ghost use Rattle.engine_state.specs.Rules.{world_of, Cuts, Reports, Halts, DoesOnward};
+ghost use Rattle.engine_state.specs.Stands.{IsSized, IsSound, SameFrames, OnlyColumn, state_of, page_of};
+ghost use Rattle.engine_state.specs.Rules.{world_of, list_number, counted, CountsOn, Cuts, Reports, ReportsAs, Halts, DoesOnward};
 ghost use Rattle.engine_state.specs.Steps.{IsFree};
 ghost use Rattle.engine_state.specs.declared.outcome.Ruled.TheVariants.{Halted};
 
 use crate::broken::Broken;
 use crate::engine::Engine;
 use crate::outcome::{Last, Ruled};
-use tex_defs::{Fatal, Meaning, Sizes};
+use crate::text::given_list;
+use tex_defs::{Fatal, Meaning, Seen, Sizes};
 use tex_syntax::{Outcome, Report, Scanned};
-use transcript::{initial_view, put, write_message, write_report, write_runaway, write_token_line};
+use transcript::{
+    initial_view, put, write_error_message, write_message, write_report, write_runaway,
+    write_shown_meaning, write_token_line,
+};
 use world_io::Sink;
 
 /// The reports that a run may have, but for the last.
@@ -33,7 +38,10 @@ pub(crate) const REPORTS_ROOM: u32 = 99;
 
 impl Engine {
     /// Writes text to the transcript.
-    pub(crate) fn write_text<S: Sink>(&mut self, out: &mut S, text: &[u8]) -> Result<(), Broken>
+    ///
+    /// # Errors
+    /// A write failed or wanted memory: a front of the text was written.
+    pub fn write_text<S: Sink>(&mut self, out: &mut S, text: &[u8]) -> Result<(), Broken>
         ensures did { OnOk result ((sizes : Sizes) (f : FilesTold) (book : Book) → Did sizes (state_of self.old book) (state_of self.new book) (world_of f (S.told out.old) self.old) (world_of f (S.told out.new) self.new) (Written Transcript text.now ∷ [])) }
         ensures err { IfErr result (λ b. (sizes : Sizes) (f : FilesTold) (book : Book) (more : List Move) → Cuts sizes (state_of self.old book) self.new book (world_of f (S.told out.old) self.old) (world_of f (S.told out.new) self.new) (Written Transcript text.now ∷ more) b) }
         ensures only { OnlyColumn self.old self.new }
@@ -42,17 +50,17 @@ impl Engine {
         Ok(())
     }
 
-    /// Writes a message: the list that the innermost reading holds.
+    /// Writes a message: the innermost of the lists that readings hold, if it is listed, and else that of no token.
     ///
     /// # Errors
     /// A write failed or wanted memory: a front of the text was written.
-    pub fn write_message<S: Sink>(&mut self, out: &mut S) -> Result<(), Broken>
-        ensures did { OnOk result ((sizes : Sizes) (f : FilesTold) (book : Book) → Did sizes (state_of self.old book) (state_of self.new book) (world_of f (S.told out.old) self.old) (world_of f (S.told out.new) self.new) (Written Transcript (message_bytes (initial_style self.old.categories self.old.names.names) self.old.in_line (first_list self.old.input.builds)) ∷ [])) }
-        ensures err { IfErr result (λ b. (sizes : Sizes) (f : FilesTold) (book : Book) (more : List Move) → Cuts sizes (state_of self.old book) self.new book (world_of f (S.told out.old) self.old) (world_of f (S.told out.new) self.new) (Written Transcript (message_bytes (initial_style self.old.categories self.old.names.names) self.old.in_line (first_list self.old.input.builds)) ∷ more) b) }
+    pub fn write_message<S: Sink>(&mut self, out: &mut S, listed: bool) -> Result<(), Broken>
+        ensures did { OnOk result ((sizes : Sizes) (f : FilesTold) (book : Book) → Did sizes (state_of self.old book) (state_of self.new book) (world_of f (S.told out.old) self.old) (world_of f (S.told out.new) self.new) (Written Transcript (message_bytes (initial_style self.old.categories self.old.names.names) self.old.in_line (kept_list_of listed self.old.input.builds)) ∷ [])) }
+        ensures err { IfErr result (λ b. (sizes : Sizes) (f : FilesTold) (book : Book) (more : List Move) → Cuts sizes (state_of self.old book) self.new book (world_of f (S.told out.old) self.old) (world_of f (S.told out.new) self.new) (Written Transcript (message_bytes (initial_style self.old.categories self.old.names.names) self.old.in_line (kept_list_of listed self.old.input.builds)) ∷ more) b) }
         ensures only { OnlyColumn self.old self.new }
     {
         let (hash, pool) = self.names.parts();
-        if self.input.has_list() {
+        if listed && self.input.has_list() {
             let (lists, list) = self.input.list();
             let view = initial_view(lists, hash, pool, &self.categories);
             write_message(out, &mut self.in_line, view, Some(list))?;
@@ -63,19 +71,42 @@ impl Engine {
         Ok(())
     }
 
-    /// Writes what is shown of a text or a definition that runs away: the innermost list that frames hold.
+    /// Writes the report of such a list.
+    ///
+    /// # Errors
+    /// A write failed or wanted memory: a front of the report was written.
+    pub fn write_error_message<S: Sink>(&mut self, out: &mut S, listed: bool) -> Result<(), Broken>
+        ensures did { OnOk result ((sizes : Sizes) (f : FilesTold) (book : Book) → Did sizes (state_of self.old book) (state_of self.new book) (world_of f (S.told out.old) self.old) (world_of f (S.told out.new) self.new) (Written Transcript (error_message_bytes (initial_style self.old.categories self.old.names.names) self.old.in_line self.old.input.pending.number (kept_list_of listed self.old.input.builds)) ∷ [])) }
+        ensures err { IfErr result (λ b. (sizes : Sizes) (f : FilesTold) (book : Book) (more : List Move) → Cuts sizes (state_of self.old book) self.new book (world_of f (S.told out.old) self.old) (world_of f (S.told out.new) self.new) (Written Transcript (error_message_bytes (initial_style self.old.categories self.old.names.names) self.old.in_line self.old.input.pending.number (kept_list_of listed self.old.input.builds)) ∷ more) b) }
+        ensures only { OnlyColumn self.old self.new }
+    {
+        let line = self.input.line_number();
+        let (hash, pool) = self.names.parts();
+        if listed && self.input.has_list() {
+            let (lists, list) = self.input.list();
+            let view = initial_view(lists, hash, pool, &self.categories);
+            write_error_message(out, &mut self.in_line, view, line, Some(list))?;
+        } else {
+            let view = initial_view(self.input.lists(), hash, pool, &self.categories);
+            write_error_message(out, &mut self.in_line, view, line, None)?;
+        }
+        Ok(())
+    }
+
+    /// Writes what is shown of a text or a definition that runs away: the list of this number, the innermost being number 0.
     pub(crate) fn write_runaway<S: Sink>(
         &mut self,
         out: &mut S,
         what: Scanned,
+        number: u32,
     ) -> Result<(), Broken>
-        requires { self.old.input.builds ++ self.old.input.aside ≡ [] → ⊥ }
-        ensures did { OnOk result ((sizes : Sizes) (f : FilesTold) (book : Book) → Did sizes (state_of self.old book) (state_of self.new book) (world_of f (S.told out.old) self.old) (world_of f (S.told out.new) self.new) (Written Transcript (runaway_bytes what (initial_style self.old.categories self.old.names.names) self.old.in_line (first_list (self.old.input.builds ++ self.old.input.aside))) ∷ [])) }
-        ensures err { IfErr result (λ b. (sizes : Sizes) (f : FilesTold) (book : Book) (more : List Move) → Cuts sizes (state_of self.old book) self.new book (world_of f (S.told out.old) self.old) (world_of f (S.told out.new) self.new) (Written Transcript (runaway_bytes what (initial_style self.old.categories self.old.names.names) self.old.in_line (first_list (self.old.input.builds ++ self.old.input.aside))) ∷ more) b) }
+        requires { number < length self.old.input.builds }
+        ensures did { OnOk result ((sizes : Sizes) (f : FilesTold) (book : Book) → Did sizes (state_of self.old book) (state_of self.new book) (world_of f (S.told out.old) self.old) (world_of f (S.told out.new) self.new) (Written Transcript (runaway_bytes what (initial_style self.old.categories self.old.names.names) self.old.in_line (list_number number self.old.input.builds)) ∷ [])) }
+        ensures err { IfErr result (λ b. (sizes : Sizes) (f : FilesTold) (book : Book) (more : List Move) → Cuts sizes (state_of self.old book) self.new book (world_of f (S.told out.old) self.old) (world_of f (S.told out.new) self.new) (Written Transcript (runaway_bytes what (initial_style self.old.categories self.old.names.names) self.old.in_line (list_number number self.old.input.builds)) ∷ more) b) }
         ensures only { OnlyColumn self.old self.new }
     {
         let (hash, pool) = self.names.parts();
-        let (lists, list) = self.input.innermost_list();
+        let (lists, list) = self.input.list_number(number);
         let view = initial_view(lists, hash, pool, &self.categories);
         write_runaway(out, &mut self.in_line, view, what, list)?;
         Ok(())
@@ -137,6 +168,41 @@ impl Engine {
         ensures sized { IfOk result (λ on. on ≡ true → (sizes : Sizes) → IsSized sizes self.old → IsSized sizes self.new) }
     {
         self.write_report(out, report)?;
+        self.count_report(out)
+    }
+
+    /// Writes the report whose text is the innermost of the lists that readings hold, if it is listed, and else that of no token, and counts it.
+    /// Answers whether the run goes on behind it.
+    ///
+    /// # Errors
+    /// As [`Engine::report`].
+    pub fn report_as<S: Sink>(&mut self, out: &mut S, listed: bool) -> Result<bool, Broken>
+        ensures on { IfOk result (λ on. on ≡ true → (sizes : Sizes) (f : FilesTold) (book : Book) (rest : List Move) →
+            ReportsAs sizes (state_of self.old book) (state_of self.new book) (world_of f (S.told out.old) self.old) (world_of f (S.told out.new) self.new) (page_of self.old book) (kept_list_of listed self.old.input.builds) rest) }
+        ensures last { IfOk result (λ on. on ≡ false → (sizes : Sizes) (f : FilesTold) (book : Book) (rest : List Move) →
+            Halts sizes (state_of self.old book) self.new book (world_of f (S.told out.old) self.old) (world_of f (S.told out.new) self.new) (reported_as (page_of self.old book) (kept_list_of listed self.old.input.builds) rest) (AtFatal fatal.HundredErrors) 0) }
+        ensures err { IfErr result (λ b. (sizes : Sizes) (f : FilesTold) (book : Book) (rest : List Move) → self.old.reports ≤ reports_room →
+            Cuts sizes (state_of self.old book) self.new book (world_of f (S.told out.old) self.old) (world_of f (S.told out.new) self.new) (reported_as (page_of self.old book) (kept_list_of listed self.old.input.builds) rest) b) }
+        ensures frames { SameFrames self.old self.new }
+        ensures input { self.new.input ≡ self.old.input }
+        ensures sized { IfOk result (λ on. on ≡ true → (sizes : Sizes) → IsSized sizes self.old → IsSized sizes self.new) }
+    {
+        self.write_error_message(out, listed)?;
+        self.count_report(out)
+    }
+
+    /// Counts a report, and writes the last line behind the hundredth. Answers whether the run goes on.
+    fn count_report<S: Sink>(&mut self, out: &mut S) -> Result<bool, Broken>
+        ensures on { IfOk result (λ on. on ≡ true → (sizes : Sizes) (f : FilesTold) (book : Book) (rest : List Move) →
+            CountsOn sizes (state_of self.old book) (state_of self.new book) (world_of f (S.told out.old) self.old) (world_of f (S.told out.new) self.new) (page_of self.old book) rest) }
+        ensures last { IfOk result (λ on. on ≡ false → (sizes : Sizes) (f : FilesTold) (book : Book) (rest : List Move) →
+            Halts sizes (state_of self.old book) self.new book (world_of f (S.told out.old) self.old) (world_of f (S.told out.new) self.new) (counted (page_of self.old book) rest) (AtFatal fatal.HundredErrors) 0) }
+        ensures err { IfErr result (λ b. (sizes : Sizes) (f : FilesTold) (book : Book) (rest : List Move) → self.old.reports ≤ reports_room →
+            Cuts sizes (state_of self.old book) self.new book (world_of f (S.told out.old) self.old) (world_of f (S.told out.new) self.new) (counted (page_of self.old book) rest) b) }
+        ensures frames { SameFrames self.old self.new }
+        ensures input { self.new.input ≡ self.old.input }
+        ensures sized { IfOk result (λ on. on ≡ true → (sizes : Sizes) → IsSized sizes self.old → IsSized sizes self.new) }
+    {
         if self.reports < REPORTS_ROOM {
             self.reports += 1;
             return Ok(true);
@@ -156,6 +222,36 @@ impl Engine {
         let (hash, pool) = self.names.parts();
         let view = initial_view(self.input.lists(), hash, pool, &self.categories);
         write_report(out, &mut self.in_line, view, line, report)?;
+        Ok(())
+    }
+
+    /// Writes a token and what it means, of a macro with the tokens of its list.
+    fn write_shown_meaning<S: Sink>(&mut self, out: &mut S, x: Seen) -> Result<(), Broken>
+        ensures did { OnOk result ((sizes : Sizes) (f : FilesTold) (book : Book) → Did sizes (state_of self.old book) (state_of self.new book) (world_of f (S.told out.old) self.old) (world_of f (S.told out.new) self.new) (Written Transcript (shown_meaning_bytes (initial_style self.old.categories self.old.names.names) self.old.in_line self.old.input.pending.number x.token x.meaning (meaning_tokens (macro_tokens self.old.input.lists) (meaning_to_let self.old.input.meanings x))) ∷ [])) }
+        ensures err { IfErr result (λ b. (sizes : Sizes) (f : FilesTold) (book : Book) (more : List Move) → Cuts sizes (state_of self.old book) self.new book (world_of f (S.told out.old) self.old) (world_of f (S.told out.new) self.new) (Written Transcript (shown_meaning_bytes (initial_style self.old.categories self.old.names.names) self.old.in_line self.old.input.pending.number x.token x.meaning (meaning_tokens (macro_tokens self.old.input.lists) (meaning_to_let self.old.input.meanings x))) ∷ more) b) }
+        ensures only { OnlyColumn self.old self.new }
+    {
+        let line = self.input.line_number();
+        let (lists, list) = given_list(&self.input, x);
+        let (hash, pool) = self.names.parts();
+        let view = initial_view(lists, hash, pool, &self.categories);
+        write_shown_meaning(out, &mut self.in_line, view, line, x.token, x.meaning, list)?;
+        Ok(())
+    }
+
+    /// Writes a token and what it means, of a macro with the tokens of its list; the status is to be 1. *The TeXbook*, chapter 23
+    /// (`\show`); *TeX: The Program*, part 49 (`show_whatever`).
+    ///
+    /// # Errors
+    /// A write failed or wanted memory: a front of the text was written.
+    pub fn show<S: Sink>(&mut self, out: &mut S, x: Seen) -> Result<(), Broken>
+        ensures did { OnOk result ((sizes : Sizes) (f : FilesTold) (book : Book) → IsSound sizes self.old book.number book.macros → Did sizes (state_of self.old book) (state_of self.new book) (world_of f (S.told out.old) self.old) (world_of f (S.told out.new) self.new) (shown (page_of self.old book) x)) }
+        ensures err { IfErr result (λ b. (sizes : Sizes) (f : FilesTold) (book : Book) (more : List Move) → IsSound sizes self.old book.number book.macros → Cuts sizes (state_of self.old book) self.new book (world_of f (S.told out.old) self.old) (world_of f (S.told out.new) self.new) (shown (page_of self.old book) x ++ more) b) }
+        ensures only { self.new ≡ record self.old { in_line = self.new.in_line; flawed = self.new.flawed } }
+        ensures frames { SameFrames self.old self.new }
+    {
+        self.write_shown_meaning(out, x)?;
+        self.flawed = true;
         Ok(())
     }
 
@@ -192,6 +288,7 @@ impl Engine {
         ensures err { IfErr result (λ b. (sizes : Sizes) (f : FilesTold) (book : Book) → Cuts sizes (state_of self.old book) self.new book (world_of f (S.told out.old) self.old) (world_of f (S.told out.new) self.new) (last_moves self.old.in_line last) b) }
         ensures ends { IfOk result (λ ruled. ruled ≡ Halted (outcome_of_last last)) }
         ensures frames { SameFrames self.old self.new }
+        ensures input { self.new.input ≡ self.old.input }
         ensures idle { OnOk result (self.new.input.making ≡ None) }
     {
         self.write_text(out, last_text(self.in_line, last))?;

@@ -1,5 +1,5 @@
 -- The name of a macro is expanded: its body is put, or its arguments are gathered.
-use Rattle.std.proofs.Common.{◌≡◌, ℕ, List, [], ◌∷◌, ◌++◌, length, refl, sym, ap, subst, ◌∙◌, Bool, true, false}
+use Rattle.std.proofs.Common.{◌≡◌, ℕ, List, [], ◌∷◌, ◌++◌, refl, sym, ap, subst, ◌∙◌, Bool, true, false}
 use Rattle.std.specs.Prelude.{Option, Some, None, Result, Ok, Err, OnOk, OnErr, IfErr, MatchResult, ◌||◌, ◌&&◌, if◌then◌else◌, take}
 use Rattle.tex_defs.specs.declared.Full.{Full}
 use Rattle.tex_defs.specs.declared.Meaning.{Meaning}
@@ -13,11 +13,12 @@ use Rattle.plain_tokens.specs.Meanings.{name_meaning}
 use Rattle.plain_tokens.specs.Names.{name_of}
 use Rattle.plain_tokens.specs.Pending.{Pending, put_front, settle, with_puts}
 use Rattle.plain_tokens.specs.Puts.{Item, Put, call_put, put_top, settled}
-use Rattle.plain_state.specs.Readings as reading
-use Rattle.plain_state.specs.Readings.{call_fed}
-use Rattle.plain_state.specs.States.{State, Settled, Called, Begun, fresh, made}
-use Rattle.plain_tokens.specs.Tables.{Demand, level, refused, is_meant, is_put}
-use Rattle.plain_state.specs.Demands.{refusal}
+use Rattle.plain_readings.specs.Readings as reading
+use Rattle.plain_readings.specs.Calls.{call_fed, mode_of as reading_mode}
+use Rattle.plain_readings.specs.Readings.{Reading}
+use Rattle.plain_machine.specs.States.{State, Settled, Called, Begun, made}
+use Rattle.plain_tokens.specs.Tables.{Demand, level, lists_words, memory, refused, is_meant, is_put}
+use Rattle.plain_machine.specs.Demands.{refusal}
 use Rattle.plain_machine.specs.Does.{Did}
 use Rattle.plain_machine.specs.Numbers.{IsHeld, meaning_of, pending_of, put_of as numbered}
 use Rattle.plain_machine.specs.Plan.{Page, body_put, called, called_by, called_meaning}
@@ -28,22 +29,27 @@ use Rattle.macro_call.specs.Modes.{mode_of}
 use Rattle.macro_call.specs.PlainScans.{Scan, first_by, first_scan, scan_work}
 use Rattle.macro_call.proofs.PlainScans.{scans_gather}
 use Rattle.input_state.specs.declared.answer.CallKind.TheVariants as kind
-use Rattle.input_state.specs.Callings.{Gathering, call_lists}
-use Rattle.input_state.specs.Calls.{after_call, call_kind, called_put, called_top, macro_text, text_of, when_called}
+use Rattle.input_state.specs.Callings.{Calling, Gathering, call_lists, scan_lists}
+use Rattle.input_state.specs.Calls.{after_call, begun_lists, call_kind, called_put, called_top, macro_text, text_of, when_called}
 use Rattle.input_state.specs.Macros.{list_at}
-use Rattle.input_state.specs.Stored.{KeepsMacros, call_refusal}
+use Rattle.input_state.specs.Stored.{KeepsMacros, call_refusal, words}
 use Rattle.engine_state.specs.declared.broken.Broken.TheVariants as broken
 use Rattle.engine_state.specs.declared.engine.Engine.{Engine}
 use Rattle.engine_state.specs.Book.{Book, with_work}
-use Rattle.engine_state.specs.Calls.{AllStand, CallStands, Gathers, HasWork, WantsToken, open_call}
+use Rattle.engine_state.specs.Calls.{AllStand, CallStands, Gathers, HasWork, open_call}
 use Rattle.engine_state.specs.Stands.{IsSound, SameFrames, SameStore, Stands, state_of, page_of}
 use Rattle.engine_state.specs.Rules.{Cuts, Went}
-use Rattle.engine_state.proofs.Bare.{all_of, bare}
+use Rattle.engine_state.proofs.Bare.{all_of}
 use Rattle.engine_state.proofs.CallKept.{all_still, meant_by}
 use Rattle.engine_state.proofs.Cutting.{later_cuts, full_cuts, cuts_by}
 use Rattle.engine_state.proofs.Joining.{quiet_here, went_by}
 use Rattle.engine_state.proofs.Storing.{sound_still, store_scan}
+use Rattle.gullet.proofs.CallLists.{gathers_lists}
 use Rattle.gullet.proofs.Ending.{none_found}
+
+-- a reading that has begun
+abbrev fresh : reading.Kind → Reading
+fresh k = record { kind = k; fed = [] }
 
 -- WHERE SOMETHING CAME OUT WELL
 
@@ -112,7 +118,7 @@ called_none e book t name is_name is = called_is e book t name is_name ∙ none_
 
 -- A SCANNER THAT BEGINS
 
-mode_same : (long : Bool) → reading.mode_of long ≡ mode_of long
+mode_same : (long : Bool) → reading_mode long ≡ mode_of long
 mode_same true = refl
 mode_same false = refl
 
@@ -133,18 +139,26 @@ answer_work mode other (d ∷ ds) places = refl
 -- nothing has been gathered yet
 first_gathers : (long : Bool) (text : List Token) → Gathers long text (first_scan text (mode_of long)) []
 first_gathers long text = record {
-  args = answer_args (reading.mode_of long) (start_of text) _ ∙ sym (first_args (begins_with_place text) (mode_of long));
-  work = answer_work (reading.mode_of long) (mode_of long) (start_of text) (delimiters_of text);
+  args = answer_args (reading_mode long) (start_of text) _ ∙ sym (first_args (begins_with_place text) (mode_of long));
+  work = answer_work (reading_mode long) (mode_of long) (start_of text) (delimiters_of text);
   goes_on = λ more. ap (λ (m : ParMode). gathering text m (call_fed more)) (mode_same long) ∙ sym (scans_gather.first text (mode_of long) (call_fed more));
 }
 
 first_has : (begins : Bool) (mode : ParMode) → HasWork (first_by begins mode)
 first_has begins mode none = first_args begins mode
 
--- the list of the first argument is begun, where its place comes first
-first_lists : (begins : Bool) (mode : ParMode) (name : Name) → (if begins then [] ∷ [] else []) ≡ call_lists (Gathering name (first_by begins mode))
-first_lists true mode name = refl
-first_lists false mode name = refl
+first_lists : (begins : Bool) (mode : ParMode) → scan_lists (first_by begins mode) ≡ (if begins then [] ∷ [] else [])
+first_lists true mode = refl
+first_lists false mode = refl
+
+-- its list is begun with it, where its first place comes first
+pub begun_are : (name : Name) (long : Bool) (number : ℕ) (text : List Token) → reading.lists (reading.Arguments name long number text) [] ≡ begun_lists text
+begun_are name long number text = gathers_lists long text (first_scan text (mode_of long)) [] (first_gathers long text) ∙ first_lists (begins_with_place text) (mode_of long)
+
+-- the words that are asked for
+pub begun_words : (e : Engine) (name : Name) (long : Bool) (number : ℕ) (o : Option Full) → refused e.input.sizes (memory (lists_words (begun_lists (text_of e.input.lists e.input.meanings name))) (words e.input) ∷ []) ≡ o →
+    refused e.input.sizes (memory (lists_words (reading.lists (reading.Arguments name long number (text_of e.input.lists e.input.meanings name)) [])) (words e.input) ∷ []) ≡ o
+begun_words e name long number o h = ap (λ (l : List (List Token)). refused e.input.sizes (memory (lists_words l) (words e.input) ∷ [])) (begun_are name long number (text_of e.input.lists e.input.meanings name)) ∙ h
 
 -- A MACRO WITH A LIST
 
@@ -209,16 +223,14 @@ module _ (sizes : Sizes) (e : Engine) (book : Book) (t : Token) (name : Name) (i
     places = places;
     asked = refl;
     at = (refl, (first_has (begins_with_place ts) (mode_of h.long), first_gathers h.long ts));
-    holds = ap (length {A = List Token}) (first_lists (begins_with_place ts) (mode_of h.long) name);
-    last = tt;
-    not_lent = refl;
+    holds = gathers_lists h.long ts scan [] (first_gathers h.long ts);
   }
 
-  calling_stands : has_parameters ts ≡ true → WantsToken e.top e.ask → AllStand sizes calling (with_work (fresh K ∷ book.work) book)
-  calling_stands places wants = record {
+  calling_stands : has_parameters ts ≡ true → AllStand sizes calling (with_work (fresh K ∷ book.work) book)
+  calling_stands places = record {
     sound = sound_still sizes e calling book.number book.macros refl refl refl refl (store_scan e.input calling.input (Gathering name scan) refl) st.sound;
     idle = st.idle;
-    all = (call_stands places, (st.readings, (st.orderly, wants)));
+    all = (call_stands places, record { frames = st.readings.frames; shallow = st.readings.shallow });
   }
 
   module _ (long : Bool) (e2 : Engine) (same : long ≡ h.long) (after : e2 ≡ record e { call = Some (open_call name); input = record e.input { call = Gathering name (first_scan (text_of e.input.lists e.input.meanings name) (mode_of long)); lists = e2.input.lists } }) (macros : KeepsMacros e.input e2.input) where
@@ -239,34 +251,31 @@ module _ (sizes : Sizes) (e : Engine) (book : Book) (t : Token) (name : Name) (i
 
     frames_same : SameFrames calling e2
     frames_same = record {
-      outer = ap (λ (y : Engine). y.outer) now;
-      top = ap (λ (y : Engine). y.top) now;
-      ask = ap (λ (y : Engine). y.ask) now;
+      readings = ap (λ (y : Engine). y.readings) now;
       lists = ap (λ (y : Engine). y.input.builds) now;
-      aside = ap (λ (y : Engine). y.input.aside) now;
       call = ap (λ (y : Engine). y.call) now;
       calling = ap (λ (y : Engine). y.input.call) now;
     }
 
-    begun_stands : has_parameters ts ≡ true → WantsToken e.top e.ask → AllStand sizes e2 (with_work (fresh K ∷ book.work) book)
-    begun_stands places wants = let was = calling_stands places wants in
+    begun_stands : has_parameters ts ≡ true → AllStand sizes e2 (with_work (fresh K ∷ book.work) book)
+    begun_stands places = let was = calling_stands places in
         all_still sizes calling e2 (with_work (fresh K ∷ book.work) book) frames_same store
-        (sound_still sizes calling e2 book.number book.macros (ap (λ (y : Engine). y.sizes) now) (ap (λ (y : Engine). y.outer.size) now) (ap (λ (y : Engine). y.names) now) (ap (λ (y : Engine). y.reports) now) store was.sound)
+        (sound_still sizes calling e2 book.number book.macros (ap (λ (y : Engine). y.sizes) now) (ap (λ (y : Engine). y.readings.size) now) (ap (λ (y : Engine). y.names) now) (ap (λ (y : Engine). y.reports) now) store was.sound)
         (ap (λ (y : Engine). y.input.making) now ∙ st.idle) was
 
     begun_state : made (Begun K) (state_of e book) ≡ state_of e2 (with_work (fresh K ∷ book.work) book)
     begun_state =
-        ap (λ (l : List (List Token)). record (state_of e book) { work = fresh K ∷ book.work; gathered = reading.own_lists K ++ l }) (bare e.input st.uncalled.input)
-        ∙ ap (λ (l : List (List Token)). record (state_of e book) { work = fresh K ∷ book.work; gathered = l ++ (e.input.builds ++ e.input.aside) }) (first_lists (begins_with_place ts) (mode_of h.long) name)
+        ap (λ (l : List (List Token)). record (state_of e book) { work = fresh K ∷ book.work; gathered = reading.lists K [] ++ l }) (ap (λ (k : Calling). call_lists k ++ e.input.builds) st.uncalled.input)
+        ∙ ap (λ (l : List (List Token)). record (state_of e book) { work = fresh K ∷ book.work; gathered = l ++ e.input.builds }) (gathers_lists h.long ts scan [] (first_gathers h.long ts))
         ∙ ap (λ (y : Engine). state_of y (with_work (fresh K ∷ book.work) book)) (sym now)
 
-    pub begun_went : (w : World) → call_kind e.input.lists (name_meaning e.input.meanings name) ≡ kind.Gathers → WantsToken e.top e.ask →
+    pub begun_went : (w : World) → call_kind e.input.lists (name_meaning e.input.meanings name) ≡ kind.Gathers →
         ((number : ℕ) → refusal sizes (Begun (reading.Arguments name long number (text_of e.input.lists e.input.meanings name))) (state_of e book) ≡ None) →
         Went sizes (state_of e book) e2 w w (called (page_of e book) t) 0
-    begun_went w is wants fits =
+    begun_went w is fits =
         went_by sizes _ e2 w w _ _ 0 (begun_moves is) (record {
           book' = with_work (fresh K ∷ book.work) book;
-          stands = begun_stands (gathers_some (has_parameters ts) (sym kind_is ∙ is)) wants;
+          stands = begun_stands (gathers_some (has_parameters ts) (sym kind_is ∙ is));
           did = did_one sizes (Begun K) _ _ w w (begun_asked long None same fits) begun_state (quiet_here (Begun K) w tt);
           count = refl;
         })
@@ -331,13 +340,13 @@ module _ (sizes : Sizes) (e : Engine) (book : Book) (t : Token) (name : Name) (i
 
   putting_sound : IsSound sizes putting book.number book.macros
   putting_sound = record {
-    sized = record { few_reports = st.sound.sized.few_reports; small = st.sound.sized.small; own = st.sound.sized.own; outer = st.sound.sized.outer; input = st.sound.sized.input; names = st.sound.sized.names; hash = st.sound.sized.hash; located = st.sound.sized.located };
+    sized = record { few_reports = st.sound.sized.few_reports; small = st.sound.sized.small; own = st.sound.sized.own; readings = st.sound.sized.readings; input = st.sound.sized.input; names = st.sound.sized.names; hash = st.sound.sized.hash; located = st.sound.sized.located };
     tied = tied_put book.number book.macros e.input.meanings (settled e.input.pending.puts) e.input.lists (tied_settled book.number book.macros e.input.meanings e.input.pending.puts e.input.lists st.sound.tied) h.id p refl (ap (λ (b : Bool). b || is_put h.id (settled e.input.pending.puts)) meant);
     bodies = st.sound.bodies;
   }
 
   putting_stands : AllStand sizes putting book
-  putting_stands = all_of sizes putting book (record { sound = putting_sound; idle = st.idle; readings = st.readings; orderly = st.orderly; uncalled = record { none = st.uncalled.none; input = st.uncalled.input } })
+  putting_stands = all_of sizes putting book (record { sound = putting_sound; idle = st.idle; readings = record { frames = st.readings.frames; shallow = st.readings.shallow }; uncalled = record { none = st.uncalled.none; input = st.uncalled.input } })
 
   -- the lists of the memory have changed alone
   module _ (e1 e2 : Engine) (st1 : AllStand sizes e1 book) (now : e2 ≡ record e1 { input = record e1.input { lists = e2.input.lists } }) (macros : KeepsMacros e1.input e2.input) where
@@ -353,15 +362,12 @@ module _ (sizes : Sizes) (e : Engine) (book : Book) (t : Token) (name : Name) (i
     lists_stand : AllStand sizes e2 book
     lists_stand =
         all_still sizes e1 e2 book (record {
-          outer = ap (λ (y : Engine). y.outer) now;
-          top = ap (λ (y : Engine). y.top) now;
-          ask = ap (λ (y : Engine). y.ask) now;
+          readings = ap (λ (y : Engine). y.readings) now;
           lists = ap (λ (y : Engine). y.input.builds) now;
-          aside = ap (λ (y : Engine). y.input.aside) now;
           call = ap (λ (y : Engine). y.call) now;
           calling = ap (λ (y : Engine). y.input.call) now;
         }) lists_store
-        (sound_still sizes e1 e2 book.number book.macros (ap (λ (y : Engine). y.sizes) now) (ap (λ (y : Engine). y.outer.size) now) (ap (λ (y : Engine). y.names) now) (ap (λ (y : Engine). y.reports) now) lists_store st1.sound)
+        (sound_still sizes e1 e2 book.number book.macros (ap (λ (y : Engine). y.sizes) now) (ap (λ (y : Engine). y.readings.size) now) (ap (λ (y : Engine). y.names) now) (ap (λ (y : Engine). y.reports) now) lists_store st1.sound)
         (ap (λ (y : Engine). y.input.making) now ∙ st1.idle) st1
 
   module _ (e2 : Engine) (after : e2 ≡ record e { input = record e.input { pending = after_call p e.input.pending; lists = e2.input.lists } }) (macros : KeepsMacros e.input e2.input) where

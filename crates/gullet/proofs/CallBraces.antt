@@ -1,5 +1,5 @@
 -- A call goes on behind the report of an extra right brace.
-use Rattle.std.proofs.Common.{◌≡◌, ℕ, ◌<◌, List, [], ◌∷◌, ◌++◌, length, drop, map, refl, sym, ap, append_assoc, subst, ◌∙◌, Bool, true, false, arith}
+use Rattle.std.proofs.Common.{◌≡◌, ℕ, List, [], ◌∷◌, ◌++◌, drop, refl, sym, ap, append_assoc, subst, ◌∙◌, Bool, true, false, arith}
 use Rattle.std.proofs.lemmas.List.{append-nil}
 use Rattle.std.specs.Prelude.{Option, Some, None, option_map}
 use Rattle.tex_syntax.specs.declared.words.Outcome.{Outcome}
@@ -12,11 +12,14 @@ use Rattle.tex_defs.specs.declared.Name.{Name}
 use Rattle.tex_defs.specs.Places.{World, Transcript}
 use Rattle.plain_tokens.specs.Arguments as call
 use Rattle.plain_tokens.specs.Arguments.{arguments_in, work_in, start_of, in_work}
-use Rattle.plain_state.specs.Readings as reading
-use Rattle.plain_state.specs.Readings.{Fed, Told, gathered_by, call_fed, call_ask, list_or_none, par_token}
+use Rattle.rows.specs.Readings as reading
+use Rattle.plain_readings.specs.Readings.{Kind, ask as asked_by, lists as lists_held, fed_with}
+use Rattle.rows.specs.Readings.{Fed, Told}
+use Rattle.plain_readings.specs.Calls.{gathered, call_fed, call_ask, arguments, par_token}
 use Rattle.plain_state.specs.Reports.{plain_style, report_bytes}
-use Rattle.plain_state.specs.States.{Reading, Move, Grows, Noted, Written, Reported, fed_with, made}
-use Rattle.plain_machine.specs.Plan.{Page, told, noting, grown_to, given_back, put_all, put_one, reported}
+use Rattle.plain_readings.specs.Readings.{Reading}
+use Rattle.plain_machine.specs.States.{Move, Feeds, Written, Reported, made}
+use Rattle.plain_machine.specs.Plan.{Page, told, noting, noting_kind, put_one, reported}
 use Rattle.plain_machine.specs.Does.{Did}
 use Rattle.plain_machine.proofs.Doing.{did_join, did_one}
 use Rattle.world_io.specs.Told.{FilesTold, SinkTold, world}
@@ -27,24 +30,19 @@ use Rattle.input_state.specs.CallFeeds.{with_scan}
 use Rattle.input_state.specs.Callings as calls
 use Rattle.input_state.specs.Callings.{Calling, call_lists}
 use Rattle.input_state.specs.Macros.{list_at}
-use Rattle.input_state.specs.Stored.{Stored}
 use Rattle.engine_state.specs.declared.broken.Broken.{Broken}
 use Rattle.engine_state.specs.declared.engine.Engine.{Engine}
 use Rattle.engine_state.specs.Book.{Book, with_work}
 use Rattle.engine_state.specs.Calls.{AllStand, ReadingsStand, CallStands, Gathers, IsTaking, brace_call, open_call}
-use Rattle.engine_state.specs.Stands.{state_of, page_of, call_count}
-use Rattle.engine_state.specs.Steps.{weight, call_weight, pending_weight}
+use Rattle.engine_state.specs.Stands.{state_of, page_of}
 use Rattle.engine_state.specs.Rules.{world_of, Cuts, Halts, Reports, Went}
-use Rattle.engine_state.proofs.CallEnding.{here as here_call}
+use Rattle.gullet.proofs.CallLists.{gathers_lists}
+use Rattle.gullet.proofs.CallEnding.{here as here_call}
 use Rattle.engine_state.proofs.Cutting.{later_cuts}
 use Rattle.engine_state.proofs.Joining.{quiet_wrote, went_by, halts_least, halts_on}
 use Rattle.engine_state.proofs.Storing.{sound_still, store_scan}
 
 -- WHERE AN EXTRA BRACE CAME, a list is in work
-
-nothing_behind : (ts : List Token) → drop (length ts) ts ≡ []
-nothing_behind [] = refl
-nothing_behind (t ∷ ts) = nothing_behind ts
 
 call_is : (name : Name) (a : call.Answer) → reading.Inserts par_token (reports.ExtraBrace name) true ≡ call_ask name a → (work_in a ≡ None → ⊥)
 call_is name (call.More args work) is none = cc
@@ -54,9 +52,9 @@ call_is name call.Mismatch is none = cc
 call_is name (call.Ended false args work) is none = cc
 call_is name (call.Ended true args work) is none = cc
 
-brace_is : (name : Name) (long : Bool) (text : List Token) (fed : List Fed) → reading.Inserts par_token (reports.ExtraBrace name) true ≡ reading.arguments_ask name long text fed → work_in (gathered_by long text fed) ≡ None → ⊥
+brace_is : (name : Name) (long : Bool) (text : List Token) (fed : List Fed) → reading.Inserts par_token (reports.ExtraBrace name) true ≡ arguments name long text fed → work_in (gathered long text fed) ≡ None → ⊥
 brace_is name long text [] is none = cc
-brace_is name long text (x ∷ fed) is none = call_is name (gathered_by long text (x ∷ fed)) is none
+brace_is name long text (x ∷ fed) is none = call_is name (gathered long text (x ∷ fed)) is none
 
 -- THE SCANNER SETTLES
 
@@ -75,86 +73,73 @@ same_work text scan (Some s) is some work =
     let settled : resume_scan text (settled_scan scan) [] ≡ call.More scan.args (Some (so_far text scan s)) = rw is refl in
     settled ∙ ap (call.More scan.args) (sym now ∙ work)
 
-module _ (name : Name) (long : Bool) (text : List Token) (scan : Scan) (fed : List Fed) (asked_brace : reading.Inserts par_token (reports.ExtraBrace name) true ≡ reading.arguments_ask name long text fed) (h : Gathers long text scan fed) where
-  here : gathered_by long text fed ≡ resume_scan text scan []
-  here = ap (gathered_by long text) (sym (append-nil fed)) ∙ h.goes_on []
+module _ (name : Name) (long : Bool) (text : List Token) (scan : Scan) (fed : List Fed) (asked_brace : reading.Inserts par_token (reports.ExtraBrace name) true ≡ arguments name long text fed) (h : Gathers long text scan fed) where
+  here : gathered long text fed ≡ resume_scan text scan []
+  here = ap (gathered long text) (sym (append-nil fed)) ∙ h.goes_on []
 
   has_work : scan_work scan ≡ None → ⊥
   has_work none = brace_is name long text fed asked_brace (h.work ∙ none)
 
-  settles : (more : List Fed) → gathered_by long text (fed ++ Told ∷ more) ≡ resume_scan text (settled_scan scan) (call_fed more)
+  settles : (more : List Fed) → gathered long text (fed ++ Told ∷ more) ≡ resume_scan text (settled_scan scan) (call_fed more)
   settles more = h.goes_on (Told ∷ more) ∙ scans_gather.settled text scan (call_fed more)
 
-  answer : gathered_by long text (fed ++ Told ∷ []) ≡ call.More scan.args (scan_work scan)
+  answer : gathered long text (fed ++ Told ∷ []) ≡ call.More scan.args (scan_work scan)
   answer = settles [] ∙ same_work text scan scan.present refl has_work (sym (ap work_in here) ∙ h.work)
 
   settled_gathers : Gathers long text (settled_scan scan) (fed ++ Told ∷ [])
   settled_gathers = record {
     args = ap arguments_in answer;
     work = ap work_in answer;
-    goes_on = λ more. ap (gathered_by long text) (append_assoc fed (Told ∷ []) more) ∙ settles more;
+    goes_on = λ more. ap (gathered long text) (append_assoc fed (Told ∷ []) more) ∙ settles more;
   }
 
   -- it asks for more
-  settled_ask : reading.More Raw ≡ reading.arguments_ask name long text (fed ++ Told ∷ [])
+  settled_ask : reading.More Raw ≡ arguments name long text (fed ++ Told ∷ [])
   settled_ask = by_fed fed answer where
-    by_fed : (fed : List Fed) → gathered_by long text (fed ++ Told ∷ []) ≡ call.More scan.args (scan_work scan) → reading.More Raw ≡ reading.arguments_ask name long text (fed ++ Told ∷ [])
+    by_fed : (fed : List Fed) → gathered long text (fed ++ Told ∷ []) ≡ call.More scan.args (scan_work scan) → reading.More Raw ≡ arguments name long text (fed ++ Told ∷ [])
     by_fed [] is = sym (ap (call_ask name) is)
     by_fed (x ∷ fed) is = sym (ap (call_ask name) is)
-
-  -- and the note changes no list
-  settled_list : reading.list_or_none (work_in (gathered_by long text (fed ++ Told ∷ []))) ≡ reading.list_or_none (work_in (gathered_by long text fed))
-  settled_list = ap reading.list_or_none (ap work_in answer ∙ sym h.work)
-
-noting_none : (r : Reading) (name : Name) (long : Bool) (number : ℕ) (text : List Token) → r.kind ≡ reading.Arguments name long number text → list_or_none (work_in (gathered_by long text (r.fed ++ Told ∷ []))) ≡ list_or_none (work_in (gathered_by long text r.fed)) → noting r ≡ Noted ∷ []
-noting_none r name long number text kind same =
-    ap (λ (k : reading.Kind). grown_to (reading.so_far k r.fed) (reading.so_far k (r.fed ++ Told ∷ [])) ++ Noted ∷ []) kind
-    ∙ ap (λ (ts : List Token). grown_to (list_or_none (work_in (gathered_by long text r.fed))) ts ++ Noted ∷ []) same
-    ∙ ap (λ (ts : List Token). map Grows ts ++ Noted ∷ []) (nothing_behind (list_or_none (work_in (gathered_by long text r.fed))))
 
 -- THE CALL
 
 -- where it stands, by the scanner
 pub record Braced (e : Engine) (number : ℕ → ℕ) (name : Name) (r : Reading) (k : Calling) : Type 0 where
-  pub noted : noting r ≡ Noted ∷ []
+  pub noted : noting r ≡ Feeds Told ∷ []
   pub lists : call_lists (with_scan settled_scan k) ≡ call_lists k
-  pub stands : (e' : Engine) → e' ≡ record e { call = Some (open_call name); input = record e.input { call = with_scan settled_scan k } } → CallStands e' number (open_call name) (record { kind = r.kind; fed = r.fed ++ Told ∷ []; lent = false; holds = r.holds })
+  pub stands : (e' : Engine) → e' ≡ record e { call = Some (open_call name); input = record e.input { call = with_scan settled_scan k } } → CallStands e' number (open_call name) (record { kind = r.kind; fed = r.fed ++ Told ∷ [] })
 
-braced : (e : Engine) (number : ℕ → ℕ) (name : Name) (x : Seen) (r : Reading) → CallStands e number (brace_call name x) r → Braced e number name r e.input.call
-braced e number name x r h = by_calling e.input.call h.at h.asked h.holds where
-  by_calling : (k : Calling) → IsTaking name h.long (list_at e.input.lists h.id) k r.fed → reading.Inserts par_token (reports.ExtraBrace name) true ≡ reading.ask r.kind r.fed → r.holds ≡ length (call_lists k) → Braced e number name r k
+braced : (e : Engine) (number : ℕ → ℕ) (name : Name) (r : Reading) → CallStands e number (brace_call name) r → Braced e number name r e.input.call
+braced e number name r h = by_calling e.input.call h.at h.asked h.holds where
+  by_calling : (k : Calling) → IsTaking name h.long (list_at e.input.lists h.id) k r.fed → reading.Inserts par_token (reports.ExtraBrace name) true ≡ asked_by r.kind r.fed → lists_held r.kind r.fed ≡ call_lists k → Braced e number name r k
   by_calling calls.NotCalling where_it ask holds = absurd where_it
   by_calling (calls.Stopped n scan) where_it ask holds = absurd where_it
   by_calling (calls.Gathered n args) where_it ask holds = absurd where_it
   by_calling (calls.Gathering n scan) where_it ask holds =
       let ts : List Token = list_at e.input.lists h.id in
       let g : Gathers h.long ts scan r.fed = where_it.1.1 in
-      let here_ask : reading.Inserts par_token (reports.ExtraBrace name) true ≡ reading.arguments_ask name h.long ts r.fed = ask ∙ ap (λ (k : reading.Kind). reading.ask k r.fed) h.kind in
+      let here_ask : reading.Inserts par_token (reports.ExtraBrace name) true ≡ arguments name h.long ts r.fed = ask ∙ ap (λ (k : Kind). asked_by k r.fed) h.kind in
       record {
-        noted = noting_none r name h.long (number h.id) ts h.kind (settled_list name h.long ts scan r.fed here_ask g);
+        noted = ap (λ (k : Kind). noting_kind k r.fed) h.kind;
         lists = refl;
-        stands = λ e' is. subst (λ (y : Engine). CallStands y number (open_call name) (record { kind = r.kind; fed = r.fed ++ Told ∷ []; lent = false; holds = r.holds })) (sym is) (record {
+        stands = λ e' is. subst (λ (y : Engine). CallStands y number (open_call name) (record { kind = r.kind; fed = r.fed ++ Told ∷ [] })) (sym is) (record {
           long = h.long;
           outer = h.outer;
           id = h.id;
           meaning = h.meaning;
           kind = h.kind;
           places = h.places;
-          asked = settled_ask name h.long ts scan r.fed here_ask g ∙ ap (λ (k : reading.Kind). reading.ask k (r.fed ++ Told ∷ [])) (sym h.kind);
+          asked = settled_ask name h.long ts scan r.fed here_ask g ∙ ap (λ (k : Kind). asked_by k (r.fed ++ Told ∷ [])) (sym h.kind);
           at = (where_it.0, (where_it.1.0, settled_gathers name h.long ts scan r.fed here_ask g));
-          holds = holds;
-          last = tt;
-          not_lent = refl;
+          holds = ap (λ (k : Kind). lists_held k (r.fed ++ Told ∷ [])) h.kind ∙ gathers_lists h.long ts (settled_scan scan) (r.fed ++ Told ∷ []) (settled_gathers name h.long ts scan r.fed here_ask g);
         });
       }
 
 -- the moves of its report
-pub brace_moves : (e : Engine) (number : ℕ → ℕ) (name : Name) (x : Seen) (r : Reading) (page : Page) → CallStands e number (brace_call name x) r →
-    told page (reports.ExtraBrace name) (Some par_token) true r ≡ put_one x.token ++ (put_one par_token ++ reported page (reports.ExtraBrace name) (Noted ∷ []))
-brace_moves e number name x r page h =
-    let b : Braced e number name r e.input.call = braced e number name x r h in
-    rw h.last.1 (ap (λ (ms : List Move). given_back true r.fed ++ (put_one par_token ++ reported page (reports.ExtraBrace name) ms)) b.noted
-    ∙ ap (λ (xs : List Seen). put_all xs ++ (put_one par_token ++ reported page (reports.ExtraBrace name) (Noted ∷ []))) h.last.0)
+pub brace_moves : (e : Engine) (number : ℕ → ℕ) (name : Name) (r : Reading) (page : Page) → CallStands e number (brace_call name) r →
+    told page (reports.ExtraBrace name) (Some par_token) true r ≡ put_one page.last.token ++ (put_one par_token ++ reported page (reports.ExtraBrace name) (Feeds Told ∷ []))
+brace_moves e number name r page h =
+    let b : Braced e number name r e.input.call = braced e number name r h in
+    ap (λ (ms : List Move). put_one page.last.token ++ (put_one par_token ++ reported page (reports.ExtraBrace name) ms)) b.noted
 
 -- THE REPORT IS WRITTEN, and the call goes on
 
@@ -163,7 +148,7 @@ module _ (sizes : Sizes) (e e1 e2 : Engine) (f : FilesTold) (s0 : SinkTold) (nam
   W = with_work (r ∷ rs) book
 
   abbrev moves : List Move
-  moves = put_one x.token ++ (put_one par_token ++ reported (page_of e book) (reports.ExtraBrace name) (Noted ∷ []))
+  moves = put_one x.token ++ (put_one par_token ++ reported (page_of e book) (reports.ExtraBrace name) (Feeds Told ∷ []))
 
   column1 : e1.in_line ≡ e.in_line
   column1 = ap (λ (p : Page). p.in_line) page1
@@ -173,15 +158,15 @@ module _ (sizes : Sizes) (e e1 e2 : Engine) (f : FilesTold) (s0 : SinkTold) (nam
 
   -- the first token has no room
   pub first_full : (b : Broken) → ((more : List Move) → Cuts sizes (state_of e W) e1 W (world_of f s0 e) (world_of f s0 e) (put_one x.token ++ more) b) → Cuts sizes (state_of e W) e1 W (world_of f s0 e) (world_of f s0 e1) moves b
-  first_full b h = subst (λ (c : Bool). Cuts sizes (state_of e W) e1 W (world_of f s0 e) (world f s0 c) moves b) (sym column1) (h (put_one par_token ++ reported (page_of e book) (reports.ExtraBrace name) (Noted ∷ [])))
+  first_full b h = subst (λ (c : Bool). Cuts sizes (state_of e W) e1 W (world_of f s0 e) (world f s0 c) moves b) (sym column1) (h (put_one par_token ++ reported (page_of e book) (reports.ExtraBrace name) (Feeds Told ∷ [])))
 
   module _ (first : (w : World) → Did sizes (state_of e W) (state_of e1 W) w w (put_one x.token)) where
     -- nor has the second
     pub second_full : (b : Broken) → ((w : World) (more : List Move) → Cuts sizes (state_of e1 W) e2 W w w (put_one par_token ++ more) b) → Cuts sizes (state_of e W) e2 W (world_of f s0 e) (world_of f s0 e2) moves b
     second_full b h =
         subst (λ (c : Bool). Cuts sizes (state_of e W) e2 W (world_of f s0 e) (world f s0 c) moves b) (sym column2)
-        (later_cuts sizes _ (state_of e1 W) e2 W (world_of f s0 e) (world_of f s0 e) (world_of f s0 e) (put_one x.token) (put_one par_token ++ reported (page_of e book) (reports.ExtraBrace name) (Noted ∷ [])) b (first (world_of f s0 e))
-        (h (world_of f s0 e) (reported (page_of e book) (reports.ExtraBrace name) (Noted ∷ []))))
+        (later_cuts sizes _ (state_of e1 W) e2 W (world_of f s0 e) (world_of f s0 e) (world_of f s0 e) (put_one x.token) (put_one par_token ++ reported (page_of e book) (reports.ExtraBrace name) (Feeds Told ∷ [])) b (first (world_of f s0 e))
+        (h (world_of f s0 e) (reported (page_of e book) (reports.ExtraBrace name) (Feeds Told ∷ []))))
 
     module _ (second : (w : World) → Did sizes (state_of e1 W) (state_of e2 W) w w (put_one par_token)) where
       both : Did sizes (state_of e W) (state_of e2 W) (world_of f s0 e) (world_of f s0 e2) (put_one x.token ++ put_one par_token)
@@ -192,42 +177,36 @@ module _ (sizes : Sizes) (e e1 e2 : Engine) (f : FilesTold) (s0 : SinkTold) (nam
       page_same = page2 ∙ page1
 
       module _ (e3 : Engine) (s3 : SinkTold) where
-        pub brace_cuts : (b : Broken) → Cuts sizes (state_of e2 W) e3 W (world_of f s0 e2) (world_of f s3 e3) (reported (page_of e2 W) (reports.ExtraBrace name) (Noted ∷ [])) b → Cuts sizes (state_of e W) e3 W (world_of f s0 e) (world_of f s3 e3) moves b
-        brace_cuts b h = later_cuts sizes _ (state_of e2 W) e3 W _ _ _ (put_one x.token ++ put_one par_token) (reported (page_of e book) (reports.ExtraBrace name) (Noted ∷ [])) b both
-            (subst (λ (p : Page). Cuts sizes (state_of e2 W) e3 W (world_of f s0 e2) (world_of f s3 e3) (reported p (reports.ExtraBrace name) (Noted ∷ [])) b) page_same h)
+        pub brace_cuts : (b : Broken) → Cuts sizes (state_of e2 W) e3 W (world_of f s0 e2) (world_of f s3 e3) (reported (page_of e2 W) (reports.ExtraBrace name) (Feeds Told ∷ [])) b → Cuts sizes (state_of e W) e3 W (world_of f s0 e) (world_of f s3 e3) moves b
+        brace_cuts b h = later_cuts sizes _ (state_of e2 W) e3 W _ _ _ (put_one x.token ++ put_one par_token) (reported (page_of e book) (reports.ExtraBrace name) (Feeds Told ∷ [])) b both
+            (subst (λ (p : Page). Cuts sizes (state_of e2 W) e3 W (world_of f s0 e2) (world_of f s3 e3) (reported p (reports.ExtraBrace name) (Feeds Told ∷ [])) b) page_same h)
 
-        pub brace_halts : (o : Outcome) → Halts sizes (state_of e2 W) e3 W (world_of f s0 e2) (world_of f s3 e3) (reported (page_of e2 W) (reports.ExtraBrace name) (Noted ∷ [])) o 0 → Halts sizes (state_of e W) e3 W (world_of f s0 e) (world_of f s3 e3) moves o 1
+        pub brace_halts : (o : Outcome) → Halts sizes (state_of e2 W) e3 W (world_of f s0 e2) (world_of f s3 e3) (reported (page_of e2 W) (reports.ExtraBrace name) (Feeds Told ∷ [])) o 0 → Halts sizes (state_of e W) e3 W (world_of f s0 e) (world_of f s3 e3) moves o 1
         brace_halts o h = halts_least sizes _ e3 W _ _ _ o 0 1 (omega arith)
-            (halts_on sizes (state_of e W) (state_of e2 W) e3 W _ _ _ (put_one x.token ++ put_one par_token) (reported (page_of e book) (reports.ExtraBrace name) (Noted ∷ [])) o 0 0 (ap (λ (p : Page). p.reports) page_same) both refl
-            (subst (λ (p : Page). Halts sizes (state_of e2 W) e3 W (world_of f s0 e2) (world_of f s3 e3) (reported p (reports.ExtraBrace name) (Noted ∷ [])) o 0) page_same h))
+            (halts_on sizes (state_of e W) (state_of e2 W) e3 W _ _ _ (put_one x.token ++ put_one par_token) (reported (page_of e book) (reports.ExtraBrace name) (Feeds Told ∷ [])) o 0 0 (ap (λ (p : Page). p.reports) page_same) both refl
+            (subst (λ (p : Page). Halts sizes (state_of e2 W) e3 W (world_of f s0 e2) (world_of f s3 e3) (reported p (reports.ExtraBrace name) (Feeds Told ∷ [])) o 0) page_same h))
 
-        pub brace_went : (e4 : Engine) → e3.call ≡ Some (brace_call name x) → AllStand sizes e3 W → e4 ≡ record e3 { call = Some (open_call name); input = record e3.input { call = with_scan settled_scan e3.input.call } } →
-            Reports sizes (state_of e2 W) (state_of e3 W) (world_of f s0 e2) (world_of f s3 e3) (page_of e2 W) (reports.ExtraBrace name) (Noted ∷ []) → Went sizes (state_of e W) e4 (world_of f s0 e) (world_of f s3 e4) moves 0
+        pub brace_went : (e4 : Engine) → e3.call ≡ Some (brace_call name) → AllStand sizes e3 W → e4 ≡ record e3 { call = Some (open_call name); input = record e3.input { call = with_scan settled_scan e3.input.call } } →
+            Reports sizes (state_of e2 W) (state_of e3 W) (world_of f s0 e2) (world_of f s3 e3) (page_of e2 W) (reports.ExtraBrace name) (Feeds Told ∷ []) → Went sizes (state_of e W) e4 (world_of f s0 e) (world_of f s3 e4) moves 0
         brace_went e4 is st after rep =
-            let h : Reports sizes (state_of e2 W) (state_of e3 W) (world_of f s0 e2) (world_of f s3 e3) (page_of e W) (reports.ExtraBrace name) (Noted ∷ []) =
-            subst (λ (p : Page). Reports sizes (state_of e2 W) (state_of e3 W) (world_of f s0 e2) (world_of f s3 e3) p (reports.ExtraBrace name) (Noted ∷ [])) page_same rep in
-            let k : ReadingsStand (Some (brace_call name x)) e3 book.number (r ∷ rs) = here_call sizes e3 book (brace_call name x) r rs is st in
-            let b : Braced e3 book.number name r e3.input.call = braced e3 book.number name x r k.0 in
+            let h : Reports sizes (state_of e2 W) (state_of e3 W) (world_of f s0 e2) (world_of f s3 e3) (page_of e W) (reports.ExtraBrace name) (Feeds Told ∷ []) =
+            subst (λ (p : Page). Reports sizes (state_of e2 W) (state_of e3 W) (world_of f s0 e2) (world_of f s3 e3) p (reports.ExtraBrace name) (Feeds Told ∷ [])) page_same rep in
+            let k : ReadingsStand (Some (brace_call name)) e3 book.number (r ∷ rs) = here_call sizes e3 book (brace_call name) r rs is st in
+            let b : Braced e3 book.number name r e3.input.call = braced e3 book.number name r k.0 in
             let written : List Move = Written Transcript (report_bytes (plain_style e.names.names) e.in_line e.input.pending.number (reports.ExtraBrace name)) ∷ Reported ∷ [] in
-            let whole : moves ≡ (put_one x.token ++ put_one par_token) ++ (written ++ Noted ∷ []) = ap (λ (ms : List Move). put_one x.token ++ (put_one par_token ++ ms)) h.moves in
+            let whole : moves ≡ (put_one x.token ++ put_one par_token) ++ (written ++ Feeds Told ∷ []) = ap (λ (ms : List Move). put_one x.token ++ (put_one par_token ++ ms)) h.moves in
             let work : List Reading = fed_with Told (r ∷ rs) in
-            let made_now : made Noted (state_of e3 W) ≡ state_of e4 (with_work work book) =
-            ap (λ (l : List (List Token)). record (state_of e3 W) { work = work; gathered = l ++ (e3.input.builds ++ e3.input.aside) }) (sym b.lists) ∙ ap (λ (y : Engine). state_of y (with_work work book)) (sym after) in
+            let made_now : made (Feeds Told) (state_of e3 W) ≡ state_of e4 (with_work work book) =
+            ap (λ (l : List (List Token)). record (state_of e3 W) { work = work; gathered = l ++ e3.input.builds }) (sym b.lists) ∙ ap (λ (y : Engine). state_of y (with_work work book)) (sym after) in
             went_by sizes _ e4 _ _ _ moves 0 whole (record {
               book' = with_work work book;
               stands = record {
-                sound = sound_still sizes e3 e4 book.number book.macros (ap (λ (y : Engine). y.sizes) after) (ap (λ (y : Engine). y.outer.size) after) (ap (λ (y : Engine). y.names) after) (ap (λ (y : Engine). y.reports) after)
+                sound = sound_still sizes e3 e4 book.number book.macros (ap (λ (y : Engine). y.sizes) after) (ap (λ (y : Engine). y.readings.size) after) (ap (λ (y : Engine). y.names) after) (ap (λ (y : Engine). y.reports) after)
                     (store_scan e3.input e4.input (with_scan settled_scan e3.input.call) (ap (λ (y : Engine). y.input) after)) st.sound;
                 idle = ap (λ (y : Engine). y.input.making) after ∙ st.idle;
-                all = subst (λ (y : Engine). ReadingsStand y.call y book.number work) (sym after) (b.stands _ refl, (k.1.0, (k.1.1.0, k.1.1.1)));
+                all = subst (λ (y : Engine). ReadingsStand y.call y book.number work) (sym after) (b.stands _ refl, record { frames = k.1.frames; shallow = k.1.shallow });
               };
-              did = did_join sizes _ _ _ _ _ _ (put_one x.token ++ put_one par_token) (written ++ Noted ∷ []) both (did_join sizes _ _ _ _ _ _ written (Noted ∷ []) h.did
-                  (did_one sizes Noted _ _ _ _ refl made_now (quiet_wrote Noted f s3 e3.in_line e4.in_line tt (ap (λ (y : Engine). y.in_line) after))));
+              did = did_join sizes _ _ _ _ _ _ (put_one x.token ++ put_one par_token) (written ++ Feeds Told ∷ []) both (did_join sizes _ _ _ _ _ _ written (Feeds Told ∷ []) h.did
+                  (did_one sizes (Feeds Told) _ _ _ _ refl made_now (quiet_wrote (Feeds Told) f s3 e3.in_line e4.in_line tt (ap (λ (y : Engine). y.in_line) after))));
               count = refl;
             })
-
--- it is lighter then
-pub brace_light : (e e4 : Engine) (name : Name) (x : Seen) (j : Stored) → e.call ≡ Some (brace_call name x) → e4 ≡ record e { call = Some (open_call name); input = j } → pending_weight j.pending ≡ pending_weight e.input.pending → weight e4 < weight e
-brace_light e e4 name x j is after pending =
-    let now : weight (record e { call = Some (open_call name); input = j }) < weight e = omega (arith, ap call_count is, ap call_weight is, pending) in
-    subst (λ (y : Engine). weight y < weight e) (sym after) now

@@ -1,5 +1,5 @@
 -- A call that is fed with a token goes on behind it.
-use Rattle.std.proofs.Common.{◌≡◌, ℕ, ◌+◌, ◌≤◌, List, [], ◌∷◌, ◌++◌, length, drop, refl, sym, ap, subst, ◌∙◌, Bool, true, false, arith}
+use Rattle.std.proofs.Common.{◌≡◌, ℕ, ◌+◌, ◌≤◌, List, [], ◌∷◌, ◌++◌, length, drop, sym, ap, subst, ◌∙◌, Bool, true, false, arith}
 use Rattle.std.specs.Prelude.{Option, Some, MatchBool, unwrap_or}
 use Rattle.tex_defs.specs.declared.Name.{Name}
 use Rattle.tex_defs.specs.declared.Seen.{Seen}
@@ -8,11 +8,13 @@ use Rattle.tex_defs.specs.declared.Token.{Token}
 use Rattle.tex_defs.specs.Places.{World}
 use Rattle.plain_tokens.specs.Arguments as call
 use Rattle.plain_tokens.specs.Arguments.{Answer, arguments_in, work_in, has_parameters}
-use Rattle.plain_state.specs.Readings as reading
-use Rattle.plain_state.specs.Readings.{Tok, gathered_by}
-use Rattle.plain_state.specs.States.{State, Reading, Move}
+use Rattle.rows.specs.Readings.{Tok}
+use Rattle.plain_readings.specs.Calls.{gathered}
+use Rattle.plain_readings.specs.Readings as reading
+use Rattle.plain_readings.specs.Readings.{Reading}
+use Rattle.plain_machine.specs.States.{State, Move}
 use Rattle.plain_tokens.specs.Tables.{lists_words}
-use Rattle.plain_state.specs.Demands.{words}
+use Rattle.plain_machine.specs.Demands.{words}
 use Rattle.plain_machine.specs.Plan.{feeding, feeding_kind, argument_fed}
 use Rattle.plain_machine.specs.Does.{Did}
 use Rattle.macro_call.specs.Growths.{target_by}
@@ -30,12 +32,18 @@ use Rattle.gullet.specs.CallAsks.{ask_behind}
 use Rattle.engine_state.specs.Calls.{AllStand, ReadingsStand, CallStands, CallAt, Gathers, open_call}
 use Rattle.engine_state.specs.Stands.{IsSound, SameStore, state_of}
 use Rattle.engine_state.specs.Rules.{Went}
-use Rattle.engine_state.proofs.CallEnding.{here as here_call}
-use Rattle.gullet.proofs.CallFeedingAnswers.{Taking, taking, in_front, scan_turn, lists_after, asked_after, at_after, last_given}
-use Rattle.gullet.proofs.CallFeedingMoves.{lists_of, lists_by, fed_reading, turn_leads, state_at, other_words, words_at}
+use Rattle.gullet.proofs.CallEnding.{here as here_call}
+use Rattle.gullet.proofs.CallFeedingAnswers.{Taking, taking, in_front, scan_turn, lists_after, asked_after, at_after}
+use Rattle.gullet.proofs.CallLists.{lists_of, lists_by, answer_lists}
+use Rattle.gullet.proofs.CallFeedingMoves.{fed_reading, turn_leads, state_at, other_words, words_at}
 use Rattle.engine_state.proofs.CallKept.{list_still}
-use Rattle.engine_state.proofs.Stepping.{kind_none}
+use Rattle.plain_machine.specs.Runs.{steps}
+use Rattle.plain_machine.proofs.Pulls.{pulls, steps_pull, kind_none}
 use Rattle.engine_state.proofs.Storing.{sound_still, store_call, words_are}
+
+-- moves that pull nothing are no steps
+no_steps : (ms : List Move) → pulls ms ≡ 0 → steps ms ≡ 0
+no_steps ms h = omega (arith, h, steps_pull ms)
 
 -- the scanner of the call that takes tokens, over the list of its macro
 pub scanner : (e : Engine) (number : ℕ → ℕ) (name : Name) (r : Reading) (h : CallStands e number (open_call name) r) → Taking name h.long (list_at e.input.lists h.id) r.fed e.input.call
@@ -60,18 +68,18 @@ module _ (e : Engine) (number : ℕ → ℕ) (name : Name) (r : Reading) (x : Se
   abbrev pub scan_before : Scan
   scan_before = t.scan
 
-  now_front : gathered_by h.long ts r.fed ≡ resume_scan ts t.scan []
+  now_front : gathered h.long ts r.fed ≡ resume_scan ts t.scan []
   now_front = in_front h.long ts t.scan r.fed t.gathers
 
-  now_after : gathered_by h.long ts (r.fed ++ Tok x ∷ []) ≡ answer_to
+  pub now_after : gathered h.long ts (r.fed ++ Tok x ∷ []) ≡ answer_to
   now_after = let g : Gathers h.long ts t.scan r.fed = t.gathers in g.goes_on (Tok x ∷ [])
 
   pub feeding_is : feeding r x ≡ argument_fed x (scan_work t.scan) (drop (length t.scan.args) (arguments_in answer_to)) (work_in answer_to)
   feeding_is =
       let g : Gathers h.long ts t.scan r.fed = t.gathers in
       ap (λ (k : reading.Kind). feeding_kind k r.fed x) h.kind
-      ∙ ap (λ (a : Answer). argument_fed x (work_in (gathered_by h.long ts r.fed)) (drop (length (arguments_in (gathered_by h.long ts r.fed))) (arguments_in a)) (work_in a)) now_after
-      ∙ ap (λ (o : Option (List Token)). argument_fed x o (drop (length (arguments_in (gathered_by h.long ts r.fed))) (arguments_in answer_to)) (work_in answer_to)) g.work
+      ∙ ap (λ (a : Answer). argument_fed x (work_in (gathered h.long ts r.fed)) (drop (length (arguments_in (gathered h.long ts r.fed))) (arguments_in a)) (work_in a)) now_after
+      ∙ ap (λ (o : Option (List Token)). argument_fed x o (drop (length (arguments_in (gathered h.long ts r.fed))) (arguments_in answer_to)) (work_in answer_to)) g.work
       ∙ ap (λ (args : List (List Token)). argument_fed x (scan_work t.scan) (drop (length args) (arguments_in answer_to)) (work_in answer_to)) g.args
 
   pub growth_is : scan_growth ts x.token t.scan ≡ drop (length (unwrap_or (scan_work t.scan) [])) (target_by (drop (length t.scan.args) (arguments_in answer_to)) (work_in answer_to))
@@ -95,7 +103,7 @@ module _ (e : Engine) (number : ℕ → ℕ) (name : Name) (r : Reading) (x : Se
 -- THE CALL GOES ON
 
 module _ (sizes : Sizes) (e e2 : Engine) (book : Book) (r : Reading) (rs : List Reading) (name : Name) (x : Seen) (answer : CallTold) (is : e.call ≡ Some (open_call name)) (st : AllStand sizes e (with_work (r ∷ rs) book))
-    (behind : e2 ≡ record e { call = Some (record { name = name; ask = ask_behind answer x }); input = record e.input { call = e2.input.call; lists = e2.input.lists } }) (macros : KeepsMacros e.input e2.input)
+    (behind : e2 ≡ record e { call = Some (record { name = name; ask = ask_behind answer }); last = x; input = record e.input { call = e2.input.call; lists = e2.input.lists } }) (macros : KeepsMacros e.input e2.input)
     (comes : Feeds (text_of e.input.lists e.input.meanings) x.token answer e.input.call e2.input.call) where
   abbrev W : Book
   W = with_work (r ∷ rs) book
@@ -124,22 +132,22 @@ module _ (sizes : Sizes) (e e2 : Engine) (book : Book) (r : Reading) (rs : List 
   store = store_call e.input e2.input e2.input.call (ap (λ (y : Engine). y.input) behind) macros
 
   sound : IsSound sizes e2 book.number book.macros
-  sound = sound_still sizes e e2 book.number book.macros (ap (λ (y : Engine). y.sizes) behind) (ap (λ (y : Engine). y.outer.size) behind) (ap (λ (y : Engine). y.names) behind) (ap (λ (y : Engine). y.reports) behind) store st.sound
+  sound = sound_still sizes e e2 book.number book.macros (ap (λ (y : Engine). y.sizes) behind) (ap (λ (y : Engine). y.readings.size) behind) (ap (λ (y : Engine). y.names) behind) (ap (λ (y : Engine). y.reports) behind) store st.sound
 
   -- the reading behind the token
   abbrev fed : Reading
-  fed = fed_reading r x (length (lists_by a))
+  fed = fed_reading r x
 
   abbrev W' : Book
   W' = with_work (fed ∷ rs) book
 
   abbrev now : Engine
-  now = record e { call = Some (record { name = name; ask = ask_behind answer x }); input = record e.input { call = e2.input.call; lists = e2.input.lists } }
+  now = record e { call = Some (record { name = name; ask = ask_behind answer }); last = x; input = record e.input { call = e2.input.call; lists = e2.input.lists } }
 
   held : list_at e2.input.lists h.id ≡ text
   held = list_still e.input e2.input name h.long h.outer h.id store h.meaning
 
-  call_stands : CallStands now book.number (record { name = name; ask = ask_behind answer x }) fed
+  call_stands : CallStands now book.number (record { name = name; ask = ask_behind answer }) fed
   call_stands = record {
     long = h.long;
     outer = h.outer;
@@ -148,37 +156,32 @@ module _ (sizes : Sizes) (e e2 : Engine) (book : Book) (r : Reading) (rs : List 
     kind = h.kind ∙ ap (reading.Arguments name h.long (book.number h.id)) (sym held);
     places = ap has_parameters held ∙ h.places;
     asked = asked_after name h.long text k.scan r.fed x answer k.has_work k.gathers e2.input.call came ∙ ap (λ (kind : reading.Kind). reading.ask kind (r.fed ++ Tok x ∷ [])) (sym h.kind);
-    at = subst (λ (ts : List Token). CallAt (ask_behind answer x) name h.long ts e2.input.call (r.fed ++ Tok x ∷ [])) (sym held) (at_after name h.long text k.scan r.fed x answer k.has_work k.gathers e2.input.call came);
-    holds = sym (ap (length {A = List Token}) (lists_after name h.long text k.scan r.fed x answer k.has_work k.gathers e2.input.call came));
-    last = last_given answer r.fed x;
-    not_lent = refl;
+    at = subst (λ (ts : List Token). CallAt (ask_behind answer) name h.long ts e2.input.call (r.fed ++ Tok x ∷ [])) (sym held) (at_after name h.long text k.scan r.fed x answer k.has_work k.gathers e2.input.call came);
+    holds = ap (λ (kind : reading.Kind). reading.lists kind (r.fed ++ Tok x ∷ [])) h.kind ∙ answer_lists (gathered h.long text (r.fed ++ Tok x ∷ [])) ∙ ap lists_by (now_after e book.number name r x h) ∙ sym (lists_after name h.long text k.scan r.fed x answer k.has_work k.gathers e2.input.call came);
   }
 
   fed_stands : AllStand sizes e2 W'
   fed_stands = record {
     sound = sound;
     idle = ap (λ (y : Engine). y.input.making) behind ∙ st.idle;
-    all = subst (λ (y : Engine). ReadingsStand y.call y book.number (fed ∷ rs)) (sym behind) (call_stands, (stood.1.0, (stood.1.1.0, stood.1.1.1)));
+    all = subst (λ (y : Engine). ReadingsStand y.call y book.number (fed ∷ rs)) (sym behind) (call_stands, record { frames = stood.1.frames; shallow = stood.1.shallow });
   }
 
   -- the states before and behind
-  start : state_at (state_of e W) (r ∷ rs) (lists_of k.scan.args (scan_work k.scan) ++ (e.input.builds ++ e.input.aside)) ≡ state_of e W
-  start = ap (λ (l : List (List Token)). record (state_of e W) { gathered = l ++ (e.input.builds ++ e.input.aside) }) (sym (lists_before e book.number name r x h))
+  start : state_at (state_of e W) (r ∷ rs) e.last (lists_of k.scan.args (scan_work k.scan) ++ e.input.builds) ≡ state_of e W
+  start = ap (λ (l : List (List Token)). record (state_of e W) { gathered = l ++ e.input.builds }) (sym (lists_before e book.number name r x h))
 
-  finish : state_at (state_of e W) (fed ∷ rs) (lists_by a ++ (e.input.builds ++ e.input.aside)) ≡ state_of e2 W'
+  finish : state_at (state_of e W) (fed ∷ rs) x (lists_by a ++ e.input.builds) ≡ state_of e2 W'
   finish =
-      ap (λ (l : List (List Token)). record (state_of e W) { work = fed ∷ rs; gathered = l ++ (e.input.builds ++ e.input.aside) }) (sym (lists_after name h.long text k.scan r.fed x answer k.has_work k.gathers e2.input.call came))
+      ap (λ (l : List (List Token)). record (state_of e W) { work = fed ∷ rs; last = x; gathered = l ++ e.input.builds }) (sym (lists_after name h.long text k.scan r.fed x answer k.has_work k.gathers e2.input.call came))
       ∙ ap (λ (y : Engine). state_of y W') (sym behind)
 
-  holds : r.holds ≡ length (lists_of k.scan.args (scan_work k.scan))
-  holds = h.holds ∙ ap (length {A = List Token}) (lists_before e book.number name r x h)
-
   -- the machine's words
-  words_before : other_words (state_of e W) + lists_words (lists_of k.scan.args (scan_work k.scan) ++ (e.input.builds ++ e.input.aside)) ≡ stored_words e.input
-  words_before = sym (words_at (state_of e W) (r ∷ rs) (lists_of k.scan.args (scan_work k.scan) ++ (e.input.builds ++ e.input.aside))) ∙ ap words start ∙ words_are sizes e W st.sound
+  words_before : other_words (state_of e W) + lists_words (lists_of k.scan.args (scan_work k.scan) ++ e.input.builds) ≡ stored_words e.input
+  words_before = sym (words_at (state_of e W) (r ∷ rs) e.last (lists_of k.scan.args (scan_work k.scan) ++ e.input.builds)) ∙ ap words start ∙ words_are sizes e W st.sound
 
-  words_behind : other_words (state_of e W) + lists_words (lists_by a ++ (e.input.builds ++ e.input.aside)) ≡ stored_words e2.input
-  words_behind = sym (words_at (state_of e W) (fed ∷ rs) (lists_by a ++ (e.input.builds ++ e.input.aside))) ∙ ap words finish ∙ words_are sizes e2 W' sound
+  words_behind : other_words (state_of e W) + lists_words (lists_by a ++ e.input.builds) ≡ stored_words e2.input
+  words_behind = sym (words_at (state_of e W) (fed ∷ rs) x (lists_by a ++ e.input.builds)) ∙ ap words finish ∙ words_are sizes e2 W' sound
 
   pub fed_went : (w : World) → stored_words e.input + length (growth (text_of e.input.lists e.input.meanings) x.token e.input.call) ≤ e.input.sizes.main_memory_size → stored_words e2.input ≤ e2.input.sizes.main_memory_size →
       Went sizes (state_of e W) e2 w w (feeding r x) 0
@@ -191,9 +194,9 @@ module _ (sizes : Sizes) (e e2 : Engine) (book : Book) (r : Reading) (rs : List 
         stands = fed_stands;
         did = subst (λ (ms : List Move). Did sizes (state_of e W) (state_of e2 W') w w ms) (sym (feeding_is e book.number name r x h))
             (subst (λ (u : State). Did sizes u (state_of e2 W') w w (argument_fed x (scan_work k.scan) (drop (length k.scan.args) (arguments_in a)) (work_in a))) start
-            (subst (λ (u : State). Did sizes (state_at (state_of e W) (r ∷ rs) (lists_of k.scan.args (scan_work k.scan) ++ (e.input.builds ++ e.input.aside))) u w w (argument_fed x (scan_work k.scan) (drop (length k.scan.args) (arguments_in a)) (work_in a))) finish
-            (turn_leads sizes (state_of e W) w r rs x k.scan.args (scan_work k.scan) a (e.input.builds ++ e.input.aside) (scan_turn h.long text k.scan r.fed x k.has_work k.gathers) holds (omega (arith, fits, own, grows, words_before)) (omega (arith, within, own2, words_behind)))));
-        count = kind_none r.kind r.fed x;
+            (subst (λ (u : State). Did sizes (state_at (state_of e W) (r ∷ rs) e.last (lists_of k.scan.args (scan_work k.scan) ++ e.input.builds)) u w w (argument_fed x (scan_work k.scan) (drop (length k.scan.args) (arguments_in a)) (work_in a))) finish
+            (turn_leads sizes (state_of e W) w r rs e.last x k.scan.args (scan_work k.scan) a e.input.builds (scan_turn h.long text k.scan r.fed x k.has_work k.gathers) (omega (arith, fits, own, grows, words_before)) (omega (arith, within, own2, words_behind)))));
+        count = no_steps (feeding r x) (kind_none r.kind r.fed x);
       }
 
 -- the call takes tokens

@@ -7,7 +7,8 @@ use Rattle.tex_defs.specs.declared.Token.{Token}
 use Rattle.tex_defs.specs.declared.Name.{Name}
 use Rattle.plain_tokens.specs.Arguments as call
 use Rattle.plain_tokens.specs.Arguments.{Answer, arguments_in, work_in}
-use Rattle.plain_state.specs.Readings.{Fed, Tok, gathered_by, call_fed, call_ask, arguments_ask}
+use Rattle.rows.specs.Readings.{Fed, Tok}
+use Rattle.plain_readings.specs.Calls.{gathered, call_fed, call_ask, arguments}
 use Rattle.macro_call.specs.PlainScans.{Scan, resume_scan, scan_work}
 use Rattle.macro_call.specs.Scans.{args_left}
 use Rattle.input_state.specs.CallFeeds.{Says, Stands, GoesOn, Ends, Comes}
@@ -16,10 +17,9 @@ use Rattle.input_state.specs.Callings.{Calling, call_lists, last_first}
 use Rattle.input_state.specs.declared.answer.CallTold.{CallTold}
 use Rattle.input_state.specs.declared.answer.CallTold.TheVariants as told
 use Rattle.gullet.specs.CallAsks.{ask_behind}
-use Rattle.engine_state.specs.Calls.{Gathers, HasWork, IsTaking, CallAt, GivesLast, asks_by}
-use Rattle.gullet.proofs.CallFeedingMoves.{lists_by}
+use Rattle.engine_state.specs.Calls.{Gathers, HasWork, IsTaking, CallAt, asks_by}
+use Rattle.gullet.proofs.CallLists.{lists_by}
 use Rattle.gullet.proofs.CallFeedingTurns.{Turn, Waits, Enters, Grown, Last, Next, turn}
-use Rattle.engine_state.proofs.Feeding.{last_is, untold_tok}
 
 -- THE SCANNER THAT TAKES TOKENS
 
@@ -35,16 +35,6 @@ taking name long text fed (calls.Gathering n scan) h = record { scan = scan; is 
 taking name long text fed (calls.Stopped n scan) h = absurd h
 taking name long text fed (calls.Gathered n args) h = absurd h
 
--- THE LAST TOKEN
-
-pub last_given : (answer : CallTold) (fed : List Fed) (x : Seen) → GivesLast (ask_behind answer x) (fed ++ Tok x ∷ [])
-last_given told.More fed x = tt
-last_given told.ExtraBrace fed x = (last_is fed x, untold_tok fed x)
-last_given told.Gathered fed x = tt
-last_given told.Mismatch fed x = tt
-last_given (told.ParEnded false) fed x = last_is fed x
-last_given (told.ParEnded true) fed x = tt
-
 -- WHAT IS ANSWERED
 
 -- the scanner keeps the arguments
@@ -55,22 +45,22 @@ says_left told.Gathered next a is = absurd is
 says_left told.Mismatch next a is = rw is refl
 says_left (told.ParEnded silent) next a is = rw is refl
 
-says_ask : (answer : CallTold) (name : Name) (x : Seen) (next : Scan) (a : Answer) (k : Calling) → Says answer next a → asks_by name (ask_behind answer x) k ≡ call_ask name a
-says_ask told.More name x next a k is = rw is refl
-says_ask told.ExtraBrace name x next a k is = rw is refl
-says_ask told.Gathered name x next a k is = absurd is
-says_ask told.Mismatch name x next a k is = rw is refl
-says_ask (told.ParEnded false) name x next a k is = rw is refl
-says_ask (told.ParEnded true) name x next a k is = rw is refl
+says_ask : (answer : CallTold) (name : Name) (next : Scan) (a : Answer) (k : Calling) → Says answer next a → asks_by name (ask_behind answer) k ≡ call_ask name a
+says_ask told.More name next a k is = rw is refl
+says_ask told.ExtraBrace name next a k is = rw is refl
+says_ask told.Gathered name next a k is = absurd is
+says_ask told.Mismatch name next a k is = rw is refl
+says_ask (told.ParEnded false) name next a k is = rw is refl
+says_ask (told.ParEnded true) name next a k is = rw is refl
 
 -- a call that was fed asks by its answer
-pub asked_of : (name : Name) (long : Bool) (text : List Token) (fed : List Fed) (x : Fed) → arguments_ask name long text (fed ++ x ∷ []) ≡ call_ask name (gathered_by long text (fed ++ x ∷ []))
+pub asked_of : (name : Name) (long : Bool) (text : List Token) (fed : List Fed) (x : Fed) → arguments name long text (fed ++ x ∷ []) ≡ call_ask name (gathered long text (fed ++ x ∷ []))
 asked_of name long text [] x = refl
 asked_of name long text (y ∷ fed) x = refl
 
 -- in front of the token
-pub in_front : (long : Bool) (text : List Token) (scan : Scan) (fed : List Fed) → Gathers long text scan fed → gathered_by long text fed ≡ resume_scan text scan []
-in_front long text scan fed g = ap (gathered_by long text) (sym (append-nil fed)) ∙ g.goes_on []
+pub in_front : (long : Bool) (text : List Token) (scan : Scan) (fed : List Fed) → Gathers long text scan fed → gathered long text fed ≡ resume_scan text scan []
+in_front long text scan fed g = ap (gathered long text) (sym (append-nil fed)) ∙ g.goes_on []
 
 -- what it comes to
 pub scan_turn : (long : Bool) (text : List Token) (scan : Scan) (fed : List Fed) (x : Seen) → HasWork scan → Gathers long text scan fed → Turn scan.args (scan_work scan) (resume_scan text scan (call.Tok x.token ∷ []))
@@ -81,7 +71,7 @@ module _ (name : Name) (long : Bool) (text : List Token) (scan : Scan) (fed : Li
   a = resume_scan text scan (call.Tok x.token ∷ [])
 
   -- behind the token
-  after : gathered_by long text (fed ++ Tok x ∷ []) ≡ a
+  after : gathered long text (fed ++ Tok x ∷ []) ≡ a
   after = g.goes_on (Tok x ∷ [])
 
   -- the lists that it holds then
@@ -116,21 +106,21 @@ module _ (name : Name) (long : Bool) (text : List Token) (scan : Scan) (fed : Li
   gathers_after next h = record {
     args = ap arguments_in after ∙ sym (h.stands.args ∙ says_left answer next a h.stands.says);
     work = ap work_in after ∙ sym h.stands.work;
-    goes_on = λ more. ap (gathered_by long text) (append_assoc fed (Tok x ∷ []) more) ∙ g.goes_on (Tok x ∷ more) ∙ h.same (call_fed more);
+    goes_on = λ more. ap (gathered long text) (append_assoc fed (Tok x ∷ []) more) ∙ g.goes_on (Tok x ∷ more) ∙ h.same (call_fed more);
   }
 
   -- what it asks for
-  answer_ask : (k : Calling) → Comes text x.token answer name scan k → asks_by name (ask_behind answer x) k ≡ call_ask name a
+  answer_ask : (k : Calling) → Comes text x.token answer name scan k → asks_by name (ask_behind answer) k ≡ call_ask name a
   answer_ask calls.NotCalling h = absurd h
-  answer_ask (calls.Gathering n next) h = says_ask answer name x next a (calls.Gathering n next) h.1.stands.says
-  answer_ask (calls.Stopped n next) h = says_ask answer name x next a (calls.Stopped n next) h.1.stands.says
-  answer_ask (calls.Gathered n args) h = ap (λ (t : CallTold). asks_by name (ask_behind t x) (calls.Gathered n args)) h.1 ∙ sym (ap (call_ask name) h.2)
+  answer_ask (calls.Gathering n next) h = says_ask answer name next a (calls.Gathering n next) h.1.stands.says
+  answer_ask (calls.Stopped n next) h = says_ask answer name next a (calls.Stopped n next) h.1.stands.says
+  answer_ask (calls.Gathered n args) h = ap (λ (t : CallTold). asks_by name (ask_behind t) (calls.Gathered n args)) h.1 ∙ sym (ap (call_ask name) h.2)
 
-  pub asked_after : (k : Calling) → Comes text x.token answer name scan k → asks_by name (ask_behind answer x) k ≡ arguments_ask name long text (fed ++ Tok x ∷ [])
+  pub asked_after : (k : Calling) → Comes text x.token answer name scan k → asks_by name (ask_behind answer) k ≡ arguments name long text (fed ++ Tok x ∷ [])
   asked_after k h = answer_ask k h ∙ sym (asked_of name long text fed (Tok x) ∙ ap (call_ask name) after)
 
   -- where it stands
-  taken_at : (t : CallTold) (n : Name) (next : Scan) → n ≡ name → GoesOn text x.token t scan next → HasWork next → Gathers long text next (fed ++ Tok x ∷ []) → CallAt (ask_behind t x) name long text (calls.Gathering n next) (fed ++ Tok x ∷ [])
+  taken_at : (t : CallTold) (n : Name) (next : Scan) → n ≡ name → GoesOn text x.token t scan next → HasWork next → Gathers long text next (fed ++ Tok x ∷ []) → CallAt (ask_behind t) name long text (calls.Gathering n next) (fed ++ Tok x ∷ [])
   taken_at told.More n next same h work gathers = (same, (work, gathers))
   taken_at told.ExtraBrace n next same h work gathers = (same, (work, gathers))
   taken_at told.Gathered n next same h work gathers = absurd h.stands.says
@@ -138,7 +128,7 @@ module _ (name : Name) (long : Bool) (text : List Token) (scan : Scan) (fed : Li
   taken_at (told.ParEnded false) n next same h work gathers = let no : false ≡ true = h.more in cc
   taken_at (told.ParEnded true) n next same h work gathers = let no : false ≡ true = h.more in cc
 
-  stopped_at : (t : CallTold) (n : Name) (next : Scan) → n ≡ name → Ends text x.token t scan next → HasWork next → CallAt (ask_behind t x) name long text (calls.Stopped n next) (fed ++ Tok x ∷ [])
+  stopped_at : (t : CallTold) (n : Name) (next : Scan) → n ≡ name → Ends text x.token t scan next → HasWork next → CallAt (ask_behind t) name long text (calls.Stopped n next) (fed ++ Tok x ∷ [])
   stopped_at told.More n next same h work = let no : true ≡ false = h.closed in cc
   stopped_at told.ExtraBrace n next same h work = let no : true ≡ false = h.closed in cc
   stopped_at told.Gathered n next same h work = absurd h.stands.says
@@ -146,8 +136,8 @@ module _ (name : Name) (long : Bool) (text : List Token) (scan : Scan) (fed : Li
   stopped_at (told.ParEnded false) n next same h work = (same, work)
   stopped_at (told.ParEnded true) n next same h work = (same, work)
 
-  pub at_after : (k : Calling) → Comes text x.token answer name scan k → CallAt (ask_behind answer x) name long text k (fed ++ Tok x ∷ [])
+  pub at_after : (k : Calling) → Comes text x.token answer name scan k → CallAt (ask_behind answer) name long text k (fed ++ Tok x ∷ [])
   at_after calls.NotCalling h = absurd h
   at_after (calls.Gathering n next) h = taken_at answer n next h.0 h.1 (has_after next h.1.stands) (gathers_after next h.1)
   at_after (calls.Stopped n next) h = stopped_at answer n next h.0 h.1 (has_after next h.1.stands)
-  at_after (calls.Gathered n args) h = subst (λ (t : CallTold). CallAt (ask_behind t x) name long text (calls.Gathered n args) (fed ++ Tok x ∷ [])) (sym h.1) h.0
+  at_after (calls.Gathered n args) h = subst (λ (t : CallTold). CallAt (ask_behind t) name long text (calls.Gathered n args) (fed ++ Tok x ∷ [])) (sym h.1) h.0

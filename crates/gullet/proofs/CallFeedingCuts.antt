@@ -1,5 +1,5 @@
 -- A call that is fed with a token for which the main memory has no room.
-use Rattle.std.proofs.Common.{◌≡◌, ℕ, zero, suc, false, ◌+◌, ◌<◌, ◌≤◌, List, [], ◌∷◌, ◌++◌, length, drop, map, refl, sym, ap, subst, ◌∙◌, append_assoc, length-append, arith}
+use Rattle.std.proofs.Common.{◌≡◌, ℕ, zero, suc, ◌+◌, ◌<◌, ◌≤◌, List, [], ◌∷◌, ◌++◌, length, drop, map, refl, sym, ap, subst, ◌∙◌, append_assoc, length-append, arith}
 use Rattle.std.proofs.lemmas.List.{length-drop}
 use Rattle.std.proofs.lemmas.List.Sums.{sum_by-cons, sum_by-append}
 use Rattle.std.proofs.Math.Seq.{drop-append_seam}
@@ -12,19 +12,22 @@ use Rattle.tex_defs.specs.declared.Sizes.{Sizes}
 use Rattle.tex_defs.specs.declared.Token.{Token}
 use Rattle.tex_defs.specs.Places.{World}
 use Rattle.plain_tokens.specs.Arguments.{Answer, arguments_in, work_in}
-use Rattle.plain_state.specs.Readings as reading
+use Rattle.rows.specs.Readings as asks
+use Rattle.plain_readings.specs.Readings as reading
 use Rattle.plain_tokens.specs.Puts.{list_of_tokens}
-use Rattle.plain_state.specs.Readings.{Tok, call_ask}
-use Rattle.plain_state.specs.States.{State, Reading, Move, Grows, Feeds, Completed, Opened}
+use Rattle.rows.specs.Readings.{Tok}
+use Rattle.plain_readings.specs.Calls.{call_ask}
+use Rattle.plain_readings.specs.Readings.{Reading}
+use Rattle.plain_machine.specs.States.{State, Move, Grows, Feeds, Completed, Opened}
 use Rattle.plain_tokens.specs.Tables.{list_words, lists_words, memory, refused}
-use Rattle.plain_state.specs.Demands.{refusal, words}
+use Rattle.plain_machine.specs.Demands.{refusal, words}
 use Rattle.plain_machine.specs.Plan.{feeding, argument_fed, grown_to, opened}
 use Rattle.plain_machine.specs.Does.{Did}
 use Rattle.macro_call.specs.Growths.{target_by, target_of}
 use Rattle.macro_call.specs.PlainScans.{Scan, resume_scan, scan_work, with_work as with_list}
 use Rattle.macro_call.specs.Scans.{args_with}
 use Rattle.macro_call.specs.Stages.{Stage}
-use Rattle.input_state.specs.CallFeeds.{CutTo, CutShort, IsCut, InGrowth, Between, IsCutInGrowth, IsCutBetween}
+use Rattle.input_state.specs.CallFeeds.{call_work, CutTo, CutShort, IsCut, InGrowth, Between, IsCutInGrowth, IsCutBetween}
 use Rattle.input_state.specs.Callings as calls
 use Rattle.input_state.specs.Callings.{Calling, call_lists, last_first}
 use Rattle.input_state.specs.Calls.{text_of}
@@ -37,18 +40,18 @@ use Rattle.engine_state.specs.Book.{Book, with_work}
 use Rattle.engine_state.specs.Calls.{AllStand, ReadingsStand, CallStands, Gathers, open_call}
 use Rattle.engine_state.specs.Near.{Within, Behind, CutOff, CutScan, CallNear, FramesIn, FramesNear, CutsIn}
 use Rattle.engine_state.specs.Stands.{IsSound, SameStore, state_of}
-use Rattle.engine_state.proofs.CallEnding.{here as here_call}
+use Rattle.gullet.proofs.CallEnding.{here as here_call}
 use Rattle.gullet.proofs.CallFeeding.{scanner, text_is, answer_to, feeding_is, growth_is, lists_before}
 use Rattle.gullet.proofs.CallFeedingAnswers.{Taking, asked_of}
-use Rattle.gullet.proofs.CallFeedingMoves.{lists_of, fed_reading, state_at, other_words, words_at, last_more, grows_did, feeds_did, whole_did}
-use Rattle.engine_state.proofs.Counting.{words_more}
+use Rattle.gullet.proofs.CallLists.{lists_of}
+use Rattle.gullet.proofs.CallFeedingMoves.{fed_reading, state_at, other_words, words_at, last_more, grows_did, feeds_did, whole_did}
 use Rattle.engine_state.proofs.Cutting.{later_cuts, full_cuts, cuts_by}
-use Rattle.engine_state.proofs.Storing.{sound_still, store_call, words_are}
+use Rattle.engine_state.proofs.Storing.{sound_still, store_call, words_are, words_more}
 
 -- THE MOVES of a token in a place begin with those that go into the list in work
 abbrev behind_growth : Seen → (complete : List (List Token)) → Option (List Token) → List Move
-behind_growth x (a ∷ more) next = Feeds x ∷ Completed a ∷ opened next
-behind_growth x [] next = Feeds x ∷ []
+behind_growth x (a ∷ more) next = Feeds (Tok x) ∷ Completed a ∷ opened next
+behind_growth x [] next = Feeds (Tok x) ∷ []
 
 none_left : (n : ℕ) → drop n (unwrap_or {T = List Token} None []) ≡ []
 none_left zero = refl
@@ -57,7 +60,7 @@ none_left (suc n) = refl
 grows_first : (x : Seen) (was : List Token) (complete : List (List Token)) (next : Option (List Token)) →
     argument_fed x (Some was) complete next ≡ map Grows (drop (length was) (target_by complete next)) ++ behind_growth x complete next
 grows_first x was (a ∷ more) next = refl
-grows_first x was [] None = ap (λ (ts : List Token). map Grows ts ++ Feeds x ∷ []) (sym (none_left (length was)))
+grows_first x was [] None = ap (λ (ts : List Token). map Grows ts ++ Feeds (Tok x) ∷ []) (sym (none_left (length was)))
 grows_first x was [] (Some after) = refl
 
 -- the lists of a call whose list in work has some tokens more
@@ -80,7 +83,7 @@ arg_words was [] args some = omega (arith, some, length-drop {A = Token} (length
 arg_words was (t ∷ ts) args some = omega (arith, some, length-drop {A = Token} (length was) (t ∷ ts), sum_by-cons list_words (t ∷ ts) args, sum_by-cons list_words was args)
 
 module _ (sizes : Sizes) (e e2 : Engine) (book : Book) (r : Reading) (rs : List Reading) (name : Name) (x : Seen) (full : Full) (w : World) (is : e.call ≡ Some (open_call name)) (st : AllStand sizes e (with_work (r ∷ rs) book))
-    (behind : e2 ≡ record e { input = record e.input { call = e2.input.call; lists = e2.input.lists } }) (macros : KeepsMacros e.input e2.input)
+    (behind : e2 ≡ record e { last = e2.last; input = record e.input { call = e2.input.call; lists = e2.input.lists } }) (macros : KeepsMacros e.input e2.input)
     (within : stored_words e2.input ≤ e2.input.sizes.main_memory_size) (refuses : refused e2.input.sizes (memory 1 (stored_words e2.input) ∷ []) ≡ Some full) where
   abbrev W : Book
   W = with_work (r ∷ rs) book
@@ -107,27 +110,27 @@ module _ (sizes : Sizes) (e e2 : Engine) (book : Book) (r : Reading) (rs : List 
   store = store_call e.input e2.input e2.input.call (ap (λ (y : Engine). y.input) behind) macros
 
   sound : IsSound sizes e2 book.number book.macros
-  sound = sound_still sizes e e2 book.number book.macros (ap (λ (y : Engine). y.sizes) behind) (ap (λ (y : Engine). y.outer.size) behind) (ap (λ (y : Engine). y.names) behind) (ap (λ (y : Engine). y.reports) behind) store st.sound
+  sound = sound_still sizes e e2 book.number book.macros (ap (λ (y : Engine). y.sizes) behind) (ap (λ (y : Engine). y.readings.size) behind) (ap (λ (y : Engine). y.names) behind) (ap (λ (y : Engine). y.reports) behind) store st.sound
 
-  start : state_at (state_of e W) (r ∷ rs) (lists_of k.scan.args (scan_work k.scan) ++ (e.input.builds ++ e.input.aside)) ≡ state_of e W
-  start = ap (λ (l : List (List Token)). record (state_of e W) { gathered = l ++ (e.input.builds ++ e.input.aside) }) (sym (lists_before e book.number name r x h))
+  start : state_at (state_of e W) (r ∷ rs) e.last (lists_of k.scan.args (scan_work k.scan) ++ e.input.builds) ≡ state_of e W
+  start = ap (λ (l : List (List Token)). record (state_of e W) { gathered = l ++ e.input.builds }) (sym (lists_before e book.number name r x h))
 
   -- the engine stands for this state
-  finish : (q : Reading) (lists : List (List Token)) → call_lists e2.input.call ≡ lists → state_at (state_of e W) (q ∷ rs) (lists ++ (e.input.builds ++ e.input.aside)) ≡ state_of e2 (with_work (q ∷ rs) book)
+  finish : (q : Reading) (lists : List (List Token)) → call_lists e2.input.call ≡ lists → state_at (state_of e W) (q ∷ rs) e2.last (lists ++ e.input.builds) ≡ state_of e2 (with_work (q ∷ rs) book)
   finish q lists same =
-      ap (λ (l : List (List Token)). record (state_of e W) { work = q ∷ rs; gathered = l ++ (e.input.builds ++ e.input.aside) }) (sym same)
+      ap (λ (l : List (List Token)). record (state_of e W) { work = q ∷ rs; last = e2.last; gathered = l ++ e.input.builds }) (sym same)
       ∙ ap (λ (y : Engine). state_of y (with_work (q ∷ rs) book)) (sym behind)
 
   -- the words that it then has are within the memory's size
-  room : (q : Reading) (lists : List (List Token)) → call_lists e2.input.call ≡ lists → other_words (state_of e W) + lists_words (lists ++ (e.input.builds ++ e.input.aside)) ≤ sizes.main_memory_size
+  room : (q : Reading) (lists : List (List Token)) → call_lists e2.input.call ≡ lists → other_words (state_of e W) + lists_words (lists ++ e.input.builds) ≤ sizes.main_memory_size
   room q lists same =
       let own : e2.input.sizes.main_memory_size ≡ sizes.main_memory_size = ap (λ (s : Sizes). s.main_memory_size) sound.sized.input in
-      let used : other_words (state_of e W) + lists_words (lists ++ (e.input.builds ++ e.input.aside)) ≡ stored_words e2.input =
-      sym (words_at (state_of e W) (q ∷ rs) (lists ++ (e.input.builds ++ e.input.aside))) ∙ ap words (finish q lists same) ∙ words_are sizes e2 (with_work (q ∷ rs) book) sound in
+      let used : other_words (state_of e W) + lists_words (lists ++ e.input.builds) ≡ stored_words e2.input =
+      sym (words_at (state_of e W) (q ∷ rs) e2.last (lists ++ e.input.builds)) ∙ ap words (finish q lists same) ∙ words_are sizes e2 (with_work (q ∷ rs) book) sound in
       omega (arith, own, used, within)
 
   -- a word more has no room
-  no_more : (q : Reading) (lists : List (List Token)) → call_lists e2.input.call ≡ lists → refused sizes (memory 1 (words (state_at (state_of e W) (q ∷ rs) (lists ++ (e.input.builds ++ e.input.aside)))) ∷ []) ≡ Some full
+  no_more : (q : Reading) (lists : List (List Token)) → call_lists e2.input.call ≡ lists → refused sizes (memory 1 (words (state_at (state_of e W) (q ∷ rs) e2.last (lists ++ e.input.builds))) ∷ []) ≡ Some full
   no_more q lists same =
       ap (λ (u : State). refused sizes (memory 1 (words u) ∷ [])) (finish q lists same) ∙ words_more sizes e2 (with_work (q ∷ rs) book) 1 (Some full) sound refuses
 
@@ -138,28 +141,28 @@ module _ (sizes : Sizes) (e e2 : Engine) (book : Book) (r : Reading) (rs : List 
     grown = refl;
     leads = tt;
     stand = subst (λ (y : Engine). FramesIn (broken.Full full) y.call y y.input.builds (q ∷ rs)) (sym behind)
-        (subst (λ (c : Option Call). FramesIn (broken.Full full) c (record e { input = record e.input { call = e2.input.call; lists = e2.input.lists } }) e.input.builds (q ∷ rs)) (sym is) (near, stood.1.0));
+        (subst (λ (c : Option Call). FramesIn (broken.Full full) c (record e { last = e2.last; input = record e.input { call = e2.input.call; lists = e2.input.lists } }) e.input.builds (q ∷ rs)) (sym is) (near, stood.1.frames));
   }
 
   -- the first moves are done, and the next one has no room
   cut_at : (q : Reading) (lists : List (List Token)) (done : List Move) (m : Move) (rest : List Move) → CallNear (broken.Full full) (open_call name) e2.input.call q → call_lists e2.input.call ≡ lists →
       argument_fed x (scan_work k.scan) complete (work_in a) ≡ done ++ m ∷ rest →
-      Did sizes (state_at (state_of e W) (r ∷ rs) (lists_of k.scan.args (scan_work k.scan) ++ (e.input.builds ++ e.input.aside))) (state_at (state_of e W) (q ∷ rs) (lists ++ (e.input.builds ++ e.input.aside))) w w done →
-      refusal sizes m (state_at (state_of e W) (q ∷ rs) (lists ++ (e.input.builds ++ e.input.aside))) ≡ Some full →
+      Did sizes (state_at (state_of e W) (r ∷ rs) e.last (lists_of k.scan.args (scan_work k.scan) ++ e.input.builds)) (state_at (state_of e W) (q ∷ rs) e2.last (lists ++ e.input.builds)) w w done →
+      refusal sizes m (state_at (state_of e W) (q ∷ rs) e2.last (lists ++ e.input.builds)) ≡ Some full →
       CutsIn sizes (state_of e W) e2 w w (feeding r x) (broken.Full full)
   cut_at q lists done m rest near same moves did no_room = record {
     book' = with_work (q ∷ rs) book;
     cuts = cuts_by sizes _ e2 (with_work (q ∷ rs) book) w w (done ++ m ∷ rest) (feeding r x) (broken.Full full) (feeding_is e book.number name r x h ∙ moves)
-        (later_cuts sizes (state_of e W) (state_at (state_of e W) (q ∷ rs) (lists ++ (e.input.builds ++ e.input.aside))) e2 (with_work (q ∷ rs) book) w w w done (m ∷ rest) (broken.Full full)
-        (subst (λ (u : State). Did sizes u (state_at (state_of e W) (q ∷ rs) (lists ++ (e.input.builds ++ e.input.aside))) w w done) start did)
+        (later_cuts sizes (state_of e W) (state_at (state_of e W) (q ∷ rs) e2.last (lists ++ e.input.builds)) e2 (with_work (q ∷ rs) book) w w w done (m ∷ rest) (broken.Full full)
+        (subst (λ (u : State). Did sizes u (state_at (state_of e W) (q ∷ rs) e2.last (lists ++ e.input.builds)) w w done) start did)
         (full_cuts sizes _ e2 (with_work (q ∷ rs) book) w m rest full (broken.Full full) refl no_room (finish q lists same)));
-    frames = frames_near q near;
+    near = frames_near q near;
   }
 
   -- the call is this reading
-  call_near : (q : Reading) (next : Scan) → q.kind ≡ r.kind → reading.More Raw ≡ reading.ask q.kind q.fed → q.lent ≡ false → q.holds ≡ length (call_lists e2.input.call) → e2.input.call ≡ calls.Stopped name next → CutScan h.long text next q.fed →
+  call_near : (q : Reading) (next : Scan) → q.kind ≡ r.kind → asks.More Raw ≡ reading.ask q.kind q.fed → e2.input.call ≡ calls.Stopped name next → CutScan h.long text next q.fed →
       CallNear (broken.Full full) (open_call name) e2.input.call q
-  call_near q next same asked not_lent holds now at = CutOff (record {
+  call_near q next same asked now at = CutOff (record {
     full = full;
     is_full = refl;
     long = h.long;
@@ -167,16 +170,14 @@ module _ (sizes : Sizes) (e e2 : Engine) (book : Book) (r : Reading) (rs : List 
     text = text;
     kind = same ∙ h.kind;
     asked = asked;
-    holds = holds;
-    not_lent = not_lent;
     next = next;
     stopped = now;
     at = at;
   })
 
   -- WITHIN A GROWTH
-  growth_cut : (next : Scan) → e2.input.call ≡ calls.Stopped name next → IsCutInGrowth text x.token k.scan next → CutsIn sizes (state_of e W) e2 w w (feeding r x) (broken.Full full)
-  growth_cut next now c = by_behind c.behind refl c.some where
+  growth_cut : (next : Scan) → ((was : List Token) → call_work e2.input.call ≡ Some was → e2.last ≡ e.last) → e2.input.call ≡ calls.Stopped name next → IsCutInGrowth text x.token k.scan next → CutsIn sizes (state_of e W) e2 w w (feeding r x) (broken.Full full)
+  growth_cut next unfed now c = by_behind c.behind refl c.some where
     same : call_lists e2.input.call ≡ (cut_lists c.was c.front k.scan.args)
     same = ap call_lists now ∙ ap (λ (s : Scan). option_to_list (scan_work s) ++ last_first s.args []) c.after
         ∙ ap (λ (o : Option (List Token)). option_to_list o ++ last_first k.scan.args []) (work_with k.scan k.scan.present c.was (c.was ++ c.front) refl c.before)
@@ -185,20 +186,22 @@ module _ (sizes : Sizes) (e e2 : Engine) (book : Book) (r : Reading) (rs : List 
     whole = ap (λ (o : Option (List Token)). drop (length (unwrap_or o [])) (target_by complete (work_in a))) (sym c.before) ∙ sym (growth_is e book.number name r x h) ∙ c.whole
 
     near : CallNear (broken.Full full) (open_call name) e2.input.call r
-    near = call_near r next refl h.asked h.not_lent
-        (h.holds ∙ ap (length {A = List Token}) (lists_before e book.number name r x h ∙ ap (lists_of k.scan.args) c.before) ∙ sym (ap (length {A = List Token}) same)) now
-        (Within (record { scan = k.scan; seen = x; gathers = k.gathers; cut = c }))
+    near = call_near r next refl h.asked now (Within (record { scan = k.scan; seen = x; gathers = k.gathers; cut = c }))
+
+    last : e2.last ≡ e.last
+    last = unfed (c.was ++ c.front) (ap call_work now ∙ ap scan_work c.after ∙ work_with k.scan k.scan.present c.was (c.was ++ c.front) refl c.before)
 
     moves : argument_fed x (scan_work k.scan) complete (work_in a) ≡ map Grows c.front ++ (map Grows c.behind ++ behind_growth x complete (work_in a))
     moves = ap (λ (o : Option (List Token)). argument_fed x o complete (work_in a)) c.before ∙ grows_first x c.was complete (work_in a)
         ∙ ap (λ (ts : List Token). map Grows ts ++ behind_growth x complete (work_in a)) whole ∙ maps_join c.front c.behind (behind_growth x complete (work_in a))
 
-    fits : other_words (state_of e W) + lists_words (c.was ∷ (last_first k.scan.args [] ++ (e.input.builds ++ e.input.aside))) + length c.front ≤ sizes.main_memory_size
-    fits = omega (arith, room r (cut_lists c.was c.front k.scan.args) same, sum_by-cons list_words (c.was ++ c.front) (last_first k.scan.args [] ++ (e.input.builds ++ e.input.aside)), sum_by-cons list_words c.was (last_first k.scan.args [] ++ (e.input.builds ++ e.input.aside)), length-append c.was c.front)
+    fits : other_words (state_of e W) + lists_words (c.was ∷ (last_first k.scan.args [] ++ e.input.builds)) + length c.front ≤ sizes.main_memory_size
+    fits = omega (arith, room r (cut_lists c.was c.front k.scan.args) same, sum_by-cons list_words (c.was ++ c.front) (last_first k.scan.args [] ++ e.input.builds), sum_by-cons list_words c.was (last_first k.scan.args [] ++ e.input.builds), length-append c.was c.front)
 
-    did : Did sizes (state_at (state_of e W) (r ∷ rs) (lists_of k.scan.args (scan_work k.scan) ++ (e.input.builds ++ e.input.aside))) (state_at (state_of e W) (r ∷ rs) ((cut_lists c.was c.front k.scan.args) ++ (e.input.builds ++ e.input.aside))) w w (map Grows c.front)
-    did = subst (λ (o : Option (List Token)). Did sizes (state_at (state_of e W) (r ∷ rs) (lists_of k.scan.args o ++ (e.input.builds ++ e.input.aside))) (state_at (state_of e W) (r ∷ rs) ((cut_lists c.was c.front k.scan.args) ++ (e.input.builds ++ e.input.aside))) w w (map Grows c.front)) (sym c.before)
-        (grows_did sizes (state_of e W) w c.front c.was (last_first k.scan.args [] ++ (e.input.builds ++ e.input.aside)) (r ∷ rs) (λ some. fits))
+    did : Did sizes (state_at (state_of e W) (r ∷ rs) e.last (lists_of k.scan.args (scan_work k.scan) ++ e.input.builds)) (state_at (state_of e W) (r ∷ rs) e2.last ((cut_lists c.was c.front k.scan.args) ++ e.input.builds)) w w (map Grows c.front)
+    did = subst (λ (y : Seen). Did sizes (state_at (state_of e W) (r ∷ rs) e.last (lists_of k.scan.args (scan_work k.scan) ++ e.input.builds)) (state_at (state_of e W) (r ∷ rs) y ((cut_lists c.was c.front k.scan.args) ++ e.input.builds)) w w (map Grows c.front)) (sym last)
+        (subst (λ (o : Option (List Token)). Did sizes (state_at (state_of e W) (r ∷ rs) e.last (lists_of k.scan.args o ++ e.input.builds)) (state_at (state_of e W) (r ∷ rs) e.last ((cut_lists c.was c.front k.scan.args) ++ e.input.builds)) w w (map Grows c.front)) (sym c.before)
+        (grows_did sizes (state_of e W) w c.front c.was (last_first k.scan.args [] ++ e.input.builds) (r ∷ rs) e.last (λ some. fits)))
 
     by_behind : (ts : List Token) → c.behind ≡ ts → 0 < length ts → CutsIn sizes (state_of e W) e2 w w (feeding r x) (broken.Full full)
     by_behind [] left some = absurd (omega (arith, some))
@@ -207,15 +210,21 @@ module _ (sizes : Sizes) (e e2 : Engine) (book : Book) (r : Reading) (rs : List 
         (moves ∙ ap (λ (us : List Token). map Grows c.front ++ (map Grows us ++ behind_growth x complete (work_in a))) left) did (no_more r (cut_lists c.was c.front k.scan.args) same)
 
   -- IN FRONT OF A PLACE
-  between_cut : (next : Scan) → e2.input.call ≡ calls.Stopped name next → IsCutBetween text x.token k.scan next → CutsIn sizes (state_of e W) e2 w w (feeding r x) (broken.Full full)
-  between_cut next now c = by_present k.scan.present refl where
-    asked : reading.More Raw ≡ reading.ask r.kind (r.fed ++ Tok x ∷ [])
+  between_cut : (next : Scan) → (call_work e2.input.call ≡ None → e2.last ≡ x) → e2.input.call ≡ calls.Stopped name next → IsCutBetween text x.token k.scan next → CutsIn sizes (state_of e W) e2 w w (feeding r x) (broken.Full full)
+  between_cut next fed now c = by_present k.scan.present refl where
+    asked : asks.More Raw ≡ reading.ask r.kind (r.fed ++ Tok x ∷ [])
     asked =
         let g : Gathers h.long text k.scan r.fed = k.gathers in
         sym (ap (λ (kind : reading.Kind). reading.ask kind (r.fed ++ Tok x ∷ [])) h.kind ∙ asked_of name h.long text r.fed (Tok x) ∙ ap (call_ask name) (g.goes_on (Tok x ∷ []) ∙ c.due))
 
-    near : (n : ℕ) → n ≡ length (call_lists e2.input.call) → CallNear (broken.Full full) (open_call name) e2.input.call (fed_reading r x n)
-    near n holds = call_near (fed_reading r x n) next refl asked refl holds now (Behind (record { scan = k.scan; before = r.fed; seen = x; gathers = k.gathers; last = refl; cut = c }))
+    q : Reading
+    q = fed_reading r x
+
+    near : CallNear (broken.Full full) (open_call name) e2.input.call q
+    near = call_near q next refl asked now (Behind (record { scan = k.scan; before = r.fed; seen = x; gathers = k.gathers; last = refl; cut = c }))
+
+    last : e2.last ≡ x
+    last = fed (ap call_work now ∙ ap (option_map (λ (s : Stage). s.list)) c.none)
 
     -- what is answered is due
     due_args : arguments_in a ≡ next.args
@@ -239,24 +248,24 @@ module _ (sizes : Sizes) (e e2 : Engine) (book : Book) (r : Reading) (rs : List 
         let bare : k.scan.args ≡ [] = k.has_work none in
         let lists : call_lists e2.input.call ≡ [] = lists_now ∙ ap (λ (us : List (List Token)). last_first us []) (same ∙ bare) in
         let had : lists_of k.scan.args (scan_work k.scan) ≡ [] = ap (λ (o : Option (List Token)). lists_of k.scan.args o) none ∙ ap (λ (us : List (List Token)). lists_of us None) bare in
-        cut_at (fed_reading r x r.holds) [] (Feeds x ∷ []) Opened [] (near r.holds (h.holds ∙ ap (length {A = List Token}) (lists_before e book.number name r x h ∙ had ∙ sym lists))) lists (moves None k.scan.args none same)
-        (subst (λ (l : List (List Token)). Did sizes (state_at (state_of e W) (r ∷ rs) (l ++ (e.input.builds ++ e.input.aside))) (state_at (state_of e W) (fed_reading r x r.holds ∷ rs) (e.input.builds ++ e.input.aside)) w w (Feeds x ∷ [])) (sym had) (feeds_did sizes (state_of e W) w r rs x (e.input.builds ++ e.input.aside)))
-        (no_more (fed_reading r x r.holds) [] lists)
+        cut_at q [] (Feeds (Tok x) ∷ []) Opened [] near lists (moves None k.scan.args none same)
+        (subst (λ (y : Seen). Did sizes (state_at (state_of e W) (r ∷ rs) e.last (lists_of k.scan.args (scan_work k.scan) ++ e.input.builds)) (state_at (state_of e W) (q ∷ rs) y e.input.builds) w w (Feeds (Tok x) ∷ [])) (sym last)
+        (subst (λ (l : List (List Token)). Did sizes (state_at (state_of e W) (r ∷ rs) e.last (l ++ e.input.builds)) (state_at (state_of e W) (q ∷ rs) x e.input.builds) w w (Feeds (Tok x) ∷ [])) (sym had) (feeds_did sizes (state_of e W) w r rs e.last x e.input.builds)))
+        (no_more q [] lists)
 
     -- a further one
     by_next : (was arg : List Token) → scan_work k.scan ≡ Some was → next.args ≡ k.scan.args ++ arg ∷ [] → CutsIn sizes (state_of e W) e2 w w (feeding r x) (broken.Full full)
     by_next was arg work same =
         let args : List (List Token) = last_first k.scan.args [] in
         let lists : call_lists e2.input.call ≡ list_of_tokens arg ++ args = lists_now ∙ ap (λ (us : List (List Token)). last_first us []) same ∙ last_more k.scan.args arg [] in
-        let q : Reading = fed_reading r x (length (list_of_tokens arg ++ args)) in
         let had : lists_of k.scan.args (scan_work k.scan) ≡ was ∷ args = ap (lists_of k.scan.args) work in
-        let holds : r.holds ≡ suc (length args) = h.holds ∙ ap (length {A = List Token}) (lists_before e book.number name r x h ∙ had) in
         let within_size = room q (list_of_tokens arg ++ args) lists in
-        cut_at q (list_of_tokens arg ++ args) (grown_to was arg ++ (Feeds x ∷ Completed arg ∷ [])) Opened [] (near (length (list_of_tokens arg ++ args)) (sym (ap (length {A = List Token}) lists))) lists
-        (moves (Some was) (k.scan.args ++ arg ∷ []) work same ∙ ap (λ (us : List (List Token)). argument_fed x (Some was) us (Some [])) (drop-append_seam k.scan.args (arg ∷ [])) ∙ sym (append_assoc (grown_to was arg) (Feeds x ∷ Completed arg ∷ []) (Opened ∷ [])))
-        (subst (λ (l : List (List Token)). Did sizes (state_at (state_of e W) (r ∷ rs) (l ++ (e.input.builds ++ e.input.aside))) (state_at (state_of e W) (q ∷ rs) ((list_of_tokens arg ++ args) ++ (e.input.builds ++ e.input.aside))) w w (grown_to was arg ++ (Feeds x ∷ Completed arg ∷ []))) (sym had)
-        (whole_did sizes (state_of e W) w r rs x arg was args (e.input.builds ++ e.input.aside) holds
-        (λ some. omega (arith, within_size, arg_words was arg args some, sum_by-append list_words (list_of_tokens arg ++ args) (e.input.builds ++ e.input.aside), sum_by-append list_words (was ∷ args) (e.input.builds ++ e.input.aside)))))
+        cut_at q (list_of_tokens arg ++ args) (grown_to was arg ++ (Feeds (Tok x) ∷ Completed arg ∷ [])) Opened [] near lists
+        (moves (Some was) (k.scan.args ++ arg ∷ []) work same ∙ ap (λ (us : List (List Token)). argument_fed x (Some was) us (Some [])) (drop-append_seam k.scan.args (arg ∷ [])) ∙ sym (append_assoc (grown_to was arg) (Feeds (Tok x) ∷ Completed arg ∷ []) (Opened ∷ [])))
+        (subst (λ (y : Seen). Did sizes (state_at (state_of e W) (r ∷ rs) e.last (lists_of k.scan.args (scan_work k.scan) ++ e.input.builds)) (state_at (state_of e W) (q ∷ rs) y ((list_of_tokens arg ++ args) ++ e.input.builds)) w w (grown_to was arg ++ (Feeds (Tok x) ∷ Completed arg ∷ []))) (sym last)
+        (subst (λ (l : List (List Token)). Did sizes (state_at (state_of e W) (r ∷ rs) e.last (l ++ e.input.builds)) (state_at (state_of e W) (q ∷ rs) x ((list_of_tokens arg ++ args) ++ e.input.builds)) w w (grown_to was arg ++ (Feeds (Tok x) ∷ Completed arg ∷ []))) (sym had)
+        (whole_did sizes (state_of e W) w r rs e.last x arg was args e.input.builds
+        (λ some. omega (arith, within_size, arg_words was arg args some, sum_by-append list_words (list_of_tokens arg ++ args) e.input.builds, sum_by-append list_words (was ∷ args) e.input.builds)))))
         (no_more q (list_of_tokens arg ++ args) lists)
 
     by_present : (o : Option Stage) → k.scan.present ≡ o → CutsIn sizes (state_of e W) e2 w w (feeding r x) (broken.Full full)
@@ -265,19 +274,20 @@ module _ (sizes : Sizes) (e e2 : Engine) (book : Book) (r : Reading) (rs : List 
         by_next s.list (target_of (resume_scan text k.scan []) a) (ap (option_map (λ (s : Stage). s.list)) present) (c.args ∙ ap (λ (o : Option Stage). args_with o k.scan.args (target_of (resume_scan text k.scan []) a)) present)
 
   -- THE CALL
-  by_new : (c : Calling) → e2.input.call ≡ c → CutTo text x.token name k.scan c → CutsIn sizes (state_of e W) e2 w w (feeding r x) (broken.Full full)
-  by_new calls.NotCalling now c = absurd c
-  by_new (calls.Gathering n next) now c = absurd c
-  by_new (calls.Stopped n next) now c = by_cut c.1 where
-    own : e2.input.call ≡ calls.Stopped name next
-    own = now ∙ ap (λ (m : Name). calls.Stopped m next) c.0
+  module _ (fed : call_work e2.input.call ≡ None → e2.last ≡ x) (unfed : (was : List Token) → call_work e2.input.call ≡ Some was → e2.last ≡ e.last) where
+    by_new : (c : Calling) → e2.input.call ≡ c → CutTo text x.token name k.scan c → CutsIn sizes (state_of e W) e2 w w (feeding r x) (broken.Full full)
+    by_new calls.NotCalling now c = absurd c
+    by_new (calls.Gathering n next) now c = absurd c
+    by_new (calls.Stopped n next) now c = by_cut c.1 where
+      own : e2.input.call ≡ calls.Stopped name next
+      own = now ∙ ap (λ (m : Name). calls.Stopped m next) c.0
 
-    by_cut : IsCut text x.token k.scan next → CutsIn sizes (state_of e W) e2 w w (feeding r x) (broken.Full full)
-    by_cut (InGrowth g) = growth_cut next own g
-    by_cut (Between b) = between_cut next own b
-  by_new (calls.Gathered n args) now c = absurd c
+      by_cut : IsCut text x.token k.scan next → CutsIn sizes (state_of e W) e2 w w (feeding r x) (broken.Full full)
+      by_cut (InGrowth g) = growth_cut next unfed own g
+      by_cut (Between b) = between_cut next fed own b
+    by_new (calls.Gathered n args) now c = absurd c
 
-  pub fed_cut : CutShort (text_of e.input.lists e.input.meanings) x.token e.input.call e2.input.call → CutsIn sizes (state_of e W) e2 w w (feeding r x) (broken.Full full)
-  fed_cut short =
-      let at : CutShort (text_of e.input.lists e.input.meanings) x.token (calls.Gathering name k.scan) e2.input.call = subst (λ (c : Calling). CutShort (text_of e.input.lists e.input.meanings) x.token c e2.input.call) k.is short in
-      by_new e2.input.call refl (subst (λ (ts : List Token). CutTo ts x.token name k.scan e2.input.call) (text_is e book.number name r h) at)
+    pub fed_cut : CutShort (text_of e.input.lists e.input.meanings) x.token e.input.call e2.input.call → CutsIn sizes (state_of e W) e2 w w (feeding r x) (broken.Full full)
+    fed_cut short =
+        let at : CutShort (text_of e.input.lists e.input.meanings) x.token (calls.Gathering name k.scan) e2.input.call = subst (λ (c : Calling). CutShort (text_of e.input.lists e.input.meanings) x.token c e2.input.call) k.is short in
+        by_new e2.input.call refl (subst (λ (ts : List Token). CutTo ts x.token name k.scan e2.input.call) (text_is e book.number name r h) at)

@@ -1,5 +1,5 @@
 -- The arguments of a call pass to the macro's body, which is put.
-use Rattle.std.proofs.Common.{◌≡◌, ℕ, List, [], ◌∷◌, drop, refl, sym, ap, subst, ◌∙◌, Bool, true}
+use Rattle.std.proofs.Common.{◌≡◌, ℕ, List, [], ◌∷◌, drop, length, refl, sym, ap, subst, ◌∙◌, Bool, true}
 use Rattle.std.specs.Prelude.{Option, Some, None, ◌||◌}
 use Rattle.tex_defs.specs.declared.Full.{Full}
 use Rattle.tex_defs.specs.declared.Meaning.{Meaning}
@@ -10,10 +10,11 @@ use Rattle.tex_defs.specs.Places.{World}
 use Rattle.plain_tokens.specs.Meanings.{name_meaning}
 use Rattle.plain_tokens.specs.Pending.{Pending, put_front, settle, with_puts}
 use Rattle.plain_tokens.specs.Puts.{Item, Put, call_put, put_top, settled}
-use Rattle.plain_state.specs.Readings as reading
-use Rattle.plain_state.specs.States.{State, Reading, Settled, CalledWith, made}
+use Rattle.plain_readings.specs.Readings as reading
+use Rattle.plain_readings.specs.Readings.{Reading, lists}
+use Rattle.plain_machine.specs.States.{State, Settled, CalledWith, made}
 use Rattle.plain_tokens.specs.Tables.{Demand, level, parameters, refused, is_meant, is_put}
-use Rattle.plain_state.specs.Demands.{refusal}
+use Rattle.plain_machine.specs.Demands.{refusal}
 use Rattle.plain_machine.specs.Numbers.{pending_of, put_of as numbered}
 use Rattle.plain_machine.specs.Plan.{arguments_put, called_with}
 use Rattle.plain_machine.specs.Does.{Did}
@@ -34,7 +35,7 @@ use Rattle.engine_state.specs.Book.{Book, with_work}
 use Rattle.engine_state.specs.Calls.{AllStand, ReadingsStand, CallStands, IsGathered, args_of}
 use Rattle.engine_state.specs.Stands.{IsSound, SameStore, state_of}
 use Rattle.engine_state.specs.Rules.{world_of, Cuts, Went}
-use Rattle.engine_state.proofs.CallEnding.{here, closed_went, lists_gone}
+use Rattle.gullet.proofs.CallEnding.{here, closed_went, lists_gone}
 use Rattle.engine_state.proofs.CallKept.{meant_by}
 use Rattle.engine_state.proofs.Cutting.{later_cuts, full_cuts, cuts_by}
 use Rattle.engine_state.proofs.Joining.{quiet_here, quiet_wrote, went_by}
@@ -109,7 +110,7 @@ module _ (sizes : Sizes) (e : Engine) (book : Book) (r : Reading) (rs : List Rea
 
     middle_sound : IsSound sizes (record e { input = middle }) book.number book.macros
     middle_sound = record {
-      sized = record { few_reports = st.sound.sized.few_reports; small = st.sound.sized.small; own = st.sound.sized.own; outer = st.sound.sized.outer; input = st.sound.sized.input; names = st.sound.sized.names; hash = st.sound.sized.hash; located = st.sound.sized.located };
+      sized = record { few_reports = st.sound.sized.few_reports; small = st.sound.sized.small; own = st.sound.sized.own; readings = st.sound.sized.readings; input = st.sound.sized.input; names = st.sound.sized.names; hash = st.sound.sized.hash; located = st.sound.sized.located };
       tied = tied_put book.number book.macros e.input.meanings (settled e.input.pending.puts) e.input.lists (tied_settled book.number book.macros e.input.meanings e.input.pending.puts e.input.lists st.sound.tied) id p refl (ap (λ (b : Bool). b || is_put id (settled e.input.pending.puts)) meant);
       bodies = st.sound.bodies;
     }
@@ -129,16 +130,16 @@ module _ (sizes : Sizes) (e : Engine) (book : Book) (r : Reading) (rs : List Rea
 
       put_stands : AllStand sizes e2 (with_work rs book)
       put_stands = record {
-        sound = sound_still sizes (record e { input = middle }) e2 book.number book.macros (ap (λ (y : Engine). y.sizes) now) (ap (λ (y : Engine). y.outer.size) now) (ap (λ (y : Engine). y.names) now) (ap (λ (y : Engine). y.reports) now) store middle_sound;
+        sound = sound_still sizes (record e { input = middle }) e2 book.number book.macros (ap (λ (y : Engine). y.sizes) now) (ap (λ (y : Engine). y.readings.size) now) (ap (λ (y : Engine). y.names) now) (ap (λ (y : Engine). y.reports) now) store middle_sound;
         idle = ap (λ (y : Engine). y.input.making) now ∙ st.idle;
-        all = subst (λ (y : Engine). ReadingsStand y.call y book.number rs) (sym now) (k.1.0, (k.1.1.0, refl));
+        all = subst (λ (y : Engine). ReadingsStand y.call y book.number rs) (sym now) (record { frames = k.1.frames; shallow = k.1.shallow }, refl);
       }
 
       put_state : made (CalledWith P) settled_state ≡ state_of e2 (with_work rs book)
       put_state =
-          ap (λ (q : Pending). record (state_of e W) { pending = put_front P q; work = rs; gathered = drop r.holds (gathered e.input) }) (settle_of book.number e.input.pending)
-          ∙ ap (λ (q : Pending). record (state_of e W) { pending = q; work = rs; gathered = drop r.holds (gathered e.input) }) (put_front_of book.number p (settle e.input.pending))
-          ∙ ap (λ (l : List (List Token)). record (state_of e W) { pending = pending_of book.number (put_front p (settle e.input.pending)); work = rs; gathered = l }) (lists_gone e.input r.holds k.0.holds)
+          ap (λ (q : Pending). record (state_of e W) { pending = put_front P q; work = rs; gathered = drop (length (lists r.kind r.fed)) (gathered e.input) }) (settle_of book.number e.input.pending)
+          ∙ ap (λ (q : Pending). record (state_of e W) { pending = q; work = rs; gathered = drop (length (lists r.kind r.fed)) (gathered e.input) }) (put_front_of book.number p (settle e.input.pending))
+          ∙ ap (λ (l : List (List Token)). record (state_of e W) { pending = pending_of book.number (put_front p (settle e.input.pending)); work = rs; gathered = l }) (lists_gone e.input (lists r.kind r.fed) k.0.holds)
           ∙ ap (λ (y : Engine). state_of y (with_work rs book)) (sym now)
 
     -- it is put

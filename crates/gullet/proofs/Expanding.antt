@@ -1,53 +1,176 @@
 -- One step of expansion.
 use Rattle.std.proofs.Common.{◌≡◌, List, [], ◌∷◌, ◌++◌, refl, sym, ap, append_assoc, subst, ◌∙◌, arith}
-use Rattle.std.specs.Prelude.{Bool, Option, None}
+use Rattle.std.specs.Prelude.{Bool, true, false, not, ◌||◌, if◌then◌else◌, Option, Some, None}
+use Rattle.std.proofs.lemmas.Bool.Decides.{nat_tests}
+use Rattle.tex_syntax.specs.declared.words.Outcome.{Outcome}
 use Rattle.tex_syntax.specs.declared.words.Want.{Want}
+use Rattle.tex_syntax.specs.declared.words.Want.TheVariants as want
+use Rattle.tex_defs.specs.declared.Token.{Token}
+use Rattle.tex_defs.specs.declared.Meaning.{Meaning}
+use Rattle.tex_defs.specs.declared.Meaning.TheVariants as means
+use Rattle.plain_tokens.specs.Categories.{space}
+use Rattle.plain_tokens.specs.Names.{means_relax}
+use Rattle.plain_tokens.specs.Tokens.{means_category}
+use Rattle.plain_readings.specs.Readings.{Reading}
+use Rattle.plain_machine.specs.Plan.{Page, expanded, expanded_as, command}
+use Rattle.gullet.specs.declared.expansion.Once.{Once}
 use Rattle.tex_defs.specs.declared.Seen.{Seen}
 use Rattle.tex_defs.specs.declared.Sizes.{Sizes}
 use Rattle.tex_defs.specs.Places.{World}
-use Rattle.plain_state.specs.Readings.{Kind}
-use Rattle.plain_state.specs.Demands.{refusal}
-use Rattle.plain_state.specs.States.{State, Move, Begun, fresh, made}
+use Rattle.plain_readings.specs.Readings.{Kind, opened}
+use Rattle.plain_machine.specs.Demands.{refusal}
+use Rattle.plain_machine.specs.States.{State, Move, Begun, made}
 use Rattle.plain_machine.proofs.Doing.{did_join, did_none, did_one}
 use Rattle.plain_machine.proofs.Joins.{steps_join}
 use Rattle.engine_state.specs.declared.engine.Engine.{Engine}
 use Rattle.engine_state.specs.declared.outcome.Ruled.{Ruled}
 use Rattle.engine_state.specs.declared.outcome.Ruled.TheVariants as ruled
 use Rattle.engine_state.specs.Book.{Book, with_work}
-use Rattle.engine_state.specs.Stands.{SameFrames, Stands, state_of, page_of}
+use Rattle.engine_state.specs.Stands.{SameFrames, SameReadings, Stands, state_of, page_of}
 use Rattle.engine_state.proofs.Bare.{all_of}
 use Rattle.world_io.specs.Told.{FilesTold, SinkTold}
-use Rattle.engine_state.specs.Rules.{world_of, Went, onward_of, Takes, Comes, SameReadings, DoesOnward}
-use Rattle.engine_state.proofs.Joining.{quiet_wrote}
+use Rattle.engine_state.specs.Rules.{world_of, Went, Halts, onward_of, enters_of, feeds_of, Takes, Comes, DoesOnward}
+use Rattle.engine_state.proofs.Joining.{quiet_wrote, went_by}
 use Rattle.engine_state.proofs.Coming.{comes_went, comes_halts}
 use Rattle.engine_state.proofs.Stopping.{noted, noted_went, noted_halts, noted_comes}
 use Rattle.gullet.specs.declared.expansion.Stepped.{Stepped}
 use Rattle.gullet.specs.declared.expansion.Stepped.TheVariants.{More, Skipped, Unexpandable, Over}
-use Rattle.gullet.specs.Stepping.{Expands, Steps, Stays, stepped_by}
+use Rattle.gullet.specs.declared.expansion.Expansion.{Expansion}
+use Rattle.gullet.specs.declared.expansion.Once.TheVariants as once
+use Rattle.gullet.specs.Stepping.{Expands, ExpandsOnce, ExpandsTo, IsStayed, Steps, Stays, changes, expands, is_expansion, once_by}
+use Rattle.gullet.proofs.Stepping.{no}
+
+-- WHAT IS EXPANDED
+
+not_yes : (b : Bool) → not b ≡ false → b ≡ true
+not_yes true is = refl
+not_yes false is = cc
+
+-- a token that is expanded comes to nothing else
+expanded_any : (page : Page) (t : Token) (m : Meaning Unit) (moves others : List Move) → expands m ≡ true → expanded_as page t m moves ≡ expanded_as page t m others
+expanded_any page t means.Undefined moves others is = refl
+expanded_any page t (means.Macro long outer list) moves others is = refl
+expanded_any page t (means.Prim n) moves others is = rw is refl
+expanded_any page t m moves others is = cc
+
+-- it is neither a space nor `\relax`
+space_no : (m : Meaning Unit) → expands m ≡ true → means_category space m ≡ false
+space_no means.Undefined is = refl
+space_no (means.Macro long outer list) is = refl
+space_no (means.Prim n) is = refl
+space_no m is = cc
+
+relax_no : (m : Meaning Unit) → expands m ≡ true → means_relax m ≡ false
+relax_no means.Undefined is = refl
+relax_no (means.Macro long outer list) is = refl
+relax_no (means.Prim n) is = grind (arith, nat_tests, is)
+relax_no means.RelaxMarked is = cc
+relax_no (means.Char category code) is = refl
+relax_no (means.CharGiven n) is = cc
+relax_no (means.MathGiven n) is = cc
+relax_no (means.Register r n) is = cc
+
+-- so it is, where it isn't wanted as it stands
+pub onward_expands : (page : Page) (want : Option Want) (work : List Reading) (x : Seen) → enters_of want ≡ false → expands x.meaning ≡ true → onward_of page want work x ≡ expanded page x []
+onward_expands page None work x raw is = expanded_any page x.token x.meaning (command page x.token x.meaning) [] is
+onward_expands page (Some want.Raw) work x raw is = cc
+onward_expands page (Some want.Expanded) work x raw is = expanded_any page x.token x.meaning (feeds_of work x) [] is
+onward_expands page (Some want.Copied) work x raw is = expanded_any page x.token x.meaning (feeds_of work x) [] is
+onward_expands page (Some want.Nonblank) work x raw is =
+    ap (λ (b : Bool). if b then [] else expanded page x (feeds_of work x)) (space_no x.meaning is) ∙ expanded_any page x.token x.meaning (feeds_of work x) [] is
+onward_expands page (Some want.Command) work x raw is =
+    ap (λ (b : Bool). if b || means_relax x.meaning then [] else expanded page x (feeds_of work x)) (space_no x.meaning is)
+    ∙ ap (λ (b : Bool). if b then [] else expanded page x (feeds_of work x)) (relax_no x.meaning is) ∙ expanded_any page x.token x.meaning (feeds_of work x) [] is
+
+pub stays_by : (want : Option Want) (x : Seen) → expands x.meaning ≡ false → Stays want x
+stays_by None x is = is
+stays_by (Some want.Raw) x is = tt
+stays_by (Some want.Expanded) x is = is
+stays_by (Some want.Copied) x is = is
+stays_by (Some want.Nonblank) x is = is
+stays_by (Some want.Command) x is = is
+
+pub raw_stays : (want : Option Want) (x : Seen) → enters_of want ≡ true → Stays want x
+raw_stays None x raw = cc
+raw_stays (Some want.Raw) x raw = tt
+raw_stays (Some want.Expanded) x raw = cc
+raw_stays (Some want.Copied) x raw = cc
+raw_stays (Some want.Nonblank) x raw = cc
+raw_stays (Some want.Command) x raw = cc
 
 -- A TOKEN IS EXPANDED
 
+-- by which
+pub moves_as : (page : Page) (x : Seen) (moves : List Move) {o : Expansion} {b : Expansion} → o ≡ b → ExpandsTo o page moves (expanded page x moves) → ExpandsTo b page moves (expanded page x moves)
+moves_as page x moves is h = subst (λ (y : Expansion). ExpandsTo y page moves (expanded page x moves)) is h
+
+pub expands_as : (x : Seen) {o : Expansion} {b : Expansion} → o ≡ b → is_expansion o ≡ expands x.meaning → expands x.meaning ≡ is_expansion b
+expands_as x is h = sym h ∙ ap is_expansion is
+
+-- a report changes something
+pub reports_change : (r : Ruled) (n : Once) → n ≡ once_by r → changes n ≡ true
+reports_change ruled.Step n is = ap changes is
+reports_change ruled.Free n is = ap changes is
+reports_change (ruled.Halted o) n is = ap changes is
+
+stays_changes : (n : Once) → IsStayed n → changes n ≡ false
+stays_changes once.Expanded h = absurd h
+stays_changes once.Stays h = refl
+stays_changes (once.Over o) h = absurd h
+
+pub reports_leave : (r : Ruled) (n : Once) → n ≡ once_by r → IsStayed n → ⊥
+reports_leave r n is h = no (sym (stays_changes n h) ∙ reports_change r n is)
+
 -- a report
-pub expands_by : (sizes : Sizes) (want : Option Want) (s : State) (e' : Engine) (book : Book) (w w' : World) (ms ns : List Move) (x : Seen) (r : Ruled) (n : Stepped) → ns ≡ ms → n ≡ stepped_by r → DoesOnward sizes s e' book w w' ms r → Expands sizes want s e' book w w' ns x n
-expands_by sizes want s e' book w w' ms ns x r n moves is h = subst (λ (l : List Move). Expands sizes want s e' book w w' l x n) (sym moves) (subst (λ (y : Stepped). Expands sizes want s e' book w w' ms x y) (sym is) (by_rule r h)) where
-  by_rule : (r : Ruled) → DoesOnward sizes s e' book w w' ms r → Expands sizes want s e' book w w' ms x (stepped_by r)
-  by_rule ruled.Step h = h
-  by_rule ruled.Free h = absurd h
-  by_rule (ruled.Halted o) h = h
+pub once_reports : (sizes : Sizes) (s : State) (e' : Engine) (book : Book) (w w' : World) (ms ns others : List Move) (r : Ruled) (n : Once) → ns ≡ ms → n ≡ once_by r → DoesOnward sizes s e' book w w' ms r → ExpandsOnce sizes s e' book w w' ns others n
+once_reports sizes s e' book w w' ms ns others r n moves is h =
+    subst (λ (l : List Move). ExpandsOnce sizes s e' book w w' l others n) (sym moves) (subst (λ (y : Once). ExpandsOnce sizes s e' book w w' ms others y) (sym is) (by_rule r h)) where
+      by_rule : (r : Ruled) → DoesOnward sizes s e' book w w' ms r → ExpandsOnce sizes s e' book w w' ms others (once_by r)
+      by_rule ruled.Step h = h
+      by_rule ruled.Free h = absurd h
+      by_rule (ruled.Halted o) h = h
 
 -- it stays
 pub expands_none : (sizes : Sizes) (want : Option Want) (e : Engine) (book : Book) (w : World) (x : Seen) → Takes sizes want e book → Stays want x → Expands sizes want (state_of e book) e book w w (onward_of (page_of e book) want book.work x) x (Unexpandable x)
 expands_none sizes want e book w x takes stays = (record { book' = book; still = λ none. refl; takes = takes; front = []; did = did_none sizes (state_of e book) w; whole = refl; count = refl }, stays)
 
 -- the reading of its expansion begins
-pub expansion_went : (sizes : Sizes) (e e' : Engine) (book : Book) (f : FilesTold) (s : SinkTold) (k : Kind) → refusal sizes (Begun k) (state_of e book) ≡ None → made (Begun k) (state_of e book) ≡ state_of e' (with_work (fresh k ∷ book.work) book) →
-    e'.in_line ≡ e.in_line → Stands sizes e' (with_work (fresh k ∷ book.work) book) → Went sizes (state_of e book) e' (world_of f s e) (world_of f s e') (Begun k ∷ []) 0
+pub expansion_went : (sizes : Sizes) (e e' : Engine) (book : Book) (f : FilesTold) (s : SinkTold) (k : Kind) → refusal sizes (Begun k) (state_of e book) ≡ None → made (Begun k) (state_of e book) ≡ state_of e' (with_work (opened k book.work) book) →
+    e'.in_line ≡ e.in_line → Stands sizes e' (with_work (opened k book.work) book) → Went sizes (state_of e book) e' (world_of f s e) (world_of f s e') (Begun k ∷ []) 0
 expansion_went sizes e e' book f s k fits is column st = record {
-  book' = with_work (fresh k ∷ book.work) book;
-  stands = all_of sizes e' (with_work (fresh k ∷ book.work) book) st;
+  book' = with_work (opened k book.work) book;
+  stands = all_of sizes e' (with_work (opened k book.work) book) st;
   did = did_one sizes (Begun k) _ _ _ _ fits is (quiet_wrote (Begun k) f s e.in_line e'.in_line tt column);
   count = refl;
 }
+
+-- WHERE IT IS WANTED
+
+module _ (sizes : Sizes) (want : Option Want) (e e' : Engine) (book : Book) (w w' : World) (x : Seen) (raw : enters_of want ≡ false) (n : Once) (which : changes n ≡ expands x.meaning) where
+  abbrev wanted_moves : List Move
+  wanted_moves = onward_of (page_of e book) want book.work x
+
+  pub went_expands : n ≡ once.Expanded → ExpandsOnce sizes (state_of e book) e' book w w' (expanded (page_of e book) x []) [] n → Expands sizes want (state_of e book) e' book w w' wanted_moves x More
+  went_expands is h =
+      went_by sizes (state_of e book) e' w w' (expanded (page_of e book) x []) wanted_moves 0 (onward_expands (page_of e book) want book.work x raw (sym which ∙ ap changes is))
+      (subst (ExpandsOnce sizes (state_of e book) e' book w w' (expanded (page_of e book) x []) []) is h)
+
+  pub over_expands : (o : Outcome) → n ≡ once.Over o → ExpandsOnce sizes (state_of e book) e' book w w' (expanded (page_of e book) x []) [] n → Expands sizes want (state_of e book) e' book w w' wanted_moves x (Over o)
+  over_expands o is h =
+      subst (λ (ms : List Move). Halts sizes (state_of e book) e' book w w' ms o 0) (sym (onward_expands (page_of e book) want book.work x raw (sym which ∙ ap changes is)))
+      (subst (ExpandsOnce sizes (state_of e book) e' book w w' (expanded (page_of e book) x []) []) is h)
+
+pub stayed : (n : Once) → n ≡ once.Stays → IsStayed n
+stayed n is = subst IsStayed (sym is) tt
+
+pub once_stays : (want : Option Want) (x : Seen) (n : Once) → n ≡ once.Stays → changes n ≡ expands x.meaning → Stays want x
+once_stays want x n is which = stays_by want x (sym which ∙ ap changes is)
+
+pub stays_expands : (sizes : Sizes) (want : Option Want) (e e' : Engine) (book : Book) (f : FilesTold) (s s' : SinkTold) (x : Seen) → e' ≡ e → s' ≡ s → Takes sizes want e book → Stays want x →
+    Expands sizes want (state_of e book) e' book (world_of f s e) (world_of f s' e') (onward_of (page_of e book) want book.work x) x (Unexpandable x)
+stays_expands sizes want e e' book f s s' x same silent takes stays =
+    subst (λ (y : SinkTold). Expands sizes want (state_of e book) e' book (world_of f s e) (world_of f y e') (onward_of (page_of e book) want book.work x) x (Unexpandable x)) (sym silent)
+    (subst (λ (y : Engine). Expands sizes want (state_of e book) y book (world_of f s e) (world_of f s y) (onward_of (page_of e book) want book.work x) x (Unexpandable x)) (sym same) (expands_none sizes want e book (world_of f s e) x takes stays))
 
 -- BEHIND A STEP
 
@@ -82,7 +205,7 @@ noted_steps b sizes want s e book w w' moves (Over o) h = noted_halts b sizes s 
 -- THE OPEN READINGS
 
 pub halted_readings : (e e1 e2 : Engine) → SameReadings e e1 → SameFrames e1 e2 → SameReadings e e2
-halted_readings e e1 e2 a b = record { outer = b.outer ∙ a.outer; top = b.top ∙ a.top; ask = b.ask ∙ a.ask; lists = b.lists ∙ a.lists; aside = b.aside ∙ a.aside; call = b.call ∙ a.call }
+halted_readings e e1 e2 a b = record { readings = b.readings ∙ a.readings; lists = b.lists ∙ a.lists; call = b.call ∙ a.call }
 
 pub kept_readings : (e e1 e2 : Engine) → SameReadings e e1 → e2 ≡ e1 → SameReadings e e2
 kept_readings e e1 e2 a is = subst (SameReadings e) (sym is) a

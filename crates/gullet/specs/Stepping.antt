@@ -1,5 +1,5 @@
 -- What one step of expansion comes to.
-use Rattle.std.specs.Prelude.{◌≡◌, ◌==◌, Bool, true, false, List, [], ◌∷◌, Option, Some}
+use Rattle.std.specs.Prelude.{◌≡◌, ◌≤◌, Bool, true, false, List, [], ◌∷◌, ◌++◌, Option, Some}
 use Rattle.tex_syntax.specs.declared.words.Report.TheVariants.{UndefinedName}
 use Rattle.tex_syntax.specs.declared.words.Want.{Want}
 use Rattle.tex_syntax.specs.declared.words.Want.TheVariants.{Raw}
@@ -8,44 +8,88 @@ use Rattle.tex_defs.specs.declared.Meaning.{Meaning}
 use Rattle.tex_defs.specs.declared.Meaning.TheVariants as means
 use Rattle.tex_defs.specs.declared.Seen.{Seen}
 use Rattle.tex_defs.specs.declared.Sizes.{Sizes}
-use Rattle.plain_tokens.specs.Names.{number_primitive}
-use Rattle.plain_state.specs.Readings.{own_lists}
-use Rattle.plain_state.specs.States.{State, Reading, Move, Begun}
-use Rattle.plain_machine.specs.Plan.{Page, reported, called}
-use Rattle.frames.specs.Sees.{kind_of}
+use Rattle.plain_readings.specs.Readings.{Kind}
+use Rattle.reading_frames.specs.Sees.{kind_of}
+use Rattle.reading_frames.specs.Weights.{begun_weight}
+use Rattle.plain_machine.specs.States.{State, Move, Begun, Closed}
+use Rattle.plain_machine.specs.Plan.{Page, reported, called, is_expandable_primitive, job_in, put_characters}
 use Rattle.engine_state.specs.declared.engine.Engine.{Engine}
 use Rattle.engine_state.specs.declared.outcome.Ruled.{Ruled}
 use Rattle.engine_state.specs.declared.outcome.Ruled.TheVariants as ruled
-use Rattle.engine_state.specs.Begins.{IsExpansion}
 use Rattle.engine_state.specs.Book.{Book}
-use Rattle.engine_state.specs.Rules.{onward_of, Comes, Went, Halts}
+use Rattle.engine_state.specs.Rules.{Comes, Went, Halts}
 use Rattle.gullet.specs.declared.expansion.Expansion.{Expansion}
 use Rattle.gullet.specs.declared.expansion.Expansion.TheVariants as by
+use Rattle.gullet.specs.declared.expansion.Once.{Once}
+use Rattle.gullet.specs.declared.expansion.Once.TheVariants as once
+use Rattle.gullet.specs.declared.expansion.Once.TheVariants.{Expanded}
 use Rattle.gullet.specs.declared.expansion.Stepped.{Stepped}
 use Rattle.gullet.specs.declared.expansion.Stepped.TheVariants.{More, Skipped, Unexpandable, Over}
 
--- a meaning that isn't expanded
-abbrev pub IsUnexpandable : {L : Type 0} → Meaning L → Type 0
-IsUnexpandable means.Undefined = ⊥
-IsUnexpandable (means.Macro long outer list) = ⊥
-IsUnexpandable (means.Prim number) = (number == number_primitive) ≡ false
-IsUnexpandable m = Unit {0}
+-- a meaning that is expanded
+abbrev pub expands : {L : Type 0} → Meaning L → Bool
+expands means.Undefined = true
+expands (means.Macro long outer list) = true
+expands (means.Prim number) = is_expandable_primitive number
+expands m = false
 
 -- a token stays where it is wanted as it stands, and where it can't be expanded
 abbrev pub Stays : Option Want → Seen → Type 0
 Stays (Some Raw) x = Unit {0}
-Stays want x = IsUnexpandable x.meaning
+Stays want x = expands x.meaning ≡ false
 
-abbrev pub ExpandsTo : Expansion → Page → Option Want → List Reading → Seen → Type 0
-ExpandsTo by.Undefined page want work x = onward_of page want work x ≡ reported page UndefinedName []
-ExpandsTo by.Call page want work x = onward_of page want work x ≡ called page x.token
-ExpandsTo (by.Begin k) page want work x = onward_of page want work x ≡ Begun (kind_of k) ∷ []
-ExpandsTo by.Unexpandable page want work x = Stays want x
+-- ONE EXPANSION
 
--- what begins is an expansion, and builds no list
-abbrev pub IsBare : Expansion → Type 0
-IsBare (by.Begin k) = IsExpansion (kind_of k) × (own_lists (kind_of k) ≡ [])
-IsBare e = Unit {0}
+-- `\jobname`: its reading begins, and ends at once behind the name that is put
+abbrev pub job_moves : Page → Kind → List Move
+job_moves page k = Begun k ∷ (put_characters (job_in page.strings) ++ Closed ∷ [])
+
+-- by which a token comes to these moves, one that isn't expanded to others
+abbrev pub ExpandsTo : Expansion → Page → (others moves : List Move) → Type 0
+ExpandsTo by.Undefined page others moves = moves ≡ reported page UndefinedName []
+ExpandsTo by.Unexpandable page others moves = moves ≡ others
+ExpandsTo (by.Call t) page others moves = moves ≡ called page t
+ExpandsTo (by.Begin o) page others moves = moves ≡ Begun (kind_of o) ∷ []
+ExpandsTo (by.JobName o) page others moves = moves ≡ job_moves page (kind_of o)
+
+-- what begins weighs little
+abbrev pub IsLight : Expansion → Type 0
+IsLight (by.Begin o) = begun_weight o ≤ 7
+IsLight e = Unit {0}
+
+abbrev pub is_expansion : Expansion → Bool
+is_expansion by.Unexpandable = false
+is_expansion e = true
+
+-- The moves are done, or the token stays and these others are left.
+abbrev pub ExpandsOnce : Sizes → State → Engine → Book → World → World → (moves others : List Move) → Once → Type 0
+ExpandsOnce sizes s e' book w w' moves others Expanded = Went sizes s e' w w' moves 0
+ExpandsOnce sizes s e' book w w' moves others once.Stays = moves ≡ others
+ExpandsOnce sizes s e' book w w' moves others (once.Over o) = Halts sizes s e' book w w' moves o 0
+
+abbrev pub changes : Once → Bool
+changes once.Stays = false
+changes n = true
+
+abbrev pub IsExpanded : Once → Type 0
+IsExpanded Expanded = Unit {0}
+IsExpanded n = ⊥
+
+abbrev pub IsStayed : Once → Type 0
+IsStayed once.Stays = Unit {0}
+IsStayed n = ⊥
+
+abbrev pub EndsRun : Once → Type 0
+EndsRun (once.Over o) = Unit {0}
+EndsRun n = ⊥
+
+-- a report behind which the token has gone
+abbrev pub once_by : Ruled → Once
+once_by ruled.Step = Expanded
+once_by ruled.Free = Expanded
+once_by (ruled.Halted o) = once.Over o
+
+-- A STEP
 
 -- a token that was handed on: where it stays nothing was done
 abbrev pub Expands : Sizes → Option Want → State → Engine → Book → World → World → List Move → Seen → Stepped → Type 0
@@ -86,9 +130,3 @@ StepStepsIf More b = b ≡ true
 StepStepsIf Skipped b = b ≡ false
 StepStepsIf (Unexpandable x) b = b ≡ true
 StepStepsIf (Over o) b = Unit {0}
-
--- a rule behind which the token has gone
-abbrev pub stepped_by : Ruled → Stepped
-stepped_by ruled.Step = More
-stepped_by ruled.Free = More
-stepped_by (ruled.Halted o) = Over o

@@ -1,12 +1,14 @@
 // The name of a macro is expanded.
-ghost use Rattle.std.specs.Prelude.{◌≡◌, ℕ, Bool, Some, None, IfErr, OnOk, OnErr};
+ghost use Rattle.std.specs.Prelude.{◌≡◌, ◌≤◌, ◌+◌, ◌*◌, ℕ, length, Bool, Some, None, IfErr, OnOk, OnErr};
 ghost use Rattle.tex_defs.specs.declared.Sizes.{Sizes};
 ghost use Rattle.tex_defs.specs.declared.Meaning.TheVariants.{Macro};
 ghost use Rattle.tex_defs.specs.Places.{World};
 ghost use Rattle.plain_tokens.specs.Meanings.{name_meaning};
-ghost use Rattle.plain_state.specs.Readings.{Arguments};
-ghost use Rattle.plain_state.specs.States.{Begun};
-ghost use Rattle.plain_state.specs.Demands.{refusal};
+ghost use Rattle.plain_readings.specs.Readings.{Arguments};
+ghost use Rattle.plain_readings.specs.Weights.{frame_weight, act_weight};
+ghost use Rattle.reading_frames.specs.Weights.{innermost_weight};
+ghost use Rattle.plain_machine.specs.States.{Begun};
+ghost use Rattle.plain_machine.specs.Demands.{refusal};
 ghost use Rattle.plain_machine.specs.Plan.{called};
 ghost use Rattle.macro_call.specs.Modes.{mode_of};
 ghost use Rattle.macro_call.specs.PlainScans.{first_scan};
@@ -16,9 +18,10 @@ ghost use Rattle.input_state.specs.Callings as calls;
 ghost use Rattle.input_state.specs.Calls.{call_kind, text_of};
 ghost use Rattle.input_state.specs.Stored.{KeepsMacros};
 ghost use Rattle.engine_state.specs.Book.{Book};
-ghost use Rattle.engine_state.specs.Calls.{WantsToken, open_call};
+ghost use Rattle.engine_state.specs.Calls.{open_call};
 ghost use Rattle.engine_state.specs.Stands.{Stands, Counts, SameFrames, state_of, page_of};
 ghost use Rattle.engine_state.specs.Rules.{Cuts, Went};
+ghost use Rattle.engine_state.specs.Steps.{weight, pending_weight};
 ghost use Rattle.engine_state.specs.declared.broken.Broken.TheVariants as broken;
 
 use engine_state::{Call, CallAsk, Engine, name_of};
@@ -32,13 +35,14 @@ use tex_defs::{Full, Meaning, Name, Seen, Token};
 /// There is no room for the level, for one more reading or for the first argument's list; the finished lists in front
 /// have gone where a level was asked for.
 pub(crate) fn call_name(engine: &mut Engine, token: Token) -> Result<(), Full>
-    ensures ok { OnOk result ((sizes : Sizes) (w : World) (book : Book) → Stands sizes engine.old book → WantsToken engine.old.top engine.old.ask →
+    ensures ok { OnOk result ((sizes : Sizes) (w : World) (book : Book) → Stands sizes engine.old book →
         Went sizes (state_of engine.old book) engine.new w w (called (page_of engine.old book) token) 0) }
-    ensures err { IfErr result (λ full. (sizes : Sizes) (w : World) (book : Book) → Stands sizes engine.old book → WantsToken engine.old.top engine.old.ask →
+    ensures err { IfErr result (λ full. (sizes : Sizes) (w : World) (book : Book) → Stands sizes engine.old book →
         Cuts sizes (state_of engine.old book) engine.new book w w (called (page_of engine.old book) token) (broken.Full full)) }
     ensures frames { OnErr result (SameFrames engine.old engine.new) }
     ensures column { engine.new.in_line ≡ engine.old.in_line }
     ensures idle { engine.new.input.making ≡ engine.old.input.making }
+    ensures light { OnOk result (engine.old.call ≡ None → innermost_weight engine.old.readings.frames ≤ act_weight → weight engine.new ≤ frame_weight * length engine.old.readings.frames + act_weight + pending_weight engine.old.input.pending) }
 {
     if engine.input.is_calling() {
         return Ok(());

@@ -1,23 +1,28 @@
 // A token is expanded where it can be.
 // *The TeXbook*, chapter 20; *TeX: The Program*, part 25 (`get_x_token`, `expand`).
-ghost use Rattle.std.specs.Prelude.{◌≡◌, ◌<◌, IfOk, IfErr, OnOk, MatchResult, List, None, false, true};
+ghost use Rattle.std.specs.Prelude.{◌≡◌, ◌<◌, ◌≤◌, ◌+◌, ◌*◌, length, not, IfOk, IfErr, OnOk, MatchResult, List, None, false, true};
 ghost use Rattle.tex_defs.specs.declared.Sizes.{Sizes};
+ghost use Rattle.tex_defs.specs.Places.{World};
 ghost use Rattle.plain_tokens.specs.Pending.{pulled};
-ghost use Rattle.plain_state.specs.States.{Reading};
-ghost use Rattle.plain_machine.specs.Plan.{Page};
+ghost use Rattle.plain_readings.specs.Weights.{frame_weight, act_weight};
+ghost use Rattle.reading_frames.specs.Sees.{kind_of};
+ghost use Rattle.reading_frames.specs.Weights.{innermost_weight, begun_weight};
+ghost use Rattle.plain_machine.specs.States.{Move};
+ghost use Rattle.plain_machine.specs.Plan.{Page, call_of as plain_call, expanded, expansion as plain_expansion, is_expandable_primitive};
 ghost use Rattle.world_io.specs.Told.{FilesTold};
 ghost use Rattle.input_state.specs.Reads.{gives_step};
 ghost use Rattle.engine_state.specs.Book.{Book};
 ghost use Rattle.engine_state.specs.Near.{CutsIn};
-ghost use Rattle.engine_state.specs.Stands.{SameFrames, state_of, page_of};
-ghost use Rattle.engine_state.specs.Rules.{world_of, onward_of, enters_of, Takes, SameReadings, next_moves};
-ghost use Rattle.engine_state.specs.Steps.{weight};
-ghost use Rattle.gullet.specs.Stepping.{IsBare, ExpandsTo, Expands, Steps, StepStepsIf, IsSkipped, IsKept, IsOver, ends_run, stepped_by};
+ghost use Rattle.engine_state.specs.Stands.{Stands, SameFrames, SameReadings, state_of, page_of};
+ghost use Rattle.engine_state.specs.Rules.{world_of, onward_of, enters_of, Takes, Went, next_moves};
+ghost use Rattle.engine_state.specs.Steps.{weight, pending_weight};
+ghost use Rattle.gullet.specs.Stepping.{IsLight, ExpandsTo, is_expansion, expands, job_moves, ExpandsOnce, IsExpanded, IsStayed, EndsRun, changes, once_by, Expands, Steps, StepStepsIf, IsSkipped, IsKept, IsOver, ends_run};
 
 use crate::call_name::call_name;
-use engine_state::{Broken, Engine, Next, Ruled};
-use frames::{Kind, NUMBER};
-use tex_defs::{Meaning, Seen};
+use engine_state::{Broken, Engine, Next, Ruled, name_of};
+use reading_frames::Opening;
+use rows::{Call, Kind};
+use tex_defs::{Meaning, Seen, Token};
 use tex_syntax::{Outcome, Report, Want};
 use world_io::Sink;
 
@@ -34,18 +39,37 @@ pub enum Stepped {
     Over(Outcome),
 }
 
+/// What came of expanding a token once.
+#[derive(Clone, Copy)]
+pub enum Once {
+    /// It was expanded.
+    Expanded,
+    /// It can't be, and nothing has changed.
+    Stays,
+    /// The run has ended.
+    Over(Outcome),
+}
+
 /// What becomes of a token by expansion.
 #[derive(Clone, Copy)]
 enum Expansion {
     /// It is reported as undefined, and goes.
     Undefined,
-    /// The macro of its name is called.
-    Call,
-    /// The reading of its expansion begins, which builds no list.
-    Begin(Kind),
+    /// The macro of the token's name is called.
+    Call(Token),
+    /// The reading of its expansion begins.
+    Begin(Opening),
+    /// This reading begins, the job's name is put, and the reading ends.
+    JobName(Opening),
     /// It stays.
     Unexpandable,
 }
+
+/// The number of `\csname`.
+const CSNAME: u16 = 56;
+
+/// The number of `\jobname`.
+const JOBNAME: u16 = 61;
 
 /// Whether the reading that wants a token enters names: a raw one.
 fn enters_names(want: Option<Want>) -> bool
@@ -54,23 +78,126 @@ fn enters_names(want: Option<Want>) -> bool
     matches!(want, Some(Want::Raw))
 }
 
-/// What becomes of a token by expansion, where it is wanted.
-fn expansion_of(want: Option<Want>, seen: Seen) -> Expansion
-    ensures to { (page : Page) (work : List Reading) → ExpandsTo result page want work seen }
-    ensures bare { IsBare result }
+/// Whether it is a primitive that is expanded, or a conditional.
+fn is_expandable(number: u16) -> bool
+    ensures { result ≡ is_expandable_primitive number }
 {
-    if enters_names(want) {
-        return Expansion::Unexpandable;
+    (54..=84).contains(&number)
+}
+
+/// The command that a token means, a primitive, without prefixes.
+pub fn call_of(token: Token, number: u16) -> Call
+    ensures { result ≡ plain_call token number }
+{
+    Call {
+        primitive: number,
+        name: name_of(token),
+        long: false,
+        outer: false,
+        global: false,
     }
+}
+
+/// How a primitive is expanded.
+fn primitive_expansion(token: Token, number: u16) -> Expansion
+    ensures to { (page : Page) (moves : List Move) → ExpandsTo result page moves (plain_expansion page token number) }
+    ensures light { IsLight result }
+    ensures which { is_expansion result ≡ true }
+{
+    let call = call_of(token, number);
+    match number {
+        CSNAME => Expansion::Begin(Opening::Spelling(call)),
+        JOBNAME => Expansion::JobName(Opening::Reads(Kind::Command(call))),
+        _ => Expansion::Begin(Opening::Reads(Kind::Command(call))),
+    }
+}
+
+/// What becomes of a token by expansion.
+fn expansion_of(seen: Seen) -> Expansion
+    ensures to { (page : Page) (moves : List Move) → ExpandsTo result page moves (expanded page seen moves) }
+    ensures light { IsLight result }
+    ensures which { is_expansion result ≡ expands seen.meaning }
+{
     match seen.meaning {
         Meaning::Undefined => Expansion::Undefined,
-        Meaning::Macro { .. } => Expansion::Call,
-        Meaning::Prim(NUMBER) => Expansion::Begin(Kind::Number),
+        Meaning::Macro { .. } => Expansion::Call(seen.token),
+        Meaning::Prim(number) if is_expandable(number) => primitive_expansion(seen.token, number),
         _ => Expansion::Unexpandable,
     }
 }
 
-/// A token that was handed on is expanded, if it can be.
+/// The reading of `\\jobname` begins, the job's name is put, and the reading ends.
+///
+/// # Errors
+/// There is no room for the reading or for the name: the engine stands for the moment before.
+fn put_job(engine: &mut Engine, opening: Opening) -> Result<(), Broken>
+    requires idle { engine.old.input.making ≡ None }
+    ensures rule { OnOk result ((sizes : Sizes) (w : World) (book : Book) → Stands sizes engine.old book →
+        Went sizes (state_of engine.old book) engine.new w w (job_moves (page_of engine.old book) (kind_of opening)) 0) }
+    ensures err { IfErr result (λ b. (sizes : Sizes) (w : World) (book : Book) → Stands sizes engine.old book →
+        CutsIn sizes (state_of engine.old book) engine.new w w (job_moves (page_of engine.old book) (kind_of opening)) b) }
+    ensures frames { OnOk result (engine.new.readings.frames ≡ engine.old.readings.frames) }
+    ensures call { OnOk result (engine.new.call ≡ engine.old.call) }
+    ensures pending { OnOk result (pending_weight engine.new.input.pending ≡ pending_weight engine.old.input.pending) }
+    ensures column { engine.new.in_line ≡ engine.old.in_line }
+    ensures idle { OnOk result (engine.new.input.making ≡ None) }
+{
+    engine.begin(opening)?;
+    engine.put_job_name()?;
+    engine.close_reading();
+    Ok(())
+}
+
+/// A token is expanded once, if it can be; no call gathers its arguments.
+///
+/// # Errors
+/// There is no room for what comes, or a write failed: the engine stands for the moment before.
+pub fn expand_once<S: Sink>(engine: &mut Engine, out: &mut S, seen: Seen) -> Result<Once, Broken>
+    requires idle { engine.old.input.making ≡ None }
+    requires uncalled { engine.old.call ≡ None }
+    ensures rule { IfOk result (λ once. (sizes : Sizes) (f : FilesTold) (book : Book) (moves : List Move) → Stands sizes engine.old book →
+        ExpandsOnce sizes (state_of engine.old book) engine.new book (world_of f (S.told out.old) engine.old) (world_of f (S.told out.new) engine.new) (expanded (page_of engine.old book) seen moves) moves once) }
+    ensures err { IfErr result (λ b. (sizes : Sizes) (f : FilesTold) (book : Book) (moves : List Move) → Stands sizes engine.old book →
+        CutsIn sizes (state_of engine.old book) engine.new (world_of f (S.told out.old) engine.old) (world_of f (S.told out.new) engine.new) (expanded (page_of engine.old book) seen moves) b) }
+    ensures which { MatchResult result (λ once. changes once ≡ expands seen.meaning) (λ _. expands seen.meaning ≡ true) }
+    ensures halts { IfOk result (λ once. EndsRun once → SameFrames engine.old engine.new) }
+    ensures stays { IfOk result (λ once. IsStayed once → engine.new ≡ engine.old) }
+    ensures silent { IfOk result (λ once. IsStayed once → S.told out.new ≡ S.told out.old) }
+    ensures light { IfOk result (λ once. IsExpanded once → innermost_weight engine.old.readings.frames ≤ act_weight → weight engine.new ≤ frame_weight * length engine.old.readings.frames + act_weight + pending_weight engine.old.input.pending) }
+    ensures idle { OnOk result (engine.new.input.making ≡ None) }
+{
+    match expansion_of(seen) {
+        Expansion::Undefined => {
+            let ruled = engine.report_only(out, Report::UndefinedName)?;
+            Ok(once_behind(ruled))
+        }
+        Expansion::Call(token) => {
+            call_name(engine, token)?;
+            Ok(Once::Expanded)
+        }
+        Expansion::Begin(opening) => {
+            engine.begin(opening)?;
+            Ok(Once::Expanded)
+        }
+        Expansion::JobName(opening) => {
+            put_job(engine, opening)?;
+            Ok(Once::Expanded)
+        }
+        Expansion::Unexpandable => Ok(Once::Stays),
+    }
+}
+
+/// A report behind which the token has gone.
+fn once_behind(ruled: Ruled) -> Once
+    ensures { result ≡ once_by ruled }
+{
+    match ruled {
+        Ruled::Halted(outcome) => Once::Over(outcome),
+        _ => Once::Expanded,
+    }
+}
+
+/// A token that was handed on is expanded, if it can be and isn't wanted as it stands.
 fn expand<S: Sink>(
     engine: &mut Engine,
     out: &mut S,
@@ -88,30 +215,13 @@ fn expand<S: Sink>(
     ensures stays { IfOk result (λ stepped. IsKept stepped → engine.new ≡ engine.old) }
     ensures idle { OnOk result (engine.new.input.making ≡ None) }
 {
-    match expansion_of(want, seen) {
-        Expansion::Undefined => {
-            let ruled = engine.report_only(out, Report::UndefinedName)?;
-            Ok(more(ruled))
-        }
-        Expansion::Call => {
-            call_name(engine, seen.token)?;
-            Ok(Stepped::More)
-        }
-        Expansion::Begin(kind) => {
-            engine.begin_expansion(kind)?;
-            Ok(Stepped::More)
-        }
-        Expansion::Unexpandable => Ok(Stepped::Unexpandable(seen)),
+    if enters_names(want) {
+        return Ok(Stepped::Unexpandable(seen));
     }
-}
-
-/// A rule behind which the token has gone.
-fn more(ruled: Ruled) -> Stepped
-    ensures { result ≡ stepped_by ruled }
-{
-    match ruled {
-        Ruled::Halted(outcome) => Stepped::Over(outcome),
-        _ => Stepped::More,
+    match expand_once(engine, out, seen)? {
+        Once::Expanded => Ok(Stepped::More),
+        Once::Stays => Ok(Stepped::Unexpandable(seen)),
+        Once::Over(outcome) => Ok(Stepped::Over(outcome)),
     }
 }
 

@@ -1,12 +1,12 @@
 // A call of a macro is fed with a token.
-ghost use Rattle.std.specs.Prelude.{◌≡◌, ◌+◌, ◌≤◌, List, [], ◌∷◌, Some, IfOk, IfErr, OnOk, OnErr, length};
+ghost use Rattle.std.specs.Prelude.{◌≡◌, ◌+◌, ◌≤◌, List, [], ◌∷◌, Some, None, IfOk, IfErr, OnOk, OnErr, length};
 ghost use Rattle.tex_defs.specs.Places.{World};
 ghost use Rattle.tex_defs.specs.declared.Sizes.{Sizes};
-ghost use Rattle.plain_state.specs.States.{Reading};
+ghost use Rattle.plain_readings.specs.Readings.{Reading};
 ghost use Rattle.plain_tokens.specs.Tables.{memory, refused};
 ghost use Rattle.plain_machine.specs.Plan.{feeding};
 ghost use Rattle.input_state.specs.Calls.{text_of};
-ghost use Rattle.input_state.specs.CallFeeds.{IsTaking, Feeds, CutShort, growth};
+ghost use Rattle.input_state.specs.CallFeeds.{IsTaking, Feeds, CutShort, call_work, growth};
 ghost use Rattle.input_state.specs.Stored.{KeepsMacros, words};
 ghost use Rattle.engine_state.specs.Book.{Book, with_work};
 ghost use Rattle.gullet.specs.CallAsks.{ask_behind};
@@ -35,40 +35,46 @@ pub(crate) fn feed_call(engine: &mut Engine, call: Call, seen: Seen) -> Result<(
     if !engine.input.is_taking() {
         return Ok(());
     }
-    let told = take_token(engine, seen.token)?;
+    let told = take_token(engine, seen)?;
     engine.call = Some(Call {
         name: call.name,
-        ask: told_ask(told, seen),
+        ask: told_ask(told),
     });
     Ok(())
 }
 
 /// The call of the input takes a token.
-fn take_token(engine: &mut Engine, token: Token) -> Result<CallTold, Full>
+fn take_token(engine: &mut Engine, seen: Seen) -> Result<CallTold, Full>
     requires { IsTaking engine.old.input.call }
-    ensures ok { IfOk result (λ told. Feeds (text_of engine.old.input.lists engine.old.input.meanings) token told engine.old.input.call engine.new.input.call) }
-    ensures fits { OnOk result (words engine.old.input + length (growth (text_of engine.old.input.lists engine.old.input.meanings) token engine.old.input.call) ≤ engine.old.input.sizes.main_memory_size) }
-    ensures err { OnErr result (CutShort (text_of engine.old.input.lists engine.old.input.meanings) token engine.old.input.call engine.new.input.call) }
+    ensures ok { IfOk result (λ told. Feeds (text_of engine.old.input.lists engine.old.input.meanings) seen.token told engine.old.input.call engine.new.input.call) }
+    ensures fits { OnOk result (words engine.old.input + length (growth (text_of engine.old.input.lists engine.old.input.meanings) seen.token engine.old.input.call) ≤ engine.old.input.sizes.main_memory_size) }
+    ensures err { OnErr result (CutShort (text_of engine.old.input.lists engine.old.input.meanings) seen.token engine.old.input.call engine.new.input.call) }
     ensures full { IfErr result (λ full. refused engine.new.input.sizes (memory 1 (words engine.new.input) ∷ []) ≡ Some full) }
     ensures within { words engine.new.input ≤ engine.new.input.sizes.main_memory_size }
-    ensures others { engine.new ≡ record engine.old { input = record engine.old.input { call = engine.new.input.call; lists = engine.new.input.lists } } }
+    ensures last { OnOk result (engine.new.last ≡ seen) }
+    ensures fed { OnErr result (call_work engine.new.input.call ≡ None → engine.new.last ≡ seen) }
+    ensures unfed { OnErr result ((work : List Token) → call_work engine.new.input.call ≡ Some work → engine.new.last ≡ engine.old.last) }
+    ensures others { engine.new ≡ record engine.old { last = engine.new.last; input = record engine.old.input { call = engine.new.input.call; lists = engine.new.input.lists } } }
     ensures macros { KeepsMacros engine.old.input engine.new.input }
 {
-    let told = engine.input.feed_call(token);
+    let told = engine.input.feed_call(seen.token);
+    if told.is_ok() || engine.input.call_list().is_none() {
+        engine.last = seen;
+    }
     // What is used of the main memory is at most its size.
     let _used = engine.input.words();
     told
 }
 
 /// What the call asks for behind a token of which it is told this.
-fn told_ask(told: CallTold, seen: Seen) -> CallAsk
-    ensures { result ≡ ask_behind told seen }
+fn told_ask(told: CallTold) -> CallAsk
+    ensures { result ≡ ask_behind told }
 {
     match told {
         CallTold::More => CallAsk::More,
-        CallTold::ExtraBrace => CallAsk::ExtraBrace(seen),
+        CallTold::ExtraBrace => CallAsk::ExtraBrace,
         CallTold::Gathered => CallAsk::Gathered,
         CallTold::Mismatch => CallAsk::Mismatch,
-        CallTold::ParEnded(silent) => CallAsk::ParEnded(if silent { None } else { Some(seen) }),
+        CallTold::ParEnded(silent) => CallAsk::ParEnded(silent),
     }
 }

@@ -3,8 +3,10 @@ ghost use Rattle.std.specs.Prelude.{◌≡◌, ◌++◌, ◌∷◌, ◌<◌, [],
 ghost use Rattle.tex_syntax.specs.declared.words.Report.TheVariants.{ParagraphEnded, ExtraBrace};
 ghost use Rattle.tex_syntax.specs.declared.words.Want.TheVariants.{Raw};
 ghost use Rattle.tex_defs.specs.declared.Sizes.{Sizes};
-ghost use Rattle.plain_state.specs.Readings.{par_token};
-ghost use Rattle.plain_state.specs.States.{Reading, Noted};
+ghost use Rattle.plain_readings.specs.Calls.{par_token};
+ghost use Rattle.rows.specs.Readings.{Told};
+ghost use Rattle.plain_readings.specs.Readings.{Reading};
+ghost use Rattle.plain_machine.specs.States.{Feeds};
 ghost use Rattle.plain_machine.specs.Plan.{failed, put_one, reported};
 ghost use Rattle.world_io.specs.Told.{FilesTold};
 ghost use Rattle.macro_call.specs.PlainScans.{settled_scan};
@@ -21,13 +23,13 @@ ghost use Rattle.engine_state.specs.Rules.{world_of, next_moves, Takes, Cuts, Do
 ghost use Rattle.engine_state.specs.declared.call.CallAsk.TheVariants.{More as AsksMore};
 ghost use Rattle.input_state.specs.Reads.{gives_step};
 ghost use Rattle.plain_tokens.specs.Pending.{pulled};
-ghost use Rattle.engine_state.specs.Steps.{stepping, stops_run, IsStep, IsFree, IsHalted, StepsIf, weight};
+ghost use Rattle.engine_state.specs.Steps.{stepping, call_asks_more, stops_run, IsStep, IsFree, IsHalted, StepsIf, weight};
 ghost use Rattle.engine_state.specs.Turns.{DoesPlan, CutsPlan};
 ghost use Rattle.engine_state.specs.declared.call.Call.{Call};
 
 use crate::feeding::feed_call;
 use engine_state::{Broken, Call, CallAsk, Engine, Next, PAR, Ruled, stops};
-use tex_defs::{Fatal, Full, Name, Seen};
+use tex_defs::{Fatal, Full, Name};
 use tex_syntax::{Outcome, Report};
 use world_io::Sink;
 
@@ -66,19 +68,17 @@ fn call_rule<S: Sink>(engine: &mut Engine, out: &mut S, call: Call) -> Result<Ru
 {
     match call.ask {
         CallAsk::More => take(engine, out, call),
-        CallAsk::ExtraBrace(seen) => settle_brace(engine, out, call.name, seen),
+        CallAsk::ExtraBrace => settle_brace(engine, out, call.name),
         CallAsk::Gathered => {
             put_call(engine)?;
             Ok(Ruled::Free)
         }
         CallAsk::Mismatch => fail_call(engine, out, Report::UseMismatch(call.name)),
-        CallAsk::ParEnded(last) => match last {
-            Some(seen) => run_away_call(engine, out, call.name, seen),
-            None => {
-                close_call(engine);
-                Ok(Ruled::Free)
-            }
-        },
+        CallAsk::ParEnded(false) => run_away_call(engine, out, call.name),
+        CallAsk::ParEnded(true) => {
+            close_call(engine);
+            Ok(Ruled::Free)
+        }
     }
 }
 
@@ -112,7 +112,7 @@ fn take<S: Sink>(engine: &mut Engine, out: &mut S, call: Call) -> Result<Ruled, 
 fn put_call(engine: &mut Engine) -> Result<(), Full>
     ensures ok { OnOk result (IsComplete engine.old.input.call → engine.new ≡ record engine.old { call = None; input = record engine.old.input { pending = after_call (put_of engine.old.input.lists engine.old.input.meanings engine.old.input.call) engine.old.input.pending; call = NotCalling; lists = engine.new.input.lists } }) }
     ensures fits { OnOk result (IsComplete engine.old.input.call → put_refusal (put_of engine.old.input.lists engine.old.input.meanings engine.old.input.call) engine.old.input ≡ None) }
-    ensures light { OnOk result ((call : Call) → engine.old.call ≡ Some call → weight engine.new < weight engine.old) }
+    ensures light { OnOk result ((call : Call) → engine.old.call ≡ Some call → call_asks_more call.ask ≡ false → weight engine.new < weight engine.old) }
     ensures refused { IfErr result (λ full. put_refusal (put_of engine.old.input.lists engine.old.input.meanings engine.old.input.call) engine.old.input ≡ Some full) }
     ensures err { OnErr result (engine.new ≡ record engine.old { input = record engine.old.input { pending = settle engine.old.input.pending; lists = engine.new.input.lists } }) }
     ensures macros { KeepsMacros engine.old.input engine.new.input }
@@ -134,7 +134,7 @@ fn fail_call<S: Sink>(engine: &mut Engine, out: &mut S, report: Report) -> Resul
     ensures err { IfErr result (λ b. (sizes : Sizes) (f : FilesTold) (book : Book) (r : Reading) (rs : List Reading) → AllStand sizes engine.old (with_work (r ∷ rs) book) →
         Cuts sizes (state_of engine.old (with_work (r ∷ rs) book)) engine.new (with_work (r ∷ rs) book) (world_of f (S.told out.old) engine.old) (world_of f (S.told out.new) engine.new) (failed (page_of engine.old book) report) b) }
     ensures step { IfOk result (λ ruled. IsStep ruled → ⊥) }
-    ensures light { IfOk result (λ ruled. IsFree ruled → (call : Call) → engine.old.call ≡ Some call → weight engine.new < weight engine.old) }
+    ensures light { IfOk result (λ ruled. IsFree ruled → (call : Call) → engine.old.call ≡ Some call → call_asks_more call.ask ≡ false → weight engine.new < weight engine.old) }
     ensures frames { OnErr result (SameFrames engine.old engine.new) }
     ensures halts { IfOk result (λ ruled. IsHalted ruled → SameFrames engine.old engine.new) }
     ensures idle { OnOk result (engine.new.input.making ≡ None) }
@@ -147,47 +147,38 @@ fn fail_call<S: Sink>(engine: &mut Engine, out: &mut S, report: Report) -> Resul
 }
 
 /// A paragraph ended the call: the argument runs away, the token is put back, and the call reports and ends.
-fn run_away_call<S: Sink>(
-    engine: &mut Engine,
-    out: &mut S,
-    name: Name,
-    seen: Seen,
-) -> Result<Ruled, Broken>
+fn run_away_call<S: Sink>(engine: &mut Engine, out: &mut S, name: Name) -> Result<Ruled, Broken>
     requires idle { engine.old.input.making ≡ None }
     ensures rule { IfOk result (λ ruled. (sizes : Sizes) (f : FilesTold) (book : Book) (r : Reading) (rs : List Reading) (call : Call) → engine.old.call ≡ Some call → AllStand sizes engine.old (with_work (r ∷ rs) book) →
-        DoesRule sizes (state_of engine.old (with_work (r ∷ rs) book)) engine.new (with_work (r ∷ rs) book) (world_of f (S.told out.old) engine.old) (world_of f (S.told out.new) engine.new) (call_away_moves (page_of engine.old book) (argument_bytes engine.old) seen.token (ParagraphEnded name)) ruled) }
+        DoesRule sizes (state_of engine.old (with_work (r ∷ rs) book)) engine.new (with_work (r ∷ rs) book) (world_of f (S.told out.old) engine.old) (world_of f (S.told out.new) engine.new) (call_away_moves (page_of engine.old book) (argument_bytes engine.old) engine.old.last.token (ParagraphEnded name)) ruled) }
     ensures err { IfErr result (λ b. (sizes : Sizes) (f : FilesTold) (book : Book) (r : Reading) (rs : List Reading) → AllStand sizes engine.old (with_work (r ∷ rs) book) →
-        Cuts sizes (state_of engine.old (with_work (r ∷ rs) book)) engine.new (with_work (r ∷ rs) book) (world_of f (S.told out.old) engine.old) (world_of f (S.told out.new) engine.new) (call_away_moves (page_of engine.old book) (argument_bytes engine.old) seen.token (ParagraphEnded name)) b) }
+        Cuts sizes (state_of engine.old (with_work (r ∷ rs) book)) engine.new (with_work (r ∷ rs) book) (world_of f (S.told out.old) engine.old) (world_of f (S.told out.new) engine.new) (call_away_moves (page_of engine.old book) (argument_bytes engine.old) engine.old.last.token (ParagraphEnded name)) b) }
     ensures step { IfOk result (λ ruled. IsStep ruled → ⊥) }
-    ensures light { IfOk result (λ ruled. IsFree ruled → (call : Call) → engine.old.call ≡ Some call → weight engine.new < weight engine.old) }
+    ensures light { IfOk result (λ ruled. IsFree ruled → (call : Call) → engine.old.call ≡ Some call → call_asks_more call.ask ≡ false → weight engine.new < weight engine.old) }
     ensures frames { OnErr result (SameFrames engine.old engine.new) }
     ensures halts { IfOk result (λ ruled. IsHalted ruled → SameFrames engine.old engine.new) }
     ensures idle { OnOk result (engine.new.input.making ≡ None) }
 {
+    let token = engine.last.token;
     engine.write_argument(out)?;
-    engine.put_one(seen.token)?;
+    engine.put_one(token)?;
     fail_call(engine, out, Report::ParagraphEnded(name))
 }
 
 /// An extra right brace is put back, and `\par` inserted; the call reports, and goes on.
-fn settle_brace<S: Sink>(
-    engine: &mut Engine,
-    out: &mut S,
-    name: Name,
-    seen: Seen,
-) -> Result<Ruled, Broken>
+fn settle_brace<S: Sink>(engine: &mut Engine, out: &mut S, name: Name) -> Result<Ruled, Broken>
     requires idle { engine.old.input.making ≡ None }
-    ensures rule { IfOk result (λ ruled. (sizes : Sizes) (f : FilesTold) (book : Book) (r : Reading) (rs : List Reading) → engine.old.call ≡ Some (brace_call name seen) → AllStand sizes engine.old (with_work (r ∷ rs) book) →
-        DoesRule sizes (state_of engine.old (with_work (r ∷ rs) book)) engine.new (with_work (r ∷ rs) book) (world_of f (S.told out.old) engine.old) (world_of f (S.told out.new) engine.new) (put_one seen.token ++ (put_one par_token ++ reported (page_of engine.old book) (ExtraBrace name) (Noted ∷ []))) ruled) }
+    ensures rule { IfOk result (λ ruled. (sizes : Sizes) (f : FilesTold) (book : Book) (r : Reading) (rs : List Reading) → engine.old.call ≡ Some (brace_call name) → AllStand sizes engine.old (with_work (r ∷ rs) book) →
+        DoesRule sizes (state_of engine.old (with_work (r ∷ rs) book)) engine.new (with_work (r ∷ rs) book) (world_of f (S.told out.old) engine.old) (world_of f (S.told out.new) engine.new) (put_one engine.old.last.token ++ (put_one par_token ++ reported (page_of engine.old book) (ExtraBrace name) (Feeds Told ∷ []))) ruled) }
     ensures err { IfErr result (λ b. (sizes : Sizes) (f : FilesTold) (book : Book) (r : Reading) (rs : List Reading) → AllStand sizes engine.old (with_work (r ∷ rs) book) →
-        Cuts sizes (state_of engine.old (with_work (r ∷ rs) book)) engine.new (with_work (r ∷ rs) book) (world_of f (S.told out.old) engine.old) (world_of f (S.told out.new) engine.new) (put_one seen.token ++ (put_one par_token ++ reported (page_of engine.old book) (ExtraBrace name) (Noted ∷ []))) b) }
+        Cuts sizes (state_of engine.old (with_work (r ∷ rs) book)) engine.new (with_work (r ∷ rs) book) (world_of f (S.told out.old) engine.old) (world_of f (S.told out.new) engine.new) (put_one engine.old.last.token ++ (put_one par_token ++ reported (page_of engine.old book) (ExtraBrace name) (Feeds Told ∷ []))) b) }
     ensures step { IfOk result (λ ruled. IsStep ruled → ⊥) }
-    ensures light { IfOk result (λ ruled. IsFree ruled → engine.old.call ≡ Some (brace_call name seen) → weight engine.new < weight engine.old) }
+    ensures light { IfOk result (λ ruled. IsFree ruled → engine.old.call ≡ Some (brace_call name) → weight engine.new < weight engine.old) }
     ensures frames { OnErr result (SameFrames engine.old engine.new) }
     ensures halts { IfOk result (λ ruled. IsHalted ruled → SameFrames engine.old engine.new) }
     ensures idle { OnOk result (engine.new.input.making ≡ None) }
 {
-    engine.put_one(seen.token)?;
+    engine.put_one(engine.last.token)?;
     engine.put_one(PAR)?;
     if !engine.report(out, Report::ExtraBrace(name))? {
         return Ok(Ruled::Halted(Outcome::AtFatal(Fatal::HundredErrors)));

@@ -1,7 +1,6 @@
-//! Expansion: the next token, expanded where it can be, and the calls of macros that gather their arguments.
+//! The gullet: what becomes of a token that is expanded, and the calls of macros that gather their arguments.
 //!
-//! [`step`] takes at most one step and gives the token where it can't be expanded; [`gather`] is the rule of a call.
-//! *The TeXbook*, chapter 20; *TeX: The Program*, part 25.
+//! *The TeXbook*, chapter 20; *TeX: The Program*, part 25 (`expand`, `get_x_token`, `macro_call`).
 #![tactic(auto)]
 
 mod call_name;
@@ -9,5 +8,5 @@ mod expansion;
 mod feeding;
 mod gathering;
 
-pub use expansion::{Stepped, step};
+pub use expansion::{Once, Stepped, call_of, expand_once, step};
 pub use gathering::gather;

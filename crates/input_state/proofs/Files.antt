@@ -125,10 +125,10 @@ module _ (c : List ℕ) (ls : List (List Token)) (old new : Stored) (used : ahea
     pull_err h = by_err r (subst (λ (m : Stored). IfErr r (λ full. RefusesLine full m new)) is h)
 
 -- what the levels refuse is refused of all that is pending
-pub front_refused : (c : List ℕ) (h : HeldLists) (b : List ℕ) (file : FileLeft) (waiting : ℕ) (old : Stored) → stored_of h b file waiting ≡ old → line_levels h.line ≡ file_levels file.file → (r : Result Pulled Full) →
+pub front_refused : (c : List ℕ) (h : HeldLists) (b : List ℕ) (file : FileLeft) (old : Stored) → stored_of h b file ≡ old → line_levels h.line ≡ file_levels file.file → (r : Result Pulled Full) →
     ((rest : List ℕ) (f : Progress) (number : ℕ) → line_levels h.line ≡ file_levels f → MatchResult r (λ _. refused h.sizes (step_demands (pulled c (pending_of h b rest f number)) (pending_of h b rest f number)) ≡ None) (λ full. refused h.sizes (step_demands (pulled c (pending_of h b rest f number)) (pending_of h b rest f number)) ≡ Some full)) →
     MatchResult r (λ _. pull_refusal c old ≡ None) (λ full. pull_refusal c old ≡ Some full)
-front_refused c h b file waiting old is tied r why = subst (λ (v : Stored). MatchResult r (λ _. pull_refusal c v ≡ None) (λ full. pull_refusal c v ≡ Some full)) is (why file.rest file.file file.number tied)
+front_refused c h b file old is tied r why = subst (λ (v : Stored). MatchResult r (λ _. pull_refusal c v ≡ None) (λ full. pull_refusal c v ≡ Some full)) is (why file.rest file.file file.number tied)
 
 -- what is given and has room is read
 reads_of : (q : plain.Pulled) (x : Pulled) (sizes : Sizes) (p new : Pending) (bytes : List ℕ) → Gives q x p new bytes → refused sizes (step_demands q p) ≡ None → Reads q x sizes p new bytes

@@ -29,7 +29,6 @@ pub mod PullKept
 pub mod Readies
 pub mod Files
 pub mod TakenLines
-pub mod Asides
 pub mod Letting
 pub mod Walking
 pub mod ListNumbers

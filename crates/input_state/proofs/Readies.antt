@@ -121,14 +121,14 @@ needs s c NotBegun false end file line fact = record { at_file = at_file c s.pen
 needs s c Begun true end file line fact = cc
 needs s c Begun false end file line fact = record { at_file = at_file c s.pending end; not_closed = λ e. cc; no_line = line; few = is_few _ _ fact }
 
-module _ (c : List ℕ) (h : HeldLists) (b : List ℕ) (f : FileLeft) (waiting : ℕ) (s : Stored) (is : stored_of h b f waiting ≡ s) (size : f.buffer_size ≡ h.sizes.buffer_size) where
+module _ (c : List ℕ) (h : HeldLists) (b : List ℕ) (f : FileLeft) (s : Stored) (is : stored_of h b f ≡ s) (size : f.buffer_size ≡ h.sizes.buffer_size) where
   sized : (x : Bool) → lacks_line f ≡ x → (is_open f.file && (not (has_feed f.rest) && nat_le (length f.rest) h.sizes.buffer_size)) ≡ x
   sized x e = subst (λ (n : ℕ). (is_open f.file && (not (has_feed f.rest) && nat_le (length f.rest) n)) ≡ x) size e
 
   -- the next line is known, or won't be taken
   pub knows_next : lacks_line f ≡ false → KnowsNext s c
-  knows_next fact = subst (λ (v : Stored). KnowsNext v c) is (knows (stored_of h b f waiting) c f.file (has_feed f.rest) refl refl (sized false fact))
+  knows_next fact = subst (λ (v : Stored). KnowsNext v c) is (knows (stored_of h b f) c f.file (has_feed f.rest) refl refl (sized false fact))
 
   pub needs_bytes : ahead_of c s.pending ≡ ahead.End → lacks_line f ≡ true → NeedsBytes s c
   needs_bytes end fact =
-      subst (λ (v : Stored). ahead_of c v.pending ≡ ahead.End → NeedsBytes v c) is (λ e. needs (stored_of h b f waiting) c f.file (has_feed f.rest) e refl refl (sized true fact)) end
+      subst (λ (v : Stored). ahead_of c v.pending ≡ ahead.End → NeedsBytes v c) is (λ e. needs (stored_of h b f) c f.file (has_feed f.rest) e refl refl (sized true fact)) end

@@ -62,26 +62,25 @@ module _ (h room front now : HeldLists) (line : Line) (kept : ℕ) (room_is : ro
       ∙ ap (λ (w : HeldLists). record w { puts = []; line = Some line; lists = now.lists }) room_is
       ∙ ap (λ (l : Line). record h { puts = []; line = Some l; lists = now.lists }) line_is
 
-  module _ (b c : List ℕ) (f g : FileLeft) (waiting used : ℕ) (file_is : g ≡ file_behind f used) where
-    pub taken_tied : (whole : ℕ) → IsTied h b f waiting → length c ≡ length b → kept ≤ whole → whole < length b → IsTied now c g waiting
+  module _ (b c : List ℕ) (f g : FileLeft) (used : ℕ) (file_is : g ≡ file_behind f used) where
+    pub taken_tied : (whole : ℕ) → IsTied h b f → length c ≡ length b → kept ≤ whole → whole < length b → IsTied now c g
     taken_tied whole t same fewer within =
-        let there : IsTied (record h { puts = []; line = Some (line_of_length kept); lists = now.lists }) c (file_behind f used) waiting = record {
+        let there : IsTied (record h { puts = []; line = Some (line_of_length kept); lists = now.lists }) c (file_behind f used) = record {
           tied = refl;
           in_buffer = (omega arith, omega (arith, same, fewer, within));
           size = same ∙ t.size;
           file_size = t.file_size;
-          few = t.few;
         } in
-        subst (λ (w : HeldLists). IsTied w c g waiting) (sym opened) (subst (λ (k : FileLeft). IsTied (record h { puts = []; line = Some (line_of_length kept); lists = now.lists }) c k waiting) (sym file_is) there)
+        subst (λ (w : HeldLists). IsTied w c g) (sym opened) (subst (λ (k : FileLeft). IsTied (record h { puts = []; line = Some (line_of_length kept); lists = now.lists }) c k) (sym file_is) there)
 
-    pub taken_others : (v : Stored) → stored_of h b f waiting ≡ v → stored_of now c g waiting ≡ record v { pending = pending_of now c g.rest g.file g.number; buffer = c; lists = now.lists }
+    pub taken_others : (v : Stored) → stored_of h b f ≡ v → stored_of now c g ≡ record v { pending = pending_of now c g.rest g.file g.number; buffer = c; lists = now.lists }
     taken_others v is =
         let p = pending_of now c g.rest g.file g.number in
         let lists = now.lists in
-        ap (λ (w : HeldLists). record (stored_of w c g waiting) { pending = p; buffer = c; lists = lists }) opened
+        ap (λ (w : HeldLists). record (stored_of w c g) { pending = p; buffer = c; lists = lists }) opened
         ∙ ap (λ (w : Stored). record w { pending = p; buffer = c; lists = lists }) is
 
-    pub taken_pending : (v : Stored) → stored_of h b f waiting ≡ v → rest_of c (line_of_length kept) ≡ taken_line f.rest → drop used f.rest ≡ behind_feed f.rest → line_taken v.pending.number v.pending.rest ≡ LineTaken (taken_line v.pending.rest) (pending_of now c g.rest g.file g.number)
+    pub taken_pending : (v : Stored) → stored_of h b f ≡ v → rest_of c (line_of_length kept) ≡ taken_line f.rest → drop used f.rest ≡ behind_feed f.rest → line_taken v.pending.number v.pending.rest ≡ LineTaken (taken_line v.pending.rest) (pending_of now c g.rest g.file g.number)
     taken_pending v is line behind =
         let p = pending_of now c g.rest g.file g.number in
         let there : p ≡ record { puts = []; line = taken_line f.rest; lex = plain.NewLine; rest = behind_feed f.rest; file = Begun; number = next_number f.number } =
@@ -91,17 +90,16 @@ module _ (h room front now : HeldLists) (line : Line) (kept : ℕ) (room_is : ro
         subst (λ (w : Stored). line_taken w.pending.number w.pending.rest ≡ LineTaken (taken_line w.pending.rest) p) is (sym (ap (LineTaken (taken_line f.rest)) there))
 
 -- The lists alone are others.
-pub lists_tied : (h now : HeldLists) (b : List ℕ) (f : FileLeft) (waiting : ℕ) → now ≡ record h { lists = now.lists } → IsTied h b f waiting → IsTied now b f waiting
-lists_tied h now b f waiting is t = subst (λ (w : HeldLists). IsTied w b f waiting) (sym is) (record { tied = t.tied; in_buffer = t.in_buffer; size = t.size; file_size = t.file_size; few = t.few })
+pub lists_tied : (h now : HeldLists) (b : List ℕ) (f : FileLeft) → now ≡ record h { lists = now.lists } → IsTied h b f → IsTied now b f
+lists_tied h now b f is t = subst (λ (w : HeldLists). IsTied w b f) (sym is) (record { tied = t.tied; in_buffer = t.in_buffer; size = t.size; file_size = t.file_size })
 
 -- The lists in front and the line were read.
-pub read_tied : (h now : HeldLists) (b c : List ℕ) (f : FileLeft) (waiting n : ℕ) (puts : List Put) → now ≡ record h { puts = puts; line = now.line; lists = now.lists } → line_levels now.line ≡ line_levels h.line → IsLineIn now.line n → n ≡ length b → length c ≡ length b → IsTied h b f waiting → IsTied now c f waiting
-read_tied h now b c f waiting n puts is levels inside count same t = record {
+pub read_tied : (h now : HeldLists) (b c : List ℕ) (f : FileLeft) (n : ℕ) (puts : List Put) → now ≡ record h { puts = puts; line = now.line; lists = now.lists } → line_levels now.line ≡ line_levels h.line → IsLineIn now.line n → n ≡ length b → length c ≡ length b → IsTied h b f → IsTied now c f
+read_tied h now b c f n puts is levels inside count same t = record {
   tied = levels ∙ t.tied;
   in_buffer = subst (IsLineIn now.line) (count ∙ sym same) inside;
   size = same ∙ t.size ∙ sym (ap (λ (w : HeldLists). w.sizes.buffer_size) is);
   file_size = t.file_size ∙ sym (ap (λ (w : HeldLists). w.sizes.buffer_size) is);
-  few = subst (λ (w : HeldLists). waiting ≤ length w.builds) (sym is) t.few;
 }
 
 -- the bytes that were copied are the line's

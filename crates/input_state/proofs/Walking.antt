@@ -1,7 +1,7 @@
 -- Places in macros' lists, and characters.
 use Rattle.std.proofs.Common.{◌≡◌, ℕ, zero, suc, ◌≤◌, List, [], ◌∷◌, drop, Option, None, Some, true, refl, sym, ap, ◌∙◌, arith}
 use Rattle.std.proofs.Math.Seq.{drop-nil}
-use Rattle.std.specs.Prelude.{Bool, ◌||◌}
+use Rattle.std.specs.Prelude.{Bool, ◌||◌, MatchOption}
 use Rattle.tex_defs.specs.declared.Token.{Token}
 use Rattle.tex_defs.specs.declared.Name.{Name}
 use Rattle.tex_defs.specs.declared.Meaning.{Meaning}
@@ -25,6 +25,11 @@ ended [] i k is less = drop-nil k
 ended (x ∷ xs) zero k is less = cc
 ended (x ∷ xs) (suc i) zero is less = absurd (omega (arith, less))
 ended (x ∷ xs) (suc i) (suc k) is less = ended xs i k is (omega (arith, less))
+
+-- what follows of an option, with and without a value
+pub option_then : {X P R : Type 0} {Q S : X → Type 0} (o : Option X) → MatchOption o P Q → (P → R) → ((x : X) → Q x → S x) → MatchOption o R S
+option_then None p none some = none p
+option_then (Some x) q none some = some x q
 
 -- what means no list has no text
 pub no_text : (lists : List (List Token)) (m : Meaning (Option ℕ)) → meant.list_of m ≡ None → macro_text lists m ≡ []

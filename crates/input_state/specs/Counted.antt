@@ -68,6 +68,6 @@ pub record HaveHolders (table : List (Option Entry)) (meanings : List (Meaning (
   -- each of these lists has that one place, and is no macro's
   pub sole : (h : ℕ) → 0 < times h (own_numbers fronts rest) → times h (macro_numbers meanings puts ++ own_numbers fronts rest) ≡ 1
 
--- The others are the list that is made, the call's, and those that are gathered, also those that were set aside.
+-- The others are the list that is made, the call's, and those that are gathered.
 abbrev pub AreCounted : List (Option Entry) → Stored → Type 0
 AreCounted table s = HaveHolders table s.meanings s.pending.puts (option_to_list s.making ++ gathered s)

@@ -18,10 +18,8 @@ pub record Stored : Type 0 where
   pub making : Option (List Token)
   -- the call whose arguments are gathered
   pub call : Calling
-  -- the lists that the innermost of the other readings gathers, innermost first
+  -- the lists that the other readings gather, innermost first
   pub builds : List (List Token)
-  -- the lists that the readings beneath gather, which wait, innermost first
-  pub aside : List (List Token)
   -- all bytes of the line buffer
   pub buffer : List ℕ
   pub sizes : Sizes
@@ -34,7 +32,7 @@ pub record Stored : Type 0 where
 
 -- all lists that are gathered, innermost first
 abbrev pub gathered : Stored → List (List Token)
-gathered s = call_lists s.call ++ (s.builds ++ s.aside)
+gathered s = call_lists s.call ++ s.builds
 
 -- the words of main memory that are used
 abbrev pub words : Stored → ℕ

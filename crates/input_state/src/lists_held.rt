@@ -1,7 +1,6 @@
 // The lists in front, those that are being made and gathered, the line of the file beneath them, and what the names mean.
 ghost use Rattle.std.specs.Prelude.{◌≡◌, ◌≢◌, ℕ, ◌≤◌, ◌<◌, ◌+◌, ◌++◌, ◌↔◌, true, List, [], ◌∷◌, Option, None, Some, Ok, IsSome, IfSome, IsTrue, IfOk, OnOk, OnErr, IfErr, MatchResult, MatchBool, MatchOption, length, drop, replicate, option_to_list, vec_capacity};
 ghost use Rattle.tex_defs.specs.Sizes.{first_out_of_range};
-ghost use Rattle.plain_tokens.specs.Names.{is_known};
 ghost use Rattle.tex_defs.specs.declared.Meaning.TheVariants.{Undefined};
 ghost use Rattle.tex_defs.specs.declared.Meaning.TheVariants as means;
 ghost use Rattle.plain_tokens.specs.Meanings.{first_meanings, is_listed, fixed_locations, location, name_meaning, assigned, seen, met, meaning_to_let};
@@ -10,7 +9,7 @@ ghost use Rattle.plain_tokens.specs.Pending.{Progress, pulled};
 ghost use Rattle.plain_tokens.specs.Tables.{is_meant, lists_words, memory, refused, file_levels};
 ghost use Rattle.line_lexer.specs.declared.Ahead.TheVariants as ahead;
 ghost use Rattle.token_lists.specs.Table.{words, tokens_at, holders_at, IsHeld};
-ghost use Rattle.token_lists.specs.Ids.{build_id, IsBuilding};
+ghost use Rattle.token_lists.specs.Ids.{build_id, id_of, IsBuilding};
 ghost use Rattle.token_lists.specs.Accounts.{Moves, none, holds};
 ghost use Rattle.token_lists.specs.Refusals.{IsFull};
 ghost use Rattle.input_state.specs.Counted.{HaveHolders};
@@ -42,7 +41,7 @@ use std::alloc::{AllocError, Global};
 use std::marker::Model;
 use std::mem;
 use tex_defs::{Full, Meaning, Name, Seen, Sizes, Token};
-use token_lists::{Build, Lists};
+use token_lists::{Build, ListRef, Lists};
 use world_io::InId;
 
 /// The number of the job's file.
@@ -59,7 +58,7 @@ pub struct Held {
     making: Option<Build>,
     /// The call that is gathered.
     call: Gathering,
-    /// The lists that other readings gather, the innermost reading's last.
+    /// The lists that other readings gather, the innermost last.
     builds: Vec<Build>,
     sizes: Sizes,
 }
@@ -156,46 +155,12 @@ fn answered(given: Result<Given, Full>) -> Result<Pulled, Full>
 }
 
 impl Held {
-    /// No lists, no line, INITEX's meanings, and room for all that these sizes admit.
+    /// No lists, no line, INITEX's meanings, where the primitives of these numbers mean something, and room for all that these
+    /// sizes admit.
     ///
     /// # Errors
     /// There is no room for them. No other call takes memory.
-    pub fn new(alloc: Global, sizes: &Sizes) -> Result<Held, AllocError>
-        requires { first_out_of_range sizes.now ≡ None }
-        ensures { IfOk result (λ h. h ≡ record { puts = []; making = None; call = NotCalling; builds = []; line = None; sizes = sizes.now; meanings = first_meanings is_known; hash_size = sizes.now.hash_size; lists = replicate sizes.now.main_memory_size [] }) }
-    {
-        let mut lists = Lists::new(alloc, sizes.main_memory_size)?;
-        let builds = Vec::with_capacity(alloc, sizes.main_memory_size as usize)?;
-        let meanings = match Meanings::new(alloc, sizes) {
-            Ok(meanings) => meanings,
-            Err(error) => {
-                builds.destroy_empty();
-                return Err(error);
-            }
-        };
-        match InputStack::new(alloc, sizes) {
-            Ok(stack) => Ok(Held {
-                lists,
-                stack,
-                meanings,
-                making: None,
-                call: Gathering::None,
-                builds,
-                sizes: *sizes,
-            }),
-            Err(error) => {
-                meanings.close(&mut lists);
-                builds.destroy_empty();
-                Err(error)
-            }
-        }
-    }
-
-    /// The same, where the primitives of these numbers mean something.
-    ///
-    /// # Errors
-    /// There is no room for them. No other call takes memory.
-    pub fn with_known(alloc: Global, sizes: &Sizes, known: &[u16]) -> Result<Held, AllocError>
+    pub fn new(alloc: Global, sizes: &Sizes, known: &[u16]) -> Result<Held, AllocError>
         requires { first_out_of_range sizes.now ≡ None }
         ensures { IfOk result (λ h. h ≡ record { puts = []; making = None; call = NotCalling; builds = []; line = None; sizes = sizes.now; meanings = first_meanings (is_listed known.now); hash_size = sizes.now.hash_size; lists = replicate sizes.now.main_memory_size [] }) }
     {
@@ -259,7 +224,7 @@ impl Held {
         }
     }
 
-    /// The innermost reading's list gets a token at its end.
+    /// The innermost gathered list gets a token at its end.
     ///
     /// # Errors
     /// The main memory is full; nothing has changed.
@@ -278,7 +243,7 @@ impl Held {
         grown
     }
 
-    /// The innermost reading's list goes.
+    /// The innermost gathered list goes.
     pub fn drop_list(&mut self)
         requires { self.old.builds ≢ [] }
         ensures after { self.new ≡ record self.old { builds = drop 1 self.old.builds; lists = self.new.lists } }
@@ -530,7 +495,7 @@ impl Held {
         self.meanings.is_placed(name)
     }
 
-    /// A name becomes a macro: the innermost reading's list is its parameter text, the end mark and its body.
+    /// A name becomes a macro: the innermost gathered list is its parameter text, the end mark and its body.
     pub fn define(&mut self, name: Name, long: bool, outer: bool)
         requires some { self.old.builds ≢ [] }
         requires calls { self.old.call ≡ NotCalling }
@@ -581,6 +546,15 @@ impl Held {
             Some((token, next)) => Some((token, next.index())),
             None => None,
         }
+    }
+
+    /// The list of the macro that a name means, if it means one with a list, and the memory in which all lists
+    /// stand.
+    pub fn macro_list(&self, name: Name) -> (&Lists, Option<&ListRef>)
+        ensures held { IfSome result.1 (λ r. IsHeld result.0.now (id_of r.now)) }
+        ensures tokens { MatchOption result.1 (text_of self.now.lists self.now.meanings name ≡ []) (λ r. tokens_at result.0.now (id_of r.now) ≡ text_of self.now.lists self.now.meanings name) }
+    {
+        (&self.lists, self.meanings.list(name))
     }
 
     /// Each macro's list has a token, its end mark, and at most nine places. The call does nothing.

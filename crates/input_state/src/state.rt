@@ -1,9 +1,8 @@
 // The input of a run.
-ghost use Rattle.std.specs.Prelude.{◌≡◌, ◌≢◌, ℕ, true, false, ◌≤◌, ◌<◌, ◌+◌, ◌++◌, [], ◌∷◌, None, Some, IsSome, IfSome, IfOk, IfErr, OnOk, OnErr, MatchResult, MatchBool, MatchOption, length, take, drop, replicate, vec_capacity};
+ghost use Rattle.std.specs.Prelude.{◌≡◌, ◌≢◌, ℕ, true, false, ◌≤◌, ◌<◌, ◌+◌, ◌++◌, [], ◌∷◌, None, Some, IsSome, IfSome, IfOk, IfErr, OnOk, OnErr, MatchResult, MatchBool, MatchOption, length, drop, replicate, vec_capacity};
 ghost use Rattle.std.specs.Bool.{OnTrue};
 ghost use Rattle.std.specs.Option.{option_map};
 ghost use Rattle.tex_defs.specs.Sizes.{first_out_of_range};
-ghost use Rattle.plain_tokens.specs.Names.{is_known};
 ghost use Rattle.tex_defs.specs.declared.Meaning.TheVariants.{Undefined};
 ghost use Rattle.tex_defs.specs.declared.Meaning.TheVariants as means;
 ghost use Rattle.plain_tokens.specs.Tokens.{character_codes};
@@ -16,7 +15,7 @@ ghost use Rattle.line_lexer.specs.declared.LineState.TheVariants.{NewLine};
 ghost use Rattle.tex_defs.specs.declared.Table.TheVariants.{BufferSize};
 ghost use Rattle.token_lists.specs.Table.{tokens_at, IsHeld};
 ghost use Rattle.token_lists.specs.Table as table;
-ghost use Rattle.token_lists.specs.Ids.{build_id};
+ghost use Rattle.token_lists.specs.Ids.{build_id, id_of};
 ghost use Rattle.input_state.specs.HeldLists.{KeepsHeld, first_list, is_empty, made, ahead_of, line_levels, file_demands};
 ghost use Rattle.meanings.specs.Map.{IsPlaced};
 ghost use Rattle.input_state.specs.declared.answer.CallKind.TheVariants.{AtOnce, Gathers};
@@ -44,7 +43,7 @@ use line_lexer::{Ahead, Line, LineState};
 use std::alloc::{AllocError, Global};
 use std::marker::Model;
 use tex_defs::{Full, Name, Seen, Sizes, Table, Token};
-use token_lists::{Build, Lists};
+use token_lists::{Build, ListRef, Lists};
 
 /// All lists of a run, and all that is still to be read: lists in front, the rest of a line, the rest of the job's
 /// file.
@@ -53,8 +52,6 @@ use token_lists::{Build, Lists};
 #[must_use]
 pub struct Input {
     held: Held,
-    /// How many of the lists that are gathered wait: the outermost ones, for the readings beneath.
-    aside: usize,
     /// The line that is being read stands at the front.
     buffer: Vec<u8>,
     file: JobFile,
@@ -68,9 +65,9 @@ impl Model for Input {
 
     ghost use Rattle.input_state.specs.InputViews.{stored_of, IsTied};
 
-    ghost view = { λ i. stored_of i.held i.buffer.items i.file i.aside };
+    ghost view = { λ i. stored_of i.held i.buffer.items i.file };
 
-    ghost invariant = { λ i. IsTied i.held i.buffer.items i.file i.aside };
+    ghost invariant = { λ i. IsTied i.held i.buffer.items i.file };
 }
 
 // A line of this length, none of it read.
@@ -130,44 +127,20 @@ fn open_line(held: &mut Held, progress: Progress, line: Line)
 }
 
 impl Input {
-    /// The job's file, where one is held, of which no byte has come, and room for all that these sizes admit.
+    /// The job's file, where one is held, of which no byte has come, and room for all that these sizes admit. The primitives
+    /// of these numbers mean something.
     ///
     /// # Errors
     /// There is no room for them. No other call takes memory.
-    pub fn new(alloc: Global, sizes: &Sizes, held: bool) -> Result<Input, AllocError>
+    pub fn new(alloc: Global, sizes: &Sizes, held: bool, known: &[u16]) -> Result<Input, AllocError>
         requires { first_out_of_range sizes.now ≡ None }
-        ensures { IfOk result (λ i. i ≡ record { pending = unread (no_bytes held); making = None; call = NotCalling; builds = []; aside = []; buffer = i.buffer; sizes = sizes.now; meanings = first_meanings is_known; hash_size = sizes.now.hash_size; lists = replicate sizes.now.main_memory_size [] }) }
+        ensures { IfOk result (λ i. i ≡ record { pending = unread (no_bytes held); making = None; call = NotCalling; builds = []; buffer = i.buffer; sizes = sizes.now; meanings = first_meanings (is_listed known.now); hash_size = sizes.now.hash_size; lists = replicate sizes.now.main_memory_size [] }) }
     {
         let buffer = vec![in alloc; 0; sizes.buffer_size as usize]?;
         let file = JobFile::new(alloc, sizes.buffer_size, held)?;
-        let lists = Held::new(alloc, sizes)?;
+        let lists = Held::new(alloc, sizes, known)?;
         Ok(Input {
             held: lists,
-            aside: 0,
-            buffer,
-            file,
-        })
-    }
-
-    /// The same, where the primitives of these numbers mean something.
-    ///
-    /// # Errors
-    /// There is no room for them. No other call takes memory.
-    pub fn with_known(
-        alloc: Global,
-        sizes: &Sizes,
-        held: bool,
-        known: &[u16],
-    ) -> Result<Input, AllocError>
-        requires { first_out_of_range sizes.now ≡ None }
-        ensures { IfOk result (λ i. i ≡ record { pending = unread (no_bytes held); making = None; call = NotCalling; builds = []; aside = []; buffer = i.buffer; sizes = sizes.now; meanings = first_meanings (is_listed known.now); hash_size = sizes.now.hash_size; lists = replicate sizes.now.main_memory_size [] }) }
-    {
-        let buffer = vec![in alloc; 0; sizes.buffer_size as usize]?;
-        let file = JobFile::new(alloc, sizes.buffer_size, held)?;
-        let lists = Held::with_known(alloc, sizes, known)?;
-        Ok(Input {
-            held: lists,
-            aside: 0,
             buffer,
             file,
         })
@@ -224,7 +197,7 @@ impl Input {
         self.held.begin_list()
     }
 
-    /// The innermost reading's list gets a token at its end.
+    /// The innermost gathered list gets a token at its end.
     ///
     /// # Errors
     /// The main memory is full; nothing has changed.
@@ -238,7 +211,7 @@ impl Input {
         self.held.grow_list(token)
     }
 
-    /// The innermost reading's list goes.
+    /// The innermost gathered list goes.
     pub fn drop_list(&mut self)
         requires { self.old.builds ≢ [] }
         ensures after { self.new ≡ record self.old { builds = drop 1 self.old.builds; lists = self.new.lists } }
@@ -247,14 +220,14 @@ impl Input {
         self.held.drop_list();
     }
 
-    /// Whether the innermost reading holds a list: one that was set aside is none of its own.
+    /// Whether a reading gathers a list, but for a call.
     pub fn has_list(&self) -> bool
         ensures { MatchBool result (self.now.builds ≢ []) (self.now.builds ≡ []) }
     {
-        self.aside < self.held.list_count()
+        self.held.is_gathering()
     }
 
-    /// Whether the innermost reading's list has no token.
+    /// Whether the innermost gathered list has no token.
     pub fn is_list_empty(&self) -> bool
         requires { self.now.builds ≢ [] }
         ensures { result ≡ is_empty (first_list self.now.builds) }
@@ -263,7 +236,7 @@ impl Input {
         lists.first_built(build).is_none()
     }
 
-    /// The innermost reading's list, and the memory in which it stands.
+    /// The innermost gathered list, and the memory in which it stands.
     pub fn list(&self) -> (&Lists, &Build)
         requires { self.now.builds ≢ [] }
         ensures held { IsHeld result.0.now (build_id result.1.now) }
@@ -272,14 +245,14 @@ impl Input {
         self.held.list()
     }
 
-    /// How many lists the innermost reading holds.
+    /// How many lists the readings gather, but for a call's.
     pub fn list_count(&self) -> usize
         ensures { result ≡ length self.now.builds }
     {
-        self.held.list_count() - self.aside
+        self.held.list_count()
     }
 
-    /// One of the innermost reading's lists, by its number from the innermost, and the memory in which it stands.
+    /// One of these lists, by its number from the innermost, and the memory in which it stands.
     pub fn list_number(&self, k: u32) -> (&Lists, &Build)
         requires { k < length self.now.builds }
         ensures held { IsHeld result.0.now (build_id result.1.now) }
@@ -288,7 +261,7 @@ impl Input {
         self.held.list_number(k as usize)
     }
 
-    /// The codes of the characters of the innermost reading's list go to a text, in place of what it had, if they have room
+    /// The codes of the characters of the innermost gathered list go to a text, in place of what it had, if they have room
     /// in its capacity. No memory is taken. *The TeXbook*, chapter 7 (`\csname`).
     pub fn spell(&self, text: &mut Vec<u8>) -> bool
         requires { self.now.builds ≢ [] }
@@ -298,41 +271,6 @@ impl Input {
     {
         let (lists, build) = self.held.list();
         spell(lists, build, text)
-    }
-
-    /// The lists of the innermost reading are set aside: another reading begins, which gathers its own.
-    pub fn set_aside(&mut self)
-        ensures after { self.new ≡ record self.old { builds = []; aside = self.old.builds ++ self.old.aside } }
-        ensures macros { KeepsMacros self.old self.new }
-    {
-        self.aside = self.held.list_count();
-    }
-
-    /// The innermost of the lists that were set aside, if there is one, is the innermost reading's again.
-    pub fn take_up(&mut self)
-        ensures after { self.new ≡ record self.old { builds = self.old.builds ++ take 1 self.old.aside; aside = drop 1 self.old.aside } }
-        ensures macros { KeepsMacros self.old self.new }
-    {
-        if self.aside > 0 {
-            self.aside -= 1;
-        }
-    }
-
-    /// Whether some reading gathers a list, but for a call.
-    pub fn gathers(&self) -> bool
-        ensures { MatchBool result (self.now.builds ++ self.now.aside ≢ []) (self.now.builds ++ self.now.aside ≡ []) }
-    {
-        self.held.is_gathering()
-    }
-
-    /// The innermost list that is gathered, but for a call's, and the memory in which it stands: it may be one that was set
-    /// aside.
-    pub fn innermost_list(&self) -> (&Lists, &Build)
-        requires { self.now.builds ++ self.now.aside ≢ [] }
-        ensures held { IsHeld result.0.now (build_id result.1.now) }
-        ensures tokens { tokens_at result.0.now (build_id result.1.now) ≡ first_list (self.now.builds ++ self.now.aside) }
-    {
-        self.held.list()
     }
 
     /// The memory of all lists. Each list is counted once for each of its holders, and for nothing else.
@@ -583,7 +521,7 @@ impl Input {
         self.held.is_placed(name)
     }
 
-    /// A name becomes a macro: the innermost reading's list is its parameter text, the end mark and its body. The list of
+    /// A name becomes a macro: the innermost gathered list is its parameter text, the end mark and its body. The list of
     /// what the name meant is let go. *The TeXbook*, chapter 20; *TeX: The Program*, part 49 (`define`).
     pub fn define(&mut self, name: Name, long: bool, outer: bool)
         requires some { self.old.builds ≢ [] }
@@ -635,6 +573,15 @@ impl Input {
         let Walk { name, index } = walk;
         let (token, index) = self.held.macro_token(name, index)?;
         Some((token, Walk { name, index }))
+    }
+
+    /// The list of the macro that a name means, if it means one with a list, and the memory in which all lists
+    /// stand.
+    pub fn macro_list(&self, name: Name) -> (&Lists, Option<&ListRef>)
+        ensures held { IfSome result.1 (λ r. IsHeld result.0.now (id_of r.now)) }
+        ensures tokens { MatchOption result.1 (text_of self.now.lists self.now.meanings name ≡ []) (λ r. tokens_at result.0.now (id_of r.now) ≡ text_of self.now.lists self.now.meanings name) }
+    {
+        self.held.macro_list(name)
     }
 
     /// Each macro's list has a token, its end mark, and at most nine places. The call does nothing.
@@ -774,7 +721,6 @@ impl Input {
     pub fn close(self) {
         let Input {
             held,
-            aside: _,
             buffer: _,
             file: _,
         } = self;

@@ -5,8 +5,8 @@ use Rattle.std.proofs.lemmas.List.{append-nil}
 use Rattle.tex_defs.specs.Places.{Place, Transcript, OfFile, File, World, Later, Rose, Untold, NotHeld, Holds, grown, is_at}
 use Rattle.tex_defs.specs.declared.Full.{Full}
 use Rattle.tex_defs.specs.declared.Sizes.{Sizes}
-use Rattle.plain_state.specs.States.{State, Move, Handed, Settled, Written, made, column_after}
-use Rattle.plain_state.specs.Demands.{refusal}
+use Rattle.plain_machine.specs.States.{State, Move, Handed, Settled, Written, made, column_after}
+use Rattle.plain_machine.specs.Demands.{refusal}
 use Rattle.plain_machine.specs.Plan.{plan}
 use Rattle.plain_machine.specs.Runs.{Wrote, made_all, after, columns_after, steps}
 use Rattle.plain_machine.specs.Bounded.{AllFit, FitMoves, AtFull, AtSteps, Bounded}

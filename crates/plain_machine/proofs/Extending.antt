@@ -12,22 +12,23 @@ use Rattle.tex_defs.specs.declared.Token.{Token}
 use Rattle.tex_defs.specs.declared.Table.TheVariants.{BufferSize}
 use Rattle.plain_tokens.specs.Lines.{first_bytes}
 use Rattle.plain_tokens.specs.Lookup.{token_of, new_name}
-use Rattle.plain_tokens.specs.Meanings.{seen}
+use Rattle.plain_tokens.specs.Meanings.{met as met_token}
 use Rattle.plain_tokens.specs.Puts.{Item, First, next_item}
 use Rattle.plain_tokens.specs.Pending.{Pending, Progress, NotBegun, Pulled, TokenFrom, LexemeFrom, LineTaken, InvalidMet, FileOver, NothingLeft, settle, pulled, after_pull, takes_file}
-use Rattle.plain_state.specs.Readings.{Ask, More, Inner, Done, Act, Tells, Inserts, Makes, Calls, Fails, RunsAway, Closes, Flag, ask}
-use Rattle.plain_state.specs.States.{State, Reading, Move, Handed, Taken, Settled, Skipped, FileClosed, Ended, Closed, made}
+use Rattle.rows.specs.Readings.{Ask, More}
+use Rattle.plain_readings.specs.Readings.{Reading, ask}
+use Rattle.plain_readings.specs.Scanning.{Scanning, scanning}
+use Rattle.plain_machine.specs.States.{State, Move, Handed, Taken, Settled, Skipped, FileClosed, made}
 use Rattle.plain_tokens.specs.Tables.{Demand, lines_beneath, line_need, opened_level, file_level, next_line, refused}
-use Rattle.plain_state.specs.Demands.{refusal}
-use Rattle.plain_machine.specs.Plan.{put_text, Page, page_of, plan, planned, answered, handed, met, entered, enters_names, Scanning, scanning, checked, without_file, reported, stomach, wanted, feeding, effect, given_back, Ends, Goes, next, next_of, first_of_plan}
+use Rattle.plain_machine.specs.Demands.{refusal}
+use Rattle.plain_machine.specs.Plan.{Page, page_of, plan, planned, answered, handed, met, entered, enters_names, checked, without_file, reported, stomach, wanted, feeding, Ends, Goes, next, next_of, first_of_plan}
 use Rattle.plain_machine.specs.Runs.{Wrote, step_of, steps, made_all, NeedsStep}
 use Rattle.plain_machine.specs.Bounded.{AllFit}
 use Rattle.plain_machine.specs.Does.{Did, Cut, Why, IsFull, IsFault, IsWant, Refuses, IsCause, front_of}
 use Rattle.plain_machine.specs.Extended.{extended_pending, extended, IsReady}
 use Rattle.plain_machine.proofs.Joins.{StepComes, plan_needs, next_due}
 use Rattle.plain_machine.proofs.Settling.{pulled_settled}
-use Rattle.plain_tokens.specs.Tokens.{made_text}
-use Rattle.plain_machine.proofs.Pulls.{text_none, pull_of, pulls, pulls_join, step_pulls, command_none, wanted_none, kind_none, met_none, checked_none, reported_none, entered_none, back_none, effect_none, begun_none, told_none, called_with_none, failed_none, failed_away_none}
+use Rattle.plain_machine.proofs.Pulls.{pull_of, pulls, pulls_join, step_pulls, stomach_none, wanted_none, kind_none, met_none, checked_none, reported_none, entered_none, WantsNone, answered_none}
 use Rattle.plain_machine.proofs.Ahead.{full_buffer, long_need, long_refused, extended_pulled, source, takes_at, takes_line, Sight, Alike, Long, sight, sight_nothing, nothing_at}
 
 -- MOVES THAT DO THE SAME
@@ -158,16 +159,16 @@ module _ (sizes : Sizes) (left : List ℕ) (s : State) (same : pulled s.categori
   module _ (page : Page) (enters : Bool) (o : Option Scanning) (onward : Seen → List Move) (still : (x : Seen) → pulls (onward x) ≡ 0) where
     handed_all : (r : Pulled) → (takes_line r ≡ true → first_bytes (s.pending.rest ++ left) ≡ first_bytes s.pending.rest) → AllAgree sizes left (handed page enters o onward r) s
     handed_all (TokenFrom t next) e =
-        (still_agrees sizes left Settled s refl, (handed_agrees t, all_still sizes left (met page o onward (seen page.meanings t)) (made (Handed t) (made Settled s)) (met_none page o onward (seen page.meanings t) still)))
+        (still_agrees sizes left Settled s refl, (handed_agrees t, all_still sizes left (met page o onward (met_token page.meanings t)) (made (Handed t) (made Settled s)) (met_none page o onward (met_token page.meanings t) still)))
     handed_all (LexemeFrom x next) e =
         let t : Token = token_of enters page.names x in
         let names : List Move = entered (new_name enters page.names x) in
-        let behind : List Move = met page o onward (seen page.meanings t) in (
+        let behind : List Move = met page o onward (met_token page.meanings t) in (
           still_agrees sizes left Settled s refl,
           (
             handed_agrees t,
             all_still sizes left (names ++ behind) (made (Handed t) (made Settled s))
-                (pulls_join names behind ∙ omega (arith, entered_none (new_name enters page.names x), met_none page o onward (seen page.meanings t) still)),
+                (pulls_join names behind ∙ omega (arith, entered_none (new_name enters page.names x), met_none page o onward (met_token page.meanings t) still)),
           ),
         )
     handed_all (LineTaken line next) e = (still_agrees sizes left Settled s refl, (taken_agrees line (e refl), tt))
@@ -193,23 +194,19 @@ pub data Rules (left : List ℕ) (s : State) (ms' ms : List Move) : Type 0 where
   Pulling : (page : Page) → (enters : Bool) → (o : Option Scanning) → (onward : Seen → List Move) → ((x : Seen) → pulls (onward x) ≡ 0) →
       ms ≡ handed page enters o onward (pulled s.categories s.pending) → ms' ≡ handed page enters o onward (pulled s.categories (extended_pending left s.pending)) → Rules left s ms' ms
 
-rules_answered : (left : List ℕ) (s : State) (work : List Reading) (r : Reading) (a : Ask) → Rules left s (answered (extended left s) work r a) (answered s work r a)
-rules_answered left s work r (More want) =
-    Pulling (page_of s) (enters_names want) (scanning work s.gathered) (λ x. wanted (page_of s) want (feeding r x) x) (λ x. wanted_none (page_of s) want (feeding r x) x (kind_none r.kind r.fed x)) refl refl
-rules_answered left s work r (Inner k begins) = Still refl (begun_none k begins r)
-rules_answered left s work r (Done v back) = Still refl (pulls_join (given_back back r.fed) (Ended v ∷ []) ∙ omega (arith, back_none back r.fed))
-rules_answered left s work r (Act e) = Still refl (pulls_join (effect s e) (Ended (Flag true) ∷ []) ∙ omega (arith, effect_none s e))
-rules_answered left s work r (Tells report back) = Still refl (told_none (page_of s) report None back r)
-rules_answered left s work r (Inserts t report back) = Still refl (told_none (page_of s) report (Some t) back r)
-rules_answered left s work r (Makes characters) = Still refl (pulls_join (put_text (made_text characters)) (Closed ∷ []) ∙ omega (arith, text_none (made_text characters)))
-rules_answered left s work r (Calls args) = Still refl (called_with_none r.kind args)
-rules_answered left s work r (Fails report) = Still refl (failed_none (page_of s) report)
-rules_answered left s work r (RunsAway report) = Still refl (failed_away_none (page_of s) report (scanning work s.gathered) r.fed)
-rules_answered left s work r Closes = Still refl refl
+module _ (left : List ℕ) (s : State) where
+  rules_still : (work : List Reading) (r : Reading) (a : Ask) → WantsNone a → Rules left s (answered (extended left s) work r a) (answered s work r a)
+  rules_still work r (More want) h = absurd h
+  rules_still work r a h = Still refl (answered_none s work r a h)
 
-pub rules : (left : List ℕ) (s : State) (work : List Reading) → Rules left s (planned (extended left s) work) (planned s work)
-rules left s [] = Pulling (page_of s) false None (stomach (page_of s)) (λ x. command_none (page_of s) x.token x.meaning) refl refl
-rules left s (r ∷ rs) = rules_answered left s (r ∷ rs) r (ask r.kind r.fed)
+  rules_answered : (work : List Reading) (r : Reading) (a : Ask) → Rules left s (answered (extended left s) work r a) (answered s work r a)
+  rules_answered work r (More want) =
+      Pulling (page_of s) (enters_names want) (scanning work s.gathered) (λ x. wanted (page_of s) want (feeding r x) x) (λ x. wanted_none (page_of s) want (feeding r x) x (kind_none r.kind r.fed x)) refl refl
+  rules_answered work r a = rules_still work r a tt
+
+  pub rules : (work : List Reading) → Rules left s (planned (extended left s) work) (planned s work)
+  rules [] = Pulling (page_of s) false None (stomach (page_of s)) (stomach_none (page_of s)) refl refl
+  rules (r ∷ rs) = rules_answered (r ∷ rs) r (ask r.kind r.fed)
 
 -- The moves are the same and do the same, or the rule takes a line that is too long.
 data Extends (sizes : Sizes) (left : List ℕ) (s : State) (ms' ms : List Move) : Type 0 where

@@ -1,13 +1,15 @@
 -- Rules that begin with the file's next reading.
-use Rattle.std.proofs.Common.{◌≡◌, ℕ, Bool, List, [], ◌∷◌, refl, sym, ap, ◌∙◌, subst, true, false}
+use Rattle.std.proofs.Common.{◌≡◌, ℕ, Bool, List, [], ◌∷◌, refl, sym, ◌∙◌, subst, true, false}
 use Rattle.std.specs.Prelude.{◌≢◌, Option, None}
 use Rattle.std.proofs.lemmas.Bool.{false≢true}
 use Rattle.tex_syntax.specs.declared.words.Want.{Want}
 use Rattle.tex_defs.specs.declared.Seen.{Seen}
 use Rattle.plain_tokens.specs.Pending.{Pending, Progress, NotBegun, Begun, Closed, Pulled, pulled, from_file, takes_file}
-use Rattle.plain_state.specs.Readings.{Ask, More, ask}
-use Rattle.plain_state.specs.States.{State, Move, Reading}
-use Rattle.plain_machine.specs.Plan.{Page, page_of, Scanning, scanning, enters_names, feeding, wanted, stomach, handed, answered, planned}
+use Rattle.rows.specs.Readings.{Ask, More}
+use Rattle.plain_readings.specs.Readings.{Reading, ask}
+use Rattle.plain_readings.specs.Scanning.{Scanning, scanning}
+use Rattle.plain_machine.specs.States.{State, Move}
+use Rattle.plain_machine.specs.Plan.{Page, page_of, enters_names, feeding, wanted, stomach, handed, answered, planned}
 use Rattle.plain_machine.specs.Does.{ReadsFile}
 use Rattle.plain_machine.specs.Extended.{extended_pending}
 use Rattle.plain_machine.proofs.Ahead.{Source, Front, File, source}

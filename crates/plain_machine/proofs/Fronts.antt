@@ -4,8 +4,9 @@ use Rattle.std.specs.Prelude.{Option, Some, None}
 use Rattle.std.proofs.lemmas.List.{append-nil}
 use Rattle.tex_defs.specs.declared.Full.{Full}
 use Rattle.tex_defs.specs.declared.Sizes.{Sizes}
-use Rattle.plain_state.specs.States.{State, Move}
-use Rattle.plain_state.specs.Demands.{refusal}
+use Rattle.plain_readings.specs.Weights.{WeightsFall}
+use Rattle.plain_machine.specs.States.{State, Move}
+use Rattle.plain_machine.specs.Demands.{refusal}
 use Rattle.plain_machine.specs.Plan.{Ends, Goes, next}
 use Rattle.plain_machine.specs.Runs.{step_of, steps, Moves, NeedsStep, HasRun}
 use Rattle.plain_machine.specs.Bounded.{FitMoves, IsFull, End, AtEnd, AtSteps, AtFull, Comes, Bounded, SameEnd, HasBounded, Beyond, IsFront}
@@ -116,8 +117,8 @@ module _ (sizes : Sizes) where
       bounded = record { moves = refl; within = omega arith; whole = record { m = m; u = a.0; goes = a.1.0; room = omega arith; refused = e } };
     }
 
-  pub has_bounded : (s : State) (k : ℕ) → HasBounded sizes s k
-  has_bounded s k = let h : HasRun s k = has_run k s in cut s k h.ms h.t h.trace.moves h.trace.within h.trace.whole
+  pub has_bounded : WeightsFall → (s : State) (k : ℕ) → HasBounded sizes s k
+  has_bounded falls s k = let h : HasRun s k = has_run falls k s in cut s k h.ms h.t h.trace.moves h.trace.within h.trace.whole
 
   -- A FRONT OF THE MACHINE'S RUN
 
@@ -125,11 +126,11 @@ module _ (sizes : Sizes) where
     all_of : (end : End) → Bounded sizes s k ms t end → (next t ≡ Ends) ⊎ ((steps ms ≡ k) × NeedsStep t) → Beyond end [] → IsFront s k ms end
     all_of end h w b = record { rest = []; last = t; run = rw append-nil (record { moves = moves_of sizes s ms t h.moves; within = h.within; whole = w }); beyond = b }
 
-    pub front : (end : End) → Bounded sizes s k ms t end → IsFront s k ms end
-    front AtEnd h = all_of AtEnd h (inl h.whole) refl
-    front AtSteps h = all_of AtSteps h (inr h.whole) refl
-    front (AtFull full) h =
-        let r : HasRun t (k - steps ms) = has_run (k - steps ms) t in
+    pub front : WeightsFall → (end : End) → Bounded sizes s k ms t end → IsFront s k ms end
+    front falls AtEnd h = all_of AtEnd h (inl h.whole) refl
+    front falls AtSteps h = all_of AtSteps h (inr h.whole) refl
+    front falls (AtFull full) h =
+        let r : HasRun t (k - steps ms) = has_run falls (k - steps ms) t in
         record {
           rest = r.ms;
           last = r.t;

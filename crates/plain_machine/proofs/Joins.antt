@@ -5,8 +5,8 @@ use Rattle.std.proofs.lemmas.List.{append-nil}
 use Rattle.tex_syntax.specs.declared.words.Outcome.{Outcome}
 use Rattle.tex_defs.specs.Places.{Place, File}
 use Rattle.tex_defs.specs.declared.Sizes.{Sizes}
-use Rattle.plain_state.specs.States.{State, Move, Handed, Settled, made}
-use Rattle.plain_state.specs.Demands.{refusal}
+use Rattle.plain_machine.specs.States.{State, Move, Handed, Settled, made}
+use Rattle.plain_machine.specs.Demands.{refusal}
 use Rattle.plain_machine.specs.Plan.{Ends, Goes, next, plan}
 use Rattle.plain_machine.specs.Runs.{step_of, steps, after, changed, columns_after, column_changed, Moves, NeedsStep, made_all}
 use Rattle.plain_machine.specs.Bounded.{AllFit, FitMoves}

@@ -1,6 +1,6 @@
 -- Two runs of one state with one bound are equal, and what runs are made of.
 use Rattle.std.proofs.Common.{◌≡◌, ◌⊎◌, ℕ, ◌+◌, ◌-◌, ◌≤◌, List, [], ◌∷◌, refl, sym, ap, subst, inl, inr, arith}
-use Rattle.plain_state.specs.States.{State, Move}
+use Rattle.plain_machine.specs.States.{State, Move}
 use Rattle.plain_machine.specs.Plan.{Ends, Goes, next}
 use Rattle.plain_machine.specs.Runs.{step_of, steps, Moves, NeedsStep, Same}
 

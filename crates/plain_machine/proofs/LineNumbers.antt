@@ -7,11 +7,12 @@ use Rattle.tex_syntax.specs.declared.words.Outcome.{Outcome}
 use Rattle.tex_defs.specs.declared.Seen.{Seen}
 use Rattle.plain_tokens.specs.Lex.{Lexed, Gives, Invalid, UsedUp, lexed}
 use Rattle.plain_tokens.specs.Lookup.{token_of, new_name}
-use Rattle.plain_tokens.specs.Meanings.{seen}
+use Rattle.plain_tokens.specs.Meanings.{met as met_token}
 use Rattle.plain_tokens.specs.Puts.{Item, Put as PutList, passed}
 use Rattle.plain_tokens.specs.Pending.{Pending, Progress, NotBegun, Begun as BegunFile, Closed as ClosedFile, Pulled, TokenFrom, LexemeFrom, LineTaken, InvalidMet, FileOver, NothingLeft, next_number, pulled, after_pull, from_front, from_list, from_line, from_file}
-use Rattle.plain_state.specs.States.{State, Move, Handed, Taken, Settled, Skipped, FileClosed, made}
-use Rattle.plain_machine.specs.Plan.{Page, plan, planned, handed, met, entered, Scanning, checked, without_file, reported, Ends, Goes, next, job_due}
+use Rattle.plain_readings.specs.Scanning.{Scanning}
+use Rattle.plain_machine.specs.States.{State, Move, Handed, Taken, Settled, Skipped, FileClosed, made}
+use Rattle.plain_machine.specs.Plan.{Page, plan, planned, handed, met, entered, checked, without_file, reported, Ends, Goes, next, job_due}
 use Rattle.plain_machine.specs.Runs.{step_of, steps, Moves, Begins, AtRule, AtJob}
 use Rattle.plain_machine.proofs.Joins.{next_due, next_plan, due_kept}
 use Rattle.plain_machine.proofs.Laws.{SameMove, goes_one_way}
@@ -138,13 +139,13 @@ module _ (s : State) where
   handed_by : (page : Page) (enters : Bool) (o : Option Scanning) (onward : Seen → List Move) → ((x : Seen) → pulls (onward x) ≡ 0) →
       (r : Pulled) → r ≡ pulled s.categories s.pending → CameBy s (handed page enters o onward r)
   handed_by page enters o onward still (TokenFrom t q) is =
-      settled_by (Handed t) (met page o onward (seen page.meanings t)) (met_none page o onward (seen page.meanings t) still) (subst (MakesPull (Handed t)) is tt)
+      settled_by (Handed t) (met page o onward (met_token page.meanings t)) (met_none page o onward (met_token page.meanings t) still) (subst (MakesPull (Handed t)) is tt)
   handed_by page enters o onward still (LexemeFrom x q) is =
       let t = token_of enters page.names x in
       let names : List Move = entered (new_name enters page.names x) in
-      let behind : List Move = met page o onward (seen page.meanings t) in
+      let behind : List Move = met page o onward (met_token page.meanings t) in
       settled_by (Handed t) (names ++ behind)
-      (pulls_join names behind ∙ omega (arith, entered_none (new_name enters page.names x), met_none page o onward (seen page.meanings t) still)) (subst (MakesPull (Handed t)) is tt)
+      (pulls_join names behind ∙ omega (arith, entered_none (new_name enters page.names x), met_none page o onward (met_token page.meanings t) still)) (subst (MakesPull (Handed t)) is tt)
   handed_by page enters o onward still (LineTaken line q) is = settled_by (Taken line) [] refl (subst (MakesPull (Taken line)) is tt)
   handed_by page enters o onward still (InvalidMet q) is = settled_by Skipped (reported page InvalidCharacter []) (reported_none page InvalidCharacter [] refl) (subst (MakesPull Skipped) is tt)
   handed_by page enters o onward still (FileOver q) is = settled_by FileClosed (checked (without_file page) o) (checked_none (without_file page) o) (subst (MakesPull FileClosed) is tt)

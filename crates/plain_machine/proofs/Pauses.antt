@@ -1,10 +1,11 @@
 -- Each state and bound has a run, since from each state silent moves come to an end or to a step.
 use Rattle.std.proofs.Common.{◌≡◌, ◌⊎◌, ℕ, ◌+◌, ◌≤◌, List, [], ◌∷◌, ◌++◌, refl, ◌∙◌, inl, inr, arith, zero, suc}
-use Rattle.plain_state.specs.States.{State, Move, Handed, Taken, Settled, made}
+use Rattle.plain_machine.specs.States.{State, Move, Handed, Taken, Settled, made}
 use Rattle.plain_machine.specs.Plan.{Ends, Goes, next, plan}
 use Rattle.plain_machine.specs.Runs.{step_of, steps, Moves, NeedsStep, HasRun, all_made}
 use Rattle.plain_machine.proofs.Joins.{moves_join, steps_join, due_kept, next_due, next_plan}
-use Rattle.plain_machine.proofs.Silent.{Rule, Over, Step, Falls, rule, weight}
+use Rattle.plain_readings.specs.Weights.{WeightsFall}
+use Rattle.plain_machine.proofs.Silent.{Rule, Over, Step, Falls, rule, state_weight}
 
 -- silent moves that lead to an end or to a step
 record Pauses (s : State) : Type 0 where
@@ -53,20 +54,21 @@ at_step s m ms e f one =
     let u : State = made Settled (record s { due = m ∷ ms }) in
     record { ms = Settled ∷ []; t = u; moves = (u, (next_plan s Settled (m ∷ ms) e f, refl)); silent = refl; paused = inr (m, (_, (next_due u m ms refl, one))) }
 
-settles : (n : ℕ) (s : State) → s.due ≡ [] → weight s ≤ n → Pauses s
-settles n s e le = by_rule n s e le (rule s) where
-  by_rule : (n : ℕ) (s : State) → s.due ≡ [] → weight s ≤ n → Rule s (plan s s.stopped) → Pauses s
-  by_rule n s e le (Over f) = record { ms = []; t = s; moves = refl; silent = refl; paused = inl (ends s e f) }
-  by_rule n s e le (Step m ms f one) = at_step s m ms e f one
-  by_rule zero s e le (Falls less) = absurd (omega arith)
-  by_rule (suc n) s e le (Falls less) =
-      let u : State = all_made (plan s s.stopped) s in
-      goes_plan s (plan s s.stopped) e refl (by_rule n u (plan_none s (plan s s.stopped) e) (omega arith) (rule u))
+module _ (falls : WeightsFall) where
+  settles : (n : ℕ) (s : State) → s.due ≡ [] → state_weight s ≤ n → Pauses s
+  settles n s e le = by_rule n s e le (rule falls s) where
+    by_rule : (n : ℕ) (s : State) → s.due ≡ [] → state_weight s ≤ n → Rule s (plan s s.stopped) → Pauses s
+    by_rule n s e le (Over f) = record { ms = []; t = s; moves = refl; silent = refl; paused = inl (ends s e f) }
+    by_rule n s e le (Step m ms f one) = at_step s m ms e f one
+    by_rule zero s e le (Falls less) = absurd (omega arith)
+    by_rule (suc n) s e le (Falls less) =
+        let u : State = all_made (plan s s.stopped) s in
+        goes_plan s (plan s s.stopped) e refl (by_rule n u (plan_none s (plan s s.stopped) e) (omega arith) (rule falls u))
 
-pauses : (s : State) → Pauses s
-pauses s =
-    let u : State = all_made s.due s in
-    goes_due s s.due refl (settles (weight u) u (due_none s s.due refl) (omega arith))
+  pauses : (s : State) → Pauses s
+  pauses s =
+      let u : State = all_made s.due s in
+      goes_due s s.due refl (settles (state_weight u) u (due_none s s.due refl) (omega arith))
 
 module _ (s : State) (p : Pauses s) where
   run_here : (k : ℕ) → (next p.t ≡ Ends) ⊎ ((0 ≡ k) × NeedsStep p.t) → HasRun s k
@@ -96,6 +98,6 @@ module _ (s : State) (p : Pauses s) where
   run_suc k h (inl e) = run_here (suc k) (inl e)
   run_suc k h (inr n) = run_on k n.0 n.1.0 n.1.1.0 n.1.1.1 (h n.1.0)
 
-pub has_run : (k : ℕ) (s : State) → HasRun s k
-has_run zero s = run_zero s (pauses s) (pauses s).paused
-has_run (suc k) s = run_suc s (pauses s) k (has_run k) (pauses s).paused
+pub has_run : WeightsFall → (k : ℕ) (s : State) → HasRun s k
+has_run falls zero s = run_zero s (pauses falls s) (pauses falls s).paused
+has_run falls (suc k) s = run_suc s (pauses falls s) k (has_run falls k) (pauses falls s).paused

@@ -1,5 +1,5 @@
 -- The next token, character or line is pulled by a rule's second move, once the finished lists in front have gone, or not at all.
-use Rattle.std.proofs.Common.{◌≡◌, ℕ, ◌+◌, ◌≤◌, List, [], ◌∷◌, ◌++◌, length, drop, map, slice_index_or, refl, ◌∙◌, arith, Bool, true, false}
+use Rattle.std.proofs.Common.{◌≡◌, ℕ, ◌+◌, ◌≤◌, List, [], ◌∷◌, ◌++◌, length, drop, map, slice_index_or, refl, arith, Bool, true, false}
 use Rattle.std.specs.Prelude.{Option, Some, None, if◌then◌else◌, ◌||◌, nat_eq, nat_lt}
 use Rattle.tex_syntax.specs.declared.words.Want.{Want}
 use Rattle.tex_syntax.specs.declared.words.Want.TheVariants.{Raw, Expanded, Copied, Nonblank, Command}
@@ -12,18 +12,31 @@ use Rattle.tex_defs.specs.declared.Seen.{Seen}
 use Rattle.tex_defs.specs.declared.Meaning.{Meaning}
 use Rattle.tex_defs.specs.declared.Meaning.TheVariants as means
 use Rattle.tex_defs.specs.declared.Token.{Token}
+use Rattle.tex_defs.specs.declared.Token.TheVariants as token
 use Rattle.tex_defs.specs.declared.Fatal.TheVariants.{HundredErrors}
 use Rattle.tex_defs.specs.Places.{Transcript}
 use Rattle.tex_defs.specs.declared.Name.{Name}
-use Rattle.plain_tokens.specs.Names.{name_of, means_relax, relax_primitive, catcode_primitive, message_primitive, end_primitive, long_primitive, outer_primitive, global_primitive, def_primitive, gdef_primitive, edef_primitive, xdef_primitive, number_primitive}
-use Rattle.plain_tokens.specs.Tokens.{is_space, is_outer, space_token}
-use Rattle.plain_tokens.specs.Meanings.{name_meaning, seen}
+use Rattle.plain_tokens.specs.Names.{name_of, means_relax, relax_primitive, end_primitive}
+use Rattle.plain_tokens.specs.Tokens.{is_space, is_outer, is_undefined, space_token, made_text, character_codes}
+use Rattle.plain_tokens.specs.Numerals.{whole_number, roman}
+use Rattle.plain_tokens.specs.Meanings.{name_meaning, seen_as, met as met_token}
+use Rattle.plain_tokens.specs.Printed.{Style}
 use Rattle.plain_tokens.specs.Puts.{Item, Put as PutList, call_put}
 use Rattle.plain_tokens.specs.Arguments.{has_parameters, arguments_in, work_in}
-use Rattle.plain_state.specs.Readings as reading
-use Rattle.plain_state.specs.States.{State, Move, Reading, Handed, Taken, Skipped, FileClosed, Grows, Feeds, Noted, Completed, ListGrown, Put, Begun, Ended, Closed, Written, Stopped}
-use Rattle.plain_state.specs.Reports.{plain_style, hundred_line, token_line_bytes}
-use Rattle.plain_machine.specs.Plan.{Page, met, met_outer, entered, Scanning, checked, check_noted, ran_away, away_text, page_behind, reported, reports_room, told, put_inserted, is_told, noting, token_line, finish, command, primitive, called, called_meaning, called_list, put_body, body_put, wanted, expanded, expanded_as, feeding_kind, grown_to, opened, in_place, argument_fed, begun, begun_with, last_seen, given_back, put_all, effect, arguments_put, called_with, failed, failed_away, unless_expanded, put_text}
+use Rattle.plain_tokens.specs.Arguments as call
+use Rattle.plain_state.specs.Reports.{string_text, hundred_line, token_line_bytes}
+use Rattle.rows.specs.declared.command.Call.{Call}
+use Rattle.rows.specs.declared.command.Effect.{Effect}
+use Rattle.rows.specs.declared.command.Effect.TheVariants as effect
+use Rattle.rows.specs.declared.words.Value.{Value}
+use Rattle.rows.specs.Table.{has_row}
+use Rattle.rows.specs.Readings.{Fed, Tok, Told, Ask, More, Inner, Done, Acts, ActsOn, Defines, Ends as Closes, Calls, Fails, RunsAway, Tells, Inserts}
+use Rattle.plain_readings.specs.Calls.{gathered}
+use Rattle.plain_readings.specs.Spelling.{endcsname_primitive}
+use Rattle.plain_readings.specs.Readings.{Kind, Reads, Spelling, Arguments, Reading, lists}
+use Rattle.plain_readings.specs.Scanning.{Scanning, scanning}
+use Rattle.plain_machine.specs.States.{State, Move, Handed, Taken, Skipped, FileClosed, Grows, Feeds, Completed, ListGrown, Assigned, Begun, Ended, Closed, Written, Stopped}
+use Rattle.plain_machine.specs.Plan.{Page, page_of, plain_style_of, style_of, met, met_outer, entered, checked, check_noted, ran_away, away_text, page_behind, reported, reported_as, behind_report, reports_room, told, put_inserted, put_one, put_made, put_text, put_characters, noting, noting_kind, token_line, finish, command, primitive, call_of, begun, csname_primitive, jobname_primitive, is_expandable_primitive, job_in, expansion, unless_expanded, called, called_meaning, called_list, put_body, body_put, stomach, wanted, expanded, expanded_as, feeding_kind, grown_and_fed, first_list, grown_to, opened, in_place, argument_fed, call_fed, inner_begun, given_back, value_tokens, done, arguments_put, called_with, failed, failed_away, acts, acts_on, and_closed, meaning_characters, macro_defined, name_made, relax_if_undefined, spelt, newly_spelt, answered}
 use Rattle.plain_machine.specs.Runs.{step_of, steps}
 
 -- the moves that pull
@@ -58,38 +71,44 @@ none_if : (b : Bool) (x y : List Move) → pulls x ≡ 0 → pulls y ≡ 0 → p
 none_if true x y h i = h
 none_if false x y h i = i
 
-pub back_none : (back : Bool) (fed : List reading.Fed) → pulls (given_back back fed) ≡ 0
-back_none false fed = refl
-back_none true fed = all_none (last_seen fed) where
-  all_none : (xs : List Seen) → pulls (put_all xs) ≡ 0
-  all_none [] = refl
-  all_none (x ∷ xs) = refl
+-- moves behind one another
+joined_none : (xs ys : List Move) → pulls xs ≡ 0 → pulls ys ≡ 0 → pulls (xs ++ ys) ≡ 0
+joined_none xs ys h i = omega (arith, pulls_join xs ys, h, i)
+
+pub back_none : (back : Bool) (last : Seen) → pulls (given_back back last) ≡ 0
+back_none false last = refl
+back_none true last = refl
 
 -- a text that is put in front
-made_none : (ts us : List Token) → pulls (map ListGrown ts ++ Put us ∷ []) ≡ 0
-made_none [] us = refl
-made_none (t ∷ ts) us = omega (arith, made_none ts us)
+grown_texts_none : (ts : List Token) → pulls (map ListGrown ts) ≡ 0
+grown_texts_none [] = refl
+grown_texts_none (t ∷ ts) = omega (arith, grown_texts_none ts)
+
+made_none : (ts : List Token) → pulls (put_made ts) ≡ 0
+made_none [] = refl
+made_none (t ∷ ts) = refl
 
 pub text_none : (ts : List Token) → pulls (put_text ts) ≡ 0
-text_none ts = omega (arith, made_none ts ts)
+text_none ts = omega (arith, joined_none (map ListGrown ts) (put_made ts) (grown_texts_none ts) (made_none ts))
 
-pub effect_none : (s : State) (ef : reading.Effect) → pulls (effect s ef) ≡ 0
-effect_none s (reading.SetCategory code category) = refl
-effect_none s (reading.Say ts) = refl
-effect_none s (reading.SetMacro name long outer ts) = refl
+pub characters_none : (characters : List ℕ) → pulls (put_characters characters) ≡ 0
+characters_none characters = text_none (made_text characters)
 
 pub entered_none : (names : List (List ℕ)) → pulls (entered names) ≡ 0
 entered_none [] = refl
 entered_none (name ∷ names) = refl
 
+behind_none : (style : Style) (reports : ℕ) (rest : List Move) → pulls rest ≡ 0 → pulls (behind_report style reports rest) ≡ 0
+behind_none style reports rest h = none_if (nat_lt reports reports_room) rest (Written Transcript (hundred_line style) ∷ Stopped (AtFatal HundredErrors) ∷ []) h refl
+
 pub reported_none : (page : Page) (report : Report) (rest : List Move) → pulls rest ≡ 0 → pulls (reported page report rest) ≡ 0
-reported_none page report rest h =
-    let last : pulls (if nat_lt page.reports reports_room then rest else Written Transcript (hundred_line (plain_style page.names)) ∷ Stopped (AtFatal HundredErrors) ∷ []) ≡ 0 =
-    none_if (nat_lt page.reports reports_room) rest (Written Transcript (hundred_line (plain_style page.names)) ∷ Stopped (AtFatal HundredErrors) ∷ []) h refl in
-    omega (arith, last)
+reported_none page report rest h = omega (arith, behind_none (plain_style_of page) page.reports rest h)
+
+pub reported_as_none : (page : Page) (ts : List Token) (rest : List Move) → pulls rest ≡ 0 → pulls (reported_as page ts rest) ≡ 0
+reported_as_none page ts rest h = omega (arith, behind_none (plain_style_of page) page.reports rest h)
 
 line_none : (page : Page) (m : Meaning Unit) → pulls (token_line page m) ≡ 0
-line_none page m = none_if page.quiet [] (Written Transcript (token_line_bytes (plain_style page.names) page.in_line m) ∷ []) refl refl
+line_none page m = none_if page.quiet [] (Written Transcript (token_line_bytes (plain_style_of page) page.in_line m) ∷ []) refl refl
 
 -- a list that grows, and how a reading is fed
 grown_none : (ts : List Token) → pulls (map Grows ts) ≡ 0
@@ -97,27 +116,37 @@ grown_none [] = refl
 grown_none (t ∷ ts) = omega (arith, grown_none ts)
 
 one_more : (ts : List Token) (m : Move) → pulls (m ∷ []) ≡ 0 → pulls (map Grows ts ++ m ∷ []) ≡ 0
-one_more ts m h = pulls_join (map Grows ts) (m ∷ []) ∙ omega (arith, grown_none ts, h)
+one_more ts m h = joined_none (map Grows ts) (m ∷ []) (grown_none ts) h
 
 opened_none : (o : Option (List Token)) → pulls (opened o) ≡ 0
 opened_none None = refl
 opened_none (Some work) = refl
 
 place_none : (x : Seen) (work : List Token) (complete : List (List Token)) (next : Option (List Token)) → pulls (in_place x work complete next) ≡ 0
-place_none x work (a ∷ more) next = pulls_join (grown_to work a) (Feeds x ∷ Completed a ∷ opened next) ∙ omega (arith, grown_none (drop (length work) a), opened_none next)
+place_none x work (a ∷ more) next = joined_none (grown_to work a) (Feeds (Tok x) ∷ Completed a ∷ opened next) (grown_none (drop (length work) a)) (omega (arith, opened_none next))
 place_none x work [] None = refl
-place_none x work [] (Some after) = one_more (drop (length work) after) (Feeds x) refl
+place_none x work [] (Some after) = one_more (drop (length work) after) (Feeds (Tok x)) refl
 
 argument_none : (x : Seen) (o : Option (List Token)) (complete : List (List Token)) (next : Option (List Token)) → pulls (argument_fed x o complete next) ≡ 0
 argument_none x None complete next = omega (arith, opened_none next)
 argument_none x (Some work) complete next = place_none x work complete next
 
-pub kind_none : (k : reading.Kind) (fed : List reading.Fed) (x : Seen) → pulls (feeding_kind k fed x) ≡ 0
-kind_none (reading.Arguments name long number ts) fed x = argument_none x (work_in (reading.gathered_by long ts fed)) (drop (length (arguments_in (reading.gathered_by long ts fed))) (arguments_in (reading.gathered_by long ts (fed ++ reading.Tok x ∷ [])))) (work_in (reading.gathered_by long ts (fed ++ reading.Tok x ∷ [])))
-kind_none k fed x = one_more (drop (length (reading.so_far k fed)) (reading.so_far k (fed ++ reading.Tok x ∷ []))) (Feeds x) refl
+fed_none : (k : Kind) (fed : List Fed) (y : Fed) → pulls (grown_and_fed k fed y) ≡ 0
+fed_none k fed y = one_more (drop (length (first_list (lists k fed))) (first_list (lists k (fed ++ y ∷ [])))) (Feeds y) refl
+
+call_fed_none : (x : Seen) (before after : call.Answer) → pulls (call_fed x before after) ≡ 0
+call_fed_none x before after = argument_none x (work_in before) (drop (length (arguments_in before)) (arguments_in after)) (work_in after)
+
+pub kind_none : (k : Kind) (fed : List Fed) (x : Seen) → pulls (feeding_kind k fed x) ≡ 0
+kind_none (Arguments name long number ts) fed x = call_fed_none x (gathered long ts fed) (gathered long ts (fed ++ Tok x ∷ []))
+kind_none k fed x = fed_none k fed (Tok x)
+
+noting_kind_none : (k : Kind) (fed : List Fed) → pulls (noting_kind k fed) ≡ 0
+noting_kind_none (Arguments name long number ts) fed = refl
+noting_kind_none k fed = fed_none k fed Told
 
 noting_none : (r : Reading) → pulls (noting r) ≡ 0
-noting_none r = one_more (drop (length (reading.so_far r.kind r.fed)) (reading.so_far r.kind (r.fed ++ reading.Told ∷ []))) Noted refl
+noting_none r = noting_kind_none r.kind r.fed
 
 -- a macro's name
 body_none : (p : PutList) (items : List Item) → pulls (body_put p items) ≡ 0
@@ -128,7 +157,7 @@ called_list_none : (page : Page) (n : Name) (long : Bool) (o : Option ℕ) → p
 called_list_none page n long None = refl
 called_list_none page n long (Some number) =
     let ts : List Token = slice_index_or page.macros number [] in
-    none_if (has_parameters ts) (Begun (reading.Arguments n long number ts) ∷ []) (put_body (call_put number ts [])) refl (body_none (call_put number ts []) (call_put number ts []).items)
+    none_if (has_parameters ts) (Begun (Arguments n long number ts) ∷ []) (put_body (call_put number ts [])) refl (body_none (call_put number ts []) (call_put number ts []).items)
 
 called_meaning_none : (page : Page) (n : Name) (m : Meaning (Option ℕ)) → pulls (called_meaning page n m) ≡ 0
 called_meaning_none page n (means.Macro long outer list) = called_list_none page n long list
@@ -137,52 +166,58 @@ called_meaning_none page n m = refl
 called_none : (page : Page) (t : Token) → pulls (called page t) ≡ 0
 called_none page t = called_meaning_none page (name_of t) (name_meaning page.meanings (name_of t))
 
+-- PRIMITIVES
+
 primitive_none : (page : Page) (t : Token) (n : ℕ) → pulls (primitive page t n) ≡ 0
 primitive_none page t n =
     let line : List Move = token_line page (means.Prim n) in
-    let relax : List Move = if nat_eq n relax_primitive then [] else line in
-    let expanding : List Move = if nat_eq n edef_primitive || nat_eq n xdef_primitive then Begun (reading.Define true) ∷ [] else relax in
-    let defining : List Move = if nat_eq n def_primitive || nat_eq n gdef_primitive then Begun (reading.Define false) ∷ [] else expanding in
-    let global : List Move = if nat_eq n global_primitive then Begun (reading.Prefixed false false) ∷ [] else defining in
-    let outer : List Move = if nat_eq n outer_primitive then Begun (reading.Prefixed false true) ∷ [] else global in
-    let long : List Move = if nat_eq n long_primitive then Begun (reading.Prefixed true false) ∷ [] else outer in
-    let ending : List Move = if nat_eq n end_primitive then finish page.in_line else long in
-    let message : List Move = if nat_eq n message_primitive then Begun (reading.Message (name_of t)) ∷ [] else ending in
-    none_if (nat_eq n catcode_primitive) (Begun reading.Catcode ∷ []) message refl
-    (none_if (nat_eq n message_primitive) (Begun (reading.Message (name_of t)) ∷ []) ending refl
-    (none_if (nat_eq n end_primitive) (finish page.in_line) long refl
-    (none_if (nat_eq n long_primitive) (Begun (reading.Prefixed true false) ∷ []) outer refl
-    (none_if (nat_eq n outer_primitive) (Begun (reading.Prefixed false true) ∷ []) global refl
-    (none_if (nat_eq n global_primitive) (Begun (reading.Prefixed false false) ∷ []) defining refl
-    (none_if (nat_eq n def_primitive || nat_eq n gdef_primitive) (Begun (reading.Define false) ∷ []) expanding refl
-    (none_if (nat_eq n edef_primitive || nat_eq n xdef_primitive) (Begun (reading.Define true) ∷ []) relax refl
-    (none_if (nat_eq n relax_primitive) [] line refl (line_none page (means.Prim n))))))))))
+    let extra : List Move = if nat_eq n endcsname_primitive then reported page reports.ExtraEndcsname [] else line in
+    let relax : List Move = if nat_eq n relax_primitive then [] else extra in
+    let ending : List Move = if nat_eq n end_primitive then finish page.in_line else relax in
+    none_if (has_row n) (begun t n) ending refl
+    (none_if (nat_eq n end_primitive) (finish page.in_line) relax refl
+    (none_if (nat_eq n relax_primitive) [] extra refl
+    (none_if (nat_eq n endcsname_primitive) (reported page reports.ExtraEndcsname []) line (reported_none page reports.ExtraEndcsname [] refl) (line_none page (means.Prim n)))))
 
-unless_none : (n : ℕ) (moves : List Move) → pulls moves ≡ 0 → pulls (unless_expanded n moves) ≡ 0
-unless_none n moves h = none_if (nat_eq n number_primitive) (Begun reading.Number ∷ []) moves refl h
+expansion_none : (page : Page) (t : Token) (n : ℕ) → pulls (expansion page t n) ≡ 0
+expansion_none page t n =
+    let name : List Move = put_characters (job_in page.strings) in
+    let job : List Move = begun t n ++ (name ++ Closed ∷ []) in
+    let others : List Move = if nat_eq n jobname_primitive then job else begun t n in
+    none_if (nat_eq n csname_primitive) (Begun (Spelling (call_of t n)) ∷ []) others refl
+    (none_if (nat_eq n jobname_primitive) job (begun t n) (omega (arith, joined_none name (Closed ∷ []) (characters_none (job_in page.strings)) refl)) refl)
+
+unless_none : (page : Page) (t : Token) (n : ℕ) (moves : List Move) → pulls moves ≡ 0 → pulls (unless_expanded page t n moves) ≡ 0
+unless_none page t n moves h = none_if (is_expandable_primitive n) (expansion page t n) moves (expansion_none page t n) h
 
 pub command_none : (page : Page) (t : Token) (m : Meaning Unit) → pulls (command page t m) ≡ 0
-command_none page t (means.Prim n) = unless_none n (primitive page t n) (primitive_none page t n)
-command_none page t means.Undefined = reported_none page reports.UndefinedName [] refl
+command_none page t (means.Prim n) = primitive_none page t n
 command_none page t means.RelaxMarked = refl
+command_none page t means.Undefined = line_none page means.Undefined
 command_none page t (means.Char category code) = line_none page (means.Char category code)
 command_none page t (means.CharGiven code) = line_none page (means.CharGiven code)
 command_none page t (means.MathGiven code) = line_none page (means.MathGiven code)
 command_none page t (means.Register kind number) = line_none page (means.Register kind number)
-command_none page t (means.Macro long outer list) = called_none page t
+command_none page t (means.Macro long outer list) = line_none page (means.Macro long outer list)
 
-expanded_none : (page : Page) (t : Token) (m : Meaning Unit) (feeds : List Move) → pulls feeds ≡ 0 → pulls (expanded_as page t m feeds) ≡ 0
-expanded_none page t means.Undefined feeds h = reported_none page reports.UndefinedName [] refl
-expanded_none page t (means.Macro long outer list) feeds h = called_none page t
-expanded_none page t (means.Prim n) feeds h = unless_none n feeds h
-expanded_none page t m feeds h = h
+as_none : (page : Page) (t : Token) (m : Meaning Unit) (moves : List Move) → pulls moves ≡ 0 → pulls (expanded_as page t m moves) ≡ 0
+as_none page t means.Undefined moves h = reported_none page reports.UndefinedName [] refl
+as_none page t (means.Macro long outer list) moves h = called_none page t
+as_none page t (means.Prim n) moves h = unless_none page t n moves h
+as_none page t m moves h = h
+
+pub expanded_none : (page : Page) (x : Seen) (moves : List Move) → pulls moves ≡ 0 → pulls (expanded page x moves) ≡ 0
+expanded_none page x moves h = as_none page x.token x.meaning moves h
+
+pub stomach_none : (page : Page) (x : Seen) → pulls (stomach page x) ≡ 0
+stomach_none page x = expanded_none page x (command page x.token x.meaning) (command_none page x.token x.meaning)
 
 pub wanted_none : (page : Page) (w : Want) (feeds : List Move) (x : Seen) → pulls feeds ≡ 0 → pulls (wanted page w feeds x) ≡ 0
 wanted_none page Raw feeds x h = h
-wanted_none page Expanded feeds x h = expanded_none page x.token x.meaning feeds h
-wanted_none page Copied feeds x h = expanded_none page x.token x.meaning feeds h
-wanted_none page Nonblank feeds x h = none_if (is_space x) [] (expanded page x feeds) refl (expanded_none page x.token x.meaning feeds h)
-wanted_none page Command feeds x h = none_if (is_space x || means_relax x.meaning) [] (expanded page x feeds) refl (expanded_none page x.token x.meaning feeds h)
+wanted_none page Expanded feeds x h = expanded_none page x feeds h
+wanted_none page Copied feeds x h = expanded_none page x feeds h
+wanted_none page Nonblank feeds x h = none_if (is_space x) [] (expanded page x feeds) refl (expanded_none page x feeds h)
+wanted_none page Command feeds x h = none_if (is_space x || means_relax x.meaning) [] (expanded page x feeds) refl (expanded_none page x feeds h)
 
 -- checks
 noted_none : (what : Scanned) (rest : List Move) → pulls rest ≡ 0 → pulls (check_noted what rest) ≡ 0
@@ -198,8 +233,9 @@ checked_none page None = refl
 checked_none page (Some s) = away_none page (reports.FileEnded s.what s.name) s [] refl
 
 met_outer_none : (page : Page) (o : Option Scanning) (t : Token) (onward : Seen → List Move) → ((x : Seen) → pulls (onward x) ≡ 0) → pulls (met_outer page o t onward) ≡ 0
-met_outer_none page None t onward h = h (seen page.meanings t)
-met_outer_none page (Some s) t onward h = omega (arith, away_none page (reports.Forbidden s.what s.name) s (onward (seen page.meanings space_token)) (h (seen page.meanings space_token)))
+met_outer_none page None t onward h = h (met_token page.meanings t)
+met_outer_none page (Some s) t onward h =
+    omega (arith, away_none page (reports.Forbidden s.what s.name) s (onward (met_token page.meanings space_token)) (h (met_token page.meanings space_token)))
 
 pub met_none : (page : Page) (o : Option Scanning) (onward : Seen → List Move) (x : Seen) → ((x : Seen) → pulls (onward x) ≡ 0) → pulls (met page o onward x) ≡ 0
 met_none page o onward x h = none_if (is_outer x.meaning) (met_outer page o x.token onward) (onward x) (met_outer_none page o x.token onward h) (h x)
@@ -208,34 +244,82 @@ inserted_none : (o : Option Token) → pulls (put_inserted o) ≡ 0
 inserted_none None = refl
 inserted_none (Some t) = refl
 
+-- WHAT COMES OF AN ANSWER
+
 pub told_none : (page : Page) (report : Report) (inserted : Option Token) (back : Bool) (r : Reading) → pulls (told page report inserted back r) ≡ 0
 told_none page report inserted back r =
-    none_if (is_told r.fed) (Ended (reading.Flag false) ∷ []) (given_back back r.fed ++ (put_inserted inserted ++ reported page report (noting r))) refl
-    (pulls_join (given_back back r.fed) (put_inserted inserted ++ reported page report (noting r))
-    ∙ omega (arith, back_none back r.fed, pulls_join (put_inserted inserted) (reported page report (noting r)), inserted_none inserted, reported_none page report (noting r) (noting_none r)))
+    joined_none (given_back back page.last) (put_inserted inserted ++ reported page report (noting r)) (back_none back page.last)
+    (joined_none (put_inserted inserted) (reported page report (noting r)) (inserted_none inserted) (reported_none page report (noting r) (noting_none r)))
 
-with_none : (k : reading.Kind) (lent : Bool) (xs : List Seen) → pulls (begun_with k lent xs) ≡ 0
-with_none k lent [] = refl
-with_none k true (x ∷ xs) = refl
-with_none k false (x ∷ xs) = refl
+pub inner_none : (k : Kind) (begins : Bool) → pulls (inner_begun k begins) ≡ 0
+inner_none k true = refl
+inner_none k false = refl
 
-pub begun_none : (k : reading.Kind) (begins : Bool) (r : Reading) → pulls (begun k begins r) ≡ 0
-begun_none k true r = with_none k r.lent (last_seen r.fed)
-begun_none k false r = refl
+pub done_none : (page : Page) (r : Reading) (v : Value) (back : Bool) → pulls (done page r v back) ≡ 0
+done_none page r v back = joined_none (given_back back page.last) (Ended v (value_tokens v (lists r.kind r.fed)) ∷ []) (back_none back page.last) refl
 
 put_none : (p : PutList) (items : List Item) → pulls (arguments_put p items) ≡ 0
 put_none p [] = refl
 put_none p (x ∷ xs) = refl
 
-pub called_with_none : (k : reading.Kind) (args : List (List Token)) → pulls (called_with k args) ≡ 0
-called_with_none (reading.Arguments name long number ts) args = put_none (call_put number ts args) (call_put number ts args).items
+pub called_with_none : (k : Kind) (args : List (List Token)) → pulls (called_with k args) ≡ 0
+called_with_none (Arguments name long number ts) args = put_none (call_put number ts args) (call_put number ts args).items
 called_with_none k args = refl
 
 pub failed_none : (page : Page) (report : Report) → pulls (failed page report) ≡ 0
 failed_none page report = reported_none page report (Closed ∷ []) refl
 
-pub failed_away_none : (page : Page) (report : Report) (o : Option Scanning) (fed : List reading.Fed) → pulls (failed_away page report o fed) ≡ 0
-failed_away_none page report None fed = pulls_join (given_back true fed) (failed page report) ∙ omega (arith, back_none true fed, failed_none page report)
-failed_away_none page report (Some s) fed =
-    let behind : Page = page_behind page (away_text page s) in
-    omega (arith, pulls_join (given_back true fed) (failed behind report), back_none true fed, failed_none behind report)
+pub failed_away_none : (page : Page) (report : Report) (o : Option Scanning) → pulls (failed_away page report o) ≡ 0
+failed_away_none page report None = omega (arith, failed_none page report)
+failed_away_none page report (Some s) = omega (arith, failed_none (page_behind page (away_text page s)) report)
+
+-- what a command does
+and_closed_none : (moves : List Move) → pulls moves ≡ 0 → pulls (and_closed moves) ≡ 0
+and_closed_none moves h = joined_none moves (Closed ∷ []) h refl
+
+pub acts_none : (page : Page) (c : Call) (e : Effect) → pulls (acts page c e) ≡ 0
+acts_none page c (effect.Obey x) = omega (arith, command_none page x.token x.meaning)
+acts_none page c (effect.ExpandBehind x y) = omega (arith, expanded_none page y (put_one y.token) refl)
+acts_none page c (effect.MakeNumber n) = and_closed_none (put_characters (whole_number n)) (characters_none (whole_number n))
+acts_none page c (effect.MakeRoman n) = and_closed_none (put_characters (roman n)) (characters_none (roman n))
+acts_none page c (effect.MakeString x) = and_closed_none (put_characters (string_text (style_of page) x.token)) (characters_none (string_text (style_of page) x.token))
+acts_none page c (effect.MakeMeaning x) = and_closed_none (put_characters (meaning_characters page x)) (characters_none (meaning_characters page x))
+acts_none page c e = refl
+
+relax_none : (meanings : List (Meaning (Option ℕ))) (n : Name) → pulls (relax_if_undefined meanings n) ≡ 0
+relax_none meanings n = none_if (is_undefined (seen_as (name_meaning meanings n))) (Assigned n (means.Prim relax_primitive) ∷ []) [] refl refl
+
+made_name_none : (page : Page) (characters : List ℕ) → pulls (name_made page characters) ≡ 0
+made_name_none page characters =
+    let n : Name = spelt page.names characters in
+    let front : List Move = put_one (token.Named n) in
+    joined_none (entered (newly_spelt page.names characters)) (relax_if_undefined page.meanings n ++ front) (entered_none (newly_spelt page.names characters))
+    (joined_none (relax_if_undefined page.meanings n) front (relax_none page.meanings n) refl)
+
+pub acts_on_none : (page : Page) (c : Call) (e : Effect) (ts : List Token) → pulls (acts_on page c e ts) ≡ 0
+acts_on_none page c effect.ErrorMessage ts = reported_as_none page ts (Closed ∷ []) refl
+acts_on_none page c effect.MakeName ts = and_closed_none (name_made page (character_codes ts)) (made_name_none page (character_codes ts))
+acts_on_none page c e ts = refl
+
+pub macro_none : (c : Call) (n : Name) (ts : List Token) → pulls (macro_defined c n ts) ≡ 0
+macro_none c n [] = refl
+macro_none c n (t ∷ ts) = refl
+
+-- an answer by which no token is wanted
+abbrev pub WantsNone : Ask → Type 0
+WantsNone (More want) = ⊥
+WantsNone a = Unit {0}
+
+pub answered_none : (s : State) (work : List Reading) (r : Reading) (a : Ask) → WantsNone a → pulls (answered s work r a) ≡ 0
+answered_none s work r (More want) h = absurd h
+answered_none s work r (Inner k begins) h = inner_none (Reads k) begins
+answered_none s work r (Done v back) h = done_none (page_of s) r v back
+answered_none s work r (Acts c e) h = acts_none (page_of s) c e
+answered_none s work r (ActsOn c e ts) h = acts_on_none (page_of s) c e ts
+answered_none s work r (Defines c n ts) h = macro_none c n ts
+answered_none s work r Closes h = refl
+answered_none s work r (Calls args) h = called_with_none r.kind args
+answered_none s work r (Fails report) h = failed_none (page_of s) report
+answered_none s work r (RunsAway report) h = failed_away_none (page_of s) report (scanning work s.gathered)
+answered_none s work r (Tells report back) h = told_none (page_of s) report None back r
+answered_none s work r (Inserts t report back) h = told_none (page_of s) report (Some t) back r

@@ -11,10 +11,11 @@ use Rattle.tex_defs.specs.declared.Name.{Name}
 use Rattle.tex_defs.specs.declared.Name.TheVariants as name
 use Rattle.tex_defs.specs.declared.Meaning.{Meaning}
 use Rattle.tex_defs.specs.declared.Meaning.TheVariants as means
+use Rattle.tex_defs.specs.declared.Seen.{Seen}
 use Rattle.plain_tokens.specs.Lex.{Lexed, Gives, Invalid, UsedUp, lexed}
 use Rattle.plain_tokens.specs.Puts.{Item, First, Whole, Own, Macro, Put, put_top, with_put, settled_top, settled, without_gaps, passed_top, passed, top_item, next_item, put_levels, put_parameters, levels_of, when_some, token_put, call_put}
 use Rattle.plain_tokens.specs.Pending.{Pending, Progress, NotBegun, Begun, Closed, Pulled, TokenFrom, LexemeFrom, LineTaken, InvalidMet, FileOver, NothingLeft, with_puts, settle, put_front, from_file, from_line, from_list, from_front, pulled, after_pull}
-use Rattle.plain_tokens.specs.Meanings.{location, fixed_meaning, frozen_meaning, looked_up, name_meaning, set_at, assigned, seen_as, token_meaning, seen}
+use Rattle.plain_tokens.specs.Meanings.{location, fixed_meaning, frozen_meaning, looked_up, name_meaning, set_at, assigned, seen_as, token_meaning, seen, met, whole_meaning, let_meaning, meaning_to_let}
 use Rattle.plain_tokens.specs.Tables.{whole_words, lists_words, argument_words, put_words, made_words, held_words, levels, file_levels, level, opened_level, parameters, file_level, next_line}
 use Rattle.plain_machine.specs.Numbers.{meaning_of, meanings_of, whole_of, put_of, puts_of, pending_of, pulled_of}
 
@@ -172,7 +173,7 @@ module _ (number : ℕ → ℕ) where
   seen_as_of (means.Prim n) = refl
   seen_as_of (means.Macro long outer list) = refl
 
-  name_seen_of : (cells : List (Meaning (Option ℕ))) (n : Name) → seen_as (name_meaning (meanings_of number cells) n) ≡ seen_as (name_meaning cells n)
+  pub name_seen_of : (cells : List (Meaning (Option ℕ))) (n : Name) → seen_as (name_meaning (meanings_of number cells) n) ≡ seen_as (name_meaning cells n)
   name_seen_of cells n = rw (name_meaning_of cells n) (seen_as_of (name_meaning cells n))
 
   pub token_meaning_of : (cells : List (Meaning (Option ℕ))) (t : Token) → token_meaning (meanings_of number cells) t ≡ token_meaning cells t
@@ -183,6 +184,24 @@ module _ (number : ℕ → ℕ) where
 
   pub seen_of : (cells : List (Meaning (Option ℕ))) (t : Token) → seen (meanings_of number cells) t ≡ seen cells t
   seen_of cells t = rw (token_meaning_of cells t)
+
+  -- as it is handed on
+  pub met_of : (cells : List (Meaning (Option ℕ))) (t : Token) → met (meanings_of number cells) t ≡ met cells t
+  met_of cells (token.Marked n) = rw (name_seen_of cells n) refl
+  met_of cells t = seen_of cells t
+
+  -- what `\let` gives
+  whole_meaning_of : (cells : List (Meaning (Option ℕ))) (t : Token) → whole_meaning (meanings_of number cells) t ≡ meaning_of number (whole_meaning cells t)
+  whole_meaning_of cells (token.Named n) = name_meaning_of cells n
+  whole_meaning_of cells (token.Marked n) = name_meaning_of cells n
+  whole_meaning_of cells t = refl
+
+  let_meaning_of : (cells : List (Meaning (Option ℕ))) (t : Token) (m : Meaning Unit) → let_meaning (meanings_of number cells) t m ≡ meaning_of number (let_meaning cells t m)
+  let_meaning_of cells t means.RelaxMarked = refl
+  let_meaning_of cells t m = whole_meaning_of cells t
+
+  pub meaning_to_let_of : (cells : List (Meaning (Option ℕ))) (x : Seen) → meaning_to_let (meanings_of number cells) x ≡ meaning_of number (meaning_to_let cells x)
+  meaning_to_let_of cells x = let_meaning_of cells x.token x.meaning
 
   set_at_of : (cells : List (Meaning (Option ℕ))) (k : Option ℕ) (m : Meaning (Option ℕ)) → set_at (meanings_of number cells) k (meaning_of number m) ≡ meanings_of number (set_at cells k m)
   set_at_of cells None m = refl

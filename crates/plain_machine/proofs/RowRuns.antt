@@ -4,8 +4,8 @@ use Rattle.std.specs.Prelude.{Option, Some, None, ◌⊎◌}
 use Rattle.tex_syntax.specs.declared.words.Outcome.{Outcome}
 use Rattle.tex_defs.specs.declared.Full.{Full}
 use Rattle.tex_defs.specs.declared.Sizes.{Sizes}
-use Rattle.plain_state.specs.States.{State, Move}
-use Rattle.plain_state.specs.Demands.{refusal}
+use Rattle.plain_machine.specs.States.{State, Move}
+use Rattle.plain_machine.specs.Demands.{refusal}
 use Rattle.plain_machine.specs.Plan.{Next, Ends, Goes, next, next_of}
 use Rattle.plain_machine.specs.Runs.{step_of}
 use Rattle.plain_machine.specs.Rows.{Result, Told, IsRun, IsWhole, FitsTo, RowsAreRuns, EndedRowsAreWhole, RefusalsAreRuns, run_of, full_in, went, went_within, fitted, with_move, text_of}
@@ -25,18 +25,20 @@ one_more n s u m r goes h = record {
   text = ap (λ (bs : List ℕ). text_of m ++ bs) h.text;
   count = ap (λ (k : ℕ). step_of m + k) h.count;
   names = h.names;
+  reports = h.reports;
+  flawed = h.flawed;
 } where
   on : Told n h.ms h.t r.stopped → Told (suc n) (m ∷ h.ms) h.t r.stopped
   on (inl e) = inl e
   on (inr e) = inr (omega (arith, e.0), e.1)
 
 by_next : (n : ℕ) (s : State) (x : Next) → next s ≡ x → ((u : State) → IsRun n u (run_of n u)) → IsRun (suc n) s (went s (λ u. run_of n u) x)
-by_next n s Ends is h = record { ms = []; t = s; moves = refl; within = omega arith; told = inl (is, refl); text = refl; count = refl; names = refl }
+by_next n s Ends is h = record { ms = []; t = s; moves = refl; within = omega arith; told = inl (is, refl); text = refl; count = refl; names = refl; reports = refl; flawed = refl }
 by_next n s (Goes m u) is h = one_more n s u m (run_of n u) is (h u)
 
 pub rows_run : RowsAreRuns
 unfolding run_of
-rows_run zero s = record { ms = []; t = s; moves = refl; within = omega arith; told = inr (refl, refl); text = refl; count = refl; names = refl }
+rows_run zero s = record { ms = []; t = s; moves = refl; within = omega arith; told = inr (refl, refl); text = refl; count = refl; names = refl; reports = refl; flawed = refl }
 rows_run (suc n) s = by_next n s (next_of s s.due) (next_is s) (λ u. rows_run n u)
 
 -- where an end is told
@@ -49,6 +51,8 @@ by_told n s r o h (inl e) is = record {
   text = h.text;
   count = h.count;
   names = h.names;
+  reports = h.reports;
+  flawed = h.flawed;
 }
 by_told n s r o h (inr e) is = absurd (cc (e.1, is))
 

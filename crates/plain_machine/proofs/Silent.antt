@@ -1,63 +1,61 @@
 -- Each rule ends the run, begins with a step once the finished lists in front have gone, or makes the weight of the state smaller.
-use Rattle.std.proofs.Common.{◌≡◌, ℕ, ◌+◌, ◌*◌, ◌≤◌, ◌<◌, Bool, true, false, List, [], ◌∷◌, ◌++◌, length, refl, ap, ◌∙◌, arith}
-use Rattle.std.specs.Prelude.{Option, Some, None, if◌then◌else◌, nat_lt, map}
+use Rattle.std.proofs.Common.{◌≡◌, ℕ, ◌+◌, ◌*◌, ◌≤◌, ◌<◌, Bool, true, false, List, [], ◌∷◌, ◌++◌, length, refl, sym, ap, ◌∙◌, subst, arith}
+use Rattle.std.specs.Prelude.{Option, Some, None, if◌then◌else◌, nat_lt, ◌==◌, map, drop, slice_index_or}
 use Rattle.tex_syntax.specs.declared.words.Report.{Report}
 use Rattle.tex_syntax.specs.declared.words.Scanned.{Scanned}
-use Rattle.tex_syntax.specs.declared.words.Report.TheVariants.{InvalidCharacter, FileEnded}
+use Rattle.tex_syntax.specs.declared.words.Report.TheVariants.{InvalidCharacter, FileEnded, UndefinedName, ExtraEndcsname}
 use Rattle.tex_syntax.specs.declared.words.Outcome.{Outcome}
-use Rattle.tex_syntax.specs.declared.words.Outcome.TheVariants.{AtFatal}
+use Rattle.tex_syntax.specs.declared.words.Outcome.TheVariants.{Finished, AtFatal}
 use Rattle.tex_syntax.specs.declared.words.Scanned.TheVariants as scanned
 use Rattle.tex_defs.specs.declared.Token.{Token}
+use Rattle.tex_defs.specs.declared.Token.TheVariants as token
 use Rattle.tex_defs.specs.declared.Seen.{Seen}
 use Rattle.tex_defs.specs.declared.Name.{Name}
+use Rattle.tex_defs.specs.declared.Meaning.{Meaning}
+use Rattle.tex_defs.specs.declared.Meaning.TheVariants as means
 use Rattle.tex_defs.specs.Places.{Transcript}
 use Rattle.tex_defs.specs.declared.Fatal.TheVariants.{HundredErrors}
+use Rattle.plain_tokens.specs.Names.{name_of, relax_primitive, end_primitive}
+use Rattle.plain_tokens.specs.Tokens.{character_codes, is_undefined, made_text}
+use Rattle.plain_tokens.specs.Meanings.{name_meaning, meaning_to_let, seen_as}
+use Rattle.plain_tokens.specs.Numerals.{whole_number, roman}
 use Rattle.plain_tokens.specs.Lex.{Lexed, Gives, Invalid, UsedUp, lexed}
 use Rattle.plain_tokens.specs.LexLaws.{LeavesLess}
 use Rattle.plain_tokens.proofs.LexRests.{less}
 use Rattle.plain_tokens.specs.Puts.{Item, Put as PutList, passed, call_put}
 use Rattle.plain_tokens.specs.Pending.{Pending, Progress, NotBegun, Begun as BegunFile, Closed as ClosedFile, Pulled, TokenFrom, LexemeFrom, LineTaken, InvalidMet, FileOver, NothingLeft, settle, pulled, from_front, from_list, from_line, from_file}
-use Rattle.plain_state.specs.Reports.{plain_style, report_bytes, hundred_line}
-use Rattle.plain_state.specs.Readings.{Kind, Catcode, Message, Prefixed, Define, Arguments, Fed, Tok, Val, Told, Cut, Value, Flag, Effect, SetCategory, SetMacro, Say, Ask, More, Inner, Done, Act, Tells, Inserts, Makes, Calls, Fails, RunsAway, Closes, ask, so_far, rank}
-use Rattle.plain_state.specs.States.{State, Reading, Move, Handed, Settled, Skipped, FileClosed, Entered, Kept as KeptBytes, Grows, Noted, Checked, ListBegun, ListGrown, Put, CalledWith, SetCategoryOf, Defined, Written, Begun, Ended, Closed, Reported, Stopped, made, fed_with, holding}
-use Rattle.plain_tokens.specs.Tokens.{made_text}
-use Rattle.plain_machine.specs.Plan.{Page, page_of, plan, planned, answered, handed, checked, check_noted, Scanning, scanning, inserted_at, away_text, without_file, ran_away, page_behind, reported, behind_report, reports_room, stomach, wanted, enters_names, feeding, effect, given_back, grown_to, noting, put_one, put_text, put_all, put_inserted, arguments_put, called_with, failed, failed_away, last_seen, is_told, begun_with}
+use Rattle.plain_tokens.specs.Arguments.{has_parameters}
+use Rattle.plain_state.specs.Reports.{report_bytes, error_message_bytes, fresh_line, string_text, message_bytes, hundred_line, token_line_bytes}
+use Rattle.rows.specs.declared.words.Value.{Value}
+use Rattle.rows.specs.declared.words.Kind.{Kind as Begins}
+use Rattle.rows.specs.declared.words.Kind.TheVariants.{Command as Row}
+use Rattle.rows.specs.declared.command.Call.{Call}
+use Rattle.rows.specs.declared.command.Effect.{Effect}
+use Rattle.rows.specs.declared.command.Effect.TheVariants as effect
+use Rattle.rows.specs.Table.{has_row}
+use Rattle.rows.specs.Readings.{Fed, Val, Told, Cut, Ask, More, Inner, Done, Acts, ActsOn, Defines, Ends as Closes, Calls, Fails, RunsAway, Tells, Inserts}
+use Rattle.plain_readings.specs.Readings.{Kind, Reads, Spelling, Arguments, Behind, Reading, ask, lists, fed_with}
+use Rattle.plain_readings.specs.Spelling.{endcsname_primitive}
+use Rattle.plain_readings.specs.Scanning.{Scanning, scanning}
+use Rattle.plain_readings.specs.Laws.{IsRead}
+use Rattle.plain_readings.specs.Weights.{frame_weight, value_weight, act_weight, end_weight, ask_weight, weight, IsReport, WeightsFall}
+use Rattle.plain_machine.specs.States.{State, Move, Settled, Skipped, FileClosed, Entered, Kept as KeptBytes, Grows, Feeds, Completed, Opened, ListBegun, ListGrown, Put, ListDropped, Called, SetCategoryOf, Assigned, Written, Begun, Ended, Closed, Reported, Flawed, Stopped, Handed, made}
+use Rattle.plain_machine.specs.Plan.{Page, page_of, style_of, plain_style_of, plan, planned, answered, handed, checked, check_noted, inserted_at, away_text, without_file, ran_away, page_behind, reported, behind_report, reports_room, finish, stomach, command, primitive, expansion, expanded, expanded_as, csname_primitive, jobname_primitive, is_expandable_primitive, job_in, begun, call_of, called_meaning, put_body, body_put, token_line, wanted, enters_names, feeding, given_back, grown_to, first_list, noting, noting_kind, put_one, put_text, put_made, put_characters, put_inserted, arguments_put, called_with, failed, failed_away, inner_begun, done, value_tokens, told, and_closed, expanded_behind, marked, meaning_characters, shown, natural, acts, macro_defined, newly_spelt, spelt, relax_if_undefined, name_made, entered, acts_on}
 use Rattle.plain_machine.specs.Runs.{step_of, all_made}
-use Rattle.plain_machine.proofs.Lower.{Lower, lower, Starts, starts}
 use Rattle.plain_machine.proofs.Settling.{pulled_settled}
 
-abbrev pub top_rank : ℕ
-top_rank = 2
+-- an open reading
+abbrev pub frames : List Reading → ℕ
+frames [] = 0
+frames (r ∷ rs) = frame_weight + frames rs
 
-rank_within : (k : Kind) → rank k ≤ top_rank
-rank_within Catcode = omega arith
-rank_within (Message name) = omega arith
-rank_within (Prefixed long outer) = omega arith
-rank_within (Define expanded) = omega arith
-rank_within k = omega arith
-
--- a token that may still begin an inner reading, and a report that may still come
-abbrev pub pot_of : ℕ → Bool → Bool → List Seen → ℕ
-pot_of n lent true xs = 2
-pot_of n true false xs = 3
-pot_of n false false [] = 3
-pot_of n false false (x ∷ xs) = 4 * n + 4
-
-abbrev pub pot : Reading → ℕ
-pot r = pot_of (rank r.kind) r.lent (is_told r.fed) (last_seen r.fed)
-
-abbrev pub pots : List Reading → ℕ
-pots [] = 0
-pots (r ∷ rs) = pot r + pots rs
-
--- what the innermost reading weighs: before it was fed it may only begin readings of a lower rank
-abbrev pub top_weight : Kind → List Fed → ℕ → ℕ
-top_weight k [] own = 4 * rank k
-top_weight k (x ∷ fed) own = 4 * top_rank + 1 + own
+-- what the innermost asks for
+abbrev pub asked : List Reading → ℕ
+asked [] = 0
+asked (r ∷ rs) = weight r.kind r.fed
 
 abbrev pub work_weight : List Reading → ℕ
-work_weight [] = 0
-work_weight (r ∷ rs) = top_weight r.kind r.fed (pot r) + pots rs
+work_weight work = asked work + frames work
 
 -- an invalid character may still be skipped, and the file may still end
 abbrev pub file_weight : Progress → ℕ
@@ -68,91 +66,24 @@ abbrev pub pending_weight : Pending → ℕ
 pending_weight p = length p.line + file_weight p.file
 
 -- where the file ends a call may be fed with the note of a check
+abbrev pub check_weight : ℕ
+check_weight = 19
+
 abbrev pub weight_of : Option Outcome → List Reading → Pending → ℕ
 weight_of (Some o) work p = 0
-weight_of None work p = 1 + work_weight work + 13 * pending_weight p
+weight_of None work p = 1 + work_weight work + check_weight * pending_weight p
 
-abbrev pub weight : State → ℕ
-weight s = weight_of s.stopped s.work s.pending
+abbrev pub state_weight : State → ℕ
+state_weight s = weight_of s.stopped s.work s.pending
 
 pub data Rule (s : State) (ms : List Move) : Type 0 where
   Over : ms ≡ [] → Rule s ms
   Step : (m : Move) → (rest : List Move) → ms ≡ Settled ∷ m ∷ rest → step_of m ≡ 1 → Rule s ms
-  Falls : weight (all_made ms s) < weight s → Rule s ms
+  Falls : state_weight (all_made ms s) < state_weight s → Rule s ms
 
 -- after these moves the weight is below n
 abbrev Drops : ℕ → List Move → State → Type 0
-Drops n ms s = weight (all_made ms s) < n
-
-pot_least : (n : ℕ) (lent told : Bool) (xs : List Seen) → 2 ≤ pot_of n lent told xs
-pot_least n lent true xs = omega arith
-pot_least n true false xs = omega arith
-pot_least n false false [] = omega arith
-pot_least n false false (x ∷ xs) = omega arith
-
-pot_untold : (n : ℕ) (lent told : Bool) (xs : List Seen) → told ≡ false → 3 ≤ pot_of n lent told xs
-pot_untold n lent true xs h = cc
-pot_untold n true false xs h = omega arith
-pot_untold n false false [] h = omega arith
-pot_untold n false false (x ∷ xs) h = omega arith
-
-pot_fresh : (n : ℕ) (lent : Bool) → pot_of n lent false [] ≡ 3
-pot_fresh n true = refl
-pot_fresh n false = refl
-
--- a note or a value that comes last
-abbrev pub IsNote : Fed → Type 0
-IsNote (Tok x) = ⊥
-IsNote x = Unit {0}
-
-last_note : (fed : List Fed) (y : Fed) → IsNote y → last_seen (fed ++ y ∷ []) ≡ []
-last_note [] (Tok x) h = absurd h
-last_note [] (Val v) h = refl
-last_note [] Told h = refl
-last_note [] Cut h = refl
-last_note (Tok x ∷ []) y h = last_note [] y h
-last_note (Val x ∷ []) y h = last_note [] y h
-last_note (Told ∷ []) y h = last_note [] y h
-last_note (Cut ∷ []) y h = last_note [] y h
-last_note (x ∷ z ∷ fed) y h = last_note (z ∷ fed) y h
-
--- but for the note of a report
-abbrev pub IsOther : Fed → Type 0
-IsOther (Val v) = Unit {0}
-IsOther Cut = Unit {0}
-IsOther x = ⊥
-
-note_of : (y : Fed) → IsOther y → IsNote y
-note_of (Val v) h = tt
-note_of Cut h = tt
-note_of y h = absurd h
-
-told_other : (fed : List Fed) (y : Fed) → IsOther y → is_told (fed ++ y ∷ []) ≡ false
-told_other [] (Tok x) h = absurd h
-told_other [] (Val v) h = refl
-told_other [] Told h = absurd h
-told_other [] Cut h = refl
-told_other (Tok x ∷ []) y h = told_other [] y h
-told_other (Val x ∷ []) y h = told_other [] y h
-told_other (Told ∷ []) y h = told_other [] y h
-told_other (Cut ∷ []) y h = told_other [] y h
-told_other (x ∷ z ∷ fed) y h = told_other (z ∷ fed) y h
-
-told_told : (fed : List Fed) → is_told (fed ++ Told ∷ []) ≡ true
-told_told [] = refl
-told_told (Tok x ∷ []) = refl
-told_told (Val x ∷ []) = refl
-told_told (Told ∷ []) = refl
-told_told (Cut ∷ []) = refl
-told_told (x ∷ y ∷ fed) = told_told (y ∷ fed)
-
-last_untold : (fed : List Fed) (y : Seen) (ys : List Seen) → last_seen fed ≡ y ∷ ys → is_told fed ≡ false
-last_untold [] y ys h = refl
-last_untold (Tok x ∷ []) y ys h = refl
-last_untold (Val x ∷ []) y ys h = refl
-last_untold (Told ∷ []) y ys h = cc
-last_untold (Cut ∷ []) y ys h = refl
-last_untold (x ∷ z ∷ fed) y ys h = last_untold (z ∷ fed) y ys h
+Drops n ms s = state_weight (all_made ms s) < n
 
 -- what a pull that gives nothing leaves weighs less
 abbrev pub Lighter : Pending → Pulled → Type 0
@@ -190,17 +121,27 @@ is_plain Settled = true
 is_plain (Entered name) = true
 is_plain (KeptBytes bytes) = true
 is_plain (Grows t) = true
+is_plain (Completed a) = true
+is_plain Opened = true
 is_plain ListBegun = true
 is_plain (ListGrown t) = true
 is_plain (Put ts) = true
+is_plain ListDropped = true
+is_plain (Called p) = true
 is_plain (SetCategoryOf code category) = true
+is_plain (Assigned name m) = true
 is_plain (Written p bs) = true
 is_plain Reported = true
+is_plain Flawed = true
 is_plain m = false
 
 abbrev AllPlain : List Move → Type 0
 AllPlain [] = Unit {0}
 AllPlain (m ∷ ms) = (is_plain m ≡ true) × AllPlain ms
+
+all_plain : (ms ns : List Move) → AllPlain ms → AllPlain ns → AllPlain (ms ++ ns)
+all_plain [] ns h i = i
+all_plain (m ∷ ms) ns h i = (h.0, all_plain ms ns h.1 i)
 
 record Kept (s u : State) : Type 0 where
   work : u.work ≡ s.work
@@ -221,12 +162,18 @@ kept Settled s h = record { work = refl; stopped = refl; pending = refl }
 kept (Entered name) s h = record { work = refl; stopped = refl; pending = refl }
 kept (KeptBytes bytes) s h = record { work = refl; stopped = refl; pending = refl }
 kept (Grows t) s h = record { work = refl; stopped = refl; pending = refl }
+kept (Completed a) s h = record { work = refl; stopped = refl; pending = refl }
+kept Opened s h = record { work = refl; stopped = refl; pending = refl }
 kept ListBegun s h = record { work = refl; stopped = refl; pending = refl }
 kept (ListGrown t) s h = record { work = refl; stopped = refl; pending = refl }
 kept (Put ts) s h = record { work = refl; stopped = refl; pending = refl }
+kept ListDropped s h = record { work = refl; stopped = refl; pending = refl }
+kept (Called p) s h = record { work = refl; stopped = refl; pending = refl }
 kept (SetCategoryOf code category) s h = record { work = refl; stopped = refl; pending = refl }
+kept (Assigned name m) s h = record { work = refl; stopped = refl; pending = refl }
 kept (Written p bs) s h = record { work = refl; stopped = refl; pending = refl }
 kept Reported s h = record { work = refl; stopped = refl; pending = refl }
+kept Flawed s h = record { work = refl; stopped = refl; pending = refl }
 kept (Handed t) s h = cc
 kept m s h = cc
 
@@ -245,98 +192,130 @@ drops_behind : (n : ℕ) (s : State) (text : List ℕ) (b : Bool) (rest : List M
 drops_behind n s text true rest h f = f s (kept_none s)
 drops_behind n s text false rest h f = halted_none n s text (AtFatal HundredErrors) h
 
-drops_report : (n : ℕ) (s : State) (page : Page) (report : Report) (rest : List Move) → 0 < n → ((u : State) → Kept s u → Drops n rest u) → Drops n (reported page report rest) s
-drops_report n s page report rest h f =
-    drops_plain n s (Written Transcript (report_bytes (plain_style page.names) page.in_line page.line report) ∷ Reported ∷ []) (behind_report (plain_style page.names) page.reports rest) (refl, (refl, tt))
-    (λ u k. drops_behind n u (hundred_line (plain_style page.names)) (nat_lt page.reports reports_room) rest h (λ v l. f v (kept_on s u v k l)))
+-- a report's moves, and those behind it
+drops_told : (n : ℕ) (s : State) (page : Page) (text : List ℕ) (rest : List Move) → 0 < n → ((u : State) → Kept s u → Drops n rest u) →
+    Drops n (Written Transcript text ∷ Reported ∷ behind_report (plain_style_of page) page.reports rest) s
+drops_told n s page text rest h f =
+    drops_plain n s (Written Transcript text ∷ Reported ∷ []) (behind_report (plain_style_of page) page.reports rest) (refl, (refl, tt))
+    (λ u k. drops_behind n u (hundred_line (plain_style_of page)) (nat_lt page.reports reports_room) rest h (λ v l. f v (kept_on s u v k l)))
 
-some_weight : (s : State) → s.stopped ≡ None → 0 < weight s
+drops_report : (n : ℕ) (s : State) (page : Page) (report : Report) (rest : List Move) → 0 < n → ((u : State) → Kept s u → Drops n rest u) → Drops n (reported page report rest) s
+drops_report n s page report rest h f = drops_told n s page (report_bytes (plain_style_of page) page.in_line page.line report) rest h f
+
+some_weight : (s : State) → s.stopped ≡ None → 0 < state_weight s
 some_weight s e = rw e (omega arith)
 
-plain_all : (xs : List Seen) → AllPlain (put_all xs)
-plain_all [] = tt
-plain_all (x ∷ xs) = (refl, (refl, (refl, (refl, tt))))
+-- MOVES THAT ARE PLAIN
 
-plain_back : (back : Bool) (fed : List Fed) → AllPlain (given_back back fed)
-plain_back true fed = plain_all (last_seen fed)
-plain_back false fed = tt
+plain_one : (t : Token) → AllPlain (put_one t)
+plain_one t = (refl, (refl, (refl, (refl, tt))))
+
+plain_back : (back : Bool) (x : Seen) → AllPlain (given_back back x)
+plain_back true x = plain_one x.token
+plain_back false x = tt
 
 plain_inserted : (inserted : Option Token) → AllPlain (put_inserted inserted)
 plain_inserted None = tt
-plain_inserted (Some t) = (refl, (refl, (refl, (refl, tt))))
+plain_inserted (Some t) = plain_one t
 
 plain_grown : (ts : List Token) → AllPlain (map Grows ts)
 plain_grown [] = tt
 plain_grown (t ∷ ts) = (refl, plain_grown ts)
 
-plain_made : (ts us : List Token) → AllPlain (map ListGrown ts ++ Put us ∷ [])
-plain_made [] us = (refl, tt)
-plain_made (t ∷ ts) us = (refl, plain_made ts us)
+plain_grown_to : (before after : List Token) → AllPlain (grown_to before after)
+plain_grown_to before after = plain_grown (drop (length before) after)
+
+plain_listed : (ts : List Token) → AllPlain (map ListGrown ts)
+plain_listed [] = tt
+plain_listed (t ∷ ts) = (refl, plain_listed ts)
+
+plain_made : (ts : List Token) → AllPlain (put_made ts)
+plain_made [] = (refl, tt)
+plain_made (t ∷ ts) = (refl, tt)
 
 plain_text : (ts : List Token) → AllPlain (put_text ts)
-plain_text ts = (refl, (refl, plain_made ts ts))
+plain_text ts = (refl, (refl, all_plain (map ListGrown ts) (put_made ts) (plain_listed ts) (plain_made ts)))
 
--- A reading that is fed with something
+plain_body : (p : PutList) (is : List Item) → AllPlain (body_put p is)
+plain_body p [] = tt
+plain_body p (i ∷ is) = (refl, (refl, tt))
 
-weight_fed : (k : Kind) (fed : List Fed) (x : Fed) (own : ℕ) → top_weight k (fed ++ x ∷ []) own ≡ 4 * top_rank + 1 + own
-weight_fed k [] x own = refl
-weight_fed k (y ∷ fed) x own = refl
+plain_line : (page : Page) (m : Meaning Unit) → AllPlain (token_line page m)
+plain_line page m = by page.quiet where
+  by : (quiet : Bool) → AllPlain (if quiet then [] else Written Transcript (token_line_bytes (plain_style_of page) page.in_line m) ∷ [])
+  by true = tt
+  by false = (refl, tt)
 
--- it has then not reported and may begin nothing with it
-weight_other : (y : Fed) → IsOther y → (r : Reading) (rs : List Reading) → work_weight (fed_with y (r ∷ rs)) ≡ 4 * top_rank + 4 + pots rs
-weight_other y h r rs =
-    rw (weight_fed r.kind r.fed y _) (rw (last_note r.fed y (note_of y h), told_other r.fed y h) (omega arith))
+plain_entered : (names : List (List ℕ)) → AllPlain (entered names)
+plain_entered [] = tt
+plain_entered (name ∷ names) = (refl, tt)
 
--- the note of a check
-weight_checked : (rs : List Reading) → work_weight (fed_with Cut rs) ≤ 12 + work_weight rs
-weight_checked [] = omega arith
-weight_checked (r ∷ rs) = omega (arith, weight_other Cut tt r rs)
+plain_relax : (meanings : List (Meaning (Option ℕ))) (n : Name) → AllPlain (relax_if_undefined meanings n)
+plain_relax meanings n = by (is_undefined (seen_as (name_meaning meanings n))) where
+  by : (b : Bool) → AllPlain (if b then Assigned n (means.Prim relax_primitive) ∷ [] else [])
+  by true = (refl, tt)
+  by false = tt
 
--- the value of the reading above
-weight_ended : (v : Value) (rs : List Reading) → work_weight (fed_with (Val v) rs) ≤ 4 * top_rank + 2 + pots rs
-weight_ended v [] = omega arith
-weight_ended v (r ∷ rs) = omega (arith, weight_other (Val v) tt r rs, pot_least (rank r.kind) r.lent (is_told r.fed) (last_seen r.fed))
+plain_name : (page : Page) (characters : List ℕ) → AllPlain (name_made page characters)
+plain_name page characters =
+    all_plain (entered (newly_spelt page.names characters)) (relax_if_undefined page.meanings (spelt page.names characters) ++ put_one (token.Named (spelt page.names characters)))
+    (plain_entered (newly_spelt page.names characters))
+    (all_plain (relax_if_undefined page.meanings (spelt page.names characters)) (put_one (token.Named (spelt page.names characters)))
+    (plain_relax page.meanings (spelt page.names characters)) (plain_one (token.Named (spelt page.names characters))))
 
--- and how many lists it holds has no weight
-weight_holding : (n : ℕ) (rs : List Reading) → work_weight (holding n rs) ≡ work_weight rs
-weight_holding n [] = refl
-weight_holding n (r ∷ rs) = refl
+-- a rule whose moves are plain, and lighter by one more at their end
+drops_all : (n : ℕ) (s : State) (ms : List Move) → AllPlain ms → ((u : State) → Kept s u → state_weight u < n) → Drops n ms s
+drops_all n s [] h f = f s (kept_none s)
+drops_all n s (m ∷ ms) h f =
+    let u : State = made m (record s { due = ms }) in
+    let k : Kept s u = kept_on s (record s { due = ms }) u (kept_same s ms) (kept m (record s { due = ms }) h.0) in
+    drops_all n u ms h.1 (λ v l. f v (kept_on s u v k l))
 
--- readings weigh no more than one that was fed and stands above them
-weight_beneath : (rs : List Reading) → work_weight rs ≤ 4 * top_rank + 1 + pots rs
-weight_beneath [] = omega arith
-weight_beneath (r ∷ rs) = by_fed r.fed where
-  by_fed : (fed : List Fed) → top_weight r.kind fed (pot r) + pots rs ≤ 4 * top_rank + 1 + pots (r ∷ rs)
-  by_fed [] = omega (arith, rank_within r.kind)
-  by_fed (x ∷ fed) = omega arith
+-- WHAT READINGS WEIGH, by the laws of the readings
+
+-- the innermost weighs less than a frame and an act
+module _ (falls : WeightsFall) where
+  asked_least : (rs : List Reading) → asked rs < frame_weight + act_weight
+  asked_least [] = omega arith
+  asked_least (r ∷ rs) = falls.acted r.kind r.fed
+
+  -- the note of a check
+  weight_checked : (rs : List Reading) → work_weight (fed_with Cut rs) < check_weight + work_weight rs
+  weight_checked [] = omega arith
+  weight_checked (r ∷ rs) = omega (arith, falls.acted r.kind (r.fed ++ Cut ∷ []))
+
+  -- the value of the reading above
+  weight_ended : (v : Value) (ts : List Token) (rs : List Reading) → work_weight (fed_with (Val v ts) rs) < frame_weight + value_weight + frames rs
+  weight_ended v ts [] = omega arith
+  weight_ended v ts (r ∷ rs) = omega (arith, falls.valued r.kind r.fed v ts)
 
 -- A move that makes what is pending lighter, and then moves that keep it, or end the run.
-module _ (s : State) (q : Pending) (e : s.stopped ≡ None) (less : pending_weight q < pending_weight s.pending) (u : State) (a : u.stopped ≡ None) (b : u.work ≡ s.work) (c : u.pending ≡ q) where
-  below : (v : State) → Kept u v → weight v < weight s
+module _ (falls : WeightsFall) (s : State) (q : Pending) (e : s.stopped ≡ None) (less : pending_weight q < pending_weight s.pending) (u : State) (a : u.stopped ≡ None) (b : u.work ≡ s.work) (c : u.pending ≡ q) where
+  below : (v : State) → Kept u v → state_weight v < state_weight s
   below v k = rw (k.stopped, k.work, a, b, e) (omega (arith, k.pending, ap pending_weight c, less))
 
-  report_below : (page : Page) (report : Report) → Drops (weight s) (reported page report []) u
-  report_below page report = drops_report (weight s) u page report [] (some_weight s e) (λ v k. below v k)
+  report_below : (page : Page) (report : Report) → Drops (state_weight s) (reported page report []) u
+  report_below page report = drops_report (state_weight s) u page report [] (some_weight s e) (λ v k. below v k)
 
-  checked_below : (v : State) → Kept u v → Drops (weight s) (Checked ∷ []) v
-  checked_below v k = rw (k.stopped, k.work, a, b, e) (omega (arith, k.pending, ap pending_weight c, less, weight_checked s.work))
+  checked_below : (v : State) → Kept u v → Drops (state_weight s) (Feeds Cut ∷ []) v
+  checked_below v k = rw (k.stopped, k.work, a, b, e) (omega (arith, k.pending, ap pending_weight c, less, weight_checked falls s.work))
 
-  noted_below : (what : Scanned) (v : State) → Kept u v → Drops (weight s) (check_noted what []) v
+  noted_below : (what : Scanned) (v : State) → Kept u v → Drops (state_weight s) (check_noted what []) v
   noted_below scanned.Use v k = checked_below v k
   noted_below scanned.Definition v k = below v k
   noted_below scanned.Text v k = below v k
 
-  away_below : (page : Page) (report : Report) (what : Scanning) → Drops (weight s) (ran_away page report what []) u
+  away_below : (page : Page) (report : Report) (what : Scanning) → Drops (state_weight s) (ran_away page report what []) u
   away_below page report what =
-      drops_plain (weight s) u (Written Transcript (away_text page what) ∷ put_one (inserted_at what.what)) (reported (page_behind page (away_text page what)) report (check_noted what.what []))
-      (refl, (refl, (refl, (refl, (refl, tt)))))
-      (λ v k. drops_report (weight s) v (page_behind page (away_text page what)) report (check_noted what.what []) (some_weight s e) (λ x l. noted_below what.what x (kept_on u v x k l)))
+      drops_plain (state_weight s) u (Written Transcript (away_text page what) ∷ put_one (inserted_at what.what)) (reported (page_behind page (away_text page what)) report (check_noted what.what []))
+      (refl, plain_one (inserted_at what.what))
+      (λ v k. drops_report (state_weight s) v (page_behind page (away_text page what)) report (check_noted what.what []) (some_weight s e) (λ x l. noted_below what.what x (kept_on u v x k l)))
 
-  check_below : (page : Page) (o : Option Scanning) → Drops (weight s) (checked page o) u
+  check_below : (page : Page) (o : Option Scanning) → Drops (state_weight s) (checked page o) u
   check_below page None = below u (kept_none u)
   check_below page (Some what) = away_below page (FileEnded what.what what.name) what
 
-module _ (s : State) (enters : Bool) (o : Option Scanning) (onward : Seen → List Move) (e : s.stopped ≡ None) where
+module _ (falls : WeightsFall) (s : State) (enters : Bool) (o : Option Scanning) (onward : Seen → List Move) (e : s.stopped ≡ None) where
   -- the pull comes once the finished lists in front have gone
   pulled_then : (p : Pulled) → pulled s.categories s.pending ≡ p → pulled s.categories (settle s.pending) ≡ p
   pulled_then p is = pulled_settled s.categories s.pending ∙ is
@@ -350,124 +329,219 @@ module _ (s : State) (enters : Bool) (o : Option Scanning) (onward : Seen → Li
   rule_pulled (LineTaken line q) is l = Step _ _ refl refl
   rule_pulled (InvalidMet q) is l =
       let rest : List Move = reported (page_of s) InvalidCharacter [] in
-      Falls (report_below s q e l (made Skipped (record (settled_first (Skipped ∷ rest)) { due = rest })) e refl (rw (pulled_then (InvalidMet q) is) refl) (page_of s) InvalidCharacter)
+      Falls (report_below falls s q e l (made Skipped (record (settled_first (Skipped ∷ rest)) { due = rest })) e refl (rw (pulled_then (InvalidMet q) is) refl) (page_of s) InvalidCharacter)
   rule_pulled (FileOver q) is l =
       let rest : List Move = checked (without_file (page_of s)) o in
-      Falls (check_below s q e l (made FileClosed (record (settled_first (FileClosed ∷ rest)) { due = rest })) e refl (rw (pulled_then (FileOver q) is) refl) (without_file (page_of s)) o)
+      Falls (check_below falls s q e l (made FileClosed (record (settled_first (FileClosed ∷ rest)) { due = rest })) e refl (rw (pulled_then (FileOver q) is) refl) (without_file (page_of s)) o)
   rule_pulled NothingLeft is l = Falls (rw e (omega arith))
 
-rule_handed : (s : State) (enters : Bool) (o : Option Scanning) (onward : Seen → List Move) → s.stopped ≡ None → Rule s (handed (page_of s) enters o onward (pulled s.categories s.pending))
-rule_handed s enters o onward e = rule_pulled s enters o onward e (pulled s.categories s.pending) refl (lighter s.categories s.pending)
+rule_handed : WeightsFall → (s : State) (enters : Bool) (o : Option Scanning) (onward : Seen → List Move) → s.stopped ≡ None → Rule s (handed (page_of s) enters o onward (pulled s.categories s.pending))
+rule_handed falls s enters o onward e = rule_pulled falls s enters o onward e (pulled s.categories s.pending) refl (lighter s.categories s.pending)
 
-module _ (s : State) (k : Kind) (lent : Bool) (holds : ℕ) (rs : List Reading) (e : s.stopped ≡ None) where
-  abbrev reading_of : List Fed → Reading
-  reading_of fed = record { kind = k; fed = fed; lent = lent; holds = holds }
+-- MOVES BEHIND WHICH A READING MAY BEGIN
+-- from a state v that weighs less than n, also with one reading more
+module _ (n : ℕ) (v : State) (e : v.stopped ≡ None) (less : state_weight v < n)
+    (more : (j : Kind) → IsRead j → 1 + (weight j [] + (frame_weight + frames v.work)) + check_weight * pending_weight v.pending < n) where
+  stays : (u : State) → Kept v u → state_weight u < n
+  stays u k = subst (λ (m : ℕ). m < n) (rw (k.stopped, k.work, e) (omega (arith, k.pending))) less
 
-  begins_fresh : (j : Kind) → rank j < rank k → s.work ≡ reading_of [] ∷ rs → Rule s (Begun j ∷ [])
-  begins_fresh j h w = Falls (rw (e, w) (omega (arith, h, pot_fresh (rank k) lent)))
+  drops_stays : (u : State) (ms : List Move) → Kept v u → AllPlain ms → Drops n ms u
+  drops_stays u ms k h = drops_all n u ms h (λ x l. stays x (kept_on v u x k l))
 
-  rule_fresh : (a : Ask) → Starts a → Lower (rank k) a → s.work ≡ reading_of [] ∷ rs → Rule s (answered s (reading_of [] ∷ rs) (reading_of []) a)
-  rule_fresh (More want) h l w = rule_handed s (enters_names want) (scanning (reading_of [] ∷ rs) s.gathered) (λ x. wanted (page_of s) want (feeding (reading_of []) x) x) e
-  rule_fresh (Inner j true) h l w = begins_fresh j l w
-  rule_fresh (Inner j false) h l w = begins_fresh j l w
-  rule_fresh a h l w = absurd h
+  drops_begun : (u : State) (j : Kind) → Kept v u → IsRead j → Drops n (Begun j ∷ []) u
+  drops_begun u j k h = rw (k.stopped, k.work, e) (omega (arith, k.pending, more j h))
 
-  module _ (x : Fed) (fed : List Fed) (w : s.work ≡ reading_of (x ∷ fed) ∷ rs) where
-    begins_fed : (j : Kind) → Rule s (Begun j ∷ [])
-    begins_fed j = Falls (rw (e, w) (omega (arith, rank_within j)))
+  -- a reading that begins, and ends behind moves that are plain
+  drops_ended : (u : State) (j : Kind) (ms : List Move) → Kept v u → AllPlain ms → Drops n (Begun j ∷ (ms ++ Closed ∷ [])) u
+  drops_ended u j ms k h =
+      let t : State = made (Begun j) (record u { due = ms ++ Closed ∷ [] }) in
+      drops_plain n t ms (Closed ∷ []) h (λ x l. subst (λ (m : ℕ). m < n) (rw (l.stopped, l.work, k.stopped, k.work, e) (omega (arith, l.pending, k.pending))) less)
 
-    least : 2 ≤ pot_of (rank k) lent (is_told (x ∷ fed)) (last_seen (x ∷ fed))
-    least = pot_least (rank k) lent (is_told (x ∷ fed)) (last_seen (x ∷ fed))
+  some : 0 < n
+  some = omega (arith, less)
 
-    -- the end of a reading that was fed
-    falls_end : (u : State) (v : Value) → Kept s u → Drops (weight s) (Ended v ∷ []) u
-    falls_end u v h = rw (h.stopped, h.work, e, w, weight_holding) (omega (arith, h.pending, weight_ended v rs, least))
+  drops_called_by : (u : State) (b : Bool) (name : Name) (long : Bool) (number : ℕ) (ts : List Token) → Kept v u →
+      Drops n (if b then Begun (Arguments name long number ts) ∷ [] else put_body (call_put number ts [])) u
+  drops_called_by u true name long number ts k = drops_begun u (Arguments name long number ts) k tt
+  drops_called_by u false name long number ts k = drops_stays u (put_body (call_put number ts [])) k (plain_body (call_put number ts []) (call_put number ts []).items)
 
-    ends_behind : (ms : List Move) (v : Value) → AllPlain ms → Rule s (ms ++ Ended v ∷ [])
-    ends_behind ms v h = Falls (drops_plain (weight s) s ms (Ended v ∷ []) h (λ u kept. falls_end u v kept))
+  drops_called_meaning : (u : State) (page : Page) (name : Name) (m : Meaning (Option ℕ)) → Kept v u → Drops n (called_meaning page name m) u
+  drops_called_meaning u page name (means.Macro long outer None) k = stays u k
+  drops_called_meaning u page name (means.Macro long outer (Some number)) k =
+      drops_called_by u (has_parameters (slice_index_or page.macros number [])) name long number (slice_index_or page.macros number []) k
+  drops_called_meaning u page name m k = stays u k
 
-    -- a name becomes a macro, and the reading ends
-    falls_defined : (name : Name) (long outer : Bool) (ts : List Token) → Drops (weight s) (Defined name long outer ts ∷ Ended (Flag true) ∷ []) s
-    falls_defined name long outer ts = rw (e, w, weight_holding) (omega (arith, weight_ended (Flag true) rs, least))
+  drops_expansion : (u : State) (page : Page) (t : Token) (number : ℕ) → Kept v u → Drops n (expansion page t number) u
+  drops_expansion u page t number k = by (number == csname_primitive) (number == jobname_primitive) where
+    by : (b c : Bool) → Drops n (if b then Begun (Spelling (call_of t number)) ∷ [] else if c then begun t number ++ (put_characters (job_in page.strings) ++ Closed ∷ []) else begun t number) u
+    by true c = drops_begun u (Spelling (call_of t number)) k tt
+    by false true = drops_ended u (Reads (Row (call_of t number))) (put_characters (job_in page.strings)) k (plain_text (made_text (job_in page.strings)))
+    by false false = drops_begun u (Reads (Row (call_of t number))) k tt
 
-    rule_effect : (f : Effect) → Rule s (effect s f ++ Ended (Flag true) ∷ [])
-    rule_effect (SetCategory code category) = ends_behind (SetCategoryOf code category ∷ []) (Flag true) (refl, tt)
-    rule_effect (Say ts) = ends_behind (effect s (Say ts)) (Flag true) (refl, tt)
-    rule_effect (SetMacro name long outer ts) = Falls (falls_defined name long outer ts)
+  drops_unless : (u : State) (b : Bool) (page : Page) (t : Token) (number : ℕ) (ms : List Move) → Kept v u → Drops n ms u → Drops n (if b then expansion page t number else ms) u
+  drops_unless u true page t number ms k d = drops_expansion u page t number k
+  drops_unless u false page t number ms k d = d
 
-    -- the end of a call, which feeds nothing
-    falls_closed : (u : State) → Kept s u → Drops (weight s) (Closed ∷ []) u
-    falls_closed u h = rw (h.stopped, h.work, e, w) (omega (arith, h.pending, weight_beneath rs, least))
+  drops_undefined : (u : State) (page : Page) (report : Report) → Kept v u → Drops n (reported page report []) u
+  drops_undefined u page report k = drops_report n u page report [] some (λ x l. stays x (kept_on v u x k l))
 
-    falls_called : (p : PutList) → Drops (weight s) (Settled ∷ CalledWith p ∷ []) s
-    falls_called p = rw (e, w) (omega (arith, weight_beneath rs, least))
+  -- a token is expanded, or comes to moves that stay below
+  drops_expanded : (u : State) (page : Page) (t : Token) (m : Meaning Unit) (ms : List Move) → Kept v u → Drops n ms u → Drops n (expanded_as page t m ms) u
+  drops_expanded u page t means.Undefined ms k d = drops_undefined u page UndefinedName k
+  drops_expanded u page t (means.Macro long outer list) ms k d = drops_called_meaning u page (name_of t) (name_meaning page.meanings (name_of t)) k
+  drops_expanded u page t (means.Prim number) ms k d = drops_unless u (is_expandable_primitive number) page t number ms k d
+  drops_expanded u page t m ms k d = d
 
+  drops_primitive : (u : State) (page : Page) (t : Token) (number : ℕ) → Kept v u → Drops n (primitive page t number) u
+  drops_primitive u page t number k = by (has_row number) (number == end_primitive) (number == relax_primitive) (number == endcsname_primitive) where
+    by : (b c d f : Bool) →
+        Drops n (if b then begun t number else if c then finish page.in_line else if d then [] else if f then reported page ExtraEndcsname [] else token_line page (means.Prim number)) u
+    by true c d f = drops_begun u (Reads (Row (call_of t number))) k tt
+    by false true d f = halted_none n u (fresh_line page.in_line) Finished some
+    by false false true f = stays u k
+    by false false false true = drops_undefined u page ExtraEndcsname k
+    by false false false false = drops_stays u (token_line page (means.Prim number)) k (plain_line page (means.Prim number))
+
+  drops_command : (u : State) (page : Page) (t : Token) (m : Meaning Unit) → Kept v u → Drops n (command page t m) u
+  drops_command u page t (means.Prim number) k = drops_primitive u page t number k
+  drops_command u page t means.RelaxMarked k = stays u k
+  drops_command u page t m k = drops_stays u (token_line page m) k (plain_line page m)
+
+-- THE RULES OF THE INNERMOST READING
+module _ (falls : WeightsFall) (s : State) (k : Kind) (fed : List Fed) (rs : List Reading) (e : s.stopped ≡ None) (w : s.work ≡ record { kind = k; fed = fed } ∷ rs) where
+  abbrev reading : Reading
+  reading = record { kind = k; fed = fed }
+
+  -- WHERE IT ACTS OR ENDS
+  module _ (heavy : act_weight ≤ weight k fed) where
+    falls_closed : (u : State) → Kept s u → Drops (state_weight s) (Closed ∷ []) u
+    falls_closed u h = rw (h.stopped, h.work, e, w) (omega (arith, h.pending, asked_least falls rs, heavy))
+
+    rule_closed : (ms : List Move) → AllPlain ms → Rule s (and_closed ms)
+    rule_closed ms h = Falls (drops_plain (state_weight s) s ms (Closed ∷ []) h (λ u kept. falls_closed u kept))
+
+    -- a name becomes a macro
+    rule_defined : (c : Call) (name : Name) (ts : List Token) → Rule s (macro_defined c name ts)
+    rule_defined c name [] = rule_closed [] tt
+    rule_defined c name (t ∷ ts) = Falls (rw (e, w) (omega (arith, asked_least falls rs, heavy)))
+
+    -- the body of a call is put
     rule_put : (p : PutList) (is : List Item) → Rule s (arguments_put p is)
-    rule_put p [] = Falls (falls_closed s (kept_none s))
-    rule_put p (i ∷ is) = Falls (falls_called p)
+    rule_put p [] = rule_closed [] tt
+    rule_put p (i ∷ is) = Falls (rw (e, w) (omega (arith, asked_least falls rs, heavy)))
 
     rule_called : (j : Kind) (args : List (List Token)) → Rule s (called_with j args)
     rule_called (Arguments name long number ts) args = rule_put (call_put number ts args) (call_put number ts args).items
-    rule_called j args = Falls (falls_closed s (kept_none s))
+    rule_called j args = rule_closed [] tt
 
-    -- a call that fails
-    falls_failed : (page : Page) (report : Report) (u : State) → Kept s u → Drops (weight s) (failed page report) u
-    falls_failed page report u h = drops_report (weight s) u page report (Closed ∷ []) (some_weight s e) (λ v l. falls_closed v (kept_on s u v h l))
+    falls_failed : (page : Page) (report : Report) (u : State) → Kept s u → Drops (state_weight s) (failed page report) u
+    falls_failed page report u h = drops_report (state_weight s) u page report (Closed ∷ []) (some_weight s e) (λ v l. falls_closed v (kept_on s u v h l))
 
-    rule_away : (page : Page) (report : Report) (o : Option Scanning) → Rule s (failed_away page report o (x ∷ fed))
-    rule_away page report None = Falls (drops_plain (weight s) s (given_back true (x ∷ fed)) (failed page report) (plain_back true (x ∷ fed)) (λ u h. falls_failed page report u h))
+    rule_away : (page : Page) (report : Report) (o : Option Scanning) → Rule s (failed_away page report o)
+    rule_away page report None = Falls (drops_plain (state_weight s) s (put_one page.last.token) (failed page report) (plain_one page.last.token) (λ u h. falls_failed page report u h))
     rule_away page report (Some what) =
-        Falls (drops_plain (weight s) s (Written Transcript (away_text page what) ∷ given_back true (x ∷ fed)) (failed (page_behind page (away_text page what)) report) (refl, plain_back true (x ∷ fed))
-        (λ u h. falls_failed (page_behind page (away_text page what)) report u h))
+        Falls (drops_plain (state_weight s) s (Written Transcript (away_text page what) ∷ put_one page.last.token) (failed (page_behind page (away_text page what)) report)
+        (refl, plain_one page.last.token) (λ u h. falls_failed (page_behind page (away_text page what)) report u h))
 
-    -- a report was written, and noted
-    falls_noted : (u : State) → is_told (x ∷ fed) ≡ false → Kept s u → Drops (weight s) (Noted ∷ []) u
-    falls_noted u h kept =
-        rw (kept.stopped, kept.work, e, w) (rw (told_told (x ∷ fed)) (omega (arith, kept.pending, pot_untold (rank k) lent (is_told (x ∷ fed)) (last_seen (x ∷ fed)) h)))
+    -- the command behind it is obeyed in its place
+    rule_obeyed : (page : Page) (t : Token) (m : Meaning Unit) → Rule s (Closed ∷ command page t m)
+    rule_obeyed page t m =
+        let v : State = made Closed (record s { due = command page t m }) in
+        Falls (drops_command (state_weight s) v e (rw (e, w) (omega (arith, asked_least falls rs, heavy)))
+        (λ j h. rw (e, w) (omega (arith, heavy, falls.begun_by_act j h))) v page t m (kept_none v))
 
-    falls_noting : (u : State) → is_told (x ∷ fed) ≡ false → Kept s u → Drops (weight s) (noting (reading_of (x ∷ fed))) u
-    falls_noting u h a =
-        drops_plain (weight s) u (grown_to (so_far k (x ∷ fed)) (so_far k ((x ∷ fed) ++ Told ∷ []))) (Noted ∷ []) (plain_grown _) (λ v b. falls_noted v h (kept_on s u v a b))
+    rule_acts_on : (page : Page) (c : Call) (f : Effect) (ts : List Token) → Rule s (acts_on page c f ts)
+    rule_acts_on page c effect.Message ts = rule_closed (Written Transcript (message_bytes (style_of page) page.in_line ts) ∷ []) (refl, tt)
+    rule_acts_on page c effect.ErrorMessage ts =
+        Falls (drops_told (state_weight s) s page (error_message_bytes (style_of page) page.in_line page.line ts) (Closed ∷ []) (some_weight s e) (λ u h. falls_closed u h))
+    rule_acts_on page c effect.MakeName ts = rule_closed (name_made page (character_codes ts)) (plain_name page (character_codes ts))
+    rule_acts_on page c f ts = rule_closed [] tt
 
-    rule_told : (report : Report) (inserted : Option Token) (back b : Bool) → is_told (x ∷ fed) ≡ b →
-        Rule s (if b then Ended (Flag false) ∷ [] else given_back back (x ∷ fed) ++ (put_inserted inserted ++ reported (page_of s) report (noting (reading_of (x ∷ fed)))))
-    rule_told report inserted back true h = ends_behind [] (Flag false) tt
-    rule_told report inserted back false h =
-        Falls (drops_plain (weight s) s (given_back back (x ∷ fed)) (put_inserted inserted ++ reported (page_of s) report (noting (reading_of (x ∷ fed)))) (plain_back back (x ∷ fed))
-        (λ u a. drops_plain (weight s) u (put_inserted inserted) (reported (page_of s) report (noting (reading_of (x ∷ fed)))) (plain_inserted inserted)
-        (λ v b. drops_report (weight s) v (page_of s) report (noting (reading_of (x ∷ fed))) (some_weight s e) (λ t c. falls_noting t h (kept_on s u t a (kept_on u v t b c))))))
+  -- `\expandafter`: its token waits, and what stands behind it is expanded above that
+  rule_behind : (page : Page) (c : Call) (x y : Seen) → ask k fed ≡ Acts c (effect.ExpandBehind x y) → Rule s (expanded_behind page c x y)
+  rule_behind page c x y is =
+      let ms : List Move = expanded page y (put_one y.token) in
+      let t : State = made Closed (record s { due = Begun (Behind c x) ∷ ms }) in
+      let v : State = made (Begun (Behind c x)) (record t { due = ms }) in
+      let less : state_weight v < state_weight s = rw (e, w) (omega (arith, falls.waits k fed c c x y x is)) in
+      let more : (j : Kind) → IsRead j → 1 + (weight j [] + (frame_weight + frames v.work)) + check_weight * pending_weight v.pending < state_weight s =
+      λ j h. rw (e, w) (omega (arith, falls.expanded_behind k fed c x y j is h)) in
+      Falls (drops_expanded (state_weight s) v e less more v page y.token y.meaning (put_one y.token) (kept_none v)
+      (drops_stays (state_weight s) v e less more v (put_one y.token) (kept_none v) (plain_one y.token)))
 
-    rule_with : (j : Kind) (b : Bool) (last : List Seen) → rank j < rank k → lent ≡ b → last_seen (x ∷ fed) ≡ last → Rule s (begun_with j b last)
-    rule_with j b [] l same is = begins_fed j
-    rule_with j true (y ∷ ys) l same is = begins_fed j
-    rule_with j false (y ∷ ys) l same is = Falls (rw (e, w) (rw (is, last_untold (x ∷ fed) y ys is, same) (omega (arith, l))))
+  module _ (c : Call) (page : Page) where
+    rule_acts : (f : Effect) → ask k fed ≡ Acts c f → Rule s (acts page c f)
+    rule_acts f is = by f is (subst (λ (n : ℕ). act_weight ≤ n) (sym (ap (ask_weight (end_weight k)) is)) (falls.heavy f)) where
+      by : (f : Effect) → ask k fed ≡ Acts c f → act_weight ≤ weight k fed → Rule s (acts page c f)
+      by (effect.Obey x) is h = rule_obeyed h page x.token x.meaning
+      by (effect.Show x) is h = rule_closed h (shown page x) (refl, (refl, tt))
+      by (effect.Let n x) is h = rule_closed h (Assigned n (meaning_to_let page.meanings x) ∷ []) (refl, tt)
+      by (effect.FutureLet n x y) is h = rule_closed h (put_one y.token ++ (put_one x.token ++ Assigned n (meaning_to_let page.meanings y) ∷ []))
+          (all_plain (put_one y.token) (put_one x.token ++ Assigned n (meaning_to_let page.meanings y) ∷ []) (plain_one y.token) (all_plain (put_one x.token) (Assigned n (meaning_to_let page.meanings y) ∷ []) (plain_one x.token) (refl, tt)))
+      by (effect.SetCategory code category) is h = rule_closed h (SetCategoryOf (natural code) (natural category) ∷ []) (refl, tt)
+      by (effect.ExpandBehind x y) is h = rule_behind page c x y is
+      by (effect.PutBack x) is h = rule_closed h (put_one x.token) (plain_one x.token)
+      by (effect.PutMarked x) is h = rule_closed h (put_one (marked x.token)) (plain_one (marked x.token))
+      by (effect.MakeNumber n) is h = rule_closed h (put_characters (whole_number n)) (plain_text (made_text (whole_number n)))
+      by (effect.MakeRoman n) is h = rule_closed h (put_characters (roman n)) (plain_text (made_text (roman n)))
+      by (effect.MakeString x) is h = rule_closed h (put_characters (string_text (style_of page) x.token)) (plain_text (made_text (string_text (style_of page) x.token)))
+      by (effect.MakeMeaning x) is h = rule_closed h (put_characters (meaning_characters page x)) (plain_text (made_text (meaning_characters page x)))
+      by f is h = rule_closed h [] tt
 
-    rule_fed : (a : Ask) → Lower (rank k) a → Rule s (answered s (reading_of (x ∷ fed) ∷ rs) (reading_of (x ∷ fed)) a)
-    rule_fed (More want) l = rule_handed s (enters_names want) (scanning (reading_of (x ∷ fed) ∷ rs) s.gathered) (λ y. wanted (page_of s) want (feeding (reading_of (x ∷ fed)) y) y) e
-    rule_fed (Inner j true) l = rule_with j lent (last_seen (x ∷ fed)) l refl refl
-    rule_fed (Inner j false) l = begins_fed j
-    rule_fed (Done v back) l = ends_behind (given_back back (x ∷ fed)) v (plain_back back (x ∷ fed))
-    rule_fed (Act f) l = rule_effect f
-    rule_fed (Tells report back) l = rule_told report None back (is_told (x ∷ fed)) refl
-    rule_fed (Inserts t report back) l = rule_told report (Some t) back (is_told (x ∷ fed)) refl
-    rule_fed (Makes characters) l = Falls (drops_plain (weight s) s (put_text (made_text characters)) (Closed ∷ []) (plain_text (made_text characters)) (λ u h. falls_closed u h))
-    rule_fed (Calls args) l = rule_called k args
-    rule_fed (Fails report) l = Falls (falls_failed (page_of s) report s (kept_none s))
-    rule_fed (RunsAway report) l = rule_away (page_of s) report (scanning (reading_of (x ∷ fed) ∷ rs) s.gathered)
-    rule_fed Closes l = Falls (falls_closed s (kept_none s))
+  -- another reading begins
+  rule_inner : (j : Begins) (b : Bool) → ask k fed ≡ Inner j b → Rule s (inner_begun (Reads j) b)
+  rule_inner j true is = Falls (rw (e, w) (omega (arith, falls.begun_with k fed j s.last is)))
+  rule_inner j false is = Falls (rw (e, w) (omega (arith, falls.begun k fed j is)))
 
-rule_reading : (s : State) (k : Kind) (lent : Bool) (holds : ℕ) (rs : List Reading) (fed : List Fed) → s.stopped ≡ None → s.work ≡ record { kind = k; fed = fed; lent = lent; holds = holds } ∷ rs →
-    Rule s (answered s (record { kind = k; fed = fed; lent = lent; holds = holds } ∷ rs) (record { kind = k; fed = fed; lent = lent; holds = holds }) (ask k fed))
-rule_reading s k lent holds rs [] e w = rule_fresh s k lent holds rs e (ask k []) (starts k) (lower k []) w
-rule_reading s k lent holds rs (x ∷ fed) e w = rule_fed s k lent holds rs e x fed w (ask k (x ∷ fed)) (lower k (x ∷ fed))
+  -- it ends with a value
+  falls_ended : (v : Value) (ts : List Token) → weight k fed ≡ value_weight → (u : State) → Kept s u → Drops (state_weight s) (Ended v ts ∷ []) u
+  falls_ended v ts is u h = rw (h.stopped, h.work, e, w) (omega (arith, h.pending, weight_ended falls v ts rs, is))
 
-rule_work : (s : State) (work : List Reading) → s.stopped ≡ None → s.work ≡ work → Rule s (planned s work)
-rule_work s [] e w = rule_handed s false None (stomach (page_of s)) e
-rule_work s (r ∷ rs) e w = rule_reading s r.kind r.lent r.holds rs r.fed e w
+  rule_done : (page : Page) (v : Value) (back : Bool) → weight k fed ≡ value_weight → Rule s (done page reading v back)
+  rule_done page v back is =
+      Falls (drops_plain (state_weight s) s (given_back back page.last) (Ended v (value_tokens v (lists k fed)) ∷ []) (plain_back back page.last) (λ u h. falls_ended v (value_tokens v (lists k fed)) is u h))
 
-rule_stopped : (s : State) (o : Option Outcome) → s.stopped ≡ o → Rule s (plan s o)
-rule_stopped s (Some o) e = Over refl
-rule_stopped s None e = rule_work s s.work e refl
+  -- a report was written, and noted
+  module _ (reports : IsReport (ask k fed)) where
+    falls_noted : (u : State) → Kept s u → Drops (state_weight s) (Feeds Told ∷ []) u
+    falls_noted u h = rw (h.stopped, h.work, e, w) (omega (arith, h.pending, falls.noted k fed reports))
 
-pub rule : (s : State) → Rule s (plan s s.stopped)
-rule s = rule_stopped s s.stopped refl
+    falls_noting : (j : Kind) (gone : List Fed) (u : State) → Kept s u → Drops (state_weight s) (noting_kind j gone) u
+    falls_noting (Arguments name long number ts) gone u h = falls_noted u h
+    falls_noting j gone u h =
+        drops_plain (state_weight s) u (grown_to (first_list (lists j gone)) (first_list (lists j (gone ++ Told ∷ [])))) (Feeds Told ∷ [])
+        (plain_grown_to (first_list (lists j gone)) (first_list (lists j (gone ++ Told ∷ [])))) (λ v b. falls_noted v (kept_on s u v h b))
+
+    rule_told : (page : Page) (report : Report) (inserted : Option Token) (back : Bool) → Rule s (told page report inserted back reading)
+    rule_told page report inserted back =
+        Falls (drops_plain (state_weight s) s (given_back back page.last) (put_inserted inserted ++ reported page report (noting reading)) (plain_back back page.last)
+        (λ u a. drops_plain (state_weight s) u (put_inserted inserted) (reported page report (noting reading)) (plain_inserted inserted)
+        (λ v b. drops_report (state_weight s) v page report (noting reading) (some_weight s e) (λ t c. falls_noting k fed t (kept_on s u t a (kept_on u v t b c))))))
+
+  heavy_as : (a : Ask) → ask k fed ≡ a → act_weight ≤ ask_weight (end_weight k) a → act_weight ≤ weight k fed
+  heavy_as a is h = omega (arith, h, ap (ask_weight (end_weight k)) is)
+
+  rule_asked : (a : Ask) → ask k fed ≡ a → Rule s (answered s (reading ∷ rs) reading a)
+  rule_asked (More want) is = rule_handed falls s (enters_names want) (scanning (reading ∷ rs) s.gathered) (λ x. wanted (page_of s) want (feeding reading x) x) e
+  rule_asked (Inner j b) is = rule_inner j b is
+  rule_asked (Done v back) is = rule_done (page_of s) v back (ap (ask_weight (end_weight k)) is)
+  rule_asked (Acts c f) is = rule_acts c (page_of s) f is
+  rule_asked (ActsOn c f ts) is = rule_acts_on (heavy_as _ is (omega arith)) (page_of s) c f ts
+  rule_asked (Defines c n ts) is = rule_defined (heavy_as _ is (omega arith)) c n ts
+  rule_asked Closes is = rule_closed (heavy_as _ is (omega arith)) [] tt
+  rule_asked (Calls args) is = rule_called (heavy_as _ is (omega arith)) k args
+  rule_asked (Fails report) is = Falls (falls_failed (heavy_as _ is (omega arith)) (page_of s) report s (kept_none s))
+  rule_asked (RunsAway report) is = rule_away (heavy_as _ is (omega arith)) (page_of s) report (scanning (reading ∷ rs) s.gathered)
+  rule_asked (Tells report back) is = rule_told (subst IsReport (sym is) tt) (page_of s) report None back
+  rule_asked (Inserts t report back) is = rule_told (subst IsReport (sym is) tt) (page_of s) report (Some t) back
+
+rule_work : WeightsFall → (s : State) (work : List Reading) → s.stopped ≡ None → s.work ≡ work → Rule s (planned s work)
+rule_work falls s [] e w = rule_handed falls s false None (stomach (page_of s)) e
+rule_work falls s (r ∷ rs) e w = rule_asked falls s r.kind r.fed rs e w (ask r.kind r.fed) refl
+
+rule_stopped : WeightsFall → (s : State) (o : Option Outcome) → s.stopped ≡ o → Rule s (plan s o)
+rule_stopped falls s (Some o) e = Over refl
+rule_stopped falls s None e = rule_work falls s s.work e refl
+
+pub rule : WeightsFall → (s : State) → Rule s (plan s s.stopped)
+rule falls s = rule_stopped falls s s.stopped refl

@@ -1,6 +1,7 @@
 -- A run within j + k steps is a run within j and then one within k.
 use Rattle.std.proofs.Common.{◌≡◌, ◌⊎◌, ℕ, ◌+◌, List, [], ◌∷◌, ◌++◌, inl, inr, arith}
-use Rattle.plain_state.specs.States.{State, Move}
+use Rattle.plain_readings.specs.Weights.{WeightsFall}
+use Rattle.plain_machine.specs.States.{State, Move}
 use Rattle.plain_machine.specs.Plan.{Ends, next}
 use Rattle.plain_machine.specs.Runs.{steps, Moves, NeedsStep, Trace, Same, HasRun, TwoRuns}
 use Rattle.plain_machine.proofs.Joins.{moves_join, steps_join}
@@ -28,10 +29,10 @@ pub joined : (s : State) (j k : ℕ) (ms : List Move) (t : State) → TwoRuns s 
 joined s j k ms t h = rw h.moves (trace_join s h.between t j k h.first h.second h.before h.behind)
 
 -- by determinism: both parts have a run, and the two make one
-pub parted : (s : State) (j k : ℕ) (ms : List Move) (t : State) → Trace s (j + k) ms t → TwoRuns s j k ms t
-parted s j k ms t h =
-    let a : HasRun s j = has_run j s in
-    let b : HasRun a.t k = has_run k a.t in
+pub parted : WeightsFall → (s : State) (j k : ℕ) (ms : List Move) (t : State) → Trace s (j + k) ms t → TwoRuns s j k ms t
+parted falls s j k ms t h =
+    let a : HasRun s j = has_run falls j s in
+    let b : HasRun a.t k = has_run falls k a.t in
     let c : Trace s (j + k) (a.ms ++ b.ms) b.t = trace_join s a.t b.t j k a.ms b.ms a.trace b.trace in
     let same : Same ms (a.ms ++ b.ms) t b.t = one_run s (j + k) ms (a.ms ++ b.ms) t b.t h.moves h.within h.whole c.moves c.within c.whole in
     record { first = a.ms; between = a.t; second = b.ms; moves = same.moves; before = a.trace; behind = rw same.state b.trace }

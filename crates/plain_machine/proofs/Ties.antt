@@ -1,20 +1,27 @@
--- Macros stay under their other numbers: lists are put and read, and a macro is defined.
-use Rattle.std.proofs.Common.{◌≡◌, ℕ, zero, suc, ◌<◌, ◌≤◌, Bool, true, false, ◌||◌, ◌⊎◌, List, [], ◌∷◌, ◌++◌, map, length, set, replicate, Option, Some, None, refl, ap, ◌∙◌, ⊎_elim, inl, inr, arith}
+-- Macros stay under their other numbers: lists are put and read, a macro is defined, and a name means what another token means.
+use Rattle.std.proofs.Common.{◌≡◌, ℕ, zero, suc, ◌<◌, ◌≤◌, Bool, true, false, ◌||◌, ◌⊎◌, List, [], ◌∷◌, ◌++◌, map, length, set, replicate, Option, Some, None, refl, sym, ap, ◌∙◌, ⊎_elim, inl, inr, arith}
 use Rattle.std.specs.Prelude.{if◌then◌else◌, slice_index_or}
 use Rattle.std.specs.List.{range_with_len}
-use Rattle.std.proofs.lemmas.Bool.{eqb-true, eq-eqb, ne_eqb, or_cases, or_parts, or_left, or_right, cases_eq, false_from_ne_true}
-use Rattle.std.proofs.lemmas.List.{get_or_at, get_or_append_left, length-append}
+use Rattle.std.proofs.lemmas.Bool.{eqb-true, eq-eqb, ne_eqb, or_cases, or_parts, or_left, or_right, cases_eq, cases_lt, false_from_ne_true}
+use Rattle.std.proofs.lemmas.List.{get_or_at, get_or_append_left, get_or_past, length-append}
 use Rattle.tex_defs.specs.declared.Token.{Token}
+use Rattle.tex_defs.specs.declared.Token.TheVariants as token
+use Rattle.tex_defs.specs.declared.Frozen.{Frozen}
+use Rattle.tex_defs.specs.declared.Frozen.TheVariants as frozen
 use Rattle.tex_defs.specs.declared.Name.{Name}
+use Rattle.tex_defs.specs.declared.Name.TheVariants as name
+use Rattle.tex_defs.specs.declared.Seen.{Seen}
 use Rattle.tex_defs.specs.declared.Meaning.{Meaning}
 use Rattle.tex_defs.specs.declared.Meaning.TheVariants as means
 use Rattle.plain_tokens.specs.Lex.{Lexed, Gives, Invalid, UsedUp, lexed}
 use Rattle.plain_tokens.specs.Puts.{Item, Whole, Own, Macro, Put, put_top, with_put, settled_top, settled, without_gaps, passed_top, passed}
 use Rattle.plain_tokens.specs.Pending.{Pending, Progress, NotBegun, Begun, Closed, from_file, from_line, from_list, from_front, pulled, after_pull}
-use Rattle.plain_tokens.specs.Meanings.{location, set_at, assigned, first_meaning, first_meanings, primitive_count, fixed_locations}
+use Rattle.plain_tokens.specs.Meanings.{location, fixed_meaning, frozen_meaning, looked_up, name_meaning, set_at, assigned, whole_meaning, let_meaning, meaning_to_let, first_meaning, first_meanings, primitive_count, fixed_locations}
 use Rattle.plain_tokens.specs.Tables.{is_number, means_macro, is_meant, is_whole, is_put}
-use Rattle.plain_machine.specs.Numbers.{meaning_of, meanings_of, whole_of, put_of, puts_of, renumbered, IsHeld, Tied}
-use Rattle.plain_machine.proofs.Renumbering.{assigned_of}
+use Rattle.plain_tokens.specs.Printed.{Style, meaning_head, meaning_text, meaning_tokens, list_text}
+use Rattle.plain_machine.specs.Plan.{macro_tokens}
+use Rattle.plain_machine.specs.Numbers.{number_of, meaning_of, meanings_of, whole_of, put_of, puts_of, renumbered, IsHeld, Tied}
+use Rattle.plain_machine.proofs.Renumbering.{assigned_of, meaning_to_let_of}
 use Rattle.plain_machine.proofs.MacroWords.{either}
 
 -- WHAT IS HELD
@@ -307,3 +314,105 @@ module _ (number : ℕ → ℕ) (macros : List (List Token)) (meanings : List (M
       tokens = λ n h. tokens_then n h (cases_eq n id);
       apart = λ n m h i e. apart_then n m h i e (cases_eq n id) (cases_eq m id);
     }
+
+-- A NAME MEANS WHAT ANOTHER TOKEN MEANS
+
+module _ (n : ℕ) where
+  meant_at : (cells : List (Meaning (Option ℕ))) (k : ℕ) → means_macro n (slice_index_or cells k means.Undefined) ≡ true → is_meant n cells ≡ true
+  meant_at [] k h = cc
+  meant_at (m ∷ cells) zero h = or_left (means_macro n m) (is_meant n cells) h
+  meant_at (m ∷ cells) (suc k) h = or_right (means_macro n m) (is_meant n cells) (meant_at cells k h)
+
+  frozen_not : (f : Frozen) → means_macro n (frozen_meaning f) ≡ false
+  frozen_not frozen.Relax = refl
+  frozen_not frozen.Fi = refl
+  frozen_not frozen.EndGroup = refl
+  frozen_not frozen.EndWrite = refl
+  frozen_not f = refl
+
+  fixed_not : (name : Name) → means_macro n (fixed_meaning name) ≡ false
+  fixed_not (name.Frozen f) = frozen_not f
+  fixed_not x = refl
+
+  looked_up_meant : (cells : List (Meaning (Option ℕ))) (o : Option ℕ) (fixed : Meaning (Option ℕ)) → means_macro n fixed ≡ false → means_macro n (looked_up cells o fixed) ≡ true → is_meant n cells ≡ true
+  looked_up_meant cells None fixed none h = cc
+  looked_up_meant cells (Some k) fixed none h = meant_at cells k h
+
+  -- the macro that a name means
+  pub named_meant : (cells : List (Meaning (Option ℕ))) (name : Name) → means_macro n (name_meaning cells name) ≡ true → is_meant n cells ≡ true
+  named_meant cells name h = looked_up_meant cells (location name) (fixed_meaning name) (fixed_not name) h
+
+  whole_meant : (cells : List (Meaning (Option ℕ))) (t : Token) → means_macro n (whole_meaning cells t) ≡ true → is_meant n cells ≡ true
+  whole_meant cells (token.Char category c) h = cc
+  whole_meant cells (token.Named name) h = named_meant cells name h
+  whole_meant cells (token.Marked name) h = named_meant cells name h
+  whole_meant cells t h = cc
+
+  let_meant : (cells : List (Meaning (Option ℕ))) (t : Token) (m : Meaning Unit) → means_macro n (let_meaning cells t m) ≡ true → is_meant n cells ≡ true
+  let_meant cells t means.RelaxMarked h = cc
+  let_meant cells t m h = whole_meant cells t h
+
+  -- the macro that `\let` gives is meant by a name
+  pub given_meant : (cells : List (Meaning (Option ℕ))) (x : Seen) → means_macro n (meaning_to_let cells x) ≡ true → is_meant n cells ≡ true
+  given_meant cells x h = let_meant cells x.token x.meaning h
+
+  -- What is held then was held: the macro that the name meant before may be held no more.
+  pub held_assigned : (meanings : List (Meaning (Option ℕ))) (puts : List Put) (name : Name) (m : Meaning (Option ℕ)) → (means_macro n m ≡ true → is_meant n meanings ≡ true) → IsHeld n (assigned meanings name m) puts → IsHeld n meanings puts
+  held_assigned meanings puts name m given h = held_more n (assigned meanings name m) meanings puts puts (λ a. ⊎_elim given (λ b. b) (meant_assigned n meanings name m a)) (λ a. a) h
+
+  pub held_let : (meanings : List (Meaning (Option ℕ))) (puts : List Put) (name : Name) (x : Seen) → IsHeld n (assigned meanings name (meaning_to_let meanings x)) puts → IsHeld n meanings puts
+  held_let meanings puts name x h = held_assigned meanings puts name (meaning_to_let meanings x) (given_meant meanings x) h
+
+  pub held_primitive : (meanings : List (Meaning (Option ℕ))) (puts : List Put) (name : Name) (k : ℕ) → IsHeld n (assigned meanings name (means.Prim k)) puts → IsHeld n meanings puts
+  held_primitive meanings puts name k h = held_assigned meanings puts name (means.Prim k) (λ a. cc) h
+
+-- The name means it under the other numbers too.
+pub meanings_let : (number : ℕ → ℕ) (meanings : List (Meaning (Option ℕ))) (name : Name) (x : Seen) → meanings_of number (assigned meanings name (meaning_to_let meanings x)) ≡ assigned (meanings_of number meanings) name (meaning_to_let (meanings_of number meanings) x)
+meanings_let number meanings name x = sym (ap (assigned (meanings_of number meanings) name) (meaning_to_let_of number meanings x) ∙ assigned_of number meanings name (meaning_to_let meanings x))
+
+pub meanings_primitive : (number : ℕ → ℕ) (meanings : List (Meaning (Option ℕ))) (name : Name) (k : ℕ) → meanings_of number (assigned meanings name (means.Prim k)) ≡ assigned (meanings_of number meanings) name (means.Prim k)
+meanings_primitive number meanings name k = sym (assigned_of number meanings name (means.Prim k))
+
+module _ (number : ℕ → ℕ) (macros : List (List Token)) (meanings : List (Meaning (Option ℕ))) (puts : List Put) (lists : List (List Token)) (t : Tied number macros meanings puts lists) where
+  -- a macro's list is shared: no number is new
+  pub tied_let : (name : Name) (x : Seen) → Tied number macros (assigned meanings name (meaning_to_let meanings x)) puts lists
+  tied_let name x = tied_fewer number macros meanings puts lists t (assigned meanings name (meaning_to_let meanings x)) puts (λ n h. held_let n meanings puts name x h)
+
+  pub tied_primitive : (name : Name) (k : ℕ) → Tied number macros (assigned meanings name (means.Prim k)) puts lists
+  tied_primitive name k = tied_fewer number macros meanings puts lists t (assigned meanings name (means.Prim k)) puts (λ n h. held_primitive n meanings puts name k h)
+
+  -- the lists of what is held stay, each of which has a token
+  pub tied_stayed : (lists' : List (List Token)) → ((k : ℕ) → k < length macros → slice_index_or macros k [] ≡ [] → ⊥) → ((n : ℕ) → IsHeld n meanings puts → slice_index_or lists' n [] ≡ slice_index_or lists n []) →
+      Tied number macros meanings puts lists'
+  tied_stayed lists' some stays = record { inside = λ n h. inside_then n h (cases_lt n (length lists')); within = t.within; tokens = tokens_then; apart = t.apart } where
+    tokens_then : (n : ℕ) → IsHeld n meanings puts → slice_index_or macros (number n) [] ≡ slice_index_or lists' n []
+    tokens_then n h = t.tokens n h ∙ sym (stays n h)
+
+    inside_then : (n : ℕ) → IsHeld n meanings puts → (n < length lists') ⊎ (length lists' ≤ n) → n < length lists'
+    inside_then n h (inl below) = below
+    inside_then n h (inr past) = absurd (some (number n) (t.within n h) (tokens_then n h ∙ get_or_past lists' n [] past))
+
+  -- WHAT IS SHOWN OF A MEANING
+
+  macro_tokens_tied : (o : Option ℕ) → ((n : ℕ) → is_number n o ≡ true → IsHeld n meanings puts) → macro_tokens macros (number_of number o) ≡ macro_tokens lists o
+  macro_tokens_tied None held = refl
+  macro_tokens_tied (Some k) held = t.tokens k (held k (eq-eqb k k refl))
+
+  tokens_tied : (m : Meaning (Option ℕ)) → ((n : ℕ) → means_macro n m ≡ true → IsHeld n meanings puts) → meaning_tokens (macro_tokens macros) (meaning_of number m) ≡ meaning_tokens (macro_tokens lists) m
+  tokens_tied (means.Macro long outer list) held = macro_tokens_tied list held
+  tokens_tied m held = refl
+
+  text_tied : (style : Style) (m : Meaning (Option ℕ)) → ((n : ℕ) → means_macro n m ≡ true → IsHeld n meanings puts) → meaning_text style (macro_tokens macros) (meaning_of number m) ≡ meaning_text style (macro_tokens lists) m
+  text_tied style (means.Macro long outer list) held = ap (λ (ts : List Token). meaning_head style (means.Macro long outer list) ++ list_text style ts) (macro_tokens_tied list held)
+  text_tied style m held = refl
+
+  given_held : (x : Seen) (n : ℕ) → means_macro n (meaning_to_let meanings x) ≡ true → IsHeld n meanings puts
+  given_held x n h = or_left (is_meant n meanings) (is_put n puts) (given_meant n meanings x h)
+
+  -- by `\meaning`
+  pub text_let : (style : Style) (x : Seen) → meaning_text style (macro_tokens macros) (meaning_to_let (meanings_of number meanings) x) ≡ meaning_text style (macro_tokens lists) (meaning_to_let meanings x)
+  text_let style x = ap (meaning_text style (macro_tokens macros)) (meaning_to_let_of number meanings x) ∙ text_tied style (meaning_to_let meanings x) (given_held x)
+
+  -- by `\show`
+  pub tokens_let : (x : Seen) → meaning_tokens (macro_tokens macros) (meaning_to_let (meanings_of number meanings) x) ≡ meaning_tokens (macro_tokens lists) (meaning_to_let meanings x)
+  tokens_let x = ap (meaning_tokens (macro_tokens macros)) (meaning_to_let_of number meanings x) ∙ tokens_tied (meaning_to_let meanings x) (given_held x)

@@ -3,8 +3,8 @@ use Rattle.std.specs.Prelude.{◌≡◌, ℕ, ◌+◌, ◌≤◌, List, [], ◌�
 use Rattle.tex_defs.specs.Places.{World, Rose}
 use Rattle.tex_defs.specs.declared.Full.{Full}
 use Rattle.tex_defs.specs.declared.Sizes.{Sizes}
-use Rattle.plain_state.specs.States.{State, Move, Written, Settled, Taken, FileClosed}
-use Rattle.plain_state.specs.Demands.{refusal}
+use Rattle.plain_machine.specs.States.{State, Move, Written, Settled, Taken, FileClosed}
+use Rattle.plain_machine.specs.Demands.{refusal}
 use Rattle.plain_machine.specs.Plan.{Goes, next, plan}
 use Rattle.plain_machine.specs.Runs.{Wrote, made_all, steps, step_of}
 use Rattle.plain_machine.specs.Bounded.{AllFit, FitMoves}

@@ -4,7 +4,7 @@ use Rattle.tex_defs.specs.Places.{World}
 use Rattle.tex_defs.specs.declared.Sizes.{Sizes}
 use Rattle.plain_tokens.specs.Lines.{has_feed}
 use Rattle.plain_tokens.specs.Pending.{Pending, Closed, pulled, takes_file}
-use Rattle.plain_state.specs.States.{State}
+use Rattle.plain_machine.specs.States.{State}
 use Rattle.plain_machine.specs.Plan.{planned}
 use Rattle.plain_machine.specs.Runs.{steps}
 use Rattle.plain_machine.specs.Does.{Did, Cut, Why}

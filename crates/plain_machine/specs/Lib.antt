@@ -1,8 +1,10 @@
+pub mod States
+pub mod Demands
 pub mod Plan
 pub mod Runs
 pub mod Bounded
 pub mod Does
-pub mod Meaning
-pub mod Rows
-pub mod Numbers
 pub mod Extended
+pub mod Meaning
+pub mod Numbers
+pub mod Rows

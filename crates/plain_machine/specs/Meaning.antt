@@ -1,5 +1,5 @@
 -- What the program writes and answers, by the plain machine.
-use Rattle.std.specs.Prelude.{◌≡◌, ℕ, ◌≤◌, Bool, true, false, nat_lt, List, [], ◌∷◌, ◌++◌, Option, Some, None, take, length, codes, decimal, ◌⊎◌}
+use Rattle.std.specs.Prelude.{◌≡◌, ℕ, ◌≤◌, Bool, true, false, ◌||◌, nat_lt, List, [], ◌∷◌, ◌++◌, Option, Some, None, take, length, codes, decimal, ◌⊎◌}
 use Rattle.tex_syntax.specs.declared.words.Outcome.{Outcome}
 use Rattle.tex_syntax.specs.declared.words.Outcome.TheVariants.{Finished, AtFatal}
 use Rattle.tex_defs.specs.declared.Fatal.{Fatal}
@@ -8,12 +8,11 @@ use Rattle.tex_defs.specs.declared.Sizes.{Sizes}
 use Rattle.tex_defs.specs.Sizes.{table_name, default_sizes}
 use Rattle.tex_defs.specs.Places.{World, Rose, Transcript, File, Untold, NotHeld, Holds}
 use Rattle.plain_tokens.specs.Categories.{initial_categories}
-use Rattle.plain_tokens.specs.Names.{is_known}
-use Rattle.plain_state.specs.States.{State, Move, Written}
+use Rattle.plain_machine.specs.States.{State, Move, Kept, Written}
 use Rattle.plain_state.specs.Reports.{fresh_line}
-use Rattle.plain_machine.specs.Plan.{first_state}
+use Rattle.plain_machine.specs.Plan.{first_state, is_known}
 use Rattle.plain_machine.specs.Runs.{Wrote}
-use Rattle.plain_machine.specs.Bounded.{Bounded, End, AtEnd, AtSteps, AtFull}
+use Rattle.plain_machine.specs.Bounded.{FitMoves, Bounded, End, AtEnd, AtSteps, AtFull}
 use Rattle.plain_machine.specs.Does.{Why, IsFull, IsFault, IsWant, CutAt, ReadAt}
 use Rattle.command_words.specs.Words.{Command, Options, Init, NoCommand}
 
@@ -57,10 +56,14 @@ pub record Whole (sizes : Sizes) (s : State) (n : ℕ) (w w' : World) (o : Outco
   pub stopped : t.stopped ≡ Some o
   pub written : Wrote w w' ms
 
--- It ended at `\\end`, without or with a report before it.
+-- a report came, or `\show`
+abbrev pub is_flawed : State → Bool
+is_flawed t = t.flawed || nat_lt 0 t.reports
+
+-- It ended at `\end`, without or with a report or `\show` before it.
 pub record Ending (sizes : Sizes) (s : State) (n : ℕ) (w w' : World) (flawed : Bool) : Type 0 where
   pub whole : Whole sizes s n w w' Finished
-  pub reports : nat_lt 0 whole.t.reports ≡ flawed
+  pub flaws : is_flawed whole.t ≡ flawed
 
 -- It ended at something fatal.
 pub record Fails (sizes : Sizes) (s : State) (n : ℕ) (w w' : World) : Type 0 where
@@ -103,11 +106,14 @@ pub record Unread (sizes : Sizes) (s : State) (n : ℕ) (w w' : World) (why : Wh
   pub cause : IsReadCause why w between
   pub last : Line between w' line
 
--- The file could not be opened: a read failed, nothing of the run is written, and the stop line follows.
-pub record Unopened (w w' : World) : Type 0 where
+-- The file could not be opened, once the job's name was kept: a read failed, nothing of the run is written, and the stop line follows.
+pub record Unopened (sizes : Sizes) (s : State) (w w' : World) : Type 0 where
+  pub name : List ℕ
+  pub t : State
   pub between : World
+  pub kept : FitMoves sizes s (Kept name ∷ []) t
   pub failed : Rose w.read_faults between.read_faults
-  pub written : Wrote w between []
+  pub written : Wrote w between (Kept name ∷ [])
   pub last : Line between w' read_fault_line
 
 -- Memory was wanted before the run: for the tables, of which nothing is counted, or where the file was to be opened. Which of these it was
@@ -135,7 +141,7 @@ Says sizes s n w w' _ IsFlawed = Ending sizes s n w w' true
 Says sizes s n w w' _ IsFatal = Fails sizes s n w w'
 Says sizes s n w w' _ IsFullTable = OutOfRoom sizes s n w w'
 Says sizes s n w w' _ IsSteps = Stops sizes s n w w' AtSteps (steps_line n)
-Says sizes s n w w' _ IsReadFault = Unread sizes s n w w' IsFault read_fault_line ⊎ Unopened w w'
+Says sizes s n w w' _ IsReadFault = Unread sizes s n w w' IsFault read_fault_line ⊎ Unopened sizes s w w'
 Says sizes s n w w' _ IsWriteFault = CutShort sizes s n w w' IsFault write_fault_line
 Says sizes s n w w' _ IsNoMemory = CutShort sizes s n w w' IsWant no_memory_line ⊎ (Unread sizes s n w w' IsWant no_memory_line ⊎ NotBegun w w')
 

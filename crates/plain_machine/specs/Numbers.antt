@@ -3,10 +3,13 @@ use Rattle.std.specs.Prelude.{◌≡◌, ℕ, ◌<◌, ◌==◌, ◌||◌, true,
 use Rattle.tex_defs.specs.declared.Token.{Token}
 use Rattle.tex_defs.specs.declared.Meaning.{Meaning}
 use Rattle.tex_defs.specs.declared.Meaning.TheVariants as means
+use Rattle.tex_defs.specs.declared.Seen.{Seen}
 use Rattle.plain_tokens.specs.Puts.{Put, Whole, Own, Macro}
 use Rattle.plain_tokens.specs.Pending.{Pending, with_puts, put_front, pulled, Pulled, TokenFrom, LexemeFrom, LineTaken, InvalidMet, FileOver, NothingLeft}
 use Rattle.plain_tokens.specs.Tables.{is_meant, is_put, macro_words}
-use Rattle.plain_tokens.specs.Meanings.{seen}
+use Rattle.plain_tokens.specs.Meanings.{seen, met, meaning_to_let}
+use Rattle.plain_tokens.specs.Printed.{Style, meaning_text, meaning_tokens}
+use Rattle.plain_machine.specs.Plan.{macro_tokens}
 
 abbrev pub number_of : (ℕ → ℕ) → Option ℕ → Option ℕ
 number_of number None = None
@@ -55,10 +58,17 @@ pub record Tied (number : ℕ → ℕ) (macros : List (List Token)) (meanings : 
   pub tokens : (n : ℕ) → IsHeld n meanings puts → slice_index_or macros (number n) [] ≡ slice_index_or lists n []
   pub apart : (n m : ℕ) → IsHeld n meanings puts → IsHeld m meanings puts → number n ≡ number m → n ≡ m
 
--- What macros are called is seen nowhere: not in what is read, nor in what names mean, nor in the words that are used.
+-- What macros are called is seen nowhere: not in what is read, nor in what names mean and what `\let` gives, nor in what is shown of that, nor in
+-- the words that are used.
 pub record NumbersAreFree : Type 0 where
   pub reads : (number : ℕ → ℕ) (categories : List ℕ) (p : Pending) → pulled categories (pending_of number p) ≡ pulled_of number (pulled categories p)
   pub puts : (number : ℕ → ℕ) (x : Put) (p : Pending) → put_front (put_of number x) (pending_of number p) ≡ pending_of number (put_front x p)
   pub means : (number : ℕ → ℕ) (cells : List (Meaning (Option ℕ))) (t : Token) → seen (meanings_of number cells) t ≡ seen cells t
+  pub meets : (number : ℕ → ℕ) (cells : List (Meaning (Option ℕ))) (t : Token) → met (meanings_of number cells) t ≡ met cells t
+  pub lets : (number : ℕ → ℕ) (cells : List (Meaning (Option ℕ))) (x : Seen) → meaning_to_let (meanings_of number cells) x ≡ meaning_of number (meaning_to_let cells x)
+  pub texts : (number : ℕ → ℕ) (macros : List (List Token)) (meanings : List (Meaning (Option ℕ))) (puts : List Put) (lists : List (List Token)) →
+      Tied number macros meanings puts lists → (style : Style) (x : Seen) → meaning_text style (macro_tokens macros) (meaning_to_let (meanings_of number meanings) x) ≡ meaning_text style (macro_tokens lists) (meaning_to_let meanings x)
+  pub shows : (number : ℕ → ℕ) (macros : List (List Token)) (meanings : List (Meaning (Option ℕ))) (puts : List Put) (lists : List (List Token)) →
+      Tied number macros meanings puts lists → (x : Seen) → meaning_tokens (macro_tokens macros) (meaning_to_let (meanings_of number meanings) x) ≡ meaning_tokens (macro_tokens lists) (meaning_to_let meanings x)
   pub words : (number : ℕ → ℕ) (macros : List (List Token)) (meanings : List (Meaning (Option ℕ))) (puts : List Put) (lists : List (List Token)) →
       Tied number macros meanings puts lists → macro_words 0 (meanings_of number meanings) (puts_of number puts) macros ≡ macro_words 0 meanings puts lists

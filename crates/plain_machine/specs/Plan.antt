@@ -1,45 +1,61 @@
 -- The plain machine: the moves of the rule that comes next, and the next move.
-use Rattle.std.specs.Prelude.{ℕ, Bool, true, false, ◌==◌, ◌||◌, List, [], ◌∷◌, ◌++◌, length, zero, suc, map, drop, slice_index_or, nat_lt, if◌then◌else◌, Option, Some, None}
+use Rattle.std.specs.Prelude.{ℕ, ℤ, pos, negsuc, Bool, true, false, ◌==◌, ◌||◌, List, [], ◌∷◌, ◌++◌, length, map, drop, slice_index_or, nat_lt, if◌then◌else◌, Option, Some, None}
 use Rattle.tex_syntax.specs.declared.words.Want.{Want}
 use Rattle.tex_syntax.specs.declared.words.Want.TheVariants.{Raw, Expanded, Copied, Nonblank, Command}
 use Rattle.tex_syntax.specs.declared.words.Report.{Report}
+use Rattle.tex_syntax.specs.declared.words.Report.TheVariants.{UndefinedName, InvalidCharacter, FileEnded, Forbidden, ExtraEndcsname}
 use Rattle.tex_syntax.specs.declared.words.Scanned.{Scanned}
-use Rattle.tex_syntax.specs.declared.words.Report.TheVariants.{UndefinedName, InvalidCharacter, FileEnded, Forbidden}
+use Rattle.tex_syntax.specs.declared.words.Scanned.TheVariants as scanned
 use Rattle.tex_syntax.specs.declared.words.Outcome.{Outcome}
 use Rattle.tex_syntax.specs.declared.words.Outcome.TheVariants.{Finished, AtFatal}
-use Rattle.tex_syntax.specs.declared.words.Scanned.TheVariants as scanned
 use Rattle.tex_defs.specs.declared.Token.{Token}
 use Rattle.tex_defs.specs.declared.Token.TheVariants as token
 use Rattle.tex_defs.specs.declared.Name.{Name}
+use Rattle.tex_defs.specs.declared.Name.TheVariants as name
 use Rattle.tex_defs.specs.declared.Meaning.{Meaning}
 use Rattle.tex_defs.specs.declared.Meaning.TheVariants as means
 use Rattle.tex_defs.specs.declared.Seen.{Seen}
 use Rattle.tex_defs.specs.declared.Fatal.TheVariants.{NoEnd, NoFile, HundredErrors}
 use Rattle.tex_defs.specs.Places.{Transcript}
-use Rattle.plain_tokens.specs.Categories.{end_group}
 use Rattle.prim_table.specs.Primitives.{primitive_names}
-use Rattle.plain_tokens.specs.Names.{name_of, means_relax, relax_primitive, end_primitive, message_primitive, catcode_primitive, long_primitive, outer_primitive, global_primitive, def_primitive, gdef_primitive, edef_primitive, xdef_primitive, number_primitive}
-use Rattle.plain_tokens.specs.Tokens.{is_space, is_outer, space_token, made_text}
-use Rattle.plain_tokens.specs.Meanings.{name_meaning, seen, first_meanings}
+use Rattle.plain_tokens.specs.Categories.{end_group, is_between}
+use Rattle.plain_tokens.specs.Names.{name_of, means_relax, relax_primitive, par_primitive, end_primitive}
+use Rattle.plain_tokens.specs.Tokens.{is_space, is_outer, is_undefined, space_token, made_text, character_codes}
+use Rattle.plain_tokens.specs.Meanings.{name_meaning, met as met_token, meaning_to_let, seen_as, first_meanings}
 use Rattle.plain_tokens.specs.Puts.{Item, Put as PutList, call_put}
-use Rattle.plain_tokens.specs.Lookup.{token_of, new_name}
-use Rattle.plain_tokens.specs.Printed.{Style, initial_style}
-use Rattle.plain_state.specs.Reports.{plain_style, missing_file_bytes, fresh_line, report_bytes, hundred_line, emergency, no_end_line, no_file_line, token_line_bytes, runaway_bytes, message_bytes}
+use Rattle.plain_tokens.specs.Lookup.{token_of, new_name, name_among, new_among}
+use Rattle.plain_tokens.specs.Printed.{Style, initial_style, meaning_text, meaning_tokens}
+use Rattle.plain_tokens.specs.Numerals.{whole_number, roman}
 use Rattle.plain_tokens.specs.Lex.{NewLine}
-use Rattle.command_words.specs.Words.{job_name}
 use Rattle.plain_tokens.specs.Pending.{Pulled, TokenFrom, LexemeFrom, LineTaken, InvalidMet, FileOver, NothingLeft, Progress, NotBegun, Closed as ClosedFile, pulled}
 use Rattle.plain_tokens.specs.Arguments.{has_parameters, arguments_in, work_in}
 use Rattle.plain_tokens.specs.Arguments as call
-use Rattle.plain_state.specs.Readings.{Kind, Catcode, Message, Text, Prefixed, Define, Number, Definition, Arguments, Effect, SetCategory, Say, SetMacro, Fed, Tok, Val, Told, Cut, Flag, Ask, More, Inner, Done, Act, Tells, Inserts, Makes, Calls, Fails, RunsAway, Closes, ask, so_far, gathered_by, par_token}
-use Rattle.plain_state.specs.States.{Reading, Move, Handed, Taken, Settled, Skipped, FileClosed, Entered, Kept, Grows, Feeds, Noted, Checked, Completed, Opened, ListBegun, ListGrown, Put, Called, CalledWith, SetCategoryOf, Defined, Written, Begun, BegunWith, Ended, Closed, Reported, Stopped, State, made, in_line_after}
+use Rattle.plain_state.specs.Reports.{in_line_after, plain_style, missing_file_bytes, fresh_line, report_bytes, error_message_bytes, shown_meaning_bytes, string_text, hundred_line, emergency, no_end_line, no_file_line, token_line_bytes, runaway_bytes, message_bytes}
+use Rattle.command_words.specs.Words.{job_name}
+use Rattle.rows.specs.declared.words.Value.{Value}
+use Rattle.rows.specs.declared.words.Value.TheVariants as value
+use Rattle.rows.specs.declared.words.Kind.TheVariants.{Command as Row}
+use Rattle.rows.specs.declared.command.Call.{Call}
+use Rattle.rows.specs.declared.command.Effect.{Effect}
+use Rattle.rows.specs.declared.command.Effect.TheVariants as effect
+use Rattle.rows.specs.Table.{has_row}
+use Rattle.rows.specs.Readings.{Fed, Tok, Told, Cut, Ask, More, Inner, Done, Acts, ActsOn, Defines, Ends as Closes, Calls, Fails, RunsAway, Tells, Inserts}
+use Rattle.plain_readings.specs.Calls.{gathered, par_token}
+use Rattle.plain_readings.specs.Spelling.{endcsname_primitive}
+use Rattle.plain_readings.specs.Readings.{Kind, Reads, Spelling, Arguments, Behind, Reading, ask, lists}
+use Rattle.plain_readings.specs.Scanning.{Scanning, scanning}
+use Rattle.plain_machine.specs.States.{Move, Handed, Taken, Settled, Skipped, FileClosed, Entered, Kept, Grows, Feeds, Completed, Opened, ListBegun, ListGrown, Put, ListDropped, Called, CalledWith, SetCategoryOf, Assigned, Defined, Written, Begun, BegunWith, Ended, Closed, Reported, Flawed, Stopped, State, no_token, made}
 
--- What the moves of a rule depend on: the category codes, the names entered and what they mean, the macros' lists, whether the
--- transcript's column isn't 0, the number of the line that is read, the reports so far, and whether token lines are left out.
+-- What the moves of a rule depend on: the category codes, the names entered, the job's name, what the names mean, the macros' lists, the token
+-- that a reading was fed with last, whether the transcript's column isn't 0, the number of the line that is read, the reports so far, and
+-- whether token lines are left out.
 pub record Page : Type 0 where
   pub categories : List ℕ
   pub names : List (List ℕ)
+  pub strings : List (List ℕ)
   pub meanings : List (Meaning (Option ℕ))
   pub macros : List (List Token)
+  pub last : Seen
   pub in_line : Bool
   pub line : ℕ
   pub reports : ℕ
@@ -49,13 +65,22 @@ abbrev pub page_of : State → Page
 page_of s = record {
   categories = s.categories;
   names = s.names;
+  strings = s.strings;
   meanings = s.meanings;
   macros = s.macros;
+  last = s.last;
   in_line = s.in_line;
   line = s.pending.number;
   reports = s.reports;
   quiet = s.quiet;
 }
+
+-- the style of its texts; of those that depend on no category code
+abbrev pub style_of : Page → Style
+style_of page = initial_style page.categories page.names
+
+abbrev pub plain_style_of : Page → Style
+plain_style_of page = plain_style page.names
 
 -- `\end`: the run ends on a fresh line
 abbrev pub finish : Bool → List Move
@@ -76,19 +101,34 @@ behind_report style reports rest =
 
 -- a report, and the moves behind it
 abbrev pub reported : Page → Report → List Move → List Move
-reported page report rest = Written Transcript (report_bytes (plain_style page.names) page.in_line page.line report) ∷ Reported ∷ behind_report (plain_style page.names) page.reports rest
+reported page report rest =
+    Written Transcript (report_bytes (plain_style_of page) page.in_line page.line report) ∷ Reported
+    ∷ behind_report (plain_style_of page) page.reports rest
+
+-- the report of `\errmessage`, which has this text
+abbrev pub reported_as : Page → List Token → List Move → List Move
+reported_as page ts rest =
+    Written Transcript (error_message_bytes (style_of page) page.in_line page.line ts) ∷ Reported ∷ behind_report (plain_style_of page) page.reports rest
 
 -- a token that only typesetting would use
 abbrev pub token_line : Page → Meaning Unit → List Move
-token_line page m = if page.quiet then [] else Written Transcript (token_line_bytes (plain_style page.names) page.in_line m) ∷ []
+token_line page m = if page.quiet then [] else Written Transcript (token_line_bytes (plain_style_of page) page.in_line m) ∷ []
 
 -- a token put in front: the list of it is begun, grown and put, once the finished lists in front have gone
 abbrev pub put_one : Token → List Move
 put_one t = Settled ∷ ListBegun ∷ ListGrown t ∷ Put (t ∷ []) ∷ []
 
--- a text put in front, which has a token
+-- the list that was made is put; one without tokens goes
+abbrev pub put_made : List Token → List Move
+put_made [] = ListDropped ∷ []
+put_made (t ∷ ts) = Put (t ∷ ts) ∷ []
+
+-- a text put in front
 abbrev pub put_text : List Token → List Move
-put_text ts = Settled ∷ ListBegun ∷ (map ListGrown ts ++ Put ts ∷ [])
+put_text ts = Settled ∷ ListBegun ∷ (map ListGrown ts ++ put_made ts)
+
+abbrev pub put_characters : List ℕ → List Move
+put_characters characters = put_text (made_text characters)
 
 -- CALLS OF MACROS
 
@@ -118,33 +158,70 @@ called_meaning page name m = []
 abbrev pub called : Page → Token → List Move
 called page t = called_meaning page (name_of t) (name_meaning page.meanings (name_of t))
 
+-- PRIMITIVES
+
+-- a command by its primitive and its name as it was written, without prefixes
+abbrev pub call_of : Token → ℕ → Call
+call_of t number = record { primitive = number; name = name_of t; long = false; outer = false; global = false }
+
+-- its reading begins, by its row
+abbrev pub begun : Token → ℕ → List Move
+begun t number = Begun (Reads (Row (call_of t number))) ∷ []
+
+abbrev pub csname_primitive : ℕ
+csname_primitive = 56
+
+abbrev pub jobname_primitive : ℕ
+jobname_primitive = 61
+
+-- the primitives that are expanded, and the conditionals
+abbrev pub is_expandable_primitive : ℕ → Bool
+is_expandable_primitive number = is_between 54 84 number
+
+-- the job's name is the first string that is kept
+abbrev pub job_in : List (List ℕ) → List ℕ
+job_in [] = []
+job_in (name ∷ strings) = name
+
+-- an expansion begins its reading, which `\jobname` ends at once
+abbrev pub expansion : Page → Token → ℕ → List Move
+expansion page t number =
+    if number == csname_primitive then Begun (Spelling (call_of t number)) ∷ []
+    else if number == jobname_primitive then begun t number ++ (put_characters (job_in page.strings) ++ Closed ∷ [])
+    else begun t number
+
+-- a primitive in the stomach that isn't expanded
 abbrev pub primitive : Page → Token → ℕ → List Move
 primitive page t number =
-    if number == catcode_primitive then Begun Catcode ∷ []
-    else if number == message_primitive then Begun (Message (name_of t)) ∷ []
+    if has_row number then begun t number
     else if number == end_primitive then finish page.in_line
-    else if number == long_primitive then Begun (Prefixed true false) ∷ []
-    else if number == outer_primitive then Begun (Prefixed false true) ∷ []
-    else if number == global_primitive then Begun (Prefixed false false) ∷ []
-    else if (number == def_primitive) || (number == gdef_primitive) then Begun (Define false) ∷ []
-    else if (number == edef_primitive) || (number == xdef_primitive) then Begun (Define true) ∷ []
     else if number == relax_primitive then []
+    else if number == endcsname_primitive then reported page ExtraEndcsname []
     else token_line page (means.Prim number)
 
--- a primitive that is expanded begins the reading of its expansion; another comes to these moves
-abbrev pub unless_expanded : ℕ → List Move → List Move
-unless_expanded number moves = if number == number_primitive then Begun Number ∷ [] else moves
+-- a primitive that is expanded begins its expansion; another comes to these moves
+abbrev pub unless_expanded : Page → Token → ℕ → List Move → List Move
+unless_expanded page t number moves = if is_expandable_primitive number then expansion page t number else moves
 
--- a token where no reading is open
+-- a token is expanded once: an undefined name is reported and dropped, a macro called, a primitive expanded; another comes to these moves
+abbrev pub expanded_as : Page → Token → Meaning Unit → List Move → List Move
+expanded_as page t means.Undefined moves = reported page UndefinedName []
+expanded_as page t (means.Macro long outer list) moves = called page t
+expanded_as page t (means.Prim number) moves = unless_expanded page t number moves
+expanded_as page t m moves = moves
+
+abbrev pub expanded : Page → Seen → List Move → List Move
+expanded page x moves = expanded_as page x.token x.meaning moves
+
+-- what a token that isn't expanded comes to in the stomach
 abbrev pub command : Page → Token → Meaning Unit → List Move
-command page t (means.Prim number) = unless_expanded number (primitive page t number)
-command page t means.Undefined = reported page UndefinedName []
+command page t (means.Prim number) = primitive page t number
 command page t means.RelaxMarked = []
-command page t (means.Macro long outer list) = called page t
 command page t m = token_line page m
 
+-- a token where no reading is open
 abbrev pub stomach : Page → Seen → List Move
-stomach page x = command page x.token x.meaning
+stomach page x = expanded page x (command page x.token x.meaning)
 
 -- FEEDING A READING
 
@@ -159,40 +236,44 @@ opened (Some work) = Opened ∷ []
 
 -- in a place: either an argument is whole, or its list goes on
 abbrev pub in_place : Seen → List Token → (complete : List (List Token)) → Option (List Token) → List Move
-in_place x work (a ∷ more) next = grown_to work a ++ Feeds x ∷ Completed a ∷ opened next
-in_place x work [] None = Feeds x ∷ []
-in_place x work [] (Some after) = grown_to work after ++ Feeds x ∷ []
+in_place x work (a ∷ more) next = grown_to work a ++ Feeds (Tok x) ∷ Completed a ∷ opened next
+in_place x work [] None = Feeds (Tok x) ∷ []
+in_place x work [] (Some after) = grown_to work after ++ Feeds (Tok x) ∷ []
 
 -- by the list in work, the arguments that are whole now and weren't, and the list in work then
 abbrev pub argument_fed : Seen → Option (List Token) → (complete : List (List Token)) → Option (List Token) → List Move
-argument_fed x None complete next = Feeds x ∷ opened next
+argument_fed x None complete next = Feeds (Tok x) ∷ opened next
 argument_fed x (Some work) complete next = in_place x work complete next
 
 abbrev pub call_fed : Seen → (before after : call.Answer) → List Move
 call_fed x before after = argument_fed x (work_in before) (drop (length (arguments_in before)) (arguments_in after)) (work_in after)
 
--- A token is fed: the list that is built grows by what goes into it, and the reading goes on behind the token.
-abbrev pub feeding_kind : Kind → List Fed → Seen → List Move
-feeding_kind (Arguments name long number ts) fed x = call_fed x (gathered_by long ts fed) (gathered_by long ts (fed ++ Tok x ∷ []))
-feeding_kind k fed x = grown_to (so_far k fed) (so_far k (fed ++ Tok x ∷ [])) ++ Feeds x ∷ []
+-- the last of the lists that a reading holds
+abbrev pub first_list : List (List Token) → List Token
+first_list [] = []
+first_list (ts ∷ lists) = ts
 
+-- the list that is built grows by what goes into it because of this, and the reading goes on behind it
+abbrev pub grown_and_fed : Kind → List Fed → Fed → List Move
+grown_and_fed k fed y = grown_to (first_list (lists k fed)) (first_list (lists k (fed ++ y ∷ []))) ++ Feeds y ∷ []
+
+abbrev pub feeding_kind : Kind → List Fed → Seen → List Move
+feeding_kind (Arguments name long number ts) fed x = call_fed x (gathered long ts fed) (gathered long ts (fed ++ Tok x ∷ []))
+feeding_kind k fed x = grown_and_fed k fed (Tok x)
+
+-- a token is fed
 abbrev pub feeding : Reading → Seen → List Move
 feeding r x = feeding_kind r.kind r.fed x
 
 -- the note that a report was written
+abbrev pub noting_kind : Kind → List Fed → List Move
+noting_kind (Arguments name long number ts) fed = Feeds Told ∷ []
+noting_kind k fed = grown_and_fed k fed Told
+
 abbrev pub noting : Reading → List Move
-noting r = grown_to (so_far r.kind r.fed) (so_far r.kind (r.fed ++ Told ∷ [])) ++ Noted ∷ []
+noting r = noting_kind r.kind r.fed
 
--- a token read by X: an undefined name is reported and dropped, a macro called, a primitive expanded, and another token fed
-abbrev pub expanded_as : Page → Token → Meaning Unit → List Move → List Move
-expanded_as page t means.Undefined feeds = reported page UndefinedName []
-expanded_as page t (means.Macro long outer list) feeds = called page t
-expanded_as page t (means.Prim number) feeds = unless_expanded number feeds
-expanded_as page t m feeds = feeds
-
-abbrev pub expanded : Page → Seen → List Move → List Move
-expanded page x feeds = expanded_as page x.token x.meaning feeds
-
+-- what is made of a token that a reading wants so, which is fed by these moves
 abbrev pub wanted : Page → Want → List Move → Seen → List Move
 wanted page Raw feeds x = feeds
 wanted page Expanded feeds x = expanded page x feeds
@@ -201,27 +282,6 @@ wanted page Nonblank feeds x = if is_space x then [] else expanded page x feeds
 wanted page Command feeds x = if is_space x || means_relax x.meaning then [] else expanded page x feeds
 
 -- CHECKS, where a file has ended or the name of an \outer macro has come
-
--- what is read then: the innermost of the open definitions, calls and texts, with the list that it has built so far
-pub record Scanning : Type 0 where
-  pub what : Scanned
-  pub name : Name
-  pub list : List Token
-
-abbrev pub first_of : (held : ℕ) → List (List Token) → List Token
-first_of zero lists = []
-first_of (suc n) [] = []
-first_of (suc n) (ts ∷ lists) = ts
-
-abbrev pub scanning_kind : Kind → List Token → Option Scanning → Option Scanning
-scanning_kind (Text name) list beneath = Some (record { what = scanned.Text; name = name; list = list })
-scanning_kind (Definition name expanded) list beneath = Some (record { what = scanned.Definition; name = name; list = list })
-scanning_kind (Arguments name long number ts) list beneath = Some (record { what = scanned.Use; name = name; list = list })
-scanning_kind k list beneath = beneath
-
-abbrev pub scanning : List Reading → List (List Token) → Option Scanning
-scanning [] lists = None
-scanning (r ∷ rs) lists = scanning_kind r.kind (first_of r.holds lists) (scanning rs (drop r.holds lists))
 
 abbrev pub right_brace : Token
 right_brace = token.Char end_group 125
@@ -234,7 +294,7 @@ inserted_at scanned.Use = par_token
 
 -- a call notes that a check came
 abbrev pub check_noted : Scanned → List Move → List Move
-check_noted scanned.Use rest = Checked ∷ rest
+check_noted scanned.Use rest = Feeds Cut ∷ rest
 check_noted what rest = rest
 
 -- where the file has ended
@@ -246,7 +306,7 @@ abbrev pub page_behind : Page → List ℕ → Page
 page_behind page text = record page { in_line = in_line_after page.in_line text }
 
 abbrev pub away_text : Page → Scanning → List ℕ
-away_text page s = runaway_bytes s.what (initial_style page.categories page.names) page.in_line s.list
+away_text page s = runaway_bytes s.what (style_of page) page.in_line s.list
 
 -- The list so far is shown, `}` or `\par` inserted, and the report comes.
 abbrev pub ran_away : Page → Report → Scanning → List Move → List Move
@@ -261,8 +321,8 @@ checked page (Some s) = ran_away page (FileEnded s.what s.name) s []
 
 -- The name of an \outer macro is put back where a reading goes on, and a space takes its place.
 abbrev pub met_outer : Page → Option Scanning → Token → (onward : Seen → List Move) → List Move
-met_outer page None t onward = onward (seen page.meanings t)
-met_outer page (Some s) t onward = put_one t ++ ran_away page (Forbidden s.what s.name) s (onward (seen page.meanings space_token))
+met_outer page None t onward = onward (met_token page.meanings t)
+met_outer page (Some s) t onward = put_one t ++ ran_away page (Forbidden s.what s.name) s (onward (met_token page.meanings space_token))
 
 abbrev pub met : Page → Option Scanning → (onward : Seen → List Move) → Seen → List Move
 met page s onward x = if is_outer x.meaning then met_outer page s x.token onward else onward x
@@ -274,66 +334,48 @@ entered (name ∷ names) = Entered name ∷ []
 
 -- The next token or line, and what is made of the token. A reading that enters names enters a new one behind the step.
 abbrev pub handed : Page → (enters : Bool) → Option Scanning → (onward : Seen → List Move) → Pulled → List Move
-handed page enters s onward (TokenFrom t p) = Settled ∷ Handed t ∷ met page s onward (seen page.meanings t)
+handed page enters s onward (TokenFrom t p) = Settled ∷ Handed t ∷ met page s onward (met_token page.meanings t)
 handed page enters s onward (LexemeFrom x p) =
     Settled ∷ Handed (token_of enters page.names x)
-    ∷ (entered (new_name enters page.names x) ++ met page s onward (seen page.meanings (token_of enters page.names x)))
+    ∷ (entered (new_name enters page.names x) ++ met page s onward (met_token page.meanings (token_of enters page.names x)))
 handed page enters s onward (LineTaken line p) = Settled ∷ Taken line ∷ []
 handed page enters s onward (InvalidMet p) = Settled ∷ Skipped ∷ reported page InvalidCharacter []
 handed page enters s onward (FileOver p) = Settled ∷ FileClosed ∷ checked (without_file page) s
-handed page enters s onward NothingLeft = Settled ∷ no_end (plain_style page.names) page.in_line
+handed page enters s onward NothingLeft = Settled ∷ no_end (plain_style_of page) page.in_line
 
 -- a raw reading enters names
 abbrev pub enters_names : Want → Bool
 enters_names Raw = true
 enters_names want = false
 
-abbrev pub effect : State → Effect → List Move
-effect s (SetCategory code category) = SetCategoryOf code category ∷ []
-effect s (SetMacro name long outer ts) = Defined name long outer ts ∷ []
-effect s (Say ts) = Written Transcript (message_bytes (initial_style s.categories s.names) s.in_line ts) ∷ []
-
--- the last token that a reading was fed with, where it comes last
-abbrev pub last_seen : List Fed → List Seen
-last_seen [] = []
-last_seen (Tok x ∷ []) = x ∷ []
-last_seen (Val v ∷ []) = []
-last_seen (Told ∷ []) = []
-last_seen (Cut ∷ []) = []
-last_seen (x ∷ y ∷ fed) = last_seen (y ∷ fed)
-
--- a report was the last
-abbrev pub is_told : List Fed → Bool
-is_told [] = false
-is_told (Told ∷ []) = true
-is_told (x ∷ []) = false
-is_told (x ∷ y ∷ fed) = is_told (y ∷ fed)
-
-abbrev pub put_all : List Seen → List Move
-put_all [] = []
-put_all (x ∷ xs) = put_one x.token
+-- GIVING BACK
 
 -- the token looked at is put back, a list of one token
-abbrev pub given_back : Bool → List Fed → List Move
-given_back back fed = if back then put_all (last_seen fed) else []
-
--- a reading begins with the token that the one beneath looked at, unless another began with it
-abbrev pub begun_with : Kind → Bool → List Seen → List Move
-begun_with k lent [] = Begun k ∷ []
-begun_with k lent (x ∷ xs) = if lent then Begun k ∷ [] else BegunWith k x ∷ []
-
-abbrev pub begun : Kind → Bool → Reading → List Move
-begun k begins r = if begins then begun_with k r.lent (last_seen r.fed) else Begun k ∷ []
+abbrev pub given_back : Bool → Seen → List Move
+given_back back last = if back then put_one last.token else []
 
 abbrev pub put_inserted : Option Token → List Move
 put_inserted None = []
 put_inserted (Some t) = put_one t
 
--- A reading reports once, and then goes on; one that would report again for nothing new ends. A token may be inserted.
+-- A reading reports, and goes on; a token may be given back before, and another inserted.
 abbrev pub told : Page → Report → Option Token → Bool → Reading → List Move
-told page report inserted back r =
-    if is_told r.fed then Ended (Flag false) ∷ []
-    else given_back back r.fed ++ (put_inserted inserted ++ reported page report (noting r))
+told page report inserted back r = given_back back page.last ++ (put_inserted inserted ++ reported page report (noting r))
+
+-- THE END OF A READING
+
+-- a reading begins, with the token that this one looked at or without one
+abbrev pub inner_begun : Kind → (begins : Bool) → List Move
+inner_begun k begins = if begins then BegunWith k ∷ [] else Begun k ∷ []
+
+-- what a value is of: its list, where it is one
+abbrev pub value_tokens : Value → List (List Token) → List Token
+value_tokens value.List held = first_list held
+value_tokens (value.Plain d) held = []
+
+-- the reading is done with this value
+abbrev pub done : Page → Reading → Value → (give_back : Bool) → List Move
+done page r v back = given_back back page.last ++ Ended v (value_tokens v (lists r.kind r.fed)) ∷ []
 
 -- the arguments of a call are there: they pass to the body, which is put; one without items isn't
 abbrev pub arguments_put : PutList → List Item → List Move
@@ -352,25 +394,114 @@ abbrev pub failed : Page → Report → List Move
 failed page report = reported page report (Closed ∷ [])
 
 -- it ran away: the list so far is shown, the last token put back, and the report comes
-abbrev pub failed_away : Page → Report → Option Scanning → List Fed → List Move
-failed_away page report None fed = given_back true fed ++ failed page report
-failed_away page report (Some s) fed =
+abbrev pub failed_away : Page → Report → Option Scanning → List Move
+failed_away page report None = put_one page.last.token ++ failed page report
+failed_away page report (Some s) =
     Written Transcript (away_text page s)
-    ∷ (given_back true fed ++ failed (page_behind page (away_text page s)) report)
+    ∷ (put_one page.last.token ++ failed (page_behind page (away_text page s)) report)
 
--- what comes of an answer
+-- WHAT A COMMAND DOES, and its reading ends
+
+-- these moves, and the reading ends
+abbrev pub and_closed : List Move → List Move
+and_closed moves = moves ++ Closed ∷ []
+
+-- The token is expanded, or put back where it can't be, while the first one waits behind it in a reading of its own.
+abbrev pub expanded_behind : Page → Call → (first second : Seen) → List Move
+expanded_behind page c first second = Closed ∷ Begun (Behind c first) ∷ expanded page second (put_one second.token)
+
+-- a name as a marked one; another token as it is
+abbrev pub marked : Token → Token
+marked (token.Named n) = token.Marked n
+marked t = t
+
+-- what names mean, with the macros' lists
+abbrev pub macro_tokens : List (List Token) → Option ℕ → List Token
+macro_tokens macros None = []
+macro_tokens macros (Some number) = slice_index_or macros number []
+
+abbrev pub meaning_characters : Page → Seen → List ℕ
+meaning_characters page x = meaning_text (style_of page) (macro_tokens page.macros) (meaning_to_let page.meanings x)
+
+-- the tokens of the macro that a token means, where it means one
+abbrev pub tokens_meant : Page → Seen → List Token
+tokens_meant page x = meaning_tokens (macro_tokens page.macros) (meaning_to_let page.meanings x)
+
+-- `\show`: it makes the status 1
+abbrev pub shown : Page → Seen → List Move
+shown page x =
+    Written Transcript (shown_meaning_bytes (style_of page) page.in_line page.line x.token x.meaning (tokens_meant page x))
+    ∷ Flawed ∷ []
+
+-- a number that has been found in its range
+abbrev pub natural : ℤ → ℕ
+natural (pos n) = n
+natural (negsuc n) = 0
+
+abbrev pub acts : Page → Call → Effect → List Move
+acts page c (effect.Obey x) = Closed ∷ command page x.token x.meaning
+acts page c (effect.Show x) = and_closed (shown page x)
+acts page c (effect.Let n x) = and_closed (Assigned n (meaning_to_let page.meanings x) ∷ [])
+acts page c (effect.FutureLet n x y) = and_closed (put_one y.token ++ (put_one x.token ++ Assigned n (meaning_to_let page.meanings y) ∷ []))
+acts page c (effect.SetCategory code category) = and_closed (SetCategoryOf (natural code) (natural category) ∷ [])
+acts page c (effect.ExpandBehind x y) = expanded_behind page c x y
+acts page c (effect.PutBack x) = and_closed (put_one x.token)
+acts page c (effect.PutMarked x) = and_closed (put_one (marked x.token))
+acts page c (effect.MakeNumber n) = and_closed (put_characters (whole_number n))
+acts page c (effect.MakeRoman n) = and_closed (put_characters (roman n))
+acts page c (effect.MakeString x) = and_closed (put_characters (string_text (style_of page) x.token))
+acts page c (effect.MakeMeaning x) = and_closed (put_characters (meaning_characters page x))
+acts page c e = Closed ∷ []
+
+-- a name becomes a macro; a macro's list has a token, and without one the reading ends
+abbrev pub macro_defined : Call → Name → List Token → List Move
+macro_defined c n [] = Closed ∷ []
+macro_defined c n (t ∷ ts) = Defined n c.long c.outer (t ∷ ts) ∷ []
+
+-- NAMES THAT ARE SPELT
+
+-- the name of these characters, where these names are entered
+abbrev pub spelt : List (List ℕ) → List ℕ → Name
+spelt names [] = name.Empty
+spelt names (c ∷ []) = name.Single c
+spelt names (c ∷ d ∷ cs) = name_among true names (c ∷ d ∷ cs)
+
+-- the name that joins them, if one does
+abbrev pub newly_spelt : List (List ℕ) → List ℕ → List (List ℕ)
+newly_spelt names [] = []
+newly_spelt names (c ∷ []) = []
+newly_spelt names (c ∷ d ∷ cs) = new_among true names (c ∷ d ∷ cs)
+
+-- a name that means nothing becomes `\relax`
+abbrev pub relax_if_undefined : List (Meaning (Option ℕ)) → Name → List Move
+relax_if_undefined meanings n = if is_undefined (seen_as (name_meaning meanings n)) then Assigned n (means.Prim relax_primitive) ∷ [] else []
+
+-- `\csname`: the name is entered where it is new, means `\relax` where it meant nothing, and is put in front
+abbrev pub name_made : Page → (characters : List ℕ) → List Move
+name_made page characters =
+    entered (newly_spelt page.names characters)
+    ++ (relax_if_undefined page.meanings (spelt page.names characters) ++ put_one (token.Named (spelt page.names characters)))
+
+abbrev pub acts_on : Page → Call → Effect → List Token → List Move
+acts_on page c effect.Message ts = and_closed (Written Transcript (message_bytes (style_of page) page.in_line ts) ∷ [])
+acts_on page c effect.ErrorMessage ts = reported_as page ts (Closed ∷ [])
+acts_on page c effect.MakeName ts = and_closed (name_made page (character_codes ts))
+acts_on page c e ts = Closed ∷ []
+
+-- WHAT COMES OF AN ANSWER
 abbrev pub answered : State → List Reading → Reading → Ask → List Move
 answered s work r (More want) = handed (page_of s) (enters_names want) (scanning work s.gathered) (λ x. wanted (page_of s) want (feeding r x) x) (pulled s.categories s.pending)
-answered s work r (Inner k begins) = begun k begins r
-answered s work r (Done v back) = given_back back r.fed ++ Ended v ∷ []
-answered s work r (Act e) = effect s e ++ Ended (Flag true) ∷ []
-answered s work r (Tells report back) = told (page_of s) report None back r
-answered s work r (Inserts t report back) = told (page_of s) report (Some t) back r
-answered s work r (Makes characters) = put_text (made_text characters) ++ Closed ∷ []
+answered s work r (Inner k begins) = inner_begun (Reads k) begins
+answered s work r (Done v back) = done (page_of s) r v back
+answered s work r (Acts c e) = acts (page_of s) c e
+answered s work r (ActsOn c e ts) = acts_on (page_of s) c e ts
+answered s work r (Defines c n ts) = macro_defined c n ts
+answered s work r Closes = Closed ∷ []
 answered s work r (Calls args) = called_with r.kind args
 answered s work r (Fails report) = failed (page_of s) report
-answered s work r (RunsAway report) = failed_away (page_of s) report (scanning work s.gathered) r.fed
-answered s work r Closes = Closed ∷ []
+answered s work r (RunsAway report) = failed_away (page_of s) report (scanning work s.gathered)
+answered s work r (Tells report back) = told (page_of s) report None back r
+answered s work r (Inserts t report back) = told (page_of s) report (Some t) back r
 
 abbrev pub planned : State → List Reading → List Move
 planned s [] = handed (page_of s) false None (stomach (page_of s)) (pulled s.categories s.pending)
@@ -420,21 +551,35 @@ abbrev pub job_progress : Option (List ℕ) → Progress
 job_progress None = ClosedFile
 job_progress (Some bytes) = NotBegun
 
+-- THE FIRST STATE
+
+-- the primitives that mean something and are read by no row
+abbrev pub is_rowless : ℕ → Bool
+is_rowless number =
+    (number == relax_primitive) || (number == endcsname_primitive) || (number == par_primitive) || (number == end_primitive)
+    || (number == csname_primitive) || (number == jobname_primitive)
+
+-- the primitives that mean something
+abbrev pub is_known : ℕ → Bool
+is_known number = is_rowless number || has_row number
+
 -- where the job of a file begins, which has these bytes, if it is held: the primitives' names are entered, and these of
 -- them mean something
-abbrev pub first_state : (is_known : ℕ → Bool) → List ℕ → Bool → List ℕ → Option (List ℕ) → State
-first_state is_known categories quiet file job = record {
+abbrev pub first_state : (knows : ℕ → Bool) → List ℕ → Bool → List ℕ → Option (List ℕ) → State
+first_state knows categories quiet file job = record {
   pending = record { puts = []; line = []; lex = NewLine; rest = file_opened job; file = job_progress job; number = 0 };
   categories = categories;
   names = primitive_names;
   strings = [];
-  meanings = first_meanings is_known;
+  meanings = first_meanings knows;
   macros = [];
+  last = no_token;
   work = [];
   gathered = [];
   making = None;
   in_line = false;
   reports = 0;
+  flawed = false;
   quiet = quiet;
   stopped = None;
   due = job_due file job;

@@ -1,16 +1,15 @@
 -- The machine run on small files: what it writes to the transcript within so many moves, the names that it enters, its
 -- status, and where a table is full.
-use Rattle.std.specs.Prelude.{ℕ, zero, suc, ◌+◌, ◌≤◌, ◌⊎◌, false, List, [], ◌∷◌, ◌++◌, length, Option, Some, None, ◌≡◌, codes}
+use Rattle.std.specs.Prelude.{ℕ, zero, suc, ◌+◌, ◌≤◌, ◌⊎◌, Bool, false, List, [], ◌∷◌, ◌++◌, length, Option, Some, None, ◌≡◌, codes}
 use Rattle.tex_syntax.specs.declared.words.Outcome.{Outcome}
 use Rattle.tex_syntax.specs.declared.words.Outcome.TheVariants.{Finished}
 use Rattle.tex_defs.specs.declared.Full.{Full}
 use Rattle.tex_defs.specs.declared.Sizes.{Sizes}
 use Rattle.prim_table.specs.Primitives.{primitive_names}
 use Rattle.plain_tokens.specs.Categories.{initial_categories}
-use Rattle.plain_tokens.specs.Names.{is_known}
-use Rattle.plain_state.specs.States.{State, Move, Written}
-use Rattle.plain_state.specs.Demands.{refusal}
-use Rattle.plain_machine.specs.Plan.{Next, Ends, Goes, next, next_of, first_state}
+use Rattle.plain_machine.specs.States.{State, Move, Written}
+use Rattle.plain_machine.specs.Demands.{refusal}
+use Rattle.plain_machine.specs.Plan.{Next, Ends, Goes, next, next_of, first_state, is_known}
 use Rattle.plain_machine.specs.Runs.{step_of, steps, Moves, Trace}
 use Rattle.plain_machine.specs.Bounded.{FitMoves}
 
@@ -22,17 +21,19 @@ pub record Result : Type 0 where
   pub text : List ℕ
   pub steps : ℕ
   pub names : List (List ℕ)
+  pub reports : ℕ
+  pub flawed : Bool
   pub stopped : Option Outcome
 
 abbrev pub with_move : Move → Result → Result
-with_move m r = record { text = text_of m ++ r.text; steps = step_of m + r.steps; names = r.names; stopped = r.stopped }
+with_move m r = record r { text = text_of m ++ r.text; steps = step_of m + r.steps }
 
 abbrev pub at_end : State → Result
-at_end s = record { text = []; steps = 0; names = s.names; stopped = s.stopped }
+at_end s = record { text = []; steps = 0; names = s.names; reports = s.reports; flawed = s.flawed; stopped = s.stopped }
 
 -- more moves may come, so no end is told
 abbrev pub cut_short : State → Result
-cut_short s = record { text = []; steps = 0; names = s.names; stopped = None }
+cut_short s = record { text = []; steps = 0; names = s.names; reports = s.reports; flawed = s.flawed; stopped = None }
 
 abbrev pub went : State → (State → Result) → Next → Result
 went s onward Ends = at_end s
@@ -43,12 +44,18 @@ unfoldable pub run_of : ℕ → State → Result
 run_of zero s = cut_short s
 run_of (suc n) s = went s (λ u. run_of n u) (next_of s s.due)
 
--- where the job of a file with these bytes begins
+-- where the job of a file begins, which has this name and these bytes; of one without a name
+abbrev pub named_job : (file : List ℕ) → List ℕ → State
+named_job file bytes = first_state is_known initial_categories false file (Some bytes)
+
 abbrev pub job_state : List ℕ → State
-job_state bytes = first_state is_known initial_categories false [] (Some bytes)
+job_state bytes = named_job [] bytes
 
 unfoldable pub job_of : List ℕ → Result
 job_of bytes = run_of 600 (job_state bytes)
+
+unfoldable pub named_job_of : (file : List ℕ) → List ℕ → Result
+named_job_of file bytes = run_of 600 (named_job file bytes)
 
 -- `{`, `}`, `#` and `^` get their usual categories
 abbrev pub first_line_usual : List ℕ
@@ -57,12 +64,21 @@ first_line_usual = codes "\\catcode`\\{=1 \\catcode`\\}=2 \\catcode`\\#=6 \\catc
 abbrev pub Writes : List ℕ → List ℕ → Outcome → Type 0
 Writes file text outcome = ((job_of file).text ≡ text) × ((job_of file).stopped ≡ Some outcome)
 
+-- the same of a file with this name
+abbrev pub WritesAs : (file : List ℕ) → List ℕ → List ℕ → Outcome → Type 0
+WritesAs file bytes text outcome = ((named_job_of file bytes).text ≡ text) × ((named_job_of file bytes).stopped ≡ Some outcome)
+
 abbrev pub Runs : List ℕ → List ℕ → ℕ → Outcome → Type 0
 Runs file text steps outcome = Writes file text outcome × ((job_of file).steps ≡ steps)
 
 -- beside the primitives' names these are entered, in a whole run
 abbrev pub Enters : List ℕ → List (List ℕ) → Type 0
 Enters file names = ((job_of file).names ≡ primitive_names ++ names) × ((job_of file).stopped ≡ Some Finished)
+
+-- a whole run has so many reports, and the status is to be 1 without one
+abbrev pub Counts : List ℕ → (reports : ℕ) → (flawed : Bool) → Type 0
+Counts file reports flawed =
+    ((job_of file).reports ≡ reports) × (((job_of file).flawed ≡ flawed) × ((job_of file).stopped ≡ Some Finished))
 
 -- the first moves of the run of a file, which may then go on: what they write, and the steps among them
 abbrev pub Begins : ℕ → List ℕ → List ℕ → ℕ → Type 0
@@ -88,7 +104,7 @@ full_in sizes zero s = None
 full_in sizes (suc n) s = went_within sizes s (λ u. full_in sizes n u) (next_of s s.due)
 
 unfoldable pub job_fills : Sizes → List ℕ → List ℕ → Option Full
-job_fills sizes name bytes = full_in sizes 600 (first_state is_known initial_categories false name (Some bytes))
+job_fills sizes name bytes = full_in sizes 600 (named_job name bytes)
 
 abbrev pub Fills : Sizes → List ℕ → Full → Type 0
 Fills sizes file full = job_fills sizes [] file ≡ Some full
@@ -123,6 +139,8 @@ pub record IsRun (n : ℕ) (s : State) (r : Result) : Type 0 where
   pub text : r.text ≡ texts ms
   pub count : r.steps ≡ steps ms
   pub names : r.names ≡ t.names
+  pub reports : r.reports ≡ t.reports
+  pub flawed : r.flawed ≡ t.flawed
 
 abbrev pub RowsAreRuns : Type 0
 RowsAreRuns = (n : ℕ) (s : State) → IsRun n s (run_of n s)
@@ -136,6 +154,8 @@ pub record IsWhole (s : State) (r : Result) (o : Outcome) : Type 0 where
   pub text : r.text ≡ texts ms
   pub count : r.steps ≡ steps ms
   pub names : r.names ≡ t.names
+  pub reports : r.reports ≡ t.reports
+  pub flawed : r.flawed ≡ t.flawed
 
 abbrev pub EndedRowsAreWhole : Type 0
 EndedRowsAreWhole = (n : ℕ) (s : State) (o : Outcome) → (run_of n s).stopped ≡ Some o → IsWhole s (run_of n s) o

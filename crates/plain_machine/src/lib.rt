@@ -3,13 +3,13 @@
 //! Everything here is definition. The functions have no bodies: their contracts are laws.
 #![tactic(auto)]
 
-ghost use Rattle.std.specs.Prelude.{codes, ◌++◌, ◌∷◌, [], replicate};
+ghost use Rattle.std.specs.Prelude.{codes, true, false, ◌++◌, ◌∷◌, [], replicate};
 ghost use Rattle.std.specs.List.{concat};
 ghost use Rattle.tex_syntax.specs.declared.words.Outcome.TheVariants.{Finished, AtFatal};
 ghost use Rattle.tex_defs.specs.declared.Fatal.TheVariants.{NoEnd, HundredErrors};
 ghost use Rattle.tex_defs.specs.declared.Table.TheVariants.{PoolSize, NumberOfStrings, HashSize, MainMemorySize, InputStackSize, ParameterStackSize, BufferSize, ExpansionDepth};
 ghost use Rattle.tex_defs.specs.Sizes.{default_sizes};
-ghost use Rattle.plain_machine.specs.Rows.{Writes, Runs as RunsSo, Enters, Begins, RunsWithin, Fills, FillsWithin, Fits, RowsAreRuns, EndedRowsAreWhole, RefusalsAreRuns, first_line_usual};
+ghost use Rattle.plain_machine.specs.Rows.{Writes, WritesAs, Counts, Runs as RunsSo, Enters, Begins, RunsWithin, Fills, FillsWithin, Fits, RowsAreRuns, EndedRowsAreWhole, RefusalsAreRuns, first_line_usual};
 ghost use Rattle.plain_machine.specs.Numbers.{NumbersAreFree};
 ghost use Rattle.plain_machine.specs.Extended.{ExtensionIsFree};
 ghost use Rattle.plain_machine.specs.Runs.{RunsAreOne, EachHasRun, SumsOfSteps, LinesAreCounted};
@@ -240,10 +240,10 @@ pub fn worked_outer_names()
 
 /// Macros that call themselves for ever: what comes at which step, and the end at the hundredth report.
 pub fn worked_loops()
-    ensures first_handed { Begins 160 (first_line_usual ++ codes "\\def\\a{x\\a}\\a") [] 38 }
-    ensures first { Begins 161 (first_line_usual ++ codes "\\def\\a{x\\a}\\a") (codes "{the letter x}\n") 38 }
-    ensures second_handed { Begins 167 (first_line_usual ++ codes "\\def\\a{x\\a}\\a") (codes "{the letter x}\n") 40 }
-    ensures second { Begins 168 (first_line_usual ++ codes "\\def\\a{x\\a}\\a") (codes "{the letter x}\n{the letter x}\n") 40 }
+    ensures first_handed { Begins 159 (first_line_usual ++ codes "\\def\\a{x\\a}\\a") [] 38 }
+    ensures first { Begins 160 (first_line_usual ++ codes "\\def\\a{x\\a}\\a") (codes "{the letter x}\n") 38 }
+    ensures second_handed { Begins 166 (first_line_usual ++ codes "\\def\\a{x\\a}\\a") (codes "{the letter x}\n") 40 }
+    ensures second { Begins 167 (first_line_usual ++ codes "\\def\\a{x\\a}\\a") (codes "{the letter x}\n{the letter x}\n") 40 }
     ensures hundred { RunsWithin 1200 (first_line_usual ++ codes "\\def\\a{\\foo\\a}\\a") (concat (replicate 100 (codes "! Undefined control sequence.\nl.2\n")) ++ codes "(That makes 100 errors; please try again.)\n") 236 (AtFatal HundredErrors) }
 {}
 
@@ -265,7 +265,7 @@ pub fn worked_numbers()
     ensures depth { FillsWithin 400 (record default_sizes { expansion_depth = 8 }) (first_line_usual ++ codes "\\def\\a{\\number\\a}\\a") (record { table = ExpansionDepth; used = 8; size = 8 }) }
     ensures text_words { Fills (record default_sizes { main_memory_size = 5 }) (first_line_usual ++ codes "\\message{\\number12 }\\end") (record { table = MainMemorySize; used = 5; size = 5 }) }
     ensures text_words_fit { Fits (record default_sizes { main_memory_size = 6 }) (first_line_usual ++ codes "\\message{\\number12 }\\end") }
-    ensures text_level { Fills (record default_sizes { input_stack_size = 1 }) (first_line_usual ++ codes "\\number1 \\end") (record { table = InputStackSize; used = 1; size = 1 }) }
+    ensures text_level { Fills (record default_sizes { input_stack_size = 1 }) (codes "\\number1 \\end") (record { table = InputStackSize; used = 1; size = 1 }) }
 {}
 
 /// Small files within small sizes: the first table that is full, what is used of it, and its size.
@@ -337,4 +337,146 @@ pub fn worked_words()
     ensures call_behind_a_finished_body { Fills (record default_sizes { main_memory_size = 25 }) (first_line_usual ++ codes "\\def\\a#1{\\def\\a{}\\b#1}\\def\\b#1{\\def\\c{yyyy}}\\a x\\end") (record { table = MainMemorySize; used = 25; size = 25 }) }
     ensures call_behind_a_finished_body_fits { Fits (record default_sizes { main_memory_size = 26 }) (first_line_usual ++ codes "\\def\\a#1{\\def\\a{}\\b#1}\\def\\b#1{\\def\\c{yyyy}}\\a x\\end") }
     ensures body_behind_a_finished_body { Fits (record default_sizes { main_memory_size = 19 }) (first_line_usual ++ codes "\\def\\a{\\def\\a{}\\b}\\def\\b{\\def\\c{yyyy}}\\a\\end") }
+{}
+
+/// The machine run on small files with expansions: `\expandafter`, `\noexpand`, `\string`, `\meaning`, `\romannumeral` and `\jobname`.
+pub fn worked_expansions()
+    ensures not_expanded { RunsSo (first_line_usual ++ codes "\\edef\\b{\\noexpand\\a\\string\\a}\\message{\\meaning\\b}\\end\n") (codes "macro:->\\a \\a\n") 60 Finished }
+    ensures redefined { Writes (first_line_usual ++ codes "\\def\\a{\\def\\a{n}\\message{old}}\\a\\message{\\meaning\\a}\\end\n") (codes "old macro:->n\n") Finished }
+    ensures roman { RunsSo (first_line_usual ++ codes "\\message{\\romannumeral1987,\\romannumeral-3 ,\\number-007 }\\end\n") (codes "mcmlxxxvii,,-7\n") 64 Finished }
+    ensures behind { Writes (first_line_usual ++ codes "\\def\\a#1{[#1]}\\def\\b{xy}\\message{\\expandafter\\a\\b}\\end\n") (codes "[x]y\n") Finished }
+    ensures behind_twice { RunsSo (first_line_usual ++ codes "\\def\\a{xy}\\expandafter\\message\\expandafter{\\a}\\end\n") (codes "xy\n") 47 Finished }
+    ensures behind_a_character { Writes (first_line_usual ++ codes "\\message{\\expandafter a\\expandafter b\\expandafter c\\number\\number7 8 }\\end\n") (codes "abc78\n") Finished }
+    ensures behind_the_unexpandable { RunsSo (first_line_usual ++ codes "\\expandafter\\relax\\relax\\end\n") (codes "") 36 Finished }
+    ensures behind_the_undefined { RunsSo (first_line_usual ++ codes "\\expandafter x\\zz\\end\n") (codes "! Undefined control sequence.\nl.2\n{the letter x}\n") 35 Finished }
+    ensures behind_a_mismatch { Writes (first_line_usual ++ codes "\\def\\a.{}\\expandafter x\\a y\\end\n") (codes "! Use of \\a doesn't match its definition.\nl.2\n{the letter x}\n") Finished }
+    ensures behind_at_the_end { Writes (first_line_usual ++ codes "\\expandafter") (codes "! Emergency stop.\n*** (job aborted, no legal \\end found)\n") (AtFatal NoEnd) }
+    ensures behind_at_the_end_of_a_text { Writes (first_line_usual ++ codes "\\message{\\expandafter") (codes "Runaway text?\n! File ended while scanning text of \\message.\nl.0\n! Emergency stop.\n*** (job aborted, no legal \\end found)\n") (AtFatal NoEnd) }
+    ensures behind_an_outer_name { Writes (first_line_usual ++ codes "\\outer\\def\\o{y}\\edef\\a{\\expandafter x\\o}\\message{\\meaning\\a}\\end\n") (codes "Runaway definition?\n->\n! Forbidden control sequence found while scanning definition of \\a.\nl.2\n{the letter y}\n{end-group character }}\nmacro:->x \n") Finished }
+    ensures marked { Writes (first_line_usual ++ codes "\\message{\\noexpand\\zz}\\end\n") (codes "\\zz \n") Finished }
+    ensures marked_entered { Enters (first_line_usual ++ codes "\\message{\\noexpand\\zz}\\end\n") (codes "zz" ∷ []) }
+    ensures marked_in_the_stomach { RunsSo (first_line_usual ++ codes "\\noexpand\\zz\\noexpand x\\end\n") (codes "{the letter x}\n") 37 Finished }
+    ensures marked_once { Writes (first_line_usual ++ codes "\\def\\a{x}\\message{\\noexpand\\a\\a}\\end\n") (codes "\\a x\n") Finished }
+    ensures marked_active { Writes (first_line_usual ++ codes "\\catcode`\\~=13 \\def~{t}\\message{\\noexpand~~}\\end\n") (codes "~t\n") Finished }
+    ensures marked_outer { Writes (first_line_usual ++ codes "\\outer\\def\\o{x}\\edef\\a{\\noexpand\\o}\\message{\\meaning\\a}\\end\n") (codes "macro:->\\o \n") Finished }
+    ensures outer_as_text { Writes (first_line_usual ++ codes "\\outer\\def\\o{x}\\edef\\a{[\\string\\o\\meaning\\o]}\\message{\\a}\\end\n") (codes "[\\o\\outer macro:->x]\n") Finished }
+    ensures string_of_characters { Writes (first_line_usual ++ codes "\\message{\\string a\\string{\\string\\zz\\string~\\string\\ \\string}}\\end\n") (codes "a{\\zz~\\ }\n") Finished }
+    ensures string_of_a_space { Writes (first_line_usual ++ codes "\\def\\a#1{\\message{[\\string#1]}}\\a{ }\\end\n") (codes "[ ]\n") Finished }
+    ensures string_in_the_stomach { RunsSo (first_line_usual ++ codes "\\string a\\end\n") (codes "{the character a}\n") 34 Finished }
+    ensures string_at_the_end_of_a_text { Writes (first_line_usual ++ codes "\\message{\\string") (codes "! Emergency stop.\n*** (job aborted, no legal \\end found)\n") (AtFatal NoEnd) }
+    ensures meanings_of_characters { Writes (first_line_usual ++ codes "\\message{\\meaning a,\\meaning 1,\\meaning{,\\meaning}}\\end\n") (codes "the letter a,the character 1,begin-group character {,end-group character }\n") Finished }
+    ensures meanings_of_names { Writes (first_line_usual ++ codes "\\message{\\meaning\\zz,\\meaning\\relax,\\meaning\\end,\\meaning~}\\end\n") (codes "undefined,\\relax,\\end,the character ~\n") Finished }
+    ensures job { WritesAs (codes "a/b.c/paper.x.tex") (first_line_usual ++ codes "\\message{[\\jobname]}\\end\n") (codes "[paper]\n") Finished }
+    ensures job_with_a_space { WritesAs (codes "my job.tex") (first_line_usual ++ codes "\\message{\\jobname}\\end\n") (codes "my job\n") Finished }
+    ensures job_in_the_stomach { WritesAs (codes "a1.tex") (first_line_usual ++ codes "\\jobname\\end\n") (codes "{the character a}\n{the character 1}\n") Finished }
+    ensures job_number { WritesAs (codes "42.tex") (first_line_usual ++ codes "\\message{\\romannumeral\\jobname}\\end\n") (codes "xlii\n") Finished }
+    ensures job_without_a_name { WritesAs (codes "") (first_line_usual ++ codes "\\message{[\\jobname]}\\end\n") (codes "[]\n") Finished }
+{}
+
+/// The machine run on small files with names that `\csname` spells.
+pub fn worked_spellings()
+    ensures let_behind { RunsSo (first_line_usual ++ codes "\\expandafter\\let\\csname ab\\endcsname\\relax\\end\n") (codes "") 40 Finished }
+    ensures becomes_relax { RunsSo (first_line_usual ++ codes "\\csname ab\\endcsname\\end\n") (codes "") 36 Finished }
+    ensures entered { Enters (first_line_usual ++ codes "\\csname ab\\endcsname\\csname ab\\endcsname\\csname a\\endcsname\\end\n") (codes "ab" ∷ []) }
+    ensures relax_meant { Writes (first_line_usual ++ codes "\\csname ab\\endcsname\\message{\\expandafter\\meaning\\csname ab\\endcsname}\\end\n") (codes "\\relax\n") Finished }
+    ensures one_character { Writes (first_line_usual ++ codes "\\csname a\\endcsname\\message{\\meaning\\a\\csname a\\endcsname}\\end\n") (codes "\\relax\\a \n") Finished }
+    ensures empty_name { Writes (first_line_usual ++ codes "\\message{\\expandafter\\string\\csname\\endcsname,\\csname\\endcsname}\\end\n") (codes "\\csname\\endcsname,\\csname\\endcsname \n") Finished }
+    ensures defined { Writes (first_line_usual ++ codes "\\expandafter\\def\\csname x\\number007\\endcsname{z}\\message{\\csname x7\\endcsname}\\end\n") (codes "z\n") Finished }
+    ensures expanded { RunsSo (first_line_usual ++ codes "\\def\\b{a}\\def\\aa{y}\\csname\\b\\b\\endcsname\\end\n") (codes "{the letter y}\n") 49 Finished }
+    ensures with_a_space { Writes (first_line_usual ++ codes "\\message{\\expandafter\\string\\csname a b\\endcsname}\\end\n") (codes "\\a b\n") Finished }
+    ensures with_braces { Writes (first_line_usual ++ codes "\\message{\\csname{}#1\\endcsname}\\end\n") (codes "\\{}#1 \n") Finished }
+    ensures ended_by_another_name { Writes (first_line_usual ++ codes "\\let\\e=\\endcsname\\message{\\csname ab\\e}\\end\n") (codes "\\ab \n") Finished }
+    ensures missing { Writes (first_line_usual ++ codes "\\message{\\csname ab}\\end") (codes "! Missing \\endcsname inserted.\nl.2\nRunaway text?\n\\ab} \\end \n! File ended while scanning text of \\message.\nl.0\n\\ab} \\end \n! Emergency stop.\n*** (job aborted, no legal \\end found)\n") (AtFatal NoEnd) }
+    ensures missing_before_relax { Writes (first_line_usual ++ codes "\\message{\\csname ab\\relax\\endcsname}\\end\n") (codes "! Missing \\endcsname inserted.\nl.2\n\\ab \\relax \\endcsname \n") Finished }
+    ensures missing_before_a_marked_name { Writes (first_line_usual ++ codes "\\message{\\csname a\\noexpand\\zz\\endcsname}\\end\n") (codes "! Missing \\endcsname inserted.\nl.2\n! Undefined control sequence.\nl.2\n\\a \\endcsname \n") Finished }
+    ensures within_another { Writes (first_line_usual ++ codes "\\csname a\\csname b\\endcsname\\endcsname\\end\n") (codes "! Missing \\endcsname inserted.\nl.2\n! Extra \\endcsname.\nl.2\n") Finished }
+    ensures undefined_within { Writes (first_line_usual ++ codes "\\csname a\\zz b\\endcsname\\message{\\meaning\\ab}\\end\n") (codes "! Undefined control sequence.\nl.2\n\\relax\n") Finished }
+    ensures extra { RunsSo (first_line_usual ++ codes "\\endcsname\\end\n") (codes "! Extra \\endcsname.\nl.2\n") 32 Finished }
+    ensures extra_in_a_text { Writes (first_line_usual ++ codes "\\message{\\endcsname}\\end\n") (codes "\\endcsname \n") Finished }
+    ensures outer_allowed { Enters (first_line_usual ++ codes "\\outer\\def\\o{x\\endcsname}\\csname b\\o\\end\n") (codes "bx" ∷ []) }
+    ensures outer_in_a_definition { RunsWithin 4000 (first_line_usual ++ codes "\\outer\\def\\o{}\\edef\\a{x\\csname b\\o\\endcsname}\\message{\\meaning\\a}\\end\n") (concat (replicate 100 (codes "Runaway definition?\n->x\n! Forbidden control sequence found while scanning definition of \\a.\nl.2\n")) ++ codes "(That makes 100 errors; please try again.)\n") 240 (AtFatal HundredErrors) }
+    ensures outer_spelt_in_a_text { Writes (first_line_usual ++ codes "\\outer\\def\\o{y}\\message{x\\csname o\\endcsname}\\end\n") (codes "Runaway text?\nx\n! Forbidden control sequence found while scanning text of \\message.\nl.2\nx \n{the letter y}\n{end-group character }}\n") Finished }
+    ensures ended_file { Writes (first_line_usual ++ codes "\\message{x\\csname ab") (codes "Runaway text?\nx\n! File ended while scanning text of \\message.\nl.0\n! Emergency stop.\n*** (job aborted, no legal \\end found)\n") (AtFatal NoEnd) }
+{}
+
+/// The machine run on small files with names that are let mean something: `\let`, `\futurelet` and `\ignorespaces`.
+pub fn worked_meanings()
+    ensures name { RunsSo (first_line_usual ++ codes "\\let\\a\\b\\end\n") (codes "") 34 Finished }
+    ensures equals { RunsSo (first_line_usual ++ codes "\\let\\a= \\b\\end\n") (codes "") 36 Finished }
+    ensures future { RunsSo (first_line_usual ++ codes "\\futurelet\\a\\b\\relax\\end\n") (codes "! Undefined control sequence.\nl.2\n") 37 Finished }
+    ensures letter { Writes (first_line_usual ++ codes "\\let\\b=x\\b\\message{\\meaning\\b,\\b}\\end\n") (codes "{the letter x}\nthe letter x,\\b \n") Finished }
+    ensures command { Writes (first_line_usual ++ codes "\\let\\m\\message\\m{hi}\\global\\m{x}\\end\n") (codes "hi\n! You can't use a prefix with `\\message'.\nl.2\nx\n") Finished }
+    ensures name_in_a_report { Writes (first_line_usual ++ codes "\\let\\m\\message\\m{hi") (codes "Runaway text?\nhi \n! File ended while scanning text of \\m.\nl.0\nhi \n! Emergency stop.\n*** (job aborted, no legal \\end found)\n") (AtFatal NoEnd) }
+    ensures of_a_macro { Writes (first_line_usual ++ codes "\\def\\a{x}\\let\\b=\\a\\def\\a{y}\\message{\\a\\b}\\let\\a\\a\\message{\\a}\\end\n") (codes "yx y\n") Finished }
+    ensures undefined { Writes (first_line_usual ++ codes "\\let\\relax\\zz\\relax\\end\n") (codes "! Undefined control sequence.\nl.2\n") Finished }
+    ensures undefined_entered { Enters (first_line_usual ++ codes "\\let\\a\\zz\\futurelet\\a\\relax\\yy\\end\n") (codes "zz" ∷ codes "yy" ∷ []) }
+    ensures outer { Writes (first_line_usual ++ codes "\\outer\\def\\o{x}\\let\\p=\\o\\message{\\p}\\end\n") (codes "Runaway text?\n! Forbidden control sequence found while scanning text of \\message.\nl.2\n \n{the letter x}\n{end-group character }}\n") Finished }
+    ensures equals_sign { Writes (first_line_usual ++ codes "\\let\\: = =\\message{\\meaning\\:}\\let\\a==\\message{\\meaning\\a}\\end\n") (codes "the character = the character =\n") Finished }
+    ensures second_space { Writes (first_line_usual ++ codes "\\def\\d#1{\\let\\z=#1#1x}\\d{ }\\message{[\\meaning\\z]}\\end\n") (codes "{the letter x}\n[blank space  ]\n") Finished }
+    ensures implicit_space { Writes (first_line_usual ++ codes "\\def\\:{\\let\\sp= }\\: \\message{\\number7\\sp8[\\meaning\\sp]}\\end\n") (codes "78[blank space  ]\n") Finished }
+    ensures implicit_brace { Writes (first_line_usual ++ codes "\\let\\bgroup={\\message\\bgroup hi}\\def\\a\\bgroup{x}\\message{\\meaning\\a}\\end\n") (codes "hi macro:\\bgroup ->x\n") Finished }
+    ensures implicit_parameter { Writes (first_line_usual ++ codes "\\let\\hash=#\\def\\a\\hash1{[\\hash1]}\\message{\\a x\\meaning\\a}\\end\n") (codes "[x]macro:#1->[#1]\n") Finished }
+    ensures prefixed { Writes (first_line_usual ++ codes "\\global\\let\\a=b\\long\\let\\a=c\\message{\\meaning\\a}\\end\n") (codes "! You can't use `\\long' or `\\outer' with `\\let'.\nl.2\nthe letter c\n") Finished }
+    ensures missing_name { RunsSo (first_line_usual ++ codes "\\let 5\\relax\\end\n") (codes "! Missing control sequence inserted.\nl.2\n") 36 Finished }
+    ensures behind_noexpand { Writes (first_line_usual ++ codes "\\expandafter\\let\\expandafter\\a\\noexpand\\b\\message{\\a\\meaning\\a}\\end\n") (codes "\\a \\relax\n") Finished }
+    ensures future_brace { Writes (first_line_usual ++ codes "\\futurelet\\n\\message{\\meaning\\n}\\end\n") (codes "begin-group character {\n") Finished }
+    ensures future_letter { Writes (first_line_usual ++ codes "\\def\\a#1{\\message{\\meaning\\n,#1}}\\futurelet\\n\\a xy\\end\n") (codes "the letter x,x\n{the letter y}\n") Finished }
+    ensures future_space { Writes (first_line_usual ++ codes "\\def\\a{\\message{[\\meaning\\n]}}\\def\\:{\\futurelet\\n\\a}\\: x\\end\n") (codes "[blank space  ]\n{blank space  }\n{the letter x}\n") Finished }
+    ensures ignored_spaces { RunsSo (first_line_usual ++ codes "\\ignorespaces  x\\end\n") (codes "{the letter x}\n") 33 Finished }
+    ensures ignored_spaces_expanded { RunsSo (first_line_usual ++ codes "\\def\\a{ }\\ignorespaces\\a\\a x\\end\n") (codes "{the letter x}\n") 42 Finished }
+    ensures ignored_before_a_command { Writes (first_line_usual ++ codes "\\ignorespaces\\zz\\ignorespaces\\message{hi}\\ignorespaces\\relax\\ignorespaces\\end\n") (codes "! Undefined control sequence.\nl.2\nhi\n") Finished }
+    ensures ignored_before_a_prefix { Writes (first_line_usual ++ codes "\\ignorespaces\\global\\let\\a=b\\message{\\meaning\\a}\\global\\ignorespaces x\\end\n") (codes "the letter b\n! You can't use a prefix with `\\ignorespaces'.\nl.2\n{the letter x}\n") Finished }
+{}
+
+/// The machine run on small files that show something: `\show` and `\errmessage`.
+pub fn worked_shown()
+    ensures undefined { Writes (first_line_usual ++ codes "\\show\\undefd\\end\n") (codes "> \\undefd=undefined.\nl.2\n") Finished }
+    ensures undefined_counts { Counts (first_line_usual ++ codes "\\show\\undefd\\end\n") 0 true }
+    ensures undefined_entered { Enters (first_line_usual ++ codes "\\show\\undefd\\end\n") (codes "undefd" ∷ []) }
+    ensures of_a_macro { Writes (first_line_usual ++ codes "\\def\\a{xy}\\show\\a\\end\n") (codes "> \\a=macro:\n->xy.\nl.2\n") Finished }
+    ensures long_outer_macro { Writes (first_line_usual ++ codes "\\long\\outer\\def\\a#1.{[#1]}\\show\\a\\end\n") (codes "> \\a=\\long\\outer macro:\n#1.->[#1].\nl.2\n") Finished }
+    ensures letter { RunsSo (first_line_usual ++ codes "\\show a\\end\n") (codes "> the letter a.\nl.2\n") 33 Finished }
+    ensures characters { Writes (first_line_usual ++ codes "\\def\\a#1{\\show#1}\\a{ }\\show{\\show}\\show#\\show~\\show\\par\\end\n") (codes "> blank space  .\nl.2\n> begin-group character {.\nl.2\n> end-group character }.\nl.2\n> macro parameter character #.\nl.2\n> the character ~.\nl.2\n> \\par=\\par.\nl.2\n") Finished }
+    ensures primitive_of_another_name { Writes (first_line_usual ++ codes "\\let\\l\\let\\show\\l\\end\n") (codes "> \\l=\\let.\nl.2\n") Finished }
+    ensures marked { Writes (first_line_usual ++ codes "\\expandafter\\show\\noexpand\\zz\\end\n") (codes "> \\zz=\\relax.\nl.2\n") Finished }
+    ensures active { Writes (first_line_usual ++ codes "\\catcode`\\~=13 \\def~{x}\\show~\\end\n") (codes "> ~=macro:\n->x.\nl.2\n") Finished }
+    ensures on_a_fresh_line { Writes (first_line_usual ++ codes "\\message{hi}\\show a\\message{ho}\\end\n") (codes "hi\n> the letter a.\nl.2\nho\n") Finished }
+    ensures not_counted { Counts (first_line_usual ++ codes "\\show a\\zz\\show b\\end\n") 1 true }
+    ensures no_flaw { Counts (first_line_usual ++ codes "\\message{hi}\\end\n") 0 false }
+    ensures error { Writes (first_line_usual ++ codes "\\errmessage{no {x}}\\end\n") (codes "! no {x}.\nl.2\n") Finished }
+    ensures error_counts { Counts (first_line_usual ++ codes "\\errmessage{no {x}}\\end\n") 1 false }
+    ensures error_expanded { Writes (first_line_usual ++ codes "\\def\\a{b}\\errmessage{\\a\\relax}\\errmessage{}\\end\n") (codes "! b\\relax .\nl.2\n! .\nl.2\n") Finished }
+    ensures error_without_a_brace { Writes (first_line_usual ++ codes "\\errmessage x}\\end\n") (codes "! Missing { inserted.\nl.2\n! x.\nl.2\n") Finished }
+    ensures error_behind_a_prefix { Writes (first_line_usual ++ codes "\\global\\errmessage{x}\\end\n") (codes "! You can't use a prefix with `\\errmessage'.\nl.2\n! x.\nl.2\n") Finished }
+    ensures error_at_the_end { Writes (first_line_usual ++ codes "\\errmessage{hi") (codes "Runaway text?\nhi \n! File ended while scanning text of \\errmessage.\nl.0\n! hi .\nl.0\n! Emergency stop.\n*** (job aborted, no legal \\end found)\n") (AtFatal NoEnd) }
+    ensures hundred_errors { RunsWithin 4000 (first_line_usual ++ codes "\\def\\a{\\errmessage{x}\\a}\\a\n") (concat (replicate 100 (codes "! x.\nl.2\n")) ++ codes "(That makes 100 errors; please try again.)\n") 539 (AtFatal HundredErrors) }
+{}
+
+/// Small files with expansions and names that are let mean something, within small sizes.
+pub fn worked_spelling_sizes()
+    ensures name_words { Fills (record default_sizes { main_memory_size = 4 }) (first_line_usual ++ codes "\\csname ab\\endcsname\\end") (record { table = MainMemorySize; used = 4; size = 4 }) }
+    ensures name_words_fit { Fits (record default_sizes { main_memory_size = 5 }) (first_line_usual ++ codes "\\csname ab\\endcsname\\end") }
+    ensures missing_words { Fills (record default_sizes { main_memory_size = 4 }) (first_line_usual ++ codes "\\csname ab\\relax\\end") (record { table = MainMemorySize; used = 4; size = 4 }) }
+    ensures name_pool { Fills (record default_sizes { pool_size = 1690 }) (first_line_usual ++ codes "\\csname ab\\endcsname\\end") (record { table = PoolSize; used = 1689; size = 1690 }) }
+    ensures name_pool_fits { Fits (record default_sizes { pool_size = 1691 }) (first_line_usual ++ codes "\\csname ab\\endcsname\\csname ab\\endcsname\\csname a\\endcsname\\end") }
+    ensures name_strings { Fills (record default_sizes { number_of_strings = 187 }) (first_line_usual ++ codes "\\csname ab\\endcsname\\end") (record { table = NumberOfStrings; used = 187; size = 187 }) }
+    ensures name_hash { Fills (record default_sizes { hash_size = 186 }) (first_line_usual ++ codes "\\csname ab\\endcsname\\end") (record { table = HashSize; used = 186; size = 186 }) }
+    ensures name_depth { Fills (record default_sizes { expansion_depth = 2 }) (first_line_usual ++ codes "\\message{\\csname ab\\endcsname}\\end") (record { table = ExpansionDepth; used = 2; size = 2 }) }
+    ensures name_depth_fits { Fits (record default_sizes { expansion_depth = 3 }) (first_line_usual ++ codes "\\message{\\csname ab\\endcsname}\\end") }
+    ensures job_depth { Fills (record default_sizes { expansion_depth = 2 }) (first_line_usual ++ codes "\\message{\\jobname}\\end") (record { table = ExpansionDepth; used = 2; size = 2 }) }
+    ensures behind_depth { Fills (record default_sizes { expansion_depth = 2 }) (first_line_usual ++ codes "\\message{\\expandafter xy}\\end") (record { table = ExpansionDepth; used = 2; size = 2 }) }
+    ensures behind_depth_fits { Fits (record default_sizes { expansion_depth = 3 }) (first_line_usual ++ codes "\\def\\b{y}\\message{\\expandafter x\\b}\\end") }
+    ensures call_behind_depth { Fills (record default_sizes { expansion_depth = 3 }) (first_line_usual ++ codes "\\def\\b#1{#1}\\message{\\expandafter x\\b y}\\end") (record { table = ExpansionDepth; used = 3; size = 3 }) }
+    ensures behind_levels { Fills (record default_sizes { input_stack_size = 2 }) (first_line_usual ++ codes "\\expandafter\\relax\\relax\\end") (record { table = InputStackSize; used = 2; size = 2 }) }
+    ensures behind_levels_fit { Fits (record default_sizes { input_stack_size = 3 }) (first_line_usual ++ codes "\\expandafter\\relax\\relax\\end") }
+    ensures string_level { Fills (record default_sizes { input_stack_size = 1 }) (codes "\\string a\\end") (record { table = InputStackSize; used = 1; size = 1 }) }
+    ensures string_words { Fills (record default_sizes { main_memory_size = 3 }) (first_line_usual ++ codes "\\string\\ab\\end") (record { table = MainMemorySize; used = 3; size = 3 }) }
+    ensures string_words_fit { Fits (record default_sizes { main_memory_size = 4 }) (first_line_usual ++ codes "\\string\\ab\\end") }
+    ensures empty_text_word { Fills (record default_sizes { main_memory_size = 3 }) (first_line_usual ++ codes "\\message{ab\\romannumeral0 }\\end") (record { table = MainMemorySize; used = 3; size = 3 }) }
+    ensures empty_text_word_fits { Fits (record default_sizes { main_memory_size = 4 }) (first_line_usual ++ codes "\\message{ab\\romannumeral0 }\\end") }
+    ensures shared { Fills (record default_sizes { main_memory_size = 4 }) (first_line_usual ++ codes "\\def\\a{abc}\\let\\b=\\a\\let\\c=\\a\\end") (record { table = MainMemorySize; used = 4; size = 4 }) }
+    ensures shared_fits { Fits (record default_sizes { main_memory_size = 5 }) (first_line_usual ++ codes "\\def\\a{abc}\\let\\b=\\a\\let\\c=\\a\\end") }
+    ensures shared_and_redefined { Fills (record default_sizes { main_memory_size = 10 }) (first_line_usual ++ codes "\\def\\a{abc}\\let\\b=\\a\\def\\a{}\\def\\c{xy}\\end") (record { table = MainMemorySize; used = 10; size = 10 }) }
+    ensures shared_and_redefined_fits { Fits (record default_sizes { main_memory_size = 11 }) (first_line_usual ++ codes "\\def\\a{abc}\\let\\b=\\a\\def\\a{}\\def\\c{xy}\\end") }
+    ensures let_go { Fits (record default_sizes { main_memory_size = 8 }) (first_line_usual ++ codes "\\def\\a{abcdef}\\let\\a\\relax\\def\\c{xyzuvw}\\end") }
 {}

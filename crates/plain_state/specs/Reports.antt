@@ -1,5 +1,5 @@
 -- The texts that the machine writes of itself: reports, token lines, runaway texts and the lines of its ends.
-use Rattle.std.specs.Prelude.{ℕ, ℤ, Bool, List, [], ◌∷◌, ◌++◌, codes, decimal, if◌then◌else◌}
+use Rattle.std.specs.Prelude.{ℕ, ℤ, Bool, not, ◌==◌, List, [], ◌∷◌, ◌++◌, codes, decimal, if◌then◌else◌}
 use Rattle.std.specs.Fmt.{signed_decimal}
 use Rattle.tex_syntax.specs.declared.words.Scanned.{Scanned}
 use Rattle.tex_syntax.specs.declared.words.Scanned.TheVariants as scanned
@@ -132,3 +132,8 @@ abbrev pub shown_meaning_bytes : Style → (in_line : Bool) → (line : ℕ) →
 shown_meaning_bytes style in_line line t m ts =
     fresh_line in_line ++ (printed_all style (codes "> " ++ (shown_name style t ++ meaning_head style m)) ++ (macro_feed m
     ++ (printed_line style (list_text style ts ++ codes ".") ++ printed_line style (codes "l." ++ decimal line))))
+
+-- THE COLUMN: it is 0 behind a line feed, and not 0 behind another byte
+abbrev pub in_line_after : Bool → List ℕ → Bool
+in_line_after b [] = b
+in_line_after b (c ∷ cs) = in_line_after (not (c == 10)) cs

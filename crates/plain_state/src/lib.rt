@@ -1,6 +1,2 @@
-//! The plain machine's readings, reports, state and moves: what a reader has to believe of a run, move by move.
+//! The texts that the plain machine writes of itself, and the lists of macros and balanced texts, token by token: definitions alone.
 #![tactic(auto)]
-
-mod laws;
-
-pub use laws::texts_are_one;

@@ -23,9 +23,9 @@ pub record FrameStands (f : Frame) (held : Lists) (r : Reading) : Type 0 where
   pub checks : status r.kind ≡ frame_status f
   pub framed : IsFramed r.kind
 
--- THE STACK, innermost first, each frame with its own lists and those beneath
+-- THE STACK, innermost first, each frame with its own lists and those beneath; where none is open, no list is held
 abbrev pub FramesStand : List Frame → Lists → List Reading → Type 0
-FramesStand [] held [] = Unit {0}
+FramesStand [] held [] = held ≡ []
 FramesStand (f ∷ fs) held (r ∷ rs) = FrameStands f held r × FramesStand fs (below f held) rs
 FramesStand [] held (r ∷ rs) = ⊥
 FramesStand (f ∷ fs) held [] = ⊥

@@ -1,15 +1,16 @@
 -- The next rule has a step exactly where the engine says so: of a call that gathers its arguments, or of a frame.
-use Rattle.std.proofs.Common.{◌≡◌, List, [], ◌∷◌, refl, sym, ap, ◌∙◌, arith, true, false}
+use Rattle.std.proofs.Common.{◌≡◌, List, [], ◌∷◌, refl, sym, ap, ◌∙◌, true, false}
 use Rattle.std.specs.Prelude.{Option, Some, None, ◌&&◌}
 use Rattle.tex_syntax.specs.declared.words.Want.TheVariants.{Raw}
 use Rattle.tex_defs.specs.declared.Sizes.{Sizes}
 use Rattle.tex_defs.specs.declared.Name.{Name}
 use Rattle.plain_tokens.specs.Pending.{pulled}
-use Rattle.plain_state.specs.States.{Move, Reading}
-use Rattle.plain_machine.specs.Plan.{page_of, answered, scanning, wanted, feeding}
+use Rattle.plain_readings.specs.Readings.{Reading}
+use Rattle.plain_readings.specs.Scanning.{scanning}
+use Rattle.plain_machine.specs.Plan.{Page, page_of, answered, wanted, feeding}
 use Rattle.plain_machine.specs.Runs.{steps}
 use Rattle.plain_machine.proofs.Joins.{StepComes}
-use Rattle.plain_machine.proofs.Pulls.{pulls, steps_pull}
+use Rattle.plain_machine.proofs.Pulls.{answered_none, kind_none, wanted_none}
 use Rattle.input_state.specs.Reads.{gives_step}
 use Rattle.input_state.specs.Stored.{gathered}
 use Rattle.engine_state.specs.declared.call.Call.{Call}
@@ -19,26 +20,24 @@ use Rattle.engine_state.specs.declared.engine.Engine.{Engine}
 use Rattle.engine_state.specs.Book.{Book, with_work}
 use Rattle.engine_state.specs.Calls.{AllStand, ReadingsStand, asks_by}
 use Rattle.engine_state.specs.Stands.{state_of}
-use Rattle.engine_state.specs.Steps.{stepping, all_want, call_asks_more}
+use Rattle.engine_state.specs.Steps.{stepping, all_want, asked, call_asks_more}
 use Rattle.engine_state.specs.Rules.{plan_of}
-use Rattle.engine_state.proofs.Stepping.{no, one_if, kind_none, handed_now, wanted_none, pulled_needs, frame_steps, frame_needs}
-use Rattle.stomach.proofs.Unread.{call_unread}
+use Rattle.gullet.proofs.Stepping.{no, one_if, free_of, handed_now, pulled_needs, frame_steps, frame_needs}
+use Rattle.stomach.proofs.Unread.{call_none}
 
 -- A RULE'S STEPS
 
--- moves that pull nothing are no steps
-no_pull : (ms : List Move) → pulls ms ≡ 0 → steps ms ≡ 0
-no_pull ms h = omega (arith, h, steps_pull ms)
+call_steps : (e : Engine) (book : Book) (work : List Reading) (r : Reading) (name : Name) (a : CallAsk) → steps (answered (state_of e book) work r (asks_by name a e.input.call)) ≡ one_if (call_asks_more a && gives_step (pulled e.categories e.input.pending))
+call_steps e book work r name call.More =
+    let page : Page = page_of (state_of e book) in
+    handed_now e book page true (scanning work (gathered e.input)) (λ x. wanted page Raw (feeding r x) x) (λ x. wanted_none page Raw (feeding r x) x (kind_none r.kind r.fed x))
+call_steps e book work r name a =
+    free_of (answered (state_of e book) work r (asks_by name a e.input.call)) (answered_none (state_of e book) work r (asks_by name a e.input.call) (call_none name a e.input.call refl))
 
-call_steps : (e : Engine) (book : Book) (r : Reading) (name : Name) (a : CallAsk) → steps (answered (state_of e book) book.work r (asks_by name a e.input.call)) ≡ one_if (call_asks_more a && gives_step (pulled e.categories e.input.pending))
-call_steps e book r name call.More = let page = page_of (state_of e book) in
-    handed_now e book page true (scanning book.work (gathered e.input)) (λ x. wanted page Raw (feeding r x) x) (λ x. wanted_none page Raw (feeding r x) x (kind_none r.kind r.fed x))
-call_steps e book r name a = no_pull (answered (state_of e book) book.work r (asks_by name a e.input.call)) (call_unread e book r name a refl)
-
-steps_at : (e : Engine) (c : Option Call) (book : Book) (work : List Reading) → ReadingsStand c e book.number work → steps (plan_of e (with_work work book)) ≡ one_if (all_want c e.top e.ask && gives_step (pulled e.categories e.input.pending))
+steps_at : (e : Engine) (c : Option Call) (book : Book) (work : List Reading) → ReadingsStand c e book.number work → steps (plan_of e (with_work work book)) ≡ one_if (all_want c (asked e) && gives_step (pulled e.categories e.input.pending))
 steps_at e None book work h = frame_steps e (with_work work book) h.0
 steps_at e (Some c) book [] h = absurd h
-steps_at e (Some c) book (r ∷ rs) h = rw (← h.0.asked) (call_steps e (with_work (r ∷ rs) book) r c.name c.ask)
+steps_at e (Some c) book (r ∷ rs) h = rw (← h.0.asked) (call_steps e (with_work (r ∷ rs) book) (r ∷ rs) r c.name c.ask)
 
 plan_steps : (sizes : Sizes) (e : Engine) (book : Book) → AllStand sizes e book → steps (plan_of e book) ≡ one_if (stepping e)
 plan_steps sizes e book h = steps_at e e.call book book.work h.all
@@ -53,18 +52,18 @@ plan_one sizes e g book h = plan_steps sizes e book h ∙ ap one_if g
 
 -- A STEP COMES
 
-call_needs : (sizes : Sizes) (e : Engine) (book : Book) (r : Reading) (name : Name) (a : CallAsk) → plan_of e book ≡ answered (state_of e book) book.work r (asks_by name a e.input.call) →
+call_needs : (sizes : Sizes) (e : Engine) (book : Book) (work : List Reading) (r : Reading) (name : Name) (a : CallAsk) → plan_of e book ≡ answered (state_of e book) work r (asks_by name a e.input.call) →
     (call_asks_more a && gives_step (pulled e.categories e.input.pending)) ≡ true → StepComes sizes (state_of e book)
-call_needs sizes e book r name call.More h g = let page = page_of (state_of e book) in pulled_needs sizes e book page true (scanning book.work (gathered e.input)) (λ x. wanted page Raw (feeding r x) x) h g
-call_needs sizes e book r name (call.ExtraBrace x) h g = no g
-call_needs sizes e book r name call.Gathered h g = no g
-call_needs sizes e book r name call.Mismatch h g = no g
-call_needs sizes e book r name (call.ParEnded x) h g = no g
+call_needs sizes e book work r name call.More h g =
+    let page : Page = page_of (state_of e book) in
+    pulled_needs sizes e book page true (scanning work (gathered e.input)) (λ x. wanted page Raw (feeding r x) x) h g
+call_needs sizes e book work r name a h g = no g
 
-needs_at : (sizes : Sizes) (e : Engine) (c : Option Call) (book : Book) (work : List Reading) → ReadingsStand c e book.number work → (all_want c e.top e.ask && gives_step (pulled e.categories e.input.pending)) ≡ true → StepComes sizes (state_of e (with_work work book))
+needs_at : (sizes : Sizes) (e : Engine) (c : Option Call) (book : Book) (work : List Reading) → ReadingsStand c e book.number work → (all_want c (asked e) && gives_step (pulled e.categories e.input.pending)) ≡ true → StepComes sizes (state_of e (with_work work book))
 needs_at sizes e None book work h g = frame_needs sizes e (with_work work book) h.0 g
 needs_at sizes e (Some c) book [] h g = absurd h
-needs_at sizes e (Some c) book (r ∷ rs) h g = call_needs sizes e (with_work (r ∷ rs) book) r c.name c.ask (ap (answered (state_of e (with_work (r ∷ rs) book)) (r ∷ rs) r) (sym h.0.asked)) g
+needs_at sizes e (Some c) book (r ∷ rs) h g =
+    call_needs sizes e (with_work (r ∷ rs) book) (r ∷ rs) r c.name c.ask (ap (answered (state_of e (with_work (r ∷ rs) book)) (r ∷ rs) r) (sym h.0.asked)) g
 
 pub stepping_needs : (sizes : Sizes) (e : Engine) → stepping e ≡ true → (book : Book) → AllStand sizes e book → StepComes sizes (state_of e book)
 stepping_needs sizes e g book h = needs_at sizes e e.call book book.work h.all g

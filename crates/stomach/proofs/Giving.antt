@@ -4,7 +4,7 @@ use Rattle.std.proofs.lemmas.List.{append-nil}
 use Rattle.tex_defs.specs.Places.{World}
 use Rattle.tex_defs.specs.declared.Sizes.{Sizes}
 use Rattle.plain_tokens.specs.Pending.{Pending, Pulled, TokenFrom, LexemeFrom, LineTaken, InvalidMet, FileOver, NothingLeft, pulled, takes_file}
-use Rattle.plain_state.specs.States.{State}
+use Rattle.plain_machine.specs.States.{State}
 use Rattle.plain_machine.specs.Bounded.{FitMoves}
 use Rattle.plain_machine.specs.Does.{ReadAt}
 use Rattle.plain_machine.specs.Extended.{IsReady, InFront, NoFile, HasLine, NoMore, TooLong}
@@ -13,7 +13,7 @@ use Rattle.plain_machine.proofs.Doing.{wrote_none}
 use Rattle.plain_machine.proofs.Extending.{extended_takes}
 use Rattle.plain_machine.proofs.FileRules.{wanted_reads}
 use Rattle.plain_machine.proofs.Renumbering.{pulled_same}
-use Rattle.input_state.specs.NextBytes.{KnowsNext, with_bytes}
+use Rattle.input_state.specs.NextBytes.{KnowsNext}
 use Rattle.input_state.specs.NextBytes as next
 use Rattle.line_reader.specs.Readers.{OpenReader}
 use Rattle.engine_state.specs.declared.engine.Engine.{Engine}
@@ -25,7 +25,7 @@ use Rattle.engine_state.proofs.Storing.{sound_still}
 use Rattle.stomach.specs.Ahead.{given, IsGiven, Knows, IsNext, HasEnded, WantsNone, Needs}
 use Rattle.stomach.specs.Ran.{Came, UnreadBy, whole_state}
 use Rattle.stomach.specs.Read.{MayLeave}
-use Rattle.engine_state.specs.Steps.{all_want}
+use Rattle.engine_state.specs.Steps.{all_want, asked}
 use Rattle.stomach.proofs.Running.{IsKnown}
 use Rattle.stomach.proofs.Unread.{plan_unread, work_wants}
 
@@ -34,7 +34,7 @@ module _ (sizes : Sizes) (e : Engine) (bytes : List ℕ) where
   given_store = record { sizes = refl; hash = refl; meanings = refl; puts = λ n h. h; lists = record { tokens = λ n h. refl } }
 
   given_frames : SameFrames e (given bytes e)
-  given_frames = record { outer = refl; top = refl; ask = refl; lists = refl; aside = refl; call = refl; calling = refl }
+  given_frames = record { readings = refl; lists = refl; call = refl; calling = refl }
 
   given_stands : (book : Book) → AllStand sizes e book → AllStand sizes (given bytes e) book
   given_stands book h = all_still sizes e (given bytes e) book given_frames given_store (sound_still sizes e (given bytes e) book.number book.macros refl refl refl refl given_store h.sound) h.idle h
@@ -108,7 +108,7 @@ module _ (sizes : Sizes) (e : Engine) (left : List ℕ) (book : Book) (stands : 
   is_known r (WantsNone h) may = inr (plan_unread sizes e h book stands)
 
   -- its next reading, where it wants a token
-  pub is_ready : (r : OpenReader) → Knows e r → all_want e.call e.top e.ask ≡ true → MayLeave r left → Ready
+  pub is_ready : (r : OpenReader) → Knows e r → all_want e.call (asked e) ≡ true → MayLeave r left → Ready
   is_ready r (IsNext h) wants may = next_ready h
   is_ready r (HasEnded h) wants may = NoMore (may h)
   is_ready r (WantsNone h) wants may = absurd (cc (h, wants))

@@ -1,59 +1,98 @@
 -- What becomes of a token that isn't expanded.
-use Rattle.std.proofs.Common.{◌≡◌, List, sym, subst, ◌∙◌}
-use Rattle.std.specs.Prelude.{Option, None, Some}
+use Rattle.std.proofs.Common.{◌≡◌, List, [], ◌∷◌, refl, sym, ap, subst, ◌∙◌, Bool, true, false}
+use Rattle.std.specs.Prelude.{Option, None, Some, Result, Ok, Err, IfOk, if◌then◌else◌}
 use Rattle.tex_syntax.specs.declared.words.Want.{Want}
+use Rattle.tex_syntax.specs.declared.words.Want.TheVariants as want
+use Rattle.tex_defs.specs.declared.Meaning.{Meaning}
+use Rattle.tex_defs.specs.declared.Meaning.TheVariants as means
 use Rattle.tex_defs.specs.declared.Seen.{Seen}
 use Rattle.tex_defs.specs.declared.Sizes.{Sizes}
+use Rattle.tex_defs.specs.declared.Token.{Token}
 use Rattle.tex_defs.specs.Places.{World}
-use Rattle.plain_state.specs.Readings.{Tok}
-use Rattle.plain_state.specs.States.{State, Move, fed_with}
+use Rattle.rows.specs.Readings.{Ask, Tok, More}
+use Rattle.plain_readings.specs.Readings.{Reading, fed_with}
+use Rattle.reading_frames.specs.Sees.{Lists}
+use Rattle.reading_frames.specs.Stack.{asks_in}
+use Rattle.reading_frames.specs.Stands as frames
+use Rattle.reading_frames.specs.declared.frame.Frame.{Frame}
+use Rattle.plain_machine.specs.States.{State, Move}
+use Rattle.plain_machine.specs.Plan.{Page, expansion, expanded, expanded_as, command}
 use Rattle.plain_machine.specs.Does.{Did}
+use Rattle.engine_state.specs.declared.broken.Broken.{Broken}
 use Rattle.engine_state.specs.declared.call.Call.{Call}
 use Rattle.engine_state.specs.declared.engine.Engine.{Engine}
+use Rattle.gullet.specs.declared.expansion.Stepped.{Stepped}
+use Rattle.gullet.specs.declared.expansion.Stepped.TheVariants.{Unexpandable}
 use Rattle.engine_state.specs.declared.outcome.Ruled.{Ruled}
 use Rattle.engine_state.specs.declared.outcome.Ruled.TheVariants.{Step, Free, Halted}
 use Rattle.engine_state.specs.Book.{Book, with_work}
-use Rattle.engine_state.specs.Stands.{Stands, state_of, page_of}
-use Rattle.engine_state.specs.Rules.{onward_of, feeds_of, WantsHere, Takes, Comes, Went, SameReadings, DoesRule, DoesOnward}
+use Rattle.engine_state.specs.Stands.{Stands, SameReadings, state_of, page_of}
+use Rattle.engine_state.specs.Steps.{IsFree, StepsIf}
+use Rattle.gullet.specs.Stepping.{Steps, StepStepsIf, IsKept, Stays, expands}
+use Rattle.engine_state.specs.Rules.{onward_of, feeds_of, WantsHere, Takes, Comes, Went, DoesRule, DoesOnward}
 use Rattle.engine_state.proofs.Bare.{all_of, framed}
 use Rattle.engine_state.proofs.Coming.{comes_went, comes_halts}
-use Rattle.engine_state.proofs.Stepping.{feeds_none}
-use Rattle.gullet.specs.declared.expansion.Stepped.{Stepped}
-use Rattle.gullet.specs.declared.expansion.Stepped.TheVariants.{Unexpandable}
-use Rattle.gullet.specs.Stepping.{Steps, IsKept}
-use Rattle.stomach.specs.declared.reactions.Onward.{Onward}
-use Rattle.stomach.specs.declared.reactions.Onward.TheVariants as onward
-use Rattle.stomach.specs.Reactions.{IsNoFeed, IsNoBegin, FitsOnward}
+use Rattle.gullet.proofs.Stepping.{feeds_none, free_of, no}
+use Rattle.stomach.specs.Obeying.{is_dropped}
 
--- a frame is fed
-pub top_went : (sizes : Sizes) (e e' : Engine) (x : Seen) (book : Book) (w : World) → Stands sizes e' (with_work (fed_with (Tok x) book.work) book) → Did sizes (state_of e book) (state_of e' (with_work (fed_with (Tok x) book.work) book)) w w (feeds_of book.work x) →
-    Went sizes (state_of e book) e' w w (feeds_of book.work x) 0
-top_went sizes e e' x book w st did = record {
+-- A TOKEN THAT STAYS
+
+unexpanded_as : (page : Page) (t : Token) (m : Meaning Unit) (moves : List Move) → expands m ≡ false → expanded_as page t m moves ≡ moves
+unexpanded_as page t means.Undefined moves is = no (sym is)
+unexpanded_as page t (means.Macro long outer list) moves is = no (sym is)
+unexpanded_as page t (means.Prim n) moves is = ap (λ (b : Bool). if b then expansion page t n else moves) is
+unexpanded_as page t means.RelaxMarked moves is = refl
+unexpanded_as page t (means.Char category code) moves is = refl
+unexpanded_as page t (means.CharGiven n) moves is = refl
+unexpanded_as page t (means.MathGiven n) moves is = refl
+unexpanded_as page t (means.Register r n) moves is = refl
+
+module _ (page : Page) (work : List Reading) (x : Seen) where
+  unexpanded : (moves : List Move) → expands x.meaning ≡ false → expanded page x moves ≡ moves
+  unexpanded moves is = unexpanded_as page x.token x.meaning moves is
+
+  -- where no reading is open it is obeyed
+  pub obeyed_moves : Stays None x → onward_of page None work x ≡ command page x.token x.meaning
+  obeyed_moves stays = unexpanded (command page x.token x.meaning) stays
+
+  abbrev feeds : List Move
+  feeds = feeds_of work x
+
+  -- and else it is fed, if it isn't dropped
+  pub fed_moves : (w : Want) → is_dropped w x ≡ false → Stays (Some w) x → onward_of page (Some w) work x ≡ feeds_of work x
+  fed_moves want.Raw is stays = refl
+  fed_moves want.Expanded is stays = unexpanded feeds stays
+  fed_moves want.Copied is stays = unexpanded feeds stays
+  fed_moves want.Nonblank is stays = ap (λ (b : Bool). if b then [] else expanded page x feeds) is ∙ unexpanded feeds stays
+  fed_moves want.Command is stays = ap (λ (b : Bool). if b then [] else expanded page x feeds) is ∙ unexpanded feeds stays
+
+-- A FRAME IS FED
+
+no_frame : (fs : List Frame) (held : Lists) (a : Ask) → frames.FramesStand fs held [] → asks_in fs held ≡ Some a → ⊥
+no_frame [] held a st is = cc
+no_frame (f ∷ fs) held a st is = st
+
+module _ (sizes : Sizes) (e : Engine) (none : e.call ≡ None) where
+  -- the reading that wants a token is the innermost
+  pub feeds_frame : (w : Want) (x : Seen) (P : Book → List Move → Type 0) →
+      ((book : Book) (r : Reading) (rs : List Reading) → Stands sizes e (with_work (r ∷ rs) book) → P (with_work (r ∷ rs) book) (feeds_of (r ∷ rs) x)) →
+      (book : Book) → Takes sizes (Some w) e book → P book (feeds_of book.work x)
+  feeds_frame w x P h book t = at book.work (framed sizes e book none t.1) where
+    wants : WantsHere None (Some w) e
+    wants = subst (λ (c : Option Call). WantsHere c (Some w) e) none t.0
+
+    at : (work : List Reading) → Stands sizes e (with_work work book) → P (with_work work book) (feeds_of work x)
+    at [] st = absurd (no_frame e.readings.frames e.input.builds (More w) st.readings.frames wants)
+    at (r ∷ rs) st = h book r rs st
+
+pub frame_went : (sizes : Sizes) (e e' : Engine) (x : Seen) (book : Book) (w w' : World) → Stands sizes e' (with_work (fed_with (Tok x) book.work) book) → Did sizes (state_of e book) (state_of e' (with_work (fed_with (Tok x) book.work) book)) w w' (feeds_of book.work x) →
+    Went sizes (state_of e book) e' w w' (feeds_of book.work x) 0
+frame_went sizes e e' x book w w' st did = record {
   book' = with_work (fed_with (Tok x) book.work) book;
   stands = all_of sizes e' (with_work (fed_with (Tok x) book.work) book) st;
   did = did;
-  count = feeds_none book.work x;
+  count = free_of (feeds_of book.work x) (feeds_none book.work x);
 }
-
--- WHAT IS MADE OF A TOKEN FITS WHERE IT IS WANTED
-
-module _ (sizes : Sizes) (e : Engine) (book : Book) (x : Seen) (none : e.call ≡ None) where
-  here : (want : Option Want) → Takes sizes want e book → WantsHere None want e
-  here want t = subst (λ (c : Option Call). WantsHere c want e) none t.0
-
-  pub fits_none : (o : Onward) → IsNoFeed o → Takes sizes None e book → FitsOnward sizes x o e book
-  fits_none onward.Skip h t = t.1
-  fits_none onward.Feed h t = absurd h
-  fits_none (onward.Begin k) h t = (here None t, (h, framed sizes e book none t.1))
-  fits_none onward.Line h t = t.1
-  fits_none onward.Finish h t = t.1
-
-  pub fits_some : (want : Want) (o : Onward) → IsNoBegin o → Takes sizes (Some want) e book → FitsOnward sizes x o e book
-  fits_some want onward.Skip h t = t.1
-  fits_some want onward.Feed h t = record { want = want; asks = here (Some want) t; stands = framed sizes e book none t.1 }
-  fits_some want (onward.Begin k) h t = absurd h
-  fits_some want onward.Line h t = t.1
-  fits_some want onward.Finish h t = t.1
 
 -- BEHIND THE STEP
 
@@ -70,3 +109,13 @@ steps_as sizes want s e' book w w' ms n m is h = subst (λ (x : Stepped). Steps 
 -- where the token stays, no call gathers its arguments, as before
 pub kept_uncalled : (e e1 : Engine) (n : Stepped) (x : Seen) → n ≡ Unexpandable x → (IsKept n → SameReadings e e1) → e.call ≡ None → e1.call ≡ None
 kept_uncalled e e1 n x is same none = (same (subst IsKept (sym is) tt)).call ∙ none
+
+-- whether there was a step
+pub steps_stepped : (b : Bool) (n m : Stepped) → n ≡ m → StepStepsIf n b → StepStepsIf m b
+steps_stepped b n m is h = subst (λ (x : Stepped). StepStepsIf x b) is h
+
+pub stepped_steps : (r : Result Ruled Broken) (b : Bool) → b ≡ true → IfOk r (λ ruled. IsFree ruled → ⊥) → IfOk r (λ ruled. StepsIf ruled b)
+stepped_steps (Ok Step) b is h = is
+stepped_steps (Ok Free) b is h = absurd (h tt)
+stepped_steps (Ok (Halted o)) b is h = tt
+stepped_steps (Err x) b is h = tt

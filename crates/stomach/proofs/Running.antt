@@ -1,12 +1,12 @@
 -- A run, rule by rule.
-use Rattle.std.proofs.Common.{◌≡◌, inl, inr, ℕ, ◌+◌, ◌≤◌, List, [], ◌∷◌, ◌++◌, refl, sym, ap, subst, ◌∙◌, arith, Bool, true, false}
-use Rattle.std.specs.Prelude.{Option, Some, None, ◌⊎◌}
+use Rattle.std.proofs.Common.{◌≡◌, inl, inr, ℕ, ◌+◌, ◌≤◌, List, [], ◌∷◌, ◌++◌, refl, sym, ap, subst, ◌∙◌, arith}
+use Rattle.std.specs.Prelude.{◌⊎◌}
 use Rattle.tex_syntax.specs.declared.words.Outcome.{Outcome}
 use Rattle.tex_syntax.specs.declared.words.Outcome.TheVariants.{Finished, AtFatal}
 use Rattle.tex_defs.specs.Places.{World}
 use Rattle.tex_defs.specs.declared.Sizes.{Sizes}
 use Rattle.plain_tokens.specs.Pending.{Pending, settle}
-use Rattle.plain_state.specs.States.{State, Move, Reading, Settled}
+use Rattle.plain_machine.specs.States.{State, Move, Settled}
 use Rattle.plain_machine.specs.Plan.{planned}
 use Rattle.plain_machine.specs.Runs.{steps}
 use Rattle.plain_machine.specs.Extended.{extended, IsReady}
@@ -26,19 +26,16 @@ use Rattle.stomach.specs.declared.runs.Ended.TheVariants as ended
 use Rattle.engine_state.specs.declared.broken.Broken.{Broken}
 use Rattle.engine_state.specs.Faults.{why_of}
 use Rattle.engine_state.specs.Book.{Book}
-use Rattle.engine_state.specs.Calls.{AllStand, CallReads, FramesOf}
+use Rattle.engine_state.specs.Calls.{AllStand}
 use Rattle.engine_state.specs.Stands.{SameFrames, state_of}
-use Rattle.engine_state.specs.Steps.{IsFree, IsHalted, StepsIf}
+use Rattle.engine_state.specs.Steps.{IsFree}
 use Rattle.engine_state.specs.Near.{CutsIn}
-use Rattle.engine_state.specs.Rules.{DoesRule, Went, Halts, IsMoment, SameReadings, CallStays, CountsReports, plan_of}
+use Rattle.engine_state.specs.Rules.{Went, IsMoment, CountsReports, plan_of}
+use Rattle.stomach.specs.Halting.{HaltsIn}
 use Rattle.stomach.specs.declared.early.Early.{Early}
 use Rattle.stomach.specs.declared.early.Early.TheVariants as early
-use Rattle.stomach.specs.Ran.{Came, Stops, Settles, Ran, IsAt, CutBy, StoppedBy, whole_state, end_of}
-use Rattle.input_state.specs.Callings.{Calling}
-use Rattle.engine_state.specs.declared.call.Call.{Call}
-use Rattle.engine_state.proofs.Bare.{frames_all}
+use Rattle.stomach.specs.Ran.{Came, Stops, Ran, IsAt, CutBy, StoppedBy, whole_state, end_of}
 use Rattle.engine_state.proofs.CallKept.{all_still}
-use Rattle.engine_state.proofs.Reporting.{readings_still}
 use Rattle.engine_state.proofs.Storing.{store_settled, sound_still}
 
 -- what is known of the file is enough for the next rule, with these bytes left: for its reading, or it reads nothing
@@ -65,14 +62,6 @@ module _ (sizes : Sizes) (e : Engine) (left : List ℕ) (book : Book) where
 pub came_none : (sizes : Sizes) (e : Engine) (left : List ℕ) (book : Book) (w : World) → AllStand sizes e book → Came sizes (whole_state left e book) e left w w 0
 came_none sizes e left book w stands = record { ms = []; book' = book; stands = stands; moves = refl; count = refl; written = wrote_none w }
 
--- the frames are as they were
-frames_after : (sizes : Sizes) (e e' : Engine) (book : Book) → SameReadings e e' → CallStays e.call e e' → AllStand sizes e book → FramesOf e'.call e' book.work
-frames_after sizes e e' book same stays st = subst (λ (c : Option Call). FramesOf c e' book.work) (sym same.call) (at e.call book.work stays (frames_all sizes e book st)) where
-  at : (c : Option Call) (work : List Reading) → CallStays c e e' → FramesOf c e work → FramesOf c e' work
-  at None work is h = readings_still e e' work same h
-  at (Some c) [] is h = h
-  at (Some c) (r ∷ rs) is h = (subst (λ (k : Calling). CallReads c k r) (sym is) h.0, readings_still e e' rs same h.1)
-
 -- behind this much of a run
 module _ (sizes : Sizes) (s : State) (e e' : Engine) (left : List ℕ) (w w' w'' : World) (k : ℕ) (came : Came sizes s e left w w' k) where
   module _ (known : (book : Book) → AllStand sizes e book → IsKnown sizes e left book) where
@@ -91,10 +80,11 @@ module _ (sizes : Sizes) (s : State) (e e' : Engine) (left : List ℕ) (w w' w''
           written = wrote_join w w' w'' came.ms plan came.written did.written;
         }
 
-    pub came_halts : (j : ℕ) (o : Outcome) → ((book : Book) → AllStand sizes e book → Halts sizes (state_of e book) e' book w' w'' (plan_of e book) o 1) → SameReadings e e' → CallStays e.call e e' →
+    pub came_halts : (j : ℕ) (o : Outcome) → ((book : Book) → AllStand sizes e book → HaltsIn sizes (state_of e book) e' w' w'' (plan_of e book) o 1) →
         ((book : Book) → AllStand sizes e book → steps (plan_of e book) ≡ j) → Stops sizes s e' left w w'' (k + j) o
-    came_halts j o does same stays count =
-        let halts = does came.book' came.stands in
+    came_halts j o does count =
+        let end = does came.book' came.stands in
+        let halts = end.halts in
         let ready = known came.book' came.stands in
         let did = known_did sizes e left came.book' ready halts.t w' w'' halts.did in
         let plan : List Move = whole_plan left e came.book' in
@@ -106,7 +96,7 @@ module _ (sizes : Sizes) (s : State) (e e' : Engine) (left : List ℕ) (w w' w''
           ends = stopped_ends (extended left halts.t) o halts.due halts.stopped;
           stopped = halts.stopped;
           reports = counts_on o halts.t halts.reports;
-          stands = record { book' = came.book'; frames = frames_after sizes e e' came.book' same stays came.stands; same = ap (extended left) (halts.same came.stands.sound.sized.few_reports) };
+          stands = record { book' = end.book'; frames = end.frames; same = ap (extended left) (halts.same came.stands.sound.sized.few_reports) };
           written = wrote_join w w' w'' came.ms plan came.written did.written;
         } where
           counts_on : (x : Outcome) (t : State) → CountsReports x t e' → CountsReports x (extended left t) e'
@@ -208,7 +198,7 @@ rule_cut sizes e e' left book w w' n b ready le h =
     let few : steps (whole_plan left e book) ≤ n = omega (arith, le, known_steps sizes e left book ready) in
     let cut = known_cut sizes e left book ready h.cuts.at w w' (why_of b) h.cuts.cut in
     let off : CutOff sizes s (extended left h.cuts.at) n w w' (why_of b) = plan_cut sizes s (extended left h.cuts.at) n w w' (whole_plan left e book) (why_of b) cut few refl refl in
-    record { t = off.t; cut = off.cut; book' = h.book'; frames = h.frames; same = same_moment (why_of b) off.t (extended left h.cuts.at) (whole_state left e' h.book') off.same (whole_moment (why_of b) left h.cuts.at (state_of e' h.book') h.cuts.same) }
+    record { t = off.t; cut = off.cut; book' = h.book'; frames = h.near; same = same_moment (why_of b) off.t (extended left h.cuts.at) (whole_state left e' h.book') off.same (whole_moment (why_of b) left h.cuts.at (state_of e' h.book') h.cuts.same) }
 
 -- THE END OF A RUN
 
@@ -228,7 +218,7 @@ module _ (sizes : Sizes) (e : Engine) (left : List ℕ) (i : Stored) (is : i ≡
   settled_engine = record e { input = i }
 
   settled_frames : SameFrames e settled_engine
-  settled_frames = record { outer = refl; top = refl; ask = refl; lists = ap (λ (x : Stored). x.builds) is; aside = ap (λ (x : Stored). x.aside) is; call = refl; calling = ap (λ (x : Stored). x.call) is }
+  settled_frames = record { readings = refl; lists = ap (λ (x : Stored). x.builds) is; call = refl; calling = ap (λ (x : Stored). x.call) is }
 
   settled_stands : (book : Book) → AllStand sizes e book → AllStand sizes settled_engine book
   settled_stands book h = all_still sizes e settled_engine book settled_frames (store_settled e.input i is kept)
@@ -263,39 +253,5 @@ whole_needs sizes e left known needs book stands = extended_comes sizes (state_o
 
 -- WHAT A RULE ANSWERED
 
-module _ (sizes : Sizes) (s : State) (e' : Engine) (book : Book) (w w' : World) (plan : List Move) (r : Ruled) where
-  pub as_step : r ≡ ruled.Step → DoesRule sizes s e' book w w' plan r → Went sizes s e' w w' plan 1
-  as_step is h = subst (λ (x : Ruled). DoesRule sizes s e' book w w' plan x) is h
-
-  pub as_free : r ≡ ruled.Free → DoesRule sizes s e' book w w' plan r → Went sizes s e' w w' plan 0
-  as_free is h = subst (λ (x : Ruled). DoesRule sizes s e' book w w' plan x) is h
-
-  pub as_halted : (o : Outcome) → r ≡ ruled.Halted o → DoesRule sizes s e' book w w' plan r → Halts sizes s e' book w w' plan o 1
-  as_halted o is h = subst (λ (x : Ruled). DoesRule sizes s e' book w w' plan x) is h
-
-pub when_halted : (r : Ruled) (o : Outcome) → r ≡ ruled.Halted o → IsHalted r
-when_halted r o is = subst IsHalted (sym is) tt
-
 pub when_free : (r : Ruled) → r ≡ ruled.Free → IsFree r
 when_free r is = subst IsFree (sym is) tt
-
-pub same_count : (sizes : Sizes) (s : State) (e' : Engine) (left : List ℕ) (w w' : World) (k : ℕ) → Came sizes s e' left w w' (k + 0) → Came sizes s e' left w w' k
-same_count sizes s e' left w w' k h = subst (λ (x : ℕ). Came sizes s e' left w w' x) (omega arith) h
-
--- the engine has settled to where a step comes, or at the end
-module _ (sizes : Sizes) (s : State) (e' : Engine) (left : List ℕ) (w w' : World) (r : Option Outcome) where
-  pub as_none : r ≡ None → Settles sizes s e' left w w' r → Came sizes s e' left w w' 0
-  as_none is h = subst (λ (x : Option Outcome). Settles sizes s e' left w w' x) is h
-
-  pub as_some : (o : Outcome) → r ≡ Some o → Settles sizes s e' left w w' r → Stops sizes s e' left w w' 0 o
-  as_some o is h = subst (λ (x : Option Outcome). Settles sizes s e' left w w' x) is h
-
-module _ {P : Type 0} (r : Ruled) (b : Bool) where
-  pub no_step : r ≡ ruled.Step → StepsIf r b → b ≡ false → P
-  no_step is h f = let t : b ≡ true = subst (λ (x : Ruled). StepsIf x b) is h in absurd (cc (t, f))
-
-  pub no_free : r ≡ ruled.Free → StepsIf r b → b ≡ true → P
-  no_free is h f = let t : b ≡ false = subst (λ (x : Ruled). StepsIf x b) is h in absurd (cc (t, f))
-
-pub same_stops : (sizes : Sizes) (s : State) (e' : Engine) (left : List ℕ) (w w' : World) (k j : ℕ) (o : Outcome) → k ≡ j → Stops sizes s e' left w w' k o → Stops sizes s e' left w w' j o
-same_stops sizes s e' left w w' k j o is h = subst (λ (x : ℕ). Stops sizes s e' left w w' x o) is h

@@ -3,7 +3,7 @@ use Rattle.std.specs.Prelude.{◌≡◌, ℕ, ◌+◌, ◌-◌, Bool, true, fals
 use Rattle.line_reader.specs.Readers.{OpenReader}
 use Rattle.input_state.specs.NextBytes.{KnowsNext, NeedsBytes, with_bytes}
 use Rattle.engine_state.specs.declared.engine.Engine.{Engine}
-use Rattle.engine_state.specs.Steps.{all_want}
+use Rattle.engine_state.specs.Steps.{all_want, asked}
 
 -- these bytes of the file were given to the engine
 abbrev pub given : List ℕ → Engine → Engine
@@ -19,11 +19,11 @@ pub record IsGiven (all left : List ℕ) (e e' : Engine) : Type 0 where
 pub data Knows (e : Engine) (r : OpenReader) : Type 0 where
   IsNext : KnowsNext e.input e.categories → Knows e r
   HasEnded : r.ended ≡ true → Knows e r
-  WantsNone : all_want e.call e.top e.ask ≡ false → Knows e r
+  WantsNone : all_want e.call (asked e) ≡ false → Knows e r
 
 -- It isn't: a token is wanted, the next reading isn't known, and the file's end hasn't come.
 pub record Needs (e : Engine) (r : OpenReader) : Type 0 where
-  pub wanted : all_want e.call e.top e.ask ≡ true
+  pub wanted : all_want e.call (asked e) ≡ true
   pub needs : NeedsBytes e.input e.categories
   pub goes_on : r.ended ≡ false
 

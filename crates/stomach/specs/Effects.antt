@@ -1,16 +1,38 @@
--- What a command does.
-use Rattle.std.specs.Prelude.{◌≡◌, List, [], length}
-use Rattle.tex_defs.specs.declared.Token.{Token}
-use Rattle.frames.specs.declared.scan.Effect.{Effect}
-use Rattle.frames.specs.declared.scan.Effect.TheVariants.{SetMacro}
-use Rattle.frames.specs.Sees.{first_list}
+-- What a command does before its reading ends.
+use Rattle.std.specs.Prelude.{List, [], ◌∷◌, ◌++◌, ◌≤◌}
+use Rattle.plain_tokens.specs.Meanings.{meaning_to_let}
+use Rattle.plain_tokens.specs.Numerals.{whole_number, roman}
+use Rattle.plain_state.specs.Reports.{string_text}
+use Rattle.rows.specs.declared.command.Effect.{Effect}
+use Rattle.rows.specs.declared.command.Effect.TheVariants as effect
+use Rattle.plain_machine.specs.States.{Move, SetCategoryOf, Assigned}
+use Rattle.plain_machine.specs.Plan.{Page, natural, shown, put_one, put_characters, marked, meaning_characters, style_of}
 
--- a command that defines no macro
-abbrev pub IsNoMacro : Effect → Type 0
-IsNoMacro (SetMacro name long outer) = ⊥
-IsNoMacro e = Unit {0}
+-- what is put in front
+abbrev pub put_by : Page → Effect → List Move
+put_by page (effect.PutBack x) = put_one x.token
+put_by page (effect.PutMarked x) = put_one (marked x.token)
+put_by page (effect.MakeNumber n) = put_characters (whole_number n)
+put_by page (effect.MakeRoman n) = put_characters (roman n)
+put_by page (effect.MakeString x) = put_characters (string_text (style_of page) x.token)
+put_by page (effect.MakeMeaning x) = put_characters (meaning_characters page x)
+put_by page e = []
 
--- a macro gets a list with a token, the only one that is held
-abbrev pub Defines : Effect → List (List Token) → Type 0
-Defines (SetMacro name long outer) lists = (length lists ≡ 1) × (first_list lists ≡ [] → ⊥)
-Defines e lists = Unit {0}
+-- what is done alone, where no token is obeyed and none expanded
+abbrev pub done_alone : Page → Effect → List Move
+done_alone page (effect.Show x) = shown page x
+done_alone page (effect.Let n x) = Assigned n (meaning_to_let page.meanings x) ∷ []
+done_alone page (effect.FutureLet n x y) = put_one y.token ++ (put_one x.token ++ Assigned n (meaning_to_let page.meanings y) ∷ [])
+done_alone page (effect.SetCategory code category) = SetCategoryOf (natural code) (natural category) ∷ []
+done_alone page e = put_by page e
+
+-- an effect that is done alone
+abbrev pub IsAlone : Effect → Type 0
+IsAlone (effect.Obey x) = ⊥
+IsAlone (effect.ExpandBehind x y) = ⊥
+IsAlone e = Unit {0}
+
+-- a category that is set is a byte
+abbrev pub IsSmall : Effect → Type 0
+IsSmall (effect.SetCategory code category) = natural category ≤ 255
+IsSmall e = Unit {0}

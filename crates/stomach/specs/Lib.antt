@@ -1,6 +1,8 @@
 pub mod Ahead
+pub mod Buffers
 pub mod Effects
+pub mod Halting
+pub mod Obeying
 pub mod Ran
-pub mod Reactions
 pub mod Read
 pub mod Sets

@@ -4,7 +4,7 @@ use Rattle.tex_syntax.specs.declared.words.Outcome.{Outcome}
 use Rattle.tex_defs.specs.Places.{World}
 use Rattle.tex_defs.specs.declared.Sizes.{Sizes}
 use Rattle.world_io.specs.Told.{FilesTold, SinkTold}
-use Rattle.plain_state.specs.States.{State, Move}
+use Rattle.plain_machine.specs.States.{State, Move}
 use Rattle.plain_machine.specs.Plan.{Ends, next}
 use Rattle.plain_machine.specs.Runs.{Wrote, steps}
 use Rattle.plain_machine.specs.Bounded.{FitMoves, Bounded, End, AtEnd, AtSteps}
@@ -13,10 +13,12 @@ use Rattle.plain_machine.specs.Extended.{extended}
 use Rattle.input_state.specs.NextBytes.{NeedsBytes}
 use Rattle.engine_state.specs.declared.broken.Broken.{Broken}
 use Rattle.engine_state.specs.declared.engine.Engine.{Engine}
+use Rattle.stomach.specs.declared.buffer.NameBuffer.{NameBuffer}
 use Rattle.stomach.specs.declared.runs.Ended.{Ended}
 use Rattle.stomach.specs.declared.runs.Ended.TheVariants.{Halted, Steps}
 use Rattle.stomach.specs.declared.early.Early.{Early}
 use Rattle.stomach.specs.declared.early.Early.TheVariants as early
+use Rattle.stomach.specs.Buffers.{HoldsAnyName}
 use Rattle.engine_state.specs.Faults.{why_of}
 use Rattle.engine_state.specs.Book.{Book}
 use Rattle.engine_state.specs.Calls.{AllStand, FramesOf}
@@ -83,7 +85,7 @@ pub record Ran (sizes : Sizes) (s : State) (n : ℕ) (e' : Engine) (left : List 
   pub written : Wrote w w' ms
 
 -- The run was cut off at a moment t: at a move that a table has no room for, or that calls the outside. The engine stands for it, with
--- its open readings, but for what is due; where a table is full a definition's list may have one token more. At a failed write its column is
+-- its open readings, but for what is due; where a table is full a list may have one token more. At a failed write its column is
 -- that of the bytes really written.
 pub record CutBy (sizes : Sizes) (s : State) (n : ℕ) (e' : Engine) (left : List ℕ) (w w' : World) (b : Broken) : Type 0 where
   pub t : State
@@ -106,11 +108,11 @@ StoppedBy sizes s n e' left w w' (early.Broken b) = CutBy sizes s n e' left w w'
 StoppedBy sizes s n e' left w w' (early.Unread fault) = UnreadBy sizes s n e' left w w'
 
 -- The whole run of at most n steps, over any files and whatever the engine stands for.
-abbrev pub RanTo : Engine → SinkTold → Engine → SinkTold → ℕ → Ended → (all left : List ℕ) → Type 0
-RanTo e s e' s' n ended all left =
-    (sizes : Sizes) (f : FilesTold) (book : Book) → AllStand sizes e book → Ran sizes (whole_state all e book) n e' left (world_of f s e) (world_of f s' e') ended
+abbrev pub RanTo : NameBuffer → Engine → SinkTold → Engine → SinkTold → ℕ → Ended → (all left : List ℕ) → Type 0
+RanTo b e s e' s' n ended all left =
+    (sizes : Sizes) (f : FilesTold) (book : Book) → HoldsAnyName sizes b → AllStand sizes e book → Ran sizes (whole_state all e book) n e' left (world_of f s e) (world_of f s' e') ended
 
 -- It stopped early, within n steps.
-abbrev pub StoppedTo : Engine → SinkTold → Engine → SinkTold → ℕ → Early → (all left : List ℕ) → Type 0
-StoppedTo e s e' s' n x all left =
-    (sizes : Sizes) (f : FilesTold) (book : Book) → AllStand sizes e book → StoppedBy sizes (whole_state all e book) n e' left (world_of f s e) (world_of f s' e') x
+abbrev pub StoppedTo : NameBuffer → Engine → SinkTold → Engine → SinkTold → ℕ → Early → (all left : List ℕ) → Type 0
+StoppedTo b e s e' s' n x all left =
+    (sizes : Sizes) (f : FilesTold) (book : Book) → HoldsAnyName sizes b → AllStand sizes e book → StoppedBy sizes (whole_state all e book) n e' left (world_of f s e) (world_of f s' e') x

@@ -2,13 +2,13 @@
 ghost use Rattle.std.specs.Prelude.{◌≡◌, ◌<◌, true, IfErr, OnErr, OnOk, MatchBool};
 ghost use Rattle.tex_defs.specs.Places.{Rose};
 ghost use Rattle.world_io.specs.declared.traits.Fault.TheVariants.{Failed, NoMemory};
-ghost use Rattle.engine_state.specs.Steps.{all_want};
+ghost use Rattle.engine_state.specs.Steps.{all_want, asked};
 ghost use Rattle.stomach.specs.Read.{ReadsTo};
 ghost use Rattle.stomach.specs.Ahead.{IsGiven, Knows, Needs, read_weight};
 
 use engine_state::Engine;
-use frames::Ask;
 use line_reader::Reader;
+use reading_frames::Ask;
 use world_io::{Fault, Files};
 
 /// How many bytes are read at once.
@@ -16,13 +16,13 @@ const WINDOW: usize = 256;
 
 /// Whether the next rule wants a token.
 pub fn wants_token(engine: &Engine) -> bool
-    ensures { result ≡ all_want engine.now.call engine.now.top engine.now.ask }
+    ensures { result ≡ all_want engine.now.call (asked engine.now) }
 {
-    match (&engine.call, &engine.top, &engine.ask) {
-        (Some(call), _, _) => call.asks_more(),
-        (None, None, _) => true,
-        (None, Some(_), Ask::More(_)) => true,
-        (None, Some(_), _) => false,
+    match (engine.call, engine.readings.ask()) {
+        (Some(call), _) => call.asks_more(),
+        (None, None) => true,
+        (None, Some(Ask::More(_))) => true,
+        (None, Some(_)) => false,
     }
 }
 

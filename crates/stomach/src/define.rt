@@ -1,34 +1,42 @@
 // A macro is defined.
-ghost use Rattle.std.specs.Prelude.{◌≡◌, ◌≢◌, [], drop, MatchBool};
+ghost use Rattle.std.specs.Prelude.{◌≡◌, ◌<◌, List, [], ◌∷◌, MatchBool, Some, None};
 ghost use Rattle.tex_defs.specs.Places.{World};
 ghost use Rattle.tex_defs.specs.declared.Sizes.{Sizes};
-ghost use Rattle.frames.specs.Sees.{first_list};
-ghost use Rattle.input_state.specs.Callings.{NotCalling};
-ghost use Rattle.engine_state.specs.Book.{Book};
-ghost use Rattle.engine_state.specs.Stands.{IsSound};
-ghost use Rattle.stomach.specs.Sets.{Sets, MayDefine};
+ghost use Rattle.plain_readings.specs.Readings.{Reading};
+ghost use Rattle.rows.specs.Readings.{Defines};
+ghost use Rattle.reading_frames.specs.Sees.{kept_list_of};
+ghost use Rattle.reading_frames.specs.Stack.{asks_in};
+ghost use Rattle.plain_machine.specs.Plan.{macro_defined};
+ghost use Rattle.engine_state.specs.Book.{Book, with_work};
+ghost use Rattle.engine_state.specs.Stands.{Stands, state_of};
+ghost use Rattle.engine_state.specs.Rules.{Went};
+ghost use Rattle.engine_state.specs.Steps.{asked, weight};
+ghost use Rattle.stomach.specs.Sets.{MayDefine};
 
 use engine_state::Engine;
+use rows::Call;
 use tex_defs::Name;
 
-/// Whether the innermost reading's list can become the macro of this name.
+/// Whether the list on top can become that of a macro of this name.
 fn may_define(engine: &Engine, name: Name) -> bool
     ensures { MatchBool result (MayDefine engine.now name) (MayDefine engine.now name → ⊥) }
 {
-    engine.input.has_list()
-        && !engine.input.is_calling()
-        && !engine.input.is_list_empty()
-        && engine.input.is_placed(name)
+    engine.input.has_list() && !engine.input.is_list_empty() && engine.input.is_placed(name)
 }
 
-/// The innermost reading's list becomes the macro of this name. *TeX: The Program*, part 49 (`define`).
-pub(crate) fn set_macro(engine: &mut Engine, name: Name, long: bool, outer: bool)
-    ensures sets { (sizes : Sizes) (w : World) (book : Book) → IsSound sizes engine.old book.number book.macros → first_list engine.old.input.builds ≢ [] → engine.old.input.call ≡ NotCalling → Sets sizes engine.old engine.new book w name long outer }
-    ensures others { engine.new ≡ record engine.old { input = record engine.old.input { builds = drop 1 engine.old.input.builds; meanings = engine.new.input.meanings; lists = engine.new.input.lists } } }
+/// The command ends, and the list on top, if it is listed, becomes that of the macro of this name; one without a token becomes none.
+/// *TeX: The Program*, part 49 (`define`).
+pub(crate) fn define(engine: &mut Engine, call: Call, name: Name, listed: bool)
+    ensures rule { (sizes : Sizes) (w : World) (book : Book) (r : Reading) (rs : List Reading) → Stands sizes engine.old (with_work (r ∷ rs) book) → asked engine.old ≡ Some (Defines call name (kept_list_of listed engine.old.input.builds)) →
+        Went sizes (state_of engine.old (with_work (r ∷ rs) book)) engine.new w w (macro_defined call name (kept_list_of listed engine.old.input.builds)) 0 }
+    ensures light { engine.old.call ≡ None → asks_in engine.old.readings.frames [] ≡ Some (Defines call name []) → weight engine.new < weight engine.old }
+    ensures column { engine.new.in_line ≡ engine.old.in_line }
+    ensures idle { engine.new.input.making ≡ engine.old.input.making }
 {
-    if may_define(engine, name) {
-        engine.input.define(name, long, outer);
-    } else if engine.input.has_list() {
-        engine.input.drop_list();
+    if listed && !engine.input.is_calling() && may_define(engine, name) {
+        engine.input.define(name, call.long, call.outer);
+        engine.readings.end();
+    } else {
+        engine.close_reading();
     }
 }

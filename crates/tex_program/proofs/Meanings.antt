@@ -1,6 +1,6 @@
 -- From the engine's run to what the program means.
 use Rattle.std.proofs.Common.{◌≡◌, inl, inr, ℕ, ◌≤◌, List, [], ◌∷◌, ◌++◌, refl, sym, ap, subst, ◌∙◌, arith, Bool, true, false}
-use Rattle.std.specs.Prelude.{Option, Some, None, nat_eq, nat_lt, if◌then◌else◌, ◌⊎◌}
+use Rattle.std.specs.Prelude.{Option, Some, None, ◌||◌, nat_eq, nat_lt, if◌then◌else◌, ◌⊎◌}
 use Rattle.std.proofs.lemmas.Grind.{common_steps}
 use Rattle.tex_syntax.specs.declared.words.Outcome.{Outcome}
 use Rattle.tex_syntax.specs.declared.words.Outcome.TheVariants.{AtFatal, Finished}
@@ -13,8 +13,8 @@ use Rattle.plain_tokens.specs.Lex.{NewLine}
 use Rattle.plain_tokens.specs.Pending.{Pending, Closed}
 use Rattle.plain_tokens.specs.Puts.{Put}
 use Rattle.plain_tokens.specs.Tables.{string, refused}
-use Rattle.plain_state.specs.States.{State, Move, Kept, made}
-use Rattle.plain_state.specs.Demands.{refusal}
+use Rattle.plain_machine.specs.States.{State, Move, Kept, made}
+use Rattle.plain_machine.specs.Demands.{refusal}
 use Rattle.plain_machine.specs.Extended.{extended}
 use Rattle.plain_machine.specs.Numbers.{Tied, pending_of}
 use Rattle.plain_machine.specs.Plan.{no_file, file_missing, job_due}
@@ -98,19 +98,25 @@ module _ (sizes : Sizes) (s : State) (n : ℕ) (w m w' : World) (e' : Engine) (l
   abbrev whole_of : (o : Outcome) (ran : Ran sizes s n e' left w w' (Halted o)) → Whole sizes s n w w' o
   whole_of o ran = record { ms = ran.ms; t = ran.t; run = ran.run; stopped = ran.ends.0; written = ran.written }
 
-  ending_of : (ran : Ran sizes s n e' left w w' (Halted Finished)) (b : Bool) → nat_lt 0 e'.reports ≡ b → Ending sizes s n w w' b
-  ending_of ran b is = record { whole = whole_of Finished ran; reports = ap (nat_lt 0) ran.ends.1.0 ∙ is }
+  -- whether its status is to be 1
+  abbrev flaws : Bool
+  flaws = e'.flawed || nat_lt 0 e'.reports
+
+  ending_of : (ran : Ran sizes s n e' left w w' (Halted Finished)) (b : Bool) → flaws ≡ b → Ending sizes s n w w' b
+  ending_of ran b is =
+      let counts = ran.ends.1.0 in
+      record { whole = whole_of Finished ran; flaws = ap (λ (k : ℕ). ran.t.flawed || nat_lt 0 k) counts.0 ∙ (ap (λ (x : Bool). x || nat_lt 0 e'.reports) counts.1 ∙ is) }
 
   -- a run that has ended, with a report or without
-  ended_with : (ran : Ran sizes s n e' left w w' (Halted Finished)) (b : Bool) → nat_lt 0 e'.reports ≡ b → SaysSo sizes s n w w' (if b then 1 else 0)
+  ended_with : (ran : Ran sizes s n e' left w w' (Halted Finished)) (b : Bool) → flaws ≡ b → SaysSo sizes s n w w' (if b then 1 else 0)
   ended_with ran true is = record { is = IsFlawed; says = ending_of ran true is }
   ended_with ran false is = record { is = IsFinished; says = ending_of ran false is }
 
-  ran_halted : (o : Outcome) → Ran sizes s n e' left w w' (Halted o) → SaysSo sizes s n w w' (end_status o e'.reports)
-  ran_halted Finished ran = ended_with ran (nat_lt 0 e'.reports) refl
+  ran_halted : (o : Outcome) → Ran sizes s n e' left w w' (Halted o) → SaysSo sizes s n w w' (end_status o e'.reports e'.flawed)
+  ran_halted Finished ran = ended_with ran flaws refl
   ran_halted (AtFatal f) ran = record { is = IsFatal; says = record { fatal = f; whole = whole_of (AtFatal f) ran } }
 
-  pub ran_ended : (ended : Ended) (o : Outcome) (status : ℕ) → ended ≡ Halted o → status ≡ end_status o e'.reports → Ran sizes s n e' left w w' ended → SaysSo sizes s n w w' status
+  pub ran_ended : (ended : Ended) (o : Outcome) (status : ℕ) → ended ≡ Halted o → status ≡ end_status o e'.reports e'.flawed → Ran sizes s n e' left w w' ended → SaysSo sizes s n w w' status
   ran_ended ended o status is this ran = rw this (ran_halted o (subst (λ (x : Ended). Ran sizes s n e' left w w' x) is ran))
 
   pub ran_steps : (ended : Ended) → ended ≡ Steps → Ran sizes s n e' left w m ended → Line m w' (steps_line n) → SaysSo sizes s n w w' 4
@@ -154,8 +160,12 @@ due_cuts sizes s e' book w w' ms n b le h =
 
 -- THE JOB'S NAME
 
+-- it writes nothing
+kept_on : (w w' : World) (bytes : List ℕ) → Wrote w w' [] → Wrote w w' (Kept bytes ∷ [])
+kept_on w w' bytes h = record { told = h.told; column = h.column; later = h.later }
+
 kept_wrote : (w : World) (bytes : List ℕ) → Wrote w w (Kept bytes ∷ [])
-kept_wrote w bytes = record { told = λ p. refl; column = refl; later = (wrote_none w).later }
+kept_wrote w bytes = kept_on w w bytes (wrote_none w)
 
 -- one move is cut off: it is this that is refused
 module _ (sizes : Sizes) (s : State) (m : Move) (why : Why) where
@@ -250,8 +260,8 @@ named_dropped : (sizes : Sizes) (e : Engine) (quiet : Bool) (file : List ℕ) �
 named_dropped sizes e quiet file none h =
     let sound = h.stands.sound in
     record {
-      stands = stands_still sizes e (dropped e) first_book (record { outer = refl; top = refl; ask = refl; lists = refl; aside = refl; call = refl; calling = refl }) (record {
-        sized = record { few_reports = sound.sized.few_reports; small = sound.sized.small; own = sound.sized.own; outer = sound.sized.outer; input = sound.sized.input; names = sound.sized.names; hash = sound.sized.hash; located = sound.sized.located };
+      stands = stands_still sizes e (dropped e) first_book (record { readings = refl; lists = refl; call = refl; calling = refl }) (record {
+        sized = record { few_reports = sound.sized.few_reports; small = sound.sized.small; own = sound.sized.own; readings = sound.sized.readings; input = sound.sized.input; names = sound.sized.names; hash = sound.sized.hash; located = sound.sized.located };
         tied = subst (λ (ps : List Put). Tied first_book.number first_book.macros e.input.meanings ps e.input.lists) (ap (λ (p : Pending). p.puts) none) sound.tied;
         bodies = sound.bodies;
       }) h.stands.idle h.stands;
@@ -352,8 +362,8 @@ module _ (sizes : Sizes) (s : State) (n : ℕ) (w m w' : World) (quiet : Wrote m
   whole_on o h = record { ms = h.ms; t = h.t; run = h.run; stopped = h.stopped; written = wrote_on w m w' quiet h.ms h.written }
 
   on : (status : ℕ) (is : Status status) → Says sizes s n w m status is → Says sizes s n w w' status is
-  on _ IsFinished h = record { whole = whole_on Finished h.whole; reports = h.reports }
-  on _ IsFlawed h = record { whole = whole_on Finished h.whole; reports = h.reports }
+  on _ IsFinished h = record { whole = whole_on Finished h.whole; flaws = h.flaws }
+  on _ IsFlawed h = record { whole = whole_on Finished h.whole; flaws = h.flaws }
   on _ IsFatal h = record { fatal = h.fatal; whole = whole_on (AtFatal h.fatal) h.whole }
   on _ IsFullTable h = record {
     full = h.full;
@@ -361,7 +371,7 @@ module _ (sizes : Sizes) (s : State) (n : ℕ) (w m w' : World) (quiet : Wrote m
   }
   on _ IsSteps h = record { ms = h.ms; t = h.t; between = h.between; run = h.run; written = h.written; last = line_on h.between m w' quiet _ h.last }
   on _ IsReadFault (inl h) = inl (record { t = h.t; between = h.between; read = h.read; cause = h.cause; last = line_on h.between m w' quiet _ h.last })
-  on _ IsReadFault (inr h) = inr (record { between = h.between; failed = h.failed; written = h.written; last = line_on h.between m w' quiet _ h.last })
+  on _ IsReadFault (inr h) = inr (record { name = h.name; t = h.t; between = h.between; kept = h.kept; failed = h.failed; written = h.written; last = line_on h.between m w' quiet _ h.last })
   on _ IsWriteFault h = record { t = h.t; between = h.between; cut = h.cut; last = line_on h.between m w' quiet _ h.last }
   on _ IsNoMemory (inl h) = inl (record { t = h.t; between = h.between; cut = h.cut; last = line_on h.between m w' quiet _ h.last })
   on _ IsNoMemory (inr (inl h)) = inr (inl (record { t = h.t; between = h.between; read = h.read; cause = h.cause; last = line_on h.between m w' quiet _ h.last }))
@@ -466,9 +476,23 @@ module _ (sizes : Sizes) (quiet : Bool) (name : List ℕ) (file : File) (n : ℕ
   pub means_says : (job : Option (List ℕ)) (w w' : World) (status : ℕ) → IsJob file job → SaysSo sizes (First quiet name job) n w w' status → MeansRun sizes quiet name file n w w' status
   means_says job w w' status is says = record { job = job; is_job = is; is = says.is; says = says.says }
 
-  pub means_unopened : (w m w' : World) → Rose w.read_faults m.read_faults → Wrote w m [] → Line m w' read_fault_line → MeansRun sizes quiet name file n w w' 5
-  means_unopened w m w' failed wrote last = let j = some_job file in
-      record { job = j.job; is_job = j.is_job; is = IsReadFault; says = inr (record { between = m; failed = failed; written = wrote; last = last }) }
+  -- the job's name has room, whatever the file is
+  name_kept : (e : Engine) → Named sizes e quiet name (Some []) → (job : Option (List ℕ)) → (t : State) × FitMoves sizes (First quiet name job) (Kept (job_name name) ∷ []) t
+  name_kept e named job =
+      let s : State = First quiet name job in
+      let t : State = made (Kept (job_name name)) (record s { due = file_missing name job }) in
+      (t, (t, (next_due s (Kept (job_name name)) (file_missing name job) refl, (named.room, refl))))
+
+  pub means_unopened : (e : Engine) → Named sizes e quiet name (Some []) → (w m w' : World) → Rose w.read_faults m.read_faults → Wrote w m [] → Line m w' read_fault_line → MeansRun sizes quiet name file n w w' 5
+  means_unopened e named w m w' failed wrote last =
+      let j = some_job file in
+      let kept = name_kept e named j.job in
+      record {
+        job = j.job;
+        is_job = j.is_job;
+        is = IsReadFault;
+        says = inr (record { name = job_name name; t = kept.0; between = m; kept = kept.1; failed = failed; written = kept_on w m (job_name name) wrote; last = last });
+      }
 
   pub means_no_room : (w m w' : World) → Wrote w m [] → Line m w' no_memory_line → MeansRun sizes quiet name file n w w' 7
   means_no_room w m w' wrote last = let j = some_job file in

@@ -1,8 +1,8 @@
 -- An engine that has kept its job's name.
 use Rattle.std.specs.Prelude.{◌≡◌, ℕ, Bool, List, Option, None}
 use Rattle.tex_defs.specs.declared.Sizes.{Sizes}
-use Rattle.plain_state.specs.States.{Kept, made}
-use Rattle.plain_state.specs.Demands.{refusal}
+use Rattle.plain_machine.specs.States.{Kept, made}
+use Rattle.plain_machine.specs.Demands.{refusal}
 use Rattle.plain_machine.specs.Plan.{job_due}
 use Rattle.plain_machine.specs.Meaning.{First}
 use Rattle.command_words.specs.Words.{job_name}

@@ -1,10 +1,10 @@
 -- What a run of the engine means, by the machine.
-use Rattle.std.specs.Prelude.{◌≡◌, ◌≤◌, ℕ, nat_lt, List, if◌then◌else◌}
+use Rattle.std.specs.Prelude.{◌≡◌, ◌≤◌, ℕ, nat_lt, Bool, ◌||◌, List, if◌then◌else◌}
 use Rattle.tex_syntax.specs.declared.words.Outcome.{Outcome}
 use Rattle.tex_syntax.specs.declared.words.Outcome.TheVariants.{Finished, AtFatal}
 use Rattle.tex_defs.specs.Places.{World, Rose}
 use Rattle.tex_defs.specs.declared.Sizes.{Sizes}
-use Rattle.plain_state.specs.States.{State}
+use Rattle.plain_machine.specs.States.{State}
 use Rattle.plain_machine.specs.Meaning.{Status, Says}
 use Rattle.world_io.specs.Told.{FilesTold}
 use Rattle.world_io.specs.declared.traits.Fault.TheVariants.{Failed, NoMemory}
@@ -16,10 +16,10 @@ pub record SaysSo (sizes : Sizes) (s : State) (n : ℕ) (w w' : World) (status :
   pub is : Status status
   pub says : Says sizes s n w w' status is
 
--- the status of a run that has ended
-abbrev pub end_status : Outcome → ℕ → ℕ
-end_status Finished reports = if nat_lt 0 reports then 1 else 0
-end_status (AtFatal f) reports = 2
+-- the status of a run that has ended, by its reports and whether it is to be 1 without one
+abbrev pub end_status : Outcome → (reports : ℕ) → (flawed : Bool) → ℕ
+end_status Finished reports flawed = if flawed || nat_lt 0 reports then 1 else 0
+end_status (AtFatal f) reports flawed = 2
 
 -- f was read as a was: nothing was written to it, and its counts of failed reads and of wants rose where those of a did
 pub record ReadAlike (a a' f f' : FilesTold) : Type 0 where

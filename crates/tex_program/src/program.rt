@@ -13,6 +13,7 @@ use crate::tell::{Telling, tell};
 use command_words::{Job, Unread, read_words};
 use engine_state::Engine;
 use std::alloc::Global;
+use stomach::NameBuffer;
 use tex_defs::Sizes;
 use world_io::{Files, Sink};
 
@@ -28,7 +29,7 @@ fn sizes(job: &Job) -> Sizes
     }
 }
 
-/// Runs the job of a file: the engine is made before the file is opened.
+/// Runs the job of a file: the buffer and the engine are made before the file is opened.
 fn run_job<F: Files, S: Sink>(alloc: Global, job: &Job, files: &mut F, out: &mut S) -> u8
     requires { is_in_range MainMemorySize job.now.main_memory_size ≡ true }
     ensures meaning { (b : Bool) × Means (spelt job.now) (F.told files.old).file (world (F.told files.old) (S.told out.old) false) (world (F.told files.new) (S.told out.new) b) result }
@@ -36,14 +37,29 @@ fn run_job<F: Files, S: Sink>(alloc: Global, job: &Job, files: &mut F, out: &mut
     ensures write_fault { result ≡ 6 → Rose (S.told out.old).faults (S.told out.new).faults }
     ensures not_usage { result ≡ 9 → ⊥ }
 {
-    let mut engine = match Engine::new(alloc, &sizes(job), job.quiet) {
+    let sizes = sizes(job);
+    let mut buffer = match NameBuffer::new(alloc, &sizes) {
+        Ok(buffer) => buffer,
+        Err(_) => {
+            tell(out, false, Telling::NoMemory);
+            return 7;
+        }
+    };
+    let mut engine = match Engine::new(alloc, &sizes, job.quiet) {
         Ok(engine) => engine,
         Err(_) => {
             tell(out, false, Telling::NoMemory);
             return 7;
         }
     };
-    let told = run_file(&mut engine, job.file.as_slice(), files, job.steps, out);
+    let told = run_file(
+        &mut engine,
+        &mut buffer,
+        job.file.as_slice(),
+        files,
+        job.steps,
+        out,
+    );
     engine.close();
     told.status
 }
@@ -56,7 +72,7 @@ fn run_job<F: Files, S: Sink>(alloc: Global, job: &Job, files: &mut F, out: &mut
 ///
 /// | Status | Comes |
 /// |---|---|
-/// | 0, 1 | where the run has ended, without and with a report |
+/// | 0, 1 | where the run has ended, without and with a report or `\\show` |
 /// | 2 | where the run is at something fatal |
 /// | 3 | where a table has no room for the machine's next move |
 /// | 4 | where the steps were taken and the machine needs one more |

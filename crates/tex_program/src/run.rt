@@ -2,11 +2,12 @@
 ghost use Rattle.std.specs.Prelude.{◌≡◌, ℕ, List, [], Some, None, false, true};
 ghost use Rattle.tex_defs.specs.Places.{Rose};
 ghost use Rattle.tex_defs.specs.declared.Sizes.{Sizes};
-ghost use Rattle.plain_state.specs.States.{State};
+ghost use Rattle.plain_machine.specs.States.{State};
 ghost use Rattle.plain_machine.specs.Does.{CutAt};
 ghost use Rattle.plain_machine.specs.Meaning.{First, MeansRun};
 ghost use Rattle.world_io.specs.Told.{FilesTold, world};
 ghost use Rattle.world_io.specs.declared.traits.Fault.TheVariants.{Failed};
+ghost use Rattle.stomach.specs.Buffers.{HoldsAnyName};
 ghost use Rattle.stomach.specs.Ran.{UnreadBy, StoppedBy};
 ghost use Rattle.stomach.specs.Read.{ReadsTo};
 ghost use Rattle.stomach.specs.declared.early.Early.TheVariants.{Unread};
@@ -20,7 +21,7 @@ use crate::tell::{Telling, tell};
 use command_words::job_name;
 use engine_state::{Broken, Engine};
 use line_reader::Reader;
-use stomach::{Early, Ended, run_steps};
+use stomach::{Early, Ended, NameBuffer, run_steps};
 use tex_syntax::Outcome;
 use world_io::{Fault, Files, Sink};
 
@@ -85,12 +86,12 @@ fn tell_early<S: Sink>(out: &mut S, in_line: bool, early: Early) -> Told
     }
 }
 
-/// The status of a run that has ended, by how it ended and whether it had reports.
-fn status_of(outcome: Outcome, reports: u32) -> u8
-    ensures { result ≡ end_status outcome reports }
+/// The status of a run that has ended, by how it ended, whether it had reports, and whether it is to be 1 without one.
+fn status_of(outcome: Outcome, reports: u32, flawed: bool) -> u8
+    ensures { result ≡ end_status outcome reports flawed }
 {
     match outcome {
-        Outcome::Finished if reports == 0 => 0,
+        Outcome::Finished if reports == 0 && !flawed => 0,
         Outcome::Finished => 1,
         Outcome::AtFatal(_) => 2,
     }
@@ -99,6 +100,7 @@ fn status_of(outcome: Outcome, reports: u32) -> u8
 /// Runs the job of a file that is open, by an engine that has kept the job's name.
 fn run_engine<F: Files, S: Sink>(
     engine: &mut Engine,
+    buffer: &mut NameBuffer,
     reader: &mut Reader,
     files: &mut F,
     steps: u64,
@@ -107,15 +109,15 @@ fn run_engine<F: Files, S: Sink>(
     requires idle { engine.old.input.making ≡ None }
     requires running { engine.old.stopped ≡ false }
     requires is_open { (F.told files.old).reading reader.old.id ≡ true }
-    ensures says { ReadsTo reader.old reader.new (F.told files.old) (F.told files.new) (λ all left. (sizes : Sizes) (f f' : FilesTold) (quiet : _) (file : List ℕ) → ReadAlike (F.told files.old) (F.told files.new) f f' → Named sizes engine.old quiet file (Some []) →
+    ensures says { ReadsTo reader.old reader.new (F.told files.old) (F.told files.new) (λ all left. (sizes : Sizes) (f f' : FilesTold) (quiet : _) (file : List ℕ) → ReadAlike (F.told files.old) (F.told files.new) f f' → HoldsAnyName sizes buffer.old → Named sizes engine.old quiet file (Some []) →
         SaysSo sizes (First quiet file (Some all)) steps (world f (S.told out.old) false) (world f' (S.told out.new) result.in_line) result.status) }
     ensures read_fault { result.status ≡ 5 → Rose (F.told files.old).read_faults (F.told files.new).read_faults }
     ensures not_usage { result.status ≡ 9 → ⊥ }
 {
-    match run_steps(engine, reader, files, out, steps) {
+    match run_steps(engine, buffer, reader, files, out, steps) {
         Ok(Ended::Halted(outcome)) => Told {
             in_line: engine.is_in_line(),
-            status: status_of(outcome, engine.reports()),
+            status: status_of(outcome, engine.reports(), engine.flawed),
         },
         Ok(Ended::Steps) => Told {
             in_line: tell(out, engine.is_in_line(), Telling::Steps(steps)),
@@ -143,6 +145,7 @@ fn refuse_engine<S: Sink>(engine: &mut Engine, file: &[u8], out: &mut S) -> Told
 /// Opens the job's file and runs it, by an engine that has kept the job's name.
 fn run_named<F: Files, S: Sink>(
     engine: &mut Engine,
+    buffer: &mut NameBuffer,
     file: &[u8],
     files: &mut F,
     steps: u64,
@@ -151,16 +154,16 @@ fn run_named<F: Files, S: Sink>(
     requires idle { engine.old.input.making ≡ None }
     requires running { engine.old.stopped ≡ false }
     requires is_unread { IsUnread engine.old }
-    ensures means { (sizes : Sizes) (quiet : _) → Named sizes engine.old quiet file.now (Some []) →
+    ensures means { (sizes : Sizes) (quiet : _) → HoldsAnyName sizes buffer.old → Named sizes engine.old quiet file.now (Some []) →
         MeansRun sizes quiet file.now ((F.told files.old).file file.now) steps (world (F.told files.old) (S.told out.old) false) (world (F.told files.new) (S.told out.new) result.in_line) result.status }
     ensures read_fault { result.status ≡ 5 → Rose (F.told files.old).read_faults (F.told files.new).read_faults }
-    ensures write_fault { (sizes : Sizes) (quiet : _) → Named sizes engine.old quiet file.now (Some []) → result.status ≡ 6 → Rose (S.told out.old).faults (S.told out.new).faults }
+    ensures write_fault { (sizes : Sizes) (quiet : _) → HoldsAnyName sizes buffer.old → Named sizes engine.old quiet file.now (Some []) → result.status ≡ 6 → Rose (S.told out.old).faults (S.told out.new).faults }
     ensures not_usage { result.status ≡ 9 → ⊥ }
 {
     match files.open_in(file) {
         Ok(Some(id)) => {
             let mut reader = Reader::new(id);
-            let told = run_engine(engine, &mut reader, files, steps, out);
+            let told = run_engine(engine, buffer, &mut reader, files, steps, out);
             files.close_in(id);
             told
         }
@@ -179,9 +182,10 @@ fn run_named<F: Files, S: Sink>(
     }
 }
 
-/// Keeps the job's name, opens its file and runs it, by an engine at its beginning.
+/// Keeps the job's name, opens its file and runs it, by an engine at its beginning and a buffer for names.
 pub fn run_file<F: Files, S: Sink>(
     engine: &mut Engine,
+    buffer: &mut NameBuffer,
     file: &[u8],
     files: &mut F,
     steps: u64,
@@ -190,14 +194,14 @@ pub fn run_file<F: Files, S: Sink>(
     requires idle { engine.old.input.making ≡ None }
     requires running { engine.old.stopped ≡ false }
     requires is_unread { IsUnread engine.old }
-    ensures means { (sizes : Sizes) (quiet : _) → Begins sizes engine.old quiet (Some []) →
+    ensures means { (sizes : Sizes) (quiet : _) → HoldsAnyName sizes buffer.old → Begins sizes engine.old quiet (Some []) →
         MeansRun sizes quiet file.now ((F.told files.old).file file.now) steps (world (F.told files.old) (S.told out.old) false) (world (F.told files.new) (S.told out.new) result.in_line) result.status }
     ensures read_fault { result.status ≡ 5 → Rose (F.told files.old).read_faults (F.told files.new).read_faults }
-    ensures write_fault { (sizes : Sizes) (quiet : _) → Begins sizes engine.old quiet (Some []) → result.status ≡ 6 → Rose (S.told out.old).faults (S.told out.new).faults }
+    ensures write_fault { (sizes : Sizes) (quiet : _) → HoldsAnyName sizes buffer.old → Begins sizes engine.old quiet (Some []) → result.status ≡ 6 → Rose (S.told out.old).faults (S.told out.new).faults }
     ensures not_usage { result.status ≡ 9 → ⊥ }
 {
     if let Err(broken) = engine.keep_name(job_name(file)) {
         return tell_broken(out, engine.is_in_line(), broken);
     }
-    run_named(engine, file, files, steps, out)
+    run_named(engine, buffer, file, files, steps, out)
 }

@@ -5,7 +5,7 @@ use crate::macro_tests::repeated;
 use engine_state::{Broken, Engine};
 use line_reader::Reader;
 use std::alloc::{AllocError, Global};
-use stomach::{Early, Ended, run_steps};
+use stomach::{Early, Ended, NameBuffer, run_steps};
 use tex_defs::{Full, Sizes, Table};
 use tex_syntax::Outcome;
 use world_io::{Fault, Files, MemFiles, MemSink};
@@ -30,6 +30,7 @@ const LEAST: Sizes = Sizes {
 /// Runs the file of this name.
 fn run(
     engine: &mut Engine,
+    buffer: &mut NameBuffer,
     name: &[u8],
     files: &mut MemFiles,
     out: &mut MemSink,
@@ -41,7 +42,7 @@ fn run(
         return Err(Early::Unread(Fault::Failed));
     };
     engine.keep_name(name)?;
-    run_steps(engine, &mut Reader::new(id), files, out, 1000000)
+    run_steps(engine, buffer, &mut Reader::new(id), files, out, 1000000)
 }
 
 /// Whether the run came to where this table is full, or else to its end without a report.
@@ -69,8 +70,9 @@ fn words_over(
         return Ok(None);
     }
     files.add(job.0, job.1)?;
+    let mut buffer = NameBuffer::new(alloc, sizes)?;
     let mut engine = Engine::new(alloc, sizes, true)?;
-    let ended = run(&mut engine, job.0, files, out);
+    let ended = run(&mut engine, &mut buffer, job.0, files, out);
     let came = came(&engine, ended, expected.1) && out.bytes() == expected.0;
     let words = engine.words();
     engine.close();

@@ -97,11 +97,29 @@ pub fn job(alloc: Global, text: &[u8], written: &[u8], status: u8) -> bool {
 
 /// As `job`, for other words than `init job`.
 pub fn job_with(alloc: Global, words: &[&str], text: &[u8], written: &[u8], status: u8) -> bool {
+    file_with(alloc, b"job.tex", words, text, written, status)
+}
+
+/// As `job`, for another file.
+pub fn named_job(alloc: Global, name: &str, text: &[u8], written: &[u8], status: u8) -> bool {
+    let words = ["texmac", "init", name];
+    file_with(alloc, name.as_bytes(), &words, text, written, status)
+}
+
+/// As `job_with`, for another file.
+fn file_with(
+    alloc: Global,
+    name: &[u8],
+    words: &[&str],
+    text: &[u8],
+    written: &[u8],
+    status: u8,
+) -> bool {
     let usual = b"\\catcode`\\{=1 \\catcode`\\}=2 \\catcode`\\#=6 \\catcode`\\^=7\n";
     let Ok(whole) = repeated(alloc, usual, 1, text) else {
         return false;
     };
-    let setting = Setting::of(b"job.tex", whole.as_slice());
+    let setting = Setting::of(name, whole.as_slice());
     let expected = Expected {
         text: written,
         status,

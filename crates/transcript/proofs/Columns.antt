@@ -2,7 +2,7 @@
 use Rattle.std.proofs.Common.{◌≡◌, ◌∙◌, ◌<◌, ◌-◌, ◌+◌, ap, sym, ℕ, List, [], ◌∷◌, ◌++◌, refl, arith, Bool, not, take, take_all, length, nat_eq, slice_index_or, get_or}
 use Rattle.std.specs.Prelude.{◌==◌}
 use Rattle.std.proofs.lemmas.List.{take_more}
-use Rattle.plain_state.specs.States.{in_line_after}
+use Rattle.plain_state.specs.Reports.{in_line_after}
 
 in_line_on : (b : Bool) (xs : List ℕ) (c : ℕ) → in_line_after b (xs ++ c ∷ []) ≡ not (c == 10)
 in_line_on b [] c = refl

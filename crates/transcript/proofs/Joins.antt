@@ -4,7 +4,7 @@ use Rattle.std.specs.Prelude.{Result, Ok, Err, OnOk, IfErr, IsErrAnd}
 use Rattle.std.proofs.lemmas.List.{append-nil, length-append, take-append-le}
 use Rattle.std.proofs.Math.Seq.{take-append-add}
 use Rattle.tex_defs.specs.Places.{File, Untold, NotHeld, Holds, grown, Rose}
-use Rattle.plain_state.specs.States.{in_line_after}
+use Rattle.plain_state.specs.Reports.{in_line_after}
 use Rattle.world_io.specs.Told.{SinkTold}
 use Rattle.world_io.specs.declared.traits.Fault.{Fault}
 use Rattle.transcript.specs.Taken.{Took, TookFront}

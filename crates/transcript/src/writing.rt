@@ -1,6 +1,6 @@
 // Texts written, and the column behind them.
 ghost use Rattle.std.specs.Prelude.{◌≡◌, ◌<◌, ◌++◌, [], length, OnOk, IfErr};
-ghost use Rattle.plain_state.specs.States.{in_line_after};
+ghost use Rattle.plain_state.specs.Reports.{in_line_after};
 ghost use Rattle.transcript.specs.Taken.{Took, TookFront};
 
 use crate::said::{Said, SaidParts};

@@ -17,15 +17,17 @@ returns-in_err-seen-clause-err g c = let n = c.in_err-seen in
 pub returns-in-Token-clause-rule : goal.returns-in-Token-clause-rule
 returns-in-Token-clause-rule g c = let e = c.args.engine.now in let e1 = c.next_token.new.self in let e2 = c.expand-stepped.new.engine in let x = c.in-Token.seen in let n = c.in_ok-seen in let s = g.S.Sink.told c.next_token.new.out in
     ok_to c.expand-stepped.result (λ stepped h sizes f book t.
-    let comes : Comes sizes c.args.want (state_of e book) e1 book (world_of f (g.S.Sink.told c.args.out.now) e) (world_of f s e1) (next_moves c.args.want e book) x 1 = next_as sizes c.args.want (state_of e book) e1 book _ _ _ n.field-0 (next.Token x) (sym c.in-Token.is) (n.ensures.rule sizes f book c.args.want c.enters_names.ensures t) in
-    noted_steps c.stops-engine.result sizes c.args.want (state_of e book) e2 book _ _ _ stepped
-    (steps_on sizes c.args.want (state_of e book) e1 e2 book _ _ _ _ x comes (c.next_token.ensures.readings.call ∙ c.requires.uncalled) stepped (h sizes f comes.book' comes.takes))) c.expand-stepped.ensures.rule
+    let w = world_of f (g.S.Sink.told c.args.out.now) e in let w1 = world_of f s e1 in let w2 = world_of f (g.S.Sink.told c.expand-stepped.new.out) e2 in let moves = next_moves c.args.want e book in
+    let comes : Comes sizes c.args.want (state_of e book) e1 book w w1 moves x 1 = next_as sizes c.args.want (state_of e book) e1 book w w1 moves n.field-0 (next.Token x) (sym c.in-Token.is) (n.ensures.rule sizes f book c.args.want c.enters_names.ensures t) in
+    noted_steps c.stops-engine.result sizes c.args.want (state_of e book) e2 book w w2 moves stepped
+    (steps_on sizes c.args.want (state_of e book) e1 e2 book w w1 w2 moves x comes (c.next_token.ensures.readings.call ∙ c.requires.uncalled) stepped (h sizes f comes.book' comes.takes))) c.expand-stepped.ensures.rule
 
 pub returns-in-Token-clause-err : goal.returns-in-Token-clause-err
 returns-in-Token-clause-err g c = let e = c.args.engine.now in let e1 = c.next_token.new.self in let e2 = c.expand-stepped.new.engine in let x = c.in-Token.seen in let n = c.in_ok-seen in let s = g.S.Sink.told c.next_token.new.out in
     err_to c.expand-stepped.result (λ b h sizes f book t.
-    let comes : Comes sizes c.args.want (state_of e book) e1 book (world_of f (g.S.Sink.told c.args.out.now) e) (world_of f s e1) (next_moves c.args.want e book) x 1 = next_as sizes c.args.want (state_of e book) e1 book _ _ _ n.field-0 (next.Token x) (sym c.in-Token.is) (n.ensures.rule sizes f book c.args.want c.enters_names.ensures t) in
-    noted_in c.stops-engine.result sizes (state_of e book) e2 _ _ _ b (comes_cuts sizes c.args.want (state_of e book) e1 e2 book _ _ _ _ x 1 comes b (h sizes f comes.book' comes.takes))) c.expand-stepped.ensures.err
+    let w = world_of f (g.S.Sink.told c.args.out.now) e in let w1 = world_of f s e1 in let w2 = world_of f (g.S.Sink.told c.expand-stepped.new.out) e2 in let moves = next_moves c.args.want e book in
+    let comes : Comes sizes c.args.want (state_of e book) e1 book w w1 moves x 1 = next_as sizes c.args.want (state_of e book) e1 book w w1 moves n.field-0 (next.Token x) (sym c.in-Token.is) (n.ensures.rule sizes f book c.args.want c.enters_names.ensures t) in
+    noted_in c.stops-engine.result sizes (state_of e book) e2 w w2 moves b (comes_cuts sizes c.args.want (state_of e book) e1 e2 book w w1 w2 moves x 1 comes b (h sizes f comes.book' comes.takes))) c.expand-stepped.ensures.err
 
 pub returns-in-Line-clause-rule : goal.returns-in-Line-clause-rule
 returns-in-Line-clause-rule g c = let e = c.args.engine.now in let n = c.in_ok-seen in

@@ -1,7 +1,7 @@
-use Rattle.std.proofs.Common.{◌∷◌, [], refl, ap, sym, subst, ◌∙◌, List}
-use Rattle.std.specs.Prelude.{Some, None}
+use Rattle.std.proofs.lemmas.Grind.{common_steps}
+use Rattle.std.proofs.Common.{arith, true, false, ◌∷◌, [], refl, ap, sym, subst, ◌∙◌, List}
 use Rattle.plain_tokens.specs.Pending.{settle}
-use Rattle.plain_state.specs.States.{Move}
+use Rattle.plain_machine.specs.States.{Move}
 use Rattle.plain_machine.proofs.Doing.{did_none}
 use Rattle.engine_state.specs.declared.broken.Broken.TheVariants as broken
 use Rattle.engine_state.specs.declared.call.CallAsk.TheVariants as asked
@@ -9,10 +9,11 @@ use Rattle.engine_state.specs.Book.{with_work}
 use Rattle.engine_state.specs.Calls.{brace_call}
 use Rattle.engine_state.specs.declared.engine.Engine.{Engine}
 use Rattle.engine_state.specs.Near.{CutsIn}
+use Rattle.engine_state.specs.Steps.{call_asks_more}
 use Rattle.engine_state.specs.Stands.{state_of, page_of}
 use Rattle.engine_state.specs.Rules.{world_of, DoesRule, Cuts, Went}
 use Rattle.gullet.proofs.CallBraces.{brace_moves}
-use Rattle.engine_state.proofs.CallEnding.{by_call, closed_went}
+use Rattle.gullet.proofs.CallEnding.{by_call, closed_went}
 use Rattle.gullet.proofs.CallPutting.{put_rule, put_cut}
 use Rattle.gullet.proofs.CallRules.{asks_this, away_is, call_wants}
 use Rattle.engine_state.proofs.Cutting.{cuts_by}
@@ -20,7 +21,7 @@ use Rattle.engine_state.proofs.Joining.{ok_to, err_to, err_both, same_err}
 use Rattle.engine_state.proofs.Nearing.{cuts_in, column_in}
 use Rattle.engine_state.proofs.Standing.{list_frames, same_engine}
 use Rattle.gullet.proofs.Ending.{no_ok, no_on}
-use Rattle.gullet.proofs.Weighing.{call_steps, steps_as_one, free_steps, closed_lighter}
+use Rattle.gullet.proofs.CallWeighing.{call_steps, steps_as_one, free_steps, closed_lighter}
 use Rattle.gullet.proofs.gathering.call_rule.Goals as goal
 
 pub returns-in-More-clause-rule : goal.returns-in-More-clause-rule
@@ -36,17 +37,17 @@ returns-in-More-clause-err g c = let e = c.args.engine.now in let n = c.take in
     (λ book r rs st k. h sizes f (with_work (r ∷ rs) book) (call_wants e c.args.call.name is, st))) n.ensures.err
 
 pub returns-in-ExtraBrace-clause-rule : goal.returns-in-ExtraBrace-clause-rule
-returns-in-ExtraBrace-clause-rule g c = let e = c.args.engine.now in let x = c.in-ExtraBrace.seen in let n = c.settle_brace in let name = c.args.call.name in
-    let is = asks_this e c.args.call (asked.ExtraBrace x) c.requires.call c.in-ExtraBrace.is in
-    ok_to n.result (λ ruled h sizes f. by_call sizes e (brace_call name x) (λ book plan. DoesRule sizes (state_of e book) n.new.engine book (world_of f (g.S.Sink.told c.args.out.now) e) (world_of f (g.S.Sink.told n.new.out) n.new.engine) plan ruled) is
-    (λ book r rs st k. subst (λ (ms : List Move). DoesRule sizes (state_of e (with_work (r ∷ rs) book)) n.new.engine (with_work (r ∷ rs) book) (world_of f (g.S.Sink.told c.args.out.now) e) (world_of f (g.S.Sink.told n.new.out) n.new.engine) ms ruled) (sym (brace_moves e book.number name x r (page_of e book) k))
+returns-in-ExtraBrace-clause-rule g c = let e = c.args.engine.now in let n = c.settle_brace in let name = c.args.call.name in
+    let is = asks_this e c.args.call asked.ExtraBrace c.requires.call c.in-ExtraBrace.is in
+    ok_to n.result (λ ruled h sizes f. by_call sizes e (brace_call name) (λ book plan. DoesRule sizes (state_of e book) n.new.engine book (world_of f (g.S.Sink.told c.args.out.now) e) (world_of f (g.S.Sink.told n.new.out) n.new.engine) plan ruled) is
+    (λ book r rs st k. subst (λ (ms : List Move). DoesRule sizes (state_of e (with_work (r ∷ rs) book)) n.new.engine (with_work (r ∷ rs) book) (world_of f (g.S.Sink.told c.args.out.now) e) (world_of f (g.S.Sink.told n.new.out) n.new.engine) ms ruled) (sym (brace_moves e book.number name r (page_of e book) k))
     (h sizes f book r rs is st))) n.ensures.rule
 
 pub returns-in-ExtraBrace-clause-err : goal.returns-in-ExtraBrace-clause-err
-returns-in-ExtraBrace-clause-err g c = let e = c.args.engine.now in let x = c.in-ExtraBrace.seen in let n = c.settle_brace in let name = c.args.call.name in
-    let is = asks_this e c.args.call (asked.ExtraBrace x) c.requires.call c.in-ExtraBrace.is in
-    err_both n.result (λ b h same sizes f book st. cuts_in sizes e n.new.engine book _ _ _ b (by_call sizes e (brace_call name x) (λ book plan. Cuts sizes (state_of e book) n.new.engine book (world_of f (g.S.Sink.told c.args.out.now) e) (world_of f (g.S.Sink.told n.new.out) n.new.engine) plan b) is
-    (λ book r rs st k. cuts_by sizes _ n.new.engine (with_work (r ∷ rs) book) _ _ _ _ b (brace_moves e book.number name x r (page_of e book) k) (h sizes f book r rs st)) book st) same st) n.ensures.err n.ensures.frames
+returns-in-ExtraBrace-clause-err g c = let e = c.args.engine.now in let n = c.settle_brace in let name = c.args.call.name in
+    let is = asks_this e c.args.call asked.ExtraBrace c.requires.call c.in-ExtraBrace.is in
+    err_both n.result (λ b h same sizes f book st. cuts_in sizes e n.new.engine book _ _ _ b (by_call sizes e (brace_call name) (λ book plan. Cuts sizes (state_of e book) n.new.engine book (world_of f (g.S.Sink.told c.args.out.now) e) (world_of f (g.S.Sink.told n.new.out) n.new.engine) plan b) is
+    (λ book r rs st k. cuts_by sizes _ n.new.engine (with_work (r ∷ rs) book) _ _ _ _ b (brace_moves e book.number name r (page_of e book) k) (h sizes f book r rs st)) book st) same st) n.ensures.err n.ensures.frames
 
 pub returns-in-Mismatch-clause-rule : goal.returns-in-Mismatch-clause-rule
 returns-in-Mismatch-clause-rule g c = let e = c.args.engine.now in let n = c.fail_call in
@@ -60,22 +61,22 @@ returns-in-Mismatch-clause-err g c = let e = c.args.engine.now in let n = c.fail
     err_both n.result (λ b h same sizes f book st. cuts_in sizes e n.new.engine book _ _ _ b (by_call sizes e _ (λ book plan. Cuts sizes (state_of e book) n.new.engine book (world_of f (g.S.Sink.told c.args.out.now) e) (world_of f (g.S.Sink.told n.new.out) n.new.engine) plan b) is
     (λ book r rs st k. h sizes f book r rs st) book st) same st) n.ensures.err n.ensures.frames
 
-pub returns-in-Some-clause-rule : goal.returns-in-Some-clause-rule
-returns-in-Some-clause-rule g c = let e = c.args.engine.now in let x = c.in-Some.seen in let n = c.run_away_call in let name = c.args.call.name in
-    let is = asks_this e c.args.call (asked.ParEnded (Some x)) c.requires.call (c.in-ParEnded.is ∙ ap asked.ParEnded c.in-Some.is) in
+pub returns-in-ParEnded-false-clause-rule : goal.returns-in-ParEnded-false-clause-rule
+returns-in-ParEnded-false-clause-rule g c = let e = c.args.engine.now in let n = c.run_away_call in let name = c.args.call.name in
+    let is = asks_this e c.args.call (asked.ParEnded false) c.requires.call (c.in-ParEnded-false.is ∙ ap asked.ParEnded (grind (arith, common_steps, c.in-ParEnded-false.field-0-test, c.in-ParEnded-false.field-0-is, c.in-ParEnded-false.is))) in
     ok_to n.result (λ ruled h sizes f. by_call sizes e _ (λ book plan. DoesRule sizes (state_of e book) n.new.engine book (world_of f (g.S.Sink.told c.args.out.now) e) (world_of f (g.S.Sink.told n.new.out) n.new.engine) plan ruled) is
-    (λ book r rs st k. subst (λ (ms : List Move). DoesRule sizes (state_of e (with_work (r ∷ rs) book)) n.new.engine (with_work (r ∷ rs) book) (world_of f (g.S.Sink.told c.args.out.now) e) (world_of f (g.S.Sink.told n.new.out) n.new.engine) ms ruled) (sym (away_is e book book.number name x r rs k))
+    (λ book r rs st k. subst (λ (ms : List Move). DoesRule sizes (state_of e (with_work (r ∷ rs) book)) n.new.engine (with_work (r ∷ rs) book) (world_of f (g.S.Sink.told c.args.out.now) e) (world_of f (g.S.Sink.told n.new.out) n.new.engine) ms ruled) (sym (away_is e book book.number name r rs k))
     (h sizes f book r rs _ is st))) n.ensures.rule
 
-pub returns-in-Some-clause-err : goal.returns-in-Some-clause-err
-returns-in-Some-clause-err g c = let e = c.args.engine.now in let x = c.in-Some.seen in let n = c.run_away_call in let name = c.args.call.name in
-    let is = asks_this e c.args.call (asked.ParEnded (Some x)) c.requires.call (c.in-ParEnded.is ∙ ap asked.ParEnded c.in-Some.is) in
+pub returns-in-ParEnded-false-clause-err : goal.returns-in-ParEnded-false-clause-err
+returns-in-ParEnded-false-clause-err g c = let e = c.args.engine.now in let n = c.run_away_call in let name = c.args.call.name in
+    let is = asks_this e c.args.call (asked.ParEnded false) c.requires.call (c.in-ParEnded-false.is ∙ ap asked.ParEnded (grind (arith, common_steps, c.in-ParEnded-false.field-0-test, c.in-ParEnded-false.field-0-is, c.in-ParEnded-false.is))) in
     err_both n.result (λ b h same sizes f book st. cuts_in sizes e n.new.engine book _ _ _ b (by_call sizes e _ (λ book plan. Cuts sizes (state_of e book) n.new.engine book (world_of f (g.S.Sink.told c.args.out.now) e) (world_of f (g.S.Sink.told n.new.out) n.new.engine) plan b) is
-    (λ book r rs st k. cuts_by sizes _ n.new.engine (with_work (r ∷ rs) book) _ _ _ _ b (away_is e book book.number name x r rs k) (h sizes f book r rs st)) book st) same st) n.ensures.err n.ensures.frames
+    (λ book r rs st k. cuts_by sizes _ n.new.engine (with_work (r ∷ rs) book) _ _ _ _ b (away_is e book book.number name r rs k) (h sizes f book r rs st)) book st) same st) n.ensures.err n.ensures.frames
 
-pub returns-in-None-clause-rule : goal.returns-in-None-clause-rule
-returns-in-None-clause-rule g c = let e = c.args.engine.now in let n = c.close_call in let told = g.S.Sink.told c.args.out.now in
-    let is = asks_this e c.args.call (asked.ParEnded None) c.requires.call (c.in-ParEnded.is ∙ ap asked.ParEnded c.in-None.is) in
+pub returns-in-ParEnded-true-clause-rule : goal.returns-in-ParEnded-true-clause-rule
+returns-in-ParEnded-true-clause-rule g c = let e = c.args.engine.now in let n = c.close_call in let told = g.S.Sink.told c.args.out.now in
+    let is = asks_this e c.args.call (asked.ParEnded true) c.requires.call (c.in-ParEnded-true.is ∙ ap asked.ParEnded (grind (arith, common_steps, c.in-ParEnded-true.field-0-test, c.in-ParEnded-true.field-0-is, c.in-ParEnded-true.is))) in
     λ sizes f. by_call sizes e _ (λ book plan. Went sizes (state_of e book) n.new.engine (world_of f told e) (world_of f told n.new.engine) plan 0) is
     (λ book r rs st k. closed_went sizes e n.new.engine book r rs _ is st n.ensures.after n.ensures.macros (state_of e (with_work (r ∷ rs) book)) f told (world_of f told e) [] (did_none sizes (state_of e (with_work (r ∷ rs) book)) (world_of f told e)) refl)
 
@@ -112,11 +113,11 @@ returns-in-More-clause-idle g c = c.take.ensures.idle
 
 pub returns-in-ExtraBrace-clause-light : goal.returns-in-ExtraBrace-clause-light
 returns-in-ExtraBrace-clause-light g c =
-    ok_to c.settle_brace.result (λ ruled h free. h free (asks_this c.args.engine.now c.args.call (asked.ExtraBrace c.in-ExtraBrace.seen) c.requires.call c.in-ExtraBrace.is)) c.settle_brace.ensures.light
+    ok_to c.settle_brace.result (λ ruled h free. h free (asks_this c.args.engine.now c.args.call asked.ExtraBrace c.requires.call c.in-ExtraBrace.is)) c.settle_brace.ensures.light
 
 pub returns-in-ExtraBrace-clause-step : goal.returns-in-ExtraBrace-clause-step
 returns-in-ExtraBrace-clause-step g c =
-    free_steps c.settle_brace.result _ (call_steps c.args.engine.now _ (asks_this c.args.engine.now c.args.call (asked.ExtraBrace c.in-ExtraBrace.seen) c.requires.call c.in-ExtraBrace.is)) c.settle_brace.ensures.step
+    free_steps c.settle_brace.result _ (call_steps c.args.engine.now _ (asks_this c.args.engine.now c.args.call asked.ExtraBrace c.requires.call c.in-ExtraBrace.is)) c.settle_brace.ensures.step
 
 pub returns-in-ExtraBrace-clause-halts : goal.returns-in-ExtraBrace-clause-halts
 returns-in-ExtraBrace-clause-halts g c = c.settle_brace.ensures.halts
@@ -126,7 +127,7 @@ returns-in-ExtraBrace-clause-idle g c = c.settle_brace.ensures.idle
 
 pub returns-in-Mismatch-clause-light : goal.returns-in-Mismatch-clause-light
 returns-in-Mismatch-clause-light g c =
-    ok_to c.fail_call.result (λ ruled h free. h free c.args.call c.requires.call) c.fail_call.ensures.light
+    ok_to c.fail_call.result (λ ruled h free. h free c.args.call c.requires.call (ap call_asks_more c.in-Mismatch.is)) c.fail_call.ensures.light
 
 pub returns-in-Mismatch-clause-step : goal.returns-in-Mismatch-clause-step
 returns-in-Mismatch-clause-step g c =
@@ -138,19 +139,19 @@ returns-in-Mismatch-clause-halts g c = c.fail_call.ensures.halts
 pub returns-in-Mismatch-clause-idle : goal.returns-in-Mismatch-clause-idle
 returns-in-Mismatch-clause-idle g c = c.fail_call.ensures.idle
 
-pub returns-in-Some-clause-light : goal.returns-in-Some-clause-light
-returns-in-Some-clause-light g c =
-    ok_to c.run_away_call.result (λ ruled h free. h free c.args.call c.requires.call) c.run_away_call.ensures.light
+pub returns-in-ParEnded-false-clause-light : goal.returns-in-ParEnded-false-clause-light
+returns-in-ParEnded-false-clause-light g c =
+    ok_to c.run_away_call.result (λ ruled h free. h free c.args.call c.requires.call (ap call_asks_more c.in-ParEnded-false.is)) c.run_away_call.ensures.light
 
-pub returns-in-Some-clause-step : goal.returns-in-Some-clause-step
-returns-in-Some-clause-step g c =
-    free_steps c.run_away_call.result _ (call_steps c.args.engine.now _ (asks_this c.args.engine.now c.args.call (asked.ParEnded (Some c.in-Some.seen)) c.requires.call (c.in-ParEnded.is ∙ ap asked.ParEnded c.in-Some.is))) c.run_away_call.ensures.step
+pub returns-in-ParEnded-false-clause-step : goal.returns-in-ParEnded-false-clause-step
+returns-in-ParEnded-false-clause-step g c =
+    free_steps c.run_away_call.result _ (call_steps c.args.engine.now _ (asks_this c.args.engine.now c.args.call (asked.ParEnded false) c.requires.call (c.in-ParEnded-false.is ∙ ap asked.ParEnded (grind (arith, common_steps, c.in-ParEnded-false.field-0-test, c.in-ParEnded-false.field-0-is, c.in-ParEnded-false.is))))) c.run_away_call.ensures.step
 
-pub returns-in-Some-clause-halts : goal.returns-in-Some-clause-halts
-returns-in-Some-clause-halts g c = c.run_away_call.ensures.halts
+pub returns-in-ParEnded-false-clause-halts : goal.returns-in-ParEnded-false-clause-halts
+returns-in-ParEnded-false-clause-halts g c = c.run_away_call.ensures.halts
 
-pub returns-in-Some-clause-idle : goal.returns-in-Some-clause-idle
-returns-in-Some-clause-idle g c = c.run_away_call.ensures.idle
+pub returns-in-ParEnded-false-clause-idle : goal.returns-in-ParEnded-false-clause-idle
+returns-in-ParEnded-false-clause-idle g c = c.run_away_call.ensures.idle
 
 pub returns-in_err-put_call-in-Gathered-clause-light : goal.returns-in_err-put_call-in-Gathered-clause-light
 returns-in_err-put_call-in-Gathered-clause-light g c = no_ok _ _ c.from_residual.result c.from_residual.ensures.1
@@ -169,7 +170,7 @@ returns-in_err-put_call-in-Gathered-clause-idle g c = no_on _ _ c.from_residual.
 
 pub returns-in_ok-put_call-in-Gathered-clause-light : goal.returns-in_ok-put_call-in-Gathered-clause-light
 returns-in_ok-put_call-in-Gathered-clause-light g c free =
-    c.in_ok-put_call-in-Gathered.ensures.light c.args.call c.requires.call
+    c.in_ok-put_call-in-Gathered.ensures.light c.args.call c.requires.call (ap call_asks_more c.in-Gathered.is)
 
 pub returns-in_ok-put_call-in-Gathered-clause-step : goal.returns-in_ok-put_call-in-Gathered-clause-step
 returns-in_ok-put_call-in-Gathered-clause-step g c =
@@ -184,20 +185,20 @@ returns-in_ok-put_call-in-Gathered-clause-halts g c halted = absurd halted
 pub returns-in_ok-put_call-in-Gathered-clause-idle : goal.returns-in_ok-put_call-in-Gathered-clause-idle
 returns-in_ok-put_call-in-Gathered-clause-idle g c = c.put_call.ensures.idle ∙ c.requires.idle
 
-pub returns-in-None-clause-light : goal.returns-in-None-clause-light
-returns-in-None-clause-light g c free =
-    closed_lighter c.args.engine.now c.args.engine.now c.close_call.new.engine _ c.args.call (same_engine c.args.engine.now c.args.engine.now refl) refl c.close_call.ensures.after c.requires.call
+pub returns-in-ParEnded-true-clause-light : goal.returns-in-ParEnded-true-clause-light
+returns-in-ParEnded-true-clause-light g c free =
+    closed_lighter c.args.engine.now c.args.engine.now c.close_call.new.engine _ c.args.call (same_engine c.args.engine.now c.args.engine.now refl) refl refl c.close_call.ensures.after c.requires.call (ap call_asks_more c.in-ParEnded-true.is)
 
-pub returns-in-None-clause-step : goal.returns-in-None-clause-step
-returns-in-None-clause-step g c =
-    call_steps c.args.engine.now _ (asks_this c.args.engine.now c.args.call (asked.ParEnded None) c.requires.call (c.in-ParEnded.is ∙ ap asked.ParEnded c.in-None.is))
+pub returns-in-ParEnded-true-clause-step : goal.returns-in-ParEnded-true-clause-step
+returns-in-ParEnded-true-clause-step g c =
+    call_steps c.args.engine.now _ (asks_this c.args.engine.now c.args.call (asked.ParEnded true) c.requires.call (c.in-ParEnded-true.is ∙ ap asked.ParEnded (grind (arith, common_steps, c.in-ParEnded-true.field-0-test, c.in-ParEnded-true.field-0-is, c.in-ParEnded-true.is))))
 
-pub returns-in-None-clause-err : goal.returns-in-None-clause-err
-returns-in-None-clause-err g c = tt
+pub returns-in-ParEnded-true-clause-err : goal.returns-in-ParEnded-true-clause-err
+returns-in-ParEnded-true-clause-err g c = tt
 
-pub returns-in-None-clause-halts : goal.returns-in-None-clause-halts
-returns-in-None-clause-halts g c halted = absurd halted
+pub returns-in-ParEnded-true-clause-halts : goal.returns-in-ParEnded-true-clause-halts
+returns-in-ParEnded-true-clause-halts g c halted = absurd halted
 
-pub returns-in-None-clause-idle : goal.returns-in-None-clause-idle
-returns-in-None-clause-idle g c =
+pub returns-in-ParEnded-true-clause-idle : goal.returns-in-ParEnded-true-clause-idle
+returns-in-ParEnded-true-clause-idle g c =
     ap (λ (y : Engine). y.input.making) c.close_call.ensures.after ∙ c.requires.idle

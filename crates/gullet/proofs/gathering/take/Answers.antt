@@ -1,7 +1,7 @@
 use Rattle.std.proofs.Common.{List, refl, sym, ◌∙◌}
 use Rattle.std.specs.Prelude.{Some}
 use Rattle.tex_syntax.specs.declared.words.Want.TheVariants.{Raw}
-use Rattle.plain_state.specs.States.{Move}
+use Rattle.plain_machine.specs.States.{Move}
 use Rattle.engine_state.specs.declared.broken.Broken.TheVariants as broken
 use Rattle.engine_state.specs.declared.outcome.Next.TheVariants as next
 use Rattle.engine_state.specs.Book.{Book}
@@ -11,7 +11,7 @@ use Rattle.engine_state.specs.Rules.{world_of, next_moves, Comes, Went}
 use Rattle.engine_state.proofs.Coming.{next_as, comes_went, comes_cuts}
 use Rattle.engine_state.proofs.Joining.{same_err, column_went}
 use Rattle.engine_state.proofs.Nearing.{column_in}
-use Rattle.gullet.proofs.Handing.{feeds_call}
+use Rattle.gullet.proofs.StepHanding.{feeds_call}
 use Rattle.gullet.proofs.gathering.take.Goals as goal
 
 pub returns-in_err-seen-clause-err : goal.returns-in_err-seen-clause-err

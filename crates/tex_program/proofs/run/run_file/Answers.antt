@@ -6,7 +6,7 @@ use Rattle.tex_program.proofs.Meanings.{named, name_refused, some_job, means_say
 use Rattle.tex_program.proofs.run.run_file.Goals as goal
 
 pub returns-in-Err-clause-means : goal.returns-in-Err-clause-means
-returns-in-Err-clause-means g c = λ sizes quiet begins.
+returns-in-Err-clause-means g c = λ sizes quiet roomy begins.
     let file = c.args.file.now in let n = c.args.steps in let told = c.tell_broken.result in
     let f = g.F.Files.told c.args.files.now in
     let a = g.S.Sink.told c.args.out.now in
@@ -18,7 +18,7 @@ returns-in-Err-clause-means g c = λ sizes quiet begins.
     means_says sizes quiet file (f.file file) n j.job w (world f (g.S.Sink.told c.tell_broken.new.out) told.in_line) told.status j.is_job (c.tell_broken.ensures.says sizes f first first n w cut)
 
 pub returns-in-Err-clause-write_fault : goal.returns-in-Err-clause-write_fault
-returns-in-Err-clause-write_fault g c = λ sizes quiet begins.
+returns-in-Err-clause-write_fault g c = λ sizes quiet roomy begins.
     let file = c.args.file.now in let n = c.args.steps in let told = c.tell_broken.result in
     let a = g.S.Sink.told c.args.out.now in
     let w = world bare a false in
@@ -28,17 +28,17 @@ returns-in-Err-clause-write_fault g c = λ sizes quiet begins.
     fault_rose bare refl a (g.S.Sink.told c.tell_broken.new.out) false told.in_line sizes first n told.status (c.tell_broken.ensures.says sizes bare first first n w cut)
 
 pub returns-clause-means : goal.returns-clause-means
-returns-clause-means g c = λ sizes quiet begins.
+returns-clause-means g c = λ sizes quiet roomy begins.
     let f = g.F.Files.told c.args.files.now in
     let a = g.S.Sink.told c.args.out.now in
-    c.run_named.ensures.means sizes quiet
+    c.run_named.ensures.means sizes quiet roomy
     (named sizes c.args.engine.now c.keep_name.new.self quiet c.args.file.now c.job_name.result.now c.job_name.ensures begins f a
     (c.in_default.ensures.stands sizes first_book begins.stands) (c.in_default.ensures.did sizes (world f a false) first_book begins.stands.sound.sized))
 
 pub returns-clause-write_fault : goal.returns-clause-write_fault
-returns-clause-write_fault g c = λ sizes quiet begins.
+returns-clause-write_fault g c = λ sizes quiet roomy begins.
     let f = g.F.Files.told c.args.files.now in
     let a = g.S.Sink.told c.args.out.now in
-    c.run_named.ensures.write_fault sizes quiet
+    c.run_named.ensures.write_fault sizes quiet roomy
     (named sizes c.args.engine.now c.keep_name.new.self quiet c.args.file.now c.job_name.result.now c.job_name.ensures begins f a
     (c.in_default.ensures.stands sizes first_book begins.stands) (c.in_default.ensures.did sizes (world f a false) first_book begins.stands.sound.sized))

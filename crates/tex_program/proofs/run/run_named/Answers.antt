@@ -8,7 +8,7 @@ use Rattle.tex_program.proofs.Meanings.{Leaves, job_leaves, job_alike, missing_j
 use Rattle.tex_program.proofs.run.run_named.Goals as goal
 
 pub returns-in-Ok-Some-clause-means : goal.returns-in-Ok-Some-clause-means
-returns-in-Ok-Some-clause-means g c = λ sizes quiet named.
+returns-in-Ok-Some-clause-means g c = λ sizes quiet roomy named.
     let i = c.in-Ok-Some in let name = c.args.file.now in let n = c.args.steps in
     let f = g.F.Files.told c.args.files.now in
     let f1 = g.F.Files.told c.open_in.new.self in
@@ -25,15 +25,15 @@ returns-in-Ok-Some-clause-means g c = λ sizes quiet named.
     let cause = i.ensures.cause in
     let alike : ReadAlike f1 f2 f f3 = job_alike i.id.number name f f1 f2 f3 r r' reads.got c.new-reader.ensures opens reads.came c.close_in.ensures.closed c.close_in.ensures.counts cause.later i.ensures.writes cause.later_wants in
     let all : List ℕ = reads.got ++ lv.left in
-    means_says sizes quiet name (f.file name) n (Some all) (world f s false) (world f3 s' told.in_line) told.status lv.is_job (reads.holds lv.left lv.may sizes f f3 quiet name alike named)
+    means_says sizes quiet name (f.file name) n (Some all) (world f s false) (world f3 s' told.in_line) told.status lv.is_job (reads.holds lv.left lv.may sizes f f3 quiet name alike roomy named)
 
 pub returns-in-Ok-Some-clause-write_fault : goal.returns-in-Ok-Some-clause-write_fault
-returns-in-Ok-Some-clause-write_fault g c = λ sizes quiet named.
+returns-in-Ok-Some-clause-write_fault g c = λ sizes quiet roomy named.
     let told = c.run_engine-told.result in
-    fault_rose bare_read refl _ _ false told.in_line sizes _ c.args.steps told.status (c.run_engine-told.ensures.says.holds [] (λ h. refl) sizes bare bare_read quiet c.args.file.now (bare_alike _ _) named)
+    fault_rose bare_read refl _ _ false told.in_line sizes _ c.args.steps told.status (c.run_engine-told.ensures.says.holds [] (λ h. refl) sizes bare bare_read quiet c.args.file.now (bare_alike _ _) roomy named)
 
 pub returns-in-Ok-None-clause-means : goal.returns-in-Ok-None-clause-means
-returns-in-Ok-None-clause-means g c = λ sizes quiet named.
+returns-in-Ok-None-clause-means g c = λ sizes quiet roomy named.
     let i = c.in-Ok-None in let name = c.args.file.now in let n = c.args.steps in
     let f = g.F.Files.told c.args.files.now in
     let f' = g.F.Files.told c.open_in.new.self in
@@ -48,20 +48,20 @@ returns-in-Ok-None-clause-means g c = λ sizes quiet named.
     (c.refuse_engine.ensures.says sizes f quiet n (dropped_engine sizes c.args.engine.now (record c.args.engine.now { input = c.drop_file.new.self }) quiet name (ap (λ (x : _). record c.args.engine.now { input = x }) c.drop_file.ensures) c.requires.is_unread named)))
 
 pub returns-in-Ok-None-clause-write_fault : goal.returns-in-Ok-None-clause-write_fault
-returns-in-Ok-None-clause-write_fault g c = λ sizes quiet named.
+returns-in-Ok-None-clause-write_fault g c = λ sizes quiet roomy named.
     let told = c.refuse_engine.result in
     fault_rose bare refl _ _ false told.in_line sizes _ c.args.steps told.status (c.refuse_engine.ensures.says sizes bare quiet c.args.steps (dropped_engine sizes c.args.engine.now (record c.args.engine.now { input = c.drop_file.new.self }) quiet c.args.file.now (ap (λ (x : _). record c.args.engine.now { input = x }) c.drop_file.ensures) c.requires.is_unread named))
 
 pub returns-in-Err-Failed-clause-means : goal.returns-in-Err-Failed-clause-means
-returns-in-Err-Failed-clause-means g c = λ sizes quiet named.
+returns-in-Err-Failed-clause-means g c = λ sizes quiet roomy named.
     let i = c.in-Err-Failed.ensures in let t = c.tell in let name = c.args.file.now in
     let f = g.F.Files.told c.args.files.now in
     let f' = g.F.Files.told c.open_in.new.self in
     let s = g.S.Sink.told c.args.out.now in
-    means_unopened sizes quiet name (f.file name) c.args.steps (world f s false) (world f' s false) (world f' (g.S.Sink.told t.new.out) t.result) (i.cause.failed (ap Err c.in-Err-Failed.field-0-is)) (read_quiet f f' s false i.err.file i.cause.later i.writes i.cause.later_wants) (t.ensures.line f')
+    means_unopened sizes quiet name (f.file name) c.args.steps c.args.engine.now named (world f s false) (world f' s false) (world f' (g.S.Sink.told t.new.out) t.result) (i.cause.failed (ap Err c.in-Err-Failed.field-0-is)) (read_quiet f f' s false i.err.file i.cause.later i.writes i.cause.later_wants) (t.ensures.line f')
 
 pub returns-in-Err-NoMemory-clause-means : goal.returns-in-Err-NoMemory-clause-means
-returns-in-Err-NoMemory-clause-means g c = λ sizes quiet named.
+returns-in-Err-NoMemory-clause-means g c = λ sizes quiet roomy named.
     let i = c.in-Err-NoMemory.ensures in let t = c.tell-in-Err-NoMemory in let name = c.args.file.now in
     let f = g.F.Files.told c.args.files.now in
     let f' = g.F.Files.told c.open_in.new.self in

@@ -1,36 +1,22 @@
-use Rattle.std.proofs.Common.{◌++◌, sym, ap, ◌∙◌, refl, subst, rules}
+use Rattle.std.proofs.Common.{[], length, ◌∙◌}
 use Rattle.std.specs.Prelude.{Some, None}
-use Rattle.engine_state.specs.Stands.{waiting_list}
-use Rattle.plain_state.specs.Readings.{own_lists}
-use Rattle.frames.specs.declared.frame.Frame.{Frame}
-use Rattle.frames.specs.Sees.{kind_of}
-use Rattle.frames.specs.Resumes.{InnerWaits}
-use Rattle.engine_state.specs.declared.engine.Engine.{Engine}
-use Rattle.engine_state.proofs.Feeding.{begins_on}
-use Rattle.engine_state.proofs.Counting.{begun_refusal, none_of}
-use Rattle.engine_state.proofs.Joining.{same_err}
-use Rattle.engine_state.proofs.Storing.{same_lists}
+use Rattle.plain_readings.specs.Readings.{lists, opened}
+use Rattle.reading_frames.specs.Sees.{kind_of}
+use Rattle.reading_frames.specs.Stands.{opened_lists}
+use Rattle.engine_state.proofs.ReadingsOpened.{begun_refusal, none_of, opened_words, opens, words_of}
 use Rattle.engine_state.proofs.engine.Engine.begin.Goals as goal
 
-pub returns-clause-same : goal.returns-clause-same
-returns-clause-same c = let e = c.args.self.now in
-    same_lists e _ c.begin_list.new.self.input (own_lists (kind_of c.args.kind) ++ e.input.builds) (search rules) (ap (λ (x : Engine). x.input) c.in_ok-begin_list.ensures.ok) c.begin_list.ensures.macros (ap (λ (x : Engine). x.input) c.wait.ensures)
-
-pub returns-clause-stands : goal.returns-clause-stands
-returns-clause-stands c = λ sizes book h may orderly.
-    let f = c.new.ensures in
-    let a = c.first_ask-self.ensures in
-    let list = c.in_ok-begin_list.ensures.ok in
-    begins_on sizes c.args.self.now _ c.args.waits c.new.result _ book (returns-clause-same c) may h
-    (ap (λ (e : Engine). e.outer.items) c.wait.ensures ∙ ap (λ (e : Engine). e.outer.items ++ waiting_list c.args.waits) list) refl
-    (ap (λ (e : Engine). e.input.builds) c.wait.ensures ∙ ap (λ (e : Engine). e.input.builds) list)
-    (record { answer = a.answer; none = a.none; untold = a.untold; waits = subst (λ (x : Frame). InnerWaits c.first_ask-self.result x) (sym f.is) a.waits; stands = f.stands; list = f.list; kind = f.kind; builds = f.builds; shallow = f.shallow }) orderly
-
-pub returns-in_err-begin_list-clause-refused : goal.returns-in_err-begin_list-clause-refused
-returns-in_err-begin_list-clause-refused c = let e = c.args.self.now in let i = c.in_err-begin_list in
-    same_err c.from_residual.result i.field-0.0 _ c.from_residual.ensures.1
-    (λ sizes book counts. begun_refusal sizes e book (kind_of c.args.kind) (Some i.field-0.0) counts (c.depth_refusal.ensures.room (none_of c.depth_refusal.result c.in_default.not-Some)) i.ensures.refused)
+pub returns-in-Err-begin_list-clause-refused : goal.returns-in-Err-begin_list-clause-refused
+returns-in-Err-begin_list-clause-refused c = λ sizes book counts. let e = c.args.self.now in let o = c.args.opening in
+    begun_refusal sizes e book (lists (kind_of o) []) (length (opened_lists o [])) (Some c.in-Err-begin_list.full) counts (c.depth_refusal.ensures.room (none_of c.depth_refusal.result c.in_default.not-Some))
+    (words_of (lists (kind_of o) []) (opened_lists o []) (c.in_default-begin.ensures.lists []) ∙ opened_words o) c.in-Err-begin_list.ensures.refused
 
 pub returns-clause-fits : goal.returns-clause-fits
-returns-clause-fits c = let e = c.args.self.now in
-    λ sizes book counts. begun_refusal sizes e book (kind_of c.args.kind) None counts (c.depth_refusal.ensures.room (none_of c.depth_refusal.result c.in_default.not-Some)) c.in_ok-begin_list.ensures.fits
+returns-clause-fits c = λ sizes book counts. let e = c.args.self.now in let o = c.args.opening in
+    begun_refusal sizes e book (lists (kind_of o) []) (length (opened_lists o [])) None counts (c.depth_refusal.ensures.room (none_of c.depth_refusal.result c.in_default.not-Some))
+    (words_of (lists (kind_of o) []) (opened_lists o []) (c.in_default-begin.ensures.lists []) ∙ opened_words o) c.in_default-begin_list.ensures.fits
+
+pub returns-clause-stands : goal.returns-clause-stands
+returns-clause-stands c = λ sizes book st. let e = c.args.self.now in let o = c.args.opening in let b = c.in_default-begin.ensures in
+    opens sizes e c.begin_list.new.self book (opened (kind_of o) book.work) c.begin.new.self (opened_lists o e.input.builds) c.in_default-begin_list.ensures.ok b.size c.begin_list.ensures.macros
+    (b.begins e.input.builds book.work st.readings.frames) (b.shallow e.input.builds st.readings.shallow) st

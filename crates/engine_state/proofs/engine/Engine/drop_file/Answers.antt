@@ -3,7 +3,7 @@ use Rattle.std.specs.Prelude.{Some, None}
 use Rattle.tex_defs.specs.declared.Sizes.{Sizes}
 use Rattle.plain_tokens.specs.Pending.{Pending}
 use Rattle.plain_tokens.specs.Puts.{Put}
-use Rattle.plain_state.specs.States.{State}
+use Rattle.plain_machine.specs.States.{State}
 use Rattle.plain_machine.specs.Numbers.{Tied, pending_of}
 use Rattle.plain_machine.specs.Plan.{job_due}
 use Rattle.input_state.specs.Stored.{Stored, unread}
@@ -22,18 +22,18 @@ begins_dropped e sizes quiet b =
     record {
       stands = record {
         sound = record {
-          sized = record { few_reports = sound.sized.few_reports; small = sound.sized.small; own = sound.sized.own; outer = sound.sized.outer; input = sound.sized.input; names = sound.sized.names; hash = sound.sized.hash; located = sound.sized.located };
+          sized = record { few_reports = sound.sized.few_reports; small = sound.sized.small; own = sound.sized.own; readings = sound.sized.readings; input = sound.sized.input; names = sound.sized.names; hash = sound.sized.hash; located = sound.sized.located };
           tied = subst (λ (ps : List Put). Tied first_book.number first_book.macros e.input.meanings ps e.input.lists) (ap (λ (p : Pending). p.puts) b.unread) sound.tied;
           bodies = sound.bodies;
         };
         idle = b.stands.idle;
-        readings = b.stands.readings;
-        orderly = b.stands.orderly;
+        readings = record { frames = b.stands.readings.frames; shallow = b.stands.readings.shallow };
         uncalled = record { none = b.stands.uncalled.none; input = b.stands.uncalled.input };
       };
       state = λ file. ap (λ (s : State). record s { pending = pending_of first_book.number (unread None); due = job_due file None }) (b.state file);
       column = b.column;
       reports = b.reports;
+      flawed = b.flawed;
       names = b.names;
       running = b.running;
       unread = refl;

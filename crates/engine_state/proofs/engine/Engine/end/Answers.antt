@@ -1,21 +1,38 @@
-use Rattle.std.proofs.Common.{◌≡◌, ap, [], ◌∷◌, ◌++◌, refl, rules}
-use Rattle.frames.specs.declared.outer.Beneath.TheVariants as beneath
-use Rattle.engine_state.specs.declared.engine.Engine.{Engine}
-use Rattle.engine_state.specs.Stands.{kept_lists, other_lists}
-use Rattle.engine_state.proofs.Feeding.{ends_on, ends_last}
-use Rattle.engine_state.proofs.Storing.{same_lists}
+use Rattle.std.proofs.Common.{◌≡◌, refl, sym, ap, drop, ◌∙◌}
+use Rattle.reading_frames.specs.Stack.{Stack}
+use Rattle.engine_state.proofs.FramesHeld.{keeps_all}
+use Rattle.engine_state.proofs.ReadingEnds.{ends, left_behind, left_true, left_false}
 use Rattle.engine_state.proofs.engine.Engine.end.Goals as goal
+use Rattle.engine_state.proofs.engine.Engine.end.Goals.{else-listed-via-then-listed+else-not-kept, else-listed-via-else-listed}
 
-pub returns-in-None-clause-stands : goal.returns-in-None-clause-stands
-returns-in-None-clause-stands c = λ sizes book r rs h. let e = c.args.self.now in
-    let same = same_lists e _ c.drop_list.new.self.input (other_lists e.input.builds) (search rules) (ap (λ (x : Engine). x.input) c.drop_list.ensures.after) c.drop_list.ensures.macros refl in
-    ends_last sizes e _ c.args.value r rs book same h (search rules) (search rules) refl (ap (λ (x : Engine). x.input.builds) c.drop_list.ensures.after)
+pub returns-then-not-kept-clause-stands : goal.returns-then-not-kept-clause-stands
+returns-then-not-kept-clause-stands c = λ sizes book r rs back st asks. let e = c.args.self.now in let n = c.end-listed.ensures in let v = c.feed_value-kept.ensures in
+    (ends sizes e c.drop_top.new.self book r rs c.args.value c.end-listed.result c.feed_value-kept.result c.is_value_empty-is_empty.result c.end-listed.new.self.frames c.feed_value-kept.new.self (drop 1 e.input.builds)
+    c.drop_top.ensures.after (v.size ∙ ap (λ (s : Stack). s.size) n.rest) c.drop_top.ensures.macros (sym (left_true c.end-listed.result c.feed_value-kept.result e.input.builds c.if-listed.true c.if-not-kept.true))
+    n.list v.kept c.is_value_empty-is_empty.ensures n.stands n.shallow v.stands v.shallow v.beneath st).0
 
-pub returns-in-Some-Waits-clause-stands : goal.returns-in-Some-Waits-clause-stands
-returns-in-Some-Waits-clause-stands c = λ sizes book r rs h. let e = c.args.self.now in
-    let g = c.feed_value-self.ensures in
-    let items : e.outer.items ≡ c.keep_value.new.self.outer.items ++ beneath.Waits c.in-Some-Waits.waiting ∷ [] = search rules in
-    let lists : c.keep_value.new.self.input.builds ≡ kept_lists c.args.value e.input.builds = search rules in
-    let same = same_lists e _ c.keep_value.new.self.input (kept_lists c.args.value e.input.builds) (search rules) (ap (λ (x : Engine). x.input) c.keep_value.ensures.after) c.keep_value.ensures.macros refl in
-    ends_on sizes e _ c.in-Some-Waits.waiting c.feed_value-self.new.self c.args.value r rs book same h items refl lists
-    (record { answer = λ now same. g.answer e.input.builds now same; goes_on = λ o fed. g.goes_on o e.input.builds fed; kind = g.kind; none = g.none; waits = g.waits; bare = λ o. g.bare o e.input.builds })
+pub returns-then-not-kept-clause-state : goal.returns-then-not-kept-clause-state
+returns-then-not-kept-clause-state c = λ sizes book r rs back st asks. let e = c.args.self.now in let n = c.end-listed.ensures in let v = c.feed_value-kept.ensures in
+    (ends sizes e c.drop_top.new.self book r rs c.args.value c.end-listed.result c.feed_value-kept.result c.is_value_empty-is_empty.result c.end-listed.new.self.frames c.feed_value-kept.new.self (drop 1 e.input.builds)
+    c.drop_top.ensures.after (v.size ∙ ap (λ (s : Stack). s.size) n.rest) c.drop_top.ensures.macros (sym (left_true c.end-listed.result c.feed_value-kept.result e.input.builds c.if-listed.true c.if-not-kept.true))
+    n.list v.kept c.is_value_empty-is_empty.ensures n.stands n.shallow v.stands v.shallow v.beneath st).1
+
+pub returns-else-listed-clause-stands : goal.returns-else-listed-clause-stands
+returns-else-listed-clause-stands c = λ sizes book r rs back st asks. let e = c.args.self.now in let n = c.end-listed.ensures in let v = c.feed_value-kept.ensures in
+    let stays : left_behind c.end-listed.result c.feed_value-kept.result e.input.builds ≡ e.input.builds = elim c.else-listed.branch [
+      | else-listed-via-then-listed+else-not-kept w ↦ left_false c.end-listed.result c.feed_value-kept.result e.input.builds (λ l k. cc (w.if-not-kept.false, k))
+      | else-listed-via-else-listed w ↦ left_false c.end-listed.result c.feed_value-kept.result e.input.builds (λ l k. cc (w.if-listed.false, l))
+    ] in
+    (ends sizes e (record e { readings = c.feed_value-kept.new.self }) book r rs c.args.value c.end-listed.result c.feed_value-kept.result c.is_value_empty-is_empty.result c.end-listed.new.self.frames c.feed_value-kept.new.self e.input.builds
+    refl (v.size ∙ ap (λ (s : Stack). s.size) n.rest) (keeps_all e.input) (sym stays)
+    n.list v.kept c.is_value_empty-is_empty.ensures n.stands n.shallow v.stands v.shallow v.beneath st).0
+
+pub returns-else-listed-clause-state : goal.returns-else-listed-clause-state
+returns-else-listed-clause-state c = λ sizes book r rs back st asks. let e = c.args.self.now in let n = c.end-listed.ensures in let v = c.feed_value-kept.ensures in
+    let stays : left_behind c.end-listed.result c.feed_value-kept.result e.input.builds ≡ e.input.builds = elim c.else-listed.branch [
+      | else-listed-via-then-listed+else-not-kept w ↦ left_false c.end-listed.result c.feed_value-kept.result e.input.builds (λ l k. cc (w.if-not-kept.false, k))
+      | else-listed-via-else-listed w ↦ left_false c.end-listed.result c.feed_value-kept.result e.input.builds (λ l k. cc (w.if-listed.false, l))
+    ] in
+    (ends sizes e (record e { readings = c.feed_value-kept.new.self }) book r rs c.args.value c.end-listed.result c.feed_value-kept.result c.is_value_empty-is_empty.result c.end-listed.new.self.frames c.feed_value-kept.new.self e.input.builds
+    refl (v.size ∙ ap (λ (s : Stack). s.size) n.rest) (keeps_all e.input) (sym stays)
+    n.list v.kept c.is_value_empty-is_empty.ensures n.stands n.shallow v.stands v.shallow v.beneath st).1

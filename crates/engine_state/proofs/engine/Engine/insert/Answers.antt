@@ -1,5 +1,5 @@
 use Rattle.std.proofs.Common.{List, ◌++◌, ap, subst, sym}
-use Rattle.plain_state.specs.States.{Move}
+use Rattle.plain_machine.specs.States.{Move}
 use Rattle.plain_machine.specs.Does.{Did}
 use Rattle.engine_state.specs.Stands.{state_of}
 use Rattle.engine_state.proofs.Cutting.{cuts_by}

@@ -1,32 +1,25 @@
-use Rattle.std.proofs.Common.{refl}
-use Rattle.engine_state.proofs.Answering.{on_both}
-use Rattle.engine_state.proofs.Growing.{note_stands, note_did, note_cuts}
-use Rattle.engine_state.proofs.Joining.{on_ok, err_to}
+use Rattle.std.proofs.Common.{◌∷◌, sym, subst}
+use Rattle.rows.specs.Readings.{Told}
+use Rattle.reading_frames.specs.Stack.{Stack}
+use Rattle.plain_machine.specs.Plan.{noting}
+use Rattle.engine_state.specs.Book.{with_work}
+use Rattle.engine_state.specs.Near.{CutsIn}
+use Rattle.engine_state.specs.Stands.{state_of}
+use Rattle.engine_state.specs.declared.broken.Broken.TheVariants as broken
+use Rattle.engine_state.proofs.ReadingsFed.{feeds_stands, feeds_did, feeds_cut, noting_moves, moves_did, moves_in}
 use Rattle.engine_state.proofs.engine.Engine.note.Goals as goal
 
 pub returns-clause-stands : goal.returns-clause-stands
-returns-clause-stands c = let e = c.args.self.now in let g = c.feed_told-answer.ensures in let a = c.accept.ensures in let e' = c.accept.new.self in
-    on_ok c.accept.result (λ is sizes book h.
-    note_stands sizes e c.in-Some.frame c.feed_told-answer.new.self c.feed_told-answer.result book c.in-Some.is (record {
-      goes = λ lists builds shallow owned. record { answer = g.answer lists builds; goes_on = λ o fed. g.goes_on o lists fed builds; list = λ o fed. g.list o lists fed builds; kind = g.kind; builds = g.builds lists builds; owned = owned; shallow = g.shallow lists builds shallow; waits = g.waits };
-      none = g.none;
-      untold = g.untold;
-    }) h e' is a.macros) a.ok
+returns-clause-stands c = λ sizes book st. let e = c.args.self.now in let t = c.told-grown.ensures in
+    feeds_stands sizes e c.told-grown.new.self c.told-grown.result Told t.stands t.shallow t.beneath t.listed t.size c.take.new.self book c.in_default.ensures.ok c.take.ensures.macros st
 
 pub returns-clause-did : goal.returns-clause-did
-returns-clause-did c = let e = c.args.self.now in let g = c.feed_told-answer.ensures in let a = c.accept.ensures in let e' = c.accept.new.self in
-    on_both c.accept.result (λ is room sizes w book r rs h.
-    note_did sizes e c.in-Some.frame c.feed_told-answer.new.self c.feed_told-answer.result _ c.in-Some.is (record {
-      goes = λ lists builds shallow owned. record { answer = g.answer lists builds; goes_on = λ o fed. g.goes_on o lists fed builds; list = λ o fed. g.list o lists fed builds; kind = g.kind; builds = g.builds lists builds; owned = owned; shallow = g.shallow lists builds shallow; waits = g.waits };
-      none = g.none;
-      untold = g.untold;
-    }) h e' is a.macros w r rs refl room) a.ok a.fits
+returns-clause-did c = λ sizes w book r rs st. let e = c.args.self.now in let t = c.told-grown.ensures in
+    moves_did sizes _ _ w _ _ (noting_moves e.readings.frames e.input.builds r rs st.readings.frames)
+    (feeds_did sizes e c.told-grown.new.self c.told-grown.result Told t.stands t.shallow t.beneath t.listed t.size book r rs st c.take.new.self w c.in_default.ensures.ok c.in_default.ensures.fits)
 
-pub returns-clause-refused : goal.returns-clause-refused
-returns-clause-refused c = let e = c.args.self.now in let g = c.feed_told-answer.ensures in let a = c.accept.ensures in let e' = c.accept.new.self in
-    err_to c.accept.result (λ full cut sizes w book r rs h.
-    note_cuts sizes e c.in-Some.frame c.feed_told-answer.new.self c.feed_told-answer.result _ c.in-Some.is (record {
-      goes = λ lists builds shallow owned. record { answer = g.answer lists builds; goes_on = λ o fed. g.goes_on o lists fed builds; list = λ o fed. g.list o lists fed builds; kind = g.kind; builds = g.builds lists builds; owned = owned; shallow = g.shallow lists builds shallow; waits = g.waits };
-      none = g.none;
-      untold = g.untold;
-    }) h e' w full r rs refl a.macros cut) a.err
+pub returns-in-Err-clause-refused : goal.returns-in-Err-clause-refused
+returns-in-Err-clause-refused c = λ sizes w book r rs st. let e = c.args.self.now in let t = c.told-grown.ensures in
+    subst (λ (x : Stack). CutsIn sizes (state_of e (with_work (r ∷ rs) book)) (record c.take.new.self { readings = x }) w w (noting r) (broken.Full c.in-Err.full)) (sym c.restore.ensures)
+    (moves_in sizes _ _ w _ _ _ (noting_moves e.readings.frames e.input.builds r rs st.readings.frames)
+    (feeds_cut sizes e c.told-grown.new.self c.told-grown.result Told t.stands t.shallow t.beneath t.listed t.size book r rs st c.frame_at_risk-kept.result c.take.new.self c.in-Err.full w c.frame_at_risk-kept.ensures t.rest t.count c.take.ensures.macros c.in-Err.ensures.err))

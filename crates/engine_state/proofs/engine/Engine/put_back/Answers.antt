@@ -1,18 +1,17 @@
 use Rattle.std.proofs.Common.{◌++◌, ap, sym, subst, List}
-use Rattle.plain_state.specs.States.{Move}
+use Rattle.plain_machine.specs.States.{Move}
 use Rattle.plain_machine.specs.Does.{Did}
 use Rattle.engine_state.specs.Stands.{state_of}
 use Rattle.engine_state.proofs.Cutting.{cuts_by}
 use Rattle.engine_state.proofs.Joining.{same_err}
-use Rattle.engine_state.proofs.Putting.{given_is}
+use Rattle.engine_state.proofs.Putting.{given_true}
 use Rattle.engine_state.proofs.engine.Engine.put_back.Goals as goal
 
 pub returns-in_err-put_one-clause-err : goal.returns-in_err-put_one-clause-err
 returns-in_err-put_one-clause-err c = let e = c.args.self.now in let i = c.in_err-put_one in
     same_err c.from_residual.result i.field-0.0 _ c.from_residual.ensures.1
-    (λ sizes w book fed more counts idle last. cuts_by sizes (state_of e book) c.put_one.new.self book w w _ _ i.field-0.0 (ap (λ (ms : List Move). ms ++ more) (given_is c.args.back c.in-Some.seen fed c.in-Some.is last)) (i.ensures.err sizes w book more counts idle))
+    (λ sizes w book more counts idle. cuts_by sizes (state_of e book) c.put_one.new.self book w w _ _ i.field-0.0 (ap (λ (ms : List Move). ms ++ more) (given_true c.args.back e.last c.if-back.true)) (i.ensures.err sizes w book more counts idle))
 
 pub returns-in_ok-put_one-clause-did : goal.returns-in_ok-put_one-clause-did
 returns-in_ok-put_one-clause-did c = let e = c.args.self.now in
-    λ sizes w book fed counts idle last. subst (λ (ms : List Move). Did sizes (state_of e book) (state_of c.put_one.new.self book) w w ms)
-    (sym (given_is c.args.back c.in-Some.seen fed c.in-Some.is last)) (c.in_ok-put_one.ensures.did sizes w book counts idle)
+    λ sizes w book counts idle. subst (λ (ms : List Move). Did sizes (state_of e book) (state_of c.put_one.new.self book) w w ms) (sym (given_true c.args.back e.last c.if-back.true)) (c.in_ok-put_one.ensures.did sizes w book counts idle)

@@ -1,5 +1,5 @@
 use Rattle.std.proofs.Common.{◌∷◌, [], ap, ◌∙◌}
-use Rattle.plain_state.specs.States.{ListGrown, Put}
+use Rattle.plain_machine.specs.States.{ListGrown, Put}
 use Rattle.input_state.specs.Stored.{Stored}
 use Rattle.engine_state.specs.declared.broken.Broken.TheVariants as broken
 use Rattle.engine_state.proofs.Joining.{same_err}

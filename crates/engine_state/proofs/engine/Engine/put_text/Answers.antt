@@ -1,54 +1,36 @@
-use Rattle.std.proofs.Common.{Some, ◌∷◌, ◌++◌, [], map, ap, ◌∙◌}
-use Rattle.plain_state.specs.States.{ListGrown, Put}
-use Rattle.plain_tokens.specs.Tokens.{made_text, space_token}
-use Rattle.input_state.specs.Stored.{Stored}
+use Rattle.std.proofs.Common.{map, ◌++◌, ◌∙◌}
+use Rattle.plain_tokens.specs.Tokens.{made_text}
+use Rattle.plain_machine.specs.States.{ListGrown}
+use Rattle.plain_machine.specs.Plan.{put_made}
 use Rattle.engine_state.specs.declared.broken.Broken.TheVariants as broken
-use Rattle.engine_state.proofs.Joining.{same_err}
-use Rattle.engine_state.proofs.Putting.{settled_still, begin_cuts, begun_store}
-use Rattle.engine_state.proofs.TextPutting.{text_cuts, unput_cuts, text_put, text_store, unput_text_store, put_text_store}
+use Rattle.engine_state.proofs.Joining.{same_err, on_ok, err_to}
+use Rattle.engine_state.proofs.TextPutting.{stopped_cuts, grown_settled, grown_front, whole_did, whole_cuts}
 use Rattle.engine_state.proofs.engine.Engine.put_text.Goals as goal
 
-pub returns-in_err-make_list-clause-err : goal.returns-in_err-make_list-clause-err
-returns-in_err-make_list-clause-err c = let e = c.args.self.now in let ts = made_text c.args.text.now in let i = c.in_err-make_list in
-    same_err c.from_residual.result (broken.Full i.field-0.0) _ c.from_residual.ensures.1
-    (λ sizes w book more counts idle. begin_cuts sizes e space_token book w counts c.settle.new.self c.make_list.new.self c.make_list.new.self c.settle.ensures.after c.settle.ensures.macros c.make_list.new.self i.field-0.0 ((map ListGrown ts ++ Put ts ∷ []) ++ more) i.ensures.err i.ensures.refused)
-
-pub returns-in_err-make_list-clause-store : goal.returns-in_err-make_list-clause-store
-returns-in_err-make_list-clause-store c = let i = c.args.self.now.input in
-    begun_store i c.settle.new.self c.make_list.new.self c.make_list.new.self c.settle.ensures.after c.settle.ensures.macros c.make_list.new.self c.in_err-make_list.ensures.err
+pub returns-in_err-begin_text-clause-err : goal.returns-in_err-begin_text-clause-err
+returns-in_err-begin_text-clause-err c = let ts = made_text c.args.text.now in let i = c.in_err-begin_text in
+    same_err c.from_residual.result i.field-0.0 _ c.from_residual.ensures.1
+    (λ sizes w book more counts idle. i.ensures.err sizes w book ((map ListGrown ts ++ put_made ts) ++ more) counts.sound)
 
 pub returns-in_err-grow_text-clause-err : goal.returns-in_err-grow_text-clause-err
-returns-in_err-grow_text-clause-err c = let e = c.args.self.now in let ts = made_text c.args.text.now in let i = c.in_err-grow_text in
+returns-in_err-grow_text-clause-err c = let e = c.args.self.now in let b = c.in_ok-begin_text.ensures in let i = c.in_err-grow_text in
     same_err c.from_residual-in_err-grow_text.result (broken.Full i.field-0.0) _ c.from_residual-in_err-grow_text.ensures.1
-    (λ sizes w book more counts idle. text_cuts sizes e w book counts.sound ts c.settle.new.self c.make_list.new.self c.settle.ensures.after c.settle.ensures.macros c.in_ok-make_list.ensures.refused c.in_ok-make_list.ensures.ok c.make_list.ensures.macros
-    c.grow_text.new.input i.field-0.0 more (i.ensures.full sizes e w book (Put ts ∷ more)))
+    (λ sizes w book more counts idle. stopped_cuts e c.begin_text.new.self c.grow_text.new.input (made_text c.args.text.now) b.begun c.begin_text.ensures.front c.begin_text.ensures.settled i.field-0.0 i.ensures.err sizes w book more counts.sound (b.did sizes w book counts.sound))
 
-pub returns-in_err-grow_text-clause-store : goal.returns-in_err-grow_text-clause-store
-returns-in_err-grow_text-clause-store c = let i = c.args.self.now.input in
-    text_store i c.settle.new.self c.make_list.new.self c.grow_text.new.input c.grow_text.new.input.making c.settle.ensures.after c.settle.ensures.macros c.in_ok-make_list.ensures.ok c.make_list.ensures.macros c.in_err-grow_text.ensures.err c.grow_text.ensures.macros
-
-pub put_made-requires-clause-settled : goal.put_made-requires-clause-settled
-put_made-requires-clause-settled c =
-    settled_still c.args.self.now.input.pending c.grow_text.new.input.pending
-    (ap (λ (i : Stored). i.pending) c.in_ok-grow_text.ensures.ok ∙ ap (λ (i : Stored). i.pending) c.in_ok-make_list.ensures.ok ∙ ap (λ (i : Stored). i.pending) c.settle.ensures.after)
-
-pub returns-in_err-put_made-clause-err : goal.returns-in_err-put_made-clause-err
-returns-in_err-put_made-clause-err c = let e = c.args.self.now in let ts = made_text c.args.text.now in let i = c.in_err-put_made in
-    same_err c.from_residual-in_err-put_made.result (broken.Full i.field-0.0) _ c.from_residual-in_err-put_made.ensures.1
-    (λ sizes w book more counts idle. unput_cuts sizes e w book counts.sound ts c.settle.new.self c.make_list.new.self c.settle.ensures.after c.settle.ensures.macros c.in_ok-make_list.ensures.refused c.in_ok-make_list.ensures.ok c.make_list.ensures.macros
-    c.grow_text.new.input c.in_ok-grow_text.ensures.ok c.grow_text.ensures.macros (c.in_ok-grow_text.ensures.did sizes e w book) c.put_made.new.self i.field-0.0 more i.ensures.err i.ensures.refused)
-
-pub returns-in_err-put_made-clause-store : goal.returns-in_err-put_made-clause-store
-returns-in_err-put_made-clause-store c = let i = c.args.self.now.input in
-    unput_text_store i c.settle.new.self c.make_list.new.self c.grow_text.new.input (Some (made_text c.args.text.now)) c.settle.ensures.after c.settle.ensures.macros c.in_ok-make_list.ensures.ok c.make_list.ensures.macros c.in_ok-grow_text.ensures.ok c.grow_text.ensures.macros
-    c.put_made.new.self c.in_err-put_made.ensures.err c.put_made.ensures.macros
+pub end_text-requires-clause-settled : goal.end_text-requires-clause-settled
+end_text-requires-clause-settled c = let b = c.in_ok-begin_text.ensures in
+    grown_settled c.args.self.now c.begin_text.new.self c.grow_text.new.input (made_text c.args.text.now) b.begun c.begin_text.ensures.front c.begin_text.ensures.settled c.in_ok-grow_text.ensures.ok
 
 pub returns-clause-did : goal.returns-clause-did
-returns-clause-did c = let e = c.args.self.now in let ts = made_text c.args.text.now in let i = c.in_ok-put_made in
-    λ sizes w book counts idle. text_put sizes e w book counts.sound ts c.settle.new.self c.make_list.new.self c.settle.ensures.after c.settle.ensures.macros c.in_ok-make_list.ensures.refused c.in_ok-make_list.ensures.ok c.make_list.ensures.macros
-    c.grow_text.new.input c.in_ok-grow_text.ensures.ok c.grow_text.ensures.macros (c.in_ok-grow_text.ensures.did sizes e w book) c.put_made.new.self i.ensures.ok i.ensures.refused
+returns-clause-did c = let b = c.in_ok-begin_text.ensures in
+    on_ok c.end_text.result (λ h sizes w book counts idle. whole_did c.args.self.now c.begin_text.new.self c.grow_text.new.input (made_text c.args.text.now) b.begun c.begin_text.ensures.front c.begin_text.ensures.settled c.in_ok-grow_text.ensures.ok
+    sizes w book counts.sound (b.did sizes w book counts.sound) c.end_text.new.self (h sizes w book)) c.end_text.ensures.did
 
-pub returns-clause-store : goal.returns-clause-store
-returns-clause-store c = let i = c.args.self.now.input in
-    put_text_store i c.settle.new.self c.make_list.new.self c.grow_text.new.input (Some (made_text c.args.text.now)) c.settle.ensures.after c.settle.ensures.macros c.in_ok-make_list.ensures.ok c.make_list.ensures.macros c.in_ok-grow_text.ensures.ok c.grow_text.ensures.macros
-    c.put_made.new.self c.in_ok-put_made.ensures.ok c.put_made.ensures.macros
+pub returns-clause-err : goal.returns-clause-err
+returns-clause-err c = let b = c.in_ok-begin_text.ensures in
+    err_to c.end_text.result (λ x h sizes w book more counts idle. whole_cuts c.args.self.now c.begin_text.new.self c.grow_text.new.input (made_text c.args.text.now) b.begun c.begin_text.ensures.front c.begin_text.ensures.settled c.in_ok-grow_text.ensures.ok
+    sizes w book counts.sound (b.did sizes w book counts.sound) c.end_text.new.self x more (h sizes w book more)) c.end_text.ensures.err
+
+pub returns-clause-page : goal.returns-clause-page
+returns-clause-page c = let b = c.in_ok-begin_text.ensures in
+    λ book. c.end_text.ensures.front.page book ∙ (grown_front c.args.self.now c.begin_text.new.self c.grow_text.new.input (made_text c.args.text.now) b.begun c.begin_text.ensures.front c.begin_text.ensures.settled c.in_ok-grow_text.ensures.ok).page book

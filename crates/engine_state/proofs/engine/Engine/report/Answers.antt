@@ -1,43 +1,35 @@
-use Rattle.std.proofs.Common.{arith, ◌≡◌, ℕ, ◌+◌, ◌<◌, ◌≤◌, ◌∷◌, refl, true, false}
-use Rattle.std.proofs.lemmas.Bool.Decides.{nat_tests}
-use Rattle.std.specs.Prelude.{nat_lt}
-use Rattle.plain_state.specs.States.{Reported}
-use Rattle.plain_state.specs.Reports.{plain_style}
-use Rattle.plain_machine.specs.Plan.{behind_report, reports_room}
-use Rattle.engine_state.specs.Stands.{page_of, state_of}
-use Rattle.engine_state.proofs.Joining.{same_err}
-use Rattle.engine_state.proofs.Reporting.{reports_on, hundredth, hundred_cuts, counted_last}
-use Rattle.engine_state.proofs.Storing.{counted_sized}
+use Rattle.std.proofs.Common.{◌∙◌}
+use Rattle.engine_state.specs.Rules.{counted}
+use Rattle.engine_state.specs.Stands.{page_of}
+use Rattle.engine_state.proofs.Joining.{same_err, ok_to, err_to}
+use Rattle.engine_state.proofs.Reporting.{text_moves, text_did, text_halts, text_cut}
+use Rattle.engine_state.proofs.Standing.{only_sized, only_few, only_frames, only_input, frames_join}
 use Rattle.engine_state.proofs.engine.Engine.report.Goals as goal
-
-is_below : (a b : ℕ) → a < b → nat_lt a b ≡ true
-is_below a b h = grind (arith, nat_tests)
-
-not_below : (a b : ℕ) → b ≤ a → nat_lt a b ≡ false
-not_below a b h = grind (arith, nat_tests)
 
 pub returns-in_err-write_report-clause-err : goal.returns-in_err-write_report-clause-err
 returns-in_err-write_report-clause-err g c = let i = c.in_err-write_report in
-    same_err c.from_residual.result i.field-0.0 _ c.from_residual.ensures.1 (λ sizes f book rest few. i.ensures.err sizes f book (Reported ∷ behind_report (plain_style c.args.self.now.names.names) c.args.self.now.reports rest))
+    same_err c.from_residual.result i.field-0.0 _ c.from_residual.ensures.1 (λ sizes f book rest few. i.ensures.err sizes f book (counted (page_of c.args.self.now book) rest))
 
-pub returns-then-self-lt-REPORTS_ROOM-clause-on : goal.returns-then-self-lt-REPORTS_ROOM-clause-on
-returns-then-self-lt-REPORTS_ROOM-clause-on g c = λ yes sizes f book rest. let e = c.args.self.now in
-    let room : nat_lt e.reports reports_room ≡ true = is_below e.reports reports_room (omega (arith, c.write_report.ensures.only.reports, c.if-self-lt-REPORTS_ROOM.true)) in
-    reports_on sizes (page_of e book) c.args.report rest _ _ _ _ (c.in_ok-write_report.ensures.did sizes f book) _ room refl
-
-pub returns-in_err-write_text-clause-err : goal.returns-in_err-write_text-clause-err
-returns-in_err-write_text-clause-err g c = let e = c.args.self.now in let i = c.in_err-write_text in
-    let full : nat_lt e.reports reports_room ≡ false = not_below e.reports reports_room (omega (arith, c.write_report.ensures.only.reports, c.if-self-lt-REPORTS_ROOM.false)) in
-    same_err c.from_residual-in_err-write_text.result i.field-0.0 _ c.from_residual-in_err-write_text.ensures.1
-    (λ sizes f book rest few. let last : c.write_report.new.self.reports + 1 ≡ 100 = omega (arith, few, c.write_report.ensures.only.reports, c.if-self-lt-REPORTS_ROOM.false) in
-    hundred_cuts sizes (page_of e book) c.args.report rest _ _ _ _ (c.in_ok-write_report.ensures.did sizes f book) _ full _ _ book i.field-0.0 (counted_last c.write_report.new.self book 100 last) (λ more. i.ensures.err sizes f book more))
+pub returns-clause-on : goal.returns-clause-on
+returns-clause-on g c = let e = c.args.self.now in let e1 = c.write_report.new.self in let n = c.count_report in
+    ok_to n.result (λ on h yes sizes f book rest. let k = h yes sizes f book rest in let first = c.in_ok-write_report.ensures.did sizes f book in record {
+      moves = text_moves sizes e e1 n.new.self book c.write_report.ensures.only _ _ _ _ rest first k;
+      did = text_did sizes e e1 n.new.self book c.write_report.ensures.only _ _ _ _ rest first k;
+    }) n.ensures.on
 
 pub returns-clause-last : goal.returns-clause-last
-returns-clause-last g c = λ no sizes f book rest. let e = c.args.self.now in
-    let full : nat_lt e.reports reports_room ≡ false = not_below e.reports reports_room (omega (arith, c.write_report.ensures.only.reports, c.if-self-lt-REPORTS_ROOM.false)) in
-    hundredth sizes (page_of e book) c.args.report rest _ _ _ _ (c.in_ok-write_report.ensures.did sizes f book) _ full (state_of (record c.write_report.new.self { reports = 100 }) book) c.write_text.new.self book refl (c.in_ok-write_text.ensures.did sizes f book)
-    (λ few. counted_last c.write_report.new.self book 100 (omega (arith, few, c.write_report.ensures.only.reports, c.if-self-lt-REPORTS_ROOM.false)))
+returns-clause-last g c = let e = c.args.self.now in let e1 = c.write_report.new.self in let n = c.count_report in
+    ok_to n.result (λ on h no sizes f book rest. text_halts sizes e e1 n.new.self book c.write_report.ensures.only _ _ _ _ rest (c.in_ok-write_report.ensures.did sizes f book) _ (h no sizes f book rest)) n.ensures.last
 
-pub returns-then-self-lt-REPORTS_ROOM-clause-sized : goal.returns-then-self-lt-REPORTS_ROOM-clause-sized
-returns-then-self-lt-REPORTS_ROOM-clause-sized g c = λ yes sizes sized. let e1 = c.write_report.new.self in
-    counted_sized sizes c.args.self.now e1 (e1.reports + 1) c.write_report.ensures.only (omega (arith, c.if-self-lt-REPORTS_ROOM.true)) sized
+pub returns-clause-err : goal.returns-clause-err
+returns-clause-err g c = let e = c.args.self.now in let e1 = c.write_report.new.self in let n = c.count_report in
+    err_to n.result (λ b h sizes f book rest few. text_cut sizes e e1 n.new.self book c.write_report.ensures.only _ _ _ _ rest (c.in_ok-write_report.ensures.did sizes f book) b (h sizes f book rest (only_few e e1 c.write_report.ensures.only few))) n.ensures.err
+
+pub returns-clause-sized : goal.returns-clause-sized
+returns-clause-sized g c = let n = c.count_report in ok_to n.result (λ on h yes sizes sized. h yes sizes (only_sized sizes c.args.self.now c.write_report.new.self c.write_report.ensures.only sized)) n.ensures.sized
+
+pub returns-clause-frames : goal.returns-clause-frames
+returns-clause-frames g c = frames_join c.args.self.now c.write_report.new.self c.count_report.new.self (only_frames c.args.self.now c.write_report.new.self c.write_report.ensures.only) c.count_report.ensures.frames
+
+pub returns-clause-input : goal.returns-clause-input
+returns-clause-input g c = c.count_report.ensures.input ∙ only_input c.args.self.now c.write_report.new.self c.write_report.ensures.only

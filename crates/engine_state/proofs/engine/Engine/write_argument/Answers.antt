@@ -3,7 +3,7 @@ use Rattle.std.specs.Prelude.{None}
 use Rattle.std.specs.Option.{option_map}
 use Rattle.tex_syntax.specs.declared.words.Scanned.TheVariants as scanned
 use Rattle.tex_defs.specs.Places.{Transcript}
-use Rattle.plain_state.specs.States.{Written}
+use Rattle.plain_machine.specs.States.{Written}
 use Rattle.plain_state.specs.Reports.{runaway_bytes}
 use Rattle.plain_machine.specs.Does.{Did}
 use Rattle.input_state.specs.CallFeeds.{call_work}
@@ -11,8 +11,7 @@ use Rattle.plain_tokens.specs.Printed.{initial_style}
 use Rattle.token_show.specs.Views.{style_of}
 use Rattle.engine_state.specs.Stands.{state_of}
 use Rattle.engine_state.specs.Rules.{world_of, Cuts}
-use Rattle.engine_state.proofs.Reporting.{style_is, shown_is, took_out, err_out}
-use Rattle.engine_state.proofs.CallAway.{work_is, empty_is}
+use Rattle.engine_state.proofs.Reporting.{style_is, shown_is, took_out, err_out, work_is, empty_is}
 use Rattle.engine_state.proofs.Joining.{err_to, on_ok}
 use Rattle.engine_state.proofs.engine.Engine.write_argument.Goals as goal
 

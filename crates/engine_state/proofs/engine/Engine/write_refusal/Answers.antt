@@ -1,4 +1,5 @@
-use Rattle.std.proofs.Common.{arith, refl}
+use Rattle.std.proofs.Common.{arith, refl, ap}
+use Rattle.engine_state.specs.declared.engine.Engine.{Engine}
 use Rattle.engine_state.specs.Stands.{state_of}
 use Rattle.engine_state.proofs.Joining.{same_err}
 use Rattle.engine_state.proofs.Reporting.{missing_cuts, job_halts, job_cuts, counted_last}
@@ -13,9 +14,9 @@ pub returns-in_err-write_text-clause-err : goal.returns-in_err-write_text-clause
 returns-in_err-write_text-clause-err g c = let e = c.args.self.now in let e1 = c.write_missing.new.self in let i = c.in_err-write_text in
     same_err c.from_residual-in_err-write_text.result i.field-0.0 _ c.from_residual-in_err-write_text.ensures.1
     (λ sizes f book column names none. job_cuts sizes c.args.file.now e.names.names e.in_line names column (state_of e book) (state_of e1 book) _ _ _ (c.in_ok-write_missing.ensures.did sizes f book) _ _ book i.field-0.0
-    (counted_last e1 book _ (omega (arith, none, c.write_missing.ensures.only.reports))) (i.ensures.err sizes f book))
+    (counted_last e1 book _ (omega (arith, none, ap (λ (x : Engine). x.reports) c.write_missing.ensures.only.same))) (i.ensures.err sizes f book))
 
 pub returns-clause-run : goal.returns-clause-run
 returns-clause-run g c = λ sizes f book column names. let e = c.args.self.now in let e1 = c.write_missing.new.self in
     job_halts sizes c.args.file.now e.names.names e.in_line names column (state_of e book) (state_of e1 book) _ _ _ (c.in_ok-write_missing.ensures.did sizes f book) _ c.write_text.new.self book refl (c.in_ok-write_text.ensures.did sizes f book)
-    (λ few. counted_last e1 book _ (omega (arith, few, c.write_missing.ensures.only.reports)))
+    (λ few. counted_last e1 book _ (omega (arith, few, ap (λ (x : Engine). x.reports) c.write_missing.ensures.only.same)))

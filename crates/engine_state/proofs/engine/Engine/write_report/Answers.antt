@@ -1,4 +1,4 @@
-use Rattle.std.proofs.Common.{◌≡◌, List, ℕ, ap, ◌∙◌}
+use Rattle.std.proofs.Common.{◌≡◌, ℕ, ap, ◌∙◌}
 use Rattle.plain_state.specs.Reports.{plain_style, report_bytes}
 use Rattle.plain_tokens.specs.Printed.{Style, initial_style}
 use Rattle.token_show.specs.Views.{style_of}

@@ -9,7 +9,7 @@ use Rattle.input_state.proofs.state.Input.take_line.Goals as goal
 pub invariant_of-self : goal.invariant_of-self
 invariant_of-self c =
     let i = c.self.inside in
-    lists_tied i.held c.line_room.new.held i.buffer.items i.file i.aside c.in_err-line_room.ensures.after c.self.invariant
+    lists_tied i.held c.line_room.new.held i.buffer.items i.file c.in_err-line_room.ensures.after c.self.invariant
 
 pub slice_bounds-put_line-end : goal.slice_bounds-put_line-end
 slice_bounds-put_line-end c =
@@ -35,13 +35,13 @@ invariant_of-self-2 c =
     let cut = c.first_line-cut.ensures in
     let room = below_length c.first_line-cut.result.whole c.len.result i.buffer.len (length i.buffer.items) c.if-cut-len.false c.len.ensures i.buffer.ok.0 in
     let buffer = with_items (with_items i.buffer c.drop_front.new.bytes) c.put_line.new.buffer in
-    taken_tied i.held c.line_room.new.held c.drop_front.new.self c.open_line.new.held c.line_start.result c.first_line-cut.result.kept c.in_ok-line_room.ensures.after c.drop_front.ensures.after c.open_line.ensures.after c.line_start.ensures i.buffer.items buffer.items i.file c.go_on.new.self i.aside c.first_line-cut.result.used c.go_on.ensures c.first_line-cut.result.whole c.self.invariant (sym buffer.ok.0 ∙ i.buffer.ok.0) cut.kept_within room
+    taken_tied i.held c.line_room.new.held c.drop_front.new.self c.open_line.new.held c.line_start.result c.first_line-cut.result.kept c.in_ok-line_room.ensures.after c.drop_front.ensures.after c.open_line.ensures.after c.line_start.ensures i.buffer.items buffer.items i.file c.go_on.new.self c.first_line-cut.result.used c.go_on.ensures c.first_line-cut.result.whole c.self.invariant (sym buffer.ok.0 ∙ i.buffer.ok.0) cut.kept_within room
 
 pub returns-clause-others : goal.returns-clause-others
 returns-clause-others c =
     let i = c.self.inside in
     let buffer = with_items (with_items i.buffer c.drop_front.new.bytes) c.put_line.new.buffer in
-    taken_others i.held c.line_room.new.held c.drop_front.new.self c.open_line.new.held c.line_start.result c.first_line-cut.result.kept c.in_ok-line_room.ensures.after c.drop_front.ensures.after c.open_line.ensures.after c.line_start.ensures i.buffer.items buffer.items i.file c.go_on.new.self i.aside c.first_line-cut.result.used c.go_on.ensures c.args.self.now c.self.view_is
+    taken_others i.held c.line_room.new.held c.drop_front.new.self c.open_line.new.held c.line_start.result c.first_line-cut.result.kept c.in_ok-line_room.ensures.after c.drop_front.ensures.after c.open_line.ensures.after c.line_start.ensures i.buffer.items buffer.items i.file c.go_on.new.self c.first_line-cut.result.used c.go_on.ensures c.args.self.now c.self.view_is
 
 pub returns-clause-ok : goal.returns-clause-ok
 returns-clause-ok c =
@@ -49,5 +49,5 @@ returns-clause-ok c =
     let cut = c.first_line-cut.ensures in
     let behind : drop c.first_line-cut.result.used i.file.rest ≡ behind_feed i.file.rest = subst (λ (bytes : List ℕ). drop c.first_line-cut.result.used bytes ≡ behind_feed bytes) c.rest.ensures cut.used in
     let buffer = with_items (with_items i.buffer c.drop_front.new.bytes) c.put_line.new.buffer in
-    taken_pending i.held c.line_room.new.held c.drop_front.new.self c.open_line.new.held c.line_start.result c.first_line-cut.result.kept c.in_ok-line_room.ensures.after c.drop_front.ensures.after c.open_line.ensures.after c.line_start.ensures i.buffer.items buffer.items i.file c.go_on.new.self i.aside c.first_line-cut.result.used c.go_on.ensures c.args.self.now c.self.view_is
+    taken_pending i.held c.line_room.new.held c.drop_front.new.self c.open_line.new.held c.line_start.result c.first_line-cut.result.kept c.in_ok-line_room.ensures.after c.drop_front.ensures.after c.open_line.ensures.after c.line_start.ensures i.buffer.items buffer.items i.file c.go_on.new.self c.first_line-cut.result.used c.go_on.ensures c.args.self.now c.self.view_is
     (line_copied i.file.rest c.rest.result.now c.rest-2.result.now c.put_line.new.buffer _ i.buffer.len c.first_line-cut.result.kept c.first_line-cut.result.whole c.rest.ensures c.rest-2.ensures cut.kept_within cut.whole_within (below_length c.first_line-cut.result.whole c.len.result i.buffer.len i.buffer.len c.if-cut-len.false c.len.ensures refl) cut.kept c.put_line.ensures) behind

@@ -1,0 +1,31 @@
+-- The primitives that mean something.
+use Rattle.std.proofs.Common.{◌≡◌, ℕ, List, [], ◌∷◌, ◌++◌, map, refl, ap, Bool, false}
+use Rattle.std.specs.Prelude.{replicate, Option}
+use Rattle.std.specs.List.{range_with_len}
+use Rattle.tex_defs.specs.declared.Meaning.{Meaning}
+use Rattle.tex_defs.specs.declared.Meaning.TheVariants as means
+use Rattle.plain_tokens.specs.Meanings.{first_meaning, first_meanings, is_listed, fixed_locations, primitive_count}
+use Rattle.plain_machine.specs.Plan.{is_known}
+use Rattle.engine_state.specs.declared.engine.TheConstants.{KNOWN}
+
+-- those of the list are those that the machine knows
+listed : map (is_listed KNOWN.now) (range_with_len 1 primitive_count) ≡ map is_known (range_with_len 1 primitive_count)
+listed = refl
+
+-- where two tests agree, so do the meanings
+meanings_by : (p q : ℕ → Bool) (ks : List ℕ) → map p ks ≡ map q ks → map (first_meaning p) ks ≡ map (first_meaning q) ks
+meanings_by p q [] h = refl
+meanings_by p q (k ∷ ks) h = meanings_on (p k) (q k) (ap first_of h) (meanings_by p q ks (ap rest_of h)) where
+  first_of : List Bool → Bool
+  first_of [] = false
+  first_of (b ∷ bs) = b
+
+  rest_of : List Bool → List Bool
+  rest_of [] = []
+  rest_of (b ∷ bs) = bs
+
+  meanings_on : (b c : Bool) → b ≡ c → map (first_meaning p) ks ≡ map (first_meaning q) ks → (first_meaning (λ n. b) k ∷ map (first_meaning p) ks) ≡ (first_meaning (λ n. c) k ∷ map (first_meaning q) ks)
+  meanings_on b c e h = cc
+
+pub first_known : first_meanings (is_listed KNOWN.now) ≡ first_meanings is_known
+first_known = ap (λ (cells : List (Meaning (Option ℕ))). replicate fixed_locations means.Undefined ++ cells) (meanings_by (is_listed KNOWN.now) is_known (range_with_len 1 primitive_count) listed)

@@ -1,6 +1,0 @@
-pub mod Sees
-pub mod Stack
-pub mod Texts
-pub mod Definitions
-pub mod Resumes
-pub mod Weights

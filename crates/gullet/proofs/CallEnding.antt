@@ -1,0 +1,115 @@
+-- A call that ends.
+use Rattle.std.proofs.Common.{◌≡◌, List, [], ◌∷◌, ◌++◌, length, drop, refl, sym, ap, subst, ◌∙◌, arith}
+use Rattle.std.specs.Prelude.{Option, Some, None}
+use Rattle.tex_syntax.specs.declared.words.Report.{Report}
+use Rattle.tex_syntax.specs.declared.words.Outcome.{Outcome}
+use Rattle.tex_defs.specs.declared.Sizes.{Sizes}
+use Rattle.tex_defs.specs.declared.Token.{Token}
+use Rattle.tex_defs.specs.Places.{World, Transcript}
+use Rattle.rows.specs.Readings as reading
+use Rattle.plain_state.specs.Reports.{plain_style, report_bytes}
+use Rattle.plain_readings.specs.Readings.{Reading, lists}
+use Rattle.plain_machine.specs.States.{State, Move, Closed, Written, Reported, made}
+use Rattle.plain_machine.specs.Plan.{answered, failed, reported}
+use Rattle.plain_machine.specs.Does.{Did}
+use Rattle.plain_machine.specs.Runs.{steps}
+use Rattle.plain_machine.proofs.Doing.{did_join, did_one}
+use Rattle.plain_machine.proofs.Joins.{steps_join}
+use Rattle.world_io.specs.Told.{FilesTold, SinkTold}
+use Rattle.input_state.specs.Callings.{NotCalling, call_lists}
+use Rattle.input_state.specs.Stored.{Stored, KeepsMacros, gathered}
+use Rattle.engine_state.specs.declared.call.Call.{Call}
+use Rattle.engine_state.specs.declared.engine.Engine.{Engine}
+use Rattle.engine_state.specs.Book.{Book, with_work}
+use Rattle.engine_state.specs.Calls.{AllStand, ReadingsStand, CallStands, asks_of}
+use Rattle.engine_state.specs.Stands.{IsSized, SameFrames, SameOthers, SameStore, OnlyColumn, state_of, page_of}
+use Rattle.engine_state.specs.Rules.{world_of, plan_of, Went, Halts, Reports}
+use Rattle.engine_state.proofs.CallKept.{all_still}
+use Rattle.engine_state.proofs.Joining.{quiet_wrote, went_by, halts_least}
+use Rattle.engine_state.proofs.Standing.{column_all}
+use Rattle.engine_state.proofs.Reporting.{input_sound, others_sound}
+use Rattle.engine_state.proofs.Storing.{sound_still, store_call, store_is}
+
+-- the call is the innermost reading
+pub here : (sizes : Sizes) (e : Engine) (book : Book) (c : Call) (r : Reading) (rs : List Reading) → e.call ≡ Some c → AllStand sizes e (with_work (r ∷ rs) book) → ReadingsStand (Some c) e book.number (r ∷ rs)
+here sizes e book c r rs is st = subst (λ (x : Option Call). ReadingsStand x e book.number (r ∷ rs)) is st.all
+
+-- a rule of a call, by what it asks for
+pub by_call : (sizes : Sizes) (e : Engine) (c : Call) (P : Book → List Move → Type 0) → e.call ≡ Some c →
+    ((book : Book) (r : Reading) (rs : List Reading) → AllStand sizes e (with_work (r ∷ rs) book) → CallStands e book.number c r → P (with_work (r ∷ rs) book) (answered (state_of e (with_work (r ∷ rs) book)) (r ∷ rs) r (asks_of c e.input.call))) →
+    (book : Book) → AllStand sizes e book → P book (plan_of e book)
+by_call sizes e c P is h book st = at book.work st (subst (λ (x : Option Call). ReadingsStand x e book.number book.work) is st.all) where
+  at : (work : List Reading) → AllStand sizes e (with_work work book) → ReadingsStand (Some c) e book.number work → P (with_work work book) (plan_of e (with_work work book))
+  at [] st k = absurd k
+  at (r ∷ rs) st k = subst (λ (x : reading.Ask). P (with_work (r ∷ rs) book) (answered (state_of e (with_work (r ∷ rs) book)) (r ∷ rs) r x)) k.0.asked (h book r rs st k.0)
+
+behind_all : {A : Type 0} (xs ys : List A) → drop (length xs) (xs ++ ys) ≡ ys
+behind_all [] ys = refl
+behind_all (x ∷ xs) ys = behind_all xs ys
+
+-- its lists go
+pub lists_gone : (i : Stored) (held : List (List Token)) → held ≡ call_lists i.call → drop (length held) (gathered i) ≡ i.builds
+lists_gone i held is = ap (λ (l : List (List Token)). drop (length l) (gathered i)) is ∙ behind_all (call_lists i.call) i.builds
+
+-- the engine without its call
+module _ (sizes : Sizes) (e e2 : Engine) (book : Book) (r : Reading) (rs : List Reading) (c : Call) (is : e.call ≡ Some c) (st : AllStand sizes e (with_work (r ∷ rs) book))
+    (after : e2 ≡ record e { call = None; input = record e.input { call = NotCalling; lists = e2.input.lists } }) (macros : KeepsMacros e.input e2.input) where
+  abbrev ended : Engine
+  ended = record e { call = None; input = record e.input { call = NotCalling; lists = e2.input.lists } }
+
+  store : SameStore e.input e2.input
+  store = store_call e.input e2.input NotCalling (ap (λ (x : Engine). x.input) after) macros
+
+  k : ReadingsStand (Some c) e book.number (r ∷ rs)
+  k = here sizes e book c r rs is st
+
+  pub closed_stands : AllStand sizes e2 (with_work rs book)
+  closed_stands = record {
+    sound = sound_still sizes e e2 book.number book.macros (ap (λ (x : Engine). x.sizes) after) (ap (λ (x : Engine). x.readings.size) after) (ap (λ (x : Engine). x.names) after) (ap (λ (x : Engine). x.reports) after) store st.sound;
+    idle = ap (λ (x : Engine). x.input.making) after ∙ st.idle;
+    all = subst (λ (x : Engine). ReadingsStand x.call x book.number rs) (sym after) (record { frames = k.1.frames; shallow = k.1.shallow }, refl);
+  }
+
+  closed_state : made Closed (state_of e (with_work (r ∷ rs) book)) ≡ state_of e2 (with_work rs book)
+  closed_state =
+      ap (λ (l : List (List Token)). record (state_of e (with_work (r ∷ rs) book)) { work = rs; gathered = l }) (lists_gone e.input (lists r.kind r.fed) k.0.holds)
+      ∙ ap (λ (x : Engine). state_of x (with_work rs book)) (sym after)
+
+  pub closed_went : (s : State) (f : FilesTold) (told : SinkTold) (w : World) (ms : List Move) → Did sizes s (state_of e (with_work (r ∷ rs) book)) w (world_of f told e) ms → steps ms ≡ 0 →
+      Went sizes s e2 w (world_of f told e2) (ms ++ Closed ∷ []) 0
+  closed_went s f told w ms d none = record {
+    book' = with_work rs book;
+    stands = closed_stands;
+    did = did_join sizes _ _ _ w _ _ ms (Closed ∷ []) d (did_one sizes Closed _ _ _ _ refl closed_state (quiet_wrote Closed f told e.in_line e2.in_line tt (ap (λ (x : Engine). x.in_line) after)));
+    count = steps_join ms (Closed ∷ []) ∙ omega (arith, none);
+  }
+
+-- A REPORT ALONE, AND THE END
+
+-- the report is written
+pub reported_stands : (sizes : Sizes) (e e1 : Engine) (book : Book) → SameFrames e e1 → e1.input ≡ e.input → (IsSized sizes e → IsSized sizes e1) → AllStand sizes e book → AllStand sizes e1 book
+reported_stands sizes e e1 book same input sized st =
+    all_still sizes e e1 book same (store_is e.input e1.input input) (input_sound sizes e e1 book input sized st.sound) (ap (λ (i : Stored). i.making) input ∙ st.idle) st
+
+pub failed_went : (sizes : Sizes) (e e1 e2 : Engine) (book : Book) (r : Reading) (rs : List Reading) (c : Call) (f : FilesTold) (s0 s1 : SinkTold) (report : Report) → e.call ≡ Some c → AllStand sizes e (with_work (r ∷ rs) book) →
+    SameFrames e e1 → e1.input ≡ e.input → (IsSized sizes e → IsSized sizes e1) → e2 ≡ record e1 { call = None; input = record e1.input { call = NotCalling; lists = e2.input.lists } } → KeepsMacros e1.input e2.input →
+    Reports sizes (state_of e (with_work (r ∷ rs) book)) (state_of e1 (with_work (r ∷ rs) book)) (world_of f s0 e) (world_of f s1 e1) (page_of e book) report (Closed ∷ []) →
+    Went sizes (state_of e (with_work (r ∷ rs) book)) e2 (world_of f s0 e) (world_of f s1 e2) (failed (page_of e book) report) 0
+failed_went sizes e e1 e2 book r rs c f s0 s1 report is st same input sized after macros h =
+    let written : List Move = Written Transcript (report_bytes (plain_style e.names.names) e.in_line e.input.pending.number report) ∷ Reported ∷ [] in
+    went_by sizes _ e2 _ _ (written ++ Closed ∷ []) (failed (page_of e book) report) 0 h.moves
+    (closed_went sizes e1 e2 book r rs c (same.call ∙ is) (reported_stands sizes e e1 (with_work (r ∷ rs) book) same input sized st) after macros _ f s1 _ written h.did refl)
+
+pub failed_halts : (sizes : Sizes) (e e1 : Engine) (book : Book) (w w' : World) (report : Report) (o : Outcome) → Halts sizes (state_of e book) e1 book w w' (reported (page_of e book) report (Closed ∷ [])) o 0 →
+    Halts sizes (state_of e book) e1 book w w' (failed (page_of e book) report) o 1
+failed_halts sizes e e1 book w w' report o h = halts_least sizes _ e1 book w w' _ o 0 1 (omega arith) h
+
+-- WHAT STAYS
+
+-- it has written
+pub written_stands : (sizes : Sizes) (e e1 : Engine) (book : Book) → OnlyColumn e e1 → AllStand sizes e book → AllStand sizes e1 book
+written_stands sizes e e1 book only st = column_all sizes e e1 book only st
+
+-- it has put a token in front
+pub put_stands : (sizes : Sizes) (e e1 : Engine) (book : Book) → SameFrames e e1 → SameOthers e e1 → SameStore e.input e1.input → e1.input.making ≡ None → AllStand sizes e book → AllStand sizes e1 book
+put_stands sizes e e1 book same others store idle st = all_still sizes e e1 book same store (others_sound sizes e e1 book others store st.sound) idle st

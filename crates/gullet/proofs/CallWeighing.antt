@@ -1,0 +1,90 @@
+-- What a rule of a call makes lighter, and whether it has a step.
+use Rattle.std.proofs.Common.{◌≡◌, ◌+◌, ◌*◌, ◌<◌, ◌≤◌, ap, ◌∙◌, subst, arith, length, Bool, false}
+use Rattle.std.specs.Prelude.{Option, Some, None, Result, Ok, Err, IfOk, OnErr, ◌&&◌}
+use Rattle.tex_defs.specs.declared.Name.{Name}
+use Rattle.plain_tokens.specs.Pending.{pulled}
+use Rattle.plain_readings.specs.Weights.{frame_weight, act_weight}
+use Rattle.reading_frames.specs.Stack.{Stack}
+use Rattle.reading_frames.specs.Weights.{stack_weight}
+use Rattle.reading_frames.proofs.Weights.{small as weights_small}
+use Rattle.input_state.specs.Reads.{gives_step}
+use Rattle.input_state.specs.Stored.{Stored}
+use Rattle.engine_state.specs.declared.broken.Broken.{Broken}
+use Rattle.engine_state.specs.declared.call.Call.{Call}
+use Rattle.engine_state.specs.declared.call.CallAsk.{CallAsk}
+use Rattle.engine_state.specs.declared.call.CallAsk.TheVariants as call
+use Rattle.engine_state.specs.declared.engine.Engine.{Engine}
+use Rattle.engine_state.specs.declared.outcome.Ruled.{Ruled}
+use Rattle.engine_state.specs.declared.outcome.Ruled.TheVariants.{Step, Free, Halted}
+use Rattle.engine_state.specs.Calls.{brace_call, open_call}
+use Rattle.engine_state.specs.Stands.{SameFrames}
+use Rattle.engine_state.specs.Steps.{stepping, asked, all_want, call_asks_more, pending_weight, readings_weight, call_weight, weight, IsStep, StepsIf}
+
+-- at an error
+pub on_err : {T E : Type 0} {P : Type 0} → (r : Result T E) → P → OnErr r P
+on_err (Ok x) h = tt
+on_err (Err e) h = h
+
+pub on_err_to : {T E : Type 0} {P Q : Type 0} → (r : Result T E) → (P → Q) → OnErr r P → OnErr r Q
+on_err_to (Ok x) f h = tt
+on_err_to (Err e) f h = f h
+
+pub frames_join : (e e1 e2 : Engine) → SameFrames e e1 → SameFrames e1 e2 → SameFrames e e2
+frames_join e e1 e2 a b = record { readings = b.readings ∙ a.readings; lists = b.lists ∙ a.lists; call = b.call ∙ a.call; calling = b.calling ∙ a.calling }
+
+-- WHAT THE ENGINE WEIGHS
+
+readings_same : (e e1 : Engine) (c : Option Call) → e1.readings ≡ e.readings → readings_weight c e1 ≡ readings_weight c e
+readings_same e e1 None same = ap stack_weight same
+readings_same e e1 (Some c) same = ap (λ (s : Stack). frame_weight * length s.frames + (frame_weight + call_weight c.ask)) same
+
+pub same_weight : (e e1 : Engine) → SameFrames e e1 → pending_weight e1.input.pending ≡ pending_weight e.input.pending → weight e1 ≡ weight e
+same_weight e e1 same left =
+    let readings : readings_weight e1.call e1 ≡ readings_weight e.call e = ap (λ (c : Option Call). readings_weight c e1) same.call ∙ readings_same e e1 e.call same.readings in
+    omega (arith, readings, left)
+
+pub lighter_by : (e e1 e2 : Engine) → SameFrames e e1 → pending_weight e1.input.pending ≡ pending_weight e.input.pending → weight e2 < weight e1 → weight e2 < weight e
+lighter_by e e1 e2 same left h = omega (arith, h, same_weight e e1 same left)
+
+-- one that asks for no token
+pub heavy : (a : CallAsk) → call_asks_more a ≡ false → act_weight ≤ call_weight a
+heavy call.More is = cc
+heavy call.ExtraBrace is = omega arith
+heavy call.Gathered is = omega arith
+heavy call.Mismatch is = omega arith
+heavy (call.ParEnded silent) is = omega arith
+
+-- the engine without its call
+pub closed_light : (e : Engine) (i : Stored) (c : Call) → e.call ≡ Some c → call_asks_more c.ask ≡ false → pending_weight i.pending ≡ pending_weight e.input.pending → weight (record e { call = None; input = i }) < weight e
+closed_light e i c is none left =
+    let had : readings_weight e.call e ≡ readings_weight (Some c) e = ap (λ (c : Option Call). readings_weight c e) is in
+    omega (arith, had, left, heavy c.ask none, weights_small e.readings.frames)
+
+-- its call ends
+pub closed_lighter : (e e1 e2 : Engine) (i : Stored) (c : Call) → SameFrames e e1 → pending_weight e1.input.pending ≡ pending_weight e.input.pending → pending_weight i.pending ≡ pending_weight e1.input.pending → e2 ≡ record e1 { call = None; input = i } → e.call ≡ Some c → call_asks_more c.ask ≡ false → weight e2 < weight e
+closed_lighter e e1 e2 i c same before left after is none =
+    let light : weight (record e1 { call = None; input = i }) < weight e1 = closed_light e1 i c (same.call ∙ is) none left in
+    let now : weight e2 ≡ weight (record e1 { call = None; input = i }) = ap weight after in
+    omega (arith, light, now, same_weight e e1 same before)
+
+-- it goes on behind its extra brace
+pub brace_lighter : (e e1 e2 : Engine) (i : Stored) (name : Name) → SameFrames e e1 → pending_weight e1.input.pending ≡ pending_weight e.input.pending → pending_weight i.pending ≡ pending_weight e1.input.pending → e2 ≡ record e1 { call = Some (open_call name); input = i } → e.call ≡ Some (brace_call name) → weight e2 < weight e
+brace_lighter e e1 e2 i name same before left after is =
+    let now : weight e2 ≡ weight (record e1 { call = Some (open_call name); input = i }) = ap weight after in
+    let had : readings_weight e1.call e1 ≡ readings_weight (Some (brace_call name)) e1 = ap (λ (c : Option Call). readings_weight c e1) (same.call ∙ is) in
+    omega (arith, now, had, left, same_weight e e1 same before)
+
+-- WHETHER IT HAS A STEP
+
+pub call_steps : (e : Engine) (call : Call) → e.call ≡ Some call → stepping e ≡ (all_want (Some call) (asked e) && gives_step (pulled e.categories e.input.pending))
+call_steps e call is = ap (λ (x : Option Call). all_want x (asked e) && gives_step (pulled e.categories e.input.pending)) is
+
+pub steps_as_one : (r : Result Ruled Broken) (b b' : Bool) → b ≡ b' → IfOk r (λ ruled. StepsIf ruled b) → IfOk r (λ ruled. StepsIf ruled b')
+steps_as_one r b b' is h = subst (λ (x : Bool). IfOk r (λ ruled. StepsIf ruled x)) is h
+
+-- nothing that goes on has a step
+pub free_steps : (r : Result Ruled Broken) (b : Bool) → b ≡ false → IfOk r (λ ruled. IsStep ruled → ⊥) → IfOk r (λ ruled. StepsIf ruled b)
+free_steps (Ok Step) b is h = absurd (h tt)
+free_steps (Ok Free) b is h = is
+free_steps (Ok (Halted o)) b is h = tt
+free_steps (Err x) b is h = tt

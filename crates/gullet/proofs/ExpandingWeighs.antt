@@ -1,0 +1,52 @@
+-- What the engine weighs behind an expansion: no more than an act above the readings that were open, where the innermost did.
+use Rattle.std.proofs.Common.{◌≡◌, ℕ, ◌+◌, ◌*◌, ◌≤◌, List, length, ap, ◌∙◌, arith}
+use Rattle.std.specs.Prelude.{Option, Some, None}
+use Rattle.tex_defs.specs.declared.Name.{Name}
+use Rattle.plain_readings.specs.Weights.{frame_weight, act_weight}
+use Rattle.reading_frames.specs.Weights.{innermost_weight, stack_weight}
+use Rattle.reading_frames.specs.declared.frame.Frame.{Frame}
+use Rattle.input_state.specs.Stored.{Stored}
+use Rattle.engine_state.specs.declared.call.Call.{Call}
+use Rattle.engine_state.specs.declared.engine.Engine.{Engine}
+use Rattle.engine_state.specs.Calls.{open_call}
+use Rattle.engine_state.specs.Stands.{SameFrames}
+use Rattle.engine_state.specs.Steps.{pending_weight, readings_weight, weight}
+use Rattle.gullet.proofs.CallWeighing.{same_weight}
+use Rattle.engine_state.proofs.Standing.{same_engine}
+
+module _ (e : Engine) (none : e.call ≡ None) (light : innermost_weight e.readings.frames ≤ act_weight) where
+  abbrev most : ℕ
+  most = frame_weight * length e.readings.frames + act_weight + pending_weight e.input.pending
+
+  weighs : weight e ≤ most
+  weighs = let is : readings_weight e.call e ≡ stack_weight e.readings = ap (λ (c : Option Call). readings_weight c e) none in omega (arith, is, light)
+
+  -- its readings are as they were
+  pub same_light : (e' : Engine) → SameFrames e e' → pending_weight e'.input.pending ≡ pending_weight e.input.pending → weight e' ≤ most
+  same_light e' same left = omega (arith, same_weight e e' same left, weighs)
+
+  pub still_light : (e' : Engine) → e' ≡ e → weight e' ≤ most
+  still_light e' is = same_light e' (same_engine e e' is) (ap (λ (x : Engine). pending_weight x.input.pending) is)
+
+  pub framed_light : (e' : Engine) → e'.call ≡ e.call → e'.readings.frames ≡ e.readings.frames → pending_weight e'.input.pending ≡ pending_weight e.input.pending → weight e' ≤ most
+  framed_light e' call same left =
+      let is : readings_weight e'.call e' ≡ stack_weight e'.readings = ap (λ (c : Option Call). readings_weight c e') (call ∙ none) in
+      let frames : stack_weight e'.readings ≡ stack_weight e.readings = ap (λ (fs : List Frame). frame_weight * length fs + innermost_weight fs) same in
+      omega (arith, is, frames, left, light)
+
+  -- a reading more
+  pub begun_light : (e' : Engine) (n : ℕ) → e'.call ≡ e.call → length e'.readings.frames ≡ length e.readings.frames + 1 → innermost_weight e'.readings.frames ≤ n → n ≤ 7 → e'.input.pending ≡ e.input.pending → weight e' ≤ most
+  begun_light e' n call count begun few same =
+      let is : readings_weight e'.call e' ≡ stack_weight e'.readings = ap (λ (c : Option Call). readings_weight c e') (call ∙ none) in
+      let left : pending_weight e'.input.pending ≡ pending_weight e.input.pending = ap pending_weight same in
+      omega (arith, is, left, count, begun, few)
+
+  -- a list is put
+  pub put_light : (i : Stored) → pending_weight i.pending ≡ pending_weight e.input.pending → weight (record e { input = i }) ≤ most
+  put_light i left =
+      let is : readings_weight e.call (record e { input = i }) ≡ stack_weight e.readings = ap (λ (c : Option Call). readings_weight c (record e { input = i })) none in
+      omega (arith, is, left, light)
+
+  -- a call begins
+  pub called_light : (e' : Engine) (name : Name) (i : Stored) → e' ≡ record e { call = Some (open_call name); input = i } → pending_weight i.pending ≡ pending_weight e.input.pending → weight e' ≤ most
+  called_light e' name i is left = let now : weight e' ≡ weight (record e { call = Some (open_call name); input = i }) = ap weight is in omega (arith, now, left)

@@ -1,0 +1,172 @@
+-- The plain machine's state, and its moves.
+use Rattle.std.specs.Prelude.{ℕ, ◌+◌, Bool, true, List, [], ◌∷◌, ◌++◌, length, drop, Option, Some, None, slice_set}
+use Rattle.tex_syntax.specs.declared.words.Outcome.{Outcome}
+use Rattle.tex_defs.specs.declared.Token.{Token}
+use Rattle.tex_defs.specs.declared.Token.TheVariants as token
+use Rattle.tex_defs.specs.declared.Seen.{Seen}
+use Rattle.tex_defs.specs.Places.{Place, Transcript, OfFile}
+use Rattle.tex_defs.specs.declared.Name.{Name}
+use Rattle.tex_defs.specs.declared.Name.TheVariants as name
+use Rattle.tex_defs.specs.declared.Meaning.{Meaning}
+use Rattle.tex_defs.specs.declared.Meaning.TheVariants as means
+use Rattle.plain_tokens.specs.Meanings.{assigned}
+use Rattle.plain_tokens.specs.Puts.{Put as PutList, token_put, grow_first, grown_by, list_of_tokens}
+use Rattle.plain_tokens.specs.Pending.{Pending, pulled, after_pull, put_front, settle}
+use Rattle.plain_state.specs.Reports.{in_line_after}
+use Rattle.rows.specs.declared.words.Value.{Value}
+use Rattle.rows.specs.Readings.{Fed, Tok, Val}
+use Rattle.plain_readings.specs.Readings.{Kind, Reading, lists, fed_with, opened, opened_with}
+
+pub data Move : Type 0 where
+  -- the two steps: a token handed on, a line taken
+  Handed : Token → Move
+  Taken : List ℕ → Move
+  -- a reading from pending or a push begins: the finished lists in front go
+  Settled : Move
+  -- an invalid character is skipped
+  Skipped : Move
+  -- the file goes behind its last line
+  FileClosed : Move
+  -- a name is entered; another string is kept
+  Entered : (name : List ℕ) → Move
+  Kept : (bytes : List ℕ) → Move
+  -- the list that the innermost reading builds gets a token
+  Grows : Token → Move
+  -- the innermost reading is fed with a token, with the note that its report was written, or with the note that a check came
+  Feeds : Fed → Move
+  -- in a call: an argument is whole, and its outer braces have gone; the list of the next one is begun
+  Completed : List Token → Move
+  Opened : Move
+  -- a list that will be put in front is begun, grown by one token, and put; one without tokens goes
+  ListBegun : Move
+  ListGrown : Token → Move
+  Put : List Token → Move
+  ListDropped : Move
+  -- the body of a macro is put; of one with arguments, these pass from their reading, which ends
+  Called : PutList → Move
+  CalledWith : PutList → Move
+  -- a character has another category; a name means something else
+  SetCategoryOf : (code category : ℕ) → Move
+  Assigned : Name → Meaning (Option ℕ) → Move
+  -- a name becomes a macro, to which the list passes that the innermost reading holds; this reading ends
+  Defined : Name → (long outer : Bool) → List Token → Move
+  Written : Place → List ℕ → Move
+  -- a reading begun, and with it the lists that it builds; one begun with the token that the one beneath looked at
+  Begun : Kind → Move
+  BegunWith : Kind → Move
+  -- the innermost reading ended, and its value, with its list, fed to the one beneath
+  Ended : Value → List Token → Move
+  -- the innermost reading ended without a value
+  Closed : Move
+  -- a report is counted; the status is to be 1 without one
+  Reported : Move
+  Flawed : Move
+  Stopped : Outcome → Move
+
+pub record State : Type 0 where
+  pub pending : Pending
+  -- the category codes of the characters 0 to 255
+  pub categories : List ℕ
+  -- the names of two or more characters, in the order in which they were entered
+  pub names : List (List ℕ)
+  -- the other strings that are kept: the job's name
+  pub strings : List (List ℕ)
+  -- what the names mean, by their locations, and the lists of all macros so far, in the order of their definitions
+  pub meanings : List (Meaning (Option ℕ))
+  pub macros : List (List Token)
+  -- the token that a reading was fed with last
+  pub last : Seen
+  -- the open readings, innermost first, and the lists that they hold, the innermost reading's last list first
+  pub work : List Reading
+  pub gathered : List (List Token)
+  -- the list that is being made, to be put in front
+  pub making : Option (List Token)
+  -- whether the transcript's column isn't 0
+  pub in_line : Bool
+  -- the reports so far, and whether the status is to be 1 without one
+  pub reports : ℕ
+  pub flawed : Bool
+  -- whether token lines are left out
+  pub quiet : Bool
+  pub stopped : Option Outcome
+  -- the moves of the present rule that are still to be made
+  pub due : List Move
+
+-- the transcript's column behind a text
+abbrev pub column_after : Place → Bool → List ℕ → Bool
+column_after Transcript b bs = in_line_after b bs
+column_after (OfFile name) b bs = b
+
+-- before a reading is fed with a token
+abbrev pub no_token : Seen
+no_token = record { token = token.Named name.Empty; meaning = means.Undefined }
+
+-- the last token, once a reading is fed with this
+abbrev pub last_with : Fed → Seen → Seen
+last_with (Tok x) last = x
+last_with y last = last
+
+-- how many lists a reading holds
+abbrev pub holds : Reading → ℕ
+holds r = length (lists r.kind r.fed)
+
+abbrev pub held_by_top : List Reading → ℕ
+held_by_top [] = 0
+held_by_top (r ∷ rs) = holds r
+
+-- the lists without those of the innermost reading
+abbrev pub beneath : List Reading → List (List Token) → List (List Token)
+beneath work held = drop (held_by_top work) held
+
+-- the lists that the innermost reading holds by what it was fed with
+abbrev pub lists_of_top : List Reading → List (List Token)
+lists_of_top [] = []
+lists_of_top (r ∷ rs) = lists r.kind r.fed
+
+-- the lists where the innermost of these readings has been fed with a value: those that it holds now in place of those that it held
+abbrev pub held_with : (fed before : List Reading) → List (List Token) → List (List Token)
+held_with fed before held = lists_of_top fed ++ beneath before held
+
+-- the first list is a whole argument; one without tokens is none
+abbrev pub with_argument : List Token → List (List Token) → List (List Token)
+with_argument a [] = []
+with_argument a (ts ∷ held) = list_of_tokens a ++ held
+
+-- What each move does.
+abbrev pub made : Move → State → State
+made (Handed t) s = record s { pending = after_pull s.pending (pulled s.categories s.pending) }
+made (Taken line) s = record s { pending = after_pull s.pending (pulled s.categories s.pending) }
+made Settled s = record s { pending = settle s.pending }
+made Skipped s = record s { pending = after_pull s.pending (pulled s.categories s.pending) }
+made FileClosed s = record s { pending = after_pull s.pending (pulled s.categories s.pending) }
+made (Entered name) s = record s { names = s.names ++ name ∷ []; meanings = s.meanings ++ means.Undefined ∷ [] }
+made (Kept bytes) s = record s { strings = s.strings ++ bytes ∷ [] }
+made (Grows t) s = record s { gathered = grow_first t s.gathered }
+made (Feeds y) s = record s { work = fed_with y s.work; last = last_with y s.last }
+made (Completed a) s = record s { gathered = with_argument a s.gathered }
+made Opened s = record s { gathered = [] ∷ s.gathered }
+made ListBegun s = record s { making = Some [] }
+made (ListGrown t) s = record s { making = grown_by t s.making }
+made (Put ts) s = record s { pending = put_front (token_put ts) s.pending; making = None }
+made ListDropped s = record s { making = None }
+made (Called p) s = record s { pending = put_front p s.pending }
+made (CalledWith p) s = record s { pending = put_front p s.pending; work = drop 1 s.work; gathered = beneath s.work s.gathered }
+made (SetCategoryOf code category) s = record s { categories = slice_set s.categories code category }
+made (Assigned name m) s = record s { meanings = assigned s.meanings name m }
+made (Defined name long outer ts) s = record s {
+  meanings = assigned s.meanings name (means.Macro long outer (Some (length s.macros)));
+  macros = s.macros ++ ts ∷ [];
+  work = drop 1 s.work;
+  gathered = beneath s.work s.gathered;
+}
+made (Written p bs) s = record s { in_line = column_after p s.in_line bs }
+made (Begun k) s = record s { work = opened k s.work; gathered = lists k [] ++ s.gathered }
+made (BegunWith k) s = record s { work = opened_with k (Tok s.last) s.work; gathered = lists k (Tok s.last ∷ []) ++ s.gathered }
+made (Ended v ts) s = record s {
+  work = fed_with (Val v ts) (drop 1 s.work);
+  gathered = held_with (fed_with (Val v ts) (drop 1 s.work)) (drop 1 s.work) (beneath s.work s.gathered);
+}
+made Closed s = record s { work = drop 1 s.work; gathered = beneath s.work s.gathered }
+made Reported s = record s { reports = s.reports + 1 }
+made Flawed s = record s { flawed = true }
+made (Stopped o) s = record s { stopped = Some o }

@@ -1,3 +1,0 @@
-pub mod Integers
-pub mod Texts
-pub mod Calls

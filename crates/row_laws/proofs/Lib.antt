@@ -1,4 +1,0 @@
-pub mod Known
-pub mod Commands
-pub mod Definitions
-pub mod Prefixes

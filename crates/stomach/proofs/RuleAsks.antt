@@ -1,0 +1,99 @@
+-- A rule of the frames is by what the innermost asks for.
+use Rattle.std.proofs.Common.{◌≡◌, List, [], ◌∷◌, refl, sym, ap, ◌∙◌, subst, Bool, true, false}
+use Rattle.std.specs.Prelude.{Option, Some, None, ◌&&◌}
+use Rattle.tex_syntax.specs.declared.words.Want.{Want}
+use Rattle.tex_defs.specs.declared.Sizes.{Sizes}
+use Rattle.plain_tokens.specs.Pending.{pulled}
+use Rattle.rows.specs.Readings as reading
+use Rattle.plain_readings.specs.Readings.{Reading, ask}
+use Rattle.reading_frames.specs.Sees.{Lists, ask_of, kept_list_of}
+use Rattle.reading_frames.specs.Stack.{asked_in, asked_of, asks_in}
+use Rattle.reading_frames.specs.Stands as frames
+use Rattle.reading_frames.specs.declared.ask.Ask.{Ask}
+use Rattle.plain_machine.specs.States.{Move}
+use Rattle.plain_machine.specs.Plan.{answered}
+use Rattle.world_io.specs.Told.{FilesTold, SinkTold}
+use Rattle.input_state.specs.Reads.{gives_step}
+use Rattle.engine_state.specs.declared.call.Call.{Call}
+use Rattle.engine_state.specs.declared.engine.Engine.{Engine}
+use Rattle.engine_state.specs.declared.broken.Broken.{Broken}
+use Rattle.engine_state.specs.declared.outcome.Ruled.{Ruled}
+use Rattle.engine_state.specs.Book.{Book, with_work}
+use Rattle.engine_state.specs.Near.{CutsIn}
+use Rattle.engine_state.specs.Rules.{WantsHere, Takes, world_of, plan_of, next_moves}
+use Rattle.engine_state.specs.Stands.{Stands, state_of}
+use Rattle.engine_state.specs.Steps.{asked, frames_want, all_want, stepping}
+use Rattle.engine_state.proofs.Bare.{all_of}
+use Rattle.stomach.specs.Halting.{Rules}
+
+-- WHAT THE INNERMOST FRAME ASKS FOR, over whatever lists
+
+abbrev pub AsksFor : Engine → Option Ask → Type 0
+AsksFor e a = (held : Lists) → asked_of held a ≡ asks_in e.readings.frames held
+
+-- and of what it stands for
+abbrev pub StandsAsking : Engine → Option Ask → Type 0
+StandsAsking e a = (held : Lists) (work : List Reading) → frames.FramesStand e.readings.frames held work → asked_of held a ≡ asked_in work
+
+pub asks_as : (e : Engine) (a b : Ask) → a ≡ b → AsksFor e (Some a) → AsksFor e (Some b)
+asks_as e a b is h = subst (λ (x : Ask). AsksFor e (Some x)) is h
+
+-- over the lists that it has
+pub asked_here : (e : Engine) (a b : Ask) → a ≡ b → AsksFor e (Some a) → asked e ≡ Some (ask_of e.input.builds b)
+asked_here e a b is h = sym (asks_as e a b is h e.input.builds)
+
+-- and over none
+pub asked_bare : (e : Engine) (a b : Ask) → a ≡ b → AsksFor e (Some a) → asks_in e.readings.frames [] ≡ Some (ask_of [] b)
+asked_bare e a b is h = sym (asks_as e a b is h [])
+
+-- no list is kept of none
+pub none_kept : (listed : Bool) → kept_list_of listed [] ≡ []
+none_kept true = refl
+none_kept false = refl
+
+-- THE RULE
+
+pub by_ask : (sizes : Sizes) (e : Engine) (a b : Ask) (P : Book → List Move → Type 0) → a ≡ b → StandsAsking e (Some a) →
+    ((book : Book) (r : Reading) (rs : List Reading) → Stands sizes e (with_work (r ∷ rs) book) → P (with_work (r ∷ rs) book) (answered (state_of e (with_work (r ∷ rs) book)) (r ∷ rs) r (ask_of e.input.builds b))) →
+    (book : Book) → Stands sizes e book → P book (plan_of e book)
+by_ask sizes e a b P is asks h book st = at book.work st (subst (λ (x : Ask). StandsAsking e (Some x)) is asks e.input.builds book.work st.readings.frames) where
+  at : (work : List Reading) → Stands sizes e (with_work work book) → Some (ask_of e.input.builds b) ≡ asked_in work → P (with_work work book) (plan_of e (with_work work book))
+  at [] st now = absurd cc
+  at (r ∷ rs) st now =
+      let same : ask_of e.input.builds b ≡ ask r.kind r.fed = cc now in
+      subst (λ (x : reading.Ask). P (with_work (r ∷ rs) book) (answered (state_of e (with_work (r ∷ rs) book)) (r ∷ rs) r x)) same (h book r rs st)
+
+pub asked_rules : (e e' : Engine) (s s' : SinkTold) (a b : Ask) (ruled : Ruled) → a ≡ b → StandsAsking e (Some a) → (sizes : Sizes) (f : FilesTold) →
+    ((book : Book) (r : Reading) (rs : List Reading) → Stands sizes e (with_work (r ∷ rs) book) →
+    Rules sizes (state_of e (with_work (r ∷ rs) book)) e' (world_of f s e) (world_of f s' e') (answered (state_of e (with_work (r ∷ rs) book)) (r ∷ rs) r (ask_of e.input.builds b)) ruled) →
+    (book : Book) → Stands sizes e book → Rules sizes (state_of e book) e' (world_of f s e) (world_of f s' e') (plan_of e book) ruled
+asked_rules e e' s s' a b ruled is asks sizes f h book st = by_ask sizes e a b (λ book plan. Rules sizes (state_of e book) e' (world_of f s e) (world_of f s' e') plan ruled) is asks h book st
+
+-- it is cut off
+pub asked_cuts : (e e' : Engine) (s s' : SinkTold) (a b : Ask) (why : Broken) → a ≡ b → StandsAsking e (Some a) → (sizes : Sizes) (f : FilesTold) →
+    ((book : Book) (r : Reading) (rs : List Reading) → Stands sizes e (with_work (r ∷ rs) book) →
+    CutsIn sizes (state_of e (with_work (r ∷ rs) book)) e' (world_of f s e) (world_of f s' e') (answered (state_of e (with_work (r ∷ rs) book)) (r ∷ rs) r (ask_of e.input.builds b)) why) →
+    (book : Book) → Stands sizes e book → CutsIn sizes (state_of e book) e' (world_of f s e) (world_of f s' e') (plan_of e book) why
+asked_cuts e e' s s' a b why is asks sizes f h book st = by_ask sizes e a b (λ book plan. CutsIn sizes (state_of e book) e' (world_of f s e) (world_of f s' e') plan why) is asks h book st
+
+-- where none is open
+pub by_none : (sizes : Sizes) (e : Engine) (P : Book → List Move → Type 0) → AsksFor e None → StandsAsking e None → e.call ≡ None →
+    ((book : Book) → Takes sizes None e book → P book (next_moves None e book)) → (book : Book) → Stands sizes e book → P book (plan_of e book)
+by_none sizes e P asks stand none h book st = at book.work st (stand e.input.builds book.work st.readings.frames) where
+  taken : (work : List Reading) → Stands sizes e (with_work work book) → Takes sizes None e (with_work work book)
+  taken work st = (subst (λ (c : Option Call). WantsHere c None e) (sym none) (sym (asks e.input.builds)), all_of sizes e (with_work work book) st)
+
+  at : (work : List Reading) → Stands sizes e (with_work work book) → None ≡ asked_in work → P (with_work work book) (plan_of e (with_work work book))
+  at [] st now = h (with_work [] book) (taken [] st)
+  at (r ∷ rs) st now = absurd cc
+
+-- a token is wanted
+pub more_taken : (sizes : Sizes) (e : Engine) (want : Want) (book : Book) → e.call ≡ None → asked e ≡ Some (reading.More want) → Stands sizes e book → Takes sizes (Some want) e book
+more_taken sizes e want book none asks st = (subst (λ (c : Option Call). WantsHere c (Some want) e) (sym none) asks, all_of sizes e book st)
+
+-- WHETHER THE RULE HAS A STEP
+
+pub asked_steps : (e : Engine) (a : Option reading.Ask) → e.call ≡ None → asked e ≡ a → stepping e ≡ (frames_want a && gives_step (pulled e.categories e.input.pending))
+asked_steps e a none is =
+    ap (λ (c : Option Call). all_want c (asked e) && gives_step (pulled e.categories e.input.pending)) none
+    ∙ ap (λ (o : Option reading.Ask). frames_want o && gives_step (pulled e.categories e.input.pending)) is

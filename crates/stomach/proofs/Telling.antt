@@ -1,0 +1,74 @@
+-- The innermost reading reports.
+use Rattle.std.proofs.Common.{◌≡◌, ◌<◌, ℕ, List, [], ◌∷◌, ◌++◌, length, Bool, sym, ap, ◌∙◌, subst, append_assoc}
+use Rattle.std.specs.Prelude.{Option, None}
+use Rattle.tex_syntax.specs.declared.words.Outcome.{Outcome}
+use Rattle.tex_syntax.specs.declared.words.Report.{Report}
+use Rattle.tex_defs.specs.declared.Sizes.{Sizes}
+use Rattle.tex_defs.specs.declared.Token.{Token}
+use Rattle.tex_defs.specs.Places.{World, Transcript}
+use Rattle.plain_state.specs.Reports.{plain_style, report_bytes}
+use Rattle.plain_readings.specs.Readings.{Reading}
+use Rattle.reading_frames.specs.Stack.{Stack, asks_in}
+use Rattle.reading_frames.specs.Weights.{innermost_weight, IsReported}
+use Rattle.plain_machine.specs.States.{State, Move, Written, Reported}
+use Rattle.plain_machine.specs.Plan.{Page, reported, told, noting}
+use Rattle.plain_machine.specs.Does.{Did}
+use Rattle.world_io.specs.Told.{FilesTold, SinkTold, world}
+use Rattle.engine_state.specs.declared.broken.Broken.{Broken}
+use Rattle.engine_state.specs.declared.call.Call.{Call}
+use Rattle.engine_state.specs.declared.engine.Engine.{Engine}
+use Rattle.engine_state.specs.Book.{Book, with_work}
+use Rattle.engine_state.specs.Calls.{FramesOf}
+use Rattle.engine_state.specs.Near.{CutsIn}
+use Rattle.engine_state.specs.Rules.{world_of, Halts, Reports}
+use Rattle.engine_state.specs.Stands.{Stands, SameFrames, state_of, page_of}
+use Rattle.engine_state.specs.Steps.{weight, pending_weight}
+use Rattle.engine_state.proofs.CallKept.{frames_kept}
+use Rattle.gullet.proofs.CallWeighing.{lighter_by}
+use Rattle.engine_state.proofs.Nearing.{column_in, in_by, later_in}
+use Rattle.engine_state.proofs.Putting.{fronts}
+use Rattle.engine_state.proofs.Weighing.{noted_lighter}
+use Rattle.stomach.specs.Halting.{HaltsIn}
+
+-- a run that has ended with the readings that were open
+pub frames_halt : (sizes : Sizes) (e e' : Engine) (s : State) (book : Book) (w w' : World) (moves : List Move) (o : Outcome) (k : ℕ) → SameFrames e e' → Stands sizes e book → Halts sizes s e' book w w' moves o k → HaltsIn sizes s e' w w' moves o k
+frames_halt sizes e e' s book w w' moves o k same st h = record {
+  book' = book;
+  halts = h;
+  frames = subst (λ (c : Option Call). FramesOf c e' book.work) (sym (same.call ∙ st.uncalled.none)) (frames_kept e e' book.work same st.readings);
+}
+
+-- THE NOTE IS CUT OFF
+module _ (sizes : Sizes) (e : Engine) (f : FilesTold) (s0 : SinkTold) (book : Book) (r : Reading) (rs : List Reading) (report : Report) (inserted : Option Token) (back : Bool)
+    (e1 e2 : Engine) (s2 : SinkTold) (page : page_of e1 book ≡ page_of e book) where
+  abbrev at : Book
+  at = with_work (r ∷ rs) book
+
+  abbrev written : List Move
+  written = Written Transcript (report_bytes (plain_style e.names.names) e.in_line e.input.pending.number report) ∷ Reported ∷ []
+
+  on_page : Reports sizes (state_of e1 at) (state_of e2 at) (world_of f s0 e1) (world_of f s2 e2) (page_of e1 book) report (noting r) →
+      Reports sizes (state_of e1 at) (state_of e2 at) (world_of f s0 e) (world_of f s2 e2) (page_of e book) report (noting r)
+  on_page h = subst (λ (p : Page). Reports sizes (state_of e1 at) (state_of e2 at) (world f s0 p.in_line) (world_of f s2 e2) p report (noting r)) page h
+
+  told_moves : Reports sizes (state_of e1 at) (state_of e2 at) (world_of f s0 e) (world_of f s2 e2) (page_of e book) report (noting r) → told (page_of e book) report inserted back r ≡ fronts inserted back e.last ++ (written ++ noting r)
+  told_moves h =
+      sym (append_assoc _ _ (reported (page_of e book) report (noting r))) ∙ ap (λ (ms : List Move). fronts inserted back e.last ++ ms) h.moves
+
+  pub told_note_in : (e3 : Engine) (b : Broken) → Did sizes (state_of e at) (state_of e1 at) (world_of f s0 e) (world_of f s0 e) (fronts inserted back e.last) →
+      Reports sizes (state_of e1 at) (state_of e2 at) (world_of f s0 e1) (world_of f s2 e2) (page_of e1 book) report (noting r) → e3.in_line ≡ e2.in_line →
+      CutsIn sizes (state_of e2 at) e3 (world_of f s2 e2) (world_of f s2 e2) (noting r) b →
+      CutsIn sizes (state_of e at) e3 (world_of f s0 e) (world_of f s2 e3) (told (page_of e book) report inserted back r) b
+  told_note_in e3 b front rep column cuts =
+      let h = on_page rep in
+      in_by sizes _ e3 _ _ (fronts inserted back e.last ++ (written ++ noting r)) _ b (told_moves h)
+      (later_in sizes _ _ e3 _ _ _ (fronts inserted back e.last) (written ++ noting r) b front
+      (later_in sizes _ _ e3 _ _ _ written (noting r) b h.did (column_in sizes _ e3 f s2 e2.in_line (noting r) b column cuts)))
+
+-- WHAT BECOMES LIGHTER
+pub told_light : (e e1 e2 : Engine) → e.call ≡ None → SameFrames e e1 → pending_weight e1.input.pending ≡ pending_weight e.input.pending → e2.call ≡ e1.call → e2.input.pending ≡ e1.input.pending →
+    (IsReported (asks_in e1.readings.frames []) → innermost_weight e2.readings.frames < innermost_weight e1.readings.frames) → length e2.readings.frames ≡ length e1.readings.frames →
+    IsReported (asks_in e.readings.frames []) → weight e2 < weight e
+told_light e e1 e2 none same left call pending light count reported =
+    let none1 : e1.call ≡ None = same.call ∙ none in
+    lighter_by e e1 e2 same left (noted_lighter e1 e2 none1 (call ∙ none1) pending (light (subst (λ (s : Stack). IsReported (asks_in s.frames [])) (sym same.readings) reported)) count)

@@ -1,0 +1,63 @@
+-- What the stomach makes of a token.
+use Rattle.std.proofs.Common.{◌≡◌, ℕ, List, [], ◌∷◌, refl, sym, ap, ◌∙◌, Bool, true, false, arith}
+use Rattle.std.proofs.lemmas.Bool.Decides.{nat_tests}
+use Rattle.std.specs.Prelude.{◌≢◌, Option, Some, None, is_some, if◌then◌else◌, ◌==◌}
+use Rattle.tex_syntax.specs.declared.words.Report.TheVariants.{ExtraEndcsname}
+use Rattle.tex_defs.specs.declared.Token.{Token}
+use Rattle.tex_defs.specs.declared.Meaning.{Meaning}
+use Rattle.tex_defs.specs.declared.Meaning.TheVariants as means
+use Rattle.plain_tokens.specs.Names.{end_primitive, relax_primitive}
+use Rattle.rows.specs.Table.{find_row, has_row, has_row_in}
+use Rattle.rows.specs.declared.command.Action.{Action}
+use Rattle.rows.specs.declared.command.Call.{Call}
+use Rattle.rows.specs.declared.command.Row.{Row}
+use Rattle.rows.specs.declared.words.Kind.TheVariants.{Command}
+use Rattle.plain_readings.specs.Readings.{Reads}
+use Rattle.plain_readings.specs.Spelling.{endcsname_primitive}
+use Rattle.plain_machine.specs.States.{Move, Begun}
+use Rattle.plain_machine.specs.Plan.{Page, call_of, begun, finish, reported, token_line, primitive, command}
+
+-- PRIMITIVES
+
+found_row : (o : Option (Row × Action)) → has_row_in o ≡ is_some o
+found_row None = refl
+found_row (Some row) = refl
+
+-- a primitive has a row where one is found
+pub row_found : (n : ℕ) (o : Option (Row × Action)) (b : Bool) → o ≡ find_row n → is_some o ≡ b → has_row n ≡ b
+row_found n o b is some = ap has_row_in (sym is) ∙ (found_row o ∙ some)
+
+unequal : (n k : ℕ) → n ≢ k → (n == k) ≡ false
+unequal n k h = grind (arith, nat_tests, h)
+
+module _ (page : Page) (t : Token) where
+  -- one that has none
+  abbrev rowless_moves : ℕ → List Move
+  rowless_moves n = if n == end_primitive then finish page.in_line else if n == relax_primitive then [] else if n == endcsname_primitive then reported page ExtraEndcsname [] else token_line page (means.Prim n)
+
+  module _ (n : ℕ) where
+    pub row_moves : (c : Call) → c ≡ call_of t n → has_row n ≡ true → primitive page t n ≡ Begun (Reads (Command c)) ∷ []
+    row_moves c is has = ap (λ (b : Bool). if b then begun t n else rowless_moves n) has ∙ ap (λ (x : Call). Begun (Reads (Command x)) ∷ []) (sym is)
+
+    rowless : has_row n ≡ false → primitive page t n ≡ rowless_moves n
+    rowless none = ap (λ (b : Bool). if b then begun t n else rowless_moves n) none
+
+    pub end_moves : has_row n ≡ false → n ≡ end_primitive → primitive page t n ≡ finish page.in_line
+    end_moves none is = rowless none ∙ ap rowless_moves is
+
+    pub endcsname_moves : has_row n ≡ false → n ≡ endcsname_primitive → primitive page t n ≡ reported page ExtraEndcsname []
+    endcsname_moves none is = rowless none ∙ ap rowless_moves is
+
+    pub other_moves : has_row n ≡ false → n ≢ end_primitive → n ≢ relax_primitive → n ≢ endcsname_primitive → primitive page t n ≡ token_line page (means.Prim n)
+    other_moves none a b c = rowless none ∙ rw (unequal n end_primitive a, unequal n relax_primitive b, unequal n endcsname_primitive c) refl
+
+-- neither a primitive nor a name behind `\noexpand`
+pub line_moves : (page : Page) (t : Token) (m : Meaning Unit) → ((n : ℕ) → m ≡ means.Prim n → ⊥) → (m ≡ means.RelaxMarked → ⊥) → command page t m ≡ token_line page m
+line_moves page t (means.Prim n) a b = absurd (a n refl)
+line_moves page t means.RelaxMarked a b = absurd (b refl)
+line_moves page t means.Undefined a b = refl
+line_moves page t (means.Macro long outer list) a b = refl
+line_moves page t (means.Char category code) a b = refl
+line_moves page t (means.CharGiven n) a b = refl
+line_moves page t (means.MathGiven n) a b = refl
+line_moves page t (means.Register r n) a b = refl

@@ -1,0 +1,40 @@
+-- What one rule does, where a run may end behind a reading that the rule has closed.
+use Rattle.std.specs.Prelude.{ℕ, List}
+use Rattle.tex_syntax.specs.declared.words.Outcome.{Outcome}
+use Rattle.tex_defs.specs.Places.{World}
+use Rattle.tex_defs.specs.declared.Sizes.{Sizes}
+use Rattle.world_io.specs.Told.{FilesTold, SinkTold}
+use Rattle.plain_machine.specs.States.{State, Move}
+use Rattle.engine_state.specs.declared.broken.Broken.{Broken}
+use Rattle.engine_state.specs.declared.engine.Engine.{Engine}
+use Rattle.engine_state.specs.declared.outcome.Ruled.{Ruled}
+use Rattle.engine_state.specs.declared.outcome.Ruled.TheVariants.{Step, Free, Halted}
+use Rattle.engine_state.specs.Book.{Book}
+use Rattle.engine_state.specs.Calls.{AllStand, FramesOf}
+use Rattle.engine_state.specs.Near.{CutsIn}
+use Rattle.engine_state.specs.Stands.{state_of}
+use Rattle.engine_state.specs.Rules.{world_of, plan_of, Halts, Went}
+use Rattle.stomach.specs.declared.buffer.NameBuffer.{NameBuffer}
+use Rattle.stomach.specs.Buffers.{HoldsAnyName}
+
+-- The machine has stopped, behind at most k steps: the engine stands for its last state, but for how it stopped, with these open readings.
+pub record HaltsIn (sizes : Sizes) (s : State) (e' : Engine) (w w' : World) (moves : List Move) (o : Outcome) (k : ℕ) : Type 0 where
+  pub book' : Book
+  pub halts : Halts sizes s e' book' w w' moves o k
+  pub frames : FramesOf e'.call e' book'.work
+
+-- of a rule
+abbrev pub Rules : Sizes → State → Engine → World → World → List Move → Ruled → Type 0
+Rules sizes s e' w w' moves Step = Went sizes s e' w w' moves 1
+Rules sizes s e' w w' moves Free = Went sizes s e' w w' moves 0
+Rules sizes s e' w w' moves (Halted o) = HaltsIn sizes s e' w w' moves o 1
+
+-- The rule that comes next does this, over any files.
+abbrev pub RulesPlan : NameBuffer → (e e' : Engine) → (before after : SinkTold) → Ruled → Type 0
+RulesPlan b e e' before after ruled = (sizes : Sizes) (f : FilesTold) (book : Book) → HoldsAnyName sizes b → AllStand sizes e book →
+    Rules sizes (state_of e book) e' (world_of f before e) (world_of f after e') (plan_of e book) ruled
+
+-- It is cut off.
+abbrev pub CutsRule : NameBuffer → (e e' : Engine) → (before after : SinkTold) → Broken → Type 0
+CutsRule b e e' before after broken = (sizes : Sizes) (f : FilesTold) (book : Book) → HoldsAnyName sizes b → AllStand sizes e book →
+    CutsIn sizes (state_of e book) e' (world_of f before e) (world_of f after e') (plan_of e book) broken

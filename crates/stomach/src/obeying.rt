@@ -1,0 +1,133 @@
+// What the stomach and the readings make of a token that isn't expanded.
+ghost use Rattle.std.specs.Prelude.{◌≡◌, IfOk, IfErr, OnOk, None};
+ghost use Rattle.tex_defs.specs.declared.Sizes.{Sizes};
+ghost use Rattle.plain_machine.specs.Plan.{command, primitive};
+ghost use Rattle.world_io.specs.Told.{FilesTold};
+ghost use Rattle.engine_state.specs.Book.{Book};
+ghost use Rattle.engine_state.specs.Near.{CutsIn};
+ghost use Rattle.engine_state.specs.Stands.{Stands, SameFrames, state_of, page_of};
+ghost use Rattle.engine_state.specs.Rules.{world_of, onward_of, Takes, DoesOnward};
+ghost use Rattle.engine_state.specs.Steps.{pending_weight, IsFree, IsHalted};
+ghost use Rattle.gullet.specs.Stepping.{Stays};
+ghost use Rattle.stomach.specs.Obeying.{Obeys, is_dropped as plain_dropped};
+
+use engine_state::{Broken, Engine, Last, Ruled};
+use gullet::call_of;
+use reading_frames::Opening;
+use rows::{Kind, find_row};
+use tex_defs::{Meaning, Seen, Token};
+use tex_syntax::{Report, Want};
+use world_io::Sink;
+
+/// The number of `\relax`.
+const RELAX: u16 = 1;
+
+/// The number of `\endcsname`.
+const ENDCSNAME: u16 = 4;
+
+/// The number of `\end`.
+const END: u16 = 6;
+
+/// What a primitive in the stomach comes to that isn't expanded.
+fn obey_primitive<S: Sink>(
+    engine: &mut Engine,
+    out: &mut S,
+    token: Token,
+    number: u16,
+) -> Result<Ruled, Broken>
+    requires idle { engine.old.input.making ≡ None }
+    requires uncalled { engine.old.call ≡ None }
+    ensures rule { IfOk result (λ ruled. (sizes : Sizes) (f : FilesTold) (book : Book) → Stands sizes engine.old book →
+        DoesOnward sizes (state_of engine.old book) engine.new book (world_of f (S.told out.old) engine.old) (world_of f (S.told out.new) engine.new) (primitive (page_of engine.old book) token number) ruled) }
+    ensures err { IfErr result (λ b. (sizes : Sizes) (f : FilesTold) (book : Book) → Stands sizes engine.old book →
+        CutsIn sizes (state_of engine.old book) engine.new (world_of f (S.told out.old) engine.old) (world_of f (S.told out.new) engine.new) (primitive (page_of engine.old book) token number) b) }
+    ensures halts { IfOk result (λ ruled. IsHalted ruled → SameFrames engine.old engine.new) }
+    ensures on { IfOk result (λ ruled. IsFree ruled → ⊥) }
+    ensures frames { OnOk result (Obeys engine.old engine.new) }
+    ensures light { OnOk result (pending_weight engine.new.input.pending ≡ pending_weight engine.old.input.pending) }
+    ensures call { OnOk result (engine.new.call ≡ engine.old.call) }
+    ensures idle { OnOk result (engine.new.input.making ≡ None) }
+{
+    if find_row(number).is_some() {
+        engine.begin(Opening::Reads(Kind::Command(call_of(token, number))))?;
+        return Ok(Ruled::Step);
+    }
+    match number {
+        END => engine.halt(out, Last::End),
+        RELAX => Ok(Ruled::Step),
+        ENDCSNAME => engine.report_only(out, Report::ExtraEndcsname),
+        _ => {
+            engine.token_line(out, Meaning::Prim(number))?;
+            Ok(Ruled::Step)
+        }
+    }
+}
+
+/// Obeys a token that isn't expanded. *TeX: The Program*, part 46 (`main_control`).
+///
+/// # Errors
+/// There is no room for what comes, or a write failed: the engine stands for the moment before.
+pub(crate) fn obey<S: Sink>(engine: &mut Engine, out: &mut S, x: Seen) -> Result<Ruled, Broken>
+    requires idle { engine.old.input.making ≡ None }
+    requires uncalled { engine.old.call ≡ None }
+    ensures rule { IfOk result (λ ruled. (sizes : Sizes) (f : FilesTold) (book : Book) → Stands sizes engine.old book →
+        DoesOnward sizes (state_of engine.old book) engine.new book (world_of f (S.told out.old) engine.old) (world_of f (S.told out.new) engine.new) (command (page_of engine.old book) x.token x.meaning) ruled) }
+    ensures err { IfErr result (λ b. (sizes : Sizes) (f : FilesTold) (book : Book) → Stands sizes engine.old book →
+        CutsIn sizes (state_of engine.old book) engine.new (world_of f (S.told out.old) engine.old) (world_of f (S.told out.new) engine.new) (command (page_of engine.old book) x.token x.meaning) b) }
+    ensures halts { IfOk result (λ ruled. IsHalted ruled → SameFrames engine.old engine.new) }
+    ensures on { IfOk result (λ ruled. IsFree ruled → ⊥) }
+    ensures frames { OnOk result (Obeys engine.old engine.new) }
+    ensures light { OnOk result (pending_weight engine.new.input.pending ≡ pending_weight engine.old.input.pending) }
+    ensures call { OnOk result (engine.new.call ≡ engine.old.call) }
+    ensures idle { OnOk result (engine.new.input.making ≡ None) }
+{
+    match x.meaning {
+        Meaning::Prim(number) => obey_primitive(engine, out, x.token, number),
+        Meaning::RelaxMarked => Ok(Ruled::Step),
+        meaning => {
+            engine.token_line(out, meaning)?;
+            Ok(Ruled::Step)
+        }
+    }
+}
+
+/// Whether a reading that wants a token so drops this one.
+fn is_dropped(want: Want, x: Seen) -> bool
+    ensures { result ≡ plain_dropped want x }
+{
+    match (want, x.meaning) {
+        (Want::Nonblank | Want::Command, Meaning::Char { cat: 10, code: _ }) => true,
+        (Want::Command, Meaning::RelaxMarked | Meaning::Prim(RELAX)) => true,
+        _ => false,
+    }
+}
+
+/// A token that isn't expanded is fed to the innermost reading, or obeyed where none is open.
+///
+/// # Errors
+/// There is no room for what comes, or a write failed: the engine stands for the moment before.
+pub(crate) fn hand_on<S: Sink>(
+    engine: &mut Engine,
+    out: &mut S,
+    want: Option<Want>,
+    x: Seen,
+) -> Result<Ruled, Broken>
+    requires idle { engine.old.input.making ≡ None }
+    requires uncalled { engine.old.call ≡ None }
+    ensures rule { IfOk result (λ ruled. (sizes : Sizes) (f : FilesTold) (book : Book) → Stays want x → Takes sizes want engine.old book →
+        DoesOnward sizes (state_of engine.old book) engine.new book (world_of f (S.told out.old) engine.old) (world_of f (S.told out.new) engine.new) (onward_of (page_of engine.old book) want book.work x) ruled) }
+    ensures err { IfErr result (λ b. (sizes : Sizes) (f : FilesTold) (book : Book) → Stays want x → Takes sizes want engine.old book →
+        CutsIn sizes (state_of engine.old book) engine.new (world_of f (S.told out.old) engine.old) (world_of f (S.told out.new) engine.new) (onward_of (page_of engine.old book) want book.work x) b) }
+    ensures halts { IfOk result (λ ruled. IsHalted ruled → SameFrames engine.old engine.new) }
+    ensures on { IfOk result (λ ruled. IsFree ruled → ⊥) }
+    ensures idle { OnOk result (engine.new.input.making ≡ None) }
+{
+    match want {
+        None => obey(engine, out, x),
+        Some(want) if is_dropped(want, x) => Ok(Ruled::Step),
+        Some(_) => {
+            engine.feed(x)?;
+            Ok(Ruled::Step)
+        }
+    }
+}

@@ -1,9 +1,0 @@
-use Rattle.std.specs.Prelude.{true}
-use Rattle.tex_engine.specs.declared.broken.Broken.TheVariants as broken
-use Rattle.tex_engine.proofs.Putting.{kept_cuts}
-use Rattle.tex_engine.proofs.Stopping.{noted_cuts}
-use Rattle.tex_engine.proofs.engine.Engine.keep_name.Goals as goal
-
-pub returns-in-Err-clause-err : goal.returns-in-Err-clause-err
-returns-in-Err-clause-err c = let i = c.in-Err in
-    λ sizes w book more sized. noted_cuts true sizes _ (record c.args.self.now { names = c.keep.new.self }) w w _ book (broken.Full i.full) (kept_cuts sizes c.args.self.now c.keep.new.self book w c.args.name.now more i.full sized i.ensures.after i.ensures.answer)

@@ -1,6 +1,0 @@
-use Rattle.tex_machine.proofs.Falling.{falls}
-use Rattle.tex_machine.proofs.Fronts.{has_bounded}
-use Rattle.tex_machine.proofs.each_has_bounded_run.Goals as goal
-
-pub returns : goal.returns
-returns c = λ sizes s k. has_bounded sizes falls s k

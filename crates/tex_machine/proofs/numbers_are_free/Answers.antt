@@ -1,7 +1,0 @@
-use Rattle.tex_machine.proofs.Renumbering.{pulled_same, put_front_of, seen_of, met_of, meaning_to_let_of}
-use Rattle.tex_machine.proofs.MacroWords.{words_tied}
-use Rattle.tex_machine.proofs.Ties.{text_let, tokens_let}
-use Rattle.tex_machine.proofs.numbers_are_free.Goals as goal
-
-pub returns : goal.returns
-returns c = record { reads = pulled_same; puts = put_front_of; means = seen_of; meets = met_of; lets = meaning_to_let_of; texts = text_let; shows = tokens_let; words = words_tied }
