@@ -32,7 +32,7 @@ use Rattle.engine_state.specs.Book.{Book}
 use Rattle.engine_state.specs.Calls.{ReadingsStand, CallStands, IsTaking, HasWork, open_call, work_or_none}
 use Rattle.engine_state.specs.Stands.{Stands}
 use Rattle.engine_state.specs.Rules.{IsScanned, Scans, Takes, WantsHere, scanned_list, scanning_of}
-use Rattle.engine_state.proofs.Bare.{framed}
+use Rattle.engine_state.proofs.Uncalled.{framed}
 use Rattle.engine_state.proofs.FramesHeld.{gathered_is}
 
 -- FRAMES

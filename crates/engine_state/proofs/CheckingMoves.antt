@@ -42,16 +42,16 @@ use Rattle.engine_state.specs.declared.outcome.Ruled.{Ruled}
 use Rattle.engine_state.specs.Begins.{away_moves}
 use Rattle.engine_state.specs.Book.{Book, with_work}
 use Rattle.engine_state.specs.Calls.{AllStand, work_or_none}
-use Rattle.engine_state.specs.Near.{CutsIn}
+use Rattle.engine_state.specs.CutReadings.{CutsIn}
 use Rattle.engine_state.specs.Stands.{IsSized, SameFrames, SameOthers, SameStore, OnlyColumn, state_of, page_of}
 use Rattle.engine_state.specs.Steps.{asked}
 use Rattle.engine_state.specs.Rules.{world_of, onward_of, feeds_of, space_moves, token_moves, scanning_of, list_number, scanned_list, away_text, IsScanned, Scans, Takes, WantsHere, Behind, Comes, Went, Reports, DoesOnward}
-use Rattle.engine_state.proofs.Bare.{framed}
+use Rattle.engine_state.proofs.Uncalled.{framed}
 use Rattle.engine_state.proofs.CallKept.{all_still}
 use Rattle.engine_state.proofs.Checking.{Using, using}
 use Rattle.engine_state.proofs.CheckingNotes.{noted_stands, noted_did, noted_feeds}
 use Rattle.engine_state.proofs.Joining.{went_by, onward_by, onward_join}
-use Rattle.engine_state.proofs.Nearing.{later_in, in_by}
+use Rattle.engine_state.proofs.CuttingReadings.{later_in, in_by}
 use Rattle.engine_state.proofs.Reporting.{others_sound}
 use Rattle.engine_state.proofs.Standing.{all_input}
 

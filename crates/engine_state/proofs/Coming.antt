@@ -21,10 +21,10 @@ use Rattle.engine_state.specs.Book.{Book}
 use Rattle.engine_state.specs.Stands.{state_of, page_of}
 use Rattle.engine_state.specs.Steps.{next_met, next_free}
 use Rattle.engine_state.specs.declared.broken.Broken.{Broken}
-use Rattle.engine_state.specs.Near.{CutsIn}
+use Rattle.engine_state.specs.CutReadings.{CutsIn}
 use Rattle.engine_state.specs.Rules.{onward_of, Comes, Meets, Nexts, Halts, Went, DoesOnward}
 use Rattle.engine_state.proofs.Joining.{halts_few, halts_on, halts_least, went_by, went_on}
-use Rattle.engine_state.proofs.Nearing.{in_by, later_in}
+use Rattle.engine_state.proofs.CuttingReadings.{in_by, later_in}
 
 -- the same moves
 pub meets_by : (sizes : Sizes) (want : Option Want) (s : State) (e' : Engine) (book : Book) (w w' : World) (ms ns : List Move) (met : Option Seen) → ns ≡ ms → Meets sizes want s e' book w w' ms met → Meets sizes want s e' book w w' ns met

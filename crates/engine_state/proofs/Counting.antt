@@ -23,7 +23,7 @@ use Rattle.engine_state.specs.declared.engine.Engine.{Engine}
 use Rattle.engine_state.specs.Book.{Book}
 use Rattle.engine_state.specs.Calls.{AllStand, ReadingsStand}
 use Rattle.engine_state.specs.Stands.{Stands, Counts, state_of, depth, call_count, depth_full}
-use Rattle.engine_state.proofs.Bare.{all_of}
+use Rattle.engine_state.proofs.Uncalled.{all_of}
 use Rattle.engine_state.proofs.Storing.{words_more}
 
 pub frames_depth : (fs : List Frame) (held : Lists) (work : List Reading) → frames.FramesStand fs held work → length work ≡ length fs

@@ -1,4 +1,4 @@
-pub mod Bare
+pub mod Uncalled
 pub mod CallKept
 pub mod Cells
 pub mod Checking
@@ -12,7 +12,7 @@ pub mod Joining
 pub mod Known
 pub mod MadeTexts
 pub mod MeaningTexts
-pub mod Nearing
+pub mod CuttingReadings
 pub mod Pulling
 pub mod Putting
 pub mod ReadingEnds

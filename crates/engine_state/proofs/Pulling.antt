@@ -58,11 +58,11 @@ use Rattle.engine_state.specs.Book.{Book}
 use Rattle.engine_state.specs.Calls.{AllStand, ReadingsStand, CallStands}
 use Rattle.engine_state.specs.Entering.{located, with_names, EntryFits, EntryRefused}
 use Rattle.engine_state.specs.Stands.{Counts, IsSized, IsSound, SameStore, SameFrames, FramesStand, call_count, state_of, page_of, depth}
-use Rattle.engine_state.specs.Near.{CutsIn}
+use Rattle.engine_state.specs.CutReadings.{CutsIn}
 use Rattle.engine_state.specs.Rules.{world_of, onward_of, enters_of, scanning_of, token_moves, name_moves, WantsHere, Takes, Cuts, Went, Meets, Nexts, DoesOnward}
 use Rattle.engine_state.proofs.CallKept.{all_still}
 use Rattle.engine_state.proofs.Cutting.{cuts_by, later_cuts, full_cuts}
-use Rattle.engine_state.proofs.Nearing.{in_by, later_in}
+use Rattle.engine_state.proofs.CuttingReadings.{in_by, later_in}
 use Rattle.engine_state.proofs.Storing.{store_with, sound_still}
 use Rattle.engine_state.proofs.Cells.{meaning_more, seen_more, inner_new}
 use Rattle.engine_state.proofs.Joining.{IsQuiet, quiet_here, went_by, onward_join}

@@ -34,7 +34,7 @@ use Rattle.engine_state.specs.declared.engine.Engine.{Engine}
 use Rattle.engine_state.specs.Book.{Book, with_work}
 use Rattle.engine_state.specs.Stands.{SameFrames, call_count, Counts, IsSized, IsSound, Stands, SameStore, state_of, page_of}
 use Rattle.engine_state.specs.Rules.{world_of, Cuts, Went, Reports, Halts}
-use Rattle.engine_state.proofs.Bare.{all_of}
+use Rattle.engine_state.proofs.Uncalled.{all_of}
 use Rattle.engine_state.proofs.Cutting.{cuts_by, later_cuts, full_cuts}
 use Rattle.engine_state.proofs.Joining.{IsQuiet, quiet_here, went_by, halts_on, halts_least}
 use Rattle.engine_state.proofs.Storing.{store_join, store_making, store_settled, store_put, sound_still, words_more}

@@ -32,7 +32,7 @@ use Rattle.engine_state.specs.declared.broken.Broken.{Broken}
 use Rattle.engine_state.specs.declared.broken.Broken.TheVariants as broken
 use Rattle.engine_state.specs.Book.{Book, with_work}
 use Rattle.engine_state.specs.Feeding.{tokens_of, with_tokens, IsKept, TokensFit, TokensCut}
-use Rattle.engine_state.specs.Near.{CutsIn, FramesIn, MayLead, with_token}
+use Rattle.engine_state.specs.CutReadings.{CutsIn, FramesIn, MayLead, with_token}
 use Rattle.engine_state.specs.Stands.{Stands, state_of}
 use Rattle.engine_state.proofs.Cutting.{cuts_by}
 use Rattle.engine_state.proofs.FramesHeld.{held_top, has_top, count_top, framed_top, stands_new, same_with, framed_with}

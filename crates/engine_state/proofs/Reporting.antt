@@ -43,7 +43,7 @@ use Rattle.engine_state.specs.Book.{Book, with_work}
 use Rattle.engine_state.specs.Calls.{AllStand, work_or_none}
 use Rattle.engine_state.specs.Stands.{Stands, IsSized, IsSound, IsUncalled, SameFrames, SameStore, SameBut, SameOthers, OnlyColumn, state_of, page_of}
 use Rattle.engine_state.specs.Rules.{world_of, list_number, counted, CountsOn, Cuts, CountsReports, Went, Halts, Reports}
-use Rattle.engine_state.proofs.Bare.{all_of}
+use Rattle.engine_state.proofs.Uncalled.{all_of}
 use Rattle.engine_state.proofs.CallKept.{frames_kept}
 use Rattle.engine_state.proofs.Cutting.{cuts_by, full_cuts, later_cuts, did_out, cut_out}
 use Rattle.engine_state.proofs.Joining.{IsQuiet, quiet_here, quiet_wrote, halts_on}

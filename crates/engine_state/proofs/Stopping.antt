@@ -18,11 +18,11 @@ use Rattle.engine_state.specs.declared.outcome.Ruled.{Ruled}
 use Rattle.engine_state.specs.declared.outcome.Ruled.TheVariants as ruled
 use Rattle.engine_state.specs.Book.{Book}
 use Rattle.engine_state.specs.Calls.{AllStand}
-use Rattle.engine_state.specs.Near.{FramesNear, CutsIn}
+use Rattle.engine_state.specs.CutReadings.{FramesAtCut, CutsIn}
 use Rattle.engine_state.specs.Stands.{SameFrames, SameReadings}
 use Rattle.engine_state.specs.Rules.{WantsHere, Takes, CountsReports, Went, Halts, Cuts, Comes, Nexts, DoesRule}
-use Rattle.engine_state.specs.Turns.{ReadsNext, CutsNext, DoesPlan, CutsPlan}
-use Rattle.engine_state.proofs.Nearing.{near_still}
+use Rattle.engine_state.specs.OneRule.{ReadsNext, CutsNext, DoesPlan, CutsPlan}
+use Rattle.engine_state.proofs.CuttingReadings.{near_still}
 use Rattle.engine_state.proofs.CallKept.{all_still}
 use Rattle.engine_state.proofs.Storing.{store_same, sound_still}
 
@@ -56,7 +56,7 @@ pub noted_counts : (b : Bool) (o : Outcome) (t : State) (e : Engine) → CountsR
 noted_counts b Finished t e h = h
 noted_counts b (AtFatal f) t e h = h
 
-pub noted_near : (b : Bool) (x : Broken) (e : Engine) (book : Book) → FramesNear x e book.work → FramesNear x (noted b e) book.work
+pub noted_near : (b : Bool) (x : Broken) (e : Engine) (book : Book) → FramesAtCut x e book.work → FramesAtCut x (noted b e) book.work
 noted_near b x e book h = near_still x e (noted b e) book.work (noted_same b e) h
 
 module _ (b : Bool) (sizes : Sizes) (s : State) (e : Engine) (w w' : World) (moves : List Move) where

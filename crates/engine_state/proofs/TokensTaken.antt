@@ -24,7 +24,7 @@ use Rattle.engine_state.specs.declared.engine.Engine.{Engine}
 use Rattle.engine_state.specs.declared.broken.Broken.TheVariants as broken
 use Rattle.engine_state.specs.Book.{Book}
 use Rattle.engine_state.specs.Feeding.{tokens_of, with_tokens, TokensFit, TokensCut}
-use Rattle.engine_state.specs.Near.{with_token}
+use Rattle.engine_state.specs.CutReadings.{with_token}
 use Rattle.engine_state.specs.Stands.{IsSound, state_of}
 use Rattle.engine_state.specs.Rules.{Cuts}
 use Rattle.engine_state.proofs.Cutting.{cuts_by, later_cuts, full_cuts}

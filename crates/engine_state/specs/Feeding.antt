@@ -11,7 +11,7 @@ use Rattle.reading_frames.specs.Stack.{innermost_of}
 use Rattle.reading_frames.specs.Stands.{opened_lists}
 use Rattle.input_state.specs.Stored.{Stored, KeepsMacros, words}
 use Rattle.engine_state.specs.declared.engine.Engine.{Engine}
-use Rattle.engine_state.specs.Near.{with_token}
+use Rattle.engine_state.specs.CutReadings.{with_token}
 
 abbrev pub tokens_of : Grown → List Token
 tokens_of g = option_to_list g.first ++ option_to_list g.second

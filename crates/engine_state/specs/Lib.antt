@@ -6,8 +6,8 @@ pub mod Faults
 pub mod Feeding
 pub mod First
 pub mod Making
-pub mod Near
+pub mod CutReadings
 pub mod Rules
 pub mod Stands
 pub mod Steps
-pub mod Turns
+pub mod OneRule

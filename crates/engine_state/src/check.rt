@@ -14,7 +14,7 @@ ghost use Rattle.plain_machine.specs.Does.{Did};
 ghost use Rattle.world_io.specs.Told.{FilesTold};
 ghost use Rattle.engine_state.specs.Book.{Book};
 ghost use Rattle.engine_state.specs.Calls.{AllStand};
-ghost use Rattle.engine_state.specs.Near.{CutsIn};
+ghost use Rattle.engine_state.specs.CutReadings.{CutsIn};
 ghost use Rattle.engine_state.specs.Begins.{away_moves};
 ghost use Rattle.engine_state.specs.Stands.{SameFrames, SameReadings, OnlyColumn, state_of, page_of};
 ghost use Rattle.engine_state.specs.Rules.{world_of, onward_of, token_moves, space_moves, scanning_of, Takes, Cuts, Halts, DoesOnward, away_text, IsScanned, Scans, Wants, Meets, Behind};

@@ -15,7 +15,8 @@ use crate::engine::Engine;
 use tex_defs::{Sizes, Token};
 
 impl Engine {
-    /// Puts a token in front: a list of it is begun, grown and put, once the finished lists in front have gone.
+    /// Puts a token in front: a list of it is begun, grown and put, once the finished lists in front have gone. *TeX: The Program*,
+    /// part 22 (`back_input`).
     ///
     /// # Errors
     /// The main memory or the input stack is full: of the list there is what had room.

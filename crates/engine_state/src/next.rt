@@ -8,11 +8,11 @@ ghost use Rattle.world_io.specs.Told.{FilesTold};
 ghost use Rattle.input_state.specs.Reads.{gives_step, IsLexeme};
 ghost use Rattle.plain_tokens.specs.Lookup.{token_of, new_name};
 ghost use Rattle.engine_state.specs.Book.{Book};
-ghost use Rattle.engine_state.specs.Near.{CutsIn};
+ghost use Rattle.engine_state.specs.CutReadings.{CutsIn};
 ghost use Rattle.engine_state.specs.Entering.{with_names, EntryFits, EntryRefused};
 ghost use Rattle.engine_state.specs.Stands.{IsSized, SameFrames, SameReadings, state_of, page_of};
 ghost use Rattle.engine_state.specs.Rules.{world_of, onward_of, enters_of, name_moves, scanning_of, Takes, Meets};
-ghost use Rattle.engine_state.specs.Turns.{ReadsNext, CutsNext};
+ghost use Rattle.engine_state.specs.OneRule.{ReadsNext, CutsNext};
 ghost use Rattle.engine_state.specs.Steps.{weight, IsSkipped, IsOver, NextStepsIf, ends_run, next_met, next_free};
 
 use crate::broken::Broken;

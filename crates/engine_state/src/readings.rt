@@ -18,7 +18,7 @@ ghost use Rattle.plain_machine.specs.Demands.{refusal};
 ghost use Rattle.plain_machine.specs.Plan.{noting, value_tokens};
 ghost use Rattle.plain_machine.specs.Does.{Did};
 ghost use Rattle.engine_state.specs.Book.{Book, with_work};
-ghost use Rattle.engine_state.specs.Near.{CutsIn, with_token};
+ghost use Rattle.engine_state.specs.CutReadings.{CutsIn, with_token};
 ghost use Rattle.engine_state.specs.Feeding.{HasTop, IsKept, TokensFit, TokensCut, with_tokens};
 ghost use Rattle.engine_state.specs.Stands.{Stands, Counts, IsSound, SameBut, state_of, depth, depth_full};
 ghost use Rattle.engine_state.specs.Rules.{feeds_of};

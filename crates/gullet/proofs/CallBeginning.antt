@@ -39,7 +39,7 @@ use Rattle.engine_state.specs.Book.{Book, with_work}
 use Rattle.engine_state.specs.Calls.{AllStand, CallStands, Gathers, HasWork, open_call}
 use Rattle.engine_state.specs.Stands.{IsSound, SameFrames, SameStore, Stands, state_of, page_of}
 use Rattle.engine_state.specs.Rules.{Cuts, Went}
-use Rattle.engine_state.proofs.Bare.{all_of}
+use Rattle.engine_state.proofs.Uncalled.{all_of}
 use Rattle.engine_state.proofs.CallKept.{all_still, meant_by}
 use Rattle.engine_state.proofs.Cutting.{later_cuts, full_cuts, cuts_by}
 use Rattle.engine_state.proofs.Joining.{quiet_here, went_by}

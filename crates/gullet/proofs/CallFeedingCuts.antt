@@ -38,7 +38,7 @@ use Rattle.engine_state.specs.declared.call.Call.{Call}
 use Rattle.engine_state.specs.declared.engine.Engine.{Engine}
 use Rattle.engine_state.specs.Book.{Book, with_work}
 use Rattle.engine_state.specs.Calls.{AllStand, ReadingsStand, CallStands, Gathers, open_call}
-use Rattle.engine_state.specs.Near.{Within, Behind, CutOff, CutScan, CallNear, FramesIn, FramesNear, CutsIn}
+use Rattle.engine_state.specs.CutReadings.{Within, Behind, CutOff, CutScan, CallAtCut, FramesIn, FramesAtCut, CutsIn}
 use Rattle.engine_state.specs.Stands.{IsSound, SameStore, state_of}
 use Rattle.gullet.proofs.CallEnding.{here as here_call}
 use Rattle.gullet.proofs.CallFeeding.{scanner, text_is, answer_to, feeding_is, growth_is, lists_before}
@@ -134,7 +134,7 @@ module _ (sizes : Sizes) (e e2 : Engine) (book : Book) (r : Reading) (rs : List 
   no_more q lists same =
       ap (λ (u : State). refused sizes (memory 1 (words u) ∷ [])) (finish q lists same) ∙ words_more sizes e2 (with_work (q ∷ rs) book) 1 (Some full) sound refuses
 
-  frames_near : (q : Reading) → CallNear (broken.Full full) (open_call name) e2.input.call q → FramesNear (broken.Full full) e2 (q ∷ rs)
+  frames_near : (q : Reading) → CallAtCut (broken.Full full) (open_call name) e2.input.call q → FramesAtCut (broken.Full full) e2 (q ∷ rs)
   frames_near q near = record {
     lists = e2.input.builds;
     front = None;
@@ -145,7 +145,7 @@ module _ (sizes : Sizes) (e e2 : Engine) (book : Book) (r : Reading) (rs : List 
   }
 
   -- the first moves are done, and the next one has no room
-  cut_at : (q : Reading) (lists : List (List Token)) (done : List Move) (m : Move) (rest : List Move) → CallNear (broken.Full full) (open_call name) e2.input.call q → call_lists e2.input.call ≡ lists →
+  cut_at : (q : Reading) (lists : List (List Token)) (done : List Move) (m : Move) (rest : List Move) → CallAtCut (broken.Full full) (open_call name) e2.input.call q → call_lists e2.input.call ≡ lists →
       argument_fed x (scan_work k.scan) complete (work_in a) ≡ done ++ m ∷ rest →
       Did sizes (state_at (state_of e W) (r ∷ rs) e.last (lists_of k.scan.args (scan_work k.scan) ++ e.input.builds)) (state_at (state_of e W) (q ∷ rs) e2.last (lists ++ e.input.builds)) w w done →
       refusal sizes m (state_at (state_of e W) (q ∷ rs) e2.last (lists ++ e.input.builds)) ≡ Some full →
@@ -161,7 +161,7 @@ module _ (sizes : Sizes) (e e2 : Engine) (book : Book) (r : Reading) (rs : List 
 
   -- the call is this reading
   call_near : (q : Reading) (next : Scan) → q.kind ≡ r.kind → asks.More Raw ≡ reading.ask q.kind q.fed → e2.input.call ≡ calls.Stopped name next → CutScan h.long text next q.fed →
-      CallNear (broken.Full full) (open_call name) e2.input.call q
+      CallAtCut (broken.Full full) (open_call name) e2.input.call q
   call_near q next same asked now at = CutOff (record {
     full = full;
     is_full = refl;
@@ -185,7 +185,7 @@ module _ (sizes : Sizes) (e e2 : Engine) (book : Book) (r : Reading) (rs : List 
     whole : drop (length c.was) (target_by complete (work_in a)) ≡ c.front ++ c.behind
     whole = ap (λ (o : Option (List Token)). drop (length (unwrap_or o [])) (target_by complete (work_in a))) (sym c.before) ∙ sym (growth_is e book.number name r x h) ∙ c.whole
 
-    near : CallNear (broken.Full full) (open_call name) e2.input.call r
+    near : CallAtCut (broken.Full full) (open_call name) e2.input.call r
     near = call_near r next refl h.asked now (Within (record { scan = k.scan; seen = x; gathers = k.gathers; cut = c }))
 
     last : e2.last ≡ e.last
@@ -220,7 +220,7 @@ module _ (sizes : Sizes) (e e2 : Engine) (book : Book) (r : Reading) (rs : List 
     q : Reading
     q = fed_reading r x
 
-    near : CallNear (broken.Full full) (open_call name) e2.input.call q
+    near : CallAtCut (broken.Full full) (open_call name) e2.input.call q
     near = call_near q next refl asked now (Behind (record { scan = k.scan; before = r.fed; seen = x; gathers = k.gathers; last = refl; cut = c }))
 
     last : e2.last ≡ x

@@ -16,15 +16,15 @@ use Rattle.engine_state.specs.declared.broken.Broken.{Broken}
 use Rattle.engine_state.specs.declared.broken.Broken.TheVariants as broken
 use Rattle.engine_state.specs.declared.engine.Engine.{Engine}
 use Rattle.engine_state.specs.Book.{Book, with_work}
-use Rattle.engine_state.specs.Near.{CutsIn}
+use Rattle.engine_state.specs.CutReadings.{CutsIn}
 use Rattle.engine_state.specs.Rules.{Cuts, Went}
 use Rattle.engine_state.specs.Stands.{Stands, SameFrames, SameOthers, SameStore, state_of, page_of}
 use Rattle.gullet.specs.Stepping.{job_moves}
-use Rattle.engine_state.proofs.Bare.{all_of, framed}
+use Rattle.engine_state.proofs.Uncalled.{all_of, framed}
 use Rattle.engine_state.proofs.CallKept.{all_still}
 use Rattle.engine_state.proofs.Cutting.{full_cuts}
 use Rattle.engine_state.proofs.Joining.{quiet_here}
-use Rattle.engine_state.proofs.Nearing.{stands_in, later_in}
+use Rattle.engine_state.proofs.CuttingReadings.{stands_in, later_in}
 use Rattle.engine_state.proofs.Standing.{same_engine}
 use Rattle.gullet.proofs.Stepping.{free_of}
 use Rattle.engine_state.proofs.Storing.{sound_still}

@@ -12,7 +12,7 @@ ghost use Rattle.plain_machine.specs.Plan.{Page, call_of as plain_call, expanded
 ghost use Rattle.world_io.specs.Told.{FilesTold};
 ghost use Rattle.input_state.specs.Reads.{gives_step};
 ghost use Rattle.engine_state.specs.Book.{Book};
-ghost use Rattle.engine_state.specs.Near.{CutsIn};
+ghost use Rattle.engine_state.specs.CutReadings.{CutsIn};
 ghost use Rattle.engine_state.specs.Stands.{Stands, SameFrames, SameReadings, state_of, page_of};
 ghost use Rattle.engine_state.specs.Rules.{world_of, onward_of, enters_of, Takes, Went, next_moves};
 ghost use Rattle.engine_state.specs.Steps.{weight, pending_weight};

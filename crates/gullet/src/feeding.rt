@@ -11,7 +11,7 @@ ghost use Rattle.input_state.specs.Stored.{KeepsMacros, words};
 ghost use Rattle.engine_state.specs.Book.{Book, with_work};
 ghost use Rattle.gullet.specs.CallAsks.{ask_behind};
 ghost use Rattle.engine_state.specs.Calls.{AllStand, open_call};
-ghost use Rattle.engine_state.specs.Near.{CutsIn};
+ghost use Rattle.engine_state.specs.CutReadings.{CutsIn};
 ghost use Rattle.engine_state.specs.Stands.{state_of};
 ghost use Rattle.engine_state.specs.Rules.{Went};
 ghost use Rattle.engine_state.specs.declared.broken.Broken.TheVariants as broken;

@@ -17,14 +17,14 @@ ghost use Rattle.input_state.specs.Calls.{after_call, put_of};
 ghost use Rattle.input_state.specs.Stored.{KeepsMacros, put_refusal};
 ghost use Rattle.engine_state.specs.Book.{Book, with_work};
 ghost use Rattle.engine_state.specs.Calls.{AllStand, argument_bytes, brace_call, open_call, call_away_moves};
-ghost use Rattle.engine_state.specs.Near.{CutsIn};
+ghost use Rattle.engine_state.specs.CutReadings.{CutsIn};
 ghost use Rattle.engine_state.specs.Stands.{SameFrames, state_of, page_of};
 ghost use Rattle.engine_state.specs.Rules.{world_of, next_moves, Takes, Cuts, DoesRule};
 ghost use Rattle.engine_state.specs.declared.call.CallAsk.TheVariants.{More as AsksMore};
 ghost use Rattle.input_state.specs.Reads.{gives_step};
 ghost use Rattle.plain_tokens.specs.Pending.{pulled};
 ghost use Rattle.engine_state.specs.Steps.{stepping, call_asks_more, stops_run, IsStep, IsFree, IsHalted, StepsIf, weight};
-ghost use Rattle.engine_state.specs.Turns.{DoesPlan, CutsPlan};
+ghost use Rattle.engine_state.specs.OneRule.{DoesPlan, CutsPlan};
 ghost use Rattle.engine_state.specs.declared.call.Call.{Call};
 
 use crate::feeding::feed_call;

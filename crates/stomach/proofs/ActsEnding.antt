@@ -37,23 +37,23 @@ use Rattle.engine_state.specs.declared.outcome.Ruled.{Ruled}
 use Rattle.engine_state.specs.declared.outcome.Ruled.TheVariants.{Step, Free, Halted}
 use Rattle.engine_state.specs.Book.{Book, with_work}
 use Rattle.engine_state.specs.Calls.{FramesOf}
-use Rattle.engine_state.specs.Near.{CutsIn}
+use Rattle.engine_state.specs.CutReadings.{CutsIn}
 use Rattle.engine_state.specs.Rules.{world_of, Cuts, Went, Halts, DoesOnward}
 use Rattle.engine_state.specs.Stands.{Stands, FramesStand, SameBut, SameFrames, SameOthers, SameStore, state_of, page_of}
 use Rattle.gullet.specs.Stepping.{ExpandsOnce, EndsRun}
 use Rattle.engine_state.specs.Steps.{asked, freed, pending_weight, weight, IsHalted}
-use Rattle.engine_state.proofs.Bare.{all_of}
+use Rattle.engine_state.proofs.Uncalled.{all_of}
 use Rattle.engine_state.proofs.CallKept.{frames_kept}
 use Rattle.gullet.proofs.CallWeighing.{lighter_by}
 use Rattle.gullet.proofs.JobName.{name_stands}
 use Rattle.engine_state.proofs.Joining.{quiet_wrote, halts_on, halts_least, went_on}
-use Rattle.engine_state.proofs.Nearing.{later_in, stands_in, in_by}
+use Rattle.engine_state.proofs.CuttingReadings.{later_in, stands_in, in_by}
 use Rattle.engine_state.proofs.Reporting.{full_out}
 use Rattle.engine_state.proofs.Standing.{same_engine}
 use Rattle.gullet.proofs.Stepping.{free_of}
 use Rattle.engine_state.proofs.Weighing.{acted_lighter}
 use Rattle.stomach.specs.Effects.{done_alone, IsAlone, IsSmall}
-use Rattle.stomach.specs.Halting.{Rules}
+use Rattle.stomach.specs.Halting.{DoesRuleIn}
 use Rattle.stomach.proofs.Categories.{SetsCategory, sets_category}
 
 -- WHAT IS DONE ALONE
@@ -92,27 +92,27 @@ frames_none e e' work none same st = subst (λ (c : Option _). FramesOf c e' wor
 -- ONE MOVE OF THE READINGS
 
 -- a move by which no text changes
-abbrev Turns : Move → Type 0
-Turns m = (s : State) → (plan.page_of (made m s) ≡ plan.page_of s) × ((made m s).reports ≡ s.reports)
+abbrev LeavesPage : Move → Type 0
+LeavesPage m = (s : State) → (plan.page_of (made m s) ≡ plan.page_of s) × ((made m s).reports ≡ s.reports)
 
-module _ (e e1 : Engine) (before after : Book) (m : Move) (is : made m (state_of e before) ≡ state_of e1 after) (turns : Turns m) where
+module _ (e e1 : Engine) (before after : Book) (m : Move) (is : made m (state_of e before) ≡ state_of e1 after) (turns : LeavesPage m) where
   turned_page : page_of e1 after ≡ page_of e before
   turned_page = sym (ap plan.page_of is) ∙ (turns (state_of e before)).0
 
   turned_reports : (state_of e1 after).reports ≡ (state_of e before).reports
   turned_reports = sym (ap (λ (x : State). x.reports) is) ∙ (turns (state_of e before)).1
 
-closed_turns : Turns Closed
-closed_turns s = (refl, refl)
+closed_leaves : LeavesPage Closed
+closed_leaves s = (refl, refl)
 
-begun_turns : (k : Kind) → Turns (Begun k)
-begun_turns k s = (refl, refl)
+begun_leaves : (k : Kind) → LeavesPage (Begun k)
+begun_leaves k s = (refl, refl)
 
 -- WHAT COMES BEHIND MOVES
 
 -- the readings being others then
 rules_behind : (sizes : Sizes) (s u : State) (e' : Engine) (book : Book) (w v w' : World) (ms ns : List Move) (ruled : Ruled) → u.reports ≡ s.reports → Did sizes s u w v ms → steps ms ≡ 0 → (IsHalted ruled → FramesOf e'.call e' book.work) →
-    DoesOnward sizes u e' book v w' ns ruled → Rules sizes s e' w w' (ms ++ ns) (freed ruled)
+    DoesOnward sizes u e' book v w' ns ruled → DoesRuleIn sizes s e' w w' (ms ++ ns) (freed ruled)
 rules_behind sizes s u e' book w v w' ms ns Step same d n stand h = went_on sizes s u e' w v w' ms ns 0 0 d n h
 rules_behind sizes s u e' book w v w' ms ns Free same d n stand h = absurd h
 rules_behind sizes s u e' book w v w' ms ns (Halted o) same d n stand h = record {
@@ -148,18 +148,18 @@ module _ (sizes : Sizes) (e e1 : Engine) (book : Book) (r : Reading) (rs : List 
   closed_did = did_one sizes Closed (state_of e all) (state_of e1 left) _ _ refl is (quiet_wrote Closed f s e.in_line e1.in_line tt column)
 
   closed_page : page_of e1 left ≡ page_of e book
-  closed_page = turned_page e e1 all left Closed is closed_turns
+  closed_page = turned_page e e1 all left Closed is closed_leaves
 
   closed_reports : (state_of e1 left).reports ≡ (state_of e all).reports
-  closed_reports = turned_reports e e1 all left Closed is closed_turns
+  closed_reports = turned_reports e e1 all left Closed is closed_leaves
 
   module _ (e2 : Engine) (s' : SinkTold) (c : Call) (x : Seen) where
     pub obeyed_rule : (ruled now : Ruled) → now ≡ freed ruled → e1.call ≡ None → (IsHalted ruled → SameFrames e1 e2) → Stands sizes e1 left →
         DoesOnward sizes (state_of e1 left) e2 left (world_of f s e1) (world_of f s' e2) (command (page_of e1 left) x.token x.meaning) ruled →
-        Rules sizes (state_of e all) e2 (world_of f s e) (world_of f s' e2) (acts (page_of e book) c (effect.Obey x)) now
+        DoesRuleIn sizes (state_of e all) e2 (world_of f s e) (world_of f s' e2) (acts (page_of e book) c (effect.Obey x)) now
     obeyed_rule ruled now to none halts st h =
-        subst (λ (y : Ruled). Rules sizes (state_of e all) e2 (world_of f s e) (world_of f s' e2) (acts (page_of e book) c (effect.Obey x)) y) (sym to)
-        (subst (λ (page : Page). Rules sizes (state_of e all) e2 (world_of f s e) (world_of f s' e2) (Closed ∷ command page x.token x.meaning) (freed ruled)) closed_page
+        subst (λ (y : Ruled). DoesRuleIn sizes (state_of e all) e2 (world_of f s e) (world_of f s' e2) (acts (page_of e book) c (effect.Obey x)) y) (sym to)
+        (subst (λ (page : Page). DoesRuleIn sizes (state_of e all) e2 (world_of f s e) (world_of f s' e2) (Closed ∷ command page x.token x.meaning) (freed ruled)) closed_page
         (rules_behind sizes (state_of e all) (state_of e1 left) e2 left (world_of f s e) (world_of f s e1) (world_of f s' e2) (Closed ∷ []) (command (page_of e1 left) x.token x.meaning) ruled closed_reports closed_did refl
         (λ halted. frames_none e1 e2 rs none (halts halted) st.readings) h))
 
@@ -192,10 +192,10 @@ module _ (sizes : Sizes) (e e1 : Engine) (book : Book) (r : Reading) (rs : List 
         (did_one sizes (Begun (Behind c x)) (state_of e1 left) (state_of e2 behind) _ _ fits begun (quiet_wrote (Begun (Behind c x)) f s e1.in_line e2.in_line tt still))
 
     begun_page : page_of e2 behind ≡ page_of e book
-    begun_page = turned_page e1 e2 left behind (Begun (Behind c x)) begun (begun_turns (Behind c x)) ∙ closed_page
+    begun_page = turned_page e1 e2 left behind (Begun (Behind c x)) begun (begun_leaves (Behind c x)) ∙ closed_page
 
     begun_reports : (state_of e2 behind).reports ≡ (state_of e all).reports
-    begun_reports = turned_reports e1 e2 left behind (Begun (Behind c x)) begun (begun_turns (Behind c x)) ∙ closed_reports
+    begun_reports = turned_reports e1 e2 left behind (Begun (Behind c x)) begun (begun_leaves (Behind c x)) ∙ closed_reports
 
     module _ (e3 : Engine) (s' : SinkTold) where
       abbrev moves : List Move
@@ -204,9 +204,9 @@ module _ (sizes : Sizes) (e e1 : Engine) (book : Book) (r : Reading) (rs : List 
       -- the second token is expanded, or the run ends
       pub expanded_rule : (ruled : Ruled) → e2.call ≡ None → (IsHalted ruled → SameFrames e2 e3) → Stands sizes e2 behind →
           DoesOnward sizes (state_of e2 behind) e3 behind (world_of f s e2) (world_of f s' e3) (expanded (page_of e2 behind) y (put_one y.token)) ruled →
-          Rules sizes (state_of e all) e3 (world_of f s e) (world_of f s' e3) moves (freed ruled)
+          DoesRuleIn sizes (state_of e all) e3 (world_of f s e) (world_of f s' e3) moves (freed ruled)
       expanded_rule ruled none halts st h =
-          subst (λ (page : Page). Rules sizes (state_of e all) e3 (world_of f s e) (world_of f s' e3) (fronts ++ expanded page y (put_one y.token)) (freed ruled)) begun_page
+          subst (λ (page : Page). DoesRuleIn sizes (state_of e all) e3 (world_of f s e) (world_of f s' e3) (fronts ++ expanded page y (put_one y.token)) (freed ruled)) begun_page
           (rules_behind sizes (state_of e all) (state_of e2 behind) e3 behind (world_of f s e) (world_of f s e2) (world_of f s' e3) fronts (expanded (page_of e2 behind) y (put_one y.token)) ruled begun_reports begun_did refl
           (λ halted. frames_none e2 e3 behind.work none (halts halted) st.readings) h)
 

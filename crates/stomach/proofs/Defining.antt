@@ -34,7 +34,7 @@ use Rattle.engine_state.specs.Book.{Book, AreBodies, with_work}
 use Rattle.engine_state.specs.Rules.{Went}
 use Rattle.engine_state.specs.Stands.{Stands, state_of}
 use Rattle.engine_state.specs.Steps.{asked}
-use Rattle.engine_state.proofs.Bare.{all_of}
+use Rattle.engine_state.proofs.Uncalled.{all_of}
 use Rattle.engine_state.proofs.FramesHeld.{gathered_is, held_beneath, stands_gathered}
 use Rattle.engine_state.proofs.Joining.{quiet_here, went_by}
 use Rattle.engine_state.proofs.Storing.{inside_by, body_at}

@@ -30,7 +30,7 @@ use Rattle.engine_state.specs.Stands.{Stands, SameReadings, state_of, page_of}
 use Rattle.engine_state.specs.Steps.{IsFree, StepsIf}
 use Rattle.gullet.specs.Stepping.{Steps, StepStepsIf, IsKept, Stays, expands}
 use Rattle.engine_state.specs.Rules.{onward_of, feeds_of, WantsHere, Takes, Comes, Went, DoesRule, DoesOnward}
-use Rattle.engine_state.proofs.Bare.{all_of, framed}
+use Rattle.engine_state.proofs.Uncalled.{all_of, framed}
 use Rattle.engine_state.proofs.Coming.{comes_went, comes_halts}
 use Rattle.gullet.proofs.Stepping.{feeds_none, free_of, no}
 use Rattle.stomach.specs.Obeying.{is_dropped}

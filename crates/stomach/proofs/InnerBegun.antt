@@ -31,15 +31,15 @@ use Rattle.plain_machine.proofs.Joins.{steps_join}
 use Rattle.engine_state.specs.declared.broken.Broken.TheVariants as broken
 use Rattle.engine_state.specs.declared.engine.Engine.{Engine}
 use Rattle.engine_state.specs.Book.{Book, with_work}
-use Rattle.engine_state.specs.Near.{CutsIn}
+use Rattle.engine_state.specs.CutReadings.{CutsIn}
 use Rattle.engine_state.specs.Rules.{Went}
 use Rattle.engine_state.specs.Stands.{Stands, SameFrames, state_of, page_of}
 use Rattle.engine_state.specs.Steps.{weight, asked, pending_weight}
-use Rattle.engine_state.proofs.Bare.{all_of}
+use Rattle.engine_state.proofs.Uncalled.{all_of}
 use Rattle.gullet.proofs.CallWeighing.{lighter_by}
 use Rattle.gullet.proofs.JobName.{full_in}
 use Rattle.engine_state.proofs.Joining.{quiet_here, went_by}
-use Rattle.engine_state.proofs.Nearing.{in_by}
+use Rattle.engine_state.proofs.CuttingReadings.{in_by}
 use Rattle.engine_state.proofs.Putting.{back_none}
 use Rattle.engine_state.proofs.Weighing.{lighter, valued_lighter}
 use Rattle.stomach.proofs.FrameAsks.{asks_least, innermost_begins_none}

@@ -9,7 +9,7 @@ pub mod InnerBegun
 pub mod Telling
 pub mod SpeltNames
 pub mod CallSteps
-pub mod Giving
+pub mod GivenBytes
 pub mod Reading
 pub mod Rounds
 pub mod Running

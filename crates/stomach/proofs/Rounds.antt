@@ -26,12 +26,12 @@ use Rattle.stomach.specs.declared.early.Early.TheVariants as early
 use Rattle.stomach.specs.declared.runs.Ended.TheVariants as ended
 use Rattle.stomach.specs.declared.buffer.NameBuffer.{NameBuffer}
 use Rattle.stomach.specs.Buffers.{HoldsAnyName}
-use Rattle.stomach.specs.Halting.{RulesPlan, CutsRule}
+use Rattle.stomach.specs.Halting.{DoesPlanIn, CutsPlanIn}
 use Rattle.stomach.specs.Ahead.{given, IsGiven, Knows, Needs}
-use Rattle.stomach.specs.Ran.{Came, Stops, Settles, StoppedBy, RanTo, StoppedTo, whole_state}
+use Rattle.stomach.specs.Ran.{Came, Stops, RunsToStep, StoppedBy, RanTo, StoppedTo, whole_state}
 use Rattle.stomach.specs.Read.{MayLeave, ReadsTo}
 use Rattle.stomach.proofs.CallSteps.{stepping_needs}
-use Rattle.stomach.proofs.Giving.{came_given, is_known, is_ready, unread}
+use Rattle.stomach.proofs.GivenBytes.{came_given, is_known, is_ready, unread}
 use Rattle.stomach.proofs.Reading.{reads_map, reads_then}
 use Rattle.stomach.proofs.Running.{IsKnown, came_none, came_on, came_halts, came_join, came_whole, cut_by_join, stops_join, stops_whole, stopped_join, rule_cut, whole_needs}
 
@@ -48,7 +48,7 @@ StopsTo b e s e' s' k o all left =
 -- without a step: to where one comes next, or to its end
 abbrev pub SettlesTo : NameBuffer → Engine → SinkTold → Engine → SinkTold → Option Outcome → (all left : List ℕ) → Type 0
 SettlesTo b e s e' s' o all left =
-    (sizes : Sizes) (f : FilesTold) (book : Book) → HoldsAnyName sizes b → AllStand sizes e book → Settles sizes (whole_state all e book) e' left (world_of f s e) (world_of f s' e') o
+    (sizes : Sizes) (f : FilesTold) (book : Book) → HoldsAnyName sizes b → AllStand sizes e book → RunsToStep sizes (whole_state all e book) e' left (world_of f s e) (world_of f s' e') o
 
 -- a buffer has become another, which has as much room
 roomy_as : (sizes : Sizes) (b b' : NameBuffer) → vec_capacity b'.text ≡ vec_capacity b.text → HoldsAnyName sizes b → HoldsAnyName sizes b'
@@ -129,20 +129,20 @@ module _ (b0 b : NameBuffer) (room : vec_capacity b.text ≡ vec_capacity b0.tex
   came_by n does sizes f book roomy stands =
       came_on sizes (whole_state all e0 book) e e' left (world_of f s0 e0) (world_of f s e) (world_of f s' e') k (came sizes f book roomy stands) (known_here sizes) n (λ w h. does sizes f w (roomy_as sizes b0 b room roomy) h)
 
-  pub came_step : (ruled : Ruled) → ruled ≡ Step → RulesPlan b e e' s s' ruled → CameTo b0 e0 s0 e' s' (k + 1) all left
-  came_step ruled is does = came_by 1 (subst (RulesPlan b e e' s s') is does)
+  pub came_step : (ruled : Ruled) → ruled ≡ Step → DoesPlanIn b e e' s s' ruled → CameTo b0 e0 s0 e' s' (k + 1) all left
+  came_step ruled is does = came_by 1 (subst (DoesPlanIn b e e' s s') is does)
 
-  pub came_free : (ruled : Ruled) → ruled ≡ Free → RulesPlan b e e' s s' ruled → CameTo b0 e0 s0 e' s' (k + 0) all left
-  came_free ruled is does = came_by 0 (subst (RulesPlan b e e' s s') is does)
+  pub came_free : (ruled : Ruled) → ruled ≡ Free → DoesPlanIn b e e' s s' ruled → CameTo b0 e0 s0 e' s' (k + 0) all left
+  came_free ruled is does = came_by 0 (subst (DoesPlanIn b e e' s s') is does)
 
-  ends_by : (j : ℕ) (o : Outcome) → ((sizes : Sizes) (book : Book) → AllStand sizes e book → steps (plan_of e book) ≡ j) → RulesPlan b e e' s s' (Halted o) → StopsTo b0 e0 s0 e' s' (k + j) o all left
+  ends_by : (j : ℕ) (o : Outcome) → ((sizes : Sizes) (book : Book) → AllStand sizes e book → steps (plan_of e book) ≡ j) → DoesPlanIn b e e' s s' (Halted o) → StopsTo b0 e0 s0 e' s' (k + j) o all left
   ends_by j o count does sizes f book roomy stands =
       came_halts sizes (whole_state all e0 book) e e' left (world_of f s0 e0) (world_of f s e) (world_of f s' e') k (came sizes f book roomy stands) (known_here sizes) j o (λ w h. does sizes f w (roomy_as sizes b0 b room roomy) h) (count sizes)
 
-  pub came_end : (j : ℕ) (o : Outcome) (ruled : Ruled) → ruled ≡ Halted o → ((sizes : Sizes) (book : Book) → AllStand sizes e book → steps (plan_of e book) ≡ j) → RulesPlan b e e' s s' ruled → StopsTo b0 e0 s0 e' s' (k + j) o all left
-  came_end j o ruled is count does = ends_by j o count (subst (RulesPlan b e e' s s') is does)
+  pub came_end : (j : ℕ) (o : Outcome) (ruled : Ruled) → ruled ≡ Halted o → ((sizes : Sizes) (book : Book) → AllStand sizes e book → steps (plan_of e book) ≡ j) → DoesPlanIn b e e' s s' ruled → StopsTo b0 e0 s0 e' s' (k + j) o all left
+  came_end j o ruled is count does = ends_by j o count (subst (DoesPlanIn b e e' s s') is does)
 
-  pub came_cut : (j n : ℕ) (x : Broken) → k + j ≤ n → ((sizes : Sizes) (book : Book) → AllStand sizes e book → steps (plan_of e book) ≤ j) → CutsRule b e e' s s' x → StoppedTo b0 e0 s0 e' s' n (early.Broken x) all left
+  pub came_cut : (j n : ℕ) (x : Broken) → k + j ≤ n → ((sizes : Sizes) (book : Book) → AllStand sizes e book → steps (plan_of e book) ≤ j) → CutsPlanIn b e e' s s' x → StoppedTo b0 e0 s0 e' s' n (early.Broken x) all left
   came_cut j n x le few cuts sizes f book roomy stands =
       cut_by_join sizes (whole_state all e0 book) e e' left (world_of f s0 e0) (world_of f s e) (world_of f s' e') k (came sizes f book roomy stands) left j n x le
       (λ w h. rule_cut sizes e e' left w (world_of f s e) (world_of f s' e') j x (known_here sizes w h) (few sizes w h) (cuts sizes f w (roomy_as sizes b0 b room roomy) h))

@@ -19,12 +19,12 @@ use Rattle.engine_state.specs.declared.engine.Engine.{Engine}
 use Rattle.engine_state.specs.declared.broken.Broken.{Broken}
 use Rattle.engine_state.specs.declared.outcome.Ruled.{Ruled}
 use Rattle.engine_state.specs.Book.{Book, with_work}
-use Rattle.engine_state.specs.Near.{CutsIn}
+use Rattle.engine_state.specs.CutReadings.{CutsIn}
 use Rattle.engine_state.specs.Rules.{WantsHere, Takes, world_of, plan_of, next_moves}
 use Rattle.engine_state.specs.Stands.{Stands, state_of}
 use Rattle.engine_state.specs.Steps.{asked, frames_want, all_want, stepping}
-use Rattle.engine_state.proofs.Bare.{all_of}
-use Rattle.stomach.specs.Halting.{Rules}
+use Rattle.engine_state.proofs.Uncalled.{all_of}
+use Rattle.stomach.specs.Halting.{DoesRuleIn}
 
 -- WHAT THE INNERMOST FRAME ASKS FOR, over whatever lists
 
@@ -65,9 +65,9 @@ by_ask sizes e a b P is asks h book st = at book.work st (subst (λ (x : Ask). S
 
 pub asked_rules : (e e' : Engine) (s s' : SinkTold) (a b : Ask) (ruled : Ruled) → a ≡ b → StandsAsking e (Some a) → (sizes : Sizes) (f : FilesTold) →
     ((book : Book) (r : Reading) (rs : List Reading) → Stands sizes e (with_work (r ∷ rs) book) →
-    Rules sizes (state_of e (with_work (r ∷ rs) book)) e' (world_of f s e) (world_of f s' e') (answered (state_of e (with_work (r ∷ rs) book)) (r ∷ rs) r (ask_of e.input.builds b)) ruled) →
-    (book : Book) → Stands sizes e book → Rules sizes (state_of e book) e' (world_of f s e) (world_of f s' e') (plan_of e book) ruled
-asked_rules e e' s s' a b ruled is asks sizes f h book st = by_ask sizes e a b (λ book plan. Rules sizes (state_of e book) e' (world_of f s e) (world_of f s' e') plan ruled) is asks h book st
+    DoesRuleIn sizes (state_of e (with_work (r ∷ rs) book)) e' (world_of f s e) (world_of f s' e') (answered (state_of e (with_work (r ∷ rs) book)) (r ∷ rs) r (ask_of e.input.builds b)) ruled) →
+    (book : Book) → Stands sizes e book → DoesRuleIn sizes (state_of e book) e' (world_of f s e) (world_of f s' e') (plan_of e book) ruled
+asked_rules e e' s s' a b ruled is asks sizes f h book st = by_ask sizes e a b (λ book plan. DoesRuleIn sizes (state_of e book) e' (world_of f s e) (world_of f s' e') plan ruled) is asks h book st
 
 -- it is cut off
 pub asked_cuts : (e e' : Engine) (s s' : SinkTold) (a b : Ask) (why : Broken) → a ≡ b → StandsAsking e (Some a) → (sizes : Sizes) (f : FilesTold) →

@@ -32,7 +32,7 @@ use Rattle.engine_state.specs.Rules.{world_of, Halts, ReportsAs, Went}
 use Rattle.engine_state.specs.Stands.{Stands, IsSized, SameBut, SameFrames, OnlyColumn, page_of, state_of}
 use Rattle.engine_state.specs.Steps.{pending_weight, weight}
 use Rattle.gullet.proofs.CallWeighing.{lighter_by}
-use Rattle.engine_state.proofs.Bare.{all_of}
+use Rattle.engine_state.proofs.Uncalled.{all_of}
 use Rattle.engine_state.proofs.Joining.{quiet_wrote, went_by, halts_least}
 use Rattle.engine_state.proofs.Reporting.{column_sound, input_sound, stands_still}
 use Rattle.engine_state.proofs.Standing.{only_frames}

@@ -16,10 +16,10 @@ use Rattle.engine_state.specs.Calls.{AllStand, CallReads, FramesOf}
 use Rattle.engine_state.specs.Rules.{DoesRule, Halts}
 use Rattle.engine_state.specs.Stands.{Stands, SameFrames, SameReadings, state_of}
 use Rattle.engine_state.specs.Steps.{IsHalted}
-use Rattle.engine_state.proofs.Bare.{frames_all}
+use Rattle.engine_state.proofs.Uncalled.{frames_all}
 use Rattle.engine_state.proofs.CallKept.{frames_kept, readings_still}
 use Rattle.engine_state.proofs.Stopping.{noted, noted_same, noted_went, noted_halts}
-use Rattle.stomach.specs.Halting.{HaltsIn, Rules}
+use Rattle.stomach.specs.Halting.{HaltsIn, DoesRuleIn}
 
 -- THE OPEN READINGS
 
@@ -36,8 +36,8 @@ bare_frames : (sizes : Sizes) (e e' : Engine) (book : Book) → Stands sizes e b
 bare_frames sizes e e' book st same = subst (λ (c : Option Call). FramesOf c e' book.work) (sym (same.call ∙ st.uncalled.none)) (readings_still e e' book.work same st.readings)
 
 -- the same moves
-pub rules_by : (sizes : Sizes) (s : State) (e' : Engine) (w w' : World) (ms ns : List Move) (ruled : Ruled) → ns ≡ ms → Rules sizes s e' w w' ms ruled → Rules sizes s e' w w' ns ruled
-rules_by sizes s e' w w' ms ns ruled is h = subst (λ (x : List Move). Rules sizes s e' w w' x ruled) (sym is) h
+pub rules_by : (sizes : Sizes) (s : State) (e' : Engine) (w w' : World) (ms ns : List Move) (ruled : Ruled) → ns ≡ ms → DoesRuleIn sizes s e' w w' ms ruled → DoesRuleIn sizes s e' w w' ns ruled
+rules_by sizes s e' w w' ms ns ruled is h = subst (λ (x : List Move). DoesRuleIn sizes s e' w w' x ruled) (sym is) h
 
 -- THE END OF A RUN
 
@@ -45,20 +45,20 @@ pub halts_in : (sizes : Sizes) (e e' : Engine) (book : Book) (w w' : World) (mov
 halts_in sizes e e' book w w' moves o k st same h = record { book' = book; halts = h; frames = bare_frames sizes e e' book st same }
 
 -- a rule of the frames
-pub framed_rules : (sizes : Sizes) (e e' : Engine) (book : Book) (w w' : World) (moves : List Move) (ruled : Ruled) → Stands sizes e book → (IsHalted ruled → SameReadings e e') → DoesRule sizes (state_of e book) e' book w w' moves ruled → Rules sizes (state_of e book) e' w w' moves ruled
+pub framed_rules : (sizes : Sizes) (e e' : Engine) (book : Book) (w w' : World) (moves : List Move) (ruled : Ruled) → Stands sizes e book → (IsHalted ruled → SameReadings e e') → DoesRule sizes (state_of e book) e' book w w' moves ruled → DoesRuleIn sizes (state_of e book) e' w w' moves ruled
 framed_rules sizes e e' book w w' moves Step st same h = h
 framed_rules sizes e e' book w w' moves Free st same h = h
 framed_rules sizes e e' book w w' moves (Halted o) st same h = halts_in sizes e e' book w w' moves o 1 st (same tt) h
 
 -- a rule of a call
-pub called_rules : (sizes : Sizes) (e e' : Engine) (book : Book) (w w' : World) (moves : List Move) (ruled : Ruled) → AllStand sizes e book → (IsHalted ruled → SameFrames e e') → DoesRule sizes (state_of e book) e' book w w' moves ruled → Rules sizes (state_of e book) e' w w' moves ruled
+pub called_rules : (sizes : Sizes) (e e' : Engine) (book : Book) (w w' : World) (moves : List Move) (ruled : Ruled) → AllStand sizes e book → (IsHalted ruled → SameFrames e e') → DoesRule sizes (state_of e book) e' book w w' moves ruled → DoesRuleIn sizes (state_of e book) e' w w' moves ruled
 called_rules sizes e e' book w w' moves Step st same h = h
 called_rules sizes e e' book w w' moves Free st same h = h
 called_rules sizes e e' book w w' moves (Halted o) st same h = record { book' = book; halts = h; frames = frames_still e e' book.work (same tt) (frames_all sizes e book st) }
 
 -- NOTED, WHETHER IT HAS STOPPED
 
-pub noted_rules : (b : Bool) (sizes : Sizes) (s : State) (e : Engine) (w w' : World) (moves : List Move) (ruled : Ruled) → Rules sizes s e w w' moves ruled → Rules sizes s (noted b e) w w' moves ruled
+pub noted_rules : (b : Bool) (sizes : Sizes) (s : State) (e : Engine) (w w' : World) (moves : List Move) (ruled : Ruled) → DoesRuleIn sizes s e w w' moves ruled → DoesRuleIn sizes s (noted b e) w w' moves ruled
 noted_rules b sizes s e w w' moves Step h = noted_went b sizes s e w w' moves 1 h
 noted_rules b sizes s e w w' moves Free h = noted_went b sizes s e w w' moves 0 h
 noted_rules b sizes s e w w' moves (Halted o) h = record { book' = h.book'; halts = noted_halts b sizes s e w w' moves h.book' o 1 h.halts; frames = frames_still e (noted b e) h.book'.work (noted_same b e) h.frames }

@@ -29,7 +29,7 @@ use Rattle.engine_state.specs.Book.{Book}
 use Rattle.engine_state.specs.Calls.{AllStand}
 use Rattle.engine_state.specs.Stands.{SameFrames, state_of}
 use Rattle.engine_state.specs.Steps.{IsFree}
-use Rattle.engine_state.specs.Near.{CutsIn}
+use Rattle.engine_state.specs.CutReadings.{CutsIn}
 use Rattle.engine_state.specs.Rules.{Went, IsMoment, CountsReports, plan_of}
 use Rattle.stomach.specs.Halting.{HaltsIn}
 use Rattle.stomach.specs.declared.early.Early.{Early}

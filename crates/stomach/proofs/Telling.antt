@@ -19,13 +19,13 @@ use Rattle.engine_state.specs.declared.call.Call.{Call}
 use Rattle.engine_state.specs.declared.engine.Engine.{Engine}
 use Rattle.engine_state.specs.Book.{Book, with_work}
 use Rattle.engine_state.specs.Calls.{FramesOf}
-use Rattle.engine_state.specs.Near.{CutsIn}
+use Rattle.engine_state.specs.CutReadings.{CutsIn}
 use Rattle.engine_state.specs.Rules.{world_of, Halts, Reports}
 use Rattle.engine_state.specs.Stands.{Stands, SameFrames, state_of, page_of}
 use Rattle.engine_state.specs.Steps.{weight, pending_weight}
 use Rattle.engine_state.proofs.CallKept.{frames_kept}
 use Rattle.gullet.proofs.CallWeighing.{lighter_by}
-use Rattle.engine_state.proofs.Nearing.{column_in, in_by, later_in}
+use Rattle.engine_state.proofs.CuttingReadings.{column_in, in_by, later_in}
 use Rattle.engine_state.proofs.Putting.{fronts}
 use Rattle.engine_state.proofs.Weighing.{noted_lighter}
 use Rattle.stomach.specs.Halting.{HaltsIn}

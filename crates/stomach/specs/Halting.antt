@@ -11,7 +11,7 @@ use Rattle.engine_state.specs.declared.outcome.Ruled.{Ruled}
 use Rattle.engine_state.specs.declared.outcome.Ruled.TheVariants.{Step, Free, Halted}
 use Rattle.engine_state.specs.Book.{Book}
 use Rattle.engine_state.specs.Calls.{AllStand, FramesOf}
-use Rattle.engine_state.specs.Near.{CutsIn}
+use Rattle.engine_state.specs.CutReadings.{CutsIn}
 use Rattle.engine_state.specs.Stands.{state_of}
 use Rattle.engine_state.specs.Rules.{world_of, plan_of, Halts, Went}
 use Rattle.stomach.specs.declared.buffer.NameBuffer.{NameBuffer}
@@ -24,17 +24,17 @@ pub record HaltsIn (sizes : Sizes) (s : State) (e' : Engine) (w w' : World) (mov
   pub frames : FramesOf e'.call e' book'.work
 
 -- of a rule
-abbrev pub Rules : Sizes → State → Engine → World → World → List Move → Ruled → Type 0
-Rules sizes s e' w w' moves Step = Went sizes s e' w w' moves 1
-Rules sizes s e' w w' moves Free = Went sizes s e' w w' moves 0
-Rules sizes s e' w w' moves (Halted o) = HaltsIn sizes s e' w w' moves o 1
+abbrev pub DoesRuleIn : Sizes → State → Engine → World → World → List Move → Ruled → Type 0
+DoesRuleIn sizes s e' w w' moves Step = Went sizes s e' w w' moves 1
+DoesRuleIn sizes s e' w w' moves Free = Went sizes s e' w w' moves 0
+DoesRuleIn sizes s e' w w' moves (Halted o) = HaltsIn sizes s e' w w' moves o 1
 
 -- The rule that comes next does this, over any files.
-abbrev pub RulesPlan : NameBuffer → (e e' : Engine) → (before after : SinkTold) → Ruled → Type 0
-RulesPlan b e e' before after ruled = (sizes : Sizes) (f : FilesTold) (book : Book) → HoldsAnyName sizes b → AllStand sizes e book →
-    Rules sizes (state_of e book) e' (world_of f before e) (world_of f after e') (plan_of e book) ruled
+abbrev pub DoesPlanIn : NameBuffer → (e e' : Engine) → (before after : SinkTold) → Ruled → Type 0
+DoesPlanIn b e e' before after ruled = (sizes : Sizes) (f : FilesTold) (book : Book) → HoldsAnyName sizes b → AllStand sizes e book →
+    DoesRuleIn sizes (state_of e book) e' (world_of f before e) (world_of f after e') (plan_of e book) ruled
 
 -- It is cut off.
-abbrev pub CutsRule : NameBuffer → (e e' : Engine) → (before after : SinkTold) → Broken → Type 0
-CutsRule b e e' before after broken = (sizes : Sizes) (f : FilesTold) (book : Book) → HoldsAnyName sizes b → AllStand sizes e book →
+abbrev pub CutsPlanIn : NameBuffer → (e e' : Engine) → (before after : SinkTold) → Broken → Type 0
+CutsPlanIn b e e' before after broken = (sizes : Sizes) (f : FilesTold) (book : Book) → HoldsAnyName sizes b → AllStand sizes e book →
     CutsIn sizes (state_of e book) e' (world_of f before e) (world_of f after e') (plan_of e book) broken

@@ -22,7 +22,7 @@ use Rattle.stomach.specs.Buffers.{HoldsAnyName}
 use Rattle.engine_state.specs.Faults.{why_of}
 use Rattle.engine_state.specs.Book.{Book}
 use Rattle.engine_state.specs.Calls.{AllStand, FramesOf}
-use Rattle.engine_state.specs.Near.{FramesNear}
+use Rattle.engine_state.specs.CutReadings.{FramesAtCut}
 use Rattle.engine_state.specs.Stands.{state_of}
 use Rattle.engine_state.specs.Rules.{world_of, CountsReports, IsMoment}
 
@@ -58,9 +58,9 @@ pub record Stops (sizes : Sizes) (s : State) (e' : Engine) (left : List ℕ) (w 
   pub written : Wrote w w' ms
 
 -- The machine has come on without a step: to where one comes next, or to its end.
-abbrev pub Settles : Sizes → State → Engine → List ℕ → World → World → Option Outcome → Type 0
-Settles sizes s e' left w w' None = Came sizes s e' left w w' 0
-Settles sizes s e' left w w' (Some o) = Stops sizes s e' left w w' 0 o
+abbrev pub RunsToStep : Sizes → State → Engine → List ℕ → World → World → Option Outcome → Type 0
+RunsToStep sizes s e' left w w' None = Came sizes s e' left w w' 0
+RunsToStep sizes s e' left w w' (Some o) = Stops sizes s e' left w w' 0 o
 
 -- The engine stands for this state, but for what is due.
 pub record IsAt (sizes : Sizes) (e' : Engine) (left : List ℕ) (t : State) : Type 0 where
@@ -91,7 +91,7 @@ pub record CutBy (sizes : Sizes) (s : State) (n : ℕ) (e' : Engine) (left : Lis
   pub t : State
   pub cut : CutAt sizes s n t w w' (why_of b)
   pub book' : Book
-  pub frames : FramesNear b e' book'.work
+  pub frames : FramesAtCut b e' book'.work
   pub same : IsMoment (why_of b) (but_due t) (whole_state left e' book')
 
 -- The run was cut off at a moment t at which the file's next bytes were needed and didn't come. The engine stands for it, and what it holds

@@ -9,11 +9,11 @@ ghost use Rattle.reading_frames.specs.Weights.{IsReported};
 ghost use Rattle.plain_machine.specs.Plan.{inner_begun, done as plan_done, told};
 ghost use Rattle.world_io.specs.Told.{FilesTold};
 ghost use Rattle.engine_state.specs.Book.{Book, with_work};
-ghost use Rattle.engine_state.specs.Near.{CutsIn};
+ghost use Rattle.engine_state.specs.CutReadings.{CutsIn};
 ghost use Rattle.engine_state.specs.Stands.{Stands, state_of, page_of};
 ghost use Rattle.engine_state.specs.Rules.{world_of, Went};
 ghost use Rattle.engine_state.specs.Steps.{asked, weight, IsFree, IsStep};
-ghost use Rattle.stomach.specs.Halting.{Rules};
+ghost use Rattle.stomach.specs.Halting.{DoesRuleIn};
 
 use engine_state::{Broken, Engine, Ruled};
 use reading_frames::Opening;
@@ -84,7 +84,7 @@ pub(crate) fn tell<S: Sink>(
     requires idle { engine.old.input.making ≡ None }
     requires uncalled { engine.old.call ≡ None }
     ensures rule { IfOk result (λ ruled. (sizes : Sizes) (f : FilesTold) (book : Book) (r : Reading) (rs : List Reading) → Stands sizes engine.old (with_work (r ∷ rs) book) →
-        Rules sizes (state_of engine.old (with_work (r ∷ rs) book)) engine.new (world_of f (S.told out.old) engine.old) (world_of f (S.told out.new) engine.new) (told (page_of engine.old book) report inserted back r) ruled) }
+        DoesRuleIn sizes (state_of engine.old (with_work (r ∷ rs) book)) engine.new (world_of f (S.told out.old) engine.old) (world_of f (S.told out.new) engine.new) (told (page_of engine.old book) report inserted back r) ruled) }
     ensures err { IfErr result (λ b. (sizes : Sizes) (f : FilesTold) (book : Book) (r : Reading) (rs : List Reading) → Stands sizes engine.old (with_work (r ∷ rs) book) →
         CutsIn sizes (state_of engine.old (with_work (r ∷ rs) book)) engine.new (world_of f (S.told out.old) engine.old) (world_of f (S.told out.new) engine.new) (told (page_of engine.old book) report inserted back r) b) }
     ensures step { IfOk result (λ ruled. IsStep ruled → ⊥) }

@@ -4,7 +4,7 @@ ghost use Rattle.tex_defs.specs.declared.Sizes.{Sizes};
 ghost use Rattle.plain_machine.specs.Plan.{command, primitive};
 ghost use Rattle.world_io.specs.Told.{FilesTold};
 ghost use Rattle.engine_state.specs.Book.{Book};
-ghost use Rattle.engine_state.specs.Near.{CutsIn};
+ghost use Rattle.engine_state.specs.CutReadings.{CutsIn};
 ghost use Rattle.engine_state.specs.Stands.{Stands, SameFrames, state_of, page_of};
 ghost use Rattle.engine_state.specs.Rules.{world_of, onward_of, Takes, DoesOnward};
 ghost use Rattle.engine_state.specs.Steps.{pending_weight, IsFree, IsHalted};

@@ -12,12 +12,12 @@ ghost use Rattle.plain_machine.specs.States.{Closed};
 ghost use Rattle.world_io.specs.Told.{FilesTold};
 ghost use Rattle.input_state.specs.Reads.{gives_step};
 ghost use Rattle.engine_state.specs.Book.{Book, with_work};
-ghost use Rattle.engine_state.specs.Near.{CutsIn};
+ghost use Rattle.engine_state.specs.CutReadings.{CutsIn};
 ghost use Rattle.engine_state.specs.Stands.{Stands, SameReadings, state_of, page_of};
 ghost use Rattle.engine_state.specs.Rules.{world_of, plan_of, next_moves, Takes, DoesRule};
 ghost use Rattle.engine_state.specs.Steps.{stepping, stops_run, IsStep, IsFree, IsHalted, StepsIf, weight};
 ghost use Rattle.stomach.specs.Buffers.{HoldsAnyName};
-ghost use Rattle.stomach.specs.Halting.{Rules, RulesPlan, CutsRule};
+ghost use Rattle.stomach.specs.Halting.{DoesRuleIn, DoesPlanIn, CutsPlanIn};
 
 use crate::buffer::NameBuffer;
 use crate::define::define;
@@ -67,7 +67,7 @@ fn report_list<S: Sink>(engine: &mut Engine, out: &mut S, listed: bool) -> Resul
     requires idle { engine.old.input.making ≡ None }
     requires uncalled { engine.old.call ≡ None }
     ensures rule { IfOk result (λ ruled. (sizes : Sizes) (f : FilesTold) (book : Book) (r : Reading) (rs : List Reading) → Stands sizes engine.old (with_work (r ∷ rs) book) →
-        Rules sizes (state_of engine.old (with_work (r ∷ rs) book)) engine.new (world_of f (S.told out.old) engine.old) (world_of f (S.told out.new) engine.new) (reported_as (page_of engine.old book) (kept_list_of listed engine.old.input.builds) (Closed ∷ [])) ruled) }
+        DoesRuleIn sizes (state_of engine.old (with_work (r ∷ rs) book)) engine.new (world_of f (S.told out.old) engine.old) (world_of f (S.told out.new) engine.new) (reported_as (page_of engine.old book) (kept_list_of listed engine.old.input.builds) (Closed ∷ [])) ruled) }
     ensures err { IfErr result (λ b. (sizes : Sizes) (f : FilesTold) (book : Book) (r : Reading) (rs : List Reading) → Stands sizes engine.old (with_work (r ∷ rs) book) →
         CutsIn sizes (state_of engine.old (with_work (r ∷ rs) book)) engine.new (world_of f (S.told out.old) engine.old) (world_of f (S.told out.new) engine.new) (reported_as (page_of engine.old book) (kept_list_of listed engine.old.input.builds) (Closed ∷ [])) b) }
     ensures step { IfOk result (λ ruled. IsStep ruled → ⊥) }
@@ -96,7 +96,7 @@ fn act_on<S: Sink>(
     requires idle { engine.old.input.making ≡ None }
     requires uncalled { engine.old.call ≡ None }
     ensures rule { IfOk result (λ ruled. (sizes : Sizes) (f : FilesTold) (book : Book) (r : Reading) (rs : List Reading) → HoldsAnyName sizes buffer.old → Stands sizes engine.old (with_work (r ∷ rs) book) →
-        Rules sizes (state_of engine.old (with_work (r ∷ rs) book)) engine.new (world_of f (S.told out.old) engine.old) (world_of f (S.told out.new) engine.new) (acts_on (page_of engine.old book) call effect (kept_list_of listed engine.old.input.builds)) ruled) }
+        DoesRuleIn sizes (state_of engine.old (with_work (r ∷ rs) book)) engine.new (world_of f (S.told out.old) engine.old) (world_of f (S.told out.new) engine.new) (acts_on (page_of engine.old book) call effect (kept_list_of listed engine.old.input.builds)) ruled) }
     ensures err { IfErr result (λ b. (sizes : Sizes) (f : FilesTold) (book : Book) (r : Reading) (rs : List Reading) → HoldsAnyName sizes buffer.old → Stands sizes engine.old (with_work (r ∷ rs) book) →
         CutsIn sizes (state_of engine.old (with_work (r ∷ rs) book)) engine.new (world_of f (S.told out.old) engine.old) (world_of f (S.told out.new) engine.new) (acts_on (page_of engine.old book) call effect (kept_list_of listed engine.old.input.builds)) b) }
     ensures step { IfOk result (λ ruled. IsStep ruled → ⊥) }
@@ -129,7 +129,7 @@ fn ask_rule<S: Sink>(
     ensures light { IfOk result (λ ruled. IsFree ruled → weight engine.new < weight engine.old) }
     ensures step { IfOk result (λ ruled. StepsIf ruled (stepping engine.old)) }
     ensures rule { IfOk result (λ ruled. (sizes : Sizes) (f : FilesTold) (book : Book) → HoldsAnyName sizes buffer.old → Stands sizes engine.old book →
-        Rules sizes (state_of engine.old book) engine.new (world_of f (S.told out.old) engine.old) (world_of f (S.told out.new) engine.new) (plan_of engine.old book) ruled) }
+        DoesRuleIn sizes (state_of engine.old book) engine.new (world_of f (S.told out.old) engine.old) (world_of f (S.told out.new) engine.new) (plan_of engine.old book) ruled) }
     ensures err { IfErr result (λ b. (sizes : Sizes) (f : FilesTold) (book : Book) → HoldsAnyName sizes buffer.old → Stands sizes engine.old book →
         CutsIn sizes (state_of engine.old book) engine.new (world_of f (S.told out.old) engine.old) (world_of f (S.told out.new) engine.new) (plan_of engine.old book) b) }
     ensures idle { OnOk result (engine.new.input.making ≡ None) }
@@ -172,7 +172,7 @@ fn frame_rule<S: Sink>(
     ensures light { IfOk result (λ ruled. IsFree ruled → weight engine.new < weight engine.old) }
     ensures step { IfOk result (λ ruled. StepsIf ruled (stepping engine.old)) }
     ensures rule { IfOk result (λ ruled. (sizes : Sizes) (f : FilesTold) (book : Book) → HoldsAnyName sizes buffer.old → Stands sizes engine.old book →
-        Rules sizes (state_of engine.old book) engine.new (world_of f (S.told out.old) engine.old) (world_of f (S.told out.new) engine.new) (plan_of engine.old book) ruled) }
+        DoesRuleIn sizes (state_of engine.old book) engine.new (world_of f (S.told out.old) engine.old) (world_of f (S.told out.new) engine.new) (plan_of engine.old book) ruled) }
     ensures err { IfErr result (λ b. (sizes : Sizes) (f : FilesTold) (book : Book) → HoldsAnyName sizes buffer.old → Stands sizes engine.old book →
         CutsIn sizes (state_of engine.old book) engine.new (world_of f (S.told out.old) engine.old) (world_of f (S.told out.new) engine.new) (plan_of engine.old book) b) }
     ensures idle { OnOk result (engine.new.input.making ≡ None) }
@@ -197,8 +197,8 @@ pub(crate) fn rule<S: Sink>(
     requires running { engine.old.stopped ≡ false }
     ensures light { IfOk result (λ ruled. IsFree ruled → weight engine.new < weight engine.old) }
     ensures step { IfOk result (λ ruled. StepsIf ruled (stepping engine.old)) }
-    ensures rule { IfOk result (λ ruled. RulesPlan buffer.old engine.old engine.new (S.told out.old) (S.told out.new) ruled) }
-    ensures err { IfErr result (λ b. CutsRule buffer.old engine.old engine.new (S.told out.old) (S.told out.new) b) }
+    ensures rule { IfOk result (λ ruled. DoesPlanIn buffer.old engine.old engine.new (S.told out.old) (S.told out.new) ruled) }
+    ensures err { IfErr result (λ b. CutsPlanIn buffer.old engine.old engine.new (S.told out.old) (S.told out.new) b) }
     ensures idle { OnOk result (engine.new.input.making ≡ None) }
     ensures stopped { MatchResult result (λ ruled. engine.new.stopped ≡ stops_run ruled) (λ _. engine.new.stopped ≡ true) }
     ensures capacity { vec_capacity buffer.new.text ≡ vec_capacity buffer.old.text }

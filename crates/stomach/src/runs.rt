@@ -12,7 +12,7 @@ ghost use Rattle.stomach.specs.declared.early.Early.TheVariants as early;
 ghost use Rattle.stomach.specs.Ahead.{Knows};
 ghost use Rattle.stomach.specs.Buffers.{HoldsAnyName};
 ghost use Rattle.stomach.specs.Read.{ReadsTo};
-ghost use Rattle.stomach.specs.Ran.{Settles, StoppedBy, RanTo, StoppedTo, whole_state};
+ghost use Rattle.stomach.specs.Ran.{RunsToStep, StoppedBy, RanTo, StoppedTo, whole_state};
 
 use crate::ahead::{read_ahead, wants_token};
 use crate::buffer::NameBuffer;
@@ -38,7 +38,7 @@ fn needs_step(engine: &Engine) -> bool
 }
 
 /// Makes the rules that need no step, until the next one needs one or the run ends. The file is read on where it must be.
-fn settle<F: Files, S: Sink>(
+fn run_to_step<F: Files, S: Sink>(
     engine: &mut Engine,
     buffer: &mut NameBuffer,
     reader: &mut Reader,
@@ -53,7 +53,7 @@ fn settle<F: Files, S: Sink>(
     ensures knows { IfOk result (λ o. o ≡ None → Knows engine.new reader.new) }
     ensures run { ReadsTo reader.old reader.new (F.told files.old) (F.told files.new) (λ all left. MatchResult result
         (λ o. (sizes : Sizes) (f : FilesTold) (book : Book) → HoldsAnyName sizes buffer.old → AllStand sizes engine.old book →
-        Settles sizes (whole_state all engine.old book) engine.new left (world_of f (S.told out.old) engine.old) (world_of f (S.told out.new) engine.new) o)
+        RunsToStep sizes (whole_state all engine.old book) engine.new left (world_of f (S.told out.old) engine.old) (world_of f (S.told out.new) engine.new) o)
         (λ e. (sizes : Sizes) (f : FilesTold) (book : Book) → HoldsAnyName sizes buffer.old → AllStand sizes engine.old book →
         StoppedBy sizes (whole_state all engine.old book) 0 engine.new left (world_of f (S.told out.old) engine.old) (world_of f (S.told out.new) engine.new) e)) }
     ensures fault { IfErr result (λ e. e ≡ early.Unread Failed → Rose (F.told files.old).read_faults (F.told files.new).read_faults) }
@@ -127,7 +127,7 @@ fn make_run<F: Files, S: Sink>(
 {
     let mut taken = 0;
     loop {
-        if let Some(outcome) = settle(engine, buffer, reader, files, out)? {
+        if let Some(outcome) = run_to_step(engine, buffer, reader, files, out)? {
             return Ok(Ended::Halted(outcome));
         }
         if taken == n {

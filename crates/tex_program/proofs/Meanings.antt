@@ -47,7 +47,7 @@ use Rattle.stomach.specs.Ran.{Came, Ran, CutBy, UnreadBy, StoppedBy, whole_state
 use Rattle.stomach.specs.Read.{CameOn, MayLeave}
 use Rattle.tex_program.specs.Named.{Named}
 use Rattle.tex_program.specs.Says.{SaysSo, end_status, ReadAlike, HasReadCause}
-use Rattle.engine_state.proofs.Bare.{all_of}
+use Rattle.engine_state.proofs.Uncalled.{all_of}
 use Rattle.engine_state.proofs.Cutting.{later_cuts}
 use Rattle.engine_state.proofs.Reporting.{stands_still}
 

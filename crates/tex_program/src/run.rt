@@ -27,27 +27,27 @@ use world_io::{Fault, Files, Sink};
 
 /// A run's status, and whether the transcript's column isn't 0 at its end.
 #[derive(Clone, Copy)]
-pub struct Told {
+pub struct RunEnd {
     pub status: u8,
     pub in_line: bool,
 }
 
 /// Tells of a run that was cut off.
-fn tell_broken<S: Sink>(out: &mut S, in_line: bool, broken: Broken) -> Told
+fn tell_broken<S: Sink>(out: &mut S, in_line: bool, broken: Broken) -> RunEnd
     ensures says { (sizes : Sizes) (f : FilesTold) (s t : State) (n : ℕ) (w : _) → CutAt sizes s n t w (world f (S.told out.old) in_line) (why_of broken) → SaysSo sizes s n w (world f (S.told out.new) result.in_line) result.status }
     ensures no_read { result.status ≡ 5 → ⊥ }
     ensures not_usage { result.status ≡ 9 → ⊥ }
 {
     match broken {
-        Broken::WriteFault => Told {
+        Broken::WriteFault => RunEnd {
             in_line: tell(out, in_line, Telling::WriteFault),
             status: 6,
         },
-        Broken::Want => Told {
+        Broken::Want => RunEnd {
             in_line: tell(out, in_line, Telling::NoMemory),
             status: 7,
         },
-        Broken::Full(full) => Told {
+        Broken::Full(full) => RunEnd {
             in_line: tell(out, in_line, Telling::Full(full)),
             status: 3,
         },
@@ -55,18 +55,18 @@ fn tell_broken<S: Sink>(out: &mut S, in_line: bool, broken: Broken) -> Told
 }
 
 /// Tells that the next bytes of the job's file were needed and didn't come.
-fn tell_unread<S: Sink>(out: &mut S, in_line: bool, fault: Fault) -> Told
+fn tell_unread<S: Sink>(out: &mut S, in_line: bool, fault: Fault) -> RunEnd
     ensures says { (sizes : Sizes) (f : FilesTold) (s : State) (n : ℕ) (w : _) (e : Engine) (left : List ℕ) → UnreadBy sizes s n e left w (world f (S.told out.old) in_line) →
         HasReadCause (Unread fault) w (world f (S.told out.old) in_line) → SaysSo sizes s n w (world f (S.told out.new) result.in_line) result.status }
     ensures read_fault { result.status ≡ 5 → fault ≡ Failed }
     ensures not_usage { result.status ≡ 9 → ⊥ }
 {
     match fault {
-        Fault::Failed => Told {
+        Fault::Failed => RunEnd {
             in_line: tell(out, in_line, Telling::ReadFault),
             status: 5,
         },
-        Fault::NoMemory => Told {
+        Fault::NoMemory => RunEnd {
             in_line: tell(out, in_line, Telling::NoMemory),
             status: 7,
         },
@@ -74,7 +74,7 @@ fn tell_unread<S: Sink>(out: &mut S, in_line: bool, fault: Fault) -> Told
 }
 
 /// Tells of a run that stopped early.
-fn tell_early<S: Sink>(out: &mut S, in_line: bool, early: Early) -> Told
+fn tell_early<S: Sink>(out: &mut S, in_line: bool, early: Early) -> RunEnd
     ensures says { (sizes : Sizes) (f : FilesTold) (s : State) (n : ℕ) (w : _) (e : Engine) (left : List ℕ) → StoppedBy sizes s n e left w (world f (S.told out.old) in_line) early →
         HasReadCause early w (world f (S.told out.old) in_line) → SaysSo sizes s n w (world f (S.told out.new) result.in_line) result.status }
     ensures read_fault { result.status ≡ 5 → early ≡ Unread Failed }
@@ -105,7 +105,7 @@ fn run_engine<F: Files, S: Sink>(
     files: &mut F,
     steps: u64,
     out: &mut S,
-) -> Told
+) -> RunEnd
     requires idle { engine.old.input.making ≡ None }
     requires running { engine.old.stopped ≡ false }
     requires is_open { (F.told files.old).reading reader.old.id ≡ true }
@@ -115,11 +115,11 @@ fn run_engine<F: Files, S: Sink>(
     ensures not_usage { result.status ≡ 9 → ⊥ }
 {
     match run_steps(engine, buffer, reader, files, out, steps) {
-        Ok(Ended::Halted(outcome)) => Told {
+        Ok(Ended::Halted(outcome)) => RunEnd {
             in_line: engine.is_in_line(),
             status: status_of(outcome, engine.reports(), engine.flawed),
         },
-        Ok(Ended::Steps) => Told {
+        Ok(Ended::Steps) => RunEnd {
             in_line: tell(out, engine.is_in_line(), Telling::Steps(steps)),
             status: 4,
         },
@@ -128,13 +128,13 @@ fn run_engine<F: Files, S: Sink>(
 }
 
 /// Ends the job of a file that isn't held, by an engine that has kept the job's name.
-fn refuse_engine<S: Sink>(engine: &mut Engine, file: &[u8], out: &mut S) -> Told
+fn refuse_engine<S: Sink>(engine: &mut Engine, file: &[u8], out: &mut S) -> RunEnd
     ensures says { (sizes : Sizes) (f : FilesTold) (quiet : _) (n : ℕ) → Named sizes engine.old quiet file.now None → SaysSo sizes (First quiet file.now None) n (world f (S.told out.old) false) (world f (S.told out.new) result.in_line) result.status }
     ensures no_read { result.status ≡ 5 → ⊥ }
     ensures not_usage { result.status ≡ 9 → ⊥ }
 {
     match engine.refuse_job(out, file) {
-        Ok(_) => Told {
+        Ok(_) => RunEnd {
             in_line: engine.is_in_line(),
             status: 2,
         },
@@ -150,7 +150,7 @@ fn run_named<F: Files, S: Sink>(
     files: &mut F,
     steps: u64,
     out: &mut S,
-) -> Told
+) -> RunEnd
     requires idle { engine.old.input.making ≡ None }
     requires running { engine.old.stopped ≡ false }
     requires is_unread { IsUnread engine.old }
@@ -171,11 +171,11 @@ fn run_named<F: Files, S: Sink>(
             engine.input.drop_file();
             refuse_engine(engine, file, out)
         }
-        Err(Fault::Failed) => Told {
+        Err(Fault::Failed) => RunEnd {
             in_line: tell(out, false, Telling::ReadFault),
             status: 5,
         },
-        Err(Fault::NoMemory) => Told {
+        Err(Fault::NoMemory) => RunEnd {
             in_line: tell(out, false, Telling::NoMemory),
             status: 7,
         },
@@ -190,7 +190,7 @@ pub fn run_file<F: Files, S: Sink>(
     files: &mut F,
     steps: u64,
     out: &mut S,
-) -> Told
+) -> RunEnd
     requires idle { engine.old.input.making ≡ None }
     requires running { engine.old.stopped ≡ false }
     requires is_unread { IsUnread engine.old }

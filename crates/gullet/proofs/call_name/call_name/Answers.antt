@@ -4,7 +4,7 @@ use Rattle.plain_tokens.specs.Meanings.{name_meaning, seen_as}
 use Rattle.input_state.specs.Stored.{Stored}
 use Rattle.engine_state.specs.Stands.{state_of}
 use Rattle.engine_state.specs.Steps.{pending_weight}
-use Rattle.engine_state.proofs.Bare.{all_of}
+use Rattle.engine_state.proofs.Uncalled.{all_of}
 use Rattle.gullet.proofs.CallBeginning.{at_once_has, gathers_has, called_none, called_went, called_cuts, begun_went, begun_cuts, on_ok, on_both, if_err, if_both}
 use Rattle.engine_state.proofs.Counting.{counts_of}
 use Rattle.gullet.proofs.ExpandingWeighs.{put_light, called_light}

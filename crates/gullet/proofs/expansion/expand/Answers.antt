@@ -2,10 +2,10 @@ use Rattle.std.proofs.Common.{◌≡◌, [], sym, ◌∙◌, false}
 use Rattle.plain_machine.specs.Plan.{expanded}
 use Rattle.engine_state.specs.Rules.{world_of, onward_of, enters_of}
 use Rattle.engine_state.specs.Stands.{state_of, page_of}
-use Rattle.engine_state.proofs.Bare.{framed}
+use Rattle.engine_state.proofs.Uncalled.{framed}
 use Rattle.gullet.proofs.Expanding.{onward_expands, went_expands, over_expands, once_stays, stays_expands, stayed}
 use Rattle.engine_state.proofs.Joining.{same_err}
-use Rattle.engine_state.proofs.Nearing.{in_by}
+use Rattle.engine_state.proofs.CuttingReadings.{in_by}
 use Rattle.gullet.proofs.expansion.expand.Goals as goal
 
 pub returns-in_err-expand_once-clause-err : goal.returns-in_err-expand_once-clause-err

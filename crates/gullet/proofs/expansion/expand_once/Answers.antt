@@ -8,13 +8,13 @@ use Rattle.engine_state.specs.declared.broken.Broken.TheVariants as broken
 use Rattle.engine_state.specs.Stands.{state_of, page_of}
 use Rattle.engine_state.specs.Steps.{pending_weight}
 use Rattle.gullet.specs.Stepping.{IsLight, job_moves}
-use Rattle.engine_state.proofs.Bare.{all_of}
+use Rattle.engine_state.proofs.Uncalled.{all_of}
 use Rattle.engine_state.proofs.Counting.{counts_of}
 use Rattle.gullet.proofs.Ending.{on_end}
 use Rattle.gullet.proofs.Expanding.{once_reports, expansion_went, moves_as, expands_as, reports_change, reports_leave}
 use Rattle.gullet.proofs.ExpandingWeighs.{same_light, begun_light, framed_light}
 use Rattle.engine_state.proofs.Joining.{same_err, went_by, column_went}
-use Rattle.engine_state.proofs.Nearing.{cuts_in, stands_in, column_in, in_by}
+use Rattle.engine_state.proofs.CuttingReadings.{cuts_in, stands_in, column_in, in_by}
 use Rattle.engine_state.proofs.Reporting.{full_out}
 use Rattle.engine_state.proofs.Standing.{same_engine}
 use Rattle.gullet.proofs.expansion.expand_once.Goals as goal

@@ -8,7 +8,7 @@ use Rattle.engine_state.specs.declared.call.CallAsk.TheVariants as asked
 use Rattle.engine_state.specs.Book.{with_work}
 use Rattle.engine_state.specs.Calls.{brace_call}
 use Rattle.engine_state.specs.declared.engine.Engine.{Engine}
-use Rattle.engine_state.specs.Near.{CutsIn}
+use Rattle.engine_state.specs.CutReadings.{CutsIn}
 use Rattle.engine_state.specs.Steps.{call_asks_more}
 use Rattle.engine_state.specs.Stands.{state_of, page_of}
 use Rattle.engine_state.specs.Rules.{world_of, DoesRule, Cuts, Went}
@@ -18,7 +18,7 @@ use Rattle.gullet.proofs.CallPutting.{put_rule, put_cut}
 use Rattle.gullet.proofs.CallRules.{asks_this, away_is, call_wants}
 use Rattle.engine_state.proofs.Cutting.{cuts_by}
 use Rattle.engine_state.proofs.Joining.{ok_to, err_to, err_both, same_err}
-use Rattle.engine_state.proofs.Nearing.{cuts_in, column_in}
+use Rattle.engine_state.proofs.CuttingReadings.{cuts_in, column_in}
 use Rattle.engine_state.proofs.Standing.{list_frames, same_engine}
 use Rattle.gullet.proofs.Ending.{no_ok, no_on}
 use Rattle.gullet.proofs.CallWeighing.{call_steps, steps_as_one, free_steps, closed_lighter}

@@ -5,12 +5,12 @@ use Rattle.plain_machine.specs.States.{Move}
 use Rattle.engine_state.specs.declared.broken.Broken.TheVariants as broken
 use Rattle.engine_state.specs.declared.outcome.Next.TheVariants as next
 use Rattle.engine_state.specs.Book.{Book}
-use Rattle.engine_state.specs.Near.{CutsIn}
+use Rattle.engine_state.specs.CutReadings.{CutsIn}
 use Rattle.engine_state.specs.Stands.{state_of}
 use Rattle.engine_state.specs.Rules.{world_of, next_moves, Comes, Went}
 use Rattle.engine_state.proofs.Coming.{next_as, comes_went, comes_cuts}
 use Rattle.engine_state.proofs.Joining.{same_err, column_went}
-use Rattle.engine_state.proofs.Nearing.{column_in}
+use Rattle.engine_state.proofs.CuttingReadings.{column_in}
 use Rattle.gullet.proofs.StepHanding.{feeds_call}
 use Rattle.gullet.proofs.gathering.take.Goals as goal
 

@@ -2,7 +2,7 @@ use Rattle.std.proofs.Common.{ℕ, List}
 use Rattle.plain_machine.proofs.Doing.{rose_on}
 use Rattle.engine_state.proofs.Joining.{same_err}
 use Rattle.stomach.specs.Ahead.{IsGiven}
-use Rattle.stomach.proofs.Giving.{is_given_none, is_given_more}
+use Rattle.stomach.proofs.GivenBytes.{is_given_none, is_given_more}
 use Rattle.stomach.proofs.Reading.{reads_none, reads_then, still_open}
 use Rattle.stomach.proofs.ahead.read_ahead.Goals as goal
 

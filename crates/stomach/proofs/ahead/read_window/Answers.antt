@@ -2,7 +2,7 @@ use Rattle.std.proofs.Common.{ℕ, List, [], sym, subst}
 use Rattle.line_reader.specs.Readers.{OpenReader}
 use Rattle.stomach.specs.Ahead.{IsGiven}
 use Rattle.stomach.specs.Read.{ReadsTo}
-use Rattle.stomach.proofs.Giving.{is_given_none}
+use Rattle.stomach.proofs.GivenBytes.{is_given_none}
 use Rattle.stomach.proofs.Reading.{on_same}
 use Rattle.stomach.proofs.ahead.read_window.Goals as goal
 

@@ -3,11 +3,11 @@ use Rattle.rows.specs.declared.command.Effect.{Effect}
 use Rattle.plain_machine.specs.Plan.{acts}
 use Rattle.plain_machine.specs.States.{Closed}
 use Rattle.engine_state.specs.Book.{with_work}
-use Rattle.engine_state.specs.Near.{CutsIn}
+use Rattle.engine_state.specs.CutReadings.{CutsIn}
 use Rattle.engine_state.specs.Rules.{world_of}
 use Rattle.engine_state.specs.Stands.{state_of, page_of}
 use Rattle.engine_state.proofs.Joining.{same_err, ok_to, err_to}
-use Rattle.stomach.specs.Halting.{Rules}
+use Rattle.stomach.specs.Halting.{DoesRuleIn}
 use Rattle.stomach.proofs.ActsEnding.{is_alone, small_effect, alone_cut, alone_rule, ended_lighter}
 use Rattle.stomach.proofs.effects.act.Goals as goal
 
@@ -15,7 +15,7 @@ pub returns-in-Obey-clause-rule : goal.returns-in-Obey-clause-rule
 returns-in-Obey-clause-rule g c = let e = c.args.engine.now in let e2 = c.obey_behind.new.engine in
     ok_to c.obey_behind.result
     (λ ruled h sizes f book r rs st asks.
-    subst (λ (does : Effect). Rules sizes (state_of e (with_work (r ∷ rs) book)) e2 (world_of f (g.S.Sink.told c.args.out.now) e) (world_of f (g.S.Sink.told c.obey_behind.new.out) e2) (acts (page_of e book) c.args.call does) ruled) (sym c.in-Obey.is)
+    subst (λ (does : Effect). DoesRuleIn sizes (state_of e (with_work (r ∷ rs) book)) e2 (world_of f (g.S.Sink.told c.args.out.now) e) (world_of f (g.S.Sink.told c.obey_behind.new.out) e2) (acts (page_of e book) c.args.call does) ruled) (sym c.in-Obey.is)
     (h sizes f book r rs st)) c.obey_behind.ensures.rule
 
 pub returns-in-Obey-clause-err : goal.returns-in-Obey-clause-err
@@ -29,7 +29,7 @@ pub returns-in-ExpandBehind-clause-rule : goal.returns-in-ExpandBehind-clause-ru
 returns-in-ExpandBehind-clause-rule g c = let e = c.args.engine.now in let e2 = c.expand_behind.new.engine in
     ok_to c.expand_behind.result
     (λ ruled h sizes f book r rs st asks.
-    subst (λ (does : Effect). Rules sizes (state_of e (with_work (r ∷ rs) book)) e2 (world_of f (g.S.Sink.told c.args.out.now) e) (world_of f (g.S.Sink.told c.expand_behind.new.out) e2) (acts (page_of e book) c.args.call does) ruled) (sym c.in-ExpandBehind.is)
+    subst (λ (does : Effect). DoesRuleIn sizes (state_of e (with_work (r ∷ rs) book)) e2 (world_of f (g.S.Sink.told c.args.out.now) e) (world_of f (g.S.Sink.told c.expand_behind.new.out) e2) (acts (page_of e book) c.args.call does) ruled) (sym c.in-ExpandBehind.is)
     (h sizes f book r rs st)) c.expand_behind.ensures.rule
 
 pub returns-in-ExpandBehind-clause-err : goal.returns-in-ExpandBehind-clause-err

@@ -6,7 +6,7 @@ use Rattle.engine_state.specs.Book.{with_work}
 use Rattle.engine_state.proofs.Counting.{counts_of}
 use Rattle.gullet.proofs.JobName.{name_stands}
 use Rattle.engine_state.proofs.Joining.{same_err}
-use Rattle.engine_state.proofs.Nearing.{stands_in}
+use Rattle.engine_state.proofs.CuttingReadings.{stands_in}
 use Rattle.stomach.proofs.InnerBegun.{asked_still, done_went, done_light}
 use Rattle.stomach.proofs.ends.done.Goals as goal
 

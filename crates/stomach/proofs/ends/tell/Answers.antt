@@ -12,7 +12,7 @@ use Rattle.engine_state.specs.Steps.{pending_weight}
 use Rattle.engine_state.proofs.Counting.{counts_of}
 use Rattle.gullet.proofs.JobName.{name_stands}
 use Rattle.engine_state.proofs.Joining.{same_err}
-use Rattle.engine_state.proofs.Nearing.{stands_in}
+use Rattle.engine_state.proofs.CuttingReadings.{stands_in}
 use Rattle.engine_state.proofs.Putting.{told_first, told_second, told_went, told_halts, told_cuts}
 use Rattle.engine_state.proofs.Reporting.{input_sound, stands_still}
 use Rattle.engine_state.proofs.Standing.{frames_join}

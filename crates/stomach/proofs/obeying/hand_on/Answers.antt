@@ -3,12 +3,12 @@ use Rattle.plain_machine.specs.States.{Move}
 use Rattle.stomach.specs.Obeying.{is_dropped}
 use Rattle.engine_state.specs.declared.broken.Broken.TheVariants as broken
 use Rattle.engine_state.specs.Book.{Book, with_work}
-use Rattle.engine_state.specs.Near.{CutsIn}
+use Rattle.engine_state.specs.CutReadings.{CutsIn}
 use Rattle.engine_state.specs.Stands.{state_of, page_of}
 use Rattle.engine_state.specs.Rules.{world_of, feeds_of, Went}
-use Rattle.engine_state.proofs.Bare.{framed}
+use Rattle.engine_state.proofs.Uncalled.{framed}
 use Rattle.engine_state.proofs.Joining.{same_err, ok_to, err_to, onward_by, went_by, column_went}
-use Rattle.engine_state.proofs.Nearing.{in_by, column_in}
+use Rattle.engine_state.proofs.CuttingReadings.{in_by, column_in}
 use Rattle.stomach.proofs.Handing.{obeyed_moves, fed_moves, feeds_frame, frame_went}
 use Rattle.stomach.proofs.obeying.hand_on.Goals as goal
 

@@ -1,9 +1,9 @@
 use Rattle.std.proofs.Common.{ap}
 use Rattle.plain_machine.specs.Plan.{command}
 use Rattle.engine_state.specs.Stands.{state_of, page_of}
-use Rattle.engine_state.proofs.Bare.{all_of}
+use Rattle.engine_state.proofs.Uncalled.{all_of}
 use Rattle.engine_state.proofs.Joining.{same_err, ok_to, err_to, onward_by, went_by}
-use Rattle.engine_state.proofs.Nearing.{cuts_in, in_by}
+use Rattle.engine_state.proofs.CuttingReadings.{cuts_in, in_by}
 use Rattle.engine_state.proofs.Reporting.{line_went}
 use Rattle.engine_state.proofs.Standing.{only_frames, column_all}
 use Rattle.stomach.proofs.TokensObeyed.{line_moves}

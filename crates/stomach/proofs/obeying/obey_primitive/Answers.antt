@@ -7,11 +7,11 @@ use Rattle.plain_readings.specs.Readings.{Reads}
 use Rattle.plain_machine.specs.States.{Begun}
 use Rattle.engine_state.specs.declared.broken.Broken.TheVariants as broken
 use Rattle.engine_state.specs.Stands.{state_of, page_of}
-use Rattle.engine_state.proofs.Bare.{all_of}
+use Rattle.engine_state.proofs.Uncalled.{all_of}
 use Rattle.engine_state.proofs.Counting.{counts_of}
 use Rattle.gullet.proofs.Expanding.{expansion_went}
 use Rattle.engine_state.proofs.Joining.{same_err, ok_to, err_to, onward_by, went_by}
-use Rattle.engine_state.proofs.Nearing.{cuts_in, stands_in, in_by}
+use Rattle.engine_state.proofs.CuttingReadings.{cuts_in, stands_in, in_by}
 use Rattle.engine_state.proofs.Reporting.{full_out, line_went}
 use Rattle.engine_state.proofs.Standing.{same_engine, only_frames, column_all}
 use Rattle.stomach.proofs.TokensObeyed.{row_found, row_moves, end_moves, endcsname_moves, other_moves}

@@ -8,7 +8,7 @@ use Rattle.plain_machine.proofs.Doing.{did_none}
 use Rattle.engine_state.specs.Book.{with_work}
 use Rattle.engine_state.specs.Stands.{page_of, state_of}
 use Rattle.engine_state.proofs.Joining.{same_err, ok_to, err_to}
-use Rattle.engine_state.proofs.Nearing.{column_in, in_by, stands_in}
+use Rattle.engine_state.proofs.CuttingReadings.{column_in, in_by, stands_in}
 use Rattle.engine_state.proofs.Standing.{only_frames}
 use Rattle.stomach.proofs.RuleCloses.{acts_else, closed_as, column_did, column_stands, name_free}
 use Rattle.stomach.proofs.RuleHalts.{rules_by}

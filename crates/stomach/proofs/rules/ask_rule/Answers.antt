@@ -9,7 +9,7 @@ use Rattle.engine_state.specs.declared.outcome.Ruled.TheVariants.{Free}
 use Rattle.gullet.proofs.CallWeighing.{steps_as_one, free_steps}
 use Rattle.gullet.proofs.Ending.{no_ok, no_on}
 use Rattle.engine_state.proofs.Joining.{same_err, ok_to, ok_both, err_to, column_went}
-use Rattle.engine_state.proofs.Nearing.{column_in}
+use Rattle.engine_state.proofs.CuttingReadings.{column_in}
 use Rattle.stomach.proofs.RuleAsks.{asked_bare, asked_cuts, asked_here, asked_rules, asked_steps, more_taken, none_kept}
 use Rattle.stomach.proofs.RuleCloses.{closed_alone, closed_lighter}
 use Rattle.stomach.proofs.RuleHalts.{framed_rules}

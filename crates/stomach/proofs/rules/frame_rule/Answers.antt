@@ -1,19 +1,19 @@
 use Rattle.std.proofs.Common.{refl, sym}
 use Rattle.std.specs.Prelude.{None}
-use Rattle.engine_state.specs.Near.{CutsIn}
+use Rattle.engine_state.specs.CutReadings.{CutsIn}
 use Rattle.engine_state.specs.Rules.{world_of}
 use Rattle.engine_state.specs.Stands.{state_of}
-use Rattle.engine_state.proofs.Bare.{framed}
+use Rattle.engine_state.proofs.Uncalled.{framed}
 use Rattle.gullet.proofs.CallWeighing.{steps_as_one}
 use Rattle.engine_state.proofs.Joining.{err_to, ok_both}
-use Rattle.stomach.specs.Halting.{Rules}
+use Rattle.stomach.specs.Halting.{DoesRuleIn}
 use Rattle.stomach.proofs.RuleAsks.{asked_steps, by_none}
 use Rattle.stomach.proofs.RuleHalts.{framed_rules}
 use Rattle.stomach.proofs.rules.frame_rule.Goals as goal
 
 pub returns-in-None-clause-rule : goal.returns-in-None-clause-rule
 returns-in-None-clause-rule g c = let e = c.args.engine.now in let n = c.token_rule in let k = c.in-None.ensures in
-    ok_both n.result (λ ruled h same sizes f. λ book roomy. by_none sizes e (λ b plan. Rules sizes (state_of e b) n.new.engine (world_of f (g.S.Sink.told c.args.out.now) e) (world_of f (g.S.Sink.told n.new.out) n.new.engine) plan ruled) k.asks k.stands c.requires.uncalled
+    ok_both n.result (λ ruled h same sizes f. λ book roomy. by_none sizes e (λ b plan. DoesRuleIn sizes (state_of e b) n.new.engine (world_of f (g.S.Sink.told c.args.out.now) e) (world_of f (g.S.Sink.told n.new.out) n.new.engine) plan ruled) k.asks k.stands c.requires.uncalled
     (λ b t. framed_rules sizes e n.new.engine b _ _ _ ruled (framed sizes e b c.requires.uncalled t.1) same (h sizes f b t)) book) n.ensures.rule n.ensures.halts
 
 pub returns-in-None-clause-err : goal.returns-in-None-clause-err

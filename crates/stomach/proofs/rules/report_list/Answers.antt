@@ -7,7 +7,7 @@ use Rattle.input_state.specs.Stored.{Stored}
 use Rattle.engine_state.specs.Book.{with_work}
 use Rattle.engine_state.specs.Steps.{pending_weight}
 use Rattle.engine_state.proofs.Joining.{same_err}
-use Rattle.engine_state.proofs.Nearing.{stands_in}
+use Rattle.engine_state.proofs.CuttingReadings.{stands_in}
 use Rattle.stomach.proofs.RuleCloses.{closed_lighter_behind, reported_closed, reported_halts}
 use Rattle.stomach.proofs.rules.report_list.Goals as goal
 

@@ -1,4 +1,4 @@
-use Rattle.engine_state.proofs.Bare.{framed}
+use Rattle.engine_state.proofs.Uncalled.{framed}
 use Rattle.engine_state.proofs.Joining.{ok_to, ok_both, err_to}
 use Rattle.engine_state.proofs.Stopping.{noted_in}
 use Rattle.stomach.proofs.RuleHalts.{called_rules, noted_rules}

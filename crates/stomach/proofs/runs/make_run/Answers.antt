@@ -27,13 +27,13 @@ returns-in_err-outcome-clause-run g c =
     let b0 = c.args.buffer.now in
     let b = l.buffer in
     let e0 = c.args.engine.now in
-    let e = c.settle.new.engine in
+    let e = c.run_to_step.new.engine in
     let s0 = g.S.Sink.told c.args.out.now in
     let s1 = g.S.Sink.told l.out in
-    let s = g.S.Sink.told c.settle.new.out in
+    let s = g.S.Sink.told c.run_to_step.new.out in
     let n = c.args.n in
     reads_err c.from_residual.result x _ _ _ _ _ _ c.from_residual.ensures.1
-    (reads_then (CameTo b0 e0 s0 l.engine s1 l.taken) c.args.reader.now l.reader c.settle.new.reader _ _ _ (StoppedTo b l.engine s1 e s 0 x) (StoppedTo b0 e0 s0 e s n x) l.invariant.1.1 i.ensures.run
+    (reads_then (CameTo b0 e0 s0 l.engine s1 l.taken) c.args.reader.now l.reader c.run_to_step.new.reader _ _ _ (StoppedTo b l.engine s1 e s 0 x) (StoppedTo b0 e0 s0 e s n x) l.invariant.1.1 i.ensures.run
     (λ all mid left may p q. stopped_then b0 b l.invariant.1.0.1 e0 l.engine e s0 s1 s l.taken all mid left p 0 n x (omega (arith, l.invariant.0)) q))
 
 pub returns-in-Some-clause-run : goal.returns-in-Some-clause-run
@@ -44,13 +44,13 @@ returns-in-Some-clause-run g c =
     let b0 = c.args.buffer.now in
     let b = l.buffer in
     let e0 = c.args.engine.now in
-    let e = c.settle.new.engine in
+    let e = c.run_to_step.new.engine in
     let s0 = g.S.Sink.told c.args.out.now in
     let s1 = g.S.Sink.told l.out in
-    let s = g.S.Sink.told c.settle.new.out in
+    let s = g.S.Sink.told c.run_to_step.new.out in
     let n = c.args.n in
-    reads_then (CameTo b0 e0 s0 l.engine s1 l.taken) c.args.reader.now l.reader c.settle.new.reader _ _ _ (StopsTo b l.engine s1 e s 0 o) (RanTo b0 e0 s0 e s n (ended.Halted o)) l.invariant.1.1
-    (settles_some b l.engine e s1 s l.reader c.settle.new.reader _ _ i.field-0 o c.in-Some.is i.ensures.run)
+    reads_then (CameTo b0 e0 s0 l.engine s1 l.taken) c.args.reader.now l.reader c.run_to_step.new.reader _ _ _ (StopsTo b l.engine s1 e s 0 o) (RanTo b0 e0 s0 e s n (ended.Halted o)) l.invariant.1.1
+    (settles_some b l.engine e s1 s l.reader c.run_to_step.new.reader _ _ i.field-0 o c.in-Some.is i.ensures.run)
     (λ all mid left may p q. stops_ran b0 e0 e s0 s (l.taken + 0) n o all left (omega (arith, l.invariant.0)) (stops_then b0 b l.invariant.1.0.1 e0 l.engine e s0 s1 s l.taken all mid left p 0 o q))
 
 pub returns-then-taken-n-clause-run : goal.returns-then-taken-n-clause-run
@@ -60,19 +60,19 @@ returns-then-taken-n-clause-run g c =
     let none : k.field-0 ≡ None = none_of k.field-0 c.in_default.not-Some in
     let b0 = c.args.buffer.now in
     let e0 = c.args.engine.now in
-    let e = c.settle.new.engine in
+    let e = c.run_to_step.new.engine in
     let s0 = g.S.Sink.told c.args.out.now in
-    let s = g.S.Sink.told c.settle.new.out in
-    let r = c.settle.new.reader in
+    let s = g.S.Sink.told c.run_to_step.new.out in
+    let r = c.run_to_step.new.reader in
     let n = c.args.n in
     let knows = k.ensures.knows none in
     let came = came_settled b0 l.buffer l.invariant.1.0.1 e0 l.engine e s0 (g.S.Sink.told l.out) s l.taken c.args.reader.now l.reader r _ _ _ k.field-0 none l.invariant.1.1 k.ensures.run in
     let at : l.taken ≡ n = omega (arith, c.if-taken-n.true) in
-    let i = c.settle-then-taken-n.new.self in
+    let i = c.settle.new.self in
     let e' : Engine = record e { input = i } in
     reads_map (CameTo b0 e0 s0 e s l.taken) c.args.reader.now r _ _ (RanTo b0 e0 s0 e' s n ended.Steps) came
     (λ all left may p. subst (λ (j : ℕ). RanTo b0 e0 s0 e' s j ended.Steps all left) at
-    (came_steps b0 e0 e s0 s l.taken r knows all left may p i c.settle-then-taken-n.ensures.after c.settle-then-taken-n.ensures.macros (k.ensures.waits none)))
+    (came_steps b0 e0 e s0 s l.taken r knows all left may p i c.settle.ensures.after c.settle.ensures.macros (k.ensures.waits none)))
 
 pub returns-in_err-outcome-2-clause-run : goal.returns-in_err-outcome-2-clause-run
 returns-in_err-outcome-2-clause-run g c =
@@ -80,13 +80,13 @@ returns-in_err-outcome-2-clause-run g c =
     let k = c.in_ok-outcome in
     let none : k.field-0 ≡ None = none_of k.field-0 c.in_default.not-Some in
     let b0 = c.args.buffer.now in
-    let b = c.settle.new.buffer in
+    let b = c.run_to_step.new.buffer in
     let room : vec_capacity b.text ≡ vec_capacity b0.text = k.ensures.capacity ∙ l.invariant.1.0.1 in
     let e0 = c.args.engine.now in
-    let e = c.settle.new.engine in
+    let e = c.run_to_step.new.engine in
     let s0 = g.S.Sink.told c.args.out.now in
-    let s = g.S.Sink.told c.settle.new.out in
-    let r = c.settle.new.reader in
+    let s = g.S.Sink.told c.run_to_step.new.out in
+    let r = c.run_to_step.new.reader in
     let n = c.args.n in
     let knows = k.ensures.knows none in
     let came = came_settled b0 l.buffer l.invariant.1.0.1 e0 l.engine e s0 (g.S.Sink.told l.out) s l.taken c.args.reader.now l.reader r _ _ _ k.field-0 none l.invariant.1.1 k.ensures.run in
@@ -105,13 +105,13 @@ returns-in-Halted-clause-run g c =
     let k = c.in_ok-outcome in
     let none : k.field-0 ≡ None = none_of k.field-0 c.in_default.not-Some in
     let b0 = c.args.buffer.now in
-    let b = c.settle.new.buffer in
+    let b = c.run_to_step.new.buffer in
     let room : vec_capacity b.text ≡ vec_capacity b0.text = k.ensures.capacity ∙ l.invariant.1.0.1 in
     let e0 = c.args.engine.now in
-    let e = c.settle.new.engine in
+    let e = c.run_to_step.new.engine in
     let s0 = g.S.Sink.told c.args.out.now in
-    let s = g.S.Sink.told c.settle.new.out in
-    let r = c.settle.new.reader in
+    let s = g.S.Sink.told c.run_to_step.new.out in
+    let r = c.run_to_step.new.reader in
     let n = c.args.n in
     let knows = k.ensures.knows none in
     let came = came_settled b0 l.buffer l.invariant.1.0.1 e0 l.engine e s0 (g.S.Sink.told l.out) s l.taken c.args.reader.now l.reader r _ _ _ k.field-0 none l.invariant.1.1 k.ensures.run in
@@ -130,13 +130,13 @@ loop-outcome-preserved g c =
     let k = c.in_ok-outcome in
     let none : k.field-0 ≡ None = none_of k.field-0 c.in_default.not-Some in
     let b0 = c.args.buffer.now in
-    let b = c.settle.new.buffer in
+    let b = c.run_to_step.new.buffer in
     let room : vec_capacity b.text ≡ vec_capacity b0.text = k.ensures.capacity ∙ l.invariant.1.0.1 in
     let e0 = c.args.engine.now in
-    let e = c.settle.new.engine in
+    let e = c.run_to_step.new.engine in
     let s0 = g.S.Sink.told c.args.out.now in
-    let s = g.S.Sink.told c.settle.new.out in
-    let r = c.settle.new.reader in
+    let s = g.S.Sink.told c.run_to_step.new.out in
+    let r = c.run_to_step.new.reader in
     let n = c.args.n in
     let knows = k.ensures.knows none in
     let came = came_settled b0 l.buffer l.invariant.1.0.1 e0 l.engine e s0 (g.S.Sink.told l.out) s l.taken c.args.reader.now l.reader r _ _ _ k.field-0 none l.invariant.1.1 k.ensures.run in

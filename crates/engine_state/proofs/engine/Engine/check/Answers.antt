@@ -5,7 +5,7 @@ use Rattle.tex_defs.specs.declared.Fatal.TheVariants.{HundredErrors}
 use Rattle.engine_state.specs.declared.outcome.Ruled.TheVariants.{Halted}
 use Rattle.engine_state.specs.Stands.{state_of, page_of}
 use Rattle.engine_state.proofs.Joining.{same_err, onward_by, went_by}
-use Rattle.engine_state.proofs.Nearing.{in_by}
+use Rattle.engine_state.proofs.CuttingReadings.{in_by}
 use Rattle.engine_state.proofs.CheckingMoves.{runs_away, behind_none, unchecked}
 use Rattle.engine_state.proofs.engine.Engine.check.Goals as goal
 

@@ -9,7 +9,7 @@ use Rattle.engine_state.specs.Begins.{away_moves}
 use Rattle.engine_state.proofs.Counting.{call_counts}
 use Rattle.engine_state.proofs.CheckingMoves.{put_stands, takes_still, forbid_rule, forbid_behind, forbid_cuts, comes_behind}
 use Rattle.engine_state.proofs.Joining.{same_err}
-use Rattle.engine_state.proofs.Nearing.{cuts_in, column_in}
+use Rattle.engine_state.proofs.CuttingReadings.{cuts_in, column_in}
 use Rattle.engine_state.proofs.engine.Engine.forbid.Goals as goal
 
 pub returns-in_err-put_one-clause-err : goal.returns-in_err-put_one-clause-err

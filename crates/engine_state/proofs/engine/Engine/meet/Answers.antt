@@ -2,12 +2,12 @@ use Rattle.std.proofs.Common.{◌≡◌, true, false, arith}
 use Rattle.std.proofs.lemmas.Grind.{common_steps}
 use Rattle.std.specs.Prelude.{Option, Some}
 use Rattle.tex_syntax.specs.declared.words.Want.{Want}
-use Rattle.engine_state.specs.Near.{CutsIn}
+use Rattle.engine_state.specs.CutReadings.{CutsIn}
 use Rattle.engine_state.specs.Stands.{state_of, page_of}
 use Rattle.engine_state.specs.Rules.{world_of, onward_of, scanning_of, space_moves, token_moves, Takes, Meets}
 use Rattle.engine_state.proofs.Coming.{meets_by}
 use Rattle.engine_state.proofs.Joining.{ok_to, err_to}
-use Rattle.engine_state.proofs.Nearing.{in_by}
+use Rattle.engine_state.proofs.CuttingReadings.{in_by}
 use Rattle.engine_state.proofs.CheckingMoves.{by_some, comes_here, inner_meets, none_meets, seen_outer, meets_away}
 use Rattle.engine_state.proofs.engine.Engine.meet.Goals as goal
 

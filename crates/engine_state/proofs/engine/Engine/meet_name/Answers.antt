@@ -4,7 +4,7 @@ use Rattle.engine_state.specs.Entering.{with_names, EntryFits, EntryRefused}
 use Rattle.engine_state.specs.declared.broken.Broken.TheVariants as broken
 use Rattle.engine_state.specs.Rules.{scanning_of}
 use Rattle.engine_state.proofs.Joining.{same_err, ok_to, err_to}
-use Rattle.engine_state.proofs.Nearing.{cuts_in}
+use Rattle.engine_state.proofs.CuttingReadings.{cuts_in}
 use Rattle.engine_state.proofs.Pulling.{name_meets, name_cuts, name_full, takes_named}
 use Rattle.engine_state.proofs.engine.Engine.meet_name.Goals as goal
 

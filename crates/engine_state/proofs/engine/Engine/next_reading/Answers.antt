@@ -8,7 +8,7 @@ use Rattle.engine_state.specs.Rules.{onward_of, scanning_of}
 use Rattle.engine_state.specs.Steps.{next_met, next_free}
 use Rattle.engine_state.proofs.Coming.{meets_by, next_as}
 use Rattle.engine_state.proofs.Joining.{same_err, onward_by}
-use Rattle.engine_state.proofs.Nearing.{cuts_in, in_by}
+use Rattle.engine_state.proofs.CuttingReadings.{cuts_in, in_by}
 use Rattle.engine_state.proofs.Pulling.{token_nexts, token_cuts, token_fits, token_moves_still, name_moves_still, checked_still, lexeme_nexts, lexeme_cuts, taken_rule, pull_cuts, skipped_nexts, skipped_cuts, closed_nexts, closed_cuts, no_end_nexts, no_end_cuts, token_at, lexeme_at, taken_at, invalid_at, over_at, nothing_left, pull_store, frames_now, stands_now, takes_still, token_page, lexeme_page, invalid_page, file_gone, lighter_skip, lighter_close, lighter_after, skipped_light, steps_met, steps_free, not_met, not_over, nothing_steps}
 use Rattle.engine_state.proofs.engine.Engine.next_reading.Goals as goal
 

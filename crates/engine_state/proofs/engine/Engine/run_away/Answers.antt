@@ -8,7 +8,7 @@ use Rattle.engine_state.specs.Rules.{away_text, space_moves}
 use Rattle.engine_state.proofs.Counting.{call_counts}
 use Rattle.engine_state.proofs.CheckingMoves.{put_stands, takes_still, away_full, away_rule, away_behind, away_cuts}
 use Rattle.engine_state.proofs.Joining.{same_err, ok_to, err_both}
-use Rattle.engine_state.proofs.Nearing.{cuts_in}
+use Rattle.engine_state.proofs.CuttingReadings.{cuts_in}
 use Rattle.engine_state.proofs.Standing.{only_frames, column_all}
 use Rattle.engine_state.proofs.engine.Engine.run_away.Goals as goal
 

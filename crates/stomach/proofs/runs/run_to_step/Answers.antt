@@ -11,7 +11,7 @@ use Rattle.stomach.proofs.Running.{when_free}
 use Rattle.stomach.proofs.Reading.{reads_none, reads_map, still_open}
 use Rattle.stomach.specs.Ran.{StoppedTo}
 use Rattle.stomach.proofs.Rounds.{CameTo, StopsTo, came_first, came_free, came_end, came_cut, idle_given, running_given, weight_given, same_fault, reads_err, reads_given, reads_unread}
-use Rattle.stomach.proofs.runs.settle.Goals as goal
+use Rattle.stomach.proofs.runs.run_to_step.Goals as goal
 
 pub loop-engine-init : goal.loop-engine-init
 loop-engine-init g c =

@@ -57,9 +57,9 @@ pub record CutFull (b : Broken) (c : Call) (k : Calling) (r : Reading) : Type 0 
   pub at : CutScan long text next r.fed
 
 -- the call is this reading, as it was fed or cut off
-pub data CallNear (b : Broken) (c : Call) (k : Calling) (r : Reading) : Type 0 where
-  AsFed : CallReads c k r → CallNear b c k r
-  CutOff : CutFull b c k r → CallNear b c k r
+pub data CallAtCut (b : Broken) (c : Call) (k : Calling) (r : Reading) : Type 0 where
+  AsFed : CallReads c k r → CallAtCut b c k r
+  CutOff : CutFull b c k r → CallAtCut b c k r
 
 -- ALL OPEN READINGS
 
@@ -67,7 +67,7 @@ pub data CallNear (b : Broken) (c : Call) (k : Calling) (r : Reading) : Type 0 w
 abbrev pub FramesIn : Broken → Option Call → Engine → (lists : List (List Token)) → List Reading → Type 0
 FramesIn b None e lists work = frames.FramesStand e.readings.frames lists work
 FramesIn b (Some c) e lists [] = ⊥
-FramesIn b (Some c) e lists (r ∷ rs) = CallNear b c e.input.call r × frames.FramesStand e.readings.frames lists rs
+FramesIn b (Some c) e lists (r ∷ rs) = CallAtCut b c e.input.call r × frames.FramesStand e.readings.frames lists rs
 
 -- the innermost list has one token more, or none
 abbrev pub with_token : Option Token → List (List Token) → List (List Token)
@@ -82,7 +82,7 @@ MayLead b (Some t) = ⊥
 
 -- The open readings are these. Only where a table is full: of two tokens that one token brings into a list, the first may be
 -- there, and a call may be cut off within what a token brings.
-pub record FramesNear (b : Broken) (e : Engine) (work : List Reading) : Type 0 where
+pub record FramesAtCut (b : Broken) (e : Engine) (work : List Reading) : Type 0 where
   pub lists : List (List Token)
   pub front : Option Token
   pub grown : e.input.builds ≡ with_token front lists
@@ -93,4 +93,4 @@ pub record FramesNear (b : Broken) (e : Engine) (work : List Reading) : Type 0 w
 pub record CutsIn (sizes : Sizes) (s : State) (e' : Engine) (w w' : World) (moves : List Move) (b : Broken) : Type 0 where
   pub book' : Book
   pub cuts : Cuts sizes s e' book' w w' moves b
-  pub near : FramesNear b e' book'.work
+  pub near : FramesAtCut b e' book'.work

@@ -17,10 +17,10 @@ use Rattle.engine_state.specs.declared.call.Call.{Call}
 use Rattle.engine_state.specs.declared.engine.Engine.{Engine}
 use Rattle.engine_state.specs.Book.{Book}
 use Rattle.engine_state.specs.Calls.{AllStand, ReadingsStand}
-use Rattle.engine_state.specs.Near.{AsFed, CallNear, FramesIn, FramesNear, CutsIn}
+use Rattle.engine_state.specs.CutReadings.{AsFed, CallAtCut, FramesIn, FramesAtCut, CutsIn}
 use Rattle.engine_state.specs.Rules.{world_of, Cuts}
 use Rattle.engine_state.specs.Stands.{Stands, FramesStand, SameFrames, state_of}
-use Rattle.engine_state.proofs.Bare.{all_of, call_reads}
+use Rattle.engine_state.proofs.Uncalled.{all_of, call_reads}
 use Rattle.engine_state.proofs.Cutting.{first_cuts, later_cuts}
 
 -- THE OPEN READINGS
@@ -30,11 +30,11 @@ frames_at b e number None work h = h.0.frames
 frames_at b e number (Some c) [] h = h
 frames_at b e number (Some c) (r ∷ rs) h = (AsFed (call_reads e number c r h.0), h.1.frames)
 
-pub near_all : (sizes : Sizes) (b : Broken) (e : Engine) (book : Book) → AllStand sizes e book → FramesNear b e book.work
+pub near_all : (sizes : Sizes) (b : Broken) (e : Engine) (book : Book) → AllStand sizes e book → FramesAtCut b e book.work
 near_all sizes b e book st = record { lists = e.input.builds; front = None; grown = refl; leads = tt; stand = frames_at b e book.number e.call book.work st.all }
 
 -- where no call gathers its arguments
-pub near_none : (b : Broken) (e : Engine) (work : List Reading) → e.call ≡ None → FramesStand e work → FramesNear b e work
+pub near_none : (b : Broken) (e : Engine) (work : List Reading) → e.call ≡ None → FramesStand e work → FramesAtCut b e work
 near_none b e work none h = record { lists = e.input.builds; front = None; grown = refl; leads = tt; stand = subst (λ (c : Option Call). FramesIn b c e e.input.builds work) (sym none) h.frames }
 
 work_still : (e e' : Engine) (lists : List (List Token)) (work : List Reading) → SameFrames e e' → frames.FramesStand e.readings.frames lists work → frames.FramesStand e'.readings.frames lists work
@@ -43,10 +43,10 @@ work_still e e' lists work same h = subst (λ (x : List Frame). frames.FramesSta
 in_still : (b : Broken) (e e' : Engine) (c : Option Call) (lists : List (List Token)) (work : List Reading) → SameFrames e e' → FramesIn b c e lists work → FramesIn b c e' lists work
 in_still b e e' None lists work same h = work_still e e' lists work same h
 in_still b e e' (Some c) lists [] same h = h
-in_still b e e' (Some c) lists (r ∷ rs) same h = (subst (λ (k : Calling). CallNear b c k r) (sym same.calling) h.0, work_still e e' lists rs same h.1)
+in_still b e e' (Some c) lists (r ∷ rs) same h = (subst (λ (k : Calling). CallAtCut b c k r) (sym same.calling) h.0, work_still e e' lists rs same h.1)
 
 -- they are as they were
-pub near_still : (b : Broken) (e e' : Engine) (work : List Reading) → SameFrames e e' → FramesNear b e work → FramesNear b e' work
+pub near_still : (b : Broken) (e e' : Engine) (work : List Reading) → SameFrames e e' → FramesAtCut b e work → FramesAtCut b e' work
 near_still b e e' work same h = record {
   lists = h.lists;
   front = h.front;

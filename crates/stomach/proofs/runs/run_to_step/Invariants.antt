@@ -3,7 +3,7 @@ use Rattle.std.specs.Prelude.{None, vec_capacity}
 use Rattle.engine_state.specs.Steps.{weight}
 use Rattle.stomach.specs.Read.{ReadsTo}
 use Rattle.stomach.proofs.Rounds.{CameTo}
-use Rattle.stomach.proofs.runs.settle.Given as goal
+use Rattle.stomach.proofs.runs.run_to_step.Given as goal
 
 abbrev pub invariant-loop-engine : goal.invariant-loop-engine
 invariant-loop-engine g l =
