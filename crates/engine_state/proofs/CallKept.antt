@@ -1,21 +1,22 @@
 -- A call stands as it did.
-use Rattle.std.proofs.Common.{◌≡◌, ℕ, zero, suc, List, [], ◌∷◌, refl, sym, ap, subst, ◌∙◌, Bool, true, false}
-use Rattle.std.specs.Prelude.{Option, Some, None, ◌||◌, ◌==◌, slice_index_or}
-use Rattle.std.proofs.lemmas.Bool.Decides.{nat_tests}
-use Rattle.std.proofs.Common.{arith}
+use Rattle.std.proofs.Common.{◌≡◌, ℕ, List, [], ◌∷◌, refl, sym, ap, subst, ◌∙◌, Bool, true}
+use Rattle.std.specs.Prelude.{Option, Some, None}
+use Rattle.std.proofs.lemmas.Bool.{eq-eqb, or_left}
 use Rattle.tex_defs.specs.declared.Sizes.{Sizes}
 use Rattle.tex_defs.specs.declared.Token.{Token}
 use Rattle.tex_defs.specs.declared.Name.{Name}
-use Rattle.tex_defs.specs.declared.Name.TheVariants as name
-use Rattle.tex_defs.specs.declared.Frozen.TheVariants as frozen
 use Rattle.tex_defs.specs.declared.Meaning.{Meaning}
 use Rattle.tex_defs.specs.declared.Meaning.TheVariants as means
 use Rattle.plain_tokens.specs.Arguments.{has_parameters}
-use Rattle.plain_tokens.specs.Meanings.{name_meaning, looked_up, location, fixed_meaning}
+use Rattle.plain_tokens.specs.Meanings.{name_meaning, is_listed}
 use Rattle.plain_readings.specs.Readings.{Reading, Arguments}
-use Rattle.plain_tokens.specs.Tables.{is_meant, is_put, means_macro}
+use Rattle.plain_tokens.specs.Tables.{is_put}
+use Rattle.equivalents.specs.Groups.{Groups}
+use Rattle.equivalents.specs.Holding.{list_of, lists_held}
+use Rattle.plain_machine.proofs.Holders.{is_number}
+use Rattle.plain_machine.proofs.Ties.{named_meant, name_held}
 use Rattle.input_state.specs.Callings.{Calling, call_lists}
-use Rattle.input_state.specs.Macros.{list_at, is_macro}
+use Rattle.input_state.specs.Macros.{list_at, is_shared}
 use Rattle.input_state.specs.Stored.{Stored}
 use Rattle.reading_frames.specs.declared.frame.Frame.{Frame}
 use Rattle.reading_frames.specs.Stack.{Stack}
@@ -43,44 +44,14 @@ frames_kept e e' work same h = readings_still e e' work (record { readings = sam
 
 -- A NAME THAT MEANS A MACRO
 
-either : (b : Bool) → (b || true) ≡ true
-either true = refl
-either false = refl
-
-macro_met : (id : ℕ) (m : Meaning (Option ℕ)) (long outer : Bool) → m ≡ means.Macro long outer (Some id) → means_macro id m ≡ true
-macro_met id m long outer is = ap (means_macro id) is ∙ same id where
-  same : (n : ℕ) → (n == n) ≡ true
-  same n = grind (arith, nat_tests)
-
-met_at : (id : ℕ) (long outer : Bool) (cells : List (Meaning (Option ℕ))) (k : ℕ) → slice_index_or cells k means.Undefined ≡ means.Macro long outer (Some id) → is_meant id cells ≡ true
-met_at id long outer [] k is = cc
-met_at id long outer (m ∷ cells) zero is = ap (λ (b : Bool). b || is_meant id cells) (macro_met id m long outer is)
-met_at id long outer (m ∷ cells) (suc k) is = ap (λ (b : Bool). means_macro id m || b) (met_at id long outer cells k is) ∙ either (means_macro id m)
-
-fixed_no : (n : Name) (long outer : Bool) (id : ℕ) → fixed_meaning n ≡ means.Macro long outer (Some id) → ⊥
-fixed_no (name.Frozen frozen.Relax) long outer id is = cc
-fixed_no (name.Frozen frozen.Fi) long outer id is = cc
-fixed_no (name.Frozen frozen.EndGroup) long outer id is = cc
-fixed_no (name.Frozen frozen.EndWrite) long outer id is = cc
-fixed_no (name.Frozen frozen.Inaccessible) long outer id is = cc
-fixed_no (name.Frozen frozen.Unknown) long outer id is = cc
-fixed_no (name.Active c) long outer id is = cc
-fixed_no (name.Single c) long outer id is = cc
-fixed_no name.Empty long outer id is = cc
-fixed_no (name.Word n) long outer id is = cc
-
-found_at : (id : ℕ) (long outer : Bool) (cells : List (Meaning (Option ℕ))) (at : Option ℕ) (fixed : Meaning (Option ℕ)) → (fixed ≡ means.Macro long outer (Some id) → ⊥) → looked_up cells at fixed ≡ means.Macro long outer (Some id) → is_meant id cells ≡ true
-found_at id long outer cells None fixed none is = absurd (none is)
-found_at id long outer cells (Some k) fixed none is = met_at id long outer cells k is
-
-pub meant_by : (cells : List (Meaning (Option ℕ))) (n : Name) (long outer : Bool) (id : ℕ) → name_meaning cells n ≡ means.Macro long outer (Some id) → is_meant id cells ≡ true
-meant_by cells n long outer id is = found_at id long outer cells (location n) (fixed_meaning n) (fixed_no n long outer id) is
+pub meant_by : (g : Groups) (n : Name) (long outer : Bool) (id : ℕ) → name_meaning g.now.meanings n ≡ means.Macro long outer (Some id) → is_listed (lists_held g) id ≡ true
+meant_by g n long outer id is = name_held id g (named_meant id g.now.meanings n (ap (λ (m : Meaning (Option ℕ)). is_number id (list_of m)) is ∙ eq-eqb id id refl))
 
 -- its list stays
-pub list_still : (i j : Stored) (n : Name) (long outer : Bool) (id : ℕ) → SameStore i j → name_meaning i.meanings n ≡ means.Macro long outer (Some id) → list_at j.lists id ≡ list_at i.lists id
+pub list_still : (i j : Stored) (n : Name) (long outer : Bool) (id : ℕ) → SameStore i j → name_meaning i.groups.now.meanings n ≡ means.Macro long outer (Some id) → list_at j.lists id ≡ list_at i.lists id
 list_still i j n long outer id store is = store.lists.tokens id held where
-  held : is_macro id j.meanings j.pending.puts ≡ true
-  held = ap (λ (b : Bool). b || is_put id j.pending.puts) (ap (is_meant id) store.meanings ∙ meant_by i.meanings n long outer id is)
+  held : is_shared id (lists_held j.groups) j.pending.puts ≡ true
+  held = or_left (is_listed (lists_held j.groups) id) (is_put id j.pending.puts) (ap (λ (g : Groups). is_listed (lists_held g) id) store.groups ∙ meant_by i.groups n long outer id is)
 
 -- THE CALL
 
@@ -91,7 +62,7 @@ call_still e e' number c r same store h =
       long = h.long;
       outer = h.outer;
       id = h.id;
-      meaning = ap (λ (cells : List (Meaning (Option ℕ))). name_meaning cells c.name) store.meanings ∙ h.meaning;
+      meaning = ap (λ (g : Groups). name_meaning g.now.meanings c.name) store.groups ∙ h.meaning;
       kind = h.kind ∙ ap (Arguments c.name h.long (number h.id)) (sym list);
       places = ap has_parameters list ∙ h.places;
       asked = ap (asks_of c) same ∙ h.asked;

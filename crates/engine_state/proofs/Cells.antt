@@ -1,7 +1,8 @@
 -- The locations of names, and a name more.
-use Rattle.std.proofs.Common.{◌≡◌, ℕ, zero, suc, ◌+◌, ◌≤◌, List, [], ◌∷◌, ◌++◌, length, get_or, map, Option, None, Some, refl, sym, ap, ◌∙◌, arith, Bool, true, false}
+use Rattle.std.proofs.Common.{◌≡◌, ℕ, zero, suc, ◌+◌, ◌≤◌, List, [], ◌∷◌, ◌++◌, length, get_or, Option, None, Some, refl, sym, ap, ◌∙◌, arith, Bool, true, false}
 use Rattle.std.specs.Prelude.{if◌then◌else◌, ◌==◌, codes}
 use Rattle.std.proofs.lemmas.Bool.Decides.{nat_tests}
+use Rattle.std.proofs.lemmas.List.{length-append}
 use Rattle.tex_defs.specs.declared.Name.{Name}
 use Rattle.tex_defs.specs.declared.Name.TheVariants as name
 use Rattle.tex_defs.specs.declared.Token.{Token}
@@ -12,7 +13,12 @@ use Rattle.prim_table.specs.Primitives.{primitive_names, command_names, assignme
 use Rattle.plain_tokens.specs.Tokens.{is_outer}
 use Rattle.plain_tokens.specs.Lex.{Lexeme, Character, ActiveName, SingleName, WordName, EmptyName, ParName}
 use Rattle.plain_tokens.specs.Lookup.{token_of, name_among, number_of, numbered, joins, new_among, new_name}
-use Rattle.plain_tokens.specs.Meanings.{fixed_locations, location, fixed_meaning, looked_up, name_meaning, seen_as, seen, first_meanings}
+use Rattle.plain_tokens.specs.Meanings.{fixed_locations, location, fixed_meaning, looked_up, name_meaning, seen_as, seen}
+use Rattle.equivalents.specs.First.{first_tables}
+use Rattle.equivalents.specs.Groups.{Groups, entered, first_groups}
+use Rattle.equivalents.specs.Holding.{lists_held}
+use Rattle.plain_machine.proofs.Holders.{entered_lists}
+use Rattle.engine_state.specs.Entering.{all_entered}
 
 abbrev Cell : Type 0
 Cell = Meaning (Option ℕ)
@@ -22,36 +28,48 @@ known : length primitive_names ≡ 186
 unfolding primitive_names command_names assignment_names expandable_names conditional_names integer_names dimension_names glue_names token_names
 known = refl
 
-first_length : (is_known : ℕ → Bool) → length (first_meanings is_known) ≡ 514 + 186
+first_length : (is_known : ℕ → Bool) → length (first_tables is_known).meanings ≡ 514 + 186
+unfolding first_tables
 first_length is_known = refl
 
-pub first_located : (is_known : ℕ → Bool) (cells : List Cell) (names : List (List ℕ)) → cells ≡ first_meanings is_known → names ≡ primitive_names → length cells ≡ fixed_locations + length names
-first_located is_known cells names c n = ap (length {A = Cell}) c ∙ first_length is_known ∙ ap (λ (k : ℕ). 514 + k) (sym known) ∙ ap (λ (ns : List (List ℕ)). 514 + length ns) (sym n)
+pub first_located : (is_known : ℕ → Bool) (g : Groups) (names : List (List ℕ)) → g ≡ first_groups is_known → names ≡ primitive_names → length g.now.meanings ≡ fixed_locations + length names
+first_located is_known g names is n = ap (λ (x : Groups). length x.now.meanings) is ∙ first_length is_known ∙ ap (λ (k : ℕ). 514 + k) (sym known) ∙ ap (λ (ns : List (List ℕ)). 514 + length ns) (sym n)
 
 -- A NAME MORE is undefined, as it was
 
-undefined_at : (new : List (List ℕ)) (k : ℕ) → get_or {A = Cell} (map (λ n. means.Undefined) new) k means.Undefined ≡ means.Undefined
-undefined_at [] k = refl
-undefined_at (n ∷ ns) zero = refl
-undefined_at (n ∷ ns) (suc k) = undefined_at ns k
+undefined_past : (cells : List Cell) (k : ℕ) → get_or (cells ++ means.Undefined ∷ []) k means.Undefined ≡ get_or cells k means.Undefined
+undefined_past [] zero = refl
+undefined_past [] (suc k) = refl
+undefined_past (c ∷ cells) zero = refl
+undefined_past (c ∷ cells) (suc k) = undefined_past cells k
 
-undefined_past : (cells : List Cell) (new : List (List ℕ)) (k : ℕ) → get_or (cells ++ map (λ n. means.Undefined) new) k means.Undefined ≡ get_or cells k means.Undefined
-undefined_past [] new k = undefined_at new k
-undefined_past (c ∷ cells) new zero = refl
-undefined_past (c ∷ cells) new (suc k) = undefined_past cells new k
+more_at : (cells : List Cell) (o : Option ℕ) (fixed : Cell) → looked_up (cells ++ means.Undefined ∷ []) o fixed ≡ looked_up cells o fixed
+more_at cells None fixed = refl
+more_at cells (Some k) fixed = undefined_past cells k
 
-more_at : (cells : List Cell) (new : List (List ℕ)) (o : Option ℕ) (fixed : Cell) → looked_up (cells ++ map (λ n. means.Undefined) new) o fixed ≡ looked_up cells o fixed
-more_at cells new None fixed = refl
-more_at cells new (Some k) fixed = undefined_past cells new k
+seen_one : (cells : List Cell) (t : Token) → seen (cells ++ means.Undefined ∷ []) t ≡ seen cells t
+seen_one cells (token.Char category c) = refl
+seen_one cells (token.Named n) = ap (λ (m : Cell). record { token = token.Named n; meaning = seen_as m }) (more_at cells (location n) (fixed_meaning n))
+seen_one cells (token.Marked n) = ap (λ (m : Cell). record { token = token.Marked n; meaning = seen_as m }) (more_at cells (location n) (fixed_meaning n))
+seen_one cells t = refl
 
-pub seen_more : (cells : List Cell) (new : List (List ℕ)) (t : Token) → seen (cells ++ map (λ n. means.Undefined) new) t ≡ seen cells t
-seen_more cells new (token.Char category c) = refl
-seen_more cells new (token.Named n) = ap (λ (m : Cell). record { token = token.Named n; meaning = seen_as m }) (more_at cells new (location n) (fixed_meaning n))
-seen_more cells new (token.Marked n) = ap (λ (m : Cell). record { token = token.Marked n; meaning = seen_as m }) (more_at cells new (location n) (fixed_meaning n))
-seen_more cells new t = refl
+pub seen_more : (new : List (List ℕ)) (g : Groups) (t : Token) → seen (all_entered new g).now.meanings t ≡ seen g.now.meanings t
+seen_more [] g t = refl
+seen_more (name ∷ names) g t = seen_more names (entered g) t ∙ seen_one g.now.meanings t
 
-pub meaning_more : (cells : List Cell) (new : List (List ℕ)) (n : Name) → name_meaning (cells ++ map (λ n. means.Undefined) new) n ≡ name_meaning cells n
-meaning_more cells new n = more_at cells new (location n) (fixed_meaning n)
+pub meaning_more : (new : List (List ℕ)) (g : Groups) (n : Name) → name_meaning (all_entered new g).now.meanings n ≡ name_meaning g.now.meanings n
+meaning_more [] g n = refl
+meaning_more (name ∷ names) g n = meaning_more names (entered g) n ∙ more_at g.now.meanings (location n) (fixed_meaning n)
+
+-- it has a location
+pub entered_length : (new : List (List ℕ)) (g : Groups) → length (all_entered new g).now.meanings ≡ length g.now.meanings + length new
+entered_length [] g = omega arith
+entered_length (name ∷ names) g = omega (arith, entered_length names (entered g), length-append g.now.meanings (means.Undefined ∷ []))
+
+-- and no list
+pub lists_entered : (new : List (List ℕ)) (g : Groups) → lists_held (all_entered new g) ≡ lists_held g
+lists_entered [] g = refl
+lists_entered (name ∷ names) g = lists_entered names (entered g) ∙ entered_lists g
 
 -- A NAME THAT JOINS THE OTHERS is undefined
 

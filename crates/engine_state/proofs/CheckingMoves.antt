@@ -109,7 +109,7 @@ space_here page q cells asks.Command work x is = ap (onward_of q (Some asks.Comm
 space_same : (page : Page) (space : Option Want) (r : Reading) (rs : List Reading) → ((x : Seen) → x.token ≡ space_token → feeds_of (fed_with Cut (r ∷ rs)) x ≡ feeds_of (r ∷ rs) x) →
     space_moves page space (fed_with Cut (r ∷ rs)) ≡ space_moves page space (r ∷ rs)
 space_same page None r rs feeds = refl
-space_same page (Some want) r rs feeds = ap (λ (ms : List Move). wanted page want ms (met_token page.meanings space_token)) (feeds (met_token page.meanings space_token) refl)
+space_same page (Some want) r rs feeds = ap (λ (ms : List Move). wanted page want ms (met_token page.now.meanings space_token)) (feeds (met_token page.now.meanings space_token) refl)
 
 module _ (sizes : Sizes) (want space : Option Want) (e e1 e2 : Engine) (f : FilesTold) (s0 s1 : SinkTold) (report : Report) (page : Page) (book : Book)
     (same : SameFrames e e1) (input : e1.input ≡ e.input) (sized : IsSized sizes e → IsSized sizes e1) (t : Takes sizes want e book) where
@@ -173,14 +173,14 @@ module _ (sizes : Sizes) (want space : Option Want) (e e1 e2 : Engine) (f : File
 pub behind_none : (sizes : Sizes) (want : Option Want) (s : State) (e2 : Engine) (book : Book) (page : Page) (w w2 : World) (ms : List Move) → Behind sizes want None s e2 book page w w2 ms → Went sizes s e2 w w2 ms 0
 behind_none sizes want s e2 book page w w2 ms b = went_by sizes s e2 w w2 b.front ms 0 (b.whole ∙ append-nil b.front) (record { book' = b.book2; stands = b.takes.1; did = b.did; count = b.free })
 
-pub comes_behind : (sizes : Sizes) (want : Want) (s : State) (e2 : Engine) (book : Book) (page : Page) (w w2 : World) (ms : List Move) (x : Seen) → x ≡ met_token e2.input.meanings space_token → Behind sizes (Some want) (Some want) s e2 book page w w2 ms → Comes sizes (Some want) s e2 book w w2 ms x 0
+pub comes_behind : (sizes : Sizes) (want : Want) (s : State) (e2 : Engine) (book : Book) (page : Page) (w w2 : World) (ms : List Move) (x : Seen) → x ≡ met_token e2.input.groups.now.meanings space_token → Behind sizes (Some want) (Some want) s e2 book page w w2 ms → Comes sizes (Some want) s e2 book w w2 ms x 0
 comes_behind sizes want s e2 book page w w2 ms x is b = record {
   book' = b.book2;
   still = b.still;
   takes = b.takes;
   front = b.front;
   did = b.did;
-  whole = b.whole ∙ ap (λ (ns : List Move). b.front ++ ns) (space_here page (page_of e2 b.book2) e2.input.meanings want b.book2.work x is);
+  whole = b.whole ∙ ap (λ (ns : List Move). b.front ++ ns) (space_here page (page_of e2 b.book2) e2.input.groups.now.meanings want b.book2.work x is);
   count = b.free;
 }
 
@@ -239,8 +239,8 @@ module _ (sizes : Sizes) (e e1 e2 : Engine) (f : FilesTold) (s : SinkTold) (w2 :
     (put : (w : World) → Did sizes (state_of e book) (state_of e1 book) w w (put_one t)) where
   away_same : away_moves (page_of e book) what (away_text what k e) report rest ≡ away_moves (page_of e1 book) what (away_text what k e1) report rest
   away_same =
-      ap (λ (p : Page). away_moves p what (runaway_bytes what (initial_style p.categories p.names) p.in_line (scanned_list what k e)) report rest) (sym page)
-      ∙ ap (λ (ts : List Token). away_moves (page_of e1 book) what (runaway_bytes what (initial_style e1.categories e1.names.names) e1.in_line ts) report rest) (sym (list_still what k e e1 same.calling same.lists))
+      ap (λ (p : Page). away_moves p what (runaway_bytes what (initial_style p.now.categories p.names) p.in_line (scanned_list what k e)) report rest) (sym page)
+      ∙ ap (λ (ts : List Token). away_moves (page_of e1 book) what (runaway_bytes what (initial_style e1.input.groups.now.categories e1.names.names) e1.in_line ts) report rest) (sym (list_still what k e e1 same.calling same.lists))
 
   put_did : Did sizes (state_of e book) (state_of e1 book) (world_of f s e) (world_of f s e1) (put_one t)
   put_did = subst (λ (b : Bool). Did sizes (state_of e book) (state_of e1 book) (world_of f s e) (world f s b) (put_one t)) (sym (ap (λ (p : Page). p.in_line) page)) (put (world_of f s e))
@@ -291,9 +291,9 @@ outer_plain cells (token.Named n) h = refl
 outer_plain cells (token.Char category code) h = refl
 outer_plain cells t h = refl
 
-outer_meets : (page : Page) (o : Option Scanning) (onward : Seen → List Move) (t : Token) → is_outer (met_token page.meanings t).meaning ≡ true → token_moves page o onward t ≡ met_outer page o t onward
+outer_meets : (page : Page) (o : Option Scanning) (onward : Seen → List Move) (t : Token) → is_outer (met_token page.now.meanings t).meaning ≡ true → token_moves page o onward t ≡ met_outer page o t onward
 outer_meets page o onward t is =
-    outer_met page o onward (met_token page.meanings t) is ∙ ap (λ (u : Token). met_outer page o u onward) (outer_plain page.meanings t is) where
+    outer_met page o onward (met_token page.now.meanings t) is ∙ ap (λ (u : Token). met_outer page o u onward) (outer_plain page.now.meanings t is) where
       outer_met : (page : Page) (o : Option Scanning) (onward : Seen → List Move) (x : Seen) → is_outer x.meaning ≡ true → met page o onward x ≡ met_outer page o x.token onward
       outer_met page o onward x is = rw is refl
 
@@ -301,14 +301,14 @@ pub inner_meets : (page : Page) (o : Option Scanning) (onward : Seen → List Mo
 inner_meets page o onward x is = rw is refl
 
 -- where nothing is scanned, it goes on
-pub none_meets : (page : Page) (o : Option Scanning) (onward : Seen → List Move) (t : Token) → o ≡ None → token_moves page o onward t ≡ onward (met_token page.meanings t)
-none_meets page o onward t is = ap (λ (x : Option Scanning). token_moves page x onward t) is ∙ by_outer (is_outer (met_token page.meanings t).meaning) refl where
-  by_outer : (b : Bool) → is_outer (met_token page.meanings t).meaning ≡ b → token_moves page None onward t ≡ onward (met_token page.meanings t)
+pub none_meets : (page : Page) (o : Option Scanning) (onward : Seen → List Move) (t : Token) → o ≡ None → token_moves page o onward t ≡ onward (met_token page.now.meanings t)
+none_meets page o onward t is = ap (λ (x : Option Scanning). token_moves page x onward t) is ∙ by_outer (is_outer (met_token page.now.meanings t).meaning) refl where
+  by_outer : (b : Bool) → is_outer (met_token page.now.meanings t).meaning ≡ b → token_moves page None onward t ≡ onward (met_token page.now.meanings t)
   by_outer true h = outer_meets page None onward t h
-  by_outer false h = inner_meets page None onward (met_token page.meanings t) h
+  by_outer false h = inner_meets page None onward (met_token page.now.meanings t) h
 
-pub seen_outer : (e : Engine) (book : Book) (t : Token) (x : Seen) (result b : Bool) → x ≡ met_token e.input.meanings t → result ≡ is_outer x.meaning → result ≡ b → is_outer (met_token (page_of e book).meanings t).meaning ≡ b
-seen_outer e book t x result b is outer here = ap (λ (y : Seen). is_outer y.meaning) (met_of book.number e.input.meanings t ∙ sym is) ∙ sym outer ∙ here
+pub seen_outer : (e : Engine) (book : Book) (t : Token) (x : Seen) (result b : Bool) → x ≡ met_token e.input.groups.now.meanings t → result ≡ is_outer x.meaning → result ≡ b → is_outer (met_token (page_of e book).now.meanings t).meaning ≡ b
+seen_outer e book t x result b is outer here = ap (λ (y : Seen). is_outer y.meaning) (met_of book.number e.input.groups.now.meanings t ∙ sym is) ∙ sym outer ∙ here
 
 -- it runs away where the file has ended
 pub runs_away : (e : Engine) (book : Book) (what : Scanned) (name : Name) (k : ℕ) → Scans (what, name, k) e book → checked (page_of e book) (scanning_of e book.work) ≡ away_moves (page_of e book) what (away_text what k e) (reports.FileEnded what name) []
@@ -319,7 +319,7 @@ pub unchecked : (sizes : Sizes) (e : Engine) (book : Book) (w : World) → scann
 unchecked sizes e book w none st = went_by sizes (state_of e book) e w w [] (checked (page_of e book) (scanning_of e book.work)) 0 (ap (λ (o : Option Scanning). checked (page_of e book) o) none) (record { book' = book; stands = st; did = did_none sizes (state_of e book) w; count = refl })
 
 -- where the name of an \outer macro comes, it runs away
-pub meets_away : (e : Engine) (book : Book) (what : Scanned) (name : Name) (k : ℕ) (want : Want) (t : Token) → is_outer (met_token (page_of e book).meanings t).meaning ≡ true → Scans (what, name, k) e book →
+pub meets_away : (e : Engine) (book : Book) (what : Scanned) (name : Name) (k : ℕ) (want : Want) (t : Token) → is_outer (met_token (page_of e book).now.meanings t).meaning ≡ true → Scans (what, name, k) e book →
     token_moves (page_of e book) (scanning_of e book.work) (onward_of (page_of e book) (Some want) book.work) t ≡ put_one t ++ away_moves (page_of e book) what (away_text what k e) (reports.Forbidden what name) (space_moves (page_of e book) (Some want) book.work)
 meets_away e book what name k want t outer is =
     ap (λ (o : Option Scanning). token_moves (page_of e book) o (onward_of (page_of e book) (Some want) book.work) t) is
@@ -333,14 +333,14 @@ by_some P (Some w) some h = h w
 -- WHAT IS HANDED ON
 
 -- a token that is as it was read
-pub comes_here : (sizes : Sizes) (want : Option Want) (e : Engine) (book : Book) (w : World) (ms : List Move) (t : Token) (x : Seen) → x ≡ met_token e.input.meanings t → Takes sizes want e book →
-    ms ≡ onward_of (page_of e book) want book.work (met_token (page_of e book).meanings t) → Comes sizes want (state_of e book) e book w w ms x 0
+pub comes_here : (sizes : Sizes) (want : Option Want) (e : Engine) (book : Book) (w : World) (ms : List Move) (t : Token) (x : Seen) → x ≡ met_token e.input.groups.now.meanings t → Takes sizes want e book →
+    ms ≡ onward_of (page_of e book) want book.work (met_token (page_of e book).now.meanings t) → Comes sizes want (state_of e book) e book w w ms x 0
 comes_here sizes want e book w ms t x is takes moves = record {
   book' = book;
   still = λ none. refl;
   takes = takes;
   front = [];
   did = did_none sizes (state_of e book) w;
-  whole = moves ∙ ap (onward_of (page_of e book) want book.work) (met_of book.number e.input.meanings t ∙ sym is);
+  whole = moves ∙ ap (onward_of (page_of e book) want book.work) (met_of book.number e.input.groups.now.meanings t ∙ sym is);
   count = refl;
 }

@@ -125,7 +125,7 @@ characters_are sizes e book sound make.JobName = refl
 characters_are sizes e book sound (make.Number n) = refl
 characters_are sizes e book sound (make.Roman n) = refl
 characters_are sizes e book sound (make.Spelling t) = refl
-characters_are sizes e book sound (make.Meaning x) = text_let book.number book.macros e.input.meanings e.input.pending.puts e.input.lists sound.tied (initial_style e.categories e.names.names) x
+characters_are sizes e book sound (make.Meaning x) = text_let book.number book.macros e.input.groups e.input.pending.puts e.input.lists sound.tied (initial_style e.input.groups.now.categories e.names.names) x
 
 -- before and behind what begins a text
 pub characters_behind : (sizes : Sizes) (e e1 : Engine) (book : Book) → IsInFront e e1 → IsSound sizes e book.number book.macros → (m : Made) → characters_of (page_of e book) m ≡ characters_in e1 m

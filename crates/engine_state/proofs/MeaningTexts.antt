@@ -87,49 +87,49 @@ given_none lists cells x m is h = none_as lists (meaning_to_let cells x) (λ k. 
 
 -- THE TEXT
 
-module _ (style : Style) (i j : Stored) (x : Seen) (m : Meaning Unit) (is : m ≡ seen_as (meaning_to_let i.meanings x)) (piece : List ℕ) (p : piece ≡ meaning_head style m) where
+module _ (style : Style) (i j : Stored) (x : Seen) (m : Meaning Unit) (is : m ≡ seen_as (meaning_to_let i.groups.now.meanings x)) (piece : List ℕ) (p : piece ≡ meaning_head style m) where
   abbrev tail : List ℕ
-  tail = list_text style (meaning_tokens (macro_tokens i.lists) (meaning_to_let i.meanings x))
+  tail = list_text style (meaning_tokens (macro_tokens i.lists) (meaning_to_let i.groups.now.meanings x))
 
-  whole_is : meaning_text style (macro_tokens i.lists) (meaning_to_let i.meanings x) ≡ piece ++ tail
-  whole_is = ap (λ (l : List ℕ). l ++ tail) (sym (p ∙ ap (meaning_head style) is ∙ head_as style (meaning_to_let i.meanings x)))
+  whole_is : meaning_text style (macro_tokens i.lists) (meaning_to_let i.groups.now.meanings x) ≡ piece ++ tail
+  whole_is = ap (λ (l : List ℕ). l ++ tail) (sym (p ∙ ap (meaning_head style) is ∙ head_as style (meaning_to_let i.groups.now.meanings x)))
 
-  text_is : made_text (meaning_text style (macro_tokens i.lists) (meaning_to_let i.meanings x)) ≡ made_text piece ++ made_text tail
+  text_is : made_text (meaning_text style (macro_tokens i.lists) (meaning_to_let i.groups.now.meanings x)) ≡ made_text piece ++ made_text tail
   text_is = ap made_text whole_is ∙ map-append made_token piece tail
 
   -- the head has no room
-  pub head_not : (full : Full) → GrowsNot i j (made_text piece) full → GrowsNot i j (made_text (meaning_text style (macro_tokens i.lists) (meaning_to_let i.meanings x))) full
+  pub head_not : (full : Full) → GrowsNot i j (made_text piece) full → GrowsNot i j (made_text (meaning_text style (macro_tokens i.lists) (meaning_to_let i.groups.now.meanings x))) full
   head_not full g = not_by i j _ _ full text_is (first_not i j (made_text piece) (made_text tail) full g)
 
-  module _ (k : Stored) (g : HasGrown i j (made_text piece)) (macro : IsMacro m) (texts : List Token) (same : texts ≡ text_of j.lists j.meanings (name_of x.token)) where
+  module _ (k : Stored) (g : HasGrown i j (made_text piece)) (macro : IsMacro m) (texts : List Token) (same : texts ≡ text_of j.lists j.groups.now.meanings (name_of x.token)) where
     tail_is : tail ≡ list_text style texts
-    tail_is = ap (list_text style) (sym (same ∙ stay i j g.macros (ap (λ (s : Stored). s.meanings) g.is) (record { name = name_of x.token; index = 0 }) ∙ given_text i.lists i.meanings x m is macro))
+    tail_is = ap (list_text style) (sym (same ∙ stay i j g.macros (ap (λ (s : Stored). s.groups.now.meanings) g.is) (record { name = name_of x.token; index = 0 }) ∙ given_text i.lists i.groups.now.meanings x m is macro))
 
     -- a macro's list behind it
-    pub macro_whole : meaning_text style (macro_tokens i.lists) (meaning_to_let i.meanings x) ≡ piece ++ list_text style texts
+    pub macro_whole : meaning_text style (macro_tokens i.lists) (meaning_to_let i.groups.now.meanings x) ≡ piece ++ list_text style texts
     macro_whole = whole_is ∙ ap (λ (l : List ℕ). piece ++ l) tail_is
 
-    pub macro_grown : HasGrown j k (made_text (list_text style texts)) → HasGrown i k (made_text (meaning_text style (macro_tokens i.lists) (meaning_to_let i.meanings x)))
+    pub macro_grown : HasGrown j k (made_text (list_text style texts)) → HasGrown i k (made_text (meaning_text style (macro_tokens i.lists) (meaning_to_let i.groups.now.meanings x)))
     macro_grown h = subst (HasGrown i k) (sym (ap made_text macro_whole ∙ map-append made_token piece (list_text style texts))) (grown_both i j k (made_text piece) (made_text (list_text style texts)) g h)
 
-    pub macro_not : (full : Full) → GrowsNot j k (made_text (list_text style texts)) full → GrowsNot i k (made_text (meaning_text style (macro_tokens i.lists) (meaning_to_let i.meanings x))) full
+    pub macro_not : (full : Full) → GrowsNot j k (made_text (list_text style texts)) full → GrowsNot i k (made_text (meaning_text style (macro_tokens i.lists) (meaning_to_let i.groups.now.meanings x))) full
     macro_not full h = not_by i k _ _ full (ap made_text macro_whole ∙ map-append made_token piece (list_text style texts)) (later_not i j k (made_text piece) (made_text (list_text style texts)) g full h)
 
     pub macro_some : (some more r : Bool) → r ≡ (more || some) → MatchBool some (piece ≡ [] → ⊥) (piece ≡ []) → MatchBool more (list_text style texts ≡ [] → ⊥) (list_text style texts ≡ []) →
-        MatchBool r (meaning_text style (macro_tokens i.lists) (meaning_to_let i.meanings x) ≡ [] → ⊥) (meaning_text style (macro_tokens i.lists) (meaning_to_let i.meanings x) ≡ [])
+        MatchBool r (meaning_text style (macro_tokens i.lists) (meaning_to_let i.groups.now.meanings x) ≡ [] → ⊥) (meaning_text style (macro_tokens i.lists) (meaning_to_let i.groups.now.meanings x) ≡ [])
     macro_some some more r is a b =
         subst (λ (l : List ℕ). MatchBool r (l ≡ [] → ⊥) (l ≡ [])) (sym macro_whole)
         (subst (λ (q : Bool). MatchBool q (piece ++ list_text style texts ≡ [] → ⊥) (piece ++ list_text style texts ≡ [])) (sym is) (some_of some more piece (list_text style texts) a b))
 
   -- another meaning is its head alone
   module _ (none : IsMacro m → ⊥) where
-    bare_whole : meaning_text style (macro_tokens i.lists) (meaning_to_let i.meanings x) ≡ piece
-    bare_whole = whole_is ∙ ap (λ (ts : List Token). piece ++ list_text style ts) (given_none i.lists i.meanings x m is none) ∙ append-nil piece
+    bare_whole : meaning_text style (macro_tokens i.lists) (meaning_to_let i.groups.now.meanings x) ≡ piece
+    bare_whole = whole_is ∙ ap (λ (ts : List Token). piece ++ list_text style ts) (given_none i.lists i.groups.now.meanings x m is none) ∙ append-nil piece
 
-    pub bare_grown : HasGrown i j (made_text piece) → HasGrown i j (made_text (meaning_text style (macro_tokens i.lists) (meaning_to_let i.meanings x)))
+    pub bare_grown : HasGrown i j (made_text piece) → HasGrown i j (made_text (meaning_text style (macro_tokens i.lists) (meaning_to_let i.groups.now.meanings x)))
     bare_grown g = subst (λ (l : List ℕ). HasGrown i j (made_text l)) (sym bare_whole) g
 
-    pub bare_some : (some : Bool) → MatchBool some (piece ≡ [] → ⊥) (piece ≡ []) → MatchBool some (meaning_text style (macro_tokens i.lists) (meaning_to_let i.meanings x) ≡ [] → ⊥) (meaning_text style (macro_tokens i.lists) (meaning_to_let i.meanings x) ≡ [])
+    pub bare_some : (some : Bool) → MatchBool some (piece ≡ [] → ⊥) (piece ≡ []) → MatchBool some (meaning_text style (macro_tokens i.lists) (meaning_to_let i.groups.now.meanings x) ≡ [] → ⊥) (meaning_text style (macro_tokens i.lists) (meaning_to_let i.groups.now.meanings x) ≡ [])
     bare_some some a = subst (λ (l : List ℕ). MatchBool some (l ≡ [] → ⊥) (l ≡ [])) (sym bare_whole) a
 
 pub is_macro : (m : Meaning Unit) (long outer : Bool) (list : Unit) → m ≡ means.Macro long outer list → IsMacro m

@@ -1,7 +1,7 @@
 -- What becomes of what was pulled.
-use Rattle.std.proofs.Common.{◌≡◌, ℕ, ◌+◌, ◌*◌, ◌<◌, List, [], ◌∷◌, ◌++◌, length, map, refl, sym, ap, ◌∙◌, subst, Bool, true, false, arith}
-use Rattle.std.specs.Prelude.{Option, Some, None, codes, ◌||◌}
-use Rattle.std.proofs.lemmas.List.{append-nil, length-append, length-map}
+use Rattle.std.proofs.Common.{◌≡◌, ℕ, ◌+◌, ◌*◌, ◌<◌, List, [], ◌∷◌, ◌++◌, length, refl, sym, ap, ◌∙◌, subst, Bool, true, false, arith}
+use Rattle.std.specs.Prelude.{Option, Some, None, codes}
+use Rattle.std.proofs.lemmas.List.{append-nil, length-append}
 use Rattle.std.proofs.lemmas.List.Sums.{sum_by-cons}
 use Rattle.tex_syntax.specs.declared.words.Want.{Want}
 use Rattle.tex_syntax.specs.declared.words.Outcome.{Outcome}
@@ -18,21 +18,22 @@ use Rattle.plain_tokens.specs.Pending.{Pending, Progress, NotBegun, Begun as Beg
 use Rattle.plain_tokens.specs.Lex.{Lexeme, Character, ActiveName, SingleName, EmptyName, WordName, ParName, Lexed, Gives, Invalid, UsedUp, lexed}
 use Rattle.plain_tokens.specs.Lookup.{number_of, token_of, joins, new_among, new_name}
 use Rattle.tex_defs.specs.declared.Meaning.{Meaning}
-use Rattle.tex_defs.specs.declared.Meaning.TheVariants as means
 use Rattle.plain_tokens.specs.Tokens.{is_outer}
 use Rattle.plain_tokens.specs.Meanings.{seen, met as met_token}
 use Rattle.plain_readings.specs.Readings.{Reading}
 use Rattle.plain_readings.specs.Scanning.{Scanning, scanning}
 use Rattle.plain_machine.specs.States.{State, Move, Handed, Taken, Settled, Skipped, FileClosed, Entered, made}
-use Rattle.plain_tokens.specs.Tables.{means_macro, is_meant, is_put, Demand, level, opened_level, file_levels, file_level, buffer, next_line, refused, full, hash, new_name as name_demands}
+use Rattle.plain_tokens.specs.Tables.{is_put, Demand, level, opened_level, file_levels, file_level, buffer, next_line, refused, full, new_name as name_demands}
 use Rattle.plain_machine.specs.Demands.{refusal}
 use Rattle.plain_machine.specs.Plan.{Page, handed, met, entered, without_file, checked, reported}
-use Rattle.plain_machine.specs.Numbers.{pending_of, pulled_of}
+use Rattle.equivalents.specs.Groups.{Groups}
+use Rattle.plain_machine.specs.Numbers.{Tied, pending_of, pulled_of}
 use Rattle.plain_machine.specs.Runs.{steps}
 use Rattle.plain_machine.specs.Does.{Did}
 use Rattle.plain_machine.proofs.Doing.{did_join, did_one, wrote_none}
-use Rattle.plain_machine.proofs.Renumbering.{settle_of, next_item_of, opened_level_of, next_line_of, pulled_same, met_of, entered_of}
-use Rattle.plain_machine.proofs.Ties.{put_settled, put_pulled, held_more, tied_fewer}
+use Rattle.plain_machine.proofs.Renumbering.{settle_of, next_item_of, opened_level_of, next_line_of, pulled_same, met_of}
+use Rattle.plain_machine.proofs.GroupNumbers.{entered_of}
+use Rattle.plain_machine.proofs.Ties.{put_settled, put_pulled}
 use Rattle.plain_machine.proofs.Settling.{pulled_settled, passed_settled}
 use Rattle.plain_machine.proofs.Silent.{Lighter, lighter}
 use Rattle.world_io.specs.Told.{FilesTold, SinkTold, world}
@@ -56,7 +57,7 @@ use Rattle.engine_state.specs.Steps.{IsHalted, IsSkipped, IsOver, NextStepsIf, n
 use Rattle.engine_state.specs.declared.outcome.Next.{Next}
 use Rattle.engine_state.specs.Book.{Book}
 use Rattle.engine_state.specs.Calls.{AllStand, ReadingsStand, CallStands}
-use Rattle.engine_state.specs.Entering.{located, with_names, EntryFits, EntryRefused}
+use Rattle.engine_state.specs.Entering.{with_names, EntryFits, EntryRefused}
 use Rattle.engine_state.specs.Stands.{Counts, IsSized, IsSound, SameStore, SameFrames, FramesStand, call_count, state_of, page_of, depth}
 use Rattle.engine_state.specs.CutReadings.{CutsIn}
 use Rattle.engine_state.specs.Rules.{world_of, onward_of, enters_of, scanning_of, token_moves, name_moves, WantsHere, Takes, Cuts, Went, Meets, Nexts, DoesOnward}
@@ -64,7 +65,7 @@ use Rattle.engine_state.proofs.CallKept.{all_still}
 use Rattle.engine_state.proofs.Cutting.{cuts_by, later_cuts, full_cuts}
 use Rattle.engine_state.proofs.CuttingReadings.{in_by, later_in}
 use Rattle.engine_state.proofs.Storing.{store_with, sound_still}
-use Rattle.engine_state.proofs.Cells.{meaning_more, seen_more, inner_new}
+use Rattle.engine_state.proofs.Cells.{meaning_more, seen_more, entered_length, lists_entered, inner_new}
 use Rattle.engine_state.proofs.Joining.{IsQuiet, quiet_here, went_by, onward_join}
 use Rattle.engine_state.proofs.Coming.{meets_by, meets_later, next_by, next_later, next_freely}
 
@@ -125,19 +126,7 @@ none_new names x = refl
 pub none_names : (new : List (List ℕ)) (e : Engine) → new ≡ [] → with_names new e ≡ e
 none_names new e none =
     ap (λ (ns : List (List ℕ)). with_names ns e) none
-    ∙ ap (λ (names : List (List ℕ)). record e { names = record e.names { names = names }; input = located [] e.input }) (append-nil e.names.names)
-    ∙ ap (λ (cells : List (Meaning (Option ℕ))). record e { input = record e.input { meanings = cells } }) (append-nil e.input.meanings)
-
-abbrev undefined : List ℕ → Meaning (Option ℕ)
-undefined name = means.Undefined
-
--- a name that joins the others is no macro
-meant_more : (n : ℕ) (cells : List (Meaning (Option ℕ))) (new : List (List ℕ)) → is_meant n (cells ++ map (λ name. means.Undefined) new) ≡ is_meant n cells
-meant_more n [] new = none_meant new where
-  none_meant : (new : List (List ℕ)) → is_meant n (map (λ name. means.Undefined) new) ≡ false
-  none_meant [] = refl
-  none_meant (name ∷ names) = none_meant names
-meant_more n (m ∷ cells) new = ap (λ (b : Bool). means_macro n m || b) (meant_more n cells new)
+    ∙ ap (λ (names : List (List ℕ)). record e { names = record e.names { names = names } }) (append-nil e.names.names)
 
 entered_none : (new : List (List ℕ)) → steps (entered new) ≡ 0
 entered_none [] = refl
@@ -148,7 +137,7 @@ module _ (sizes : Sizes) (e : Engine) (book : Book) where
   did_entered [] w few sized fits = record { state = ap (λ (x : Engine). state_of x book) (sym (none_names [] e refl)); fits = tt; written = wrote_none w }
   did_entered (n ∷ []) w few sized fits =
       did_one sizes (Entered n) _ _ w w (subst (λ (x : Sizes). refused x (name_demands n e.names.names e.names.others) ≡ None) sized.names fits)
-      (ap (λ (cells : List (Meaning (Option ℕ))). record (state_of (with_names (n ∷ []) e) book) { meanings = cells }) (entered_of book.number e.input.meanings)) (quiet_here (Entered n) w tt)
+      (ap (λ (g : Groups). record (state_of (with_names (n ∷ []) e) book) { groups = g }) (entered_of book.number e.input.groups)) (quiet_here (Entered n) w tt)
   did_entered (n ∷ m ∷ ns) w few sized fits = absurd few
 
   pub cut_entered : (e' : Engine) (new : List (List ℕ)) (w : World) (rest : List Move) (full : Full) → IsSized sizes e → e' ≡ e → EntryRefused e.names new full →
@@ -167,15 +156,13 @@ module _ (sizes : Sizes) (e : Engine) (book : Book) where
     readings = h.readings;
     input = h.input;
     names = h.names;
-    hash = h.hash;
-    located = omega (arith, h.located, length-append e.input.meanings (map undefined new), length-map new undefined, length-append e.names.names new);
+    located = omega (arith, h.located, entered_length new e.input.groups, length-append e.names.names new);
   }
 
   pub sound_names : (new : List (List ℕ)) → IsSound sizes e book.number book.macros → IsSound sizes (with_names new e) book.number book.macros
   sound_names new h = record {
     sized = sized_names new h.sized;
-    tied = tied_fewer book.number book.macros e.input.meanings e.input.pending.puts e.input.lists h.tied (with_names new e).input.meanings e.input.pending.puts
-        (λ n held. held_more n (with_names new e).input.meanings e.input.meanings e.input.pending.puts e.input.pending.puts (λ a. sym (meant_more n e.input.meanings new) ∙ a) (λ a. a) held);
+    tied = subst (λ (held : List ℕ). Tied book.number book.macros held e.input.pending.puts e.input.lists) (sym (lists_entered new e.input.groups)) h.tied;
     bodies = h.bodies;
   }
 
@@ -184,7 +171,7 @@ module _ (sizes : Sizes) (e : Engine) (book : Book) where
     long = h.long;
     outer = h.outer;
     id = h.id;
-    meaning = meaning_more e.input.meanings new c.name ∙ h.meaning;
+    meaning = meaning_more new e.input.groups c.name ∙ h.meaning;
     kind = h.kind;
     places = h.places;
     asked = h.asked;
@@ -217,8 +204,8 @@ module _ (sizes : Sizes) (e : Engine) (book : Book) where
     meant : (cells : List (Meaning (Option ℕ))) → met_token cells t ≡ seen cells t
     meant cells = ap (met_token cells) is ∙ lexed_met cells (enters_of want) e.names.names x ∙ sym (ap (seen cells) is)
 
-    met_now : met_token (page_of e book).meanings t ≡ met_token (page_of named book).meanings t
-    met_now = met_of book.number e.input.meanings t ∙ meant e.input.meanings ∙ sym (seen_more e.input.meanings new t) ∙ sym (meant named.input.meanings) ∙ sym (met_of book.number named.input.meanings t)
+    met_now : met_token (page_of e book).now.meanings t ≡ met_token (page_of named book).now.meanings t
+    met_now = met_of book.number e.input.groups.now.meanings t ∙ meant e.input.groups.now.meanings ∙ sym (seen_more new e.input.groups t) ∙ sym (meant named.input.groups.now.meanings) ∙ sym (met_of book.number named.input.groups.now.meanings t)
 
     entering : (new ≡ [] → ⊥) → enters_of want ≡ true
     entering some = by_enters (enters_of want) some where
@@ -234,18 +221,18 @@ module _ (sizes : Sizes) (e : Engine) (book : Book) where
     raw_onward p q (Some asks.Nonblank) y h = cc
     raw_onward p q (Some asks.Command) y h = cc
 
-    inner_here : (new ≡ [] → ⊥) → is_outer (met_token (page_of e book).meanings t).meaning ≡ false
+    inner_here : (new ≡ [] → ⊥) → is_outer (met_token (page_of e book).now.meanings t).meaning ≡ false
     inner_here some =
-        ap (λ (y : Seen). is_outer y.meaning) (met_of book.number e.input.meanings t ∙ meant e.input.meanings) ∙ ap (λ (u : Token). is_outer (seen e.input.meanings u).meaning) is
-        ∙ inner_new e.input.meanings e.names.names sound.sized.located (enters_of want) x some
+        ap (λ (y : Seen). is_outer y.meaning) (met_of book.number e.input.groups.now.meanings t ∙ meant e.input.groups.now.meanings) ∙ ap (λ (u : Token). is_outer (seen e.input.groups.now.meanings u).meaning) is
+        ∙ inner_new e.input.groups.now.meanings e.names.names sound.sized.located (enters_of want) x some
 
     -- the name is new, or none is
     some_now : (new ≡ [] → ⊥) → moves_in e t ≡ moves_in named t
     some_now some =
-        inner_meets (page_of e book) (scanning_of e book.work) (onward_of (page_of e book) want book.work) (met_token (page_of e book).meanings t) (inner_here some)
-        ∙ raw_onward (page_of e book) (page_of named book) want (met_token (page_of e book).meanings t) (entering some)
+        inner_meets (page_of e book) (scanning_of e book.work) (onward_of (page_of e book) want book.work) (met_token (page_of e book).now.meanings t) (inner_here some)
+        ∙ raw_onward (page_of e book) (page_of named book) want (met_token (page_of e book).now.meanings t) (entering some)
         ∙ ap (onward_of (page_of named book) want book.work) met_now
-        ∙ sym (inner_meets (page_of named book) (scanning_of named book.work) (onward_of (page_of named book) want book.work) (met_token (page_of named book).meanings t) (ap (λ (y : Seen). is_outer y.meaning) (sym met_now) ∙ inner_here some))
+        ∙ sym (inner_meets (page_of named book) (scanning_of named book.work) (onward_of (page_of named book) want book.work) (met_token (page_of named book).now.meanings t) (ap (λ (y : Seen). is_outer y.meaning) (sym met_now) ∙ inner_here some))
 
     by_new : (ns : List (List ℕ)) → new ≡ ns → moves_in e t ≡ moves_in named t
     by_new [] none = ap (λ (y : Engine). moves_in y t) (sym (none_names new e none))
@@ -406,11 +393,11 @@ fewer_by categories p q r is after n h = put_pulled n p categories (subst (λ (x
 -- The engine behind a reading from what is pending.
 module _ (e : Engine) (i : Stored) where
   -- less is pending
-  pub lighter_skip : pulled e.categories e.input.pending ≡ InvalidMet i.pending → pending_weight i.pending < pending_weight e.input.pending
-  lighter_skip is = subst (Lighter e.input.pending) is (lighter e.categories e.input.pending)
+  pub lighter_skip : pulled e.input.groups.now.categories e.input.pending ≡ InvalidMet i.pending → pending_weight i.pending < pending_weight e.input.pending
+  lighter_skip is = subst (Lighter e.input.pending) is (lighter e.input.groups.now.categories e.input.pending)
 
-  pub lighter_close : pulled e.categories e.input.pending ≡ FileOver i.pending → pending_weight i.pending < pending_weight e.input.pending
-  lighter_close is = subst (Lighter e.input.pending) is (lighter e.categories e.input.pending)
+  pub lighter_close : pulled e.input.groups.now.categories e.input.pending ≡ FileOver i.pending → pending_weight i.pending < pending_weight e.input.pending
+  lighter_close is = subst (Lighter e.input.pending) is (lighter e.input.groups.now.categories e.input.pending)
 
 pub frames_now : (e : Engine) (i : Stored) → i ≡ record e.input { pending = i.pending; buffer = i.buffer; lists = i.lists } → SameFrames e (record e { input = i })
 frames_now e i others = record { readings = refl; lists = ap (λ (x : Stored). x.builds) others; call = refl; calling = ap (λ (x : Stored). x.call) others }
@@ -420,14 +407,14 @@ module _ (sizes : Sizes) (e : Engine) (i : Stored) (others : i ≡ record e.inpu
   now = record e { input = i }
 
   -- the input keeps its macros
-  pub pull_store : (a : answers.Pulled) → Pulls (pulled e.categories e.input.pending) a e.input i → KeepsMacros e.input i → SameStore e.input i
+  pub pull_store : (a : answers.Pulled) → Pulls (pulled e.input.groups.now.categories e.input.pending) a e.input i → KeepsMacros e.input i → SameStore e.input i
   pull_store a h macros = store_with e.input i i.pending e.input.making e.input.builds i.buffer others (fewer a h) macros where
-    fewer : (a : answers.Pulled) → Pulls (pulled e.categories e.input.pending) a e.input i → (n : ℕ) → is_put n i.pending.puts ≡ true → is_put n e.input.pending.puts ≡ true
-    fewer (answer.Token t) h = fewer_by e.categories e.input.pending i.pending (TokenFrom t i.pending) h.0 refl
-    fewer (answer.Lexeme l) h = fewer_by e.categories e.input.pending i.pending (LexemeFrom h.lexeme i.pending) h.pulls refl
-    fewer answer.Taken h = fewer_by e.categories e.input.pending i.pending (LineTaken (taken_line e.input.pending.rest) i.pending) h.0 refl
-    fewer answer.Invalid h = fewer_by e.categories e.input.pending i.pending (InvalidMet i.pending) h refl
-    fewer answer.FileOver h = fewer_by e.categories e.input.pending i.pending (FileOver i.pending) h refl
+    fewer : (a : answers.Pulled) → Pulls (pulled e.input.groups.now.categories e.input.pending) a e.input i → (n : ℕ) → is_put n i.pending.puts ≡ true → is_put n e.input.pending.puts ≡ true
+    fewer (answer.Token t) h = fewer_by e.input.groups.now.categories e.input.pending i.pending (TokenFrom t i.pending) h.0 refl
+    fewer (answer.Lexeme l) h = fewer_by e.input.groups.now.categories e.input.pending i.pending (LexemeFrom h.lexeme i.pending) h.pulls refl
+    fewer answer.Taken h = fewer_by e.input.groups.now.categories e.input.pending i.pending (LineTaken (taken_line e.input.pending.rest) i.pending) h.0 refl
+    fewer answer.Invalid h = fewer_by e.input.groups.now.categories e.input.pending i.pending (InvalidMet i.pending) h refl
+    fewer answer.FileOver h = fewer_by e.input.groups.now.categories e.input.pending i.pending (FileOver i.pending) h refl
     fewer answer.Nothing h = λ n put. put_settled n e.input.pending.puts (subst (λ (x : Pending). is_put n x.puts ≡ true) h.1 put)
 
   pub stands_now : (book : Book) → SameStore e.input i → AllStand sizes e book → AllStand sizes now book
@@ -443,18 +430,18 @@ module _ (sizes : Sizes) (e : Engine) (i : Stored) (others : i ≡ record e.inpu
   page_at : (book : Book) → i.pending.number ≡ e.input.pending.number → page_of now book ≡ page_of e book
   page_at book is = ap (λ (x : Stored). page_of (record e { input = x }) book) others ∙ ap (λ (n : ℕ). record (page_of e book) { line = n }) is
 
-  pub token_page : (book : Book) (t : Token) → pulled e.categories e.input.pending ≡ TokenFrom t i.pending → page_of now book ≡ page_of e book
-  token_page book t is = page_at book (subst (KeepsNumber e.input.pending) is (number_kept e.categories e.input.pending (passed e.input.pending.puts)))
+  pub token_page : (book : Book) (t : Token) → pulled e.input.groups.now.categories e.input.pending ≡ TokenFrom t i.pending → page_of now book ≡ page_of e book
+  token_page book t is = page_at book (subst (KeepsNumber e.input.pending) is (number_kept e.input.groups.now.categories e.input.pending (passed e.input.pending.puts)))
 
-  pub lexeme_page : (book : Book) (x : Lexeme) → pulled e.categories e.input.pending ≡ LexemeFrom x i.pending → page_of now book ≡ page_of e book
-  lexeme_page book x is = page_at book (subst (KeepsNumber e.input.pending) is (number_kept e.categories e.input.pending (passed e.input.pending.puts)))
+  pub lexeme_page : (book : Book) (x : Lexeme) → pulled e.input.groups.now.categories e.input.pending ≡ LexemeFrom x i.pending → page_of now book ≡ page_of e book
+  lexeme_page book x is = page_at book (subst (KeepsNumber e.input.pending) is (number_kept e.input.groups.now.categories e.input.pending (passed e.input.pending.puts)))
 
-  pub invalid_page : (book : Book) → pulled e.categories e.input.pending ≡ InvalidMet i.pending → page_of now book ≡ page_of e book
-  invalid_page book is = page_at book (subst (KeepsNumber e.input.pending) is (number_kept e.categories e.input.pending (passed e.input.pending.puts)))
+  pub invalid_page : (book : Book) → pulled e.input.groups.now.categories e.input.pending ≡ InvalidMet i.pending → page_of now book ≡ page_of e book
+  invalid_page book is = page_at book (subst (KeepsNumber e.input.pending) is (number_kept e.input.groups.now.categories e.input.pending (passed e.input.pending.puts)))
 
-  pub file_gone : (book : Book) → pulled e.categories e.input.pending ≡ FileOver i.pending → page_of now book ≡ without_file (page_of e book)
+  pub file_gone : (book : Book) → pulled e.input.groups.now.categories e.input.pending ≡ FileOver i.pending → page_of now book ≡ without_file (page_of e book)
   file_gone book is =
-      let number : i.pending.number ≡ 0 = subst HasNoLine is (over_front e.categories e.input.pending (passed e.input.pending.puts)) in
+      let number : i.pending.number ≡ 0 = subst HasNoLine is (over_front e.input.groups.now.categories e.input.pending (passed e.input.pending.puts)) in
       ap (λ (x : Stored). page_of (record e { input = x }) book) others ∙ ap (λ (n : ℕ). record (page_of e book) { line = n }) number
 
   -- what becomes of what was pulled
@@ -490,20 +477,20 @@ module _ (sizes : Sizes) (e : Engine) (i : Stored) (others : i ≡ record e.inpu
     did_settled = did_one sizes Settled _ _ w w refl refl (quiet_here Settled w tt)
 
     -- and then the move that takes what was pulled
-    did_pull : (m : Move) (p : Pulled) → pulled e.categories here ≡ p → after_pull (settle here) p ≡ next → IsQuiet m → refusal sizes m at_settled ≡ None →
-        made m at_settled ≡ record (state_of e book) { pending = after_pull (settle here) (pulled e.categories (settle here)) } → Did sizes (state_of e book) (state_of now book) w w (Settled ∷ m ∷ [])
+    did_pull : (m : Move) (p : Pulled) → pulled e.input.groups.now.categories here ≡ p → after_pull (settle here) p ≡ next → IsQuiet m → refusal sizes m at_settled ≡ None →
+        made m at_settled ≡ record (state_of e book) { pending = after_pull (settle here) (pulled e.input.groups.now.categories (settle here)) } → Did sizes (state_of e book) (state_of now book) w w (Settled ∷ m ∷ [])
     did_pull m p is after q fits makes =
-        let onto : next ≡ after_pull (settle here) (pulled e.categories (settle here)) = sym (ap (after_pull (settle here)) (pulled_settled e.categories here ∙ is) ∙ after) in
+        let onto : next ≡ after_pull (settle here) (pulled e.input.groups.now.categories (settle here)) = sym (ap (after_pull (settle here)) (pulled_settled e.input.groups.now.categories here ∙ is) ∙ after) in
         did_join sizes _ _ _ w w w (Settled ∷ []) (m ∷ []) did_settled (did_one sizes m _ _ w w fits (makes ∙ at_behind _ onto) (quiet_here m w q))
 
     module _ (page : Page) (want : Option Want) (scanned : Option Scanning) (onward : Seen → List Move) where
       abbrev plan : List Move
-      plan = handed page (enters_of want) scanned onward (pulled e.categories here)
+      plan = handed page (enters_of want) scanned onward (pulled e.input.groups.now.categories here)
 
       -- a token of a list
-      module _ (t : Token) (is : pulled e.categories e.input.pending ≡ TokenFrom t i.pending) (fits : refusal sizes (Handed t) at_settled ≡ None) where
-        token_is : pulled e.categories here ≡ TokenFrom t next
-        token_is = pulled_as book.number e.input.pending e.categories (TokenFrom t i.pending) is
+      module _ (t : Token) (is : pulled e.input.groups.now.categories e.input.pending ≡ TokenFrom t i.pending) (fits : refusal sizes (Handed t) at_settled ≡ None) where
+        token_is : pulled e.input.groups.now.categories here ≡ TokenFrom t next
+        token_is = pulled_as book.number e.input.pending e.input.groups.now.categories (TokenFrom t i.pending) is
 
         token_plan : plan ≡ Settled ∷ Handed t ∷ token_moves page scanned onward t
         token_plan = rw token_is refl
@@ -518,21 +505,21 @@ module _ (sizes : Sizes) (e : Engine) (i : Stored) (others : i ≡ record e.inpu
         token_cuts w' e2 b h = in_by sizes _ e2 w w' _ _ b token_plan (later_in sizes _ (state_of now book) e2 w w w' (Settled ∷ Handed t ∷ []) (token_moves page scanned onward t) b token_did h)
 
       -- a character or a name of the line
-      module _ (x : Lexeme) (is : pulled e.categories e.input.pending ≡ LexemeFrom x i.pending) where
+      module _ (x : Lexeme) (is : pulled e.input.groups.now.categories e.input.pending ≡ LexemeFrom x i.pending) where
         abbrev handed_token : Token
         handed_token = token_of (enters_of want) page.names x
 
         abbrev then_moves : List Move
         then_moves = name_moves page scanned (enters_of want) onward x
 
-        lexeme_is : pulled e.categories here ≡ LexemeFrom x next
-        lexeme_is = pulled_as book.number e.input.pending e.categories (LexemeFrom x i.pending) is
+        lexeme_is : pulled e.input.groups.now.categories here ≡ LexemeFrom x next
+        lexeme_is = pulled_as book.number e.input.pending e.input.groups.now.categories (LexemeFrom x i.pending) is
 
         lexeme_plan : plan ≡ Settled ∷ Handed handed_token ∷ then_moves
         lexeme_plan = rw lexeme_is refl
 
         lexeme_did : Did sizes (state_of e book) (state_of now book) w w (Settled ∷ Handed handed_token ∷ [])
-        lexeme_did = did_pull (Handed handed_token) (LexemeFrom x next) lexeme_is refl tt (ap (refused sizes) (lexeme_opens e.categories here x next lexeme_is)) refl
+        lexeme_did = did_pull (Handed handed_token) (LexemeFrom x next) lexeme_is refl tt (ap (refused sizes) (lexeme_opens e.input.groups.now.categories here x next lexeme_is)) refl
 
         pub lexeme_nexts : (w' : World) (e2 : Engine) (met : Option Seen) → Meets sizes want (state_of now book) e2 book w w' then_moves met → Nexts sizes want (state_of e book) e2 book w w' plan (next_met met)
         lexeme_nexts w' e2 met h = next_by sizes want _ e2 book w w' _ _ (next_met met) lexeme_plan (next_later sizes want (state_of e book) (state_of now book) e2 book w w w' (Settled ∷ Handed handed_token ∷ []) then_moves met refl lexeme_did refl h)
@@ -544,16 +531,16 @@ module _ (sizes : Sizes) (e : Engine) (i : Stored) (others : i ≡ record e.inpu
       line_demands : (o : Option Full) → refused e.input.sizes (next_line e.input.pending) ≡ o → e.input.sizes ≡ sizes → refused sizes (next_line (settle here)) ≡ o
       line_demands o fits sized = ap (refused sizes) (line_same_of book.number e.input.pending) ∙ ap (λ (x : Sizes). refused x (next_line e.input.pending)) (sym sized) ∙ fits
 
-      taken_plan : (line : List ℕ) (q : Pending) → pulled e.categories e.input.pending ≡ LineTaken line q → plan ≡ Settled ∷ Taken line ∷ []
-      taken_plan line q is = rw (pulled_as book.number e.input.pending e.categories (LineTaken line q) is) refl
+      taken_plan : (line : List ℕ) (q : Pending) → pulled e.input.groups.now.categories e.input.pending ≡ LineTaken line q → plan ≡ Settled ∷ Taken line ∷ []
+      taken_plan line q is = rw (pulled_as book.number e.input.pending e.input.groups.now.categories (LineTaken line q) is) refl
 
-      pub taken_rule : (line : List ℕ) → pulled e.categories e.input.pending ≡ LineTaken line i.pending → refused e.input.sizes (next_line e.input.pending) ≡ None → e.input.sizes ≡ sizes → AllStand sizes now book →
+      pub taken_rule : (line : List ℕ) → pulled e.input.groups.now.categories e.input.pending ≡ LineTaken line i.pending → refused e.input.sizes (next_line e.input.pending) ≡ None → e.input.sizes ≡ sizes → AllStand sizes now book →
           Went sizes (state_of e book) now w w plan 1
       taken_rule line is fits sized stands =
           went_by sizes _ now w w (Settled ∷ Taken line ∷ []) plan 1 (taken_plan line i.pending is) (record {
             book' = book;
             stands = stands;
-            did = did_pull (Taken line) (LineTaken line next) (pulled_as book.number e.input.pending e.categories (LineTaken line i.pending) is) refl tt (line_demands None fits sized) refl;
+            did = did_pull (Taken line) (LineTaken line next) (pulled_as book.number e.input.pending e.input.groups.now.categories (LineTaken line i.pending) is) refl tt (line_demands None fits sized) refl;
             count = refl;
           })
 
@@ -562,21 +549,21 @@ module _ (sizes : Sizes) (e : Engine) (i : Stored) (others : i ≡ record e.inpu
       stays_there stays = ap (pending_of book.number) stays ∙ sym (settle_of book.number e.input.pending)
 
       module _ (full : Full) (sized : e.input.sizes ≡ sizes) (stays : i.pending ≡ settle e.input.pending) where
-        line_cuts : (line : List ℕ) (q : Pending) → pulled e.categories e.input.pending ≡ LineTaken line q → refused e.input.sizes (next_line e.input.pending) ≡ Some full → Cuts sizes (state_of e book) now book w w plan (broken.Full full)
+        line_cuts : (line : List ℕ) (q : Pending) → pulled e.input.groups.now.categories e.input.pending ≡ LineTaken line q → refused e.input.sizes (next_line e.input.pending) ≡ Some full → Cuts sizes (state_of e book) now book w w plan (broken.Full full)
         line_cuts line q is r =
             cuts_by sizes _ now book w w _ _ (broken.Full full) (taken_plan line q is) (later_cuts sizes _ at_settled now book w w w (Settled ∷ []) (Taken line ∷ []) (broken.Full full) did_settled
             (full_cuts sizes at_settled now book w (Taken line) [] full (broken.Full full) refl (line_demands (Some full) r sized) (at_behind _ (stays_there stays))))
 
-        opens_cuts : (t : Token) (q : Pending) → pulled e.categories e.input.pending ≡ TokenFrom t q → refused e.input.sizes (opened_level (next_item e.input.pending.puts) e.input.pending) ≡ Some full → Cuts sizes (state_of e book) now book w w plan (broken.Full full)
+        opens_cuts : (t : Token) (q : Pending) → pulled e.input.groups.now.categories e.input.pending ≡ TokenFrom t q → refused e.input.sizes (opened_level (next_item e.input.pending.puts) e.input.pending) ≡ Some full → Cuts sizes (state_of e book) now book w w plan (broken.Full full)
         opens_cuts t q is r =
-            let plan_is : plan ≡ Settled ∷ Handed t ∷ token_moves page scanned onward t = rw (pulled_as book.number e.input.pending e.categories (TokenFrom t q) is) refl in
+            let plan_is : plan ≡ Settled ∷ Handed t ∷ token_moves page scanned onward t = rw (pulled_as book.number e.input.pending e.input.groups.now.categories (TokenFrom t q) is) refl in
             let refuses : refusal sizes (Handed t) at_settled ≡ Some full = token_demands sizes e book t (Some full) r sized in
             cuts_by sizes _ now book w w _ _ (broken.Full full) plan_is (later_cuts sizes _ at_settled now book w w w (Settled ∷ []) (Handed t ∷ token_moves page scanned onward t) (broken.Full full) did_settled
             (full_cuts sizes at_settled now book w (Handed t) (token_moves page scanned onward t) full (broken.Full full) refl refuses (at_behind _ (stays_there stays))))
 
-        pub pull_cuts : pull_refusal e.categories e.input ≡ Some full → Cuts sizes (state_of e book) now book w w plan (broken.Full full)
-        pull_cuts r = by_pulled (pulled e.categories e.input.pending) refl r where
-          by_pulled : (p : Pulled) → pulled e.categories e.input.pending ≡ p → refused e.input.sizes (step_demands p e.input.pending) ≡ Some full → Cuts sizes (state_of e book) now book w w plan (broken.Full full)
+        pub pull_cuts : pull_refusal e.input ≡ Some full → Cuts sizes (state_of e book) now book w w plan (broken.Full full)
+        pull_cuts r = by_pulled (pulled e.input.groups.now.categories e.input.pending) refl r where
+          by_pulled : (p : Pulled) → pulled e.input.groups.now.categories e.input.pending ≡ p → refused e.input.sizes (step_demands p e.input.pending) ≡ Some full → Cuts sizes (state_of e book) now book w w plan (broken.Full full)
           by_pulled (TokenFrom t q) is r = opens_cuts t q is r
           by_pulled (LexemeFrom x q) is r = absurd cc
           by_pulled (LineTaken line q) is r = line_cuts line q is r
@@ -585,9 +572,9 @@ module _ (sizes : Sizes) (e : Engine) (i : Stored) (others : i ≡ record e.inpu
           by_pulled NothingLeft is r = absurd cc
 
       -- an invalid character is skipped
-      module _ (is : pulled e.categories e.input.pending ≡ InvalidMet i.pending) where
-        skipped_is : pulled e.categories here ≡ InvalidMet next
-        skipped_is = pulled_as book.number e.input.pending e.categories (InvalidMet i.pending) is
+      module _ (is : pulled e.input.groups.now.categories e.input.pending ≡ InvalidMet i.pending) where
+        skipped_is : pulled e.input.groups.now.categories here ≡ InvalidMet next
+        skipped_is = pulled_as book.number e.input.pending e.input.groups.now.categories (InvalidMet i.pending) is
 
         skipped_plan : plan ≡ Settled ∷ Skipped ∷ reported page reports.InvalidCharacter []
         skipped_plan = rw skipped_is refl
@@ -603,9 +590,9 @@ module _ (sizes : Sizes) (e : Engine) (i : Stored) (others : i ≡ record e.inpu
         skipped_cuts w' e2 b h = in_by sizes _ e2 w w' _ _ b skipped_plan (later_in sizes _ (state_of now book) e2 w w w' (Settled ∷ Skipped ∷ []) _ b skipped_did h)
 
       -- the file has ended
-      module _ (is : pulled e.categories e.input.pending ≡ FileOver i.pending) where
-        closed_is : pulled e.categories here ≡ FileOver next
-        closed_is = pulled_as book.number e.input.pending e.categories (FileOver i.pending) is
+      module _ (is : pulled e.input.groups.now.categories e.input.pending ≡ FileOver i.pending) where
+        closed_is : pulled e.input.groups.now.categories here ≡ FileOver next
+        closed_is = pulled_as book.number e.input.pending e.input.groups.now.categories (FileOver i.pending) is
 
         closed_plan : plan ≡ Settled ∷ FileClosed ∷ checked (without_file page) scanned
         closed_plan = rw closed_is refl
@@ -621,9 +608,9 @@ module _ (sizes : Sizes) (e : Engine) (i : Stored) (others : i ≡ record e.inpu
         closed_cuts w' e2 b h = in_by sizes _ e2 w w' _ _ b closed_plan (later_in sizes _ (state_of now book) e2 w w w' (Settled ∷ FileClosed ∷ []) (checked (without_file page) scanned) b closed_did h)
 
       -- nothing is left
-      module _ (is : pulled e.categories e.input.pending ≡ NothingLeft) (stays : i.pending ≡ settle e.input.pending) where
+      module _ (is : pulled e.input.groups.now.categories e.input.pending ≡ NothingLeft) (stays : i.pending ≡ settle e.input.pending) where
         nothing_plan : plan ≡ Settled ∷ last_moves page.in_line last.NoEnd
-        nothing_plan = rw (pulled_as book.number e.input.pending e.categories NothingLeft is) refl
+        nothing_plan = rw (pulled_as book.number e.input.pending e.input.groups.now.categories NothingLeft is) refl
 
         nothing_did : Did sizes (state_of e book) (state_of now book) w w (Settled ∷ [])
         nothing_did = did_one sizes Settled _ _ w w refl (at_behind _ (stays_there stays)) (quiet_here Settled w tt)

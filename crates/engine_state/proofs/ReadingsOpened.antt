@@ -140,7 +140,6 @@ by_stack sizes e book stack size sound = record {
     readings = size ∙ sound.sized.readings;
     input = sound.sized.input;
     names = sound.sized.names;
-    hash = sound.sized.hash;
     located = sound.sized.located;
   };
   tied = sound.tied;

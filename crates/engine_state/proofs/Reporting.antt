@@ -20,7 +20,7 @@ use Rattle.plain_readings.specs.Readings.{Reading}
 use Rattle.plain_machine.specs.States.{State, Move, Written, Reported, Stopped, made}
 use Rattle.plain_machine.specs.Demands.{refusal}
 use Rattle.plain_machine.specs.Plan.{Page, reported, reports_room, token_line, no_file}
-use Rattle.plain_machine.specs.Numbers.{pending_of, meanings_of}
+use Rattle.plain_machine.specs.Numbers.{pending_of, groups_of}
 use Rattle.plain_machine.specs.Runs.{Wrote, steps, step_of}
 use Rattle.plain_machine.specs.Does.{Did}
 use Rattle.plain_machine.proofs.Doing.{did_join, did_one, wrote_join}
@@ -52,8 +52,8 @@ use Rattle.engine_state.proofs.Storing.{store_is, store_same, sound_sized, sound
 -- WRITES
 
 -- the style of a view
-pub style_is : (style : Style) (categories : List ℕ) (found names : List (List ℕ)) → style ≡ initial_style categories found → found ≡ names → style ≡ initial_style categories names
-style_is style categories found names h n = h ∙ ap (λ (x : List (List ℕ)). initial_style categories x) n
+pub style_is : (style : Style) (codes categories : List ℕ) (found names : List (List ℕ)) → style ≡ initial_style codes found → codes ≡ categories → found ≡ names → style ≡ initial_style categories names
+style_is style codes categories found names h c n = h ∙ ap (λ (x : List ℕ). initial_style x found) c ∙ ap (λ (x : List (List ℕ)). initial_style categories x) n
 
 -- and a text of tokens in it
 pub shown_is : (text : Style → List Token → List ℕ) (style style' : Style) (ts us : List Token) → style ≡ style' → ts ≡ us → text style ts ≡ text style' us
@@ -300,8 +300,8 @@ stands_still sizes e e' book same sound idle st = record { sound = sound; idle =
 pub reads_now : (e e' : Engine) (book : Book) (work : List Reading) → SameBut e e' → record (state_of e book) { work = work; gathered = gathered e'.input; last = e'.last } ≡ state_of e' (with_work work book)
 reads_now e e' book work same = let h = same.others in
     let pending : pending_of book.number e'.input.pending ≡ pending_of book.number e.input.pending = ap (pending_of book.number) same.pending in
-    let meanings : meanings_of book.number e'.input.meanings ≡ meanings_of book.number e.input.meanings = ap (meanings_of book.number) same.store.meanings in
-    cc (pending, meanings, same.making, h.names, h.categories, h.in_line, h.reports, h.flawed, h.quiet)
+    let groups : groups_of book.number e'.input.groups ≡ groups_of book.number e.input.groups = ap (groups_of book.number) same.store.groups in
+    cc (pending, groups, same.making, h.names, h.in_line, h.reports, h.flawed, h.quiet)
 
 -- a report alone
 pub reports_went : (sizes : Sizes) (e e' : Engine) (book : Book) (w w' : World) (report : Report) → AllStand sizes e' book → Reports sizes (state_of e book) (state_of e' book) w w' (page_of e book) report [] →

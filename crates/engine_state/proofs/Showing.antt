@@ -36,13 +36,13 @@ text_by style style' b line line' t m ts us s l is =
 
 module _ (sizes : Sizes) (e : Engine) (book : Book) (sound : IsSound sizes e book.number book.macros) (x : Seen) where
   abbrev bytes : List Token → List ℕ
-  bytes ts = shown_meaning_bytes (initial_style e.categories e.names.names) e.in_line e.input.pending.number x.token x.meaning ts
+  bytes ts = shown_meaning_bytes (initial_style e.input.groups.now.categories e.names.names) e.in_line e.input.pending.number x.token x.meaning ts
 
   abbrev text : List ℕ
-  text = bytes (meaning_tokens (macro_tokens e.input.lists) (meaning_to_let e.input.meanings x))
+  text = bytes (meaning_tokens (macro_tokens e.input.lists) (meaning_to_let e.input.groups.now.meanings x))
 
   moves_are : shown (page_of e book) x ≡ Written Transcript text ∷ Flawed ∷ []
-  moves_are = ap (λ (ts : List Token). Written Transcript (bytes ts) ∷ Flawed ∷ []) (tokens_let book.number book.macros e.input.meanings e.input.pending.puts e.input.lists sound.tied x)
+  moves_are = ap (λ (ts : List Token). Written Transcript (bytes ts) ∷ Flawed ∷ []) (tokens_let book.number book.macros e.input.groups e.input.pending.puts e.input.lists sound.tied x)
 
   -- it is written, and the status is to be 1
   pub shown_did : (e1 : Engine) (w w' : World) → Did sizes (state_of e book) (state_of e1 book) w w' (Written Transcript text ∷ []) →

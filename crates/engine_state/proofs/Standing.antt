@@ -42,7 +42,6 @@ only_sized sizes e e' only h = subst (IsSized sizes) (sym only.same) (record {
   readings = h.readings;
   input = h.input;
   names = h.names;
-  hash = h.hash;
   located = h.located;
 })
 

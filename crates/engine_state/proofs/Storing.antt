@@ -4,12 +4,14 @@ use Rattle.std.specs.Prelude.{slice_index_or}
 use Rattle.std.proofs.lemmas.Bool.{cases_lt}
 use Rattle.std.proofs.lemmas.List.{get_or_past}
 use Rattle.tex_defs.specs.declared.Token.{Token}
-use Rattle.tex_defs.specs.declared.Meaning.{Meaning}
 use Rattle.tex_defs.specs.declared.Full.{Full}
 use Rattle.tex_defs.specs.declared.Sizes.{Sizes}
 use Rattle.plain_tokens.specs.Puts.{token_put}
 use Rattle.plain_tokens.specs.Pending.{Pending, settle, put_front}
-use Rattle.plain_tokens.specs.Tables.{is_meant, is_put, memory, refused}
+use Rattle.plain_tokens.specs.Meanings.{is_listed}
+use Rattle.plain_tokens.specs.Tables.{is_put, memory, refused}
+use Rattle.equivalents.specs.Groups.{Groups}
+use Rattle.equivalents.specs.Holding.{lists_held}
 use Rattle.plain_machine.specs.Demands.{words}
 use Rattle.plain_machine.specs.Numbers.{IsHeld, Tied}
 use Rattle.plain_machine.specs.Plan.{reports_room}
@@ -25,20 +27,21 @@ use Rattle.engine_state.specs.Stands.{IsSized, IsSound, SameStore, SameBut, Same
 -- WHAT STAYS OF THE INPUT
 
 pub store_same : (i : Stored) → SameStore i i
-store_same i = record { sizes = refl; hash = refl; meanings = refl; puts = λ n h. h; lists = record { tokens = λ n h. refl } }
+store_same i = record { sizes = refl; groups = refl; closing = refl; ending = refl; puts = λ n h. h; lists = record { tokens = λ n h. refl } }
 
 pub store_is : (i j : Stored) → j ≡ i → SameStore i j
 store_is i j is = subst (λ (x : Stored). SameStore i x) (sym is) (store_same i)
 
 -- what is held then was held
-pub held_back : (i j : Stored) → SameStore i j → (n : ℕ) → IsHeld n j.meanings j.pending.puts → IsHeld n i.meanings i.pending.puts
-held_back i j s n h = held_more n j.meanings i.meanings j.pending.puts i.pending.puts (λ a. subst (λ (ms : List (Meaning (Option ℕ))). is_meant n ms ≡ true) s.meanings a) (s.puts n) h
+pub held_back : (i j : Stored) → SameStore i j → (n : ℕ) → IsHeld n (lists_held j.groups) j.pending.puts → IsHeld n (lists_held i.groups) i.pending.puts
+held_back i j s n h = held_more n (lists_held j.groups) (lists_held i.groups) j.pending.puts i.pending.puts (λ a. subst (λ (g : Groups). is_listed (lists_held g) n ≡ true) s.groups a) (s.puts n) h
 
 pub store_join : (i j k : Stored) → SameStore i j → SameStore j k → SameStore i k
 store_join i j k a b = record {
   sizes = b.sizes ∙ a.sizes;
-  hash = b.hash ∙ a.hash;
-  meanings = b.meanings ∙ a.meanings;
+  groups = b.groups ∙ a.groups;
+  closing = b.closing ∙ a.closing;
+  ending = b.ending ∙ a.ending;
   puts = λ n h. a.puts n (b.puts n h);
   lists = record { tokens = λ n h. b.lists.tokens n h ∙ a.lists.tokens n (held_back j k b n h) };
 }
@@ -48,8 +51,9 @@ pub store_with : (i j : Stored) (p : Pending) (making : Option (List Token)) (ga
     j ≡ record i { pending = p; making = making; builds = gathered; buffer = buffer; lists = j.lists } → ((n : ℕ) → is_put n p.puts ≡ true → is_put n i.pending.puts ≡ true) → KeepsMacros i j → SameStore i j
 store_with i j p making gathered buffer is fewer macros = record {
   sizes = ap (λ (x : Stored). x.sizes) is;
-  hash = ap (λ (x : Stored). x.hash_size) is;
-  meanings = ap (λ (x : Stored). x.meanings) is;
+  groups = ap (λ (x : Stored). x.groups) is;
+  closing = ap (λ (x : Stored). x.closing) is;
+  ending = ap (λ (x : Stored). x.ending) is;
   puts = λ n h. fewer n (subst (λ (x : Stored). is_put n x.pending.puts ≡ true) is h);
   lists = macros;
 }
@@ -61,15 +65,16 @@ store_gathered i j gathered is macros = store_with i j i.pending i.making gather
 pub store_call : (i j : Stored) (k : Calling) → j ≡ record i { call = k; lists = j.lists } → KeepsMacros i j → SameStore i j
 store_call i j k is macros = record {
   sizes = ap (λ (x : Stored). x.sizes) is;
-  hash = ap (λ (x : Stored). x.hash_size) is;
-  meanings = ap (λ (x : Stored). x.meanings) is;
+  groups = ap (λ (x : Stored). x.groups) is;
+  closing = ap (λ (x : Stored). x.closing) is;
+  ending = ap (λ (x : Stored). x.ending) is;
   puts = λ n h. subst (λ (x : Stored). is_put n x.pending.puts ≡ true) is h;
   lists = macros;
 }
 
 -- its scanner alone
 pub store_scan : (i j : Stored) (k : Calling) → j ≡ record i { call = k } → SameStore i j
-store_scan i j k is = subst (λ (x : Stored). SameStore i x) (sym is) (record { sizes = refl; hash = refl; meanings = refl; puts = λ n h. h; lists = record { tokens = λ n h. refl } })
+store_scan i j k is = subst (λ (x : Stored). SameStore i x) (sym is) (record { sizes = refl; groups = refl; closing = refl; ending = refl; puts = λ n h. h; lists = record { tokens = λ n h. refl } })
 
 pub store_making : (i j : Stored) (making : Option (List Token)) → j ≡ record i { making = making; lists = j.lists } → KeepsMacros i j → SameStore i j
 store_making i j making is macros = store_with i j i.pending making i.builds i.buffer is (λ n h. h) macros
@@ -101,14 +106,14 @@ inside_by lists n some = elim (cases_lt n (length lists)) [
 ]
 
 module _ (number : ℕ → ℕ) (macros : List (List Token)) where
-  pub tied_store : (i j : Stored) → AreBodies macros → SameStore i j → Tied number macros i.meanings i.pending.puts i.lists → Tied number macros j.meanings j.pending.puts j.lists
+  pub tied_store : (i j : Stored) → AreBodies macros → SameStore i j → Tied number macros (lists_held i.groups) i.pending.puts i.lists → Tied number macros (lists_held j.groups) j.pending.puts j.lists
   tied_store i j bodies s t = record {
     inside = λ n h. inside_by j.lists n (λ none. body_at macros (number n) bodies (t.within n (held_back i j s n h)) (tokens n h ∙ none));
     within = λ n h. t.within n (held_back i j s n h);
     tokens = tokens;
     apart = λ n m h k e. t.apart n m (held_back i j s n h) (held_back i j s m k) e;
   } where
-    tokens : (n : ℕ) → IsHeld n j.meanings j.pending.puts → slice_index_or macros (number n) [] ≡ slice_index_or j.lists n []
+    tokens : (n : ℕ) → IsHeld n (lists_held j.groups) j.pending.puts → slice_index_or macros (number n) [] ≡ slice_index_or j.lists n []
     tokens n h = t.tokens n (held_back i j s n h) ∙ sym (s.lists.tokens n h)
 
 -- WHAT STAYS OF THE ENGINE
@@ -121,8 +126,7 @@ sized_still sizes e e' own depth names reports store h = record {
   readings = depth ∙ h.readings;
   input = store.sizes ∙ h.input;
   names = ap (λ (n : Strings). n.sizes) names ∙ h.names;
-  hash = store.hash ∙ h.hash;
-  located = ap (length {A = Meaning (Option ℕ)}) store.meanings ∙ h.located ∙ ap (λ (n : Strings). 514 + length n.names) (sym names);
+  located = ap (λ (g : Groups). length g.now.meanings) store.groups ∙ h.located ∙ ap (λ (n : Strings). 514 + length n.names) (sym names);
 }
 
 -- the count of reports changed
@@ -134,7 +138,6 @@ counted_here sizes e n few h = record {
   readings = h.readings;
   input = h.input;
   names = h.names;
-  hash = h.hash;
   located = h.located;
 }
 
@@ -165,7 +168,6 @@ same_join e e1 e2 a b = record {
     depth = b.others.depth ∙ a.others.depth;
     call = b.others.call ∙ a.others.call;
     names = b.others.names ∙ a.others.names;
-    categories = b.others.categories ∙ a.others.categories;
     in_line = b.others.in_line ∙ a.others.in_line;
     reports = b.others.reports ∙ a.others.reports;
     flawed = b.others.flawed ∙ a.others.flawed;
@@ -180,7 +182,7 @@ same_join e e1 e2 a b = record {
 
 -- the words that are used are the machine's
 pub words_are : (sizes : Sizes) (e : Engine) (book : Book) → IsSound sizes e book.number book.macros → words (state_of e book) ≡ stored_words e.input
-words_are sizes e book h = all_words_tied book.number book.macros e.input.meanings e.input.pending.puts e.input.lists e.input.making (gathered e.input) h.tied
+words_are sizes e book h = all_words_tied book.number book.macros e.input.groups e.input.pending.puts e.input.lists e.input.making (gathered e.input) h.tied
 
 -- so many words more, by the machine and by the input
 pub words_more : (sizes : Sizes) (e : Engine) (book : Book) (need : ℕ) (o : Option Full) → IsSound sizes e book.number book.macros →

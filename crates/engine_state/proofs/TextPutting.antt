@@ -241,7 +241,7 @@ module _ (sizes : Sizes) (s s1 : State) (e' : Engine) (book : Book) (w : World) 
 pub in_front : (e : Engine) (j : Stored) (puts : List PutList) (making : Option (List Token)) → j ≡ record e.input { pending = with_puts puts e.input.pending; making = making; lists = j.lists } → SameStore e.input j → IsInFront e (with_input e j)
 in_front e j puts making is store = record {
   frames = record { readings = refl; lists = ap (λ (x : Stored). x.builds) is; call = refl; calling = ap (λ (x : Stored). x.call) is };
-  others = record { depth = refl; call = refl; names = refl; categories = refl; last = refl; in_line = refl; reports = refl; flawed = refl; quiet = refl; sizes = refl };
+  others = record { depth = refl; call = refl; names = refl; last = refl; in_line = refl; reports = refl; flawed = refl; quiet = refl; sizes = refl };
   store = store;
   light = ap (λ (x : Stored). pending_weight x.pending) is;
   page = λ book. ap (λ (x : Stored). page_of (with_input e x) book) is;
@@ -254,7 +254,6 @@ front_join e e1 e2 a b = record {
     depth = b.others.depth ∙ a.others.depth;
     call = b.others.call ∙ a.others.call;
     names = b.others.names ∙ a.others.names;
-    categories = b.others.categories ∙ a.others.categories;
     last = b.others.last ∙ a.others.last;
     in_line = b.others.in_line ∙ a.others.in_line;
     reports = b.others.reports ∙ a.others.reports;

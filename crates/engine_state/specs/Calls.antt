@@ -103,7 +103,7 @@ pub record CallStands (e : Engine) (number : ℕ → ℕ) (c : Call) (r : Readin
   pub long : Bool
   pub outer : Bool
   pub id : ℕ
-  pub meaning : name_meaning e.input.meanings c.name ≡ Macro long outer (Some id)
+  pub meaning : name_meaning e.input.groups.now.meanings c.name ≡ Macro long outer (Some id)
   pub kind : r.kind ≡ Arguments c.name long (number id) (list_at e.input.lists id)
   pub places : has_parameters (list_at e.input.lists id) ≡ true
   pub asked : asks_of c e.input.call ≡ ask r.kind r.fed
@@ -137,7 +137,7 @@ work_or_none (Some ts) = ts
 
 -- what is shown of it: the list in work, if a place is reached
 abbrev pub argument_bytes : Engine → List ℕ
-argument_bytes e = texts.runaway_bytes scanned.Use (initial_style e.categories e.names.names) e.in_line (work_or_none (call_work e.input.call))
+argument_bytes e = texts.runaway_bytes scanned.Use (initial_style e.input.groups.now.categories e.names.names) e.in_line (work_or_none (call_work e.input.call))
 
 -- it is shown, the token put back, and the call reports and ends
 abbrev pub call_away_moves : Page → (text : List ℕ) → Token → Report → List Move

@@ -1,7 +1,7 @@
 -- A name that joins those that are entered.
-use Rattle.std.specs.Prelude.{◌≡◌, ℕ, List, [], ◌∷◌, ◌++◌, map, Some, None}
+use Rattle.std.specs.Prelude.{◌≡◌, ℕ, List, [], ◌∷◌, ◌++◌, Some, None}
 use Rattle.tex_defs.specs.declared.Full.{Full}
-use Rattle.tex_defs.specs.declared.Meaning.TheVariants as means
+use Rattle.equivalents.specs.Groups.{Groups, entered}
 use Rattle.plain_tokens.specs.Tables.{new_name, refused}
 use Rattle.name_table.specs.Strings.{Strings}
 use Rattle.input_state.specs.Stored.{Stored}
@@ -12,8 +12,12 @@ abbrev pub joined : Strings → List (List ℕ) → Strings
 joined table new = record table { names = table.names ++ new }
 
 -- they are undefined
+abbrev pub all_entered : List (List ℕ) → Groups → Groups
+all_entered [] g = g
+all_entered (name ∷ names) g = all_entered names (entered g)
+
 abbrev pub located : List (List ℕ) → Stored → Stored
-located new i = record i { meanings = i.meanings ++ map (λ name. means.Undefined) new }
+located new i = record i { groups = all_entered new i.groups }
 
 abbrev pub with_names : List (List ℕ) → Engine → Engine
 with_names new e = record e { names = joined e.names new; input = located new e.input }

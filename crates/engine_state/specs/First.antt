@@ -2,7 +2,7 @@
 use Rattle.std.specs.Prelude.{◌≡◌, ℕ, Bool, false, List, [], Option, Some}
 use Rattle.tex_defs.specs.declared.Sizes.{Sizes}
 use Rattle.prim_table.specs.Primitives.{primitive_names}
-use Rattle.plain_tokens.specs.Categories.{initial_categories}
+use Rattle.equivalents.specs.Groups.{first_groups}
 use Rattle.plain_machine.specs.Plan.{first_state, is_known, job_due}
 use Rattle.input_state.specs.Stored.{unread}
 use Rattle.engine_state.specs.declared.engine.Engine.{Engine}
@@ -16,7 +16,7 @@ IsUnread e = e.input.pending ≡ unread (Some [])
 -- It stands for the first state of any job whose file has these bytes, where it is held, but for what is due.
 pub record Begins (sizes : Sizes) (e : Engine) (quiet : Bool) (job : Option (List ℕ)) : Type 0 where
   pub stands : Stands sizes e first_book
-  pub state : (file : List ℕ) → record (state_of e first_book) { due = job_due file job } ≡ first_state is_known initial_categories quiet file job
+  pub state : (file : List ℕ) → record (state_of e first_book) { due = job_due file job } ≡ first_state (first_groups is_known) quiet file job
   pub column : e.in_line ≡ false
   pub reports : e.reports ≡ 0
   pub flawed : e.flawed ≡ false

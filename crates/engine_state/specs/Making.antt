@@ -63,5 +63,5 @@ abbrev pub characters_in : Engine → Made → List ℕ
 characters_in e make.JobName = job_in e.names.others
 characters_in e (make.Number n) = whole_number n
 characters_in e (make.Roman n) = roman n
-characters_in e (make.Spelling t) = string_text (initial_style e.categories e.names.names) t
-characters_in e (make.Meaning x) = meaning_text (initial_style e.categories e.names.names) (macro_tokens e.input.lists) (meaning_to_let e.input.meanings x)
+characters_in e (make.Spelling t) = string_text (initial_style e.input.groups.now.categories e.names.names) t
+characters_in e (make.Meaning x) = meaning_text (initial_style e.input.groups.now.categories e.names.names) (macro_tokens e.input.lists) (meaning_to_let e.input.groups.now.meanings x)

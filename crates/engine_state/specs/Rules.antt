@@ -83,8 +83,8 @@ pub record Reports (sizes : Sizes) (s s' : State) (w w' : World) (page : Page) (
 
 -- So is one whose text is this list.
 pub record ReportsAs (sizes : Sizes) (s s' : State) (w w' : World) (page : Page) (ts : List PlainToken) (rest : List Move) : Type 0 where
-  pub moves : reported_as page ts rest ≡ Written Transcript (error_message_bytes (initial_style page.categories page.names) page.in_line page.line ts) ∷ Reported ∷ rest
-  pub did : Did sizes s s' w w' (Written Transcript (error_message_bytes (initial_style page.categories page.names) page.in_line page.line ts) ∷ Reported ∷ [])
+  pub moves : reported_as page ts rest ≡ Written Transcript (error_message_bytes (initial_style page.now.categories page.names) page.in_line page.line ts) ∷ Reported ∷ rest
+  pub did : Did sizes s s' w w' (Written Transcript (error_message_bytes (initial_style page.now.categories page.names) page.in_line page.line ts) ∷ Reported ∷ [])
 
 -- what comes behind the text of a report: it is counted
 abbrev pub counted : Page → List Move → List Move
@@ -114,7 +114,7 @@ scanning_of e work = scanning work (gathered e.input)
 
 -- what becomes of a token of a list
 abbrev pub token_moves : Page → Option Scanning → (onward : Seen → List Move) → PlainToken → List Move
-token_moves page scanned onward t = met page scanned onward (met_token page.meanings t)
+token_moves page scanned onward t = met page scanned onward (met_token page.now.meanings t)
 
 -- what becomes of a character or a name of the line
 abbrev pub name_moves : Page → Option Scanning → (enters : Bool) → (onward : Seen → List Move) → Lexeme → List Move
@@ -131,7 +131,7 @@ scanned_list what k e = list_number k e.input.builds
 
 -- what is shown of it where it runs away
 abbrev pub away_text : Scanned → ℕ → Engine → List ℕ
-away_text what k e = runaway_bytes what (initial_style e.categories e.names.names) e.in_line (scanned_list what k e)
+away_text what k e = runaway_bytes what (initial_style e.input.groups.now.categories e.names.names) e.in_line (scanned_list what k e)
 
 -- a call takes tokens, or there is such a list
 abbrev pub IsScanned : Scanned → ℕ → Engine → Type 0
@@ -160,7 +160,7 @@ Wants sizes e book = (want : Option Want) × Takes sizes want e book
 -- a space is handed on to where it is wanted, if it is
 abbrev pub space_moves : Page → Option Want → List Reading → List Move
 space_moves page None work = []
-space_moves page (Some want) work = onward_of page (Some want) work (met_token page.meanings space_token)
+space_moves page (Some want) work = onward_of page (Some want) work (met_token page.now.meanings space_token)
 
 -- the machine's state at the moment, and that of the engine: the engine's column is that of the bytes really written
 abbrev pub IsMoment : Why → State → State → Type 0
@@ -190,7 +190,7 @@ DoesOnward sizes s e' book w w' moves (Halted o) = Halts sizes s e' book w w' mo
 
 -- its moves, for what wants it
 abbrev pub next_moves : Option Want → Engine → Book → List Move
-next_moves want e book = handed (page_of e book) (enters_of want) (scanning_of e book.work) (onward_of (page_of e book) want book.work) (pulled e.categories (pending_of book.number e.input.pending))
+next_moves want e book = handed (page_of e book) (enters_of want) (scanning_of e book.work) (onward_of (page_of e book) want book.work) (pulled e.input.groups.now.categories (pending_of book.number e.input.pending))
 
 -- The machine has come, behind k steps, to where this token is handed on to what wants it: the moves go on with what becomes of it.
 -- The open readings are as they were, but that a call may have noted a check.

@@ -9,9 +9,10 @@ use Rattle.plain_tokens.specs.Tables.{is_put}
 use Rattle.plain_readings.specs.Readings.{Reading}
 use Rattle.reading_frames.specs.Stands as frames
 use Rattle.reading_frames.specs.Stands.{AreShallow}
+use Rattle.equivalents.specs.Holding.{lists_held}
 use Rattle.plain_machine.specs.States.{State}
 use Rattle.plain_machine.specs.Plan.{Page, reports_room}
-use Rattle.plain_machine.specs.Numbers.{Tied, pending_of, meanings_of}
+use Rattle.plain_machine.specs.Numbers.{Tied, pending_of, groups_of, tables_of}
 use Rattle.input_state.specs.Stored.{Stored, KeepsMacros, gathered}
 use Rattle.input_state.specs.Callings.{NotCalling}
 use Rattle.engine_state.specs.declared.engine.Engine.{Engine}
@@ -22,10 +23,9 @@ use Rattle.engine_state.specs.Book.{Book, AreBodies}
 abbrev pub state_of : Engine → Book → State
 state_of e book = record {
   pending = pending_of book.number e.input.pending;
-  categories = e.categories;
+  groups = groups_of book.number e.input.groups;
   names = e.names.names;
   strings = e.names.others;
-  meanings = meanings_of book.number e.input.meanings;
   macros = book.macros;
   last = e.last;
   work = book.work;
@@ -42,10 +42,9 @@ state_of e book = record {
 -- what the texts of a rule depend on
 abbrev pub page_of : Engine → Book → Page
 page_of e book = record {
-  categories = e.categories;
+  now = tables_of book.number e.input.groups.now;
   names = e.names.names;
   strings = e.names.others;
-  meanings = meanings_of book.number e.input.meanings;
   macros = book.macros;
   last = e.last;
   in_line = e.in_line;
@@ -65,13 +64,12 @@ pub record IsSized (sizes : Sizes) (e : Engine) : Type 0 where
   pub readings : e.readings.size ≡ sizes.expansion_depth
   pub input : e.input.sizes ≡ sizes
   pub names : e.names.sizes ≡ sizes
-  pub hash : e.input.hash_size ≡ sizes.hash_size
-  pub located : length e.input.meanings ≡ fixed_locations + length e.names.names
+  pub located : length e.input.groups.now.meanings ≡ fixed_locations + length e.names.names
 
 -- The macros that the input holds are these, under these numbers.
 pub record IsSound (sizes : Sizes) (e : Engine) (number : ℕ → ℕ) (macros : List (List Token)) : Type 0 where
   pub sized : IsSized sizes e
-  pub tied : Tied number macros e.input.meanings e.input.pending.puts e.input.lists
+  pub tied : Tied number macros (lists_held e.input.groups) e.input.pending.puts e.input.lists
   pub bodies : AreBodies macros
 
 -- THE OPEN READINGS
@@ -130,7 +128,6 @@ pub record SameOthers (e e' : Engine) : Type 0 where
   pub depth : e'.readings.size ≡ e.readings.size
   pub call : e'.call ≡ e.call
   pub names : e'.names ≡ e.names
-  pub categories : e'.categories ≡ e.categories
   pub last : e'.last ≡ e.last
   pub in_line : e'.in_line ≡ e.in_line
   pub reports : e'.reports ≡ e.reports
@@ -143,18 +140,18 @@ pub record SameElse (e e' : Engine) : Type 0 where
   pub depth : e'.readings.size ≡ e.readings.size
   pub call : e'.call ≡ e.call
   pub names : e'.names ≡ e.names
-  pub categories : e'.categories ≡ e.categories
   pub in_line : e'.in_line ≡ e.in_line
   pub reports : e'.reports ≡ e.reports
   pub flawed : e'.flawed ≡ e.flawed
   pub quiet : e'.quiet ≡ e.quiet
   pub sizes : e'.sizes ≡ e.sizes
 
--- the names mean what they meant, no macro's body is put, and each macro that is held keeps its tokens
+-- all locations have what they had, no macro's body is put, and each macro that is held keeps its tokens
 pub record SameStore (old new : Stored) : Type 0 where
   pub sizes : new.sizes ≡ old.sizes
-  pub hash : new.hash_size ≡ old.hash_size
-  pub meanings : new.meanings ≡ old.meanings
+  pub groups : new.groups ≡ old.groups
+  pub closing : new.closing ≡ old.closing
+  pub ending : new.ending ≡ old.ending
   pub puts : (n : ℕ) → is_put n new.pending.puts ≡ true → is_put n old.pending.puts ≡ true
   pub lists : KeepsMacros old new
 

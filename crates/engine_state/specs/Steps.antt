@@ -44,7 +44,7 @@ all_want (Some c) a = call_asks_more c.ask
 
 -- the next rule has a step
 abbrev pub stepping : Engine → Bool
-stepping e = all_want e.call (asked e) && gives_step (pulled e.categories e.input.pending)
+stepping e = all_want e.call (asked e) && gives_step (pulled e.input.groups.now.categories e.input.pending)
 
 -- WEIGHTS
 

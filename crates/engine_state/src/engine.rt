@@ -5,7 +5,6 @@ ghost use Rattle.tex_defs.specs.Places.{Transcript, World};
 ghost use Rattle.tex_defs.specs.Sizes.{first_out_of_range};
 ghost use Rattle.tex_defs.specs.declared.Sizes.{Sizes};
 ghost use Rattle.tex_defs.specs.declared.Fatal.TheVariants as fatal;
-ghost use Rattle.plain_tokens.specs.Categories.{initial_categories as first_categories};
 ghost use Rattle.prim_table.specs.Primitives.{primitive_names};
 ghost use Rattle.plain_state.specs.Reports.{plain_style, missing_file_bytes};
 ghost use Rattle.plain_machine.specs.Demands.{words};
@@ -33,10 +32,9 @@ use world_io::Sink;
 /// The machine's state, kept in tables that were reserved when the engine was made. An engine is closed at its end.
 pub struct Engine {
     pub sizes: Sizes,
-    /// What is pending, and all lists.
+    /// What is pending, all lists, and what stands at all locations.
     pub input: Input,
     pub names: NameTable,
-    pub categories: [u8; 256],
     /// The open readings but a call's.
     pub readings: Readings,
     /// The call that gathers its arguments, if one does: the innermost reading.
@@ -55,24 +53,10 @@ pub struct Engine {
     pub stopped: bool,
 }
 
-const INITIAL: [u8; 256] = [
-    9, 12, 12, 12, 12, 12, 12, 12, 12, 12, 12, 12, 12, 5, 12, 12, 12, 12, 12, 12, 12, 12, 12, 12,
-    12, 12, 12, 12, 12, 12, 12, 12, 10, 12, 12, 12, 12, 14, 12, 12, 12, 12, 12, 12, 12, 12, 12, 12,
-    12, 12, 12, 12, 12, 12, 12, 12, 12, 12, 12, 12, 12, 12, 12, 12, 12, 11, 11, 11, 11, 11, 11, 11,
-    11, 11, 11, 11, 11, 11, 11, 11, 11, 11, 11, 11, 11, 11, 11, 11, 11, 11, 11, 12, 0, 12, 12, 12,
-    12, 11, 11, 11, 11, 11, 11, 11, 11, 11, 11, 11, 11, 11, 11, 11, 11, 11, 11, 11, 11, 11, 11, 11,
-    11, 11, 11, 12, 12, 12, 12, 15, 12, 12, 12, 12, 12, 12, 12, 12, 12, 12, 12, 12, 12, 12, 12, 12,
-    12, 12, 12, 12, 12, 12, 12, 12, 12, 12, 12, 12, 12, 12, 12, 12, 12, 12, 12, 12, 12, 12, 12, 12,
-    12, 12, 12, 12, 12, 12, 12, 12, 12, 12, 12, 12, 12, 12, 12, 12, 12, 12, 12, 12, 12, 12, 12, 12,
-    12, 12, 12, 12, 12, 12, 12, 12, 12, 12, 12, 12, 12, 12, 12, 12, 12, 12, 12, 12, 12, 12, 12, 12,
-    12, 12, 12, 12, 12, 12, 12, 12, 12, 12, 12, 12, 12, 12, 12, 12, 12, 12, 12, 12, 12, 12, 12, 12,
-    12, 12, 12, 12, 12, 12, 12, 12, 12, 12, 12, 12, 12, 12, 12, 12,
-];
-
 /// The primitives that mean something: those that a row reads, and `\\relax`, `\\endcsname`, `\\par`, `\\end`, `\\csname` and `\\jobname`.
 const KNOWN: &[u16] = &[
-    1, 4, 5, 6, 8, 9, 10, 11, 23, 24, 25, 26, 27, 28, 29, 30, 31, 35, 54, 55, 56, 57, 58, 59, 60,
-    61,
+    1, 4, 5, 6, 8, 9, 10, 11, 23, 24, 25, 26, 27, 28, 29, 30, 31, 35, 36, 37, 38, 39, 40, 54, 55,
+    56, 57, 58, 59, 60, 61,
 ];
 
 /// Before a reading is fed with a token.
@@ -80,14 +64,6 @@ const NO_TOKEN: Seen = Seen {
     token: Token::Named(Name::Empty),
     meaning: Meaning::Undefined,
 };
-
-/// The category codes of INITEX's first state.
-#[tactic(auto, unfolding(plain_tokens::specs::Categories::initial_categories))]
-fn initial_categories() -> [u8; 256]
-    ensures { result ≡ first_categories }
-{
-    INITIAL
-}
 
 impl Engine {
     /// An engine at the beginning of a job, of whose file no byte has come.
@@ -117,7 +93,6 @@ impl Engine {
             sizes: *sizes,
             input,
             names,
-            categories: initial_categories(),
             readings,
             call: None,
             last: NO_TOKEN,
@@ -143,7 +118,6 @@ impl Engine {
             sizes: _,
             input,
             names: _,
-            categories: _,
             readings: _,
             call: _,
             last: _,
@@ -244,7 +218,7 @@ impl Engine {
         ensures only { OnlyColumn self.old self.new }
     {
         let (hash, pool) = self.names.parts();
-        let view = initial_view(self.input.lists(), hash, pool, &self.categories);
+        let view = initial_view(self.input.lists(), hash, pool, self.input.categories());
         write_missing_file(out, &mut self.in_line, view, file)?;
         Ok(())
     }

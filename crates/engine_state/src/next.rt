@@ -74,7 +74,7 @@ impl Engine {
         requires idle { self.old.input.making ≡ None }
         requires running { self.old.stopped ≡ false }
         ensures light { IfOk result (λ next. IsSkipped next → weight self.new < weight self.old) }
-        ensures step { IfOk result (λ next. NextStepsIf next (gives_step (pulled self.old.categories self.old.input.pending))) }
+        ensures step { IfOk result (λ next. NextStepsIf next (gives_step (pulled self.old.input.groups.now.categories self.old.input.pending))) }
         ensures rule { IfOk result (λ next. ReadsNext enters self.old self.new (S.told out.old) (S.told out.new) next) }
         ensures err { IfErr result (λ b. CutsNext enters self.old self.new (S.told out.old) (S.told out.new) b) }
         ensures halts { IfOk result (λ next. IsOver next → SameFrames self.old self.new) }
@@ -91,14 +91,14 @@ impl Engine {
     fn next_reading<S: Sink>(&mut self, out: &mut S, enters: bool) -> Result<Next, Broken>
         requires idle { self.old.input.making ≡ None }
         ensures light { IfOk result (λ next. IsSkipped next → weight self.new < weight self.old) }
-        ensures step { IfOk result (λ next. NextStepsIf next (gives_step (pulled self.old.categories self.old.input.pending))) }
+        ensures step { IfOk result (λ next. NextStepsIf next (gives_step (pulled self.old.input.groups.now.categories self.old.input.pending))) }
         ensures rule { IfOk result (λ next. ReadsNext enters self.old self.new (S.told out.old) (S.told out.new) next) }
         ensures err { IfErr result (λ b. CutsNext enters self.old self.new (S.told out.old) (S.told out.new) b) }
         ensures halts { IfOk result (λ next. IsOver next → SameFrames self.old self.new) }
         ensures readings { SameReadings self.old self.new }
         ensures idle { OnOk result (self.new.input.making ≡ None) }
     {
-        match self.input.pull(&self.categories)? {
+        match self.input.pull()? {
             Pulled::Token(token) => {
                 let met = self.meet(out, token)?;
                 Ok(met_next(met))

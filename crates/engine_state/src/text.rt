@@ -28,6 +28,7 @@ use crate::engine::Engine;
 use crate::meaning::name_of;
 use char_text::{Roman, Text, whole_number_length};
 use input_state::{Input, walks_stay};
+use name_table::NameTable;
 use tex_defs::{Full, Meaning, Name, Seen, Sizes, Token};
 use token_lists::{ListRef, Lists};
 use token_show::{NamesView, TokenText, last_after, places_after};
@@ -148,7 +149,7 @@ fn grow_number(input: &mut Input, n: i32) -> Result<bool, Full>
 
 /// What the token means now, as `\\let` would give it.
 fn given_meaning(input: &Input, x: Seen) -> Meaning<()>
-    ensures { result ≡ seen_as (meaning_to_let input.now.meanings x) }
+    ensures { result ≡ seen_as (meaning_to_let input.now.groups.now.meanings x) }
 {
     match x.meaning {
         Meaning::RelaxMarked => Meaning::RelaxMarked,
@@ -160,7 +161,7 @@ fn given_meaning(input: &Input, x: Seen) -> Meaning<()>
 /// stand.
 pub(crate) fn given_list(input: &Input, x: Seen) -> (&Lists, Option<&ListRef>)
     ensures held { IfSome result.1 (λ r. IsHeld result.0.now (id_of r.now)) }
-    ensures tokens { tokens_given (λ r. tokens_at result.0.now (id_of r.now)) result.1 ≡ meaning_tokens (macro_tokens input.now.lists) (meaning_to_let input.now.meanings x) }
+    ensures tokens { tokens_given (λ r. tokens_at result.0.now (id_of r.now)) result.1 ≡ meaning_tokens (macro_tokens input.now.lists) (meaning_to_let input.now.groups.now.meanings x) }
 {
     match given_meaning(input, x) {
         Meaning::Macro { .. } => input.macro_list(name_of(x.token)),
@@ -172,9 +173,9 @@ pub(crate) fn given_list(input: &Input, x: Seen) -> (&Lists, Option<&ListRef>)
 fn grow_list(input: &mut Input, names: NamesView<'_>, name: Name) -> Result<bool, Full>
     requires making { IsSome input.old.making }
     requires names { IsNamesView names }
-    ensures ok { OnOk result (HasGrown input.old input.new (made_text (list_text (names_style names.entry) (text_of input.old.lists input.old.meanings name)))) }
-    ensures err { IfErr result (λ full. GrowsNot input.old input.new (made_text (list_text (names_style names.entry) (text_of input.old.lists input.old.meanings name))) full) }
-    ensures some { IfOk result (λ some. MatchBool some (list_text (names_style names.entry) (text_of input.old.lists input.old.meanings name) ≢ []) (list_text (names_style names.entry) (text_of input.old.lists input.old.meanings name) ≡ [])) }
+    ensures ok { OnOk result (HasGrown input.old input.new (made_text (list_text (names_style names.entry) (text_of input.old.lists input.old.groups.now.meanings name)))) }
+    ensures err { IfErr result (λ full. GrowsNot input.old input.new (made_text (list_text (names_style names.entry) (text_of input.old.lists input.old.groups.now.meanings name))) full) }
+    ensures some { IfOk result (λ some. MatchBool some (list_text (names_style names.entry) (text_of input.old.lists input.old.groups.now.meanings name) ≢ []) (list_text (names_style names.entry) (text_of input.old.lists input.old.groups.now.meanings name) ≡ [])) }
 {
     walks_stay();
     let mut walk = input.walk(name);
@@ -195,9 +196,9 @@ fn grow_list(input: &mut Input, names: NamesView<'_>, name: Name) -> Result<bool
 fn grow_meaning(input: &mut Input, names: NamesView<'_>, x: Seen) -> Result<bool, Full>
     requires making { IsSome input.old.making }
     requires names { IsNamesView names }
-    ensures ok { OnOk result (HasGrown input.old input.new (made_text (meaning_text (names_style names.entry) (macro_tokens input.old.lists) (meaning_to_let input.old.meanings x)))) }
-    ensures err { IfErr result (λ full. GrowsNot input.old input.new (made_text (meaning_text (names_style names.entry) (macro_tokens input.old.lists) (meaning_to_let input.old.meanings x))) full) }
-    ensures some { IfOk result (λ some. MatchBool some (meaning_text (names_style names.entry) (macro_tokens input.old.lists) (meaning_to_let input.old.meanings x) ≢ []) (meaning_text (names_style names.entry) (macro_tokens input.old.lists) (meaning_to_let input.old.meanings x) ≡ [])) }
+    ensures ok { OnOk result (HasGrown input.old input.new (made_text (meaning_text (names_style names.entry) (macro_tokens input.old.lists) (meaning_to_let input.old.groups.now.meanings x)))) }
+    ensures err { IfErr result (λ full. GrowsNot input.old input.new (made_text (meaning_text (names_style names.entry) (macro_tokens input.old.lists) (meaning_to_let input.old.groups.now.meanings x))) full) }
+    ensures some { IfOk result (λ some. MatchBool some (meaning_text (names_style names.entry) (macro_tokens input.old.lists) (meaning_to_let input.old.groups.now.meanings x) ≢ []) (meaning_text (names_style names.entry) (macro_tokens input.old.lists) (meaning_to_let input.old.groups.now.meanings x) ≡ [])) }
 {
     let meaning = given_meaning(input, x);
     let some = grow_piece(input, TokenText::of_meaning_head(names, &meaning))?;
@@ -205,6 +206,41 @@ fn grow_meaning(input: &mut Input, names: NamesView<'_>, x: Seen) -> Result<bool
         Meaning::Macro { .. } => Ok(grow_list(input, names, name_of(x.token))? || some),
         _ => Ok(some),
     }
+}
+
+/// The list that is made gets the characters of a token as `\string` shows it, under these category codes. Answers whether there was one.
+fn grow_spelling(
+    input: &mut Input,
+    names: &NameTable,
+    categories: &[u8; 256],
+    token: Token,
+) -> Result<bool, Full>
+    requires { IsSome input.old.making }
+    ensures ok { OnOk result (HasGrown input.old input.new (made_text (string_text (initial_style categories.now names.now.names) token))) }
+    ensures err { IfErr result (λ full. GrowsNot input.old input.new (made_text (string_text (initial_style categories.now names.now.names) token)) full) }
+    ensures some { IfOk result (λ some. MatchBool some (string_text (initial_style categories.now names.now.names) token ≢ []) (string_text (initial_style categories.now names.now.names) token ≡ [])) }
+{
+    let (hash, pool) = names.parts();
+    let names = initial_names(hash, pool, categories);
+    grow_piece(input, TokenText::of_string(names, token))
+}
+
+/// The list that is made gets the characters of what a token means, as `\meaning` shows it, under these category codes. Answers whether
+/// there was one.
+fn grow_shown(
+    input: &mut Input,
+    names: &NameTable,
+    categories: &[u8; 256],
+    x: Seen,
+) -> Result<bool, Full>
+    requires { IsSome input.old.making }
+    ensures ok { OnOk result (HasGrown input.old input.new (made_text (meaning_text (initial_style categories.now names.now.names) (macro_tokens input.old.lists) (meaning_to_let input.old.groups.now.meanings x)))) }
+    ensures err { IfErr result (λ full. GrowsNot input.old input.new (made_text (meaning_text (initial_style categories.now names.now.names) (macro_tokens input.old.lists) (meaning_to_let input.old.groups.now.meanings x))) full) }
+    ensures some { IfOk result (λ some. MatchBool some (meaning_text (initial_style categories.now names.now.names) (macro_tokens input.old.lists) (meaning_to_let input.old.groups.now.meanings x) ≢ []) (meaning_text (initial_style categories.now names.now.names) (macro_tokens input.old.lists) (meaning_to_let input.old.groups.now.meanings x) ≡ [])) }
+{
+    let (hash, pool) = names.parts();
+    let names = initial_names(hash, pool, categories);
+    grow_meaning(input, names, x)
 }
 
 impl Engine {
@@ -269,17 +305,18 @@ impl Engine {
         ensures some { IfOk result (λ some. MatchBool some (characters_in self.old made ≢ []) (characters_in self.old made ≡ [])) }
         ensures rest { self.new ≡ record self.old { input = self.new.input } }
     {
-        let (hash, pool) = self.names.parts();
-        let names = initial_names(hash, pool, &self.categories);
         match made {
             Made::JobName => grow_bytes(&mut self.input, self.names.first_string()),
             Made::Number(n) => grow_number(&mut self.input, n),
             Made::Roman(n) => grow_roman(&mut self.input, n),
-            Made::Spelling(token) => grow_piece(
-                &mut self.input,
-                TokenText::of_string(names, token),
-            ),
-            Made::Meaning(x) => grow_meaning(&mut self.input, names, x),
+            Made::Spelling(token) => {
+                let categories = *self.input.categories();
+                grow_spelling(&mut self.input, &self.names, &categories, token)
+            }
+            Made::Meaning(x) => {
+                let categories = *self.input.categories();
+                grow_shown(&mut self.input, &self.names, &categories, x)
+            }
         }
     }
 
@@ -363,8 +400,8 @@ impl Engine {
     /// As [`Engine::put_text`].
     pub fn put_string(&mut self, token: Token) -> Result<(), Broken>
         requires idle { self.old.input.making ≡ None }
-        ensures did { OnOk result ((sizes : Sizes) (w : World) (book : Book) → Counts sizes self.old book → self.old.input.making ≡ None → Did sizes (state_of self.old book) (state_of self.new book) w w (put_characters (string_text (initial_style self.old.categories self.old.names.names) token))) }
-        ensures err { IfErr result (λ b. (sizes : Sizes) (w : World) (book : Book) (more : List Move) → Counts sizes self.old book → self.old.input.making ≡ None → Cuts sizes (state_of self.old book) self.new book w w (put_characters (string_text (initial_style self.old.categories self.old.names.names) token) ++ more) b) }
+        ensures did { OnOk result ((sizes : Sizes) (w : World) (book : Book) → Counts sizes self.old book → self.old.input.making ≡ None → Did sizes (state_of self.old book) (state_of self.new book) w w (put_characters (string_text (initial_style self.old.input.groups.now.categories self.old.names.names) token))) }
+        ensures err { IfErr result (λ b. (sizes : Sizes) (w : World) (book : Book) (more : List Move) → Counts sizes self.old book → self.old.input.making ≡ None → Cuts sizes (state_of self.old book) self.new book w w (put_characters (string_text (initial_style self.old.input.groups.now.categories self.old.names.names) token) ++ more) b) }
         ensures frames { SameFrames self.old self.new }
         ensures others { SameOthers self.old self.new }
         ensures store { SameStore self.old.input self.new.input }

@@ -55,17 +55,17 @@ impl Engine {
     /// # Errors
     /// A write failed or wanted memory: a front of the text was written.
     pub fn write_message<S: Sink>(&mut self, out: &mut S, listed: bool) -> Result<(), Broken>
-        ensures did { OnOk result ((sizes : Sizes) (f : FilesTold) (book : Book) → Did sizes (state_of self.old book) (state_of self.new book) (world_of f (S.told out.old) self.old) (world_of f (S.told out.new) self.new) (Written Transcript (message_bytes (initial_style self.old.categories self.old.names.names) self.old.in_line (kept_list_of listed self.old.input.builds)) ∷ [])) }
-        ensures err { IfErr result (λ b. (sizes : Sizes) (f : FilesTold) (book : Book) (more : List Move) → Cuts sizes (state_of self.old book) self.new book (world_of f (S.told out.old) self.old) (world_of f (S.told out.new) self.new) (Written Transcript (message_bytes (initial_style self.old.categories self.old.names.names) self.old.in_line (kept_list_of listed self.old.input.builds)) ∷ more) b) }
+        ensures did { OnOk result ((sizes : Sizes) (f : FilesTold) (book : Book) → Did sizes (state_of self.old book) (state_of self.new book) (world_of f (S.told out.old) self.old) (world_of f (S.told out.new) self.new) (Written Transcript (message_bytes (initial_style self.old.input.groups.now.categories self.old.names.names) self.old.in_line (kept_list_of listed self.old.input.builds)) ∷ [])) }
+        ensures err { IfErr result (λ b. (sizes : Sizes) (f : FilesTold) (book : Book) (more : List Move) → Cuts sizes (state_of self.old book) self.new book (world_of f (S.told out.old) self.old) (world_of f (S.told out.new) self.new) (Written Transcript (message_bytes (initial_style self.old.input.groups.now.categories self.old.names.names) self.old.in_line (kept_list_of listed self.old.input.builds)) ∷ more) b) }
         ensures only { OnlyColumn self.old self.new }
     {
         let (hash, pool) = self.names.parts();
         if listed && self.input.has_list() {
             let (lists, list) = self.input.list();
-            let view = initial_view(lists, hash, pool, &self.categories);
+            let view = initial_view(lists, hash, pool, self.input.categories());
             write_message(out, &mut self.in_line, view, Some(list))?;
         } else {
-            let view = initial_view(self.input.lists(), hash, pool, &self.categories);
+            let view = initial_view(self.input.lists(), hash, pool, self.input.categories());
             write_message(out, &mut self.in_line, view, None)?;
         }
         Ok(())
@@ -76,18 +76,18 @@ impl Engine {
     /// # Errors
     /// A write failed or wanted memory: a front of the report was written.
     pub fn write_error_message<S: Sink>(&mut self, out: &mut S, listed: bool) -> Result<(), Broken>
-        ensures did { OnOk result ((sizes : Sizes) (f : FilesTold) (book : Book) → Did sizes (state_of self.old book) (state_of self.new book) (world_of f (S.told out.old) self.old) (world_of f (S.told out.new) self.new) (Written Transcript (error_message_bytes (initial_style self.old.categories self.old.names.names) self.old.in_line self.old.input.pending.number (kept_list_of listed self.old.input.builds)) ∷ [])) }
-        ensures err { IfErr result (λ b. (sizes : Sizes) (f : FilesTold) (book : Book) (more : List Move) → Cuts sizes (state_of self.old book) self.new book (world_of f (S.told out.old) self.old) (world_of f (S.told out.new) self.new) (Written Transcript (error_message_bytes (initial_style self.old.categories self.old.names.names) self.old.in_line self.old.input.pending.number (kept_list_of listed self.old.input.builds)) ∷ more) b) }
+        ensures did { OnOk result ((sizes : Sizes) (f : FilesTold) (book : Book) → Did sizes (state_of self.old book) (state_of self.new book) (world_of f (S.told out.old) self.old) (world_of f (S.told out.new) self.new) (Written Transcript (error_message_bytes (initial_style self.old.input.groups.now.categories self.old.names.names) self.old.in_line self.old.input.pending.number (kept_list_of listed self.old.input.builds)) ∷ [])) }
+        ensures err { IfErr result (λ b. (sizes : Sizes) (f : FilesTold) (book : Book) (more : List Move) → Cuts sizes (state_of self.old book) self.new book (world_of f (S.told out.old) self.old) (world_of f (S.told out.new) self.new) (Written Transcript (error_message_bytes (initial_style self.old.input.groups.now.categories self.old.names.names) self.old.in_line self.old.input.pending.number (kept_list_of listed self.old.input.builds)) ∷ more) b) }
         ensures only { OnlyColumn self.old self.new }
     {
         let line = self.input.line_number();
         let (hash, pool) = self.names.parts();
         if listed && self.input.has_list() {
             let (lists, list) = self.input.list();
-            let view = initial_view(lists, hash, pool, &self.categories);
+            let view = initial_view(lists, hash, pool, self.input.categories());
             write_error_message(out, &mut self.in_line, view, line, Some(list))?;
         } else {
-            let view = initial_view(self.input.lists(), hash, pool, &self.categories);
+            let view = initial_view(self.input.lists(), hash, pool, self.input.categories());
             write_error_message(out, &mut self.in_line, view, line, None)?;
         }
         Ok(())
@@ -101,13 +101,13 @@ impl Engine {
         number: u32,
     ) -> Result<(), Broken>
         requires { number < length self.old.input.builds }
-        ensures did { OnOk result ((sizes : Sizes) (f : FilesTold) (book : Book) → Did sizes (state_of self.old book) (state_of self.new book) (world_of f (S.told out.old) self.old) (world_of f (S.told out.new) self.new) (Written Transcript (runaway_bytes what (initial_style self.old.categories self.old.names.names) self.old.in_line (list_number number self.old.input.builds)) ∷ [])) }
-        ensures err { IfErr result (λ b. (sizes : Sizes) (f : FilesTold) (book : Book) (more : List Move) → Cuts sizes (state_of self.old book) self.new book (world_of f (S.told out.old) self.old) (world_of f (S.told out.new) self.new) (Written Transcript (runaway_bytes what (initial_style self.old.categories self.old.names.names) self.old.in_line (list_number number self.old.input.builds)) ∷ more) b) }
+        ensures did { OnOk result ((sizes : Sizes) (f : FilesTold) (book : Book) → Did sizes (state_of self.old book) (state_of self.new book) (world_of f (S.told out.old) self.old) (world_of f (S.told out.new) self.new) (Written Transcript (runaway_bytes what (initial_style self.old.input.groups.now.categories self.old.names.names) self.old.in_line (list_number number self.old.input.builds)) ∷ [])) }
+        ensures err { IfErr result (λ b. (sizes : Sizes) (f : FilesTold) (book : Book) (more : List Move) → Cuts sizes (state_of self.old book) self.new book (world_of f (S.told out.old) self.old) (world_of f (S.told out.new) self.new) (Written Transcript (runaway_bytes what (initial_style self.old.input.groups.now.categories self.old.names.names) self.old.in_line (list_number number self.old.input.builds)) ∷ more) b) }
         ensures only { OnlyColumn self.old self.new }
     {
         let (hash, pool) = self.names.parts();
         let (lists, list) = self.input.list_number(number);
-        let view = initial_view(lists, hash, pool, &self.categories);
+        let view = initial_view(lists, hash, pool, self.input.categories());
         write_runaway(out, &mut self.in_line, view, what, list)?;
         Ok(())
     }
@@ -124,7 +124,7 @@ impl Engine {
         let (hash, pool) = self.names.parts();
         match self.input.call_list() {
             Some((lists, list)) => {
-                let view = initial_view(lists, hash, pool, &self.categories);
+                let view = initial_view(lists, hash, pool, self.input.categories());
                 write_runaway(out, &mut self.in_line, view, Scanned::Use, list)?;
                 Ok(())
             }
@@ -146,7 +146,7 @@ impl Engine {
             return Ok(());
         }
         let (hash, pool) = self.names.parts();
-        let view = initial_view(self.input.lists(), hash, pool, &self.categories);
+        let view = initial_view(self.input.lists(), hash, pool, self.input.categories());
         write_token_line(out, &mut self.in_line, view, meaning)?;
         Ok(())
     }
@@ -220,21 +220,21 @@ impl Engine {
     {
         let line = self.input.line_number();
         let (hash, pool) = self.names.parts();
-        let view = initial_view(self.input.lists(), hash, pool, &self.categories);
+        let view = initial_view(self.input.lists(), hash, pool, self.input.categories());
         write_report(out, &mut self.in_line, view, line, report)?;
         Ok(())
     }
 
     /// Writes a token and what it means, of a macro with the tokens of its list.
     fn write_shown_meaning<S: Sink>(&mut self, out: &mut S, x: Seen) -> Result<(), Broken>
-        ensures did { OnOk result ((sizes : Sizes) (f : FilesTold) (book : Book) → Did sizes (state_of self.old book) (state_of self.new book) (world_of f (S.told out.old) self.old) (world_of f (S.told out.new) self.new) (Written Transcript (shown_meaning_bytes (initial_style self.old.categories self.old.names.names) self.old.in_line self.old.input.pending.number x.token x.meaning (meaning_tokens (macro_tokens self.old.input.lists) (meaning_to_let self.old.input.meanings x))) ∷ [])) }
-        ensures err { IfErr result (λ b. (sizes : Sizes) (f : FilesTold) (book : Book) (more : List Move) → Cuts sizes (state_of self.old book) self.new book (world_of f (S.told out.old) self.old) (world_of f (S.told out.new) self.new) (Written Transcript (shown_meaning_bytes (initial_style self.old.categories self.old.names.names) self.old.in_line self.old.input.pending.number x.token x.meaning (meaning_tokens (macro_tokens self.old.input.lists) (meaning_to_let self.old.input.meanings x))) ∷ more) b) }
+        ensures did { OnOk result ((sizes : Sizes) (f : FilesTold) (book : Book) → Did sizes (state_of self.old book) (state_of self.new book) (world_of f (S.told out.old) self.old) (world_of f (S.told out.new) self.new) (Written Transcript (shown_meaning_bytes (initial_style self.old.input.groups.now.categories self.old.names.names) self.old.in_line self.old.input.pending.number x.token x.meaning (meaning_tokens (macro_tokens self.old.input.lists) (meaning_to_let self.old.input.groups.now.meanings x))) ∷ [])) }
+        ensures err { IfErr result (λ b. (sizes : Sizes) (f : FilesTold) (book : Book) (more : List Move) → Cuts sizes (state_of self.old book) self.new book (world_of f (S.told out.old) self.old) (world_of f (S.told out.new) self.new) (Written Transcript (shown_meaning_bytes (initial_style self.old.input.groups.now.categories self.old.names.names) self.old.in_line self.old.input.pending.number x.token x.meaning (meaning_tokens (macro_tokens self.old.input.lists) (meaning_to_let self.old.input.groups.now.meanings x))) ∷ more) b) }
         ensures only { OnlyColumn self.old self.new }
     {
         let line = self.input.line_number();
         let (lists, list) = given_list(&self.input, x);
         let (hash, pool) = self.names.parts();
-        let view = initial_view(lists, hash, pool, &self.categories);
+        let view = initial_view(lists, hash, pool, self.input.categories());
         write_shown_meaning(out, &mut self.in_line, view, line, x.token, x.meaning, list)?;
         Ok(())
     }

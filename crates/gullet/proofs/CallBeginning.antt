@@ -9,7 +9,8 @@ use Rattle.tex_defs.specs.declared.Sizes.{Sizes}
 use Rattle.tex_defs.specs.declared.Token.{Token}
 use Rattle.tex_defs.specs.Places.{World}
 use Rattle.plain_tokens.specs.Arguments.{ParMode, arguments_in, work_in, call, start_of, delimiters_of, is_nil, is_some_place, begins_with_place, has_parameters, gathering}
-use Rattle.plain_tokens.specs.Meanings.{name_meaning}
+use Rattle.plain_tokens.specs.Meanings.{is_listed, name_meaning}
+use Rattle.equivalents.specs.Holding.{lists_held}
 use Rattle.plain_tokens.specs.Names.{name_of}
 use Rattle.plain_tokens.specs.Pending.{Pending, put_front, settle, with_puts}
 use Rattle.plain_tokens.specs.Puts.{Item, Put, call_put, put_top, settled}
@@ -17,7 +18,7 @@ use Rattle.plain_readings.specs.Readings as reading
 use Rattle.plain_readings.specs.Calls.{call_fed, mode_of as reading_mode}
 use Rattle.plain_readings.specs.Readings.{Reading}
 use Rattle.plain_machine.specs.States.{State, Settled, Called, Begun, made}
-use Rattle.plain_tokens.specs.Tables.{Demand, level, lists_words, memory, refused, is_meant, is_put}
+use Rattle.plain_tokens.specs.Tables.{Demand, level, lists_words, memory, refused, is_put}
 use Rattle.plain_machine.specs.Demands.{refusal}
 use Rattle.plain_machine.specs.Does.{Did}
 use Rattle.plain_machine.specs.Numbers.{IsHeld, meaning_of, pending_of, put_of as numbered}
@@ -108,13 +109,13 @@ none_called page number name lists (means.Macro long outer None) is = refl
 none_called page number name lists m is = refl
 
 -- the machine's meaning of a name is the engine's, under its own number
-called_is : (e : Engine) (book : Book) (t : Token) (name : Name) → name ≡ name_of t → called (page_of e book) t ≡ called_meaning (page_of e book) name (meaning_of book.number (name_meaning e.input.meanings name))
+called_is : (e : Engine) (book : Book) (t : Token) (name : Name) → name ≡ name_of t → called (page_of e book) t ≡ called_meaning (page_of e book) name (meaning_of book.number (name_meaning e.input.groups.now.meanings name))
 called_is e book t name is_name =
-    ap (λ (n : Name). called_meaning (page_of e book) n (name_meaning (page_of e book).meanings n)) (sym is_name)
-    ∙ ap (called_meaning (page_of e book) name) (name_meaning_of book.number e.input.meanings name)
+    ap (λ (n : Name). called_meaning (page_of e book) n (name_meaning (page_of e book).now.meanings n)) (sym is_name)
+    ∙ ap (called_meaning (page_of e book) name) (name_meaning_of book.number e.input.groups.now.meanings name)
 
-pub called_none : (e : Engine) (book : Book) (t : Token) (name : Name) → name ≡ name_of t → call_kind e.input.lists (name_meaning e.input.meanings name) ≡ kind.None → called (page_of e book) t ≡ []
-called_none e book t name is_name is = called_is e book t name is_name ∙ none_called (page_of e book) book.number name e.input.lists (name_meaning e.input.meanings name) is
+pub called_none : (e : Engine) (book : Book) (t : Token) (name : Name) → name ≡ name_of t → call_kind e.input.lists (name_meaning e.input.groups.now.meanings name) ≡ kind.None → called (page_of e book) t ≡ []
+called_none e book t name is_name is = called_is e book t name is_name ∙ none_called (page_of e book) book.number name e.input.lists (name_meaning e.input.groups.now.meanings name) is
 
 -- A SCANNER THAT BEGINS
 
@@ -156,20 +157,20 @@ pub begun_are : (name : Name) (long : Bool) (number : ℕ) (text : List Token) �
 begun_are name long number text = gathers_lists long text (first_scan text (mode_of long)) [] (first_gathers long text) ∙ first_lists (begins_with_place text) (mode_of long)
 
 -- the words that are asked for
-pub begun_words : (e : Engine) (name : Name) (long : Bool) (number : ℕ) (o : Option Full) → refused e.input.sizes (memory (lists_words (begun_lists (text_of e.input.lists e.input.meanings name))) (words e.input) ∷ []) ≡ o →
-    refused e.input.sizes (memory (lists_words (reading.lists (reading.Arguments name long number (text_of e.input.lists e.input.meanings name)) [])) (words e.input) ∷ []) ≡ o
-begun_words e name long number o h = ap (λ (l : List (List Token)). refused e.input.sizes (memory (lists_words l) (words e.input) ∷ [])) (begun_are name long number (text_of e.input.lists e.input.meanings name)) ∙ h
+pub begun_words : (e : Engine) (name : Name) (long : Bool) (number : ℕ) (o : Option Full) → refused e.input.sizes (memory (lists_words (begun_lists (text_of e.input.lists e.input.groups.now.meanings name))) (words e.input) ∷ []) ≡ o →
+    refused e.input.sizes (memory (lists_words (reading.lists (reading.Arguments name long number (text_of e.input.lists e.input.groups.now.meanings name)) [])) (words e.input) ∷ []) ≡ o
+begun_words e name long number o h = ap (λ (l : List (List Token)). refused e.input.sizes (memory (lists_words l) (words e.input) ∷ [])) (begun_are name long number (text_of e.input.lists e.input.groups.now.meanings name)) ∙ h
 
 -- A MACRO WITH A LIST
 
-module _ (sizes : Sizes) (e : Engine) (book : Book) (t : Token) (name : Name) (is_name : name ≡ name_of t) (st : Stands sizes e book) (h : HasList (name_meaning e.input.meanings name)) where
+module _ (sizes : Sizes) (e : Engine) (book : Book) (t : Token) (name : Name) (is_name : name ≡ name_of t) (st : Stands sizes e book) (h : HasList (name_meaning e.input.groups.now.meanings name)) where
   abbrev ts : List Token
   ts = list_at e.input.lists h.id
 
-  meant : is_meant h.id e.input.meanings ≡ true
-  meant = meant_by e.input.meanings name h.long h.outer h.id h.meaning
+  meant : is_listed (lists_held e.input.groups) h.id ≡ true
+  meant = meant_by e.input.groups name h.long h.outer h.id h.meaning
 
-  held : IsHeld h.id e.input.meanings e.input.pending.puts
+  held : IsHeld h.id (lists_held e.input.groups) e.input.pending.puts
   held = ap (λ (b : Bool). b || is_put h.id e.input.pending.puts) meant
 
   called_list : called (page_of e book) t ≡ called_by name h.long (book.number h.id) ts
@@ -177,10 +178,10 @@ module _ (sizes : Sizes) (e : Engine) (book : Book) (t : Token) (name : Name) (i
       called_is e book t name is_name ∙ ap (λ (m : Meaning (Option ℕ)). called_meaning (page_of e book) name (meaning_of book.number m)) h.meaning
       ∙ ap (called_by name h.long (book.number h.id)) (st.sound.tied.tokens h.id held)
 
-  kind_is : call_kind e.input.lists (name_meaning e.input.meanings name) ≡ (if has_parameters ts then kind.Gathers else kind.AtOnce)
+  kind_is : call_kind e.input.lists (name_meaning e.input.groups.now.meanings name) ≡ (if has_parameters ts then kind.Gathers else kind.AtOnce)
   kind_is = ap (call_kind e.input.lists) h.meaning
 
-  text_is : text_of e.input.lists e.input.meanings name ≡ ts
+  text_is : text_of e.input.lists e.input.groups.now.meanings name ≡ ts
   text_is = ap (macro_text e.input.lists) h.meaning
 
   -- ITS ARGUMENTS ARE GATHERED
@@ -188,19 +189,19 @@ module _ (sizes : Sizes) (e : Engine) (book : Book) (t : Token) (name : Name) (i
   abbrev K : reading.Kind
   K = reading.Arguments name h.long (book.number h.id) ts
 
-  begun_moves : call_kind e.input.lists (name_meaning e.input.meanings name) ≡ kind.Gathers → called (page_of e book) t ≡ Begun K ∷ []
+  begun_moves : call_kind e.input.lists (name_meaning e.input.groups.now.meanings name) ≡ kind.Gathers → called (page_of e book) t ≡ Begun K ∷ []
   begun_moves is =
       called_list ∙ ap (λ (b : Bool). if b then Begun K ∷ [] else body_put (call_put (book.number h.id) ts []) (call_put (book.number h.id) ts []).items) (gathers_some (has_parameters ts) (sym kind_is ∙ is))
 
   -- what is asked for
-  begun_asked : (long : Bool) (o : Option Full) → long ≡ h.long → ((number : ℕ) → refusal sizes (Begun (reading.Arguments name long number (text_of e.input.lists e.input.meanings name))) (state_of e book) ≡ o) → refusal sizes (Begun K) (state_of e book) ≡ o
+  begun_asked : (long : Bool) (o : Option Full) → long ≡ h.long → ((number : ℕ) → refusal sizes (Begun (reading.Arguments name long number (text_of e.input.lists e.input.groups.now.meanings name))) (state_of e book) ≡ o) → refusal sizes (Begun K) (state_of e book) ≡ o
   begun_asked long o same asked =
       ap (λ (x : List Token). refusal sizes (Begun (reading.Arguments name h.long (book.number h.id) x)) (state_of e book)) (sym text_is)
-      ∙ ap (λ (b : Bool). refusal sizes (Begun (reading.Arguments name b (book.number h.id) (text_of e.input.lists e.input.meanings name))) (state_of e book)) (sym same)
+      ∙ ap (λ (b : Bool). refusal sizes (Begun (reading.Arguments name b (book.number h.id) (text_of e.input.lists e.input.groups.now.meanings name))) (state_of e book)) (sym same)
       ∙ asked (book.number h.id)
 
-  pub begun_cuts : (long : Bool) (e2 : Engine) (w : World) (full : Full) → long ≡ h.long → call_kind e.input.lists (name_meaning e.input.meanings name) ≡ kind.Gathers → e2 ≡ e →
-      ((number : ℕ) → refusal sizes (Begun (reading.Arguments name long number (text_of e.input.lists e.input.meanings name))) (state_of e book) ≡ Some full) →
+  pub begun_cuts : (long : Bool) (e2 : Engine) (w : World) (full : Full) → long ≡ h.long → call_kind e.input.lists (name_meaning e.input.groups.now.meanings name) ≡ kind.Gathers → e2 ≡ e →
+      ((number : ℕ) → refusal sizes (Begun (reading.Arguments name long number (text_of e.input.lists e.input.groups.now.meanings name))) (state_of e book) ≡ Some full) →
       Cuts sizes (state_of e book) e2 book w w (called (page_of e book) t) (broken.Full full)
   begun_cuts long e2 w full same is after refuses =
       cuts_by sizes _ e2 book w w _ _ (broken.Full full) (begun_moves is)
@@ -233,18 +234,19 @@ module _ (sizes : Sizes) (e : Engine) (book : Book) (t : Token) (name : Name) (i
     all = (call_stands places, record { frames = st.readings.frames; shallow = st.readings.shallow });
   }
 
-  module _ (long : Bool) (e2 : Engine) (same : long ≡ h.long) (after : e2 ≡ record e { call = Some (open_call name); input = record e.input { call = Gathering name (first_scan (text_of e.input.lists e.input.meanings name) (mode_of long)); lists = e2.input.lists } }) (macros : KeepsMacros e.input e2.input) where
+  module _ (long : Bool) (e2 : Engine) (same : long ≡ h.long) (after : e2 ≡ record e { call = Some (open_call name); input = record e.input { call = Gathering name (first_scan (text_of e.input.lists e.input.groups.now.meanings name) (mode_of long)); lists = e2.input.lists } }) (macros : KeepsMacros e.input e2.input) where
     now : e2 ≡ record calling { input = record calling.input { lists = e2.input.lists } }
     now =
         after
-        ∙ ap (λ (b : Bool). record e { call = Some (open_call name); input = record e.input { call = Gathering name (first_scan (text_of e.input.lists e.input.meanings name) (mode_of b)); lists = e2.input.lists } }) same
+        ∙ ap (λ (b : Bool). record e { call = Some (open_call name); input = record e.input { call = Gathering name (first_scan (text_of e.input.lists e.input.groups.now.meanings name) (mode_of b)); lists = e2.input.lists } }) same
         ∙ ap (λ (x : List Token). record e { call = Some (open_call name); input = record e.input { call = Gathering name (first_scan x (mode_of h.long)); lists = e2.input.lists } }) text_is
 
     store : SameStore calling.input e2.input
     store = record {
       sizes = ap (λ (y : Engine). y.input.sizes) now;
-      hash = ap (λ (y : Engine). y.input.hash_size) now;
-      meanings = ap (λ (y : Engine). y.input.meanings) now;
+      groups = ap (λ (y : Engine). y.input.groups) now;
+      closing = ap (λ (y : Engine). y.input.closing) now;
+      ending = ap (λ (y : Engine). y.input.ending) now;
       puts = λ n g. subst (λ (y : Engine). is_put n y.input.pending.puts ≡ true) now g;
       lists = record { tokens = macros.tokens };
     }
@@ -269,8 +271,8 @@ module _ (sizes : Sizes) (e : Engine) (book : Book) (t : Token) (name : Name) (i
         ∙ ap (λ (l : List (List Token)). record (state_of e book) { work = fresh K ∷ book.work; gathered = l ++ e.input.builds }) (gathers_lists h.long ts scan [] (first_gathers h.long ts))
         ∙ ap (λ (y : Engine). state_of y (with_work (fresh K ∷ book.work) book)) (sym now)
 
-    pub begun_went : (w : World) → call_kind e.input.lists (name_meaning e.input.meanings name) ≡ kind.Gathers →
-        ((number : ℕ) → refusal sizes (Begun (reading.Arguments name long number (text_of e.input.lists e.input.meanings name))) (state_of e book) ≡ None) →
+    pub begun_went : (w : World) → call_kind e.input.lists (name_meaning e.input.groups.now.meanings name) ≡ kind.Gathers →
+        ((number : ℕ) → refusal sizes (Begun (reading.Arguments name long number (text_of e.input.lists e.input.groups.now.meanings name))) (state_of e book) ≡ None) →
         Went sizes (state_of e book) e2 w w (called (page_of e book) t) 0
     begun_went w is fits =
         went_by sizes _ e2 w w _ _ 0 (begun_moves is) (record {
@@ -288,10 +290,10 @@ module _ (sizes : Sizes) (e : Engine) (book : Book) (t : Token) (name : Name) (i
   abbrev P : Put
   P = numbered book.number p
 
-  what : called_put e.input.lists (name_meaning e.input.meanings name) ≡ p
+  what : called_put e.input.lists (name_meaning e.input.groups.now.meanings name) ≡ p
   what = ap (called_put e.input.lists) h.meaning
 
-  put_moves : call_kind e.input.lists (name_meaning e.input.meanings name) ≡ kind.AtOnce → called (page_of e book) t ≡ body_put P p.items
+  put_moves : call_kind e.input.lists (name_meaning e.input.groups.now.meanings name) ≡ kind.AtOnce → called (page_of e book) t ≡ body_put P p.items
   put_moves is =
       called_list ∙ ap (λ (b : Bool). if b then Begun K ∷ [] else body_put P p.items) (gathers_none (has_parameters ts) (sym kind_is ∙ is))
 
@@ -319,8 +321,8 @@ module _ (sizes : Sizes) (e : Engine) (book : Book) (t : Token) (name : Name) (i
         (full_cuts sizes settled_state e2 book w (Called P) [] full (broken.Full full) refl (level_asked (Some full) x xs some refuses)
         (ap (λ (q : Pending). record (state_of e book) { pending = q }) (settle_of book.number e.input.pending) ∙ ap (λ (y : Engine). state_of y book) (sym after)))
 
-  pub called_cuts : (e2 : Engine) (w : World) (full : Full) → call_kind e.input.lists (name_meaning e.input.meanings name) ≡ kind.AtOnce →
-      e2 ≡ record e { input = record e.input { pending = settle e.input.pending; lists = e2.input.lists } } → call_refusal (called_put e.input.lists (name_meaning e.input.meanings name)) e.input ≡ Some full →
+  pub called_cuts : (e2 : Engine) (w : World) (full : Full) → call_kind e.input.lists (name_meaning e.input.groups.now.meanings name) ≡ kind.AtOnce →
+      e2 ≡ record e { input = record e.input { pending = settle e.input.pending; lists = e2.input.lists } } → call_refusal (called_put e.input.lists (name_meaning e.input.groups.now.meanings name)) e.input ≡ Some full →
       Cuts sizes (state_of e book) e2 book w w (called (page_of e book) t) (broken.Full full)
   called_cuts e2 w full is after refuses =
       cuts_by sizes _ e2 book w w _ _ (broken.Full full) (put_moves is) (body_cuts e2 w full after (ap (λ (x : Put). call_refusal x e.input) (sym what) ∙ refuses))
@@ -340,8 +342,8 @@ module _ (sizes : Sizes) (e : Engine) (book : Book) (t : Token) (name : Name) (i
 
   putting_sound : IsSound sizes putting book.number book.macros
   putting_sound = record {
-    sized = record { few_reports = st.sound.sized.few_reports; small = st.sound.sized.small; own = st.sound.sized.own; readings = st.sound.sized.readings; input = st.sound.sized.input; names = st.sound.sized.names; hash = st.sound.sized.hash; located = st.sound.sized.located };
-    tied = tied_put book.number book.macros e.input.meanings (settled e.input.pending.puts) e.input.lists (tied_settled book.number book.macros e.input.meanings e.input.pending.puts e.input.lists st.sound.tied) h.id p refl (ap (λ (b : Bool). b || is_put h.id (settled e.input.pending.puts)) meant);
+    sized = record { few_reports = st.sound.sized.few_reports; small = st.sound.sized.small; own = st.sound.sized.own; readings = st.sound.sized.readings; input = st.sound.sized.input; names = st.sound.sized.names; located = st.sound.sized.located };
+    tied = tied_put book.number book.macros (lists_held e.input.groups) (settled e.input.pending.puts) e.input.lists (tied_settled book.number book.macros (lists_held e.input.groups) e.input.pending.puts e.input.lists st.sound.tied) h.id p refl (ap (λ (b : Bool). b || is_put h.id (settled e.input.pending.puts)) meant);
     bodies = st.sound.bodies;
   }
 
@@ -353,8 +355,9 @@ module _ (sizes : Sizes) (e : Engine) (book : Book) (t : Token) (name : Name) (i
     lists_store : SameStore e1.input e2.input
     lists_store = record {
       sizes = ap (λ (y : Engine). y.input.sizes) now;
-      hash = ap (λ (y : Engine). y.input.hash_size) now;
-      meanings = ap (λ (y : Engine). y.input.meanings) now;
+      groups = ap (λ (y : Engine). y.input.groups) now;
+      closing = ap (λ (y : Engine). y.input.closing) now;
+      ending = ap (λ (y : Engine). y.input.ending) now;
       puts = λ n g. subst (λ (y : Engine). is_put n y.input.pending.puts ≡ true) now g;
       lists = macros;
     }
@@ -401,9 +404,9 @@ module _ (sizes : Sizes) (e : Engine) (book : Book) (t : Token) (name : Name) (i
         count = refl;
       }
 
-  pub called_went : (e2 : Engine) (w : World) → call_kind e.input.lists (name_meaning e.input.meanings name) ≡ kind.AtOnce →
-      e2 ≡ record e { input = record e.input { pending = after_call (called_put e.input.lists (name_meaning e.input.meanings name)) e.input.pending; lists = e2.input.lists } } → KeepsMacros e.input e2.input →
-      call_refusal (called_put e.input.lists (name_meaning e.input.meanings name)) e.input ≡ None → Went sizes (state_of e book) e2 w w (called (page_of e book) t) 0
+  pub called_went : (e2 : Engine) (w : World) → call_kind e.input.lists (name_meaning e.input.groups.now.meanings name) ≡ kind.AtOnce →
+      e2 ≡ record e { input = record e.input { pending = after_call (called_put e.input.lists (name_meaning e.input.groups.now.meanings name)) e.input.pending; lists = e2.input.lists } } → KeepsMacros e.input e2.input →
+      call_refusal (called_put e.input.lists (name_meaning e.input.groups.now.meanings name)) e.input ≡ None → Went sizes (state_of e book) e2 w w (called (page_of e book) t) 0
   called_went e2 w is after macros fits =
       went_by sizes _ e2 w w _ _ 0 (put_moves is)
       (body_went e2 (after ∙ ap (λ (x : Put). record e { input = record e.input { pending = after_call x e.input.pending; lists = e2.input.lists } }) what) macros w (ap (λ (x : Put). call_refusal x e.input) (sym what) ∙ fits))

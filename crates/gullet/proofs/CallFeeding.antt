@@ -50,7 +50,7 @@ pub scanner : (e : Engine) (number : ℕ → ℕ) (name : Name) (r : Reading) (h
 scanner e number name r h = taking name h.long (list_at e.input.lists h.id) r.fed e.input.call h.at
 
 -- its list is the macro's
-pub text_is : (e : Engine) (number : ℕ → ℕ) (name : Name) (r : Reading) (h : CallStands e number (open_call name) r) → text_of e.input.lists e.input.meanings name ≡ list_at e.input.lists h.id
+pub text_is : (e : Engine) (number : ℕ → ℕ) (name : Name) (r : Reading) (h : CallStands e number (open_call name) r) → text_of e.input.lists e.input.groups.now.meanings name ≡ list_at e.input.lists h.id
 text_is e number name r h = ap (macro_text e.input.lists) h.meaning
 
 -- THE MOVES
@@ -91,9 +91,9 @@ module _ (e : Engine) (number : ℕ → ℕ) (name : Name) (r : Reading) (x : Se
       ∙ ap (λ (us : List (List Token)). drop (length (unwrap_or (scan_work t.scan) [])) (target_by (drop (length us) (arguments_in answer_to)) (work_in answer_to))) args
 
   -- as the input says it
-  pub growth_now : growth (text_of e.input.lists e.input.meanings) x.token e.input.call ≡ drop (length (unwrap_or (scan_work t.scan) [])) (target_by (drop (length t.scan.args) (arguments_in answer_to)) (work_in answer_to))
+  pub growth_now : growth (text_of e.input.lists e.input.groups.now.meanings) x.token e.input.call ≡ drop (length (unwrap_or (scan_work t.scan) [])) (target_by (drop (length t.scan.args) (arguments_in answer_to)) (work_in answer_to))
   growth_now =
-      ap (growth (text_of e.input.lists e.input.meanings) x.token) t.is
+      ap (growth (text_of e.input.lists e.input.groups.now.meanings) x.token) t.is
       ∙ ap (λ (text : List Token). scan_growth text x.token t.scan) (text_is e number name r h)
       ∙ growth_is
 
@@ -104,7 +104,7 @@ module _ (e : Engine) (number : ℕ → ℕ) (name : Name) (r : Reading) (x : Se
 
 module _ (sizes : Sizes) (e e2 : Engine) (book : Book) (r : Reading) (rs : List Reading) (name : Name) (x : Seen) (answer : CallTold) (is : e.call ≡ Some (open_call name)) (st : AllStand sizes e (with_work (r ∷ rs) book))
     (behind : e2 ≡ record e { call = Some (record { name = name; ask = ask_behind answer }); last = x; input = record e.input { call = e2.input.call; lists = e2.input.lists } }) (macros : KeepsMacros e.input e2.input)
-    (comes : Feeds (text_of e.input.lists e.input.meanings) x.token answer e.input.call e2.input.call) where
+    (comes : Feeds (text_of e.input.lists e.input.groups.now.meanings) x.token answer e.input.call e2.input.call) where
   abbrev W : Book
   W = with_work (r ∷ rs) book
 
@@ -125,7 +125,7 @@ module _ (sizes : Sizes) (e e2 : Engine) (book : Book) (r : Reading) (rs : List 
 
   came : Comes text x.token answer name k.scan e2.input.call
   came =
-      let at : Feeds (text_of e.input.lists e.input.meanings) x.token answer (calls.Gathering name k.scan) e2.input.call = subst (λ (c : Calling). Feeds (text_of e.input.lists e.input.meanings) x.token answer c e2.input.call) k.is comes in
+      let at : Feeds (text_of e.input.lists e.input.groups.now.meanings) x.token answer (calls.Gathering name k.scan) e2.input.call = subst (λ (c : Calling). Feeds (text_of e.input.lists e.input.groups.now.meanings) x.token answer c e2.input.call) k.is comes in
       subst (λ (ts : List Token). Comes ts x.token answer name k.scan e2.input.call) (text_is e book.number name r h) at
 
   store : SameStore e.input e2.input
@@ -183,7 +183,7 @@ module _ (sizes : Sizes) (e e2 : Engine) (book : Book) (r : Reading) (rs : List 
   words_behind : other_words (state_of e W) + lists_words (lists_by a ++ e.input.builds) ≡ stored_words e2.input
   words_behind = sym (words_at (state_of e W) (fed ∷ rs) x (lists_by a ++ e.input.builds)) ∙ ap words finish ∙ words_are sizes e2 W' sound
 
-  pub fed_went : (w : World) → stored_words e.input + length (growth (text_of e.input.lists e.input.meanings) x.token e.input.call) ≤ e.input.sizes.main_memory_size → stored_words e2.input ≤ e2.input.sizes.main_memory_size →
+  pub fed_went : (w : World) → stored_words e.input + length (growth (text_of e.input.lists e.input.groups.now.meanings) x.token e.input.call) ≤ e.input.sizes.main_memory_size → stored_words e2.input ≤ e2.input.sizes.main_memory_size →
       Went sizes (state_of e W) e2 w w (feeding r x) 0
   fed_went w fits within =
       let own : e.input.sizes.main_memory_size ≡ sizes.main_memory_size = ap (λ (s : Sizes). s.main_memory_size) st.sound.sized.input in

@@ -287,7 +287,7 @@ module _ (sizes : Sizes) (e e2 : Engine) (book : Book) (r : Reading) (rs : List 
       by_cut (Between b) = between_cut next fed own b
     by_new (calls.Gathered n args) now c = absurd c
 
-    pub fed_cut : CutShort (text_of e.input.lists e.input.meanings) x.token e.input.call e2.input.call → CutsIn sizes (state_of e W) e2 w w (feeding r x) (broken.Full full)
+    pub fed_cut : CutShort (text_of e.input.lists e.input.groups.now.meanings) x.token e.input.call e2.input.call → CutsIn sizes (state_of e W) e2 w w (feeding r x) (broken.Full full)
     fed_cut short =
-        let at : CutShort (text_of e.input.lists e.input.meanings) x.token (calls.Gathering name k.scan) e2.input.call = subst (λ (c : Calling). CutShort (text_of e.input.lists e.input.meanings) x.token c e2.input.call) k.is short in
+        let at : CutShort (text_of e.input.lists e.input.groups.now.meanings) x.token (calls.Gathering name k.scan) e2.input.call = subst (λ (c : Calling). CutShort (text_of e.input.lists e.input.groups.now.meanings) x.token c e2.input.call) k.is short in
         by_new e2.input.call refl (subst (λ (ts : List Token). CutTo ts x.token name k.scan e2.input.call) (text_is e book.number name r h) at)

@@ -14,7 +14,8 @@ use Rattle.plain_tokens.specs.Puts.{list_of_tokens}
 use Rattle.rows.specs.Readings.{Tok}
 use Rattle.plain_readings.specs.Readings.{Reading}
 use Rattle.plain_machine.specs.States.{State, Move, Grows, Feeds, Completed, Opened}
-use Rattle.plain_tokens.specs.Tables.{list_words, lists_words, macro_words, put_words, made_words, memory, refused}
+use Rattle.plain_tokens.specs.Tables.{list_words, lists_words, put_words, made_words, memory, refused}
+use Rattle.equivalents.specs.Holding.{lists_held, shared_words}
 use Rattle.plain_machine.specs.Demands.{words}
 use Rattle.plain_machine.specs.Plan.{argument_fed, grown_to}
 use Rattle.plain_machine.specs.Does.{Did}
@@ -44,7 +45,7 @@ state_at s work last lists = record s { work = work; last = last; gathered = lis
 
 -- the words of its other lists
 abbrev pub other_words : State → ℕ
-other_words s = macro_words 0 s.meanings s.pending.puts s.macros + (put_words s.pending.puts + made_words s.making)
+other_words s = shared_words 0 (lists_held s.groups) s.pending.puts s.macros + (put_words s.pending.puts + made_words s.making)
 
 pub words_at : (s : State) (work : List Reading) (last : Seen) (lists : List (List Token)) → words (state_at s work last lists) ≡ other_words s + lists_words lists
 words_at s work last lists = omega arith

@@ -7,13 +7,14 @@ use Rattle.tex_defs.specs.declared.Name.{Name}
 use Rattle.tex_defs.specs.declared.Sizes.{Sizes}
 use Rattle.tex_defs.specs.declared.Token.{Token}
 use Rattle.tex_defs.specs.Places.{World}
-use Rattle.plain_tokens.specs.Meanings.{name_meaning}
+use Rattle.plain_tokens.specs.Meanings.{is_listed, name_meaning}
+use Rattle.equivalents.specs.Holding.{lists_held}
 use Rattle.plain_tokens.specs.Pending.{Pending, put_front, settle, with_puts}
 use Rattle.plain_tokens.specs.Puts.{Item, Put, call_put, put_top, settled}
 use Rattle.plain_readings.specs.Readings as reading
 use Rattle.plain_readings.specs.Readings.{Reading, lists}
 use Rattle.plain_machine.specs.States.{State, Settled, CalledWith, made}
-use Rattle.plain_tokens.specs.Tables.{Demand, level, parameters, refused, is_meant, is_put}
+use Rattle.plain_tokens.specs.Tables.{Demand, level, parameters, refused, is_put}
 use Rattle.plain_machine.specs.Demands.{refusal}
 use Rattle.plain_machine.specs.Numbers.{pending_of, put_of as numbered}
 use Rattle.plain_machine.specs.Plan.{arguments_put, called_with}
@@ -45,14 +46,14 @@ use Rattle.gullet.proofs.Ending.{none_found}
 -- WHAT IS PUT
 
 -- the macro of the call
-pub put_is : (e : Engine) (number : ℕ → ℕ) (c : Call) (r : Reading) (h : CallStands e number c r) → IsGathered c.name e.input.call → put_of e.input.lists e.input.meanings e.input.call ≡ call_put h.id (list_at e.input.lists h.id) (args_of e.input.call)
+pub put_is : (e : Engine) (number : ℕ → ℕ) (c : Call) (r : Reading) (h : CallStands e number c r) → IsGathered c.name e.input.call → put_of e.input.lists e.input.groups.now.meanings e.input.call ≡ call_put h.id (list_at e.input.lists h.id) (args_of e.input.call)
 put_is e number c r h at = by_calling e.input.call at where
-  by_calling : (k : Calling) → IsGathered c.name k → put_of e.input.lists e.input.meanings k ≡ call_put h.id (list_at e.input.lists h.id) (args_of k)
+  by_calling : (k : Calling) → IsGathered c.name k → put_of e.input.lists e.input.groups.now.meanings k ≡ call_put h.id (list_at e.input.lists h.id) (args_of k)
   by_calling calls.NotCalling where_it = absurd where_it
   by_calling (calls.Gathering n scan) where_it = absurd where_it
   by_calling (calls.Stopped n scan) where_it = absurd where_it
   by_calling (calls.Gathered n args) where_it =
-      ap (λ (x : Name). macro_put e.input.lists (name_meaning e.input.meanings x) args) where_it ∙ ap (λ (m : Meaning (Option ℕ)). macro_put e.input.lists m args) h.meaning
+      ap (λ (x : Name). macro_put e.input.lists (name_meaning e.input.groups.now.meanings x) args) where_it ∙ ap (λ (m : Meaning (Option ℕ)). macro_put e.input.lists m args) h.meaning
 
 pub moves_are : (number : ℕ → ℕ) (name : Name) (long : Bool) (id : ℕ) (ts : List Token) (args : List (List Token)) (k : reading.Kind) → k ≡ reading.Arguments name long (number id) ts →
     called_with k args ≡ arguments_put (numbered number (call_put id ts args)) (call_put id ts args).items
@@ -65,7 +66,7 @@ pending_same p q is = ap (λ (xs : List Item). with_puts (called_top p xs q.puts
 pending_put : (p : Put) (q : Pending) (x : Item) (xs : List Item) → p.items ≡ x ∷ xs → after_call p q ≡ put_front p (settle q)
 pending_put p q x xs is = ap (λ (ys : List Item). with_puts (called_top p ys q.puts) q) is ∙ sym (ap (λ (ys : List Item). with_puts (put_top p ys (settled q.puts)) q) is)
 
-module _ (sizes : Sizes) (e : Engine) (book : Book) (r : Reading) (rs : List Reading) (c : Call) (is : e.call ≡ Some c) (st : AllStand sizes e (with_work (r ∷ rs) book)) (id : ℕ) (ts : List Token) (args : List (List Token)) (meant : is_meant id e.input.meanings ≡ true) where
+module _ (sizes : Sizes) (e : Engine) (book : Book) (r : Reading) (rs : List Reading) (c : Call) (is : e.call ≡ Some c) (st : AllStand sizes e (with_work (r ∷ rs) book)) (id : ℕ) (ts : List Token) (args : List (List Token)) (meant : is_listed (lists_held e.input.groups) id ≡ true) where
   abbrev p : Put
   p = call_put id ts args
 
@@ -110,8 +111,8 @@ module _ (sizes : Sizes) (e : Engine) (book : Book) (r : Reading) (rs : List Rea
 
     middle_sound : IsSound sizes (record e { input = middle }) book.number book.macros
     middle_sound = record {
-      sized = record { few_reports = st.sound.sized.few_reports; small = st.sound.sized.small; own = st.sound.sized.own; readings = st.sound.sized.readings; input = st.sound.sized.input; names = st.sound.sized.names; hash = st.sound.sized.hash; located = st.sound.sized.located };
-      tied = tied_put book.number book.macros e.input.meanings (settled e.input.pending.puts) e.input.lists (tied_settled book.number book.macros e.input.meanings e.input.pending.puts e.input.lists st.sound.tied) id p refl (ap (λ (b : Bool). b || is_put id (settled e.input.pending.puts)) meant);
+      sized = record { few_reports = st.sound.sized.few_reports; small = st.sound.sized.small; own = st.sound.sized.own; readings = st.sound.sized.readings; input = st.sound.sized.input; names = st.sound.sized.names; located = st.sound.sized.located };
+      tied = tied_put book.number book.macros (lists_held e.input.groups) (settled e.input.pending.puts) e.input.lists (tied_settled book.number book.macros (lists_held e.input.groups) e.input.pending.puts e.input.lists st.sound.tied) id p refl (ap (λ (b : Bool). b || is_put id (settled e.input.pending.puts)) meant);
       bodies = st.sound.bodies;
     }
 
@@ -122,8 +123,9 @@ module _ (sizes : Sizes) (e : Engine) (book : Book) (r : Reading) (rs : List Rea
       store : SameStore middle e2.input
       store = record {
         sizes = ap (λ (y : Engine). y.input.sizes) now;
-        hash = ap (λ (y : Engine). y.input.hash_size) now;
-        meanings = ap (λ (y : Engine). y.input.meanings) now;
+        groups = ap (λ (y : Engine). y.input.groups) now;
+        closing = ap (λ (y : Engine). y.input.closing) now;
+        ending = ap (λ (y : Engine). y.input.ending) now;
         puts = λ n h. subst (λ (y : Engine). is_put n y.input.pending.puts ≡ true) now h;
         lists = record { tokens = macros.tokens };
       }
@@ -168,14 +170,14 @@ module _ (sizes : Sizes) (e e2 : Engine) (book : Book) (r : Reading) (rs : List 
   moves : called_with r.kind (args_of e.input.call) ≡ arguments_put (numbered book.number (call_put h.id (list_at e.input.lists h.id) (args_of e.input.call))) (call_put h.id (list_at e.input.lists h.id) (args_of e.input.call)).items
   moves = moves_are book.number name h.long h.id (list_at e.input.lists h.id) (args_of e.input.call) r.kind h.kind
 
-  what : put_of e.input.lists e.input.meanings e.input.call ≡ call_put h.id (list_at e.input.lists h.id) (args_of e.input.call)
+  what : put_of e.input.lists e.input.groups.now.meanings e.input.call ≡ call_put h.id (list_at e.input.lists h.id) (args_of e.input.call)
   what = put_is e book.number (record { name = name; ask = asked.Gathered }) r h h.at
 
-  meant : is_meant h.id e.input.meanings ≡ true
-  meant = meant_by e.input.meanings name h.long h.outer h.id h.meaning
+  meant : is_listed (lists_held e.input.groups) h.id ≡ true
+  meant = meant_by e.input.groups name h.long h.outer h.id h.meaning
 
-  pub put_rule : (IsComplete e.input.call → e2 ≡ record e { call = None; input = record e.input { pending = after_call (put_of e.input.lists e.input.meanings e.input.call) e.input.pending; call = NotCalling; lists = e2.input.lists } }) → KeepsMacros e.input e2.input →
-      (IsComplete e.input.call → put_refusal (put_of e.input.lists e.input.meanings e.input.call) e.input ≡ None) → (f : FilesTold) (told : SinkTold) →
+  pub put_rule : (IsComplete e.input.call → e2 ≡ record e { call = None; input = record e.input { pending = after_call (put_of e.input.lists e.input.groups.now.meanings e.input.call) e.input.pending; call = NotCalling; lists = e2.input.lists } }) → KeepsMacros e.input e2.input →
+      (IsComplete e.input.call → put_refusal (put_of e.input.lists e.input.groups.now.meanings e.input.call) e.input ≡ None) → (f : FilesTold) (told : SinkTold) →
       Went sizes (state_of e (with_work (r ∷ rs) book)) e2 (world_of f told e) (world_of f told e2) (called_with r.kind (args_of e.input.call)) 0
   put_rule after macros fits f told =
       let all : IsComplete e.input.call = complete name e.input.call h.at in
@@ -183,7 +185,7 @@ module _ (sizes : Sizes) (e e2 : Engine) (book : Book) (r : Reading) (rs : List 
       (after all ∙ ap (λ (p : Put). record e { call = None; input = record e.input { pending = after_call p e.input.pending; call = NotCalling; lists = e2.input.lists } }) what) macros f told
       (ap (λ (p : Put). put_refusal p e.input) (sym what) ∙ fits all))
 
-  pub put_cut : e2 ≡ record e { input = record e.input { pending = settle e.input.pending; lists = e2.input.lists } } → (full : Full) → put_refusal (put_of e.input.lists e.input.meanings e.input.call) e.input ≡ Some full → (w : World) →
+  pub put_cut : e2 ≡ record e { input = record e.input { pending = settle e.input.pending; lists = e2.input.lists } } → (full : Full) → put_refusal (put_of e.input.lists e.input.groups.now.meanings e.input.call) e.input ≡ Some full → (w : World) →
       Cuts sizes (state_of e (with_work (r ∷ rs) book)) e2 (with_work (r ∷ rs) book) w w (called_with r.kind (args_of e.input.call)) (broken.Full full)
   put_cut after full refuses w =
       cuts_by sizes _ e2 (with_work (r ∷ rs) book) w w _ _ (broken.Full full) moves (put_cuts sizes e book r rs _ is st h.id (list_at e.input.lists h.id) (args_of e.input.call) meant e2 w full after (ap (λ (p : Put). put_refusal p e.input) (sym what) ∙ refuses))

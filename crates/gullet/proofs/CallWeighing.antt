@@ -76,8 +76,8 @@ brace_lighter e e1 e2 i name same before left after is =
 
 -- WHETHER IT HAS A STEP
 
-pub call_steps : (e : Engine) (call : Call) → e.call ≡ Some call → stepping e ≡ (all_want (Some call) (asked e) && gives_step (pulled e.categories e.input.pending))
-call_steps e call is = ap (λ (x : Option Call). all_want x (asked e) && gives_step (pulled e.categories e.input.pending)) is
+pub call_steps : (e : Engine) (call : Call) → e.call ≡ Some call → stepping e ≡ (all_want (Some call) (asked e) && gives_step (pulled e.input.groups.now.categories e.input.pending))
+call_steps e call is = ap (λ (x : Option Call). all_want x (asked e) && gives_step (pulled e.input.groups.now.categories e.input.pending)) is
 
 pub steps_as_one : (r : Result Ruled Broken) (b b' : Bool) → b ≡ b' → IfOk r (λ ruled. StepsIf ruled b) → IfOk r (λ ruled. StepsIf ruled b')
 steps_as_one r b b' is h = subst (λ (x : Bool). IfOk r (λ ruled. StepsIf ruled x)) is h

@@ -47,12 +47,12 @@ feeds_none (r ∷ rs) x = kind_none r.kind r.fed x
 -- A RULE'S STEPS
 
 handed_steps : (page : Page) (enters : Bool) (o : Option Scanning) (onward : Seen → List Move) (p : Pulled) → ((x : Seen) → pulls (onward x) ≡ 0) → steps (handed page enters o onward p) ≡ one_if (gives_step p)
-handed_steps page enters o onward (TokenFrom t q) h = omega (arith, free_of (met page o onward (met_token page.meanings t)) (met_none page o onward (met_token page.meanings t) h))
+handed_steps page enters o onward (TokenFrom t q) h = omega (arith, free_of (met page o onward (met_token page.now.meanings t)) (met_none page o onward (met_token page.now.meanings t) h))
 handed_steps page enters o onward (LexemeFrom x q) h =
     let t : Token = token_of enters page.names x in
     let names : List Move = entered (new_name enters page.names x) in
-    let moves : List Move = met page o onward (met_token page.meanings t) in
-    let none : pulls (names ++ moves) ≡ 0 = omega (arith, pulls_join names moves, entered_none (new_name enters page.names x), met_none page o onward (met_token page.meanings t) h) in
+    let moves : List Move = met page o onward (met_token page.now.meanings t) in
+    let none : pulls (names ++ moves) ≡ 0 = omega (arith, pulls_join names moves, entered_none (new_name enters page.names x), met_none page o onward (met_token page.now.meanings t) h) in
     omega (arith, free_of (names ++ moves) none)
 handed_steps page enters o onward (LineTaken l q) h = refl
 handed_steps page enters o onward (InvalidMet q) h = omega (arith, free_of (reported page reports.InvalidCharacter []) (reported_none page reports.InvalidCharacter [] refl))
@@ -72,8 +72,8 @@ pub gives_same : (number : ℕ → ℕ) (categories : List ℕ) (p : Pending) �
 gives_same number categories p = ap gives_step (pulled_same number categories p) ∙ step_same number (pulled categories p)
 
 pub handed_now : (e : Engine) (book : Book) (page : Page) (enters : Bool) (o : Option Scanning) (onward : Seen → List Move) → ((x : Seen) → pulls (onward x) ≡ 0) →
-    steps (handed page enters o onward (pulled e.categories (pending_of book.number e.input.pending))) ≡ one_if (gives_step (pulled e.categories e.input.pending))
-handed_now e book page enters o onward h = handed_steps page enters o onward (pulled e.categories (pending_of book.number e.input.pending)) h ∙ ap one_if (gives_same book.number e.categories e.input.pending)
+    steps (handed page enters o onward (pulled e.input.groups.now.categories (pending_of book.number e.input.pending))) ≡ one_if (gives_step (pulled e.input.groups.now.categories e.input.pending))
+handed_now e book page enters o onward h = handed_steps page enters o onward (pulled e.input.groups.now.categories (pending_of book.number e.input.pending)) h ∙ ap one_if (gives_same book.number e.input.groups.now.categories e.input.pending)
 
 -- what the frames ask for is what the machine's innermost reading does
 pub asked_same : (fs : List Frame) (held : Lists) (work : List Reading) → frames.FramesStand fs held work → asked_in work ≡ asks_in fs held
@@ -88,7 +88,7 @@ asked_stands e work h = asked_same e.readings.frames e.input.builds work h.frame
 answer_free : (s : State) (work : List Reading) (r : Reading) (a : Ask) → WantsNone a → steps (answered s work r a) ≡ 0
 answer_free s work r a none = free_of (answered s work r a) (answered_none s work r a none)
 
-answer_steps : (e : Engine) (book : Book) (work : List Reading) (r : Reading) (a : Ask) → steps (answered (state_of e book) work r a) ≡ one_if (asks_more a && gives_step (pulled e.categories e.input.pending))
+answer_steps : (e : Engine) (book : Book) (work : List Reading) (r : Reading) (a : Ask) → steps (answered (state_of e book) work r a) ≡ one_if (asks_more a && gives_step (pulled e.input.groups.now.categories e.input.pending))
 answer_steps e book work r (More w) =
     let page : Page = page_of (state_of e book) in
     handed_now e book page (enters_names w) (scanning work (gathered e.input)) (λ x. wanted page w (feeding r x) x) (λ x. wanted_none page w (feeding r x) x (kind_none r.kind r.fed x))
@@ -104,12 +104,12 @@ answer_steps e book work r (RunsAway report) = answer_free (state_of e book) wor
 answer_steps e book work r (Tells report back) = answer_free (state_of e book) work r (Tells report back) tt
 answer_steps e book work r (Inserts t report back) = answer_free (state_of e book) work r (Inserts t report back) tt
 
-steps_of : (e : Engine) (book : Book) (work : List Reading) → steps (plan_of e (with_work work book)) ≡ one_if (frames_want (asked_in work) && gives_step (pulled e.categories e.input.pending))
+steps_of : (e : Engine) (book : Book) (work : List Reading) → steps (plan_of e (with_work work book)) ≡ one_if (frames_want (asked_in work) && gives_step (pulled e.input.groups.now.categories e.input.pending))
 steps_of e book [] = let page : Page = page_of (state_of e (with_work [] book)) in handed_now e book page false None (stomach page) (stomach_none page)
 steps_of e book (r ∷ rs) = answer_steps e (with_work (r ∷ rs) book) (r ∷ rs) r (ask r.kind r.fed)
 
-pub frame_steps : (e : Engine) (book : Book) → FramesStand e book.work → steps (plan_of e book) ≡ one_if (frames_want (asked e) && gives_step (pulled e.categories e.input.pending))
-frame_steps e book h = steps_of e book book.work ∙ ap (λ (o : Option Ask). one_if (frames_want o && gives_step (pulled e.categories e.input.pending))) (asked_stands e book.work h)
+pub frame_steps : (e : Engine) (book : Book) → FramesStand e book.work → steps (plan_of e book) ≡ one_if (frames_want (asked e) && gives_step (pulled e.input.groups.now.categories e.input.pending))
+frame_steps e book h = steps_of e book book.work ∙ ap (λ (o : Option Ask). one_if (frames_want o && gives_step (pulled e.input.groups.now.categories e.input.pending))) (asked_stands e book.work h)
 
 -- A STEP COMES
 
@@ -126,13 +126,13 @@ module _ (sizes : Sizes) where
   needs_of s page enters o onward (FileOver q) e f g = no g
   needs_of s page enters o onward NothingLeft e f g = no g
 
-  pub pulled_needs : (e : Engine) (book : Book) (page : Page) (enters : Bool) (o : Option Scanning) (onward : Seen → List Move) → plan_of e book ≡ handed page enters o onward (pulled e.categories (pending_of book.number e.input.pending)) →
-      gives_step (pulled e.categories e.input.pending) ≡ true → StepComes sizes (state_of e book)
+  pub pulled_needs : (e : Engine) (book : Book) (page : Page) (enters : Bool) (o : Option Scanning) (onward : Seen → List Move) → plan_of e book ≡ handed page enters o onward (pulled e.input.groups.now.categories (pending_of book.number e.input.pending)) →
+      gives_step (pulled e.input.groups.now.categories e.input.pending) ≡ true → StepComes sizes (state_of e book)
   pulled_needs e book page enters o onward h g =
-      needs_of (state_of e book) page enters o onward (pulled e.categories (pending_of book.number e.input.pending)) refl h (gives_same book.number e.categories e.input.pending ∙ g)
+      needs_of (state_of e book) page enters o onward (pulled e.input.groups.now.categories (pending_of book.number e.input.pending)) refl h (gives_same book.number e.input.groups.now.categories e.input.pending ∙ g)
 
   answer_needs : (e : Engine) (book : Book) (work : List Reading) (r : Reading) (a : Ask) → plan_of e book ≡ answered (state_of e book) work r a →
-      (asks_more a && gives_step (pulled e.categories e.input.pending)) ≡ true → StepComes sizes (state_of e book)
+      (asks_more a && gives_step (pulled e.input.groups.now.categories e.input.pending)) ≡ true → StepComes sizes (state_of e book)
   answer_needs e book work r (More w) h g =
       let page : Page = page_of (state_of e book) in
       pulled_needs e book page (enters_names w) (scanning work (gathered e.input)) (λ x. wanted page w (feeding r x) x) h g
@@ -148,10 +148,10 @@ module _ (sizes : Sizes) where
   answer_needs e book work r (Tells report back) h g = no g
   answer_needs e book work r (Inserts t report back) h g = no g
 
-  needs_in : (e : Engine) (book : Book) (work : List Reading) → (frames_want (asked_in work) && gives_step (pulled e.categories e.input.pending)) ≡ true → StepComes sizes (state_of e (with_work work book))
+  needs_in : (e : Engine) (book : Book) (work : List Reading) → (frames_want (asked_in work) && gives_step (pulled e.input.groups.now.categories e.input.pending)) ≡ true → StepComes sizes (state_of e (with_work work book))
   needs_in e book [] g = let page : Page = page_of (state_of e (with_work [] book)) in pulled_needs e (with_work [] book) page false None (stomach page) refl g
   needs_in e book (r ∷ rs) g = answer_needs e (with_work (r ∷ rs) book) (r ∷ rs) r (ask r.kind r.fed) refl g
 
-  pub frame_needs : (e : Engine) (book : Book) → FramesStand e book.work → (frames_want (asked e) && gives_step (pulled e.categories e.input.pending)) ≡ true → StepComes sizes (state_of e book)
+  pub frame_needs : (e : Engine) (book : Book) → FramesStand e book.work → (frames_want (asked e) && gives_step (pulled e.input.groups.now.categories e.input.pending)) ≡ true → StepComes sizes (state_of e book)
   frame_needs e book h g =
-      needs_in e book book.work (ap (λ (o : Option Ask). frames_want o && gives_step (pulled e.categories e.input.pending)) (asked_stands e book.work h) ∙ g)
+      needs_in e book book.work (ap (λ (o : Option Ask). frames_want o && gives_step (pulled e.input.groups.now.categories e.input.pending)) (asked_stands e book.work h) ∙ g)

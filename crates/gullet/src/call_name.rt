@@ -64,10 +64,10 @@ pub(crate) fn call_name(engine: &mut Engine, token: Token) -> Result<(), Full>
 /// There is no room for them; nothing has changed.
 fn begin_call(engine: &mut Engine, name: Name, long: bool) -> Result<(), Full>
     requires none { engine.old.input.call ≡ NotCalling }
-    requires gathers { call_kind engine.old.input.lists (name_meaning engine.old.input.meanings name) ≡ Gathers }
-    ensures ok { OnOk result (engine.new ≡ record engine.old { call = Some (open_call name); input = record engine.old.input { call = calls.Gathering name (first_scan (text_of engine.old.input.lists engine.old.input.meanings name) (mode_of long)); lists = engine.new.input.lists } }) }
-    ensures fits { OnOk result ((sizes : Sizes) (book : Book) (number : ℕ) → Counts sizes engine.old book → refusal sizes (Begun (Arguments name long number (text_of engine.old.input.lists engine.old.input.meanings name))) (state_of engine.old book) ≡ None) }
-    ensures refused { IfErr result (λ full. (sizes : Sizes) (book : Book) (number : ℕ) → Counts sizes engine.old book → refusal sizes (Begun (Arguments name long number (text_of engine.old.input.lists engine.old.input.meanings name))) (state_of engine.old book) ≡ Some full) }
+    requires gathers { call_kind engine.old.input.lists (name_meaning engine.old.input.groups.now.meanings name) ≡ Gathers }
+    ensures ok { OnOk result (engine.new ≡ record engine.old { call = Some (open_call name); input = record engine.old.input { call = calls.Gathering name (first_scan (text_of engine.old.input.lists engine.old.input.groups.now.meanings name) (mode_of long)); lists = engine.new.input.lists } }) }
+    ensures fits { OnOk result ((sizes : Sizes) (book : Book) (number : ℕ) → Counts sizes engine.old book → refusal sizes (Begun (Arguments name long number (text_of engine.old.input.lists engine.old.input.groups.now.meanings name))) (state_of engine.old book) ≡ None) }
+    ensures refused { IfErr result (λ full. (sizes : Sizes) (book : Book) (number : ℕ) → Counts sizes engine.old book → refusal sizes (Begun (Arguments name long number (text_of engine.old.input.lists engine.old.input.groups.now.meanings name))) (state_of engine.old book) ≡ Some full) }
     ensures err { OnErr result (engine.new ≡ engine.old) }
     ensures macros { KeepsMacros engine.old.input engine.new.input }
 {

@@ -245,7 +245,7 @@ pub fn step<S: Sink>(
     requires uncalled { engine.old.call ≡ None }
     requires running { engine.old.stopped ≡ false }
     ensures light { IfOk result (λ stepped. IsSkipped stepped → weight engine.new < weight engine.old) }
-    ensures step { IfOk result (λ stepped. StepStepsIf stepped (gives_step (pulled engine.old.categories engine.old.input.pending))) }
+    ensures step { IfOk result (λ stepped. StepStepsIf stepped (gives_step (pulled engine.old.input.groups.now.categories engine.old.input.pending))) }
     ensures rule { IfOk result (λ stepped. (sizes : Sizes) (f : FilesTold) (book : Book) → Takes sizes want engine.old book →
         Steps sizes want (state_of engine.old book) engine.new book (world_of f (S.told out.old) engine.old) (world_of f (S.told out.new) engine.new) (next_moves want engine.old book) stepped) }
     ensures err { IfErr result (λ b. (sizes : Sizes) (f : FilesTold) (book : Book) → Takes sizes want engine.old book →

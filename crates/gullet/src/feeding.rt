@@ -46,9 +46,9 @@ pub(crate) fn feed_call(engine: &mut Engine, call: Call, seen: Seen) -> Result<(
 /// The call of the input takes a token.
 fn take_token(engine: &mut Engine, seen: Seen) -> Result<CallTold, Full>
     requires { IsTaking engine.old.input.call }
-    ensures ok { IfOk result (λ told. Feeds (text_of engine.old.input.lists engine.old.input.meanings) seen.token told engine.old.input.call engine.new.input.call) }
-    ensures fits { OnOk result (words engine.old.input + length (growth (text_of engine.old.input.lists engine.old.input.meanings) seen.token engine.old.input.call) ≤ engine.old.input.sizes.main_memory_size) }
-    ensures err { OnErr result (CutShort (text_of engine.old.input.lists engine.old.input.meanings) seen.token engine.old.input.call engine.new.input.call) }
+    ensures ok { IfOk result (λ told. Feeds (text_of engine.old.input.lists engine.old.input.groups.now.meanings) seen.token told engine.old.input.call engine.new.input.call) }
+    ensures fits { OnOk result (words engine.old.input + length (growth (text_of engine.old.input.lists engine.old.input.groups.now.meanings) seen.token engine.old.input.call) ≤ engine.old.input.sizes.main_memory_size) }
+    ensures err { OnErr result (CutShort (text_of engine.old.input.lists engine.old.input.groups.now.meanings) seen.token engine.old.input.call engine.new.input.call) }
     ensures full { IfErr result (λ full. refused engine.new.input.sizes (memory 1 (words engine.new.input) ∷ []) ≡ Some full) }
     ensures within { words engine.new.input ≤ engine.new.input.sizes.main_memory_size }
     ensures last { OnOk result (engine.new.last ≡ seen) }

@@ -89,7 +89,7 @@ fn take<S: Sink>(engine: &mut Engine, out: &mut S, call: Call) -> Result<Ruled, 
     requires call { engine.old.call ≡ Some call }
     requires asks { call.ask ≡ AsksMore }
     ensures light { IfOk result (λ ruled. IsFree ruled → weight engine.new < weight engine.old) }
-    ensures step { IfOk result (λ ruled. StepsIf ruled (gives_step (pulled engine.old.categories engine.old.input.pending))) }
+    ensures step { IfOk result (λ ruled. StepsIf ruled (gives_step (pulled engine.old.input.groups.now.categories engine.old.input.pending))) }
     ensures rule { IfOk result (λ ruled. (sizes : Sizes) (f : FilesTold) (book : Book) → Takes sizes (Some Raw) engine.old book →
         DoesRule sizes (state_of engine.old book) engine.new book (world_of f (S.told out.old) engine.old) (world_of f (S.told out.new) engine.new) (next_moves (Some Raw) engine.old book) ruled) }
     ensures err { IfErr result (λ b. (sizes : Sizes) (f : FilesTold) (book : Book) → Takes sizes (Some Raw) engine.old book →
@@ -110,10 +110,10 @@ fn take<S: Sink>(engine: &mut Engine, out: &mut S, call: Call) -> Result<Ruled, 
 
 /// The arguments pass to the body of the macro, which is put; one without items isn't. The call has ended.
 fn put_call(engine: &mut Engine) -> Result<(), Full>
-    ensures ok { OnOk result (IsComplete engine.old.input.call → engine.new ≡ record engine.old { call = None; input = record engine.old.input { pending = after_call (put_of engine.old.input.lists engine.old.input.meanings engine.old.input.call) engine.old.input.pending; call = NotCalling; lists = engine.new.input.lists } }) }
-    ensures fits { OnOk result (IsComplete engine.old.input.call → put_refusal (put_of engine.old.input.lists engine.old.input.meanings engine.old.input.call) engine.old.input ≡ None) }
+    ensures ok { OnOk result (IsComplete engine.old.input.call → engine.new ≡ record engine.old { call = None; input = record engine.old.input { pending = after_call (put_of engine.old.input.lists engine.old.input.groups.now.meanings engine.old.input.call) engine.old.input.pending; call = NotCalling; lists = engine.new.input.lists } }) }
+    ensures fits { OnOk result (IsComplete engine.old.input.call → put_refusal (put_of engine.old.input.lists engine.old.input.groups.now.meanings engine.old.input.call) engine.old.input ≡ None) }
     ensures light { OnOk result ((call : Call) → engine.old.call ≡ Some call → call_asks_more call.ask ≡ false → weight engine.new < weight engine.old) }
-    ensures refused { IfErr result (λ full. put_refusal (put_of engine.old.input.lists engine.old.input.meanings engine.old.input.call) engine.old.input ≡ Some full) }
+    ensures refused { IfErr result (λ full. put_refusal (put_of engine.old.input.lists engine.old.input.groups.now.meanings engine.old.input.call) engine.old.input ≡ Some full) }
     ensures err { OnErr result (engine.new ≡ record engine.old { input = record engine.old.input { pending = settle engine.old.input.pending; lists = engine.new.input.lists } }) }
     ensures macros { KeepsMacros engine.old.input engine.new.input }
     ensures idle { engine.new.input.making ≡ engine.old.input.making }

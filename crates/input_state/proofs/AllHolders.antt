@@ -4,15 +4,13 @@ use Rattle.std.specs.Prelude.{Bool, true, false, option_to_list, IfSome}
 use Rattle.std.specs.List.{AllZip, filter_map, flat_map, cons_option}
 use Rattle.std.proofs.lemmas.List.{map-append}
 use Rattle.std.proofs.lemmas.List.Elements.{All-head, All-tail}
-use Rattle.std.proofs.lemmas.List.Sums.{sum_by-cons}
 use Rattle.tex_defs.specs.declared.Token.{Token}
-use Rattle.tex_defs.specs.declared.Meaning.{Meaning}
 use Rattle.plain_tokens.specs.Puts as plain
 use Rattle.plain_tokens.specs.Puts.{list_of_tokens}
 use Rattle.token_lists.specs.declared.Build.{Build}
 use Rattle.token_lists.specs.Ids.{build_id}
 use Rattle.token_lists.specs.Table.{Entry, tokens_at}
-use Rattle.meanings.specs.Holding.{list_of, list_holds, meaning_holds, cells_hold}
+use Rattle.equivalents.specs.Holding.{lists_held}
 use Rattle.input_stack.specs.Puts.{Put, Item, Text, First, Later, Gap, numbers, count_of, used_of}
 use Rattle.input_stack.specs.Pending.{times}
 use Rattle.input_stack.specs.Calls.{Argument, substituted}
@@ -27,7 +25,7 @@ use Rattle.input_stack.specs.declared.stack.InputStack.{InputStack}
 use Rattle.input_stack.proofs.CallPulled.{body_closed}
 use Rattle.input_stack.proofs.Kept.{holds_itself}
 use Rattle.input_state.specs.Callings.{call_lists}
-use Rattle.input_state.specs.Counted.{own_list, macro_of, Numbers, AreListsOf, HasNoMoreLevels, macro_numbers, own_numbers, reading_numbers, HaveHolders}
+use Rattle.input_state.specs.Counted.{own_list, macro_of, Numbers, AreListsOf, HasNoMoreLevels, shared_numbers, own_numbers, reading_numbers, HaveHolders}
 use Rattle.input_state.specs.HeldViews.{Named, call_holds, calling_of, whole_of, argument_text, front, fronts, text, made_text, IsOf, IsFront, AreFronts, cells_of, own_of, owns, body_of, bodies, opens, all_builds, built, IsShared, IsCall}
 use Rattle.input_state.proofs.Counting.{times_cons, times_append}
 use Rattle.input_state.proofs.Fronts.{used_items}
@@ -157,17 +155,8 @@ bodies_are table (p ∷ ps) =
     body_first p.body p.list (tokens_at table p.list) (filter_map (λ (q : plain.Put). macro_of q.list) (fronts table ps))
     ∙ ap (λ (ns : List ℕ). body_of p.body p.list ++ ns) (bodies_are table ps)
 
-meant_first : (o : Option ℕ) (ns : List ℕ) (h : ℕ) → times h (cons_option o ns) ≡ list_holds o h + times h ns
-meant_first None ns h = omega arith
-meant_first (Some n) ns h = times_cons h n ns
-
-meant_are : (cells : List (Meaning (Option ℕ))) (h : ℕ) → times h (filter_map list_of cells) ≡ cells_hold cells h
-meant_are [] h = refl
-meant_are (m ∷ ms) h = omega (arith, meant_first (list_of m) (filter_map list_of ms) h, meant_are ms h, sum_by-cons (λ (c : Meaning (Option ℕ)). meaning_holds c h) m ms)
-
-macros_are : (table : List (Option Entry)) (cells : List (Meaning (Option ℕ))) (ps : List Put) (h : ℕ) → times h (macro_numbers cells (fronts table ps)) ≡ cells_hold cells h + times h (bodies ps)
-macros_are table cells ps h =
-    omega (arith, times_append h (filter_map list_of cells) (filter_map (λ (p : plain.Put). macro_of p.list) (fronts table ps)), meant_are cells h, ap (times h) (bodies_are table ps))
+shared_are : (table : List (Option Entry)) (held : List ℕ) (ps : List Put) (h : ℕ) → times h (shared_numbers held (fronts table ps)) ≡ times h held + times h (bodies ps)
+shared_are table held ps h = omega (arith, times_append h held (filter_map (λ (p : plain.Put). macro_of p.list) (fronts table ps)), ap (times h) (bodies_are table ps))
 
 -- THE REST
 
@@ -179,8 +168,8 @@ made_shown : (table : List (Option Entry)) (making : Option Build) → map (toke
 made_shown table None = refl
 made_shown table (Some b) = refl
 
-pub holders_are : (table : List (Option Entry)) (stack : InputStack) (making : Option Build) (gathered : List Build) (m : Named) → IsShared table stack (all_builds making gathered) m → IsCall table m.map m.call →
-    HaveHolders table m.map.cells (fronts table (pending table stack).puts) (option_to_list (made_text table making) ++ (call_lists (calling_of table m.call) ++ map (text table) (reverse gathered)))
+pub holders_are : (table : List (Option Entry)) (stack : InputStack) (making : Option Build) (gathered : List Build) (m : Named) → IsShared table stack (all_builds making gathered) m → IsCall table m.table m.call →
+    HaveHolders table (lists_held m.table.groups) (fronts table (pending table stack).puts) (option_to_list (made_text table making) ++ (call_lists (calling_of table m.call) ++ map (text table) (reverse gathered)))
 holders_are table stack making gathered m shared is =
     let ps = (pending table stack).puts in
     let ls = innermost stack in
@@ -190,10 +179,10 @@ holders_are table stack making gathered m shared is =
     let ns = map numbers_of ps in
     let rest_are : (h : ℕ) → times h others ≡ built (all_builds making gathered) h + call_holds m.call h =
     λ h.
-    omega (arith, times_append h made (call_numbers m.call ++ built_up), times_append h (call_numbers m.call) built_up, call_times table m.map m.call h is, build_times (option_to_list making) h, build_times (reverse gathered) h, built_append (option_to_list making) (reverse gathered) h) in
+    omega (arith, times_append h made (call_numbers m.call ++ built_up), times_append h (call_numbers m.call) built_up, call_times table m.table m.call h is, build_times (option_to_list making) h, build_times (reverse gathered) h, built_append (option_to_list making) (reverse gathered) h) in
     let own_are : (h : ℕ) → times h (own_numbers ns others) ≡ times h (owns ps) + (built (all_builds making gathered) h + call_holds m.call h) =
     λ h. omega (arith, times_append h (flat_map (λ (n : Numbers). n.own ++ n.arguments) ns) others, ap (times h) (owns_are ps), rest_are h) in
-    let macros = macro_numbers m.map.cells (fronts table ps) in
+    let macros = shared_numbers (lists_held m.table.groups) (fronts table ps) in
     record {
       fronts = ns;
       rest = others;
@@ -202,11 +191,11 @@ holders_are table stack making gathered m shared is =
       elsewhere =
           map-append (tokens_at table) made (call_numbers m.call ++ built_up)
           ∙ ap₂ (λ (us vs : List (List Token)). us ++ vs) (made_shown table making)
-          (map-append (tokens_at table) (call_numbers m.call) built_up ∙ ap₂ (λ (us vs : List (List Token)). us ++ vs) (call_shown table m.map m.call is) (builds_shown table (reverse gathered)));
+          (map-append (tokens_at table) (call_numbers m.call) built_up ∙ ap₂ (λ (us vs : List (List Token)). us ++ vs) (call_shown table m.table m.call is) (builds_shown table (reverse gathered)));
       counts = λ h.
-          omega (arith, shared.counted h, held_parts table stack shared.simple.single h, times_append h macros (own_numbers ns others ++ reading_numbers ns), times_append h (own_numbers ns others) (reading_numbers ns), macros_are table m.map.cells ps h, own_are h, ap (times h) (opens_are ps));
+          omega (arith, shared.counted h, held_parts table stack shared.simple.single h, times_append h macros (own_numbers ns others ++ reading_numbers ns), times_append h (own_numbers ns others) (reading_numbers ns), shared_are table (lists_held m.table.groups) ps h, own_are h, ap (times h) (opens_are ps));
       sole = λ h some.
           let all = own_are h in
           let none = shared.apart.apart h (omega (arith, some, all)) in
-          omega (arith, times_append h macros (own_numbers ns others), macros_are table m.map.cells ps h, all, some, none, shared.apart.sole h);
+          omega (arith, times_append h macros (own_numbers ns others), shared_are table (lists_held m.table.groups) ps h, all, some, none, shared.apart.sole h);
     }

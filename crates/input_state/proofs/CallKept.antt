@@ -17,9 +17,8 @@ use Rattle.token_lists.specs.Table.{Entry, tokens_at, holders_at, IsHeld}
 use Rattle.token_lists.specs.Accounts.{holds, none, Moves, Keeps}
 use Rattle.macro_args.specs.declared.args.Args.{Args}
 use Rattle.macro_args.specs.Args.{args_hold}
-use Rattle.meanings.specs.Holding as meant
-use Rattle.meanings.specs.Holding.{list_of}
-use Rattle.meanings.proofs.Listed.{within_locations}
+use Rattle.eqtb_save.specs.Holding as eqtb
+use Rattle.equivalents.specs.Holding.{list_of, lists_held}
 use Rattle.input_stack.specs.Puts.{Put, Item, Text, used_arguments, standing_arguments, when_some}
 use Rattle.input_stack.specs.Calls.{Argument, call_put, substituted, body_of}
 use Rattle.input_stack.specs.CallViews.{argument_in, arguments_in, Shares}
@@ -39,7 +38,7 @@ use Rattle.input_state.specs.Macros.{KeepsLists}
 use Rattle.input_state.specs.Calls.{called_put, called, when_called}
 use Rattle.input_state.specs.HeldViews.{Named, calling_of, text, made_text, texts, front, fronts, plain_item, line_of, lists_of, all_builds, bodies, cells_of, IsSimple, IsApart, IsDefined, IsShared, IsSound}
 use Rattle.input_state.proofs.Counting.{times_cons, holds_other}
-use Rattle.input_state.proofs.Ranges.{hash_greatest, input_greatest, parameters_greatest}
+use Rattle.input_state.proofs.Ranges.{hash_greatest, save_greatest, input_greatest, parameters_greatest}
 use Rattle.input_state.proofs.Shares.{apart_fewer, fewer_put}
 use Rattle.input_state.proofs.Levels.{flat_put, flat_is, simple_put, levels_used}
 use Rattle.input_state.proofs.CallStays.{call_stays}
@@ -51,11 +50,11 @@ use Rattle.input_state.proofs.Files.{settled_levels}
 use Rattle.input_state.proofs.Calling.{stack_texts, flat_call, plain_call, put_of_name, fronts_called}
 
 -- the holders of a list can be counted
-pub countable_now : (table : List (Option Entry)) (s : InputStack) (making : Option Build) (gathered : List Build) (m : Named) (sizes : Sizes) (capacity : ℕ) → IsSound table s making gathered m sizes capacity → (k : ℕ) → holders_at table k + 1 < 2 ^ 32
-countable_now table s making gathered m sizes capacity sound k =
+pub countable_now : (table : List (Option Entry)) (s : InputStack) (making : Option Build) (gathered : List Build) (m : Named) (sizes : Sizes) (capacity : ℕ) → IsSound table s making gathered m sizes capacity → ((h : ℕ) → eqtb.held m.table h ≤ eqtb.most_holders m.table) → (k : ℕ) → holders_at table k + 1 < 2 ^ 32
+countable_now table s making gathered m sizes capacity sound bounded k =
     let h = sound.shared in
     let z = sound.sized in
-    omega (arith, h.counted k, held_few s k h.stands.fits, h.apart.sole k, within_locations m.map k, z.few, z.names, z.levels, z.parameters, hash_greatest sizes z.ranges, input_greatest sizes z.ranges, parameters_greatest sizes z.ranges)
+    omega (arith, h.counted k, held_few s k h.stands.fits, h.apart.sole k, bounded k, ap (λ (w : Sizes). w.hash_size + w.save_size) z.equivalents, z.levels, z.parameters, hash_greatest sizes z.ranges, save_greatest sizes z.ranges, input_greatest sizes z.ranges, parameters_greatest sizes z.ranges)
 
 -- THE PARAMETERS THAT ARE USED FIT
 
@@ -85,7 +84,7 @@ module _ (old mid : List (Option Entry)) (s : InputStack) (bs : List Build) (m :
 
 -- WHAT IS REFUSED
 
-module _ (old mid : List (Option Entry)) (s : InputStack) (making : Option Build) (gathered : List Build) (m : Named) (sizes : Sizes) (capacity : ℕ) (sound : IsSound old s making gathered m sizes capacity) (body : ListRef) (shares : Shares old mid (holds (id_of body))) (args : Args) (few : args.count ≡ 0) (v : HeldLists) (is : lists_of old (pending old s) making gathered m sizes ≡ v) (name : Name) (list_is : list_of (name_meaning m.map.cells name) ≡ Some (id_of body)) where
+module _ (old mid : List (Option Entry)) (s : InputStack) (making : Option Build) (gathered : List Build) (m : Named) (sizes : Sizes) (capacity : ℕ) (sound : IsSound old s making gathered m sizes capacity) (body : ListRef) (shares : Shares old mid (holds (id_of body))) (args : Args) (few : args.count ≡ 0) (v : HeldLists) (is : lists_of old (pending old s) making gathered m sizes ≡ v) (name : Name) (list_is : list_of (name_meaning m.table.groups.now.meanings name) ≡ Some (id_of body)) where
   us : List Token
   us = body_of (tokens_at old (id_of body))
 
@@ -93,12 +92,12 @@ module _ (old mid : List (Option Entry)) (s : InputStack) (making : Option Build
   no_arguments = ap (λ (n : ℕ). map (argument_in mid) (take n args.lists)) few
 
   -- the body that is put
-  pub put_is : front old (flat_put true (id_of body) (body_of (tokens_at old (id_of body)))) ≡ called_put v.lists (name_meaning v.meanings name)
+  pub put_is : front old (flat_put true (id_of body) (body_of (tokens_at old (id_of body)))) ≡ called_put v.lists (name_meaning v.groups.now.meanings name)
   put_is =
       plain_call old (id_of body) (tokens_at old (id_of body))
       ∙ ap (λ (ts : List Token). plain.call_put (id_of body) ts []) (sym (text_at old (id_of body)))
-      ∙ sym (put_of_name (texts old) (name_meaning m.map.cells name) (id_of body) list_is)
-      ∙ ap (λ (w : HeldLists). called_put w.lists (name_meaning w.meanings name)) is
+      ∙ sym (put_of_name (texts old) (name_meaning m.table.groups.now.meanings name) (id_of body) list_is)
+      ∙ ap (λ (w : HeldLists). called_put w.lists (name_meaning w.groups.now.meanings name)) is
 
   items_are : substituted (arguments_in mid args) (body_of (tokens_at mid (id_of body))) ≡ map Text us
   unfolding us
@@ -118,18 +117,18 @@ module _ (old mid : List (Option Entry)) (s : InputStack) (making : Option Build
   by_items [] = refl
   by_items (t ∷ ts) = ap (λ (o : Option Full). either o (room s.size (used_levels (pending old s)))) parameters_fit ∙ level_refused
 
-  pub refusal_is : call_refused s mid body args ≡ call_refusal (called_put v.lists (name_meaning v.meanings name)) v
+  pub refusal_is : call_refused s mid body args ≡ call_refusal (called_put v.lists (name_meaning v.groups.now.meanings name)) v
   unfolding us was
   refusal_is =
       ap (λ (n : ℕ). stack.call_refusal s.size s.parameter_size n (substituted (arguments_in mid args) (body_of (tokens_at mid (id_of body)))) (pending mid s)) few
       ∙ ap₂ (λ (xs : List Item) (p : Pending). stack.call_refusal s.size s.parameter_size 0 xs p) items_are (shared_stands old mid s (all_builds making gathered) m (id_of body) sound.shared shares).1
       ∙ by_items (body_of (tokens_at old (id_of body)))
       ∙ ap (λ (p : plain.Put). call_refusal p (lists_of old (pending old s) making gathered m sizes)) put_is
-      ∙ ap (call_refusal (called_put v.lists (name_meaning v.meanings name))) is
+      ∙ ap (call_refusal (called_put v.lists (name_meaning v.groups.now.meanings name))) is
 
 -- THE BODY IS PUT
 
-module _ (old mid new : List (Option Entry)) (s t : InputStack) (making : Option Build) (gathered : List Build) (m : Named) (sizes : Sizes) (capacity : ℕ) (sound : IsSound old s making gathered m sizes capacity) (body : ListRef) (is_meant : 0 < meant.held m.map (id_of body)) (shares : Shares old mid (holds (id_of body))) (args : Args) (few : args.count ≡ 0) (free : (h : ℕ) → args_hold args h ≡ 0) (stands : Stands new t) (after : pending new t ≡ put (call_put (id_of body) (tokens_at mid (id_of body)) (arguments_in mid args)) (pending mid s)) (moves : Moves mid new (λ h. pushed_holds body args h + held s h) (held t)) (keeps : Keeps mid new (λ h. pushed_holds body args h + held s h)) (lasts : Lasts mid new) (size : t.size ≡ s.size) (parameters : t.parameter_size ≡ s.parameter_size) where
+module _ (old mid new : List (Option Entry)) (s t : InputStack) (making : Option Build) (gathered : List Build) (m : Named) (sizes : Sizes) (capacity : ℕ) (sound : IsSound old s making gathered m sizes capacity) (body : ListRef) (is_meant : 0 < eqtb.held m.table (id_of body)) (shares : Shares old mid (holds (id_of body))) (args : Args) (few : args.count ≡ 0) (free : (h : ℕ) → args_hold args h ≡ 0) (stands : Stands new t) (after : pending new t ≡ put (call_put (id_of body) (tokens_at mid (id_of body)) (arguments_in mid args)) (pending mid s)) (moves : Moves mid new (λ h. pushed_holds body args h + held s h) (held t)) (keeps : Keeps mid new (λ h. pushed_holds body args h + held s h)) (lasts : Lasts mid new) (size : t.size ≡ s.size) (parameters : t.parameter_size ≡ s.parameter_size) where
   k : ℕ
   k = id_of body
 
@@ -161,7 +160,7 @@ module _ (old mid new : List (Option Entry)) (s t : InputStack) (making : Option
     apart = λ h more. elim (cases_eq h (id_of body)) [
       | inl is ↦
           let none = sound.shared.apart.apart h more in
-          absurd (omega (arith, none, ap (meant.held m.map) is, is_meant))
+          absurd (omega (arith, none, ap (eqtb.held m.table) is, is_meant))
       | inr other ↦ omega (arith, sound.shared.apart.apart h more, times_cons h (id_of body) (bodies (pending old s).puts), holds_other (id_of body) h (λ e. other (sym e)))
     ];
   }
@@ -173,7 +172,7 @@ module _ (old mid new : List (Option Entry)) (s t : InputStack) (making : Option
   unfolding x
   simple_now = subst IsSimple (sym now) (simple_put (flat_put true (id_of body) (body_of (tokens_at old (id_of body)))) (pending old s) (flat_is true (id_of body) (body_of (tokens_at old (id_of body)))) sound.shared.simple)
 
-  macros_now : (h : ℕ) → 0 < meant.held m.map h → IsDefined (tokens_at new h)
+  macros_now : (h : ℕ) → 0 < eqtb.held m.table h → IsDefined (tokens_at new h)
   unfolding k
   macros_now h more =
       let there : 0 < holders_at new h = omega (arith, more, moves h, pushed h, shares.holders h, sound.shared.counted h) in
@@ -198,24 +197,24 @@ module _ (old mid new : List (Option Entry)) (s t : InputStack) (making : Option
     sized = sized_now old new s t m sizes capacity capacity sound.sized (lasts.size ∙ shares.size) size parameters refl;
     call =
         let now = moved_now.reheld.shared.counted in
-        let there : (h : ℕ) → 0 < meant.held m.map h → pushed_holds body args h + held s h < holders_at mid h = λ h some. omega (arith, some, pushed h, shares.holders h, sound.shared.counted h) in
-        call_stays old new m.map m.call moved_now.called (record { tokens = λ h some. keeps.tokens h (there h some) ∙ shares.tokens h; places = λ h some. keeps.places h (there h some) ∙ shares.places h })
+        let there : (h : ℕ) → 0 < eqtb.held m.table h → pushed_holds body args h + held s h < holders_at mid h = λ h some. omega (arith, some, pushed h, shares.holders h, sound.shared.counted h) in
+        call_stays old new m.table m.table m.call refl moved_now.called (record { tokens = λ h some. keeps.tokens h (there h some) ∙ shares.tokens h; places = λ h some. keeps.places h (there h some) ∙ shares.places h })
         (record { covers = λ h. omega (arith, now h); outside = λ h some. omega (arith, now h, some) }) sound.call;
   }
 
   module _ (v : HeldLists) (is : lists_of old (pending old s) making gathered m sizes ≡ v) where
-    pub call_macros : KeepsLists m.map.cells (fronts new (pending new t).puts) v.lists (texts new)
+    pub call_macros : KeepsLists (lists_held m.table.groups) (fronts new (pending new t).puts) v.lists (texts new)
     call_macros = macros_moved old new t m sizes bs v.lists moved_now (ap (λ (w : HeldLists). w.lists) is)
 
-    pub call_view : (name : Name) → list_of (name_meaning m.map.cells name) ≡ Some (id_of body) → lists_of new (pending new t) making gathered m sizes ≡ record v { puts = called (called_put v.lists (name_meaning v.meanings name)) v.puts; lists = texts new }
+    pub call_view : (name : Name) → list_of (name_meaning m.table.groups.now.meanings name) ≡ Some (id_of body) → lists_of new (pending new t) making gathered m sizes ≡ record v { puts = called (called_put v.lists (name_meaning v.groups.now.meanings name)) v.puts; lists = texts new }
     unfolding bs x
     call_view name list_is =
         let ps = (pending old s).puts in
         let what = put_is old mid s making gathered m sizes capacity sound body shares args few v is name list_is in
         moved_view old new t m sizes making gathered moved_now
         ∙ ap (λ (p : Pending). record (lists_of old p making gathered m sizes) { lists = texts new }) now
-        ∙ ap (λ (qs : List plain.Put). held_lists qs (made_text old making) (calling_of old m.call) (map (text old) (reverse gathered)) (line_of (pending old s).sources) m.map sizes (texts new)) (fronts_called old (id_of body) (body_of (tokens_at old (id_of body))) ps ∙ ap (λ (p : plain.Put). called p (fronts old ps)) what)
-        ∙ ap (λ (w : HeldLists). record w { puts = called (called_put v.lists (name_meaning v.meanings name)) w.puts; lists = texts new }) is
+        ∙ ap (λ (qs : List plain.Put). held_lists qs (made_text old making) (calling_of old m.call) (map (text old) (reverse gathered)) (line_of (pending old s).sources) m.table sizes (texts new)) (fronts_called old (id_of body) (body_of (tokens_at old (id_of body))) ps ∙ ap (λ (p : plain.Put). called p (fronts old ps)) what)
+        ∙ ap (λ (w : HeldLists). record w { puts = called (called_put v.lists (name_meaning v.groups.now.meanings name)) w.puts; lists = texts new }) is
 
 -- THE LIST IS GIVEN BACK
 
@@ -258,5 +257,5 @@ module _ (old mid new last : List (Option Entry)) (s t : InputStack) (making : O
   pub refused_view : (v : HeldLists) → lists_of old (pending old s) making gathered m sizes ≡ v → lists_of last (pending last t) making gathered m sizes ≡ record v { puts = plain.settled v.puts; lists = texts last }
   refused_view v is = settled_view old last s t making gathered m sizes capacity sound last_stands.0 moves_now keeps_now lasts_now size parameters after_now v is
 
-  pub refused_macros : (v : HeldLists) → lists_of old (pending old s) making gathered m sizes ≡ v → KeepsLists m.map.cells (fronts last (pending last t).puts) v.lists (texts last)
+  pub refused_macros : (v : HeldLists) → lists_of old (pending old s) making gathered m sizes ≡ v → KeepsLists (lists_held m.table.groups) (fronts last (pending last t).puts) v.lists (texts last)
   refused_macros v is = settled_macros old last s t making gathered m sizes capacity sound last_stands.0 moves_now keeps_now lasts_now size parameters after_now v is

@@ -16,7 +16,7 @@ use Rattle.macro_call.specs.declared.present.Present.{Present}
 use Rattle.macro_call.specs.Holds.{present_holds}
 use Rattle.macro_call.specs.Listed.{AreListed}
 use Rattle.macro_call.specs.Scans.{work_by}
-use Rattle.meanings.specs.Map.{Map}
+use Rattle.eqtb_save.specs.Table.{Table}
 use Rattle.input_stack.specs.Pending.{times}
 use Rattle.input_stack.proofs.CallKept.{filled_holds}
 use Rattle.input_state.specs.Callings.{call_lists, last_first}
@@ -120,14 +120,14 @@ call_numbers (call.Gathers name scan) = work_numbers scan.present ++ args_number
 call_numbers (call.Stopped name scan) = work_numbers scan.present ++ args_numbers scan.args
 call_numbers (call.Gathered name args) = args_numbers args
 
-pub call_times : (table : List (Option Entry)) (m : Map) (k : code.Gathering) (h : ℕ) → IsCall table m k → times h (call_numbers k) ≡ call_holds k h
+pub call_times : (table : List (Option Entry)) (m : Table) (k : code.Gathering) (h : ℕ) → IsCall table m k → times h (call_numbers k) ≡ call_holds k h
 unfolding call_numbers
 call_times table m call.None h is = refl
 call_times table m (call.Gathers name scan) h is = omega (arith, times_append h (work_numbers scan.present) (args_numbers scan.args), work_times scan.present h, args_times scan.args h is.sound.filled)
 call_times table m (call.Stopped name scan) h is = omega (arith, times_append h (work_numbers scan.present) (args_numbers scan.args), work_times scan.present h, args_times scan.args h is.filled)
 call_times table m (call.Gathered name args) h is = args_times args h is.filled
 
-pub call_shown : (table : List (Option Entry)) (m : Map) (k : code.Gathering) → IsCall table m k → map (tokens_at table) (call_numbers k) ≡ call_lists (calling_of table k)
+pub call_shown : (table : List (Option Entry)) (m : Table) (k : code.Gathering) → IsCall table m k → map (tokens_at table) (call_numbers k) ≡ call_lists (calling_of table k)
 unfolding call_numbers
 call_shown table m call.None is = refl
 call_shown table m (call.Gathers name scan) is = scan_shown table scan.present scan.args is.sound.listed

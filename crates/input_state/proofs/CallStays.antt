@@ -23,13 +23,16 @@ use Rattle.macro_call.specs.Modes.{par_mode}
 use Rattle.macro_call.specs.PlainScans.{Scan}
 use Rattle.macro_call.specs.Scans as scans
 use Rattle.macro_call.specs.Stages.{Stage, Stands, stage_of}
-use Rattle.meanings.specs.Map.{Map}
-use Rattle.meanings.specs.Holding as meant
-use Rattle.meanings.proofs.Listed.{list_held}
+use Rattle.tex_defs.specs.declared.Meaning.{Meaning}
+use Rattle.plain_tokens.specs.Meanings.{name_meaning}
+use Rattle.equivalents.specs.Holding.{list_of}
+use Rattle.eqtb_save.specs.Table.{Table}
+use Rattle.eqtb_save.specs.Holding as eqtb
 use Rattle.input_state.specs.declared.gathering.Gathering as code
 use Rattle.input_state.specs.declared.gathering.Gathering.TheVariants as call
 use Rattle.input_state.specs.Callings.{Gathering, Stopped, Gathered}
 use Rattle.input_state.specs.HeldViews.{call_holds, calling_of, IsCall}
+use Rattle.input_state.proofs.NamesHeld.{list_held}
 use Rattle.input_state.proofs.Sharing.{Stay, stay_less}
 
 -- ARGUMENTS
@@ -132,24 +135,31 @@ calling_stays old new (call.Gathers name scan) s = ap (Gathering name) (scan_sta
 calling_stays old new (call.Stopped name scan) s = ap (Stopped name) (scan_stays old new scan s)
 calling_stays old new (call.Gathered name args) s = ap (Gathered name) (args_stay old new args s)
 
--- each macro that is meant keeps its list
-pub record Meant (old new : List (Option Entry)) (m : Map) : Type 0 where
-  pub tokens : (h : ℕ) → 0 < meant.held m h → tokens_at new h ≡ tokens_at old h
-  pub places : (h : ℕ) → 0 < meant.held m h → places_at new h ≡ places_at old h
+-- each list that is held keeps its tokens
+pub record Meant (old new : List (Option Entry)) (m : Table) : Type 0 where
+  pub tokens : (h : ℕ) → 0 < eqtb.held m h → tokens_at new h ≡ tokens_at old h
+  pub places : (h : ℕ) → 0 < eqtb.held m h → places_at new h ≡ places_at old h
 
 -- what is counted then
-pub record Counted (new : List (Option Entry)) (m : Map) (k : code.Gathering) : Type 0 where
+pub record Counted (new : List (Option Entry)) (m : Table) (k : code.Gathering) : Type 0 where
   pub covers : (h : ℕ) → call_holds k h ≤ holders_at new h
-  pub outside : (h : ℕ) → 0 < meant.held m h → call_holds k h < holders_at new h
+  pub outside : (h : ℕ) → 0 < eqtb.held m h → call_holds k h < holders_at new h
 
-pub call_stays : (old new : List (Option Entry)) (m : Map) (k : code.Gathering) → Stay old new (call_holds k) → Meant old new m → Counted new m k → IsCall old m k → IsCall new m k
-call_stays old new m call.None s meant_stay counted is = tt
-call_stays old new m (call.Gathers name scan) s meant_stay counted is =
-    let some : 0 < meant.held m is.id = list_held m name is.id is.list in
+-- where the names mean what they meant
+pub call_stays : (old new : List (Option Entry)) (m n : Table) (k : code.Gathering) → n.groups.now.meanings ≡ m.groups.now.meanings → Stay old new (call_holds k) → Meant old new n → Counted new n k → IsCall old m k → IsCall new n k
+call_stays old new m n call.None same s meant_stay counted is = tt
+call_stays old new m n (call.Gathers name scan) same s meant_stay counted is =
+    let list : list_of (name_meaning n.groups.now.meanings name) ≡ Some is.id = ap (λ (ms : List (Meaning (Option ℕ))). list_of (name_meaning ms name)) same ∙ is.list in
+    let some : 0 < eqtb.held n is.id = list_held n.groups name is.id list in
     record {
       id = is.id;
-      list = is.list;
+      list = list;
       sound = sound_stays old new scan s is.id (meant_stay.tokens is.id some) (meant_stay.places is.id some) (counted.outside is.id some) counted.covers is.sound;
     }
-call_stays old new m (call.Stopped name scan) s meant_stay counted is = owned_stays old new scan s counted.covers is
-call_stays old new m (call.Gathered name args) s meant_stay counted is = record { id = is.id; list = is.list; filled = is.filled; listed = listed_stay old new args s is.listed }
+call_stays old new m n (call.Stopped name scan) same s meant_stay counted is = owned_stays old new scan s counted.covers is
+call_stays old new m n (call.Gathered name args) same s meant_stay counted is = record {
+  id = is.id;
+  list = ap (λ (ms : List (Meaning (Option ℕ))). list_of (name_meaning ms name)) same ∙ is.list;
+  filled = is.filled;
+  listed = listed_stay old new args s is.listed;
+}

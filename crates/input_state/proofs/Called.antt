@@ -22,8 +22,9 @@ use Rattle.macro_call.specs.Stages.{stage_of}
 use Rattle.macro_call.specs.PlainScans.{Scan, first_scan}
 use Rattle.macro_call.specs.Scans.{IsSound as IsStanding, IsInPlace, scan_of, scan_holds}
 use Rattle.macro_call.proofs.Resumed.{has_lists}
-use Rattle.meanings.specs.Map.{Map}
-use Rattle.meanings.specs.Holding as meant
+use Rattle.eqtb_save.specs.Table.{Table}
+use Rattle.equivalents.specs.Groups.{Groups}
+use Rattle.equivalents.specs.Holding.{list_of}
 use Rattle.input_stack.specs.View.{pending}
 use Rattle.input_stack.specs.declared.stack.InputStack.{InputStack}
 use Rattle.input_state.specs.HeldLists.{HeldLists, words_held}
@@ -43,7 +44,7 @@ use Rattle.input_state.proofs.Refusing.{memory_room}
 
 -- THE MACRO'S LIST
 
-pub text_by : (lists : List (List Token)) (m : Meaning (Option ℕ)) (id : ℕ) → meant.list_of m ≡ Some id → macro_text lists m ≡ list_at lists id
+pub text_by : (lists : List (List Token)) (m : Meaning (Option ℕ)) (id : ℕ) → list_of m ≡ Some id → macro_text lists m ≡ list_at lists id
 text_by lists means.Undefined id is = absurd (none-some id is)
 text_by lists means.RelaxMarked id is = absurd (none-some id is)
 text_by lists (means.Char category code) id is = absurd (none-some id is)
@@ -54,11 +55,11 @@ text_by lists (means.Prim number) id is = absurd (none-some id is)
 text_by lists (means.Macro long outer None) id is = absurd (none-some id is)
 text_by lists (means.Macro long outer (Some i)) id is = ap (list_at lists) (same_Some i id is)
 
-pub named_text : (table : List (Option Entry)) (m : Map) (name : Name) (id : ℕ) (v : HeldLists) → meant.list_of (name_meaning m.cells name) ≡ Some id → texts table ≡ v.lists → m.cells ≡ v.meanings → tokens_at table id ≡ text_of v.lists v.meanings name
-named_text table m name id v is lists meanings =
+pub named_text : (table : List (Option Entry)) (m : Table) (name : Name) (id : ℕ) (v : HeldLists) → list_of (name_meaning m.groups.now.meanings name) ≡ Some id → texts table ≡ v.lists → m.groups ≡ v.groups → tokens_at table id ≡ text_of v.lists v.groups.now.meanings name
+named_text table m name id v is lists groups =
     sym (text_at table id)
-    ∙ sym (text_by (texts table) (name_meaning m.cells name) id is)
-    ∙ ap₂ (λ (ls : List (List Token)) (ms : List (Meaning (Option ℕ))). text_of ls ms name) lists meanings
+    ∙ sym (text_by (texts table) (name_meaning m.groups.now.meanings name) id is)
+    ∙ ap₂ (λ (ls : List (List Token)) (g : Groups). text_of ls g.now.meanings name) lists groups
 
 -- A CALL BEGINS
 
@@ -98,7 +99,7 @@ module _ (text : Name → List Token) (here : List Token) (t : Token) (name : Na
   growth_is = ap (growth text t) was ∙ ap (λ (ts : List Token). scan_growth ts t scan) (sym same)
 
 -- over the list of its name
-pub same_sound : (table : List (Option Entry)) (m : Map) (name : Name) (id : ℕ) (scan : ArgScan) → meant.list_of (name_meaning m.cells name) ≡ Some id → IsCall table m (call.Gathers name scan) → IsStanding table id scan
+pub same_sound : (table : List (Option Entry)) (m : Table) (name : Name) (id : ℕ) (scan : ArgScan) → list_of (name_meaning m.groups.now.meanings name) ≡ Some id → IsCall table m (call.Gathers name scan) → IsStanding table id scan
 same_sound table m name id scan list is = subst (λ (k : ℕ). IsStanding table k scan) (same_Some is.id id (sym is.list ∙ list)) is.sound
 
 -- ROOM
@@ -136,7 +137,7 @@ fed_full (Err f) table s making gathered m sizes capacity sound is = full_now ta
 
 -- THE SCANNER STANDS OTHERWISE
 
-pub stands_recalls : (table : List (Option Entry)) (m : Map) (name : Name) (scan next : ArgScan) → IsCall table m (call.Gathers name scan) → ((t : List (Option Entry)) (macro : ℕ) → IsStanding t macro scan → IsStanding t macro next) → scan_holds next ≡ scan_holds scan → Recalls table table m (call.Gathers name scan) (call.Gathers name next)
+pub stands_recalls : (table : List (Option Entry)) (m : Table) (name : Name) (scan next : ArgScan) → IsCall table m (call.Gathers name scan) → ((t : List (Option Entry)) (macro : ℕ) → IsStanding t macro scan → IsStanding t macro next) → scan_holds next ≡ scan_holds scan → Recalls table table m (call.Gathers name scan) (call.Gathers name next)
 stands_recalls table m name scan next is sound same =
     let here : (h : ℕ) → scan_holds next h ≡ scan_holds scan h = λ h. ap (λ (f : ℕ → ℕ). f h) same in
     record {

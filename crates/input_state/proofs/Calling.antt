@@ -9,7 +9,7 @@ use Rattle.tex_defs.specs.declared.Meaning.TheVariants as means
 use Rattle.plain_tokens.specs.Arguments.{has_parameters}
 use Rattle.plain_tokens.specs.Puts as plain
 use Rattle.token_lists.specs.Table.{Entry}
-use Rattle.meanings.specs.Holding.{list_of}
+use Rattle.equivalents.specs.Holding.{list_of}
 use Rattle.input_stack.specs.Puts.{Put, Item, Text, put_in_front}
 use Rattle.input_stack.specs.Calls.{call_put, substituted, body_of}
 use Rattle.input_state.specs.Macros.{list_at}

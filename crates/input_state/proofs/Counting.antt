@@ -4,15 +4,15 @@ use Rattle.std.specs.Prelude.{sum_by, slice_set, Bool, true, false, ◌||◌, if
 use Rattle.std.proofs.lemmas.Bool.{ne_eqb, cases_eq}
 use Rattle.std.proofs.lemmas.List.{get_or-set_same, get_or-set_other}
 use Rattle.std.proofs.lemmas.List.Sums.{sum_by-cons, sum_by-set, sum_by-append}
-use Rattle.tex_defs.specs.declared.Meaning.{Meaning}
 use Rattle.plain_tokens.specs.Puts.{Put}
-use Rattle.plain_tokens.specs.Tables.{list_words, macro_words}
+use Rattle.plain_tokens.specs.Tables.{list_words}
+use Rattle.equivalents.specs.Holding.{shared_words}
 use Rattle.token_lists.specs.Table.{Entry, entry_at, words, words_of, tokens_at, tokens_of, holders_at, holders_of}
 use Rattle.token_lists.specs.Accounts.{holds}
 use Rattle.token_lists.proofs.Counts.{held_below}
 use Rattle.input_stack.specs.Pending.{times}
 use Rattle.input_stack.proofs.Kept.{holds_itself}
-use Rattle.input_state.specs.Macros.{is_macro}
+use Rattle.input_state.specs.Macros.{is_shared}
 use Rattle.input_state.specs.HeldViews.{texts}
 
 -- 1 where there is one
@@ -77,33 +77,33 @@ entry_words true (Some x) e = refl
 entry_words false None e = refl
 entry_words false (Some x) e = absurd (omega (arith, e, some_one (x.others + 1) (omega arith)))
 
-module _ (ms : List (Meaning (Option ℕ))) (ps : List Put) where
+module _ (ms : List ℕ) (ps : List Put) where
   abbrev pub mark : ℕ → ℕ
-  mark k = cond (is_macro k ms ps) 1 0
+  mark k = cond (is_shared k ms ps) 1 0
 
-  unmarked : (k : ℕ) → mark k ≡ 0 → is_macro k ms ps ≡ false
-  unmarked k e = is_none (is_macro k ms ps) e
+  unmarked : (k : ℕ) → mark k ≡ 0 → is_shared k ms ps ≡ false
+  unmarked k e = is_none (is_shared k ms ps) e
 
-  macros_counted : (n : ℕ) (table : List (Option Entry)) → ((h : ℕ) → some (holders_at table h) ≡ mark (n + h)) → words table ≡ macro_words n ms ps (texts table)
+  macros_counted : (n : ℕ) (table : List (Option Entry)) → ((h : ℕ) → some (holders_at table h) ≡ mark (n + h)) → words table ≡ shared_words n ms ps (texts table)
   macros_counted n [] held = refl
   macros_counted n (o ∷ os) held =
       let first : n + 0 ≡ n = omega arith in
-      let here : words_of o ≡ (if is_macro n ms ps then list_words (tokens_of o) else 0) = entry_words (is_macro n ms ps) o (held 0 ∙ ap mark first) in
+      let here : words_of o ≡ (if is_shared n ms ps then list_words (tokens_of o) else 0) = entry_words (is_shared n ms ps) o (held 0 ∙ ap mark first) in
       let next : (h : ℕ) → n + suc h ≡ suc n + h = λ h. omega arith in
-      let rest : words os ≡ macro_words (suc n) ms ps (texts os) = macros_counted (suc n) os (λ h. held (suc h) ∙ ap mark (next h)) in
+      let rest : words os ≡ shared_words (suc n) ms ps (texts os) = macros_counted (suc n) os (λ h. held (suc h) ∙ ap mark (next h)) in
       omega (arith, sum_by-cons words_of o os, here, rest)
 
   -- a list goes that is no macro's
-  macros_stay : (n : ℕ) (table : List (Option Entry)) (i : ℕ) → is_macro (n + i) ms ps ≡ false → macro_words n ms ps (texts (slice_set table i None)) ≡ macro_words n ms ps (texts table)
+  macros_stay : (n : ℕ) (table : List (Option Entry)) (i : ℕ) → is_shared (n + i) ms ps ≡ false → shared_words n ms ps (texts (slice_set table i None)) ≡ shared_words n ms ps (texts table)
   macros_stay n [] i other = refl
   macros_stay n (o ∷ os) zero other =
       let first : n + 0 ≡ n = omega arith in
-      let here : is_macro n ms ps ≡ false = sym (ap (λ (k : ℕ). is_macro k ms ps) first) ∙ other in
-      let rest = macro_words (suc n) ms ps (texts os) in
+      let here : is_shared n ms ps ≡ false = sym (ap (λ (k : ℕ). is_shared k ms ps) first) ∙ other in
+      let rest = shared_words (suc n) ms ps (texts os) in
       ap (λ (b : Bool). (if b then list_words [] else 0) + rest) here ∙ sym (ap (λ (b : Bool). (if b then list_words (tokens_of o) else 0) + rest) here)
   macros_stay n (o ∷ os) (suc i) other =
       let next : suc n + i ≡ n + suc i = omega arith in
-      ap (λ (k : ℕ). (if is_macro n ms ps then list_words (tokens_of o) else 0) + k) (macros_stay (suc n) os i (ap (λ (k : ℕ). is_macro k ms ps) next ∙ other))
+      ap (λ (k : ℕ). (if is_shared n ms ps then list_words (tokens_of o) else 0) + k) (macros_stay (suc n) os i (ap (λ (k : ℕ). is_shared k ms ps) next ∙ other))
 
   -- THE OTHER LISTS
 
@@ -134,7 +134,7 @@ module _ (ms : List (Meaning (Option ℕ))) (ps : List Put) where
   ]
 
   -- Each list is a macro's, or stands once among these numbers.
-  pub words_counted : (table : List (Option Entry)) (ns : List ℕ) → ((h : ℕ) → some (holders_at table h) ≡ mark h + times h ns) → words table ≡ macro_words 0 ms ps (texts table) + sum_by (words_at table) ns
+  pub words_counted : (table : List (Option Entry)) (ns : List ℕ) → ((h : ℕ) → some (holders_at table h) ≡ mark h + times h ns) → words table ≡ shared_words 0 ms ps (texts table) + sum_by (words_at table) ns
   words_counted table [] held =
       let here : (h : ℕ) → h ≡ 0 + h = λ h. omega arith in
       let all = macros_counted 0 table (λ h. omega (arith, held h, ap mark (here h))) in
@@ -150,11 +150,11 @@ module _ (ms : List (Meaning (Option ℕ))) (ps : List Put) where
       let there : 0 < holders_at table n = one_some (holders_at table n) (omega (arith, here, first, own, few)) in
       let below = held_below table n there in
       let gone : holders_at next n ≡ 0 = ap holders_of (get_or-set_same table n None None below) in
-      let rest : words next ≡ macro_words 0 ms ps (texts next) + sum_by (words_at next) ns = words_counted next ns (left table n ns held gone no_mark last) in
+      let rest : words next ≡ shared_words 0 ms ps (texts next) + sum_by (words_at next) ns = words_counted next ns (left table n ns held gone no_mark last) in
       let less = sum_by-set words_of table n None None below in
       let known : words_of (entry_at table n) ≡ words_at table n = known_words (entry_at table n) there in
       let apart : (k : ℕ) → 0 < times k ns → k ≡ n → ⊥ = λ k more e. omega (arith, more, last, ap (λ (j : ℕ). times j ns) e) in
       let same : sum_by (words_at next) ns ≡ sum_by (words_at table) ns = sum_stays (words_at next) (words_at table) ns (λ k more. ap list_words (other_tokens table n k (apart k more))) in
       let start : 0 + n ≡ n = omega arith in
-      let stays : macro_words 0 ms ps (texts next) ≡ macro_words 0 ms ps (texts table) = macros_stay 0 table n (ap (λ (k : ℕ). is_macro k ms ps) start ∙ unmarked n no_mark) in
+      let stays : shared_words 0 ms ps (texts next) ≡ shared_words 0 ms ps (texts table) = macros_stay 0 table n (ap (λ (k : ℕ). is_shared k ms ps) start ∙ unmarked n no_mark) in
       omega (arith, less, known, rest, same, stays, sum_by-cons (words_at table) n ns)

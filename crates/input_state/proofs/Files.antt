@@ -9,7 +9,10 @@ use Rattle.tex_defs.specs.declared.Table.TheVariants.{InputStackSize}
 use Rattle.plain_tokens.specs.Puts.{Item, Put, settled, settled_top, passed, passed_top, without_gaps, top_item, put_levels, levels_of}
 use Rattle.plain_tokens.specs.Pending.{Pending, Progress, NotBegun, Begun, Closed, settle, with_puts, pulled, from_file}
 use Rattle.plain_tokens.specs.Pending as plain
-use Rattle.plain_tokens.specs.Tables.{is_meant, is_put, Demand, file_levels, file_level, next_line, opened_level, buffer, refused}
+use Rattle.plain_tokens.specs.Meanings.{is_listed}
+use Rattle.plain_tokens.specs.Tables.{is_put, Demand, file_levels, file_level, next_line, opened_level, buffer, refused}
+use Rattle.equivalents.specs.Groups.{Groups}
+use Rattle.equivalents.specs.Holding.{lists_held}
 use Rattle.line_lexer.specs.declared.Ahead.TheVariants as ahead
 use Rattle.input_state.specs.declared.answer.Pulled.{Pulled}
 use Rattle.input_state.specs.declared.answer.Pulled.TheVariants as answer
@@ -83,31 +86,35 @@ fits_reads q answer.Invalid sizes p new bytes h = ap (λ (o : plain.Pulled). ref
 fits_reads q answer.FileOver sizes p new bytes h = ap (λ (o : plain.Pulled). refused sizes (step_demands o p)) h
 fits_reads q answer.Nothing sizes p new bytes h = ap (λ (o : plain.Pulled). refused sizes (step_demands o p)) h.0
 
-pub fits_pulled : (c : List ℕ) (old new : Stored) (x : Pulled) → Pulls (pulled c old.pending) x old new → pull_refusal c old ≡ None
-fits_pulled c old new x h = fits_reads (pulled c old.pending) x old.sizes old.pending new.pending new.buffer h
+-- the category codes
+abbrev pub codes_of : Stored → List ℕ
+codes_of s = s.groups.now.categories
+
+pub fits_pulled : (old new : Stored) (x : Pulled) → Pulls (pulled (codes_of old) old.pending) x old new → pull_refusal old ≡ None
+fits_pulled old new x h = fits_reads (pulled (codes_of old) old.pending) x old.sizes old.pending new.pending new.buffer h
 
 abbrev settled_store : List (List Token) → Stored → Stored
 settled_store lists s = record s { pending = settle s.pending; lists = lists }
 
-module _ (c : List ℕ) (ls : List (List Token)) (old new : Stored) (used : ahead_of c old.pending ≡ ahead.End) where
-  pulls_now : (x : Pulled) → Pulls (from_file old.pending.file old.pending.number old.pending.rest) x (settled_store ls old) new → Pulls (pulled c old.pending) x old new
+module _ (ls : List (List Token)) (old new : Stored) (used : ahead_of (codes_of old) old.pending ≡ ahead.End) where
+  pulls_now : (x : Pulled) → Pulls (from_file old.pending.file old.pending.number old.pending.rest) x (settled_store ls old) new → Pulls (pulled (codes_of old) old.pending) x old new
   pulls_now x h =
-      let k = used_up c old.pending used in
+      let k = used_up (codes_of old) old.pending used in
       subst (λ (q : plain.Pulled). Reads q x old.sizes old.pending new.pending new.buffer) (sym k.1) (settled_reads _ x old.sizes old.pending new.pending new.buffer k.0 h)
 
-  refuses_now : (full : Full) → RefusesLine full (settled_store ls old) new → pull_refusal c old ≡ Some full
+  refuses_now : (full : Full) → RefusesLine full (settled_store ls old) new → pull_refusal old ≡ Some full
   refuses_now full h =
-      let k = used_up c old.pending used in
+      let k = used_up (codes_of old) old.pending used in
       ap (λ (q : plain.Pulled). refused old.sizes (step_demands q old.pending)) (k.1 ∙ h.takes)
       ∙ sym (ap (refused old.sizes) (settled_line old.pending))
       ∙ h.refused
 
-  by_ok : (r : Result Pulled Full) → IfOk r (λ x. Pulls (from_file old.pending.file old.pending.number old.pending.rest) x (settled_store ls old) new) → IfOk r (λ x. Pulls (pulled c old.pending) x old new)
+  by_ok : (r : Result Pulled Full) → IfOk r (λ x. Pulls (from_file old.pending.file old.pending.number old.pending.rest) x (settled_store ls old) new) → IfOk r (λ x. Pulls (pulled (codes_of old) old.pending) x old new)
   by_ok (Ok x) h = pulls_now x h
   by_ok (Err f) h = tt
 
-  by_refused : (r : Result Pulled Full) → IfOk r (λ x. Pulls (pulled c old.pending) x old new) → IfErr r (λ full. RefusesLine full (settled_store ls old) new) → MatchResult r (λ _. pull_refusal c old ≡ None) (λ full. pull_refusal c old ≡ Some full)
-  by_refused (Ok x) h g = fits_pulled c old new x h
+  by_refused : (r : Result Pulled Full) → IfOk r (λ x. Pulls (pulled (codes_of old) old.pending) x old new) → IfErr r (λ full. RefusesLine full (settled_store ls old) new) → MatchResult r (λ _. pull_refusal old ≡ None) (λ full. pull_refusal old ≡ Some full)
+  by_refused (Ok x) h g = fits_pulled old new x h
   by_refused (Err f) h g = refuses_now f g
 
   by_err : (r : Result Pulled Full) → IfErr r (λ full. RefusesLine full (settled_store ls old) new) → OnErr r (new.pending ≡ settle old.pending)
@@ -115,20 +122,20 @@ module _ (c : List ℕ) (ls : List (List Token)) (old new : Stored) (used : ahea
   by_err (Err f) h = h.stays ∙ settled_twice old.pending
 
   module _ (mid : Stored) (r : Result Pulled Full) (is : mid ≡ settled_store ls old) where
-    pub pull_ok : IfOk r (λ x. Pulls (from_file mid.pending.file mid.pending.number mid.pending.rest) x mid new) → IfOk r (λ x. Pulls (pulled c old.pending) x old new)
+    pub pull_ok : IfOk r (λ x. Pulls (from_file mid.pending.file mid.pending.number mid.pending.rest) x mid new) → IfOk r (λ x. Pulls (pulled (codes_of old) old.pending) x old new)
     pull_ok h = by_ok r (subst (λ (m : Stored). IfOk r (λ x. Pulls (from_file m.pending.file m.pending.number m.pending.rest) x m new)) is h)
 
-    pub pull_refused : IfOk r (λ x. Pulls (from_file mid.pending.file mid.pending.number mid.pending.rest) x mid new) → IfErr r (λ full. RefusesLine full mid new) → MatchResult r (λ _. pull_refusal c old ≡ None) (λ full. pull_refusal c old ≡ Some full)
+    pub pull_refused : IfOk r (λ x. Pulls (from_file mid.pending.file mid.pending.number mid.pending.rest) x mid new) → IfErr r (λ full. RefusesLine full mid new) → MatchResult r (λ _. pull_refusal old ≡ None) (λ full. pull_refusal old ≡ Some full)
     pull_refused h g = by_refused r (pull_ok h) (subst (λ (m : Stored). IfErr r (λ full. RefusesLine full m new)) is g)
 
     pub pull_err : IfErr r (λ full. RefusesLine full mid new) → OnErr r (new.pending ≡ settle old.pending)
     pull_err h = by_err r (subst (λ (m : Stored). IfErr r (λ full. RefusesLine full m new)) is h)
 
 -- what the levels refuse is refused of all that is pending
-pub front_refused : (c : List ℕ) (h : HeldLists) (b : List ℕ) (file : FileLeft) (old : Stored) → stored_of h b file ≡ old → line_levels h.line ≡ file_levels file.file → (r : Result Pulled Full) →
-    ((rest : List ℕ) (f : Progress) (number : ℕ) → line_levels h.line ≡ file_levels f → MatchResult r (λ _. refused h.sizes (step_demands (pulled c (pending_of h b rest f number)) (pending_of h b rest f number)) ≡ None) (λ full. refused h.sizes (step_demands (pulled c (pending_of h b rest f number)) (pending_of h b rest f number)) ≡ Some full)) →
-    MatchResult r (λ _. pull_refusal c old ≡ None) (λ full. pull_refusal c old ≡ Some full)
-front_refused c h b file old is tied r why = subst (λ (v : Stored). MatchResult r (λ _. pull_refusal c v ≡ None) (λ full. pull_refusal c v ≡ Some full)) is (why file.rest file.file file.number tied)
+pub front_refused : (h : HeldLists) (b : List ℕ) (file : FileLeft) (old : Stored) → stored_of h b file ≡ old → line_levels h.line ≡ file_levels file.file → (r : Result Pulled Full) →
+    ((rest : List ℕ) (f : Progress) (number : ℕ) → line_levels h.line ≡ file_levels f → MatchResult r (λ _. refused h.sizes (step_demands (pulled h.groups.now.categories (pending_of h b rest f number)) (pending_of h b rest f number)) ≡ None) (λ full. refused h.sizes (step_demands (pulled h.groups.now.categories (pending_of h b rest f number)) (pending_of h b rest f number)) ≡ Some full)) →
+    MatchResult r (λ _. pull_refusal old ≡ None) (λ full. pull_refusal old ≡ Some full)
+front_refused h b file old is tied r why = subst (λ (v : Stored). MatchResult r (λ _. pull_refusal v ≡ None) (λ full. pull_refusal v ≡ Some full)) is (why file.rest file.file file.number tied)
 
 -- what is given and has room is read
 reads_of : (q : plain.Pulled) (x : Pulled) (sizes : Sizes) (p new : Pending) (bytes : List ℕ) → Gives q x p new bytes → refused sizes (step_demands q p) ≡ None → Reads q x sizes p new bytes
@@ -139,14 +146,14 @@ reads_of q answer.Invalid sizes p new bytes h room = h
 reads_of q answer.FileOver sizes p new bytes h room = h
 reads_of q answer.Nothing sizes p new bytes h room = h
 
-pub front_ok : (c : List ℕ) (old new : Stored) (r : Result Pulled Full) → GivesTo (pulled c old.pending) r old.pending new.pending new.buffer → MatchResult r (λ _. pull_refusal c old ≡ None) (λ full. pull_refusal c old ≡ Some full) → IfOk r (λ x. Pulls (pulled c old.pending) x old new)
-front_ok c old new (Ok x) gives room = reads_of (pulled c old.pending) x old.sizes old.pending new.pending new.buffer gives room
-front_ok c old new (Err f) gives room = tt
+pub front_ok : (old new : Stored) (r : Result Pulled Full) → GivesTo (pulled (codes_of old) old.pending) r old.pending new.pending new.buffer → MatchResult r (λ _. pull_refusal old ≡ None) (λ full. pull_refusal old ≡ Some full) → IfOk r (λ x. Pulls (pulled (codes_of old) old.pending) x old new)
+front_ok old new (Ok x) gives room = reads_of (pulled (codes_of old) old.pending) x old.sizes old.pending new.pending new.buffer gives room
+front_ok old new (Err f) gives room = tt
 
 -- what keeps the lists of macros twice keeps them
-pub keeps_twice : (old mid new : Stored) → KeepsMacros old mid → KeepsMacros mid new → new.meanings ≡ mid.meanings → ((id : ℕ) → is_put id new.pending.puts ≡ true → is_put id mid.pending.puts ≡ true) → KeepsLists new.meanings new.pending.puts old.lists new.lists
-keeps_twice old mid new first second meanings fewer = record {
-  tokens = λ id is. second.tokens id is ∙ first.tokens id (either (is_meant id new.meanings) (is_meant id mid.meanings) (is_put id new.pending.puts) (is_put id mid.pending.puts) (ap (is_meant id) meanings) (fewer id) is);
+pub keeps_twice : (old mid new : Stored) → KeepsMacros old mid → KeepsMacros mid new → new.groups ≡ mid.groups → ((id : ℕ) → is_put id new.pending.puts ≡ true → is_put id mid.pending.puts ≡ true) → KeepsLists (lists_held new.groups) new.pending.puts old.lists new.lists
+keeps_twice old mid new first second groups fewer = record {
+  tokens = λ id is. second.tokens id is ∙ first.tokens id (either (is_listed (lists_held new.groups) id) (is_listed (lists_held mid.groups) id) (is_put id new.pending.puts) (is_put id mid.pending.puts) (ap (λ (g : Groups). is_listed (lists_held g) id) groups) (fewer id) is);
 }
   where
     either : (a b c d : Bool) → a ≡ b → (c ≡ true → d ≡ true) → (a || c) ≡ true → (b || d) ≡ true

@@ -5,9 +5,9 @@ use Rattle.std.proofs.lemmas.List.{drop_at, drop_all, length-drop}
 use Rattle.std.proofs.lemmas.List.Sums.{sum_by-cons, sum_by-append}
 use Rattle.tex_defs.specs.declared.Token.{Token}
 use Rattle.tex_defs.specs.declared.Name.{Name}
-use Rattle.tex_defs.specs.declared.Meaning.{Meaning}
 use Rattle.plain_tokens.specs.Puts.{Put, list_of_tokens}
-use Rattle.plain_tokens.specs.Tables.{list_words, lists_words, macro_words}
+use Rattle.plain_tokens.specs.Tables.{list_words, lists_words}
+use Rattle.equivalents.specs.Holding.{lists_held, shared_words}
 use Rattle.plain_tokens.specs.Arguments as arg
 use Rattle.plain_tokens.specs.Arguments.{ParMode, Answer, More, Mismatch, Tok, arguments, arguments_in, work_in, behind, call, start_of, places_of, case_at, same, begins_with_place}
 use Rattle.macro_call.specs.Stages.{Stage, kept_in, read_in}
@@ -15,7 +15,7 @@ use Rattle.macro_call.specs.Growths.{target_by}
 use Rattle.macro_call.specs.PlainScans.{Scan, scan_work, resume_scan, resume_at, places_behind, first_scan, first_by}
 use Rattle.macro_call.proofs.ArgumentRuns.{search_at, found_after}
 use Rattle.input_state.specs.HeldLists.{HeldLists, words_held}
-use Rattle.input_state.specs.Macros.{list_at, is_macro, KeepsLists}
+use Rattle.input_state.specs.Macros.{list_at, is_shared, KeepsLists}
 use Rattle.input_state.specs.Calls.{begun_lists}
 use Rattle.input_state.specs.Callings.{Calling, NotCalling, Gathering, Stopped, Gathered, last_first, scan_lists, call_lists}
 use Rattle.input_state.specs.declared.answer.CallTold.{CallTold}
@@ -29,23 +29,23 @@ same_words : (b : Bool) (ts us : List Token) → (b ≡ true → ts ≡ us) → 
 same_words true ts us same = ap list_words (same refl)
 same_words false ts us same = refl
 
-pub macros_same : (n : ℕ) (ms : List (Meaning (Option ℕ))) (ps : List Put) (new old : List (List Token)) → length new ≡ length old → ((h : ℕ) → is_macro (n + h) ms ps ≡ true → list_at new h ≡ list_at old h) → macro_words n ms ps new ≡ macro_words n ms ps old
+pub macros_same : (n : ℕ) (ms : List ℕ) (ps : List Put) (new old : List (List Token)) → length new ≡ length old → ((h : ℕ) → is_shared (n + h) ms ps ≡ true → list_at new h ≡ list_at old h) → shared_words n ms ps new ≡ shared_words n ms ps old
 macros_same n ms ps [] [] l same = refl
 macros_same n ms ps [] (u ∷ us) l same = absurd (omega (arith, l))
 macros_same n ms ps (t ∷ ts) [] l same = absurd (omega (arith, l))
 macros_same n ms ps (t ∷ ts) (u ∷ us) l same =
     let zero_more : n + 0 ≡ n = omega arith in
-    let here = same_words (is_macro n ms ps) t u (λ is. same 0 (ap (λ (k : ℕ). is_macro k ms ps) zero_more ∙ is)) in
+    let here = same_words (is_shared n ms ps) t u (λ is. same 0 (ap (λ (k : ℕ). is_shared k ms ps) zero_more ∙ is)) in
     let next : (h : ℕ) → n + suc h ≡ suc n + h = λ h. omega arith in
-    let rest = macros_same (suc n) ms ps ts us (omega (arith, l)) (λ h is. same (suc h) (ap (λ (k : ℕ). is_macro k ms ps) (next h) ∙ is)) in
+    let rest = macros_same (suc n) ms ps ts us (omega (arith, l)) (λ h is. same (suc h) (ap (λ (k : ℕ). is_shared k ms ps) (next h) ∙ is)) in
     omega (arith, here, rest)
 
 -- another call, and its lists
-pub words_recalled : (v : HeldLists) (c : Calling) (lists : List (List Token)) → KeepsLists v.meanings v.puts v.lists lists → length lists ≡ length v.lists →
+pub words_recalled : (v : HeldLists) (c : Calling) (lists : List (List Token)) → KeepsLists (lists_held v.groups) v.puts v.lists lists → length lists ≡ length v.lists →
     words_held (record v { call = c; lists = lists }) + lists_words (call_lists v.call) ≡ words_held v + lists_words (call_lists c)
 words_recalled v c lists keeps l =
     let start : (h : ℕ) → 0 + h ≡ h = λ h. omega arith in
-    let macros = macros_same 0 v.meanings v.puts lists v.lists l (λ h is. keeps.tokens h (sym (ap (λ (k : ℕ). is_macro k v.meanings v.puts) (start h)) ∙ is)) in
+    let macros = macros_same 0 (lists_held v.groups) v.puts lists v.lists l (λ h is. keeps.tokens h (sym (ap (λ (k : ℕ). is_shared k (lists_held v.groups) v.puts) (start h)) ∙ is)) in
     omega (arith, macros, sum_by-append list_words (call_lists c) v.builds, sum_by-append list_words (call_lists v.call) v.builds)
 
 -- ARGUMENTS

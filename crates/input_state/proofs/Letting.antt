@@ -1,31 +1,39 @@
--- A name gets a meaning that holds no list but such as names hold.
-use Rattle.std.proofs.Common.{◌≡◌, ℕ, ◌+◌, ◌<◌, ◌≤◌, List, [], length, Option, None, Some, refl, sym, ap, ap₂, ◌∙◌, subst, arith}
-use Rattle.std.specs.Prelude.{IfSome}
+-- A location gets a value that holds no list but such as are held.
+use Rattle.std.proofs.Common.{◌≡◌, ℕ, ◌+◌, ◌<◌, ◌≤◌, List, [], length, Option, None, Some, Bool, true, refl, sym, ap, ap₂, ◌∙◌, subst, arith}
+use Rattle.std.specs.Prelude.{IfSome, nat_lt, if◌then◌else◌}
+use Rattle.plain_tokens.specs.Meanings.{location}
+use Rattle.std.proofs.lemmas.Bool.Decides.{nat_tests}
 use Rattle.std.proofs.lemmas.List.{length-set}
-use Rattle.tex_defs.specs.declared.Name.{Name}
 use Rattle.tex_defs.specs.declared.Meaning.{Meaning}
+use Rattle.tex_defs.specs.declared.Name.{Name}
 use Rattle.tex_defs.specs.declared.Sizes.{Sizes}
-use Rattle.plain_tokens.specs.Meanings.{location, fixed_meaning, assigned, name_meaning}
 use Rattle.token_lists.specs.declared.Build.{Build}
 use Rattle.token_lists.specs.Table.{Entry, tokens_at, holders_at}
 use Rattle.token_lists.specs.Accounts.{none, Moves, Keeps, Covers}
-use Rattle.meanings.specs.Map.{Map, IsPlaced, defined}
-use Rattle.meanings.specs.Holding as meant
-use Rattle.meanings.specs.Holding.{meaning_holds, cells_hold, with_holder, without_holder}
+use Rattle.meanings.specs.Holding.{with_holder}
+use Rattle.equivalents.specs.declared.values.Loc.{Loc}
+use Rattle.equivalents.specs.Locations.{V}
+use Rattle.equivalents.specs.declared.values.Val.TheVariants as val
+use Rattle.equivalents.specs.Groups.{Groups, set, placed, place_of, set_placed, set_name}
+use Rattle.equivalents.specs.Holding.{lists_held}
+use Rattle.eqtb_save.specs.Table.{Table}
+use Rattle.eqtb_save.specs.Holding as eqtb
+use Rattle.eqtb_save.specs.Holding.{val_holds}
 use Rattle.input_stack.specs.Pending.{Pending, times}
 use Rattle.input_stack.specs.View.{pending}
 use Rattle.input_stack.specs.Standing.{Stands}
 use Rattle.input_stack.specs.declared.stack.InputStack.{InputStack}
 use Rattle.input_stack.proofs.Helds.{others}
 use Rattle.input_state.specs.HeldLists.{HeldLists}
-use Rattle.input_state.specs.Macros.{KeepsLists}
-use Rattle.input_state.specs.HeldViews.{Named, named, call_holds, IsCall, texts, fronts, lists_of, all_builds, cells_of, IsSimple, IsApart, IsDefined, IsSound}
+use Rattle.input_state.specs.Macros.{KeepsLists, IsPlaceOf}
+use Rattle.input_state.specs.HeldViews.{Named, named, call_holds, calling_of, IsCall, texts, fronts, lists_of, all_builds, cells_of, IsSimple, IsApart, IsDefined, IsSound}
 use Rattle.input_state.specs.Callings.{NotCalling}
 use Rattle.input_state.specs.declared.gathering.Gathering as code
 use Rattle.input_state.specs.declared.gathering.Gathering.TheVariants as call
-use Rattle.input_state.proofs.Sharing.{Moved, moved}
+use Rattle.input_state.proofs.Sharing.{Moved, Stay, moved}
+use Rattle.input_state.proofs.CallStays.{call_stays}
 use Rattle.input_state.proofs.ListViews.{moved_view, macros_moved}
-use Rattle.input_state.proofs.Defining.{no_call, set_holds, set_length, without_length}
+use Rattle.input_state.proofs.Assigning.{Assigned}
 
 with_length : (o : Option ℕ) (table : List (Option Entry)) → length (with_holder o table) ≡ length table
 with_length None table = refl
@@ -35,38 +43,42 @@ pub if_each : (P : ℕ → Type 0) (o : Option ℕ) → ((k : ℕ) → P k) → 
 if_each P None all = tt
 if_each P (Some k) all = all k
 
--- the lists of names are counted
-pub names_covered : (table : List (Option Entry)) (s : InputStack) (making : Option Build) (gathered : List Build) (m : Named) (sizes : Sizes) (capacity : ℕ) → IsSound table s making gathered m sizes capacity → Covers table (meant.held m.map)
-names_covered table s making gathered m sizes capacity sound h = omega (arith, sound.shared.counted h)
+-- what the table holds is counted
+pub table_covered : (table : List (Option Entry)) (s : InputStack) (making : Option Build) (gathered : List Build) (m : Named) (sizes : Sizes) (capacity : ℕ) → IsSound table s making gathered m sizes capacity → Covers table (eqtb.held m.table)
+table_covered table s making gathered m sizes capacity sound h = omega (arith, sound.shared.counted h)
 
 -- the same, once one has a holder more
-pub more_covered : (old mid : List (Option Entry)) (m : Map) (holds : ℕ → ℕ) → Covers old (meant.held m) → Moves old mid none holds → Covers mid (λ h. holds h + meant.held m h)
+pub more_covered : (old mid : List (Option Entry)) (m : Table) (holds : ℕ → ℕ) → Covers old (eqtb.held m) → Moves old mid none holds → Covers mid (λ h. holds h + eqtb.held m h)
 more_covered old mid m holds covers moves h = omega (arith, covers h, moves h)
 
-module _ (old mid new : List (Option Entry)) (s : InputStack) (m n : Named) (making : Option Build) (items : List Build) (sizes : Sizes) (capacity : ℕ) (sound : IsSound old s making items m sizes capacity) (v : HeldLists) (is : lists_of old (pending old s) making items m sizes ≡ v) (name : Name) (value : Meaning (Option ℕ)) (calls : v.call ≡ NotCalling) (assignable : IsPlaced (location name) (length v.meanings)) (within : (h : ℕ) → meaning_holds value h ≤ meant.held m.map h) (shares : Moves old mid none (meaning_holds value)) (still_kept : Keeps old mid none) (same_size : length mid ≡ length old) (after : n.map ≡ defined m.map name value) (same_gathering : n.call ≡ m.call) (o : Option ℕ) (lists : new ≡ without_holder o mid) (moves : Moves mid new (λ h. meaning_holds value h + meant.held m.map h) (meant.held n.map)) (keeps : Keeps mid new (λ h. meaning_holds value h + meant.held m.map h)) (lasting : meant.Lasts mid new) where
+-- the table keeps its length where a list has a holder more
+pub shared_size : (old mid : List (Option Entry)) (o : Option ℕ) → mid ≡ with_holder o old → length mid ≡ length old
+shared_size old mid o after = ap length after ∙ with_length o old
+
+pub no_call : (table : List (Option Entry)) (k : code.Gathering) → calling_of table k ≡ NotCalling → k ≡ call.None
+no_call table call.None is = refl
+no_call table (call.Gathers name scan) is = cc
+no_call table (call.Stopped name scan) is = cc
+no_call table (call.Gathered name args) is = cc
+
+module _ (old mid new : List (Option Entry)) (s : InputStack) (m n : Named) (making : Option Build) (items : List Build) (sizes : Sizes) (capacity : ℕ) (sound : IsSound old s making items m sizes capacity) (v : HeldLists) (is : lists_of old (pending old s) making items m sizes ≡ v) (value : V) (within : (h : ℕ) → val_holds value h ≤ eqtb.held m.table h) (shares : Moves old mid none (val_holds value)) (still_kept : Keeps old mid none) (same_size : length mid ≡ length old) (global : Bool) (place : Loc) (after : n.table ≡ record m.table { groups = set global m.table.groups place value }) (same_gathering : n.call ≡ m.call) (assigned : Assigned mid new m.table n.table value) where
   bs : List Build
   bs = all_builds making items
-
-  none_called : m.call ≡ call.None
-  none_called = no_call old m.call (ap (λ (w : HeldLists). w.call) is ∙ calls)
-
-  placed : IsPlaced (location name) (length m.map.cells)
-  placed = subst (λ (w : HeldLists). IsPlaced (location name) (length w.meanings)) (sym is) assignable
 
   same_call : (h : ℕ) → call_holds n.call h ≡ call_holds m.call h
   same_call h = ap (λ (k : code.Gathering). call_holds k h) same_gathering
 
-  -- the list of the old meaning is let go
-  held_now : (h : ℕ) → meant.held n.map h + meaning_holds (name_meaning m.map.cells name) h ≡ meant.held m.map h + meaning_holds value h
-  held_now h = omega (arith, ap (λ (k : Map). meant.held k h) after, set_holds m.map.cells (location name) (fixed_meaning name) value h placed)
+  -- the list of the old value may be let go
+  held_now : (h : ℕ) → eqtb.held n.table h ≤ eqtb.held m.table h + val_holds value h
+  held_now h = omega (arith, assigned.moves h, assigned.fewer h)
 
-  moves_all : Moves old new (meant.held m.map) (meant.held n.map)
-  moves_all h = omega (arith, shares h, moves h)
+  moves_all : Moves old new (eqtb.held m.table) (eqtb.held n.table)
+  moves_all h = omega (arith, shares h, assigned.moves h)
 
-  keeps_all : Keeps old new (meant.held m.map)
+  keeps_all : Keeps old new (eqtb.held m.table)
   keeps_all = record {
-    tokens = λ h l. keeps.tokens h (omega (arith, l, shares h)) ∙ still_kept.tokens h (omega (arith, l));
-    places = λ h l. keeps.places h (omega (arith, l, shares h)) ∙ still_kept.places h (omega (arith, l));
+    tokens = λ h l. assigned.keeps.tokens h (omega (arith, l, shares h)) ∙ still_kept.tokens h (omega (arith, l));
+    places = λ h l. assigned.keeps.places h (omega (arith, l, shares h)) ∙ still_kept.places h (omega (arith, l));
   }
 
   -- what is still held was held
@@ -74,10 +86,10 @@ module _ (old mid new : List (Option Entry)) (s : InputStack) (m n : Named) (mak
   was_held h some = omega (arith, some, moves_all h, sound.shared.counted h, held_now h, within h)
 
   lasts_all : (h : ℕ) → 0 < holders_at new h → tokens_at new h ≡ tokens_at old h
-  lasts_all h some = lasting.tokens h some ∙ still_kept.tokens h (was_held h some)
+  lasts_all h some = assigned.lasting.tokens h some ∙ still_kept.tokens h (was_held h some)
 
   stand : Stands new s × (pending new s ≡ pending old s)
-  stand = others s old new (meant.held m.map) (meant.held n.map) sound.shared.stands (λ h. omega (arith, sound.shared.counted h)) moves_all keeps_all
+  stand = others s old new (eqtb.held m.table) (eqtb.held n.table) sound.shared.stands (λ h. omega (arith, sound.shared.counted h)) moves_all keeps_all
 
   apart_now : IsApart (pending old s).puts bs n
   unfolding bs
@@ -86,7 +98,7 @@ module _ (old mid new : List (Option Entry)) (s : InputStack) (m n : Named) (mak
     apart = λ h more. omega (arith, sound.shared.apart.apart h (omega (arith, more, same_call h)), held_now h, within h);
   }
 
-  macros_now : (h : ℕ) → 0 < meant.held n.map h → IsDefined (tokens_at new h)
+  macros_now : (h : ℕ) → 0 < eqtb.held n.table h → IsDefined (tokens_at new h)
   macros_now h more =
       subst IsDefined (sym (lasts_all h (omega (arith, more, moves_all h, sound.shared.counted h)))) (sound.shared.macros h (omega (arith, more, held_now h, within h)))
 
@@ -101,35 +113,67 @@ module _ (old mid new : List (Option Entry)) (s : InputStack) (m n : Named) (mak
       (record { tokens = λ h l. keeps_all.tokens h (omega (arith, l)); places = λ h l. keeps_all.places h (omega (arith, l)) })
       lasts_all macros_now same_call
 
-  pub let_sound : IsSound new s making items n sizes capacity
+  -- where no call was gathered, none is
+  uncalled : v.call ≡ NotCalling → IsCall new n.table n.call
+  uncalled calls = subst (λ (k : code.Gathering). IsCall new n.table k) (sym (same_gathering ∙ no_call old m.call (ap (λ (w : HeldLists). w.call) is ∙ calls))) tt
+
+  -- where no name means anything else, the call goes on
+  still_called : n.table.groups.now.meanings ≡ m.table.groups.now.meanings → IsCall new n.table n.call
   unfolding bs
-  let_sound = record {
+  still_called same =
+      let now = moved_now.reheld.shared.counted in
+      let there : (h : ℕ) → 0 < eqtb.held n.table h → 0 < holders_at new h = λ h some. omega (arith, some, now h) in
+      subst (λ (k : code.Gathering). IsCall new n.table k) (sym same_gathering) (
+      call_stays old new m.table n.table m.call same
+      (subst (λ (k : code.Gathering). Stay old new (call_holds k)) same_gathering moved_now.called)
+      (record { tokens = λ h some. lasts_all h (there h some); places = λ h some. assigned.lasting.places h (there h some) ∙ still_kept.places h (was_held h (there h some)) })
+      (record { covers = λ h. omega (arith, now h, same_call h); outside = λ h some. omega (arith, now h, some, same_call h) })
+      sound.call)
+
+  sound_now : IsCall new n.table n.call → IsSound new s making items n sizes capacity
+  unfolding bs
+  sound_now called = record {
     shared = moved_now.reheld.shared;
     sized = record {
-      memory = ap length lists ∙ without_length o mid ∙ same_size ∙ sound.sized.memory;
+      memory = assigned.size ∙ same_size ∙ sound.sized.memory;
       levels = sound.sized.levels;
       parameters = sound.sized.parameters;
-      names = ap (λ (k : Map). k.hash_size) after ∙ sound.sized.names;
-      few = omega (arith, sound.sized.few, ap (λ (k : Map). k.hash_size) after, ap (λ (k : Map). length k.cells) after, set_length m.map.cells (location name) value);
+      equivalents = ap (λ (k : Table). k.sizes) after ∙ sound.sized.equivalents;
       room = sound.sized.room;
       ranges = sound.sized.ranges;
     };
-    call = subst (λ (k : code.Gathering). IsCall new n.map k) (sym (same_gathering ∙ none_called)) tt;
+    call = called;
   }
 
-  pub let_view : lists_of new (pending new s) making items n sizes ≡ record v { meanings = assigned v.meanings name value; lists = texts new }
+  pub let_sound : v.call ≡ NotCalling → IsSound new s making items n sizes capacity
+  let_sound calls = sound_now (uncalled calls)
+
+  pub set_sound : n.table.groups.now.meanings ≡ m.table.groups.now.meanings → IsSound new s making items n sizes capacity
+  set_sound same = sound_now (still_called same)
+
+  pub let_view : lists_of new (pending new s) making items n sizes ≡ record v { groups = set global v.groups place value; lists = texts new }
   unfolding bs
   let_view =
       let p = pending old s in
       moved_view old new s n sizes making items moved_now
       ∙ ap (λ (q : Pending). record (lists_of old q making items n sizes) { lists = texts new }) stand.1
-      ∙ ap₂ (λ (k : Map) (g : code.Gathering). record (lists_of old p making items (named k g) sizes) { lists = texts new }) after same_gathering
-      ∙ ap (λ (w : HeldLists). record w { meanings = assigned w.meanings name value; lists = texts new }) is
+      ∙ ap₂ (λ (k : Table) (g : code.Gathering). record (lists_of old p making items (named k g) sizes) { lists = texts new }) after same_gathering
+      ∙ ap (λ (w : HeldLists). record w { groups = set global w.groups place value; lists = texts new }) is
 
-  pub let_macros : KeepsLists n.map.cells (fronts new (pending new s).puts) v.lists (texts new)
+  pub let_macros : KeepsLists (lists_held n.table.groups) (fronts new (pending new s).puts) v.lists (texts new)
   unfolding bs
   let_macros = macros_moved old new s n sizes (all_builds making items) v.lists moved_now (ap (λ (w : HeldLists). w.lists) is)
 
--- the table keeps its length where a list has a holder more
-pub shared_size : (old mid : List (Option Entry)) (o : Option ℕ) → mid ≡ with_holder o old → length mid ≡ length old
-shared_size old mid o after = ap length after ∙ with_length o old
+-- a name's location is there
+below : (a b : ℕ) → a < b → nat_lt a b ≡ true
+below a b h = grind (arith, nat_tests)
+
+pub place_found : (g : Groups) (name : Name) (k : ℕ) → location name ≡ Some k → k < length g.now.meanings → place_of g name ≡ Some k
+place_found g name k is within =
+    ap (placed (length g.now.meanings)) is ∙ ap (λ (b : Bool). if b then Some k else None) (below k (length g.now.meanings) within)
+
+-- at the location of a name
+pub named_groups : (global : Bool) (v : HeldLists) (name : Name) (m : Meaning (Option ℕ)) (l : Loc) (new : List (Option Entry)) → IsPlaceOf v.groups name l → ◌≡◌ {A = HeldLists} (record v { groups = set global v.groups l (val.Meant m); lists = texts new }) (record v { groups = set_name global v.groups name m; lists = texts new })
+named_groups global v name m l new p =
+    ap (λ (k : Loc). let w : HeldLists = record v { groups = set global v.groups k (val.Meant m); lists = texts new } in w) p.is
+    ∙ ap (λ (o : Option ℕ). let w : HeldLists = record v { groups = set_placed global v.groups o m; lists = texts new } in w) (sym (place_found v.groups name p.number p.placed p.within))

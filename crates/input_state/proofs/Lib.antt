@@ -5,6 +5,7 @@ pub mod Ranges
 pub mod Shares
 pub mod Fronts
 pub mod Levels
+pub mod NamesHeld
 pub mod Sharing
 pub mod CallStays
 pub mod CallNumbers
@@ -23,6 +24,7 @@ pub mod Calling
 pub mod CallKept
 pub mod PutItems
 pub mod PutKept
+pub mod Assigning
 pub mod Defining
 pub mod Pulling
 pub mod PullKept

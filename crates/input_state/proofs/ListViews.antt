@@ -9,7 +9,8 @@ use Rattle.line_lexer.specs.declared.Line.{Line}
 use Rattle.token_lists.specs.declared.Build.{Build}
 use Rattle.token_lists.specs.Table.{Entry, tokens_at}
 use Rattle.token_lists.specs.Ids.{build_id}
-use Rattle.meanings.specs.Map.{Map}
+use Rattle.equivalents.specs.Holding.{lists_held}
+use Rattle.eqtb_save.specs.Table.{Table}
 use Rattle.input_stack.specs.Pending.{Pending}
 use Rattle.input_stack.specs.View.{pending, held}
 use Rattle.input_stack.specs.declared.stack.InputStack.{InputStack}
@@ -20,10 +21,10 @@ use Rattle.input_state.specs.Callings.{Calling}
 use Rattle.input_state.proofs.Sharing.{Changed, Moved, stay_less, keeps_lists}
 use Rattle.input_state.proofs.CallStays.{calling_stays}
 
-abbrev pub held_lists : List plain.Put → Option (List Token) → Calling → List (List Token) → Option Line → Map → Sizes → List (List Token) → HeldLists
-held_lists puts making call gathered line m sizes lists = record { puts = puts; making = making; call = call; builds = gathered; line = line; sizes = sizes; meanings = m.cells; hash_size = m.hash_size; lists = lists }
+abbrev pub held_lists : List plain.Put → Option (List Token) → Calling → List (List Token) → Option Line → Table → Sizes → List (List Token) → HeldLists
+held_lists puts making call gathered line m sizes lists = record { puts = puts; making = making; call = call; builds = gathered; line = line; sizes = sizes; groups = m.groups; closing = m.closing; ending = m.ending; lists = lists }
 
-same_lists : (p q : List plain.Put) (a b : Option (List Token)) (c d : Calling) (g k : List (List Token)) (l r : Option Line) (m : Map) (sizes : Sizes) (lists : List (List Token)) → p ≡ q → a ≡ b → c ≡ d → g ≡ k → l ≡ r → held_lists p a c g l m sizes lists ≡ held_lists q b d k r m sizes lists
+same_lists : (p q : List plain.Put) (a b : Option (List Token)) (c d : Calling) (g k : List (List Token)) (l r : Option Line) (m : Table) (sizes : Sizes) (lists : List (List Token)) → p ≡ q → a ≡ b → c ≡ d → g ≡ k → l ≡ r → held_lists p a c g l m sizes lists ≡ held_lists q b d k r m sizes lists
 same_lists p q a b c d g k l r m sizes lists e f j h i = rw (e, f, j, h, i) refl
 
 -- the list that is made, before others
@@ -50,9 +51,9 @@ module _ (old new : List (Option Entry)) (stack : InputStack) (m : Named) (sizes
 
   -- the innermost list that is gathered is this one
   pub first_view : (making : Option Build) (items rest : List Build) (b : Build) (ts : List Token) → Changed old new stack m (option_to_list making) (b ∷ []) (reverse rest) → items ≡ rest ++ b ∷ [] → text new b ≡ ts →
-      lists_of new (pending new stack) making items m sizes ≡ held_lists (fronts old (pending old stack).puts) (made_text old making) (calling_of old m.call) (ts ∷ map (text old) (reverse rest)) (line_of (pending old stack).sources) m.map sizes (texts new)
+      lists_of new (pending new stack) making items m sizes ≡ held_lists (fronts old (pending old stack).puts) (made_text old making) (calling_of old m.call) (ts ∷ map (text old) (reverse rest)) (line_of (pending old stack).sources) m.table sizes (texts new)
   first_view making items rest b ts c is tokens =
-      same_lists _ _ _ _ _ _ _ _ _ _ m.map sizes (texts new) (puts_now (option_to_list making) (b ∷ []) (reverse rest) c) (made_same old new making c.before) (call_now (option_to_list making) (b ∷ []) (reverse rest) c)
+      same_lists _ _ _ _ _ _ _ _ _ _ m.table sizes (texts new) (puts_now (option_to_list making) (b ∷ []) (reverse rest) c) (made_same old new making c.before) (call_now (option_to_list making) (b ∷ []) (reverse rest) c)
       (ap (map (text new)) (reverse_push items rest b is) ∙ ap₂ (λ (us : List Token) (vs : List (List Token)). us ∷ vs) tokens c.behind)
       (line_now (option_to_list making) (b ∷ []) (reverse rest) c)
 
@@ -63,36 +64,36 @@ module _ (old new : List (Option Entry)) (stack : InputStack) (m : Named) (sizes
       let all : map (text old) (reverse others) ≡ map (text old) (reverse items) =
       ap (map (text old)) (reverse_push others rest b now) ∙ ap (λ (ts : List Token). ts ∷ map (text old) (reverse rest)) first ∙ sym (ap (map (text old)) (reverse_push items rest a was)) in
       ap (λ (table : List (Option Entry)). lists_of table (pending table stack) making others m sizes) still
-      ∙ ap (λ (ts : List (List Token)). held_lists (fronts old (pending old stack).puts) (made_text old making) (calling_of old m.call) ts (line_of (pending old stack).sources) m.map sizes (texts old)) all
+      ∙ ap (λ (ts : List (List Token)). held_lists (fronts old (pending old stack).puts) (made_text old making) (calling_of old m.call) ts (line_of (pending old stack).sources) m.table sizes (texts old)) all
       ∙ is
 
   -- it goes
   pub rest_view : (making : Option Build) (rest : List Build) → Changed old new stack m (option_to_list making) [] (reverse rest) →
-      lists_of new (pending new stack) making rest m sizes ≡ held_lists (fronts old (pending old stack).puts) (made_text old making) (calling_of old m.call) (map (text old) (reverse rest)) (line_of (pending old stack).sources) m.map sizes (texts new)
+      lists_of new (pending new stack) making rest m sizes ≡ held_lists (fronts old (pending old stack).puts) (made_text old making) (calling_of old m.call) (map (text old) (reverse rest)) (line_of (pending old stack).sources) m.table sizes (texts new)
   rest_view making rest c =
-      same_lists _ _ _ _ _ _ _ _ _ _ m.map sizes (texts new) (puts_now (option_to_list making) [] (reverse rest) c) (made_same old new making c.before) (call_now (option_to_list making) [] (reverse rest) c) c.behind (line_now (option_to_list making) [] (reverse rest) c)
+      same_lists _ _ _ _ _ _ _ _ _ _ m.table sizes (texts new) (puts_now (option_to_list making) [] (reverse rest) c) (made_same old new making c.before) (call_now (option_to_list making) [] (reverse rest) c) c.behind (line_now (option_to_list making) [] (reverse rest) c)
 
   -- the list that is made is this one
   pub made_view : (gathered : List Build) (b : Build) (ts : List Token) → Changed old new stack m [] (b ∷ []) (reverse gathered) → text new b ≡ ts →
-      lists_of new (pending new stack) (Some b) gathered m sizes ≡ held_lists (fronts old (pending old stack).puts) (Some ts) (calling_of old m.call) (map (text old) (reverse gathered)) (line_of (pending old stack).sources) m.map sizes (texts new)
+      lists_of new (pending new stack) (Some b) gathered m sizes ≡ held_lists (fronts old (pending old stack).puts) (Some ts) (calling_of old m.call) (map (text old) (reverse gathered)) (line_of (pending old stack).sources) m.table sizes (texts new)
   made_view gathered b ts c tokens =
-      same_lists _ _ _ _ _ _ _ _ _ _ m.map sizes (texts new) (puts_now [] (b ∷ []) (reverse gathered) c) (ap (λ (us : List Token). Some us) tokens) (call_now [] (b ∷ []) (reverse gathered) c) c.behind (line_now [] (b ∷ []) (reverse gathered) c)
+      same_lists _ _ _ _ _ _ _ _ _ _ m.table sizes (texts new) (puts_now [] (b ∷ []) (reverse gathered) c) (ap (λ (us : List Token). Some us) tokens) (call_now [] (b ∷ []) (reverse gathered) c) c.behind (line_now [] (b ∷ []) (reverse gathered) c)
 
   -- it goes
   pub none_view : (gathered : List Build) → Changed old new stack m [] [] (reverse gathered) →
-      lists_of new (pending new stack) None gathered m sizes ≡ held_lists (fronts old (pending old stack).puts) None (calling_of old m.call) (map (text old) (reverse gathered)) (line_of (pending old stack).sources) m.map sizes (texts new)
+      lists_of new (pending new stack) None gathered m sizes ≡ held_lists (fronts old (pending old stack).puts) None (calling_of old m.call) (map (text old) (reverse gathered)) (line_of (pending old stack).sources) m.table sizes (texts new)
   none_view gathered c =
-      same_lists _ _ _ _ _ _ _ _ _ _ m.map sizes (texts new) (puts_now [] [] (reverse gathered) c) refl (call_now [] [] (reverse gathered) c) c.behind (line_now [] [] (reverse gathered) c)
+      same_lists _ _ _ _ _ _ _ _ _ _ m.table sizes (texts new) (puts_now [] [] (reverse gathered) c) refl (call_now [] [] (reverse gathered) c) c.behind (line_now [] [] (reverse gathered) c)
 
   -- each macro that is held keeps its tokens
-  pub macros_view : (making : Option Build) (gathered : List Build) (xs zs ys : List Build) (v : HeldLists) → Changed old new stack m xs zs ys → IsSingle (pending old stack).sources → lists_of old (pending old stack) making gathered m sizes ≡ v → KeepsLists m.map.cells (fronts new (pending new stack).puts) v.lists (texts new)
+  pub macros_view : (making : Option Build) (gathered : List Build) (xs zs ys : List Build) (v : HeldLists) → Changed old new stack m xs zs ys → IsSingle (pending old stack).sources → lists_of old (pending old stack) making gathered m sizes ≡ v → KeepsLists (lists_held m.table.groups) (fronts new (pending new stack).puts) v.lists (texts new)
   macros_view making gathered xs zs ys v c single is =
-      let now : KeepsLists m.map.cells (fronts new (pending old stack).puts) (texts old) (texts new) = keeps_lists old new old new stack m.map single (λ h some. c.stays.tokens h (omega (arith, some))) in
-      let there : KeepsLists m.map.cells (fronts new (pending new stack).puts) (texts old) (texts new) = subst (λ (p : Pending). KeepsLists m.map.cells (fronts new p.puts) (texts old) (texts new)) (sym c.still) now in
-      subst (λ (w : HeldLists). KeepsLists m.map.cells (fronts new (pending new stack).puts) w.lists (texts new)) is there
+      let now : KeepsLists (lists_held m.table.groups) (fronts new (pending old stack).puts) (texts old) (texts new) = keeps_lists old new old new stack m.table single (λ h some. c.stays.tokens h (omega (arith, some))) in
+      let there : KeepsLists (lists_held m.table.groups) (fronts new (pending new stack).puts) (texts old) (texts new) = subst (λ (p : Pending). KeepsLists (lists_held m.table.groups) (fronts new p.puts) (texts old) (texts new)) (sym c.still) now in
+      subst (λ (w : HeldLists). KeepsLists (lists_held m.table.groups) (fronts new (pending new stack).puts) w.lists (texts new)) is there
 
 -- the builds' texts are the old ones
-pub same_held : (old new : List (Option Entry)) (making : Option Build) (gathered : List Build) (p q : List plain.Put) (c : Calling) (line : Option Line) (m : Map) (sizes : Sizes) (lists : List (List Token)) → p ≡ q → map (text new) (all_builds making gathered) ≡ map (text old) (all_builds making gathered) →
+pub same_held : (old new : List (Option Entry)) (making : Option Build) (gathered : List Build) (p q : List plain.Put) (c : Calling) (line : Option Line) (m : Table) (sizes : Sizes) (lists : List (List Token)) → p ≡ q → map (text new) (all_builds making gathered) ≡ map (text old) (all_builds making gathered) →
     held_lists p (made_text new making) c (map (text new) (reverse gathered)) line m sizes lists ≡ held_lists q (made_text old making) c (map (text old) (reverse gathered)) line m sizes lists
 same_held old new making gathered p q c line m sizes lists is texts =
     let e = both_same old new making (reverse gathered) texts in
@@ -104,7 +105,7 @@ module _ (old new : List (Option Entry)) (t : InputStack) (m : Named) (sizes : S
       lists_of new (pending new t) making gathered m sizes ≡ record (lists_of old (pending new t) making gathered m sizes) { lists = texts new }
   moved_view making gathered k =
       let e = both_same old new making (reverse gathered) k.reheld.texts in
-      same_lists _ _ _ _ _ _ _ _ _ _ m.map sizes (texts new) k.reheld.in_front e.0 (calling_stays old new m.call k.called) e.1 refl
+      same_lists _ _ _ _ _ _ _ _ _ _ m.table sizes (texts new) k.reheld.in_front e.0 (calling_stays old new m.call k.called) e.1 refl
 
-  pub macros_moved : (bs : List Build) (lists : List (List Token)) → Moved old new t m bs → texts old ≡ lists → KeepsLists m.map.cells (fronts new (pending new t).puts) lists (texts new)
-  macros_moved bs lists k is = subst (λ (ls : List (List Token)). KeepsLists m.map.cells (fronts new (pending new t).puts) ls (texts new)) is (keeps_lists old new new new t m.map k.reheld.shared.simple.single k.reheld.kept)
+  pub macros_moved : (bs : List Build) (lists : List (List Token)) → Moved old new t m bs → texts old ≡ lists → KeepsLists (lists_held m.table.groups) (fronts new (pending new t).puts) lists (texts new)
+  macros_moved bs lists k is = subst (λ (ls : List (List Token)). KeepsLists (lists_held m.table.groups) (fronts new (pending new t).puts) ls (texts new)) is (keeps_lists old new new new t m.table k.reheld.shared.simple.single k.reheld.kept)

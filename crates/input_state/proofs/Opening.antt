@@ -10,6 +10,7 @@ use Rattle.token_lists.specs.Table.{Entry}
 use Rattle.token_lists.specs.Accounts.{Moves, Keeps, none}
 use Rattle.line_lexer.specs.declared.Line.{Line}
 use Rattle.world_io.specs.declared.traits.InId.{InId}
+use Rattle.equivalents.specs.Holding.{lists_held}
 use Rattle.input_stack.specs.Puts.{Put, settled}
 use Rattle.input_stack.specs.Pending.{Pending, Below, settle, open_over}
 use Rattle.input_stack.specs.View.{pending, held}
@@ -75,7 +76,7 @@ module _ (old new : List (Option Entry)) (s t : InputStack) (making : Option Bui
     pub open_sound : IsSound new t making gathered m sizes capacity
     open_sound = levels_sound old new s t making gathered m sizes capacity none sound stands moves keeps (lasts_none old new lasts) size parameters (after_simple r ok err) (after_fewer r ok err)
 
-    pub open_macros : KeepsLists m.map.cells (fronts new (pending new t).puts) v.lists (texts new)
+    pub open_macros : KeepsLists (lists_held m.table.groups) (fronts new (pending new t).puts) v.lists (texts new)
     open_macros = macros_moved old new t m sizes (all_builds making gathered) v.lists moved_now (ap (λ (w : HeldLists). w.lists) is)
 
     -- the lists are as they were, in front of what is pending then

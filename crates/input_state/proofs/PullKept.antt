@@ -5,6 +5,7 @@ use Rattle.tex_defs.specs.declared.Sizes.{Sizes}
 use Rattle.token_lists.specs.declared.Build.{Build}
 use Rattle.token_lists.specs.Table.{Entry}
 use Rattle.token_lists.specs.Accounts.{Moves, Keeps}
+use Rattle.equivalents.specs.Holding.{lists_held}
 use Rattle.input_stack.specs.Puts.{Put, next_item}
 use Rattle.input_stack.specs.Pending.{Pending, settle}
 use Rattle.plain_tokens.specs.Puts as plain
@@ -46,7 +47,7 @@ module _ (old new : List (Option Entry)) (s t : InputStack) (making : Option Bui
       ap (λ (w : HeldLists). record w { puts = fronts new (pending new t).puts; line = line_of (pending new t).sources; lists = texts new }) pulled_view
       ∙ ap (λ (w : HeldLists). record w { puts = fronts new (pending new t).puts; line = line_of (pending new t).sources; lists = texts new }) is
 
-  pub pulled_macros : (v : HeldLists) → lists_of old (pending old s) making gathered m sizes ≡ v → KeepsLists m.map.cells (fronts new (pending new t).puts) v.lists (texts new)
+  pub pulled_macros : (v : HeldLists) → lists_of old (pending old s) making gathered m sizes ≡ v → KeepsLists (lists_held m.table.groups) (fronts new (pending new t).puts) v.lists (texts new)
   pulled_macros v is = macros_moved old new t m sizes (all_builds making gathered) v.lists moved_now (ap (λ (w : HeldLists). w.lists) is)
 
   pub pulled_levels : (v : HeldLists) → lists_of old (pending old s) making gathered m sizes ≡ v → line_levels (line_of (pending new t).sources) ≡ line_levels v.line
@@ -57,7 +58,7 @@ module _ (old new : List (Option Entry)) (s t : InputStack) (making : Option Bui
   refused_view v is after =
       pulled_view
       ∙ ap (λ (p : Pending). record (lists_of old p making gathered m sizes) { lists = texts new }) after
-      ∙ ap (λ (ps : List plain.Put). held_lists ps (made_text old making) (calling_of old m.call) (map (text old) (reverse gathered)) (line_of (pending old s).sources) m.map sizes (texts new)) (fronts_settled old (pending old s).puts)
+      ∙ ap (λ (ps : List plain.Put). held_lists ps (made_text old making) (calling_of old m.call) (map (text old) (reverse gathered)) (line_of (pending old s).sources) m.table sizes (texts new)) (fronts_settled old (pending old s).puts)
       ∙ ap (λ (w : HeldLists). record w { puts = plain.settled w.puts; lists = texts new }) is
 
   -- no list is left in front

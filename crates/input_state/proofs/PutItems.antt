@@ -14,7 +14,7 @@ use Rattle.token_lists.specs.Table.{Entry, tokens_at}
 use Rattle.token_lists.specs.Accounts.{cell_holds, cells_hold}
 use Rattle.macro_args.specs.declared.args.Args.{Args}
 use Rattle.macro_args.specs.Args.{args_in, args_hold, cell_tokens, IsFilled}
-use Rattle.meanings.specs.Holding.{list_of}
+use Rattle.equivalents.specs.Holding.{list_of}
 use Rattle.input_stack.specs.Puts.{Put, Item, Later, numbers, put_in_front, put_top}
 use Rattle.input_stack.specs.Calls.{Argument, call_put, substituted, body_of, spread, argument_items, placed_argument, token_items, number_of, tokens_of}
 use Rattle.input_stack.specs.CallViews.{argument_in, arguments_in}

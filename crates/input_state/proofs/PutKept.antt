@@ -18,9 +18,9 @@ use Rattle.token_lists.specs.Table.{Entry, tokens_at, holders_at}
 use Rattle.token_lists.specs.Accounts.{holds, Moves, Keeps, Covers}
 use Rattle.macro_args.specs.declared.args.Args.{Args}
 use Rattle.macro_args.specs.Args.{args_in, args_hold, IsFilled}
-use Rattle.meanings.specs.Map.{Map}
-use Rattle.meanings.specs.Holding as meant
-use Rattle.meanings.specs.Holding.{list_of}
+use Rattle.eqtb_save.specs.Table.{Table}
+use Rattle.eqtb_save.specs.Holding as eqtb
+use Rattle.equivalents.specs.Holding.{list_of, lists_held}
 use Rattle.input_stack.specs.Puts.{Put, Item, numbers, when_some, used_arguments}
 use Rattle.input_stack.specs.Calls.{Argument, call_put, number_of}
 use Rattle.input_stack.specs.CallViews.{argument_in, arguments_in, Shares}
@@ -86,7 +86,7 @@ refused_by : (sizes : Sizes) (b : Bool) (f : Full) (o : Option Full) → either 
 refused_by sizes true f o = refl
 refused_by sizes false f o = refl
 
-module _ (old mid : List (Option Entry)) (s : InputStack) (making : Option Build) (gathered : List Build) (m : Map) (k : code.Gathering) (sizes : Sizes) (capacity : ℕ) (sound : IsSound old s making gathered (named m k) sizes capacity) (name : Name) (body : ListRef) (args : Args) (filled : IsFilled args) (is_call : k ≡ call.Gathered name args) (shares : Shares old mid (holds (id_of body))) (v : HeldLists) (is : lists_of old (pending old s) making gathered (named m k) sizes ≡ v) (list_is : list_of (name_meaning m.cells name) ≡ Some (id_of body)) where
+module _ (old mid : List (Option Entry)) (s : InputStack) (making : Option Build) (gathered : List Build) (m : Table) (k : code.Gathering) (sizes : Sizes) (capacity : ℕ) (sound : IsSound old s making gathered (named m k) sizes capacity) (name : Name) (body : ListRef) (args : Args) (filled : IsFilled args) (is_call : k ≡ call.Gathered name args) (shares : Shares old mid (holds (id_of body))) (v : HeldLists) (is : lists_of old (pending old s) making gathered (named m k) sizes ≡ v) (list_is : list_of (name_meaning m.groups.now.meanings name) ≡ Some (id_of body)) where
   same_cells : (cells : List (Option ListRef)) → map (argument_in mid) cells ≡ map (argument_in old) cells
   same_cells [] = refl
   same_cells (None ∷ cells) = ap (λ (us : List (Option Argument)). None ∷ us) (same_cells cells)
@@ -102,13 +102,13 @@ module _ (old mid : List (Option Entry)) (s : InputStack) (making : Option Build
   calls : v.call ≡ Gathered name (args_in old args)
   calls = sym (ap (λ (w : HeldLists). w.call) is) ∙ ap (calling_of old) is_call
 
-  pub put_is : front old (call_put (id_of body) (tokens_at old (id_of body)) (arguments_in old args)) ≡ put_of v.lists v.meanings v.call
+  pub put_is : front old (call_put (id_of body) (tokens_at old (id_of body)) (arguments_in old args)) ≡ put_of v.lists v.groups.now.meanings v.call
   put_is =
       call_front old (id_of body) (tokens_at old (id_of body)) args
       ∙ ap (λ (ts : List Token). plain.call_put (id_of body) ts (args_in old args)) (sym (text_at old (id_of body)))
-      ∙ sym (macro_put_is (texts old) (name_meaning m.cells name) (id_of body) (args_in old args) list_is)
-      ∙ ap₂ (λ (ls : List (List Token)) (ms : List (Meaning (Option ℕ))). put_of ls ms (Gathered name (args_in old args))) (ap (λ (w : HeldLists). w.lists) is) (ap (λ (w : HeldLists). w.meanings) is)
-      ∙ ap (put_of v.lists v.meanings) (sym calls)
+      ∙ sym (macro_put_is (texts old) (name_meaning m.groups.now.meanings name) (id_of body) (args_in old args) list_is)
+      ∙ ap₂ (λ (ls : List (List Token)) (ms : List (Meaning (Option ℕ))). put_of ls ms (Gathered name (args_in old args))) (ap (λ (w : HeldLists). w.lists) is) (ap (λ (w : HeldLists). w.groups.now.meanings) is)
+      ∙ ap (put_of v.lists v.groups.now.meanings) (sym calls)
 
   settled_was : HeldLists
   settled_was = record (lists_of old (pending old s) making gathered (named m k) sizes) { puts = plain.settled (fronts old (pending old s).puts) }
@@ -132,18 +132,18 @@ module _ (old mid : List (Option Entry)) (s : InputStack) (making : Option Build
   by_items [] = refl
   by_items (x ∷ xs) = both_refused
 
-  pub put_refused : call_refused s mid body args ≡ put_refusal (put_of v.lists v.meanings v.call) v
+  pub put_refused : call_refused s mid body args ≡ put_refusal (put_of v.lists v.groups.now.meanings v.call) v
   unfolding settled_was
   put_refused =
       ap₂ (λ (x : Put) (p : Pending). stack.call_refusal s.size s.parameter_size args.count x.items p) put_same (shared_stands old mid s (all_builds making gathered) (named m k) (id_of body) sound.shared shares).1
       ∙ by_items (call_put (id_of body) (tokens_at old (id_of body)) (arguments_in old args)).items
       ∙ ap (λ (p : plain.Put). refused sizes (when_put (front old (call_put (id_of body) (tokens_at old (id_of body)) (arguments_in old args))).items (parameters_held p settled_was ∷ level_held settled_was ∷ []))) (sym (call_front old (id_of body) (tokens_at old (id_of body)) args))
       ∙ ap (λ (p : plain.Put). put_refusal p (lists_of old (pending old s) making gathered (named m k) sizes)) put_is
-      ∙ ap (put_refusal (put_of v.lists v.meanings v.call)) is
+      ∙ ap (put_refusal (put_of v.lists v.groups.now.meanings v.call)) is
 
 -- THE CALL IS PUT
 
-module _ (old mid new : List (Option Entry)) (s t : InputStack) (making : Option Build) (gathered : List Build) (m : Map) (k l : code.Gathering) (sizes : Sizes) (capacity : ℕ) (sound : IsSound old s making gathered (named m k) sizes capacity) (name : Name) (body : ListRef) (args : Args) (is_call : k ≡ call.Gathered name args) (is_none : l ≡ call.None) (is_meant : 0 < meant.held m (id_of body)) (shares : Shares old mid (holds (id_of body))) (stands : Stands new t) (after : pending new t ≡ put (call_put (id_of body) (tokens_at mid (id_of body)) (arguments_in mid args)) (pending mid s)) (moves : Moves mid new (λ h. pushed_holds body args h + held s h) (held t)) (keeps : Keeps mid new (λ h. pushed_holds body args h + held s h)) (lasts : Lasts mid new) (size : t.size ≡ s.size) (parameters : t.parameter_size ≡ s.parameter_size) (v : HeldLists) (is : lists_of old (pending old s) making gathered (named m k) sizes ≡ v) (list_is : list_of (name_meaning m.cells name) ≡ Some (id_of body)) where
+module _ (old mid new : List (Option Entry)) (s t : InputStack) (making : Option Build) (gathered : List Build) (m : Table) (k l : code.Gathering) (sizes : Sizes) (capacity : ℕ) (sound : IsSound old s making gathered (named m k) sizes capacity) (name : Name) (body : ListRef) (args : Args) (is_call : k ≡ call.Gathered name args) (is_none : l ≡ call.None) (is_meant : 0 < eqtb.held m (id_of body)) (shares : Shares old mid (holds (id_of body))) (stands : Stands new t) (after : pending new t ≡ put (call_put (id_of body) (tokens_at mid (id_of body)) (arguments_in mid args)) (pending mid s)) (moves : Moves mid new (λ h. pushed_holds body args h + held s h) (held t)) (keeps : Keeps mid new (λ h. pushed_holds body args h + held s h)) (lasts : Lasts mid new) (size : t.size ≡ s.size) (parameters : t.parameter_size ≡ s.parameter_size) (v : HeldLists) (is : lists_of old (pending old s) making gathered (named m k) sizes ≡ v) (list_is : list_of (name_meaning m.groups.now.meanings name) ≡ Some (id_of body)) where
   its_call : IsCall old m (call.Gathered name args)
   its_call = subst (IsCall old m) is_call sound.call
 
@@ -166,7 +166,7 @@ module _ (old mid new : List (Option Entry)) (s t : InputStack) (making : Option
     apart = λ h more. elim (cases_eq h (id_of body)) [
       | inl here ↦
           let free = sound.shared.apart.apart h (omega (arith, more, own_now h, its_holds h)) in
-          absurd (omega (arith, free, ap (meant.held m) here, is_meant))
+          absurd (omega (arith, free, ap (eqtb.held m) here, is_meant))
       | inr other ↦ omega (arith, sound.shared.apart.apart h (omega (arith, more, own_now h, its_holds h)), times_cons h (id_of body) (bodies (pending old s).puts), holds_other (id_of body) h (λ e. other (sym e)))
     ];
   }
@@ -196,10 +196,10 @@ module _ (old mid new : List (Option Entry)) (s t : InputStack) (making : Option
   counts : (h : ℕ) → holders_at new h + (built [] h + (held s h + names_hold (named m k) h)) ≡ holders_at old h + (held t h + names_hold (named m call.None) h)
   counts h = omega (arith, moves h, shares.holders h, its_holds h)
 
-  there : (h : ℕ) → 0 < held t h + meant.held m h → 0 < holders_at new h
+  there : (h : ℕ) → 0 < held t h + eqtb.held m h → 0 < holders_at new h
   there h some = omega (arith, some, moves h, shares.holders h, its_holds h, sound.shared.counted h)
 
-  lasting : (h : ℕ) → 0 < held t h + meant.held m h → tokens_at new h ≡ tokens_at old h
+  lasting : (h : ℕ) → 0 < held t h + eqtb.held m h → tokens_at new h ≡ tokens_at old h
   lasting h some = lasts.tokens h (there h some) ∙ shares.tokens h
 
   reheld_now : Reheld old new t (named m call.None) (all_builds making gathered)
@@ -219,8 +219,7 @@ module _ (old mid new : List (Option Entry)) (s t : InputStack) (making : Option
       memory = lasts.size ∙ shares.size ∙ sound.sized.memory;
       levels = size ∙ sound.sized.levels;
       parameters = parameters ∙ sound.sized.parameters;
-      names = sound.sized.names;
-      few = sound.sized.few;
+      equivalents = sound.sized.equivalents;
       room = sound.sized.room;
       ranges = sound.sized.ranges;
     };
@@ -230,24 +229,24 @@ module _ (old mid new : List (Option Entry)) (s t : InputStack) (making : Option
   pub put_sound : IsSound new t making gathered (named m l) sizes capacity
   put_sound = subst (λ (g : code.Gathering). IsSound new t making gathered (named m g) sizes capacity) (sym is_none) none_sound
 
-  pub put_macros : KeepsLists m.cells (fronts new (pending new t).puts) v.lists (texts new)
-  put_macros = subst (λ (w : HeldLists). KeepsLists m.cells (fronts new (pending new t).puts) w.lists (texts new)) is (keeps_lists old new new new t m reheld_now.shared.simple.single reheld_now.kept)
+  pub put_macros : KeepsLists (lists_held m.groups) (fronts new (pending new t).puts) v.lists (texts new)
+  put_macros = subst (λ (w : HeldLists). KeepsLists (lists_held m.groups) (fronts new (pending new t).puts) w.lists (texts new)) is (keeps_lists old new new new t m reheld_now.shared.simple.single reheld_now.kept)
 
-  put_fronts : fronts old (pending new t).puts ≡ called (put_of v.lists v.meanings v.call) (fronts old (pending old s).puts)
+  put_fronts : fronts old (pending new t).puts ≡ called (put_of v.lists v.groups.now.meanings v.call) (fronts old (pending old s).puts)
   put_fronts =
       ap (λ (p : Pending). fronts old p.puts) now
       ∙ front_called old (call_put (id_of body) (tokens_at old (id_of body)) (arguments_in old args)) (pending old s).puts
       ∙ ap (λ (p : plain.Put). called p (fronts old (pending old s).puts)) (put_is old mid s making gathered m k sizes capacity sound name body args its_call.filled is_call shares v is list_is)
 
-  pub put_view : lists_of new (pending new t) making gathered (named m l) sizes ≡ record v { puts = called (put_of v.lists v.meanings v.call) v.puts; call = NotCalling; lists = texts new }
+  pub put_view : lists_of new (pending new t) making gathered (named m l) sizes ≡ record v { puts = called (put_of v.lists v.groups.now.meanings v.call) v.puts; call = NotCalling; lists = texts new }
   put_view =
       ap (λ (g : code.Gathering). lists_of new (pending new t) making gathered (named m g) sizes) is_none
       ∙ same_held old new making gathered (fronts new (pending new t).puts) (fronts old (pending new t).puts) NotCalling (line_of (pending new t).sources) m sizes (texts new) reheld_now.in_front reheld_now.texts
       ∙ ap (λ (ps : List plain.Put). held_lists ps (made_text old making) NotCalling (map (text old) (reverse gathered)) (line_of (pending new t).sources) m sizes (texts new)) put_fronts
-      ∙ ap (λ (p : Pending). held_lists (called (put_of v.lists v.meanings v.call) (fronts old (pending old s).puts)) (made_text old making) NotCalling (map (text old) (reverse gathered)) (line_of p.sources) m sizes (texts new)) now
-      ∙ ap (λ (w : HeldLists). record w { puts = called (put_of v.lists v.meanings v.call) w.puts; call = NotCalling; lists = texts new }) is
+      ∙ ap (λ (p : Pending). held_lists (called (put_of v.lists v.groups.now.meanings v.call) (fronts old (pending old s).puts)) (made_text old making) NotCalling (map (text old) (reverse gathered)) (line_of p.sources) m sizes (texts new)) now
+      ∙ ap (λ (w : HeldLists). record w { puts = called (put_of v.lists v.groups.now.meanings v.call) w.puts; call = NotCalling; lists = texts new }) is
 
 -- what is given to the level is counted
-pub put_covered : (old mid : List (Option Entry)) (s : InputStack) (making : Option Build) (gathered : List Build) (m : Map) (k : code.Gathering) (sizes : Sizes) (capacity : ℕ) (name : Name) (body : ListRef) (args : Args) → IsSound old s making gathered (named m k) sizes capacity → k ≡ call.Gathered name args → Shares old mid (holds (id_of body)) → Covers mid (λ h. pushed_holds body args h + held s h)
+pub put_covered : (old mid : List (Option Entry)) (s : InputStack) (making : Option Build) (gathered : List Build) (m : Table) (k : code.Gathering) (sizes : Sizes) (capacity : ℕ) (name : Name) (body : ListRef) (args : Args) → IsSound old s making gathered (named m k) sizes capacity → k ≡ call.Gathered name args → Shares old mid (holds (id_of body)) → Covers mid (λ h. pushed_holds body args h + held s h)
 put_covered old mid s making gathered m k sizes capacity name body args sound is_call shares h =
     omega (arith, sound.shared.counted h, shares.holders h, ap (λ (g : code.Gathering). call_holds g h) is_call)

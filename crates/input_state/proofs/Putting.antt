@@ -10,7 +10,8 @@ use Rattle.token_lists.specs.declared.Build.{Build}
 use Rattle.token_lists.specs.Ids.{build_id}
 use Rattle.token_lists.specs.Table.{Entry, tokens_at, holders_at}
 use Rattle.token_lists.specs.Accounts.{holds, Moves, Keeps}
-use Rattle.meanings.specs.Holding as meant
+use Rattle.equivalents.specs.Holding.{lists_held}
+use Rattle.eqtb_save.specs.Holding as eqtb
 use Rattle.input_stack.specs.Puts.{Text}
 use Rattle.input_stack.specs.Pending.{Pending, times, put, plain_put, refusal, room, used_levels}
 use Rattle.input_stack.specs.View.{pending, held}
@@ -52,7 +53,7 @@ module _ (old new : List (Option Entry)) (s t : InputStack) (a : Build) (gathere
     apart_now : IsApart (pending new t).puts (reverse gathered) m
     apart_now = subst (λ (p : Pending). IsApart p.puts (reverse gathered) m) (sym after) (apart_fewer _ _ (reverse gathered) m (fewer_put (plain_put n (tokens_at old n)) (pending old s).puts) apart_first)
 
-    macros_now : (h : ℕ) → 0 < meant.held m.map h → IsDefined (tokens_at new h)
+    macros_now : (h : ℕ) → 0 < eqtb.held m.table h → IsDefined (tokens_at new h)
     macros_now h more = subst IsDefined (sym (lasts.tokens h (omega (arith, more, moves h, shared_now.counted h, built_cons a (reverse gathered) h, ap (λ (k : ℕ). holds k h) same)))) (shared_now.macros h more)
 
     moved_now : Moved old new t m (reverse gathered)
@@ -71,8 +72,8 @@ module _ (old new : List (Option Entry)) (s t : InputStack) (a : Build) (gathere
       sized = sized_now old new s t m sizes capacity capacity sound.sized lasts.size size parameters refl;
       call =
           let now = moved_now.reheld.shared.counted in
-          let there : (h : ℕ) → 0 < meant.held m.map h → holds n h + held s h < holders_at old h = λ h some. omega (arith, some, shared_now.counted h, built_cons a (reverse gathered) h, ap (λ (k : ℕ). holds k h) same) in
-          call_stays old new m.map m.call moved_now.called (record { tokens = λ h some. keeps.tokens h (there h some); places = λ h some. keeps.places h (there h some) })
+          let there : (h : ℕ) → 0 < eqtb.held m.table h → holds n h + held s h < holders_at old h = λ h some. omega (arith, some, shared_now.counted h, built_cons a (reverse gathered) h, ap (λ (k : ℕ). holds k h) same) in
+          call_stays old new m.table m.table m.call refl moved_now.called (record { tokens = λ h some. keeps.tokens h (there h some); places = λ h some. keeps.places h (there h some) })
           (record { covers = λ h. omega (arith, now h); outside = λ h some. omega (arith, now h, some) }) sound.call;
     }
 
@@ -86,10 +87,10 @@ module _ (old new : List (Option Entry)) (s t : InputStack) (a : Build) (gathere
         ap (λ (x : Option Build). lists_of new (pending new t) x gathered m sizes) none
         ∙ moved_view old new t m sizes None gathered moved_now
         ∙ ap (λ (p : Pending). record (lists_of old p None gathered m sizes) { lists = texts new }) after
-        ∙ ap (λ (qs : List plain.Put). held_lists qs None (calling_of old m.call) (map (text old) (reverse gathered)) (line_of (pending old s).sources) m.map sizes (texts new)) (fronts_put old (plain_put n (tokens_at old n)) ps quiet ∙ ap (λ (x : plain.Put). plain.with_put x (fronts old ps)) (token_front old n (tokens_at old n) refl ∙ ap plain.token_put tokens))
+        ∙ ap (λ (qs : List plain.Put). held_lists qs None (calling_of old m.call) (map (text old) (reverse gathered)) (line_of (pending old s).sources) m.table sizes (texts new)) (fronts_put old (plain_put n (tokens_at old n)) ps quiet ∙ ap (λ (x : plain.Put). plain.with_put x (fronts old ps)) (token_front old n (tokens_at old n) refl ∙ ap plain.token_put tokens))
         ∙ ap (λ (w : HeldLists). record w { puts = plain.with_put (plain.token_put (made w.making)) w.puts; making = None; lists = texts new }) was
 
-    pub put_macros : (v : HeldLists) → lists_of old (pending old s) making gathered m sizes ≡ v → KeepsLists m.map.cells (fronts new (pending new t).puts) v.lists (texts new)
+    pub put_macros : (v : HeldLists) → lists_of old (pending old s) making gathered m sizes ≡ v → KeepsLists (lists_held m.table.groups) (fronts new (pending new t).puts) v.lists (texts new)
     put_macros v is = macros_moved old new t m sizes (reverse gathered) v.lists moved_now (ap (λ (w : HeldLists). w.lists) is)
 
   refusal_none : (ts : List Token) (p : Pending) (size : ℕ) → room size (used_levels p) ≡ None → refusal size (map Text ts) p ≡ None

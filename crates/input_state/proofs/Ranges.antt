@@ -4,7 +4,7 @@ use Rattle.std.specs.Prelude.{Bool, true, false, if◌then◌else◌}
 use Rattle.std.proofs.lemmas.Option.{none-some}
 use Rattle.std.proofs.lemmas.Bool.Decides.{nat_tests}
 use Rattle.tex_defs.specs.declared.Table.{Table}
-use Rattle.tex_defs.specs.declared.Table.TheVariants.{HashSize, InputStackSize, ParameterStackSize}
+use Rattle.tex_defs.specs.declared.Table.TheVariants.{HashSize, SaveSize, InputStackSize, ParameterStackSize}
 use Rattle.tex_defs.specs.declared.Sizes.{Sizes}
 use Rattle.tex_defs.specs.Sizes.{size_of, is_in_range, first_out_among, first_out_of_range, tables}
 
@@ -16,14 +16,14 @@ in_range : (sizes : Sizes) (before behind : List Table) (t : Table) → first_ou
 in_range sizes [] behind t h = (if_in (is_in_range t (size_of sizes t)) (first_out_among sizes behind) t h).0
 in_range sizes (v ∷ before) behind t h = in_range sizes before behind t (if_in (is_in_range v (size_of sizes v)) (first_out_among sizes (before ++ t ∷ behind)) v h).1
 
-pub hash_least : (sizes : Sizes) → first_out_of_range sizes ≡ None → 1777 ≤ sizes.hash_size
-hash_least sizes h =
-    let k = in_range sizes (take 2 tables) (drop 3 tables) HashSize h in
-    grind (arith, nat_tests, k)
-
 pub hash_greatest : (sizes : Sizes) → first_out_of_range sizes ≡ None → sizes.hash_size ≤ 65535
 hash_greatest sizes h =
     let k = in_range sizes (take 2 tables) (drop 3 tables) HashSize h in
+    grind (arith, nat_tests, k)
+
+pub save_greatest : (sizes : Sizes) → first_out_of_range sizes ≡ None → sizes.save_size ≤ 1000000
+save_greatest sizes h =
+    let k = in_range sizes (take 4 tables) (drop 5 tables) SaveSize h in
     grind (arith, nat_tests, k)
 
 pub input_greatest : (sizes : Sizes) → first_out_of_range sizes ≡ None → sizes.input_stack_size ≤ 1000000

@@ -107,28 +107,28 @@ is_few n size is = grind (arith, nat_tests)
 is_many : (n size : ℕ) → nat_le n size ≡ false → size < n
 is_many n size is = grind (arith, nat_tests)
 
-knows : (s : Stored) (c : List ℕ) (f : Progress) (feed : Bool) → s.pending.file ≡ f → has_feed s.pending.rest ≡ feed → (is_open f && (not feed && nat_le (length s.pending.rest) s.sizes.buffer_size)) ≡ false → KnowsNext s c
-knows s c Closed feed file line fact = NoFile file
-knows s c NotBegun true file line fact = HasLine line
-knows s c NotBegun false file line fact = TooLong (is_many _ _ fact)
-knows s c Begun true file line fact = HasLine line
-knows s c Begun false file line fact = TooLong (is_many _ _ fact)
+knows : (s : Stored) (f : Progress) (feed : Bool) → s.pending.file ≡ f → has_feed s.pending.rest ≡ feed → (is_open f && (not feed && nat_le (length s.pending.rest) s.sizes.buffer_size)) ≡ false → KnowsNext s
+knows s Closed feed file line fact = NoFile file
+knows s NotBegun true file line fact = HasLine line
+knows s NotBegun false file line fact = TooLong (is_many _ _ fact)
+knows s Begun true file line fact = HasLine line
+knows s Begun false file line fact = TooLong (is_many _ _ fact)
 
-needs : (s : Stored) (c : List ℕ) (f : Progress) (feed : Bool) → ahead_of c s.pending ≡ ahead.End → s.pending.file ≡ f → has_feed s.pending.rest ≡ feed → (is_open f && (not feed && nat_le (length s.pending.rest) s.sizes.buffer_size)) ≡ true → NeedsBytes s c
-needs s c Closed feed end file line fact = cc
-needs s c NotBegun true end file line fact = cc
-needs s c NotBegun false end file line fact = record { at_file = at_file c s.pending end; not_closed = λ e. cc; no_line = line; few = is_few _ _ fact }
-needs s c Begun true end file line fact = cc
-needs s c Begun false end file line fact = record { at_file = at_file c s.pending end; not_closed = λ e. cc; no_line = line; few = is_few _ _ fact }
+needs : (s : Stored) (f : Progress) (feed : Bool) → ahead_of s.groups.now.categories s.pending ≡ ahead.End → s.pending.file ≡ f → has_feed s.pending.rest ≡ feed → (is_open f && (not feed && nat_le (length s.pending.rest) s.sizes.buffer_size)) ≡ true → NeedsBytes s
+needs s Closed feed end file line fact = cc
+needs s NotBegun true end file line fact = cc
+needs s NotBegun false end file line fact = record { at_file = at_file s.groups.now.categories s.pending end; not_closed = λ e. cc; no_line = line; few = is_few _ _ fact }
+needs s Begun true end file line fact = cc
+needs s Begun false end file line fact = record { at_file = at_file s.groups.now.categories s.pending end; not_closed = λ e. cc; no_line = line; few = is_few _ _ fact }
 
-module _ (c : List ℕ) (h : HeldLists) (b : List ℕ) (f : FileLeft) (s : Stored) (is : stored_of h b f ≡ s) (size : f.buffer_size ≡ h.sizes.buffer_size) where
+module _ (h : HeldLists) (b : List ℕ) (f : FileLeft) (s : Stored) (is : stored_of h b f ≡ s) (size : f.buffer_size ≡ h.sizes.buffer_size) where
   sized : (x : Bool) → lacks_line f ≡ x → (is_open f.file && (not (has_feed f.rest) && nat_le (length f.rest) h.sizes.buffer_size)) ≡ x
   sized x e = subst (λ (n : ℕ). (is_open f.file && (not (has_feed f.rest) && nat_le (length f.rest) n)) ≡ x) size e
 
   -- the next line is known, or won't be taken
-  pub knows_next : lacks_line f ≡ false → KnowsNext s c
-  knows_next fact = subst (λ (v : Stored). KnowsNext v c) is (knows (stored_of h b f) c f.file (has_feed f.rest) refl refl (sized false fact))
+  pub knows_next : lacks_line f ≡ false → KnowsNext s
+  knows_next fact = subst KnowsNext is (knows (stored_of h b f) f.file (has_feed f.rest) refl refl (sized false fact))
 
-  pub needs_bytes : ahead_of c s.pending ≡ ahead.End → lacks_line f ≡ true → NeedsBytes s c
+  pub needs_bytes : ahead_of s.groups.now.categories s.pending ≡ ahead.End → lacks_line f ≡ true → NeedsBytes s
   needs_bytes end fact =
-      subst (λ (v : Stored). ahead_of c v.pending ≡ ahead.End → NeedsBytes v c) is (λ e. needs (stored_of h b f) c f.file (has_feed f.rest) e refl refl (sized true fact)) end
+      subst (λ (v : Stored). ahead_of v.groups.now.categories v.pending ≡ ahead.End → NeedsBytes v) is (λ e. needs (stored_of h b f) f.file (has_feed f.rest) e refl refl (sized true fact)) end

@@ -1,11 +1,10 @@
 -- The call takes lists over, or lets them go.
-use Rattle.std.proofs.Common.{◌≡◌, ℕ, ◌+◌, ◌<◌, ◌≤◌, List, [], ◌∷◌, length, Option, None, Some, inl, inr, sym, ap, ◌∙◌, subst, arith, length-append}
+use Rattle.std.proofs.Common.{◌≡◌, ℕ, ◌+◌, ◌<◌, ◌≤◌, List, [], length, Option, None, Some, inl, inr, sym, ap, ◌∙◌, subst, arith}
 use Rattle.std.proofs.lemmas.Bool.{cases_lt}
 use Rattle.std.proofs.lemmas.Option.{same_Some}
 use Rattle.tex_defs.specs.declared.Name.{Name}
 use Rattle.tex_defs.specs.declared.Sizes.{Sizes}
-use Rattle.tex_defs.specs.declared.Meaning.TheVariants as means
-use Rattle.plain_tokens.specs.Meanings.{fixed_locations}
+use Rattle.plain_tokens.specs.Meanings.{location, fixed_meaning}
 use Rattle.plain_tokens.specs.Puts as plain
 use Rattle.token_lists.specs.declared.Build.{Build}
 use Rattle.token_lists.specs.Ids.{IsBuilding}
@@ -15,15 +14,16 @@ use Rattle.macro_call.specs.declared.present.Present.{Present}
 use Rattle.macro_call.specs.declared.scan.ArgScan.{ArgScan}
 use Rattle.macro_call.specs.Scans as scans
 use Rattle.macro_call.specs.Scans.{Gains}
-use Rattle.meanings.specs.Map.{Map, entered}
-use Rattle.meanings.specs.Holding as meant
-use Rattle.meanings.proofs.Lookups.{entering}
+use Rattle.equivalents.specs.Groups.{Groups}
+use Rattle.equivalents.specs.Holding.{list_of, lists_held}
+use Rattle.equivalents.proofs.Names.{appended_at}
+use Rattle.eqtb_save.specs.Table.{Table, name_entered}
+use Rattle.eqtb_save.specs.Holding as eqtb
 use Rattle.input_stack.specs.Pending.{Pending, times}
 use Rattle.input_stack.specs.View.{pending, held}
 use Rattle.input_stack.specs.Standing.{Stands}
 use Rattle.input_stack.specs.declared.stack.InputStack.{InputStack}
 use Rattle.input_stack.proofs.Helds.{others}
-use Rattle.tex_defs.specs.declared.Meaning.{Meaning}
 use Rattle.std.proofs.lemmas.List.{length-map}
 use Rattle.plain_tokens.specs.Tables.{lists_words}
 use Rattle.input_state.specs.Recalls.{Recalls}
@@ -40,7 +40,7 @@ use Rattle.input_state.proofs.Shares.{held_parts}
 use Rattle.input_state.proofs.Sharing.{Reheld, reheld, keeps_lists}
 use Rattle.input_state.proofs.ListViews.{same_held}
 
-module _ (old new : List (Option Entry)) (s : InputStack) (making : Option Build) (gathered : List Build) (m : Map) (k l : code.Gathering) (sizes : Sizes) (capacity : ℕ) (sound : IsSound old s making gathered (named m k) sizes capacity) (moves : Moves old new (call_holds k) (call_holds l)) (keeps : Keeps old new (call_holds k)) (gains : Gains old (call_holds k) (call_holds l)) (size : length new ≡ length old) where
+module _ (old new : List (Option Entry)) (s : InputStack) (making : Option Build) (gathered : List Build) (m : Table) (k l : code.Gathering) (sizes : Sizes) (capacity : ℕ) (sound : IsSound old s making gathered (named m k) sizes capacity) (moves : Moves old new (call_holds k) (call_holds l)) (keeps : Keeps old new (call_holds k)) (gains : Gains old (call_holds k) (call_holds l)) (size : length new ≡ length old) where
   bs : List Build
   bs = all_builds making gathered
 
@@ -51,7 +51,7 @@ module _ (old new : List (Option Entry)) (s : InputStack) (making : Option Build
   recalled_stand = others s old new (call_holds k) (call_holds l) sound.shared.stands (λ h. omega (arith, sound.shared.counted h)) moves keeps
 
   -- no other part holds a list that is new
-  unheld : (h : ℕ) → holders_at old h ≤ 0 → (built (all_builds making gathered) h + (times h (owns (pending old s).puts) + times h (bodies (pending old s).puts)) ≡ 0) × (meant.held m h ≡ 0)
+  unheld : (h : ℕ) → holders_at old h ≤ 0 → (built (all_builds making gathered) h + (times h (owns (pending old s).puts) + times h (bodies (pending old s).puts)) ≡ 0) × (eqtb.held m h ≡ 0)
   unheld h free = (omega (arith, free, sound.shared.counted h, held_parts old s sound.shared.simple.single h), omega (arith, free, sound.shared.counted h))
 
   apart_now : IsApart (pending old s).puts (all_builds making gathered) (named m l)
@@ -66,7 +66,7 @@ module _ (old new : List (Option Entry)) (s : InputStack) (making : Option Build
     ];
   }
 
-  shared_more : (h : ℕ) → 0 < held s h + meant.held m h → call_holds k h < holders_at old h
+  shared_more : (h : ℕ) → 0 < held s h + eqtb.held m h → call_holds k h < holders_at old h
   shared_more h some = omega (arith, some, sound.shared.counted h)
 
   pub reheld_now : Reheld old new s (named m l) (all_builds making gathered)
@@ -86,8 +86,7 @@ module _ (old new : List (Option Entry)) (s : InputStack) (making : Option Build
       memory = size ∙ sound.sized.memory;
       levels = sound.sized.levels;
       parameters = sound.sized.parameters;
-      names = sound.sized.names;
-      few = sound.sized.few;
+      equivalents = sound.sized.equivalents;
       room = sound.sized.room;
       ranges = sound.sized.ranges;
     };
@@ -95,8 +94,8 @@ module _ (old new : List (Option Entry)) (s : InputStack) (making : Option Build
   }
 
   module _ (v : HeldLists) (is : lists_of old (pending old s) making gathered (named m k) sizes ≡ v) where
-    pub recalled_macros : KeepsLists m.cells (fronts new (pending new s).puts) v.lists (texts new)
-    recalled_macros = subst (λ (w : HeldLists). KeepsLists m.cells (fronts new (pending new s).puts) w.lists (texts new)) is (keeps_lists old new new new s m reheld_now.shared.simple.single reheld_now.kept)
+    pub recalled_macros : KeepsLists (lists_held m.groups) (fronts new (pending new s).puts) v.lists (texts new)
+    recalled_macros = subst (λ (w : HeldLists). KeepsLists (lists_held m.groups) (fronts new (pending new s).puts) w.lists (texts new)) is (keeps_lists old new new new s m reheld_now.shared.simple.single reheld_now.kept)
 
     pub recalled_view : lists_of new (pending new s) making gathered (named m l) sizes ≡ record v { call = calling_of new l; lists = texts new }
     recalled_view =
@@ -106,7 +105,7 @@ module _ (old new : List (Option Entry)) (s : InputStack) (making : Option Build
 
 -- WHAT A CALL TOOK OVER
 
-module _ (old new : List (Option Entry)) (s : InputStack) (making : Option Build) (gathered : List Build) (m : Map) (k j l n : code.Gathering) (sizes : Sizes) (capacity : ℕ) (sound : IsSound old s making gathered (named m k) sizes capacity) (was : k ≡ j) (is_now : n ≡ l) (recalls : Recalls old new m j l) where
+module _ (old new : List (Option Entry)) (s : InputStack) (making : Option Build) (gathered : List Build) (m : Table) (k j l n : code.Gathering) (sizes : Sizes) (capacity : ℕ) (sound : IsSound old s making gathered (named m k) sizes capacity) (was : k ≡ j) (is_now : n ≡ l) (recalls : Recalls old new m j l) where
   both : Recalls old new m k n
   both = subst (λ (g : code.Gathering). Recalls old new m g n) (sym was) (subst (λ (g : code.Gathering). Recalls old new m j g) (sym is_now) recalls)
 
@@ -122,15 +121,15 @@ module _ (old new : List (Option Entry)) (s : InputStack) (making : Option Build
     pub recalls_others : lists_of new (pending new s) making gathered (named m n) sizes ≡ record v { call = calling_of new n; lists = texts new }
     recalls_others = recalled_view old new s making gathered m k n sizes capacity sound both.moves both.keeps both.gains both.size v is
 
-    pub recalls_macros : KeepsLists m.cells (fronts new (pending new s).puts) v.lists (texts new)
+    pub recalls_macros : KeepsLists (lists_held m.groups) (fronts new (pending new s).puts) v.lists (texts new)
     recalls_macros = recalled_macros old new s making gathered m k n sizes capacity sound both.moves both.keeps both.gains both.size v is
 
     -- what was used, and what the call takes now
     pub recalls_words : words new + lists_words (call_lists v.call) ≡ words_held v + lists_words (call_lists (calling_of new l))
     recalls_words =
         let puts : fronts new (pending new s).puts ≡ v.puts = ap (λ (w : HeldLists). w.puts) recalls_view in
-        let meanings : m.cells ≡ v.meanings = ap (λ (w : HeldLists). w.meanings) is in
-        let keeps : KeepsLists v.meanings v.puts v.lists (texts new) = subst (λ (ps : List plain.Put). KeepsLists v.meanings ps v.lists (texts new)) puts (subst (λ (ms : List (Meaning (Option ℕ))). KeepsLists ms (fronts new (pending new s).puts) v.lists (texts new)) meanings recalls_macros) in
+        let groups : m.groups ≡ v.groups = ap (λ (w : HeldLists). w.groups) is in
+        let keeps : KeepsLists (lists_held v.groups) v.puts v.lists (texts new) = subst (λ (ps : List plain.Put). KeepsLists (lists_held v.groups) ps v.lists (texts new)) puts (subst (λ (g : Groups). KeepsLists (lists_held g) (fronts new (pending new s).puts) v.lists (texts new)) groups recalls_macros) in
         let lists : texts old ≡ v.lists = ap (λ (w : HeldLists). w.lists) is in
         let count : length (texts new) ≡ length v.lists = length-map new tokens_of ∙ both.size ∙ sym (length-map old tokens_of) ∙ ap length lists in
         let all = words_recalled v (calling_of new l) (texts new) keeps count in
@@ -139,7 +138,7 @@ module _ (old new : List (Option Entry)) (s : InputStack) (making : Option Build
 
 -- THE CALL'S LISTS GO
 
-module _ (old new : List (Option Entry)) (s : InputStack) (making : Option Build) (gathered : List Build) (m : Map) (k l : code.Gathering) (sizes : Sizes) (capacity : ℕ) (sound : IsSound old s making gathered (named m k) sizes capacity) (dropped : l ≡ call.None) (moves : Moves old new (call_holds k) none) (keeps : Keeps old new (call_holds k)) (size : length new ≡ length old) where
+module _ (old new : List (Option Entry)) (s : InputStack) (making : Option Build) (gathered : List Build) (m : Table) (k l : code.Gathering) (sizes : Sizes) (capacity : ℕ) (sound : IsSound old s making gathered (named m k) sizes capacity) (dropped : l ≡ call.None) (moves : Moves old new (call_holds k) none) (keeps : Keeps old new (call_holds k)) (size : length new ≡ length old) where
   none_gained : Gains old (call_holds k) (call_holds call.None)
   none_gained = record { others = λ h some. omega arith; fresh = λ h free. omega arith }
 
@@ -150,7 +149,7 @@ module _ (old new : List (Option Entry)) (s : InputStack) (making : Option Build
     pub dropped_view : lists_of new (pending new s) making gathered (named m l) sizes ≡ record v { call = NotCalling; lists = texts new }
     dropped_view = ap (λ (j : code.Gathering). lists_of new (pending new s) making gathered (named m j) sizes) dropped ∙ recalled_view old new s making gathered m k call.None sizes capacity sound moves keeps none_gained size v is
 
-    pub dropped_macros : KeepsLists m.cells (fronts new (pending new s).puts) v.lists (texts new)
+    pub dropped_macros : KeepsLists (lists_held m.groups) (fronts new (pending new s).puts) v.lists (texts new)
     dropped_macros = recalled_macros old new s making gathered m k call.None sizes capacity sound moves keeps none_gained size v is
 
 -- A SCANNER'S LISTS MAY GO
@@ -162,18 +161,18 @@ in_place table id scan (Some q) p is h = subst (λ (r : Present). IsBuilding tab
 pub scan_owned : (table : List (Option Entry)) (id : ℕ) (scan : ArgScan) → scans.IsSound table id scan → scans.Owns table scan
 scan_owned table id scan sound = record { covered = sound.owns; building = λ p is. in_place table id scan scan.present p is sound.in_place; filled = sound.filled; listed = sound.listed }
 
-pub gathering_owned : (table : List (Option Entry)) (m : Map) (k : code.Gathering) (name : Name) (scan : ArgScan) → k ≡ call.Gathers name scan → IsCall table m k → scans.Owns table scan
+pub gathering_owned : (table : List (Option Entry)) (m : Table) (k : code.Gathering) (name : Name) (scan : ArgScan) → k ≡ call.Gathers name scan → IsCall table m k → scans.Owns table scan
 gathering_owned table m k name scan is h =
     let g : IsCall table m (call.Gathers name scan) = subst (IsCall table m) is h in
     scan_owned table g.id scan g.sound
 
-pub stopped_owned : (table : List (Option Entry)) (m : Map) (k : code.Gathering) (name : Name) (scan : ArgScan) → k ≡ call.Stopped name scan → IsCall table m k → scans.Owns table scan
+pub stopped_owned : (table : List (Option Entry)) (m : Table) (k : code.Gathering) (name : Name) (scan : ArgScan) → k ≡ call.Stopped name scan → IsCall table m k → scans.Owns table scan
 stopped_owned table m k name scan is h = subst (IsCall table m) is h
 
 -- A NAME IS ENTERED
 
-pub enter_sound : (table : List (Option Entry)) (s : InputStack) (making : Option Build) (gathered : List Build) (m n : Map) (k : code.Gathering) (sizes : Sizes) (capacity : ℕ) → IsSound table s making gathered (named m k) sizes capacity → n ≡ entered m → ((h : ℕ) → meant.held n h ≡ meant.held m h) → length m.cells < fixed_locations + m.hash_size → IsSound table s making gathered (named n k) sizes capacity
-enter_sound table s making gathered m n k sizes capacity sound after same few = record {
+pub enter_sound : (table : List (Option Entry)) (s : InputStack) (making : Option Build) (gathered : List Build) (m n : Table) (k : code.Gathering) (sizes : Sizes) (capacity : ℕ) → IsSound table s making gathered (named m k) sizes capacity → n ≡ name_entered m → ((h : ℕ) → eqtb.held n h ≡ eqtb.held m h) → IsSound table s making gathered (named n k) sizes capacity
+enter_sound table s making gathered m n k sizes capacity sound after same = record {
   shared = record {
     stands = sound.shared.stands;
     simple = sound.shared.simple;
@@ -190,16 +189,15 @@ enter_sound table s making gathered m n k sizes capacity sound after same few = 
     memory = sound.sized.memory;
     levels = sound.sized.levels;
     parameters = sound.sized.parameters;
-    names = ap (λ (j : Map). j.hash_size) after ∙ sound.sized.names;
-    few = omega (arith, few, ap (λ (j : Map). j.hash_size) after, ap (λ (j : Map). length j.cells) after, length-append m.cells (means.Undefined ∷ []));
+    equivalents = ap (λ (j : Table). j.sizes) after ∙ sound.sized.equivalents;
     room = sound.sized.room;
     ranges = sound.sized.ranges;
   };
-  call = subst (λ (j : Map). IsCall table j k) (sym after) (entered_call k sound.call);
+  call = subst (λ (j : Table). IsCall table j k) (sym after) (entered_call k sound.call);
 }
   where
-    entered_call : (j : code.Gathering) → IsCall table m j → IsCall table (entered m) j
+    entered_call : (j : code.Gathering) → IsCall table m j → IsCall table (name_entered m) j
     entered_call call.None is = tt
-    entered_call (call.Gathers name scan) is = record { id = is.id; list = ap meant.list_of (entering m name) ∙ is.list; sound = is.sound }
+    entered_call (call.Gathers name scan) is = record { id = is.id; list = ap list_of (appended_at m.groups.now.meanings (location name) (fixed_meaning name)) ∙ is.list; sound = is.sound }
     entered_call (call.Stopped name scan) is = is
-    entered_call (call.Gathered name args) is = record { id = is.id; list = ap meant.list_of (entering m name) ∙ is.list; filled = is.filled; listed = is.listed }
+    entered_call (call.Gathered name args) is = record { id = is.id; list = ap list_of (appended_at m.groups.now.meanings (location name) (fixed_meaning name)) ∙ is.list; filled = is.filled; listed = is.listed }

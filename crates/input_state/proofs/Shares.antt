@@ -1,23 +1,21 @@
 -- Who holds the lists in front: those that have them for themselves, the macros whose bodies they are, and open arguments.
 use Rattle.std.proofs.Common.{◌≡◌, ℕ, ◌+◌, ◌≤◌, List, [], ◌∷◌, ◌++◌, Option, None, Some, cond, refl, sym, ap, ◌∙◌, arith}
-use Rattle.std.specs.Prelude.{Bool, true, false}
-use Rattle.std.proofs.lemmas.List.Sums.{sum_by-cons}
+use Rattle.std.specs.Prelude.{◌==◌, Bool, true, false}
 use Rattle.tex_defs.specs.declared.Token.{Token}
-use Rattle.tex_defs.specs.declared.Meaning.{Meaning}
-use Rattle.tex_defs.specs.declared.Meaning.TheVariants as means
-use Rattle.plain_tokens.specs.Tables.{is_meant, means_macro, is_put, is_whole}
+use Rattle.plain_tokens.specs.Meanings.{is_listed}
+use Rattle.plain_tokens.specs.Tables.{is_put, is_whole}
 use Rattle.token_lists.specs.Table.{Entry, tokens_at}
 use Rattle.token_lists.specs.Accounts.{holds}
-use Rattle.meanings.specs.Map.{Map}
-use Rattle.meanings.specs.Holding as meant
-use Rattle.meanings.specs.Holding.{cells_hold, meaning_holds}
+use Rattle.equivalents.specs.Holding.{lists_held}
+use Rattle.eqtb_save.specs.Table.{Table}
+use Rattle.eqtb_save.specs.Holding as eqtb
 use Rattle.input_stack.specs.Puts.{Put, Item, numbers, lists_of, settled, settled_top, pulled, pulled_top, without_gaps, put_in_front, put_top}
 use Rattle.input_stack.specs.Pending.{Below, times, lists_in, lists_below}
 use Rattle.input_stack.specs.View.{pending, held, innermost}
 use Rattle.input_stack.specs.declared.stack.InputStack.{InputStack}
 use Rattle.input_stack.proofs.Helds.{held_puts}
 use Rattle.token_lists.specs.declared.Build.{Build}
-use Rattle.input_state.specs.Macros.{is_macro}
+use Rattle.input_state.specs.Macros.{is_shared}
 use Rattle.input_state.specs.HeldViews.{Named, front, fronts, whole_of, own_of, owns, body_of, bodies, cells_of, opens, IsSingle, IsApart}
 use Rattle.input_state.proofs.Counting.{some, bit, or_some, times_cons, times_append}
 
@@ -108,22 +106,9 @@ fewer_put p ps = put_fewer p p.items ps
 
 -- MACROS
 
-meaning_once : (h : ℕ) (m : Meaning (Option ℕ)) → cond (means_macro h m) 1 0 ≡ meaning_holds m h
-meaning_once h means.Undefined = refl
-meaning_once h means.RelaxMarked = refl
-meaning_once h (means.Char category code) = refl
-meaning_once h (means.CharGiven code) = refl
-meaning_once h (means.MathGiven code) = refl
-meaning_once h (means.Register kind n) = refl
-meaning_once h (means.Prim number) = refl
-meaning_once h (means.Macro long outer None) = refl
-meaning_once h (means.Macro long outer (Some id)) = refl
-
-pub meant_once : (h : ℕ) (cells : List (Meaning (Option ℕ))) → cond (is_meant h cells) 1 0 ≡ some (cells_hold cells h)
-meant_once h [] = refl
-meant_once h (m ∷ ms) =
-    or_some (means_macro h m) (is_meant h ms) (meaning_holds m h) (cells_hold ms h) (bit (means_macro h m) ∙ ap some (meaning_once h m)) (meant_once h ms)
-    ∙ ap some (sym (sum_by-cons (λ (c : Meaning (Option ℕ)). meaning_holds c h) m ms))
+pub listed_once : (h : ℕ) (ns : List ℕ) → cond (is_listed ns h) 1 0 ≡ some (times h ns)
+listed_once h [] = refl
+listed_once h (n ∷ ns) = or_some (n == h) (is_listed ns h) (holds n h) (times h ns) (bit (n == h)) (listed_once h ns) ∙ ap some (sym (times_cons h n ns))
 
 whole_once : (h : ℕ) (b : Bool) (n : ℕ) (ts : List Token) → cond (is_whole h (whole_of b n ts)) 1 0 ≡ times h (body_of b n)
 whole_once h true n ts = omega (arith, times_cons h n [])
@@ -135,5 +120,5 @@ put_once table h (p ∷ ps) =
     or_some (is_whole h (front table p).list) (is_put h (fronts table ps)) (times h (body_of p.body p.list)) (times h (bodies ps)) (bit (is_whole h (front table p).list) ∙ ap some (whole_once h p.body p.list (tokens_at table p.list))) (put_once table h ps)
     ∙ ap some (sym (times_append h (body_of p.body p.list) (bodies ps)))
 
-pub macro_once : (table : List (Option Entry)) (m : Map) (ps : List Put) (h : ℕ) → cond (is_macro h m.cells (fronts table ps)) 1 0 ≡ some (meant.held m h + times h (bodies ps))
-macro_once table m ps h = or_some (is_meant h m.cells) (is_put h (fronts table ps)) (meant.held m h) (times h (bodies ps)) (meant_once h m.cells) (put_once table h ps)
+pub macro_once : (table : List (Option Entry)) (m : Table) (ps : List Put) (h : ℕ) → cond (is_shared h (lists_held m.groups) (fronts table ps)) 1 0 ≡ some (eqtb.held m h + times h (bodies ps))
+macro_once table m ps h = or_some (is_listed (lists_held m.groups) h) (is_put h (fronts table ps)) (eqtb.held m h) (times h (bodies ps)) (listed_once h (lists_held m.groups)) (put_once table h ps)

@@ -6,13 +6,14 @@ use Rattle.std.proofs.lemmas.List.{get_or-set_other}
 use Rattle.std.proofs.lemmas.List.Elements.{All-append, All-head, All-tail, All-cons, All-nil}
 use Rattle.std.proofs.lemmas.List.Sums.{sum_by-cons, sum_by-append}
 use Rattle.tex_defs.specs.declared.Token.{Token}
-use Rattle.plain_tokens.specs.Tables.{is_meant}
+use Rattle.plain_tokens.specs.Meanings.{is_listed}
 use Rattle.token_lists.specs.declared.Build.{Build}
 use Rattle.token_lists.specs.Ids.{build_id, IsBuilding}
 use Rattle.token_lists.specs.Table.{Entry, entry_at, tokens_at, tokens_of, places_at, places_of, holders_at, holders_of, last_or}
 use Rattle.token_lists.specs.Accounts.{holds, Moves, Keeps}
-use Rattle.meanings.specs.Map.{Map}
-use Rattle.meanings.specs.Holding as meant
+use Rattle.equivalents.specs.Holding.{lists_held}
+use Rattle.eqtb_save.specs.Table.{Table}
+use Rattle.eqtb_save.specs.Holding as eqtb
 use Rattle.input_stack.specs.Pending.{Pending, times}
 use Rattle.input_stack.specs.View.{pending, held}
 use Rattle.input_stack.specs.Standing.{Stands}
@@ -20,10 +21,10 @@ use Rattle.input_stack.specs.declared.stack.InputStack.{InputStack}
 use Rattle.input_stack.proofs.Helds.{others}
 use Rattle.input_stack.proofs.Kept.{holds_itself}
 use Rattle.input_state.specs.Changes.{IsOnly}
-use Rattle.input_state.specs.Macros.{list_at, is_macro, KeepsLists}
+use Rattle.input_state.specs.Macros.{list_at, is_shared, KeepsLists}
 use Rattle.input_state.specs.HeldViews.{Named, call_holds, names_hold, fronts, text, texts, built, owns, bodies, cells_of, IsSingle, IsSimple, IsApart, IsDefined, IsShared}
 use Rattle.input_state.proofs.Counting.{some, one_some}
-use Rattle.input_state.proofs.Shares.{held_parts, meant_once, macro_once}
+use Rattle.input_state.proofs.Shares.{held_parts, listed_once, macro_once}
 use Rattle.input_state.proofs.Levels.{no_opens, cells_owned, fronts_stay}
 
 -- the lists that are held so often are as they were
@@ -101,18 +102,18 @@ only_keeps old new id f only mine =
 
 -- nothing but the levels and the builds holds a list that one of these has for itself
 pub own_alone : (table : List (Option Entry)) (stack : InputStack) (bs : List Build) (m : Named) → IsSimple (pending table stack) → IsApart (pending table stack).puts bs m → (h : ℕ) → 0 < built bs h + call_holds m.call h →
-    (built bs h + call_holds m.call h ≡ 1) × (held stack h ≡ 0) × (meant.held m.map h ≡ 0)
+    (built bs h + call_holds m.call h ≡ 1) × (held stack h ≡ 0) × (eqtb.held m.table h ≡ 0)
 own_alone table stack bs m simple a h some =
     let ps = (pending table stack).puts in
     let none = a.apart h (omega (arith, some)) in
     (omega (arith, a.sole h, some), omega (arith, held_parts table stack simple.single h, no_opens ps simple.fronts h (omega (arith, a.sole h, some)), a.sole h, some, none), omega (arith, none))
 
--- a macro that is meant or put is held
-pub macro_held : (table t : List (Option Entry)) (stack : InputStack) (m : Map) → IsSingle (pending table stack).sources → (id : ℕ) → is_macro id m.cells (fronts t (pending table stack).puts) ≡ true → 0 < held stack id + meant.held m id
+-- a list that is shared is held
+pub macro_held : (table t : List (Option Entry)) (stack : InputStack) (m : Table) → IsSingle (pending table stack).sources → (id : ℕ) → is_shared id (lists_held m.groups) (fronts t (pending table stack).puts) ≡ true → 0 < held stack id + eqtb.held m id
 macro_held table t stack m single id is =
     let ps = (pending table stack).puts in
     let here = macro_once t m ps id in
-    let one : some (meant.held m id + times id (bodies ps)) ≡ 1 = sym here ∙ ap (λ (b : Bool). cond b 1 0) is in
+    let one : some (eqtb.held m id + times id (bodies ps)) ≡ 1 = sym here ∙ ap (λ (b : Bool). cond b 1 0) is in
     omega (arith, one_some _ one, held_parts table stack single id)
 
 -- a list by its number
@@ -121,14 +122,14 @@ text_at [] id = refl
 text_at (o ∷ os) zero = refl
 text_at (o ∷ os) (suc id) = text_at os id
 
-pub keeps_lists : (old new table t : List (Option Entry)) (stack : InputStack) (m : Map) → IsSingle (pending table stack).sources → ((h : ℕ) → 0 < held stack h + meant.held m h → tokens_at new h ≡ tokens_at old h) → KeepsLists m.cells (fronts t (pending table stack).puts) (texts old) (texts new)
+pub keeps_lists : (old new table t : List (Option Entry)) (stack : InputStack) (m : Table) → IsSingle (pending table stack).sources → ((h : ℕ) → 0 < held stack h + eqtb.held m h → tokens_at new h ≡ tokens_at old h) → KeepsLists (lists_held m.groups) (fronts t (pending table stack).puts) (texts old) (texts new)
 keeps_lists old new table t stack m single same = record { tokens = λ id is. text_at new id ∙ same id (macro_held table t stack m single id is) ∙ sym (text_at old id) }
 
 -- each macro's list is one
-pub macros_defined : (table : List (Option Entry)) (stack : InputStack) (bs : List Build) (m : Named) → IsShared table stack bs m → (id : ℕ) → is_meant id m.map.cells ≡ true → IsDefined (list_at (texts table) id)
+pub macros_defined : (table : List (Option Entry)) (stack : InputStack) (bs : List Build) (m : Named) → IsShared table stack bs m → (id : ℕ) → is_listed (lists_held m.table.groups) id ≡ true → IsDefined (list_at (texts table) id)
 macros_defined table stack bs m shared id is =
-    let one : some (meant.held m.map id) ≡ 1 = sym (meant_once id m.map.cells) ∙ ap (λ (b : Bool). cond b 1 0) is in
-    subst IsDefined (sym (text_at table id)) (shared.macros id (one_some (meant.held m.map id) one))
+    let one : some (eqtb.held m.table id) ≡ 1 = sym (listed_once id (lists_held m.table.groups)) ∙ ap (λ (b : Bool). cond b 1 0) is in
+    subst IsDefined (sym (text_at table id)) (shared.macros id (one_some (eqtb.held m.table id) one))
 
 -- A LIST THAT IS BEING BUILT CHANGES
 
@@ -189,12 +190,12 @@ module _ (old new : List (Option Entry)) (stack : InputStack) (m : Named) (xs zs
     | inr other ↦ omega (arith, shared.apart.sole h, same_builds h other, parts us h, parts zs h)
   ]
 
-  no_macro : (h : ℕ) → 0 < times h (owns (pending old stack).puts) + (built (xs ++ (us ++ ys)) h + call_holds m.call h) → times h (bodies (pending old stack).puts) + meant.held m.map h ≡ 0
+  no_macro : (h : ℕ) → 0 < times h (owns (pending old stack).puts) + (built (xs ++ (us ++ ys)) h + call_holds m.call h) → times h (bodies (pending old stack).puts) + eqtb.held m.table h ≡ 0
   unfolding rest
   no_macro h more = elim (cases_eq h id) [
     | inl is ↦
-        let here : times id (bodies (pending old stack).puts) + meant.held m.map id ≡ 0 = omega (arith, apart, held_parts old stack shared.simple.single id) in
-        subst (λ (k : ℕ). times k (bodies (pending old stack).puts) + meant.held m.map k ≡ 0) (sym is) here
+        let here : times id (bodies (pending old stack).puts) + eqtb.held m.table id ≡ 0 = omega (arith, apart, held_parts old stack shared.simple.single id) in
+        subst (λ (k : ℕ). times k (bodies (pending old stack).puts) + eqtb.held m.table k ≡ 0) (sym is) here
     | inr other ↦ shared.apart.apart h (omega (arith, more, same_builds h other, parts us h, parts zs h))
   ]
 
@@ -225,7 +226,7 @@ pub record Reheld (old new : List (Option Entry)) (t : InputStack) (m : Named) (
   pub shared : IsShared new t bs m
   pub in_front : fronts new (pending new t).puts ≡ fronts old (pending new t).puts
   pub texts : map (text new) bs ≡ map (text old) bs
-  pub kept : (h : ℕ) → 0 < held t h + meant.held m.map h → tokens_at new h ≡ tokens_at old h
+  pub kept : (h : ℕ) → 0 < held t h + eqtb.held m.table h → tokens_at new h ≡ tokens_at old h
 
 -- the call has none of them
 pub record Moved (old new : List (Option Entry)) (t : InputStack) (m : Named) (bs : List Build) : Type 0 where
@@ -245,13 +246,13 @@ module _ (old new : List (Option Entry)) (s t : InputStack) (m n : Named) (zs bs
         (omega (arith, was.0, was.1, was.2, shared.counted h), omega (arith, now.0, now.1, now.2, counted_now h), omega (arith, was.0, was.1, was.2, some, built_append zs bs h))
 
     -- so has a list of the call, if that is as it was
-    pub call_alone : (h : ℕ) → call_holds n.call h ≡ call_holds m.call h → 0 < call_holds n.call h → (holders_at old h ≡ 1) × (holders_at new h ≡ 1) × (built zs h + (held s h + meant.held m.map h) ≡ 0)
+    pub call_alone : (h : ℕ) → call_holds n.call h ≡ call_holds m.call h → 0 < call_holds n.call h → (holders_at old h ≡ 1) × (holders_at new h ≡ 1) × (built zs h + (held s h + eqtb.held m.table h) ≡ 0)
     call_alone h same some =
         let was = own_alone old s (zs ++ bs) m shared.simple shared.apart h (omega (arith, some, same)) in
         let now = own_alone new t bs n simple apart h (omega (arith, some)) in
         (omega (arith, was.0, was.1, was.2, shared.counted h), omega (arith, now.0, now.1, now.2, counted_now h), omega (arith, was.0, was.1, was.2, some, same, built_append zs bs h))
 
-    module _ (listed : (h : ℕ) → 0 < times h (cells_of (pending new t).puts) → 0 < length (tokens_at old h)) (keeps : Keeps old new (λ h. built zs h + (held s h + names_hold m h))) (lasts : (h : ℕ) → 0 < held t h + meant.held n.map h → tokens_at new h ≡ tokens_at old h) (macros : (h : ℕ) → 0 < meant.held n.map h → IsDefined (tokens_at new h)) where
+    module _ (listed : (h : ℕ) → 0 < times h (cells_of (pending new t).puts) → 0 < length (tokens_at old h)) (keeps : Keeps old new (λ h. built zs h + (held s h + names_hold m h))) (lasts : (h : ℕ) → 0 < held t h + eqtb.held n.table h → tokens_at new h ≡ tokens_at old h) (macros : (h : ℕ) → 0 < eqtb.held n.table h → IsDefined (tokens_at new h)) where
       built_stay : Stay old new (built bs)
       built_stay = record {
         tokens = λ h some. keeps.tokens h (omega (arith, (alone h some).0, (alone h some).2));
@@ -275,7 +276,7 @@ module _ (old new : List (Option Entry)) (s t : InputStack) (m n : Named) (zs bs
         kept = lasts;
       }
 
-module _ (old new : List (Option Entry)) (s t : InputStack) (m n : Named) (zs bs : List Build) (shared : IsShared old s (zs ++ bs) m) (stands : Stands new t) (simple : IsSimple (pending new t)) (apart : IsApart (pending new t).puts bs n) (listed : (h : ℕ) → 0 < times h (cells_of (pending new t).puts) → 0 < length (tokens_at old h)) (moves : (h : ℕ) → holders_at new h + (built zs h + (held s h + meant.held m.map h)) ≡ holders_at old h + (held t h + meant.held n.map h)) (keeps : Keeps old new (λ h. built zs h + (held s h + meant.held m.map h))) (lasts : (h : ℕ) → 0 < holders_at new h → tokens_at new h ≡ tokens_at old h) (macros : (h : ℕ) → 0 < meant.held n.map h → IsDefined (tokens_at new h)) (same : (h : ℕ) → call_holds n.call h ≡ call_holds m.call h) where
+module _ (old new : List (Option Entry)) (s t : InputStack) (m n : Named) (zs bs : List Build) (shared : IsShared old s (zs ++ bs) m) (stands : Stands new t) (simple : IsSimple (pending new t)) (apart : IsApart (pending new t).puts bs n) (listed : (h : ℕ) → 0 < times h (cells_of (pending new t).puts) → 0 < length (tokens_at old h)) (moves : (h : ℕ) → holders_at new h + (built zs h + (held s h + eqtb.held m.table h)) ≡ holders_at old h + (held t h + eqtb.held n.table h)) (keeps : Keeps old new (λ h. built zs h + (held s h + eqtb.held m.table h))) (lasts : (h : ℕ) → 0 < holders_at new h → tokens_at new h ≡ tokens_at old h) (macros : (h : ℕ) → 0 < eqtb.held n.table h → IsDefined (tokens_at new h)) (same : (h : ℕ) → call_holds n.call h ≡ call_holds m.call h) where
   moves_all : (h : ℕ) → holders_at new h + (built zs h + (held s h + names_hold m h)) ≡ holders_at old h + (held t h + names_hold n h)
   moves_all h = omega (arith, moves h, same h)
 

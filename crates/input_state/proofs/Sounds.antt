@@ -7,7 +7,6 @@ use Rattle.tex_defs.specs.declared.Sizes.{Sizes}
 use Rattle.tex_defs.specs.declared.Full.{Full}
 use Rattle.tex_defs.specs.declared.Token.{Token}
 use Rattle.tex_defs.specs.Sizes.{first_out_of_range}
-use Rattle.plain_tokens.specs.Meanings.{fixed_locations, primitive_count, first_meanings}
 use Rattle.plain_tokens.specs.Tables.{memory, refused, list_words}
 use Rattle.plain_tokens.specs.Puts as plain
 use Rattle.token_lists.specs.declared.Build.{Build}
@@ -17,8 +16,10 @@ use Rattle.token_lists.specs.Accounts.{holds, none, Moves, Keeps}
 use Rattle.token_lists.specs.Refusals.{IsFull}
 use Rattle.line_lexer.specs.declared.Line.{Line}
 use Rattle.world_io.specs.declared.traits.InId.{InId}
-use Rattle.meanings.specs.Map.{Map, known_map}
-use Rattle.meanings.specs.Holding as meant
+use Rattle.equivalents.specs.Groups.{first_groups}
+use Rattle.equivalents.specs.Holding.{lists_held}
+use Rattle.eqtb_save.specs.Table.{Table, first_table}
+use Rattle.eqtb_save.specs.Holding as eqtb
 use Rattle.input_stack.specs.Puts.{Put}
 use Rattle.input_stack.specs.Pending.{Pending, Below, times, settle, sources_at, at_line, Ends, EndsIn}
 use Rattle.input_stack.specs.View.{pending, pending_in, held, held_in, innermost}
@@ -40,7 +41,6 @@ use Rattle.input_state.proofs.CallStays.{call_stays}
 use Rattle.input_state.proofs.Sharing.{Changed, Moved, stay_less, changed, moved, built_cons, all_right}
 use Rattle.input_state.proofs.ListViews.{held_lists, reverse_push, moved_view, macros_moved}
 use Rattle.input_state.proofs.Words.{words_are, gathered_few}
-use Rattle.input_state.proofs.Ranges.{hash_least}
 use Rattle.input_state.proofs.Refusing.{memory_fits, memory_full}
 
 -- ONE LIST
@@ -77,8 +77,7 @@ sized_now old new s t m sizes capacity now sized length_is size parameters same 
   memory = length_is ∙ sized.memory;
   levels = size ∙ sized.levels;
   parameters = parameters ∙ sized.parameters;
-  names = sized.names;
-  few = sized.few;
+  equivalents = sized.equivalents;
   room = omega (arith, sized.room, same);
   ranges = sized.ranges;
 }
@@ -90,8 +89,8 @@ module _ (old new : List (Option Entry)) (stack : InputStack) (m : Named) (sizes
     sized = sized_now old new stack stack m sizes capacity now sound.sized size refl refl same;
     call =
         let part = λ (f : ℕ → ℕ) (less : (h : ℕ) → f h ≤ held stack h + names_hold m h). stay_less old new (λ h. held stack h + names_hold m h) f less c.stays in
-        let macros = part (meant.held m.map) (λ h. omega arith) in
-        call_stays old new m.map m.call (part (call_holds m.call) (λ h. omega arith)) (record { tokens = macros.tokens; places = macros.places })
+        let macros = part (eqtb.held m.table) (λ h. omega arith) in
+        call_stays old new m.table m.table m.call refl (part (call_holds m.call) (λ h. omega arith)) (record { tokens = macros.tokens; places = macros.places })
         (record { covers = λ h. omega (arith, c.shared.counted h); outside = λ h some. omega (arith, c.shared.counted h, some) }) sound.call;
   }
 
@@ -126,11 +125,11 @@ err_of (Err e) A P a f = f a
 -- THE LEVELS
 
 module _ (old new : List (Option Entry)) (s t : InputStack) (making : Option Build) (gathered : List Build) (m : Named) (sizes : Sizes) (capacity : ℕ) (more : ℕ → ℕ) (sound : IsSound old s making gathered m sizes capacity) (stands : Stands new t) (moves : Moves old new (held s) (held t)) (keeps : Keeps old new (held s)) (lasts : LastsBut old new more) (size : t.size ≡ s.size) (parameters : t.parameter_size ≡ s.parameter_size) (simple : IsSimple (pending new t)) (fewer : Fewer (pending new t).puts (pending old s).puts) where
-  keeps_none : Keeps old new (λ h. built [] h + (held s h + meant.held m.map h))
+  keeps_none : Keeps old new (λ h. built [] h + (held s h + eqtb.held m.table h))
   keeps_none = record { tokens = λ h l. keeps.tokens h (omega (arith, l)); places = λ h l. keeps.places h (omega (arith, l)) }
 
   -- a macro keeps its list
-  macros_stay : (h : ℕ) → 0 < meant.held m.map h → IsDefined (tokens_at new h)
+  macros_stay : (h : ℕ) → 0 < eqtb.held m.table h → IsDefined (tokens_at new h)
   macros_stay h some = subst IsDefined (sym (lasts.tokens h (omega (arith, some, moves h, sound.shared.counted h)))) (sound.shared.macros h some)
 
   pub levels_moved : Moved old new t m (all_builds making gathered)
@@ -146,7 +145,7 @@ module _ (old new : List (Option Entry)) (s t : InputStack) (making : Option Bui
     sized = sized_now old new s t m sizes capacity capacity sound.sized lasts.size size parameters refl;
     call =
         let now = levels_moved.reheld.shared.counted in
-        call_stays old new m.map m.call levels_moved.called
+        call_stays old new m.table m.table m.call refl levels_moved.called
         (record { tokens = λ h some. keeps.tokens h (omega (arith, some, sound.shared.counted h)); places = λ h some. keeps.places h (omega (arith, some, sound.shared.counted h)) })
         (record { covers = λ h. omega (arith, now h); outside = λ h some. omega (arith, now h, some) }) sound.call;
   }
@@ -173,10 +172,10 @@ module _ (old new : List (Option Entry)) (s t : InputStack) (making : Option Bui
     settled_view v is =
         moved_view old new t m sizes making gathered settled_moved
         ∙ ap (λ (p : Pending). record (lists_of old p making gathered m sizes) { lists = texts new }) after
-        ∙ ap (λ (ps : List plain.Put). held_lists ps (made_text old making) (calling_of old m.call) (map (text old) (reverse gathered)) (line_of (pending old s).sources) m.map sizes (texts new)) (fronts_settled old (pending old s).puts)
+        ∙ ap (λ (ps : List plain.Put). held_lists ps (made_text old making) (calling_of old m.call) (map (text old) (reverse gathered)) (line_of (pending old s).sources) m.table sizes (texts new)) (fronts_settled old (pending old s).puts)
         ∙ ap (λ (w : HeldLists). record w { puts = plain.settled w.puts; lists = texts new }) is
 
-    pub settled_macros : (v : HeldLists) → lists_of old (pending old s) making gathered m sizes ≡ v → KeepsLists m.map.cells (fronts new (pending new t).puts) v.lists (texts new)
+    pub settled_macros : (v : HeldLists) → lists_of old (pending old s) making gathered m sizes ≡ v → KeepsLists (lists_held m.table.groups) (fronts new (pending new t).puts) v.lists (texts new)
     settled_macros v is = macros_moved old new t m sizes (all_builds making gathered) v.lists settled_moved (ap (λ (w : HeldLists). w.lists) is)
 
 -- THE LEVELS ALONE
@@ -239,8 +238,8 @@ length_new : (n : ℕ) → length (replicate {A = Option Entry} n None) ≡ n
 length_new zero = refl
 length_new (suc n) = omega (arith, length_new n)
 
-pub new_sound : (knows : ℕ → Bool) (table : List (Option Entry)) (stack : InputStack) (items : List Build) (m : Map) (sizes : Sizes) (capacity : ℕ) → table ≡ replicate sizes.main_memory_size None → innermost stack ≡ [] → Stands table stack → stack.size ≡ sizes.input_stack_size → stack.parameter_size ≡ sizes.parameter_stack_size → items ≡ [] → sizes.main_memory_size ≤ capacity → first_out_of_range sizes ≡ None → m ≡ known_map knows sizes.hash_size → length m.cells ≡ fixed_locations + primitive_count → ((h : ℕ) → meant.held m h ≡ 0) → IsSound table stack None items (named m call.None) sizes capacity
-new_sound knows table stack items m sizes capacity is empty stands size parameters none room ranges first count free =
+pub new_sound : (knows : ℕ → Bool) (table : List (Option Entry)) (stack : InputStack) (items : List Build) (m : Table) (sizes : Sizes) (capacity : ℕ) → table ≡ replicate sizes.main_memory_size None → innermost stack ≡ [] → Stands table stack → stack.size ≡ sizes.input_stack_size → stack.parameter_size ≡ sizes.parameter_stack_size → items ≡ [] → sizes.main_memory_size ≤ capacity → first_out_of_range sizes ≡ None → m ≡ first_table knows sizes → ((h : ℕ) → eqtb.held m h ≡ 0) → IsSound table stack None items (named m call.None) sizes capacity
+new_sound knows table stack items m sizes capacity is empty stands size parameters none room ranges first free =
     let zero_at : (h : ℕ) → holders_at table h ≡ 0 = λ h. ap (λ (t : List (Option Entry)). holders_at t h) is ∙ ap holders_of (none_at sizes.main_memory_size h) in
     let s : IsShared table stack [] (named m call.None) = record {
       stands = stands;
@@ -259,21 +258,20 @@ new_sound knows table stack items m sizes capacity is empty stands size paramete
         memory = ap length is ∙ length_new sizes.main_memory_size;
         levels = size;
         parameters = parameters;
-        names = ap (λ (k : Map). k.hash_size) first;
-        few = omega (arith, count, ap (λ (k : Map). k.hash_size) first, hash_least sizes ranges);
+        equivalents = ap (λ (k : Table). k.sizes) first;
         room = room;
         ranges = ranges;
       };
       call = tt;
     }
 
--- nothing is held, and the names mean what INITEX's mean, where these primitives mean something
+-- nothing is held, and all stands as INITEX has it, where these primitives mean something
 abbrev pub first_lists : (ℕ → Bool) → Sizes → HeldLists
-first_lists knows sizes = record { puts = []; making = None; call = NotCalling; builds = []; line = None; sizes = sizes; meanings = first_meanings knows; hash_size = sizes.hash_size; lists = replicate sizes.main_memory_size [] }
+first_lists knows sizes = record { puts = []; making = None; call = NotCalling; builds = []; line = None; sizes = sizes; groups = first_groups knows; closing = []; ending = None; lists = replicate sizes.main_memory_size [] }
 
-pub new_view : (knows : ℕ → Bool) (table : List (Option Entry)) (stack : InputStack) (items : List Build) (m : Map) (sizes : Sizes) → table ≡ replicate sizes.main_memory_size None → innermost stack ≡ [] → items ≡ [] → m ≡ known_map knows sizes.hash_size → lists_of table (pending table stack) None items (named m call.None) sizes ≡ first_lists knows sizes
+pub new_view : (knows : ℕ → Bool) (table : List (Option Entry)) (stack : InputStack) (items : List Build) (m : Table) (sizes : Sizes) → table ≡ replicate sizes.main_memory_size None → innermost stack ≡ [] → items ≡ [] → m ≡ first_table knows sizes → lists_of table (pending table stack) None items (named m call.None) sizes ≡ first_lists knows sizes
 new_view knows table stack items m sizes is empty none first =
     ap (λ (ls : List Level). lists_of table (pending_in table ls) None items (named m call.None) sizes) empty
     ∙ ap (λ (bs : List Build). held_lists [] None NotCalling (map (text table) (reverse bs)) None m sizes (texts table)) none
-    ∙ ap (λ (k : Map). held_lists [] None NotCalling [] None k sizes (texts table)) first
-    ∙ ap (λ (ts : List (List Token)). held_lists [] None NotCalling [] None (known_map knows sizes.hash_size) sizes ts) (ap texts is ∙ texts_none sizes.main_memory_size)
+    ∙ ap (λ (k : Table). held_lists [] None NotCalling [] None k sizes (texts table)) first
+    ∙ ap (λ (ts : List (List Token)). held_lists [] None NotCalling [] None (first_table knows sizes) sizes ts) (ap texts is ∙ texts_none sizes.main_memory_size)

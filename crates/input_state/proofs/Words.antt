@@ -10,8 +10,9 @@ use Rattle.plain_tokens.specs.Tables.{list_words, lists_words, made_words}
 use Rattle.token_lists.specs.declared.Build.{Build}
 use Rattle.token_lists.specs.Ids.{build_id}
 use Rattle.token_lists.specs.Table.{Entry, words, tokens_at, holders_at}
-use Rattle.meanings.specs.Map.{Map}
-use Rattle.meanings.specs.Holding as meant
+use Rattle.equivalents.specs.Holding.{lists_held}
+use Rattle.eqtb_save.specs.Table.{Table}
+use Rattle.eqtb_save.specs.Holding as eqtb
 use Rattle.input_state.specs.Callings.{call_lists}
 use Rattle.input_state.specs.declared.gathering.Gathering as code
 use Rattle.input_stack.specs.Pending.{times}
@@ -41,7 +42,7 @@ words_shown : (table : List (Option Entry)) (ns : List ℕ) → sum_by (words_at
 words_shown table [] = refl
 words_shown table (n ∷ ns) = omega (arith, words_shown table ns, sum_by-cons (words_at table) n ns, sum_by-cons list_words (tokens_at table n) (map (tokens_at table) ns))
 
-call_words : (table : List (Option Entry)) (m : Map) (k : code.Gathering) → IsCall table m k → lists_words (call_lists (calling_of table k)) ≡ sum_by (words_at table) (call_numbers k)
+call_words : (table : List (Option Entry)) (m : Table) (k : code.Gathering) → IsCall table m k → lists_words (call_lists (calling_of table k)) ≡ sum_by (words_at table) (call_numbers k)
 call_words table m k is = sym (words_shown table (call_numbers k) ∙ ap lists_words (call_shown table m k is))
 
 -- each list is a macro's, or is held for itself in one place
@@ -55,23 +56,23 @@ held_once a b o c d sole apart opens = elim (cases_lt 0 (a + d)) [
       omega (arith, ap some same, ge)
 ]
 
-pub words_are : (table : List (Option Entry)) (stack : InputStack) (making : Option Build) (gathered : List Build) (m : Named) (sizes : Sizes) → IsShared table stack (all_builds making gathered) m → IsCall table m.map m.call → words table ≡ words_held (lists_of table (pending table stack) making gathered m sizes)
+pub words_are : (table : List (Option Entry)) (stack : InputStack) (making : Option Build) (gathered : List Build) (m : Named) (sizes : Sizes) → IsShared table stack (all_builds making gathered) m → IsCall table m.table m.call → words table ≡ words_held (lists_of table (pending table stack) making gathered m sizes)
 words_are table stack making gathered m sizes shared is =
     let bs = all_builds making gathered in
     let ps = (pending table stack).puts in
     let ns = owns ps in
     let ks = call_numbers m.call ++ map build_id bs in
     let others : (h : ℕ) → times h ks ≡ built bs h + call_holds m.call h =
-    λ h. omega (arith, times_append h (call_numbers m.call) (map build_id bs), build_times bs h, call_times table m.map m.call h is) in
-    let counted : (h : ℕ) → some (holders_at table h) ≡ mark m.map.cells (fronts table ps) h + times h (ns ++ ks) =
+    λ h. omega (arith, times_append h (call_numbers m.call) (map build_id bs), build_times bs h, call_times table m.table m.call h is) in
+    let counted : (h : ℕ) → some (holders_at table h) ≡ mark (lists_held m.table.groups) (fronts table ps) h + times h (ns ++ ks) =
     λ h.
     let d = built bs h + call_holds m.call h in
-    let all : holders_at table h ≡ times h ns + (times h (bodies ps) + times h (opens ps)) + (d + meant.held m.map h) = omega (arith, shared.counted h, held_parts table stack shared.simple.single h) in
-    let once = held_once (times h ns) (times h (bodies ps)) (times h (opens ps)) (meant.held m.map h) d (shared.apart.sole h) (shared.apart.apart h) (no_opens ps shared.simple.fronts h) in
-    omega (arith, ap some all, once, macro_once table m.map ps h, others h, times_append h ns ks) in
-    let words = words_counted m.map.cells (fronts table ps) table (ns ++ ks) counted in
+    let all : holders_at table h ≡ times h ns + (times h (bodies ps) + times h (opens ps)) + (d + eqtb.held m.table h) = omega (arith, shared.counted h, held_parts table stack shared.simple.single h) in
+    let once = held_once (times h ns) (times h (bodies ps)) (times h (opens ps)) (eqtb.held m.table h) d (shared.apart.sole h) (shared.apart.apart h) (no_opens ps shared.simple.fronts h) in
+    omega (arith, ap some all, once, macro_once table m.table ps h, others h, times_append h ns ks) in
+    let words = words_counted (lists_held m.table.groups) (fronts table ps) table (ns ++ ks) counted in
     let calls = sum_by-append list_words (call_lists (calling_of table m.call)) (map (text table) (reverse gathered)) in
-    omega (arith, words, sum_by-append (words_at table) ns ks, sum_by-append (words_at table) (call_numbers m.call) (map build_id bs), front_words table ps shared.listed, build_words table bs, all_words table making (reverse gathered), call_words table m.map m.call is, calls)
+    omega (arith, words, sum_by-append (words_at table) ns ks, sum_by-append (words_at table) (call_numbers m.call) (map build_id bs), front_words table ps shared.listed, build_words table bs, all_words table making (reverse gathered), call_words table m.table m.call is, calls)
 
 -- a list takes a word
 few : (us : List (List Token)) → length us ≤ lists_words us

@@ -5,14 +5,16 @@ use Rattle.tex_defs.specs.declared.Token.TheVariants.{EndPlaces}
 use Rattle.tex_defs.specs.declared.Name.{Name}
 use Rattle.tex_defs.specs.declared.Meaning.{Meaning}
 use Rattle.tex_defs.specs.declared.Meaning.TheVariants as means
-use Rattle.plain_tokens.specs.Meanings.{assigned, name_meaning}
+use Rattle.plain_tokens.specs.Meanings.{is_listed, name_meaning}
+use Rattle.equivalents.specs.Groups.{Groups, set_name}
+use Rattle.equivalents.specs.Holding.{lists_held, lists_outside}
 use Rattle.plain_tokens.specs.Arguments.{has_parameters, begins_with_place}
 use Rattle.plain_tokens.specs.Puts.{Item, Put, call_put, token_put, settled}
 use Rattle.plain_tokens.specs.Pending.{Pending, with_puts}
 use Rattle.plain_tokens.specs.Tables.{Demand}
 use Rattle.input_state.specs.declared.answer.CallKind.{CallKind}
 use Rattle.input_state.specs.declared.answer.CallKind.TheVariants as kind
-use Rattle.input_state.specs.Macros.{list_at, is_macro}
+use Rattle.input_state.specs.Macros.{list_at, is_shared}
 use Rattle.input_state.specs.Callings.{Calling, NotCalling, Gathering, Stopped, Gathered}
 
 -- the mark between a macro's parameter text and its body
@@ -80,9 +82,10 @@ when_put (x ∷ xs) ds = ds
 
 -- A DEFINITION
 
--- This list is a macro's now, of a number that no macro had; the name means it.
-pub record Defines (meanings new_meanings : List (Meaning (Option ℕ))) (puts : List Put) (lists new_lists : List (List Token)) (ts : List Token) (name : Name) (long outer : Bool) : Type 0 where
+-- This list is a macro's now, of a number that no shared list had, in no group; the name means it.
+pub record Defines (global : Bool) (groups new_groups : Groups) (puts : List Put) (lists new_lists : List (List Token)) (ts : List Token) (name : Name) (long outer : Bool) : Type 0 where
   pub id : ℕ
-  pub free : is_macro id meanings puts ≡ false
-  pub means : new_meanings ≡ assigned meanings name (means.Macro long outer (Some id))
+  pub free : is_shared id (lists_held groups) puts ≡ false
+  pub outside : is_listed (lists_outside groups.outer) id ≡ false
+  pub means : new_groups ≡ set_name global groups name (means.Macro long outer (Some id))
   pub list : list_at new_lists id ≡ ts

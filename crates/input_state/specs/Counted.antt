@@ -1,13 +1,12 @@
--- Who holds the lists of the memory. A macro's list is held by each name that means it and by each list in front that is
+-- Who holds the lists of the memory. A macro's list is held by each location and each saved value that has it and by each list in front that is
 -- its body, any other list by the one place where it is shown, and an argument that is read once more, by its level.
 use Rattle.std.specs.Prelude.{◌≡◌, ℕ, ◌+◌, ◌<◌, ◌≤◌, List, [], ◌∷◌, ◌++◌, map, drop, Option, None, Some, IfSome, option_to_list}
 use Rattle.std.specs.List.{AllZip, filter_map, flat_map}
 use Rattle.tex_defs.specs.declared.Token.{Token}
-use Rattle.tex_defs.specs.declared.Meaning.{Meaning}
 use Rattle.plain_tokens.specs.Puts.{Put, Whole, Own, Macro, levels_of, list_of_tokens}
 use Rattle.token_lists.specs.Table.{Entry, tokens_at}
 use Rattle.token_lists.specs.Holders.{times, AreHolders}
-use Rattle.meanings.specs.Holding.{list_of}
+use Rattle.equivalents.specs.Holding.{lists_held}
 use Rattle.input_stack.specs.Puts.{count_of}
 use Rattle.input_state.specs.Stored.{Stored, gathered}
 
@@ -44,9 +43,9 @@ HasNoMoreLevels p n = levels_of p.items ≡ 1 + count_of n.reading
 
 -- ALL HOLDERS, by the numbers of the lists that they hold
 
--- the names that mean a macro, and the lists in front that are a macro's body
-abbrev pub macro_numbers : List (Meaning (Option ℕ)) → List Put → List ℕ
-macro_numbers meanings puts = filter_map list_of meanings ++ filter_map (λ p. macro_of p.list) puts
+-- the locations and saved values that have a list, and the lists in front that are a macro's body
+abbrev pub shared_numbers : (held : List ℕ) → List Put → List ℕ
+shared_numbers held puts = held ++ filter_map (λ p. macro_of p.list) puts
 
 -- the places of the other lists
 abbrev pub own_numbers : List Numbers → List ℕ → List ℕ
@@ -56,18 +55,18 @@ own_numbers fronts rest = flat_map (λ n. n.own ++ n.arguments) fronts ++ rest
 abbrev pub reading_numbers : List Numbers → List ℕ
 reading_numbers fronts = filter_map (λ n. n.reading) fronts
 
--- The holders of all lists, where the names mean this, these lists are in front, and these others are held. In the innermost
+-- The holders of all lists, where locations and saved values hold these, these lists are in front, and these others are held. In the innermost
 -- list in front an argument's level may be open behind its last token, until the next reading.
-pub record HaveHolders (table : List (Option Entry)) (meanings : List (Meaning (Option ℕ))) (puts : List Put) (others : List (List Token)) : Type 0 where
+pub record HaveHolders (table : List (Option Entry)) (held : List ℕ) (puts : List Put) (others : List (List Token)) : Type 0 where
   pub fronts : List Numbers
   pub rest : List ℕ
   pub in_front : AllZip (AreListsOf table) puts fronts
   pub beneath : AllZip HasNoMoreLevels (drop 1 puts) (drop 1 fronts)
   pub elsewhere : map (tokens_at table) rest ≡ others
-  pub counts : AreHolders table (macro_numbers meanings puts ++ (own_numbers fronts rest ++ reading_numbers fronts))
+  pub counts : AreHolders table (shared_numbers held puts ++ (own_numbers fronts rest ++ reading_numbers fronts))
   -- each of these lists has that one place, and is no macro's
-  pub sole : (h : ℕ) → 0 < times h (own_numbers fronts rest) → times h (macro_numbers meanings puts ++ own_numbers fronts rest) ≡ 1
+  pub sole : (h : ℕ) → 0 < times h (own_numbers fronts rest) → times h (shared_numbers held puts ++ own_numbers fronts rest) ≡ 1
 
 -- The others are the list that is made, the call's, and those that are gathered.
 abbrev pub AreCounted : List (Option Entry) → Stored → Type 0
-AreCounted table s = HaveHolders table s.meanings s.pending.puts (option_to_list s.making ++ gathered s)
+AreCounted table s = HaveHolders table (lists_held s.groups) s.pending.puts (option_to_list s.making ++ gathered s)

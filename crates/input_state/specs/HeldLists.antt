@@ -1,14 +1,16 @@
 -- The lists that are held, and the line of the file beneath those in front.
 use Rattle.std.specs.Prelude.{ℕ, ◌+◌, ◌≤◌, List, [], ◌∷◌, ◌++◌, length, Option, None, Some, Bool, true, false}
 use Rattle.tex_defs.specs.declared.Token.{Token}
-use Rattle.tex_defs.specs.declared.Meaning.{Meaning}
 use Rattle.tex_defs.specs.declared.Full.{Full}
 use Rattle.tex_defs.specs.declared.Sizes.{Sizes}
 use Rattle.tex_defs.specs.declared.Table.TheVariants.{InputStackSize, ParameterStackSize}
 use Rattle.plain_tokens.specs.Lex as plain
 use Rattle.plain_tokens.specs.Puts.{Put, put_levels, put_parameters, settled, passed}
 use Rattle.plain_tokens.specs.Pending.{Pending, Progress, NotBegun}
-use Rattle.plain_tokens.specs.Tables.{Demand, refused, held_words, macro_words}
+use Rattle.plain_tokens.specs.Tables.{Demand, refused, held_words}
+use Rattle.save_stack.specs.declared.GroupKind.{GroupKind}
+use Rattle.equivalents.specs.Groups.{Groups}
+use Rattle.equivalents.specs.Holding.{lists_held, shared_words}
 use Rattle.input_state.specs.Macros.{KeepsLists}
 use Rattle.input_state.specs.Calls.{when_called, when_put}
 use Rattle.input_state.specs.Callings.{Calling, call_lists}
@@ -17,8 +19,8 @@ use Rattle.line_lexer.specs.declared.Ahead.{Ahead}
 use Rattle.line_lexer.specs.declared.Ahead.TheVariants as ahead
 use Rattle.line_lexer.specs.Answers.{state_of, rest_of, looks_of}
 
--- the lists in front, the one that is being made, the call, the lists of other readings, and what is left of the line; what the names mean,
--- by their locations, how many names may be entered, and all lists by their numbers
+-- the lists in front, the one that is being made, the call, the lists of other readings, and what is left of the line; what stands
+-- at all locations, what a closed group has still to give, and all lists by their numbers
 pub record HeldLists : Type 0 where
   pub puts : List Put
   pub making : Option (List Token)
@@ -26,8 +28,9 @@ pub record HeldLists : Type 0 where
   pub builds : List (List Token)
   pub line : Option Line
   pub sizes : Sizes
-  pub meanings : List (Meaning (Option ℕ))
-  pub hash_size : ℕ
+  pub groups : Groups
+  pub closing : List Token
+  pub ending : Option GroupKind
   pub lists : List (List Token)
 
 -- the innermost of the lists that are gathered
@@ -51,13 +54,13 @@ abbrev pub gathered_held : HeldLists → List (List Token)
 gathered_held s = call_lists s.call ++ s.builds
 
 abbrev pub words_held : HeldLists → ℕ
-words_held s = macro_words 0 s.meanings s.puts s.lists + held_words s.puts s.making (gathered_held s)
+words_held s = shared_words 0 (lists_held s.groups) s.puts s.lists + held_words s.puts s.making (gathered_held s)
 
 -- MACROS
 
 -- each macro whose list is held then keeps its tokens
 abbrev pub KeepsHeld : HeldLists → HeldLists → Type 0
-KeepsHeld old new = KeepsLists new.meanings new.puts old.lists new.lists
+KeepsHeld old new = KeepsLists (lists_held new.groups) new.puts old.lists new.lists
 
 -- a level for the file that is open
 abbrev pub line_levels : Option Line → ℕ

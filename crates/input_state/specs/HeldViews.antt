@@ -4,8 +4,9 @@ use Rattle.tex_defs.specs.declared.Token.{Token}
 use Rattle.tex_defs.specs.declared.Sizes.{Sizes}
 use Rattle.tex_defs.specs.Sizes.{first_out_of_range}
 use Rattle.plain_tokens.specs.Puts as plain
-use Rattle.meanings.specs.Map.{Map}
-use Rattle.meanings.specs.Holding as meant
+use Rattle.equivalents.specs.Holding.{list_of}
+use Rattle.eqtb_save.specs.Table.{Table}
+use Rattle.eqtb_save.specs.Holding as eqtb
 use Rattle.line_lexer.specs.declared.Line.{Line}
 use Rattle.token_lists.specs.declared.Build.{Build}
 use Rattle.token_lists.specs.Ids.{build_id, IsBuilding}
@@ -22,7 +23,7 @@ use Rattle.macro_call.specs.Listed.{AreListed}
 use Rattle.macro_call.specs.declared.scan.ArgScan.{ArgScan}
 use Rattle.macro_args.specs.declared.args.Args.{Args}
 use Rattle.tex_defs.specs.declared.Name.{Name}
-use Rattle.plain_tokens.specs.Meanings.{fixed_locations, name_meaning}
+use Rattle.plain_tokens.specs.Meanings.{name_meaning}
 use Rattle.input_state.specs.HeldLists.{HeldLists}
 use Rattle.input_state.specs.Callings.{Calling, NotCalling, Gathering, Stopped, Gathered}
 use Rattle.input_state.specs.declared.gathering.Gathering as code
@@ -67,13 +68,13 @@ line_of (b ∷ bs) = Some b.source.line
 abbrev pub texts : List (Option Entry) → List (List Token)
 texts table = map tokens_of table
 
--- what the names mean, and the call that is gathered
+-- what stands at all locations, and the call that is gathered
 pub record Named : Type 0 where
-  pub map : Map
+  pub table : Table
   pub call : code.Gathering
 
-abbrev pub named : Map → code.Gathering → Named
-named m gathering = record { map = m; call = gathering }
+abbrev pub named : Table → code.Gathering → Named
+named t gathering = record { table = t; call = gathering }
 
 abbrev pub calling_of : List (Option Entry) → code.Gathering → Calling
 calling_of table call.None = NotCalling
@@ -89,8 +90,9 @@ lists_of table p making gathered m sizes = record {
   builds = map (text table) (reverse gathered);
   line = line_of p.sources;
   sizes = sizes;
-  meanings = m.map.cells;
-  hash_size = m.map.hash_size;
+  groups = m.table.groups;
+  closing = m.table.closing;
+  ending = m.table.ending;
   lists = texts table;
 }
 
@@ -182,62 +184,61 @@ call_holds (call.Gathers name scan) h = scans.scan_holds scan h
 call_holds (call.Stopped name scan) h = scans.scan_holds scan h
 call_holds (call.Gathered name args) h = args_hold args h
 
--- how often names and the call do
+-- how often locations, saved values and the call do
 abbrev pub names_hold : Named → ℕ → ℕ
-names_hold m h = meant.held m.map h + call_holds m.call h
+names_hold m h = eqtb.held m.table h + call_holds m.call h
 
 -- A list in front of its own, an argument, a list of the call or one that is being built is that in one place, and no macro's.
 pub record IsApart (ps : List Put) (bs : List Build) (m : Named) : Type 0 where
   pub sole : (h : ℕ) → times h (owns ps) + (built bs h + call_holds m.call h) ≤ 1
-  pub apart : (h : ℕ) → 0 < times h (owns ps) + (built bs h + call_holds m.call h) → times h (bodies ps) + meant.held m.map h ≡ 0
+  pub apart : (h : ℕ) → 0 < times h (owns ps) + (built bs h + call_holds m.call h) → times h (bodies ps) + eqtb.held m.table h ≡ 0
 
 -- a macro's list has a token, its end mark
 pub record IsDefined (ts : List Token) : Type 0 where
   pub some : 0 < length ts
 
--- Each list is held by levels, builds, names and the call.
+-- Each list is held by levels, builds, locations, saved values and the call.
 pub record IsShared (table : List (Option Entry)) (stack : InputStack) (bs : List Build) (m : Named) : Type 0 where
   pub stands : Stands table stack
   pub simple : IsSimple (pending table stack)
   pub building : All (IsBuilding table) bs
   pub counted : (h : ℕ) → holders_at table h ≡ held stack h + (built bs h + names_hold m h)
   pub apart : IsApart (pending table stack).puts bs m
-  pub macros : (h : ℕ) → 0 < meant.held m.map h → IsDefined (tokens_at table h)
+  pub macros : (h : ℕ) → 0 < eqtb.held m.table h → IsDefined (tokens_at table h)
   -- an argument without tokens has no list
   pub listed : (h : ℕ) → 0 < times h (cells_of (pending table stack).puts) → 0 < length (tokens_at table h)
 
 -- THE CALL
 
 -- the name means the macro over whose list the scanner stands
-pub record IsGathering (table : List (Option Entry)) (m : Map) (name : Name) (scan : ArgScan) : Type 0 where
+pub record IsGathering (table : List (Option Entry)) (t : Table) (name : Name) (scan : ArgScan) : Type 0 where
   pub id : ℕ
-  pub list : meant.list_of (name_meaning m.cells name) ≡ Some id
+  pub list : list_of (name_meaning t.groups.now.meanings name) ≡ Some id
   pub sound : scans.IsSound table id scan
 
 -- the name means a macro, and an argument without tokens has no list
-pub record IsGathered (table : List (Option Entry)) (m : Map) (name : Name) (args : Args) : Type 0 where
+pub record IsGathered (table : List (Option Entry)) (t : Table) (name : Name) (args : Args) : Type 0 where
   pub id : ℕ
-  pub list : meant.list_of (name_meaning m.cells name) ≡ Some id
+  pub list : list_of (name_meaning t.groups.now.meanings name) ≡ Some id
   pub filled : IsFilled args
   pub listed : AreListed table args
 
-abbrev pub IsCall : List (Option Entry) → Map → code.Gathering → Type 0
-IsCall table m call.None = Unit {0}
-IsCall table m (call.Gathers name scan) = IsGathering table m name scan
-IsCall table m (call.Stopped name scan) = scans.Owns table scan
-IsCall table m (call.Gathered name args) = IsGathered table m name args
+abbrev pub IsCall : List (Option Entry) → Table → code.Gathering → Type 0
+IsCall table t call.None = Unit {0}
+IsCall table t (call.Gathers name scan) = IsGathering table t name scan
+IsCall table t (call.Stopped name scan) = scans.Owns table scan
+IsCall table t (call.Gathered name args) = IsGathered table t name args
 
 -- the sizes are in range, and there is room for what they admit
 pub record IsSized (table : List (Option Entry)) (stack : InputStack) (m : Named) (sizes : Sizes) (capacity : ℕ) : Type 0 where
   pub memory : length table ≡ sizes.main_memory_size
   pub levels : stack.size ≡ sizes.input_stack_size
   pub parameters : stack.parameter_size ≡ sizes.parameter_stack_size
-  pub names : m.map.hash_size ≡ sizes.hash_size
-  pub few : length m.map.cells ≤ fixed_locations + m.map.hash_size
+  pub equivalents : m.table.sizes ≡ sizes
   pub room : sizes.main_memory_size ≤ capacity
   pub ranges : first_out_of_range sizes ≡ None
 
 pub record IsSound (table : List (Option Entry)) (stack : InputStack) (making : Option Build) (gathered : List Build) (m : Named) (sizes : Sizes) (capacity : ℕ) : Type 0 where
   pub shared : IsShared table stack (all_builds making gathered) m
   pub sized : IsSized table stack m sizes capacity
-  pub call : IsCall table m.map m.call
+  pub call : IsCall table m.table m.call

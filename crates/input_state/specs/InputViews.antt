@@ -14,8 +14,9 @@ stored_of held buffer file = record {
   builds = held.builds;
   buffer = buffer;
   sizes = held.sizes;
-  meanings = held.meanings;
-  hash_size = held.hash_size;
+  groups = held.groups;
+  closing = held.closing;
+  ending = held.ending;
   lists = held.lists;
 }
 

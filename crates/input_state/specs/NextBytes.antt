@@ -6,15 +6,15 @@ use Rattle.input_state.specs.Stored.{Stored}
 
 -- The next reading is known, whatever comes of the file: it isn't the file's, no file is open, the file's line is
 -- whole, or it has too many bytes for the buffer.
-pub data KnowsNext (s : Stored) (categories : List ℕ) : Type 0 where
-  InFront : takes_file (pulled categories s.pending) ≡ false → KnowsNext s categories
-  NoFile : s.pending.file ≡ Closed → KnowsNext s categories
-  HasLine : has_feed s.pending.rest ≡ true → KnowsNext s categories
-  TooLong : s.sizes.buffer_size < length s.pending.rest → KnowsNext s categories
+pub data KnowsNext (s : Stored) : Type 0 where
+  InFront : takes_file (pulled s.groups.now.categories s.pending) ≡ false → KnowsNext s
+  NoFile : s.pending.file ≡ Closed → KnowsNext s
+  HasLine : has_feed s.pending.rest ≡ true → KnowsNext s
+  TooLong : s.sizes.buffer_size < length s.pending.rest → KnowsNext s
 
 -- The next reading is the file's, which is open, and neither its line's end came nor too many bytes for the buffer.
-pub record NeedsBytes (s : Stored) (categories : List ℕ) : Type 0 where
-  pub at_file : takes_file (pulled categories s.pending) ≡ true
+pub record NeedsBytes (s : Stored) : Type 0 where
+  pub at_file : takes_file (pulled s.groups.now.categories s.pending) ≡ true
   pub not_closed : s.pending.file ≢ Closed
   pub no_line : has_feed s.pending.rest ≡ false
   pub few : length s.pending.rest ≤ s.sizes.buffer_size

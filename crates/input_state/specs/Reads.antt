@@ -62,8 +62,8 @@ step_demands (LineTaken line next) p = next_line p
 step_demands q p = []
 
 -- why it isn't made
-abbrev pub pull_refusal : List ℕ → Stored → Option Full
-pull_refusal categories s = refused s.sizes (step_demands (pulled categories s.pending) s.pending)
+abbrev pub pull_refusal : Stored → Option Full
+pull_refusal s = refused s.sizes (step_demands (pulled s.groups.now.categories s.pending) s.pending)
 
 -- A line would be taken and has no room: it is not taken.
 pub record RefusesTaken (q : Pulled) (full : Full) (old new : Stored) : Type 0 where

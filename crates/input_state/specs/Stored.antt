@@ -1,13 +1,15 @@
 -- All lists of a run, and all that is still to be read.
 use Rattle.std.specs.Prelude.{ℕ, ◌+◌, Bool, true, false, List, [], ◌∷◌, ◌++◌, Option, None, Some}
 use Rattle.tex_defs.specs.declared.Token.{Token}
-use Rattle.tex_defs.specs.declared.Meaning.{Meaning}
 use Rattle.tex_defs.specs.declared.Full.{Full}
 use Rattle.tex_defs.specs.declared.Sizes.{Sizes}
 use Rattle.plain_tokens.specs.Puts.{Put}
 use Rattle.plain_tokens.specs.Lex.{NewLine}
 use Rattle.plain_tokens.specs.Pending.{Pending, NotBegun, Closed, settle}
-use Rattle.plain_tokens.specs.Tables.{held_words, macro_words, level, parameters, refused}
+use Rattle.plain_tokens.specs.Tables.{held_words, level, parameters, refused}
+use Rattle.save_stack.specs.declared.GroupKind.{GroupKind}
+use Rattle.equivalents.specs.Groups.{Groups}
+use Rattle.equivalents.specs.Holding.{lists_held, shared_words}
 use Rattle.input_state.specs.Macros.{KeepsLists}
 use Rattle.input_state.specs.Calls.{when_called, when_put}
 use Rattle.input_state.specs.Callings.{Calling, call_lists}
@@ -23,10 +25,11 @@ pub record Stored : Type 0 where
   -- all bytes of the line buffer
   pub buffer : List ℕ
   pub sizes : Sizes
-  -- what the names mean, by their locations: a macro has the number of its list
-  pub meanings : List (Meaning (Option ℕ))
-  -- how many names of two or more characters may be entered
-  pub hash_size : ℕ
+  -- what stands at all locations, in all groups that are open: a macro has the number of its list
+  pub groups : Groups
+  -- of a group that is being closed, the tokens that are still to be given, in the order in which they are, and its kind
+  pub closing : List Token
+  pub ending : Option GroupKind
   -- all lists of main memory, by their numbers
   pub lists : List (List Token)
 
@@ -36,11 +39,11 @@ gathered s = call_lists s.call ++ s.builds
 
 -- the words of main memory that are used
 abbrev pub words : Stored → ℕ
-words s = macro_words 0 s.meanings s.pending.puts s.lists + held_words s.pending.puts s.making (gathered s)
+words s = shared_words 0 (lists_held s.groups) s.pending.puts s.lists + held_words s.pending.puts s.making (gathered s)
 
 -- each macro whose list is held then keeps its tokens
 abbrev pub KeepsMacros : Stored → Stored → Type 0
-KeepsMacros old new = KeepsLists new.meanings new.pending.puts old.lists new.lists
+KeepsMacros old new = KeepsLists (lists_held new.groups) new.pending.puts old.lists new.lists
 
 -- why the body of a macro isn't put, once the finished lists in front have gone
 abbrev pub call_refusal : Put → Stored → Option Full

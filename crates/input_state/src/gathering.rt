@@ -8,8 +8,8 @@ ghost use Rattle.plain_tokens.specs.Arguments.{has_parameters, begins_with_place
 ghost use Rattle.macro_call.specs.PlainScans.{first_scan};
 ghost use Rattle.macro_call.specs.Modes.{mode_of};
 ghost use Rattle.input_state.specs.Callings as calls;
-ghost use Rattle.meanings.specs.Map.{Map};
-ghost use Rattle.meanings.specs.Holding.{list_of};
+ghost use Rattle.eqtb_save.specs.Table.{Table};
+ghost use Rattle.equivalents.specs.Holding.{list_of};
 ghost use Rattle.macro_call.specs.Scans.{IsSound, scan_of};
 ghost use Rattle.input_state.specs.declared.gathering.Gathering.TheVariants as gathering;
 ghost use Rattle.input_state.specs.HeldViews.{calling_of, IsScanning, HasArguments};
@@ -79,7 +79,7 @@ impl Gathering {
 pub fn begin(lists: &mut Lists, list: &ListRef, name: Name, long: bool) -> Result<Gathering, Full>
     requires held { IsHeld lists.old (id_of list.now) }
     requires gathers { has_parameters (tokens_at lists.old (id_of list.now)) ≡ true }
-    ensures recalls { IfOk result (λ call. (m : Map) → list_of (name_meaning m.cells name) ≡ Some (id_of list.now) → Recalls lists.old lists.new m gathering.None call) }
+    ensures recalls { IfOk result (λ call. (t : Table) → list_of (name_meaning t.groups.now.meanings name) ≡ Some (id_of list.now) → Recalls lists.old lists.new t gathering.None call) }
     ensures first { IfOk result (λ call. calling_of lists.new call ≡ calls.Gathering name (first_scan (tokens_at lists.old (id_of list.now)) (mode_of long))) }
     ensures err { OnErr result (lists.new ≡ lists.old) }
     ensures place { OnErr result (begins_with_place (tokens_at lists.old (id_of list.now)) ≡ true) }
@@ -98,7 +98,7 @@ pub fn feed(
     seen: Seen,
 ) -> (Gathering, Result<CallTold, Full>)
     requires { IsSound lists.old (id_of list.now) scan }
-    ensures recalls { (m : Map) → list_of (name_meaning m.cells name) ≡ Some (id_of list.now) → Recalls lists.old lists.new m (gathering.Gathers name scan) result.0 }
+    ensures recalls { (t : Table) → list_of (name_meaning t.groups.now.meanings name) ≡ Some (id_of list.now) → Recalls lists.old lists.new t (gathering.Gathers name scan) result.0 }
     ensures ok { IfOk result.1 (λ told. Comes (tokens_at lists.old (id_of list.now)) seen.token told name (scan_of lists.old scan) (calling_of lists.new result.0)) }
     ensures err { OnErr result.1 (CutTo (tokens_at lists.old (id_of list.now)) seen.token name (scan_of lists.old scan) (calling_of lists.new result.0)) }
     ensures full { IfErr result.1 (λ f. IsFull f lists.new) }

@@ -2,7 +2,7 @@
 //!
 //! The lists stand in one main memory, and the lists in front and the job's file in levels of input. Callers see plain
 //! lists: those in front with the rest of the line and of the file, the one that is being made, and those that are
-//! gathered. The names' meanings are here too, since a macro's list is shared by the name and by the calls that read its
+//! gathered. What stands at all locations is here too, since a macro's list is shared by the names that mean it and by the calls that read its
 //! body: it is let go with the last of them. All room is reserved by [`Input::new`]: no other call takes memory.
 //!
 //! *TeX: The Program*, part 22 (input stacks and states) and part 24 (getting the next token).

@@ -1,22 +1,29 @@
-// The lists in front, those that are being made and gathered, the line of the file beneath them, and what the names mean.
-ghost use Rattle.std.specs.Prelude.{◌≡◌, ◌≢◌, ℕ, ◌≤◌, ◌<◌, ◌+◌, ◌++◌, ◌↔◌, true, List, [], ◌∷◌, Option, None, Some, Ok, IsSome, IfSome, IsTrue, IfOk, OnOk, OnErr, IfErr, MatchResult, MatchBool, MatchOption, length, drop, replicate, option_to_list, vec_capacity};
+// The lists in front, those that are being made and gathered, the line of the file beneath them, and what stands at all locations.
+ghost use Rattle.std.specs.Prelude.{◌≡◌, ◌≢◌, ℕ, ◌≤◌, ◌<◌, ◌+◌, ◌++◌, ◌↔◌, true, List, [], ◌∷◌, Option, None, Some, Ok, IsSome, IfSome, IsTrue, IfOk, OnOk, OnErr, IfErr, MatchResult, MatchBool, MatchOption, length, drop, replicate, option_to_list, vec_capacity, slice_index_or, pos};
 ghost use Rattle.tex_defs.specs.Sizes.{first_out_of_range};
-ghost use Rattle.tex_defs.specs.declared.Meaning.TheVariants.{Undefined};
 ghost use Rattle.tex_defs.specs.declared.Meaning.TheVariants as means;
-ghost use Rattle.plain_tokens.specs.Meanings.{first_meanings, is_listed, fixed_locations, location, name_meaning, assigned, seen, met, meaning_to_let};
+ghost use Rattle.plain_tokens.specs.Meanings.{is_listed, location, name_meaning, seen, met, meaning_to_let};
+ghost use Rattle.equivalents.specs.declared.values.Loc.TheVariants as loc;
+ghost use Rattle.equivalents.specs.declared.values.Val.TheVariants as val;
+ghost use Rattle.equivalents.specs.Locations.{Suits};
+ghost use Rattle.equivalents.specs.Groups.{first_groups, entered, set, set_name, set_demands, name_demands, IsLocation};
+ghost use Rattle.equivalents.specs.Holding.{lists_held};
+ghost use Rattle.eqtb_save.specs.Values.{numbered};
+ghost use Rattle.eqtb_save.specs.Holding.{val_holds, held};
+ghost use Rattle.meanings.specs.Holding.{Lasts};
 ghost use Rattle.plain_tokens.specs.Puts.{settled, passed, with_put, token_put, grow_first, grown_by};
 ghost use Rattle.plain_tokens.specs.Pending.{Progress, pulled};
-ghost use Rattle.plain_tokens.specs.Tables.{is_meant, lists_words, memory, refused, file_levels};
+ghost use Rattle.plain_tokens.specs.Tables.{lists_words, memory, refused, file_levels};
 ghost use Rattle.line_lexer.specs.declared.Ahead.TheVariants as ahead;
 ghost use Rattle.token_lists.specs.Table.{words, tokens_at, holders_at, IsHeld};
 ghost use Rattle.token_lists.specs.Ids.{build_id, id_of, IsBuilding};
-ghost use Rattle.token_lists.specs.Accounts.{Moves, none, holds};
+ghost use Rattle.token_lists.specs.Accounts.{Moves, Keeps, Covers, none, holds};
 ghost use Rattle.token_lists.specs.Refusals.{IsFull};
 ghost use Rattle.input_state.specs.Counted.{HaveHolders};
 ghost use Rattle.input_state.specs.HeldLists.{HeldLists, KeepsHeld, call_refusal, put_refusal, first_list, is_empty, made, words_held, gathered_held, level_held, pending_of, ahead_of, line_levels, IsLineIn};
-ghost use Rattle.meanings.specs.Map.{IsPlaced};
+ghost use Rattle.meanings.specs.Kept.{IsPlaced};
 ghost use Rattle.input_state.specs.HeldViews.{IsDefined};
-ghost use Rattle.input_state.specs.Macros.{HasNameRoom, list_at};
+ghost use Rattle.input_state.specs.Macros.{HasNameRoom, IsPlaceOf, list_at};
 ghost use Rattle.input_state.specs.Calls.{call_kind, called_put, called, put_of, text_of, begun_lists, Defines};
 ghost use Rattle.input_state.specs.declared.answer.CallKind.TheVariants.{AtOnce, Gathers};
 ghost use Rattle.input_state.specs.Callings.{NotCalling, IsComplete};
@@ -33,10 +40,10 @@ use crate::gathering::{Gathering, begin as begin_call, feed};
 use crate::holders::{give_back, has_parameters, let_go, share};
 use crate::places::behind;
 use crate::{CallKind, CallTold, Pulled};
+use eqtb_save::{Eqtb, Loc, Val, Value, name_loc};
 use input_stack::{InputStack, Pulled as Given};
 use line_lexer::{Ahead, Lexed, Line};
 use macro_args::Args;
-use meanings::Meanings;
 use std::alloc::{AllocError, Global};
 use std::marker::Model;
 use std::mem;
@@ -47,13 +54,13 @@ use world_io::InId;
 /// The number of the job's file.
 const JOB: InId = InId { number: 0 };
 
-/// The lists of a run, what the names mean, and the levels of input. A macro's list may have many holders, each other list
-/// is held in one place.
+/// The lists of a run, what stands at all locations, and the levels of input. A list that a location or a saved value has may have many
+/// holders, each other list is held in one place.
 #[must_use]
 pub struct Held {
     lists: Lists,
     stack: InputStack,
-    meanings: Meanings,
+    table: Eqtb,
     /// The list that is made, to be put in front.
     making: Option<Build>,
     /// The call that is gathered.
@@ -72,9 +79,33 @@ impl Model for Held {
 
     ghost use Rattle.input_state.specs.HeldViews.{lists_of, named, IsSound};
 
-    ghost view = { λ i. lists_of i.lists (pending i.lists i.stack) i.making i.builds.items (named i.meanings i.call) i.sizes };
+    ghost view = { λ i. lists_of i.lists (pending i.lists i.stack) i.making i.builds.items (named i.table i.call) i.sizes };
 
-    ghost invariant = { λ i. IsSound i.lists i.stack i.making i.builds.items (named i.meanings i.call) i.sizes (vec_capacity i.builds) };
+    ghost invariant = { λ i. IsSound i.lists i.stack i.making i.builds.items (named i.table i.call) i.sizes (vec_capacity i.builds) };
+}
+
+// An assignment for which there is room. The list of the old value is let go, or saved with it.
+fn assign(table: &mut Eqtb, lists: &mut Lists, global: bool, place: Loc, value: Value)
+    requires within { IsLocation table.old.groups place }
+    requires suits { Suits place (numbered value) }
+    requires room { refused table.old.sizes (set_demands global table.old.groups place) ≡ None }
+    requires covered { Covers lists.old (λ h. val_holds (numbered value) h + held table.old h) }
+    ensures after { table.new ≡ record table.old { groups = set global table.old.groups place (numbered value) } }
+    ensures account { Moves lists.old lists.new (λ h. val_holds (numbered value) h + held table.old h) (held table.new) }
+    ensures kept { Keeps lists.old lists.new (λ h. val_holds (numbered value) h + held table.old h) }
+    ensures lasting { Lasts lists.old lists.new }
+    ensures fewer { (h : ℕ) → holders_at lists.new h ≤ holders_at lists.old h }
+    ensures stored { (k : ℕ) → place ≡ loc.Means k → (h : ℕ) → val_holds (numbered value) h ≤ held table.new h }
+    ensures length { length lists.new ≡ length lists.old }
+{
+    if global {
+        table.gdefine(lists, place, value);
+        return;
+    }
+    match table.define(lists, place, value) {
+        Ok(()) => {}
+        Err(_full) => unreachable!(),
+    }
 }
 
 // Begins a list. What is used then says that there was room for it.
@@ -162,12 +193,12 @@ impl Held {
     /// There is no room for them. No other call takes memory.
     pub fn new(alloc: Global, sizes: &Sizes, known: &[u16]) -> Result<Held, AllocError>
         requires { first_out_of_range sizes.now ≡ None }
-        ensures { IfOk result (λ h. h ≡ record { puts = []; making = None; call = NotCalling; builds = []; line = None; sizes = sizes.now; meanings = first_meanings (is_listed known.now); hash_size = sizes.now.hash_size; lists = replicate sizes.now.main_memory_size [] }) }
+        ensures { IfOk result (λ h. h ≡ record { puts = []; making = None; call = NotCalling; builds = []; line = None; sizes = sizes.now; groups = first_groups (is_listed known.now); closing = []; ending = None; lists = replicate sizes.now.main_memory_size [] }) }
     {
         let mut lists = Lists::new(alloc, sizes.main_memory_size)?;
         let builds = Vec::with_capacity(alloc, sizes.main_memory_size as usize)?;
-        let meanings = match Meanings::with_known(alloc, sizes, known) {
-            Ok(meanings) => meanings,
+        let table = match Eqtb::new(alloc, sizes, known) {
+            Ok(table) => table,
             Err(error) => {
                 builds.destroy_empty();
                 return Err(error);
@@ -177,14 +208,14 @@ impl Held {
             Ok(stack) => Ok(Held {
                 lists,
                 stack,
-                meanings,
+                table,
                 making: None,
                 call: Gathering::None,
                 builds,
                 sizes: *sizes,
             }),
             Err(error) => {
-                meanings.close(&mut lists);
+                table.close(&mut lists);
                 builds.destroy_empty();
                 Err(error)
             }
@@ -291,7 +322,7 @@ impl Held {
     pub fn lists(&self) -> &Lists
         ensures words { words result.now ≡ words_held self.now }
         ensures tokens { (id : ℕ) → tokens_at result.now id ≡ list_at self.now.lists id }
-        ensures counts { HaveHolders result.now self.now.meanings self.now.puts (option_to_list self.now.making ++ gathered_held self.now) }
+        ensures counts { HaveHolders result.now (lists_held self.now.groups) self.now.puts (option_to_list self.now.making ++ gathered_held self.now) }
     {
         &self.lists
     }
@@ -385,12 +416,13 @@ impl Held {
     }
 
     /// What the next pull gives. Nothing changes.
-    pub fn looks(&self, bytes: &[u8], categories: &[u8; 256]) -> Ahead
+    pub fn looks(&self, bytes: &[u8]) -> Ahead
         requires { IsLineIn self.now.line (length bytes.now) }
-        ensures ahead { (rest : List ℕ) (file : Progress) (number : ℕ) → result ≡ ahead_of categories.now (pending_of self.now bytes.now rest file number) }
+        ensures ahead { (rest : List ℕ) (file : Progress) (number : ℕ) → result ≡ ahead_of self.now.groups.now.categories (pending_of self.now bytes.now rest file number) }
         ensures passed { result ≡ ahead.End → passed self.now.puts ≡ [] }
     {
-        self.stack.looks(&self.lists, bytes, categories)
+        self.stack
+            .looks(&self.lists, bytes, self.table.categories())
     }
 
     /// The next token of a list in front, or what the line gives, where it isn't used up.
@@ -398,30 +430,34 @@ impl Held {
     /// # Errors
     /// The level of an argument passes the size of the input stack. Nothing has changed but that the finished lists in
     /// front have gone.
-    pub fn pull(&mut self, bytes: &mut [u8], categories: &[u8; 256]) -> Result<Pulled, Full>
+    pub fn pull(&mut self, bytes: &mut [u8]) -> Result<Pulled, Full>
         requires in_buffer { IsLineIn self.old.line (length bytes.old) }
-        requires more { (rest : List ℕ) (file : Progress) (number : ℕ) → ahead_of categories.now (pending_of self.old bytes.old rest file number) ≢ ahead.End }
+        requires more { (rest : List ℕ) (file : Progress) (number : ℕ) → ahead_of self.old.groups.now.categories (pending_of self.old bytes.old rest file number) ≢ ahead.End }
         ensures in_buffer { IsLineIn self.new.line (length bytes.new) }
-        ensures gives { (rest : List ℕ) (file : Progress) (number : ℕ) → GivesTo (pulled categories.now (pending_of self.old bytes.old rest file number)) result (pending_of self.old bytes.old rest file number) (pending_of self.new bytes.new rest file number) bytes.new }
-        ensures refused { (rest : List ℕ) (file : Progress) (number : ℕ) → line_levels self.old.line ≡ file_levels file → MatchResult result (λ _. refused self.old.sizes (step_demands (pulled categories.now (pending_of self.old bytes.old rest file number)) (pending_of self.old bytes.old rest file number)) ≡ None) (λ full. refused self.old.sizes (step_demands (pulled categories.now (pending_of self.old bytes.old rest file number)) (pending_of self.old bytes.old rest file number)) ≡ Some full) }
+        ensures gives { (rest : List ℕ) (file : Progress) (number : ℕ) → GivesTo (pulled self.old.groups.now.categories (pending_of self.old bytes.old rest file number)) result (pending_of self.old bytes.old rest file number) (pending_of self.new bytes.new rest file number) bytes.new }
+        ensures refused { (rest : List ℕ) (file : Progress) (number : ℕ) → line_levels self.old.line ≡ file_levels file → MatchResult result (λ _. refused self.old.sizes (step_demands (pulled self.old.groups.now.categories (pending_of self.old bytes.old rest file number)) (pending_of self.old bytes.old rest file number)) ≡ None) (λ full. refused self.old.sizes (step_demands (pulled self.old.groups.now.categories (pending_of self.old bytes.old rest file number)) (pending_of self.old bytes.old rest file number)) ≡ Some full) }
         ensures err { OnErr result (self.new ≡ record self.old { puts = settled self.old.puts; lists = self.new.lists }) }
         ensures bytes { OnErr result (bytes.new ≡ bytes.old) }
         ensures others { self.new ≡ record self.old { puts = self.new.puts; line = self.new.line; lists = self.new.lists } }
         ensures macros { KeepsHeld self.old self.new }
         ensures levels { line_levels self.new.line ≡ line_levels self.old.line }
     {
+        self.table.recall();
+        let categories = self.table.categories();
         answered(self.stack.pull(&mut self.lists, bytes, categories))
     }
 
     /// Where nothing is left but gaps and a line that is used up, all lists in front go.
-    pub fn drop_front(&mut self, bytes: &mut [u8], categories: &[u8; 256])
+    pub fn drop_front(&mut self, bytes: &mut [u8])
         requires in_buffer { IsLineIn self.old.line (length bytes.old) }
-        requires end { (rest : List ℕ) (file : Progress) (number : ℕ) → ahead_of categories.now (pending_of self.old bytes.old rest file number) ≡ ahead.End }
+        requires end { (rest : List ℕ) (file : Progress) (number : ℕ) → ahead_of self.old.groups.now.categories (pending_of self.old bytes.old rest file number) ≡ ahead.End }
         ensures in_buffer { IsLineIn self.new.line (length bytes.new) }
         ensures after { self.new ≡ record self.old { puts = []; line = self.new.line; lists = self.new.lists } }
         ensures macros { KeepsHeld self.old self.new }
         ensures levels { line_levels self.new.line ≡ line_levels self.old.line }
     {
+        self.table.recall();
+        let categories = self.table.categories();
         let _given = self.stack.pull(&mut self.lists, bytes, categories);
     }
 
@@ -460,86 +496,193 @@ impl Held {
 
     /// A token with what it means.
     pub fn seen(&self, token: Token) -> Seen
-        ensures { result ≡ seen self.now.meanings token }
+        ensures { result ≡ seen self.now.groups.now.meanings token }
     {
-        self.meanings.seen(token)
+        self.table.seen(token)
     }
 
     /// A token as it is handed on.
     pub fn met(&self, token: Token) -> Seen
-        ensures { result ≡ met self.now.meanings token }
+        ensures { result ≡ met self.now.groups.now.meanings token }
     {
-        self.meanings.met(token)
+        self.table.met(token)
     }
 
     /// Whether one more name of two or more characters may be entered.
     pub fn has_name_room(&self) -> bool
-        ensures { MatchBool result (HasNameRoom self.now.meanings self.now.hash_size) (HasNameRoom self.now.meanings self.now.hash_size → ⊥) }
+        ensures { MatchBool result (HasNameRoom self.now.groups self.now.sizes.hash_size) (HasNameRoom self.now.groups self.now.sizes.hash_size → ⊥) }
     {
-        self.meanings.has_room()
+        self.table.has_room()
     }
 
     /// Gives the next name of two or more characters a location. It is undefined.
     pub fn enter_name(&mut self)
-        requires { length self.old.meanings < fixed_locations + self.old.hash_size }
-        ensures after { self.new ≡ record self.old { meanings = self.old.meanings ++ Undefined ∷ [] } }
+        requires { HasNameRoom self.old.groups self.old.sizes.hash_size }
+        ensures after { self.new ≡ record self.old { groups = entered self.old.groups } }
         ensures macros { KeepsHeld self.old self.new }
     {
-        self.meanings.enter();
+        self.table.enter();
     }
 
     /// Whether a name may be assigned: it has a location, and if it has two or more characters, it was entered.
     pub fn is_placed(&self, name: Name) -> bool
-        ensures { MatchBool result (IsPlaced (location name) (length self.now.meanings)) (IsPlaced (location name) (length self.now.meanings) → ⊥) }
+        ensures { MatchBool result (IsPlaced (location name) (length self.now.groups.now.meanings)) (IsPlaced (location name) (length self.now.groups.now.meanings) → ⊥) }
     {
-        self.meanings.is_placed(name)
+        self.table.is_placed(name)
+    }
+
+    // Whether an assignment to a location has room.
+    fn set_room(&self, global: bool, loc: Loc) -> Result<(), Full>
+        requires { IsLocation self.now.groups loc }
+        ensures refused { MatchResult result (λ _. refused self.now.sizes (set_demands global self.now.groups loc) ≡ None) (λ full. refused self.now.sizes (set_demands global self.now.groups loc) ≡ Some full) }
+    {
+        if global {
+            return Ok(());
+        }
+        match self.table.refusal(loc) {
+            Some(full) => Err(full),
+            None => Ok(()),
+        }
+    }
+
+    // The location of what a name means, where an assignment to it has room.
+    fn name_room(&self, global: bool, name: Name) -> Result<Loc, Full>
+        requires { IsPlaced (location name) (length self.now.groups.now.meanings) }
+        ensures refused { MatchResult result (λ _. refused self.now.sizes (name_demands global self.now.groups name) ≡ None) (λ full. refused self.now.sizes (name_demands global self.now.groups name) ≡ Some full) }
+        ensures place { IfOk result (λ l. IsPlaceOf self.now.groups name l) }
+        ensures room { IfOk result (λ l. refused self.now.sizes (set_demands global self.now.groups l) ≡ None) }
+    {
+        let Some(loc) = name_loc(name) else {
+            unreachable!()
+        };
+        match self.set_room(global, loc) {
+            Ok(()) => Ok(loc),
+            Err(full) => Err(full),
+        }
     }
 
     /// A name becomes a macro: the innermost gathered list is its parameter text, the end mark and its body.
-    pub fn define(&mut self, name: Name, long: bool, outer: bool)
+    ///
+    /// # Errors
+    /// The save stack is full; nothing has changed.
+    pub fn define(&mut self, name: Name, long: bool, outer: bool, global: bool) -> Result<(), Full>
         requires some { self.old.builds ≢ [] }
         requires calls { self.old.call ≡ NotCalling }
         requires list { IsDefined (first_list self.old.builds) }
-        requires assignable { IsPlaced (location name) (length self.old.meanings) }
-        ensures after { self.new ≡ record self.old { builds = drop 1 self.old.builds; meanings = self.new.meanings; lists = self.new.lists } }
-        ensures defines { Defines self.old.meanings self.new.meanings self.old.puts self.old.lists self.new.lists (first_list self.old.builds) name long outer }
+        requires assignable { IsPlaced (location name) (length self.old.groups.now.meanings) }
+        ensures refused { MatchResult result (λ _. refused self.old.sizes (name_demands global self.old.groups name) ≡ None) (λ full. refused self.old.sizes (name_demands global self.old.groups name) ≡ Some full) }
+        ensures ok { OnOk result (self.new ≡ record self.old { builds = drop 1 self.old.builds; groups = self.new.groups; lists = self.new.lists }) }
+        ensures defines { OnOk result (Defines global self.old.groups self.new.groups self.old.puts self.old.lists self.new.lists (first_list self.old.builds) name long outer) }
+        ensures err { OnErr result (self.new ≡ self.old) }
         ensures macros { KeepsHeld self.old self.new }
     {
+        self.table.recall();
+        let loc = self.name_room(global, name)?;
         let Some(build) = self.builds.pop() else {
             unreachable!()
         };
         let list = Some(self.lists.finish(build));
-        let meaning = Meaning::Macro { long, outer, list };
-        self.meanings.define(&mut self.lists, name, meaning);
+        assign(
+            &mut self.table,
+            &mut self.lists,
+            global,
+            loc,
+            Val::Meant(Meaning::Macro { long, outer, list }),
+        );
+        Ok(())
     }
 
     /// A name gets the meaning that `\let` gives it from this token.
-    pub fn let_name(&mut self, name: Name, x: Seen)
+    ///
+    /// # Errors
+    /// The save stack is full; nothing has changed.
+    pub fn let_name(&mut self, name: Name, x: Seen, global: bool) -> Result<(), Full>
         requires calls { self.old.call ≡ NotCalling }
-        requires assignable { IsPlaced (location name) (length self.old.meanings) }
-        ensures after { self.new ≡ record self.old { meanings = assigned self.old.meanings name (meaning_to_let self.old.meanings x); lists = self.new.lists } }
+        requires assignable { IsPlaced (location name) (length self.old.groups.now.meanings) }
+        ensures refused { MatchResult result (λ _. refused self.old.sizes (name_demands global self.old.groups name) ≡ None) (λ full. refused self.old.sizes (name_demands global self.old.groups name) ≡ Some full) }
+        ensures ok { OnOk result (self.new ≡ record self.old { groups = set_name global self.old.groups name (meaning_to_let self.old.groups.now.meanings x); lists = self.new.lists }) }
+        ensures err { OnErr result (self.new ≡ self.old) }
         ensures macros { KeepsHeld self.old self.new }
     {
-        let value = self.meanings.to_let(&mut self.lists, x);
-        self.meanings.define(&mut self.lists, name, value);
+        let loc = self.name_room(global, name)?;
+        self.table.recall();
+        let meaning = self.table.to_let(&mut self.lists, x);
+        assign(
+            &mut self.table,
+            &mut self.lists,
+            global,
+            loc,
+            Val::Meant(meaning),
+        );
+        Ok(())
     }
 
     /// A name becomes this primitive.
-    pub fn set_primitive(&mut self, name: Name, number: u16)
+    ///
+    /// # Errors
+    /// The save stack is full; nothing has changed.
+    pub fn set_primitive(&mut self, name: Name, number: u16, global: bool) -> Result<(), Full>
         requires calls { self.old.call ≡ NotCalling }
-        requires assignable { IsPlaced (location name) (length self.old.meanings) }
-        ensures after { self.new ≡ record self.old { meanings = assigned self.old.meanings name (means.Prim number); lists = self.new.lists } }
+        requires assignable { IsPlaced (location name) (length self.old.groups.now.meanings) }
+        ensures refused { MatchResult result (λ _. refused self.old.sizes (name_demands global self.old.groups name) ≡ None) (λ full. refused self.old.sizes (name_demands global self.old.groups name) ≡ Some full) }
+        ensures ok { OnOk result (self.new ≡ record self.old { groups = set_name global self.old.groups name (means.Prim number); lists = self.new.lists }) }
+        ensures err { OnErr result (self.new ≡ self.old) }
         ensures macros { KeepsHeld self.old self.new }
     {
-        let value = Meaning::Prim(number);
-        self.meanings.define(&mut self.lists, name, value);
+        let loc = self.name_room(global, name)?;
+        assign(
+            &mut self.table,
+            &mut self.lists,
+            global,
+            loc,
+            Val::Meant(Meaning::Prim(number)),
+        );
+        Ok(())
+    }
+
+    /// A code, an integer or a dimension gets this number.
+    ///
+    /// # Errors
+    /// The save stack is full; nothing has changed.
+    pub fn set_number(&mut self, loc: Loc, number: i32, global: bool) -> Result<(), Full>
+        requires within { IsLocation self.old.groups loc }
+        requires suits { Suits loc (val.Number number) }
+        ensures refused { MatchResult result (λ _. refused self.old.sizes (set_demands global self.old.groups loc) ≡ None) (λ full. refused self.old.sizes (set_demands global self.old.groups loc) ≡ Some full) }
+        ensures ok { OnOk result (self.new ≡ record self.old { groups = set global self.old.groups loc (val.Number number); lists = self.new.lists }) }
+        ensures err { OnErr result (self.new ≡ self.old) }
+        ensures macros { KeepsHeld self.old self.new }
+    {
+        self.set_room(global, loc)?;
+        assign(
+            &mut self.table,
+            &mut self.lists,
+            global,
+            loc,
+            Val::Number(number),
+        );
+        Ok(())
+    }
+
+    /// The category codes, by their characters.
+    pub fn categories(&self) -> &[u8; 256]
+        ensures { result.now ≡ self.now.groups.now.categories }
+    {
+        self.table.categories()
+    }
+
+    /// The value of an integer parameter, by its place.
+    pub fn integer(&self, i: u8) -> i32
+        requires { i < 55 }
+        ensures { result ≡ slice_index_or self.now.groups.now.integers i (pos 0) }
+    {
+        self.table.integer(i)
     }
 
     /// The token behind so many of the list of the macro that a name means, and how many then stand in front.
     pub fn macro_token(&self, name: Name, index: usize) -> Option<(Token, usize)>
-        ensures { MatchOption result (drop index (text_of self.now.lists self.now.meanings name) ≡ []) (λ r. drop index (text_of self.now.lists self.now.meanings name) ≡ r.0 ∷ drop r.1 (text_of self.now.lists self.now.meanings name)) }
+        ensures { MatchOption result (drop index (text_of self.now.lists self.now.groups.now.meanings name) ≡ []) (λ r. drop index (text_of self.now.lists self.now.groups.now.meanings name) ≡ r.0 ∷ drop r.1 (text_of self.now.lists self.now.groups.now.meanings name)) }
     {
-        let Some(list) = self.meanings.list(name) else {
+        let Some(list) = self.table.list(name) else {
             return None;
         };
         match behind(&self.lists, list, index).next(&self.lists) {
@@ -552,23 +695,23 @@ impl Held {
     /// stand.
     pub fn macro_list(&self, name: Name) -> (&Lists, Option<&ListRef>)
         ensures held { IfSome result.1 (λ r. IsHeld result.0.now (id_of r.now)) }
-        ensures tokens { MatchOption result.1 (text_of self.now.lists self.now.meanings name ≡ []) (λ r. tokens_at result.0.now (id_of r.now) ≡ text_of self.now.lists self.now.meanings name) }
+        ensures tokens { MatchOption result.1 (text_of self.now.lists self.now.groups.now.meanings name ≡ []) (λ r. tokens_at result.0.now (id_of r.now) ≡ text_of self.now.lists self.now.groups.now.meanings name) }
     {
-        (&self.lists, self.meanings.list(name))
+        (&self.lists, self.table.list(name))
     }
 
-    /// Each macro's list has a token, its end mark, and at most nine places. The call does nothing.
+    /// Each list that a location or a saved value has, has a token. The call does nothing.
     pub fn macros_are_lists(&self)
-        ensures { (id : ℕ) → is_meant id self.now.meanings ≡ true → IsDefined (list_at self.now.lists id) }
+        ensures { (id : ℕ) → is_listed (lists_held self.now.groups) id ≡ true → IsDefined (list_at self.now.lists id) }
     {
         let _lists = &self.lists;
     }
 
     /// How a name is called.
     pub fn call_kind(&self, name: Name) -> CallKind
-        ensures { result ≡ call_kind self.now.lists (name_meaning self.now.meanings name) }
+        ensures { result ≡ call_kind self.now.lists (name_meaning self.now.groups.now.meanings name) }
     {
-        let Some(list) = self.meanings.list(name) else {
+        let Some(list) = self.table.list(name) else {
             return CallKind::None;
         };
         if has_parameters(&self.lists, list) {
@@ -584,15 +727,16 @@ impl Held {
     /// # Errors
     /// The input stack is full, once the finished lists in front have gone; nothing else has changed.
     pub fn call_macro(&mut self, name: Name) -> Result<(), Full>
-        requires { call_kind self.old.lists (name_meaning self.old.meanings name) ≡ AtOnce }
-        ensures refused { MatchResult result (λ _. call_refusal (called_put self.old.lists (name_meaning self.old.meanings name)) self.old ≡ None) (λ full. call_refusal (called_put self.old.lists (name_meaning self.old.meanings name)) self.old ≡ Some full) }
-        ensures ok { OnOk result (self.new ≡ record self.old { puts = called (called_put self.old.lists (name_meaning self.old.meanings name)) self.old.puts; lists = self.new.lists }) }
+        requires { call_kind self.old.lists (name_meaning self.old.groups.now.meanings name) ≡ AtOnce }
+        ensures refused { MatchResult result (λ _. call_refusal (called_put self.old.lists (name_meaning self.old.groups.now.meanings name)) self.old ≡ None) (λ full. call_refusal (called_put self.old.lists (name_meaning self.old.groups.now.meanings name)) self.old ≡ Some full) }
+        ensures ok { OnOk result (self.new ≡ record self.old { puts = called (called_put self.old.lists (name_meaning self.old.groups.now.meanings name)) self.old.puts; lists = self.new.lists }) }
         ensures err { OnErr result (self.new ≡ record self.old { puts = settled self.old.puts; lists = self.new.lists }) }
         ensures macros { KeepsHeld self.old self.new }
     {
-        let Some(list) = self.meanings.list(name) else {
+        let Some(list) = self.table.list(name) else {
             unreachable!()
         };
+        self.table.recall();
         let body = share(&mut self.lists, list);
         match self.stack.push_macro(&mut self.lists, body, Args::none()) {
             Ok(()) => Ok(()),
@@ -610,13 +754,13 @@ impl Held {
     /// The main memory is full; nothing has changed.
     pub fn begin_call(&mut self, name: Name, long: bool) -> Result<(), Full>
         requires none { self.old.call ≡ NotCalling }
-        requires gathers { call_kind self.old.lists (name_meaning self.old.meanings name) ≡ Gathers }
-        ensures refused { MatchResult result (λ _. refused self.old.sizes (memory (lists_words (begun_lists (text_of self.old.lists self.old.meanings name))) (words_held self.old) ∷ []) ≡ None) (λ full. refused self.old.sizes (memory (lists_words (begun_lists (text_of self.old.lists self.old.meanings name))) (words_held self.old) ∷ []) ≡ Some full) }
-        ensures ok { OnOk result (self.new ≡ record self.old { call = calls.Gathering name (first_scan (text_of self.old.lists self.old.meanings name) (mode_of long)); lists = self.new.lists }) }
+        requires gathers { call_kind self.old.lists (name_meaning self.old.groups.now.meanings name) ≡ Gathers }
+        ensures refused { MatchResult result (λ _. refused self.old.sizes (memory (lists_words (begun_lists (text_of self.old.lists self.old.groups.now.meanings name))) (words_held self.old) ∷ []) ≡ None) (λ full. refused self.old.sizes (memory (lists_words (begun_lists (text_of self.old.lists self.old.groups.now.meanings name))) (words_held self.old) ∷ []) ≡ Some full) }
+        ensures ok { OnOk result (self.new ≡ record self.old { call = calls.Gathering name (first_scan (text_of self.old.lists self.old.groups.now.meanings name) (mode_of long)); lists = self.new.lists }) }
         ensures err { OnErr result (self.new ≡ self.old) }
         ensures macros { KeepsHeld self.old self.new }
     {
-        let Some(list) = self.meanings.list(name) else {
+        let Some(list) = self.table.list(name) else {
             unreachable!()
         };
         match begin_call(&mut self.lists, list, name, long) {
@@ -673,19 +817,19 @@ impl Held {
     /// more tokens.
     pub fn feed_call(&mut self, token: Token) -> Result<CallTold, Full>
         requires { IsTaking self.old.call }
-        ensures ok { IfOk result (λ told. Feeds (text_of self.old.lists self.old.meanings) token told self.old.call self.new.call) }
-        ensures fits { OnOk result (words_held self.old + length (growth (text_of self.old.lists self.old.meanings) token self.old.call) ≤ self.old.sizes.main_memory_size) }
-        ensures err { OnErr result (CutShort (text_of self.old.lists self.old.meanings) token self.old.call self.new.call) }
+        ensures ok { IfOk result (λ told. Feeds (text_of self.old.lists self.old.groups.now.meanings) token told self.old.call self.new.call) }
+        ensures fits { OnOk result (words_held self.old + length (growth (text_of self.old.lists self.old.groups.now.meanings) token self.old.call) ≤ self.old.sizes.main_memory_size) }
+        ensures err { OnErr result (CutShort (text_of self.old.lists self.old.groups.now.meanings) token self.old.call self.new.call) }
         ensures full { IfErr result (λ full. refused self.new.sizes (memory 1 (words_held self.new) ∷ []) ≡ Some full) }
         ensures others { self.new ≡ record self.old { call = self.new.call; lists = self.new.lists } }
         ensures macros { KeepsHeld self.old self.new }
     {
         let _old_words = self.lists.used();
         let (name, scan) = mem::replace(&mut self.call, Gathering::None).into_scan();
-        let Some(list) = self.meanings.list(name) else {
+        let Some(list) = self.table.list(name) else {
             unreachable!()
         };
-        let seen = self.meanings.seen(token);
+        let seen = self.table.seen(token);
         let (call, told) = feed(&mut self.lists, list, name, scan, seen);
         mem::replace(&mut self.call, call).end();
         let _words = self.lists.used();
@@ -738,15 +882,16 @@ impl Held {
     /// The arguments or the level have no room, once the finished lists in front have gone; nothing else has changed.
     pub fn put_call(&mut self) -> Result<(), Full>
         requires { IsComplete self.old.call }
-        ensures refused { MatchResult result (λ _. put_refusal (put_of self.old.lists self.old.meanings self.old.call) self.old ≡ None) (λ full. put_refusal (put_of self.old.lists self.old.meanings self.old.call) self.old ≡ Some full) }
-        ensures ok { OnOk result (self.new ≡ record self.old { puts = called (put_of self.old.lists self.old.meanings self.old.call) self.old.puts; call = NotCalling; lists = self.new.lists }) }
+        ensures refused { MatchResult result (λ _. put_refusal (put_of self.old.lists self.old.groups.now.meanings self.old.call) self.old ≡ None) (λ full. put_refusal (put_of self.old.lists self.old.groups.now.meanings self.old.call) self.old ≡ Some full) }
+        ensures ok { OnOk result (self.new ≡ record self.old { puts = called (put_of self.old.lists self.old.groups.now.meanings self.old.call) self.old.puts; call = NotCalling; lists = self.new.lists }) }
         ensures err { OnErr result (self.new ≡ record self.old { puts = settled self.old.puts; lists = self.new.lists }) }
         ensures macros { KeepsHeld self.old self.new }
     {
         let (name, args) = mem::replace(&mut self.call, Gathering::None).into_args();
-        let Some(list) = self.meanings.list(name) else {
+        let Some(list) = self.table.list(name) else {
             unreachable!()
         };
+        self.table.recall();
         let body = share(&mut self.lists, list);
         match self.stack.push_macro(&mut self.lists, body, args) {
             Ok(()) => Ok(()),
@@ -782,7 +927,7 @@ impl Held {
         let Held {
             mut lists,
             stack,
-            meanings,
+            table,
             making,
             call,
             builds,
@@ -799,7 +944,7 @@ impl Held {
             Gathering::Gathered(_name, _args) => unreachable!(),
         }
         stack.close(&mut lists);
-        meanings.close(&mut lists);
+        table.close(&mut lists);
         builds.destroy_empty();
     }
 }

@@ -1,15 +1,18 @@
 // The input of a run.
-ghost use Rattle.std.specs.Prelude.{◌≡◌, ◌≢◌, ℕ, true, false, ◌≤◌, ◌<◌, ◌+◌, ◌++◌, [], ◌∷◌, None, Some, IsSome, IfSome, IfOk, IfErr, OnOk, OnErr, MatchResult, MatchBool, MatchOption, length, drop, replicate, vec_capacity};
+ghost use Rattle.std.specs.Prelude.{◌≡◌, ◌≢◌, ℕ, true, false, ◌≤◌, ◌<◌, ◌+◌, ◌++◌, [], ◌∷◌, None, Some, IsSome, IfSome, IfOk, IfErr, OnOk, OnErr, MatchResult, MatchBool, MatchOption, length, drop, replicate, vec_capacity, slice_index_or, pos};
 ghost use Rattle.std.specs.Bool.{OnTrue};
 ghost use Rattle.std.specs.Option.{option_map};
 ghost use Rattle.tex_defs.specs.Sizes.{first_out_of_range};
-ghost use Rattle.tex_defs.specs.declared.Meaning.TheVariants.{Undefined};
 ghost use Rattle.tex_defs.specs.declared.Meaning.TheVariants as means;
 ghost use Rattle.plain_tokens.specs.Tokens.{character_codes};
-ghost use Rattle.plain_tokens.specs.Meanings.{first_meanings, is_listed, fixed_locations, location, name_meaning, assigned, seen, met, meaning_to_let};
+ghost use Rattle.plain_tokens.specs.Meanings.{is_listed, location, name_meaning, seen, met, meaning_to_let};
+ghost use Rattle.equivalents.specs.declared.values.Val.TheVariants as val;
+ghost use Rattle.equivalents.specs.Locations.{Suits};
+ghost use Rattle.equivalents.specs.Groups.{first_groups, entered, set, set_name, set_demands, name_demands, IsLocation};
+ghost use Rattle.equivalents.specs.Holding.{lists_held};
 ghost use Rattle.plain_tokens.specs.Puts.{settled, passed, token_put, grow_first, grown_by};
 ghost use Rattle.plain_tokens.specs.Pending.{NotBegun, Begun, Closed, LineTaken, pulled, settle, put_front, line_taken, taken_line, from_file};
-ghost use Rattle.plain_tokens.specs.Tables.{is_meant, is_put, lists_words, memory, level, file_levels, next_line, refused};
+ghost use Rattle.plain_tokens.specs.Tables.{is_put, lists_words, memory, level, file_levels, next_line, refused};
 ghost use Rattle.line_lexer.specs.declared.Ahead.TheVariants as ahead;
 ghost use Rattle.line_lexer.specs.declared.LineState.TheVariants.{NewLine};
 ghost use Rattle.tex_defs.specs.declared.Table.TheVariants.{BufferSize};
@@ -17,7 +20,7 @@ ghost use Rattle.token_lists.specs.Table.{tokens_at, IsHeld};
 ghost use Rattle.token_lists.specs.Table as table;
 ghost use Rattle.token_lists.specs.Ids.{build_id, id_of};
 ghost use Rattle.input_state.specs.HeldLists.{KeepsHeld, first_list, is_empty, made, ahead_of, line_levels, file_demands};
-ghost use Rattle.meanings.specs.Map.{IsPlaced};
+ghost use Rattle.meanings.specs.Kept.{IsPlaced};
 ghost use Rattle.input_state.specs.declared.answer.CallKind.TheVariants.{AtOnce, Gathers};
 ghost use Rattle.input_state.specs.HeldViews.{IsDefined};
 ghost use Rattle.input_state.specs.Macros.{HasNameRoom, list_at};
@@ -39,6 +42,7 @@ use crate::lines::{first_line, put_line};
 use crate::lists_held::Held;
 use crate::places::spell;
 use crate::{CallKind, CallTold, Pulled, Walk};
+use eqtb_save::Loc;
 use line_lexer::{Ahead, Line, LineState};
 use std::alloc::{AllocError, Global};
 use std::marker::Model;
@@ -134,7 +138,7 @@ impl Input {
     /// There is no room for them. No other call takes memory.
     pub fn new(alloc: Global, sizes: &Sizes, held: bool, known: &[u16]) -> Result<Input, AllocError>
         requires { first_out_of_range sizes.now ≡ None }
-        ensures { IfOk result (λ i. i ≡ record { pending = unread (no_bytes held); making = None; call = NotCalling; builds = []; buffer = i.buffer; sizes = sizes.now; meanings = first_meanings (is_listed known.now); hash_size = sizes.now.hash_size; lists = replicate sizes.now.main_memory_size [] }) }
+        ensures { IfOk result (λ i. i ≡ record { pending = unread (no_bytes held); making = None; call = NotCalling; builds = []; buffer = i.buffer; sizes = sizes.now; groups = first_groups (is_listed known.now); closing = []; ending = None; lists = replicate sizes.now.main_memory_size [] }) }
     {
         let buffer = vec![in alloc; 0; sizes.buffer_size as usize]?;
         let file = JobFile::new(alloc, sizes.buffer_size, held)?;
@@ -339,28 +343,28 @@ impl Input {
     }
 
     // What the next reading gives, but for what the file gives.
-    fn looks(&self, categories: &[u8; 256]) -> Ahead
-        ensures ahead { result ≡ ahead_of categories.now self.now.pending }
+    fn looks(&self) -> Ahead
+        ensures ahead { result ≡ ahead_of self.now.groups.now.categories self.now.pending }
         ensures passed { result ≡ ahead.End → passed self.now.pending.puts ≡ [] }
     {
-        self.held.looks(&self.buffer, categories)
+        self.held.looks(&self.buffer)
     }
 
     // The next token of a list in front, or what the line gives, where it isn't used up.
-    fn read_front(&mut self, categories: &[u8; 256]) -> Result<Pulled, Full>
-        requires { ahead_of categories.now self.old.pending ≢ ahead.End }
-        ensures gives { GivesTo (pulled categories.now self.old.pending) result self.old.pending self.new.pending self.new.buffer }
+    fn read_front(&mut self) -> Result<Pulled, Full>
+        requires { ahead_of self.old.groups.now.categories self.old.pending ≢ ahead.End }
+        ensures gives { GivesTo (pulled self.old.groups.now.categories self.old.pending) result self.old.pending self.new.pending self.new.buffer }
         ensures others { self.new ≡ record self.old { pending = self.new.pending; buffer = self.new.buffer; lists = self.new.lists } }
         ensures macros { KeepsMacros self.old self.new }
-        ensures refused { MatchResult result (λ _. pull_refusal categories.now self.old ≡ None) (λ full. pull_refusal categories.now self.old ≡ Some full) }
+        ensures refused { MatchResult result (λ _. pull_refusal self.old ≡ None) (λ full. pull_refusal self.old ≡ Some full) }
         ensures err { OnErr result (self.new.pending ≡ settle self.old.pending) }
     {
-        self.held.pull(&mut self.buffer, categories)
+        self.held.pull(&mut self.buffer)
     }
 
     // Where nothing is left in front of the file but gaps, all lists in front go.
-    fn drop_front(&mut self, categories: &[u8; 256])
-        requires { ahead_of categories.now self.old.pending ≡ ahead.End }
+    fn drop_front(&mut self)
+        requires { ahead_of self.old.groups.now.categories self.old.pending ≡ ahead.End }
         ensures front { self.new.pending.puts ≡ [] }
         ensures file { self.new.pending.file ≡ self.old.pending.file }
         ensures rest { self.new.pending.rest ≡ self.old.pending.rest }
@@ -368,12 +372,12 @@ impl Input {
         ensures others { self.new ≡ record self.old { pending = self.new.pending; buffer = self.new.buffer; lists = self.new.lists } }
         ensures macros { KeepsMacros self.old self.new }
     {
-        self.held.drop_front(&mut self.buffer, categories);
+        self.held.drop_front(&mut self.buffer);
     }
 
     // Takes the next line of the file.
-    fn take_line(&mut self, categories: &[u8; 256]) -> Result<(), Full>
-        requires end { ahead_of categories.now self.old.pending ≡ ahead.End }
+    fn take_line(&mut self) -> Result<(), Full>
+        requires end { ahead_of self.old.groups.now.categories self.old.pending ≡ ahead.End }
         requires settled { settle self.old.pending ≡ self.old.pending }
         requires open { self.old.pending.file ≢ Closed }
         ensures ok { OnOk result (line_taken self.old.pending.number self.old.pending.rest ≡ LineTaken (taken_line self.old.pending.rest) self.new.pending) }
@@ -388,7 +392,7 @@ impl Input {
         }
         let progress = self.file.progress();
         line_room(&mut self.held, progress)?;
-        self.held.drop_front(&mut self.buffer, categories);
+        self.held.drop_front(&mut self.buffer);
         put_line(&mut self.buffer, &self.file.rest()[..cut.kept]);
         open_line(&mut self.held, progress, line_start(cut.kept + 1));
         self.file.go_on(cut.used);
@@ -406,8 +410,8 @@ impl Input {
     }
 
     // The next line of the file, or its end, where nothing is left of a line.
-    fn pull_file(&mut self, categories: &[u8; 256]) -> Result<Pulled, Full>
-        requires end { ahead_of categories.now self.old.pending ≡ ahead.End }
+    fn pull_file(&mut self) -> Result<Pulled, Full>
+        requires end { ahead_of self.old.groups.now.categories self.old.pending ≡ ahead.End }
         requires settled { settle self.old.pending ≡ self.old.pending }
         ensures ok { IfOk result (λ r. Pulls (from_file self.old.pending.file self.old.pending.number self.old.pending.rest) r self.old self.new) }
         ensures others { self.new ≡ record self.old { pending = self.new.pending; buffer = self.new.buffer; lists = self.new.lists } }
@@ -418,44 +422,44 @@ impl Input {
         match self.file.progress() {
             Progress::Closed => Ok(Pulled::Nothing),
             Progress::Begun if self.file.rest().is_empty() => {
-                self.drop_front(categories);
+                self.drop_front();
                 self.end_file();
                 Ok(Pulled::FileOver)
             }
             _ => {
-                self.take_line(categories)?;
+                self.take_line()?;
                 Ok(Pulled::Taken)
             }
         }
     }
 
-    /// The next token of a list in front, character or name of the line, or line of the file, by these category codes.
+    /// The next token of a list in front, character or name of the line, or line of the file.
     /// *The TeXbook*, chapters 7 and 8; *TeX: The Program*, part 24 (`get_next`).
     ///
     /// # Errors
     /// The next line is too long for the buffer, or the file's level or that of an argument passes the size of the input
     /// stack. Nothing has changed but that the finished lists in front have gone.
-    pub fn pull(&mut self, categories: &[u8; 256]) -> Result<Pulled, Full>
-        ensures ok { IfOk result (λ r. Pulls (pulled categories.now self.old.pending) r self.old self.new) }
+    pub fn pull(&mut self) -> Result<Pulled, Full>
+        ensures ok { IfOk result (λ r. Pulls (pulled self.old.groups.now.categories self.old.pending) r self.old self.new) }
         ensures others { self.new ≡ record self.old { pending = self.new.pending; buffer = self.new.buffer; lists = self.new.lists } }
         ensures macros { KeepsMacros self.old self.new }
-        ensures refused { MatchResult result (λ _. pull_refusal categories.now self.old ≡ None) (λ full. pull_refusal categories.now self.old ≡ Some full) }
+        ensures refused { MatchResult result (λ _. pull_refusal self.old ≡ None) (λ full. pull_refusal self.old ≡ Some full) }
         ensures err { OnErr result (self.new.pending ≡ settle self.old.pending) }
     {
-        match self.looks(categories) {
-            Ahead::Token | Ahead::Invalid => self.read_front(categories),
+        match self.looks() {
+            Ahead::Token | Ahead::Invalid => self.read_front(),
             Ahead::End => {
                 self.settle();
-                self.pull_file(categories)
+                self.pull_file()
             }
         }
     }
 
     /// Whether the next reading gives a token, a name or a line. Nothing changes.
-    pub fn is_ready(&self, categories: &[u8; 256]) -> bool
-        ensures { result ≡ gives_step (pulled categories.now self.now.pending) }
+    pub fn is_ready(&self) -> bool
+        ensures { result ≡ gives_step (pulled self.now.groups.now.categories self.now.pending) }
     {
-        match self.looks(categories) {
+        match self.looks() {
             Ahead::Token => true,
             Ahead::Invalid => false,
             Ahead::End => self.file.has_line(),
@@ -464,11 +468,11 @@ impl Input {
 
     /// Whether the file must give more before it is known what the next reading gives. In the middle of a line that is
     /// told by what stands next; no byte of the file is looked at.
-    pub fn needs_bytes(&self, categories: &[u8; 256]) -> bool
-        ensures ready { result ≡ false → KnowsNext self.now categories.now }
-        ensures needs { result ≡ true → NeedsBytes self.now categories.now }
+    pub fn needs_bytes(&self) -> bool
+        ensures ready { result ≡ false → KnowsNext self.now }
+        ensures needs { result ≡ true → NeedsBytes self.now }
     {
-        match self.looks(categories) {
+        match self.looks() {
             Ahead::Token | Ahead::Invalid => false,
             Ahead::End => self.file.lacks_line(),
         }
@@ -485,7 +489,7 @@ impl Input {
 
     /// A token with what it means now: a character means itself.
     pub fn seen(&self, token: Token) -> Seen
-        ensures { result ≡ seen self.now.meanings token }
+        ensures { result ≡ seen self.now.groups.now.meanings token }
     {
         self.held.seen(token)
     }
@@ -493,22 +497,22 @@ impl Input {
     /// A token as it is handed on: a name that `\noexpand` marked is the plain name, which this once means `\relax` where it
     /// would be expanded. *The TeXbook*, chapter 20; *TeX: The Program*, part 24 (`get_next`).
     pub fn met(&self, token: Token) -> Seen
-        ensures { result ≡ met self.now.meanings token }
+        ensures { result ≡ met self.now.groups.now.meanings token }
     {
         self.held.met(token)
     }
 
     /// Whether one more name of two or more characters may be entered.
     pub fn has_name_room(&self) -> bool
-        ensures { MatchBool result (HasNameRoom self.now.meanings self.now.hash_size) (HasNameRoom self.now.meanings self.now.hash_size → ⊥) }
+        ensures { MatchBool result (HasNameRoom self.now.groups self.now.sizes.hash_size) (HasNameRoom self.now.groups self.now.sizes.hash_size → ⊥) }
     {
         self.held.has_name_room()
     }
 
     /// Gives the next name of two or more characters a location. It is undefined.
     pub fn enter_name(&mut self)
-        requires { length self.old.meanings < fixed_locations + self.old.hash_size }
-        ensures after { self.new ≡ record self.old { meanings = self.old.meanings ++ Undefined ∷ [] } }
+        requires { HasNameRoom self.old.groups self.old.sizes.hash_size }
+        ensures after { self.new ≡ record self.old { groups = entered self.old.groups } }
         ensures macros { KeepsMacros self.old self.new }
     {
         self.held.enter_name();
@@ -516,51 +520,97 @@ impl Input {
 
     /// Whether a name may be assigned: it has a location, and if it has two or more characters, it was entered.
     pub fn is_placed(&self, name: Name) -> bool
-        ensures { MatchBool result (IsPlaced (location name) (length self.now.meanings)) (IsPlaced (location name) (length self.now.meanings) → ⊥) }
+        ensures { MatchBool result (IsPlaced (location name) (length self.now.groups.now.meanings)) (IsPlaced (location name) (length self.now.groups.now.meanings) → ⊥) }
     {
         self.held.is_placed(name)
     }
 
     /// A name becomes a macro: the innermost gathered list is its parameter text, the end mark and its body. The list of
-    /// what the name meant is let go. *The TeXbook*, chapter 20; *TeX: The Program*, part 49 (`define`).
-    pub fn define(&mut self, name: Name, long: bool, outer: bool)
+    /// what the name meant is let go, or saved for the group's end. *The TeXbook*, chapters 20 and 24; *TeX: The Program*, part 19 (`eq_define`).
+    ///
+    /// # Errors
+    /// The save stack is full; nothing has changed.
+    pub fn define(&mut self, name: Name, long: bool, outer: bool, global: bool) -> Result<(), Full>
         requires some { self.old.builds ≢ [] }
         requires calls { self.old.call ≡ NotCalling }
         requires list { IsDefined (first_list self.old.builds) }
-        requires assignable { IsPlaced (location name) (length self.old.meanings) }
-        ensures after { self.new ≡ record self.old { builds = drop 1 self.old.builds; meanings = self.new.meanings; lists = self.new.lists } }
-        ensures defines { Defines self.old.meanings self.new.meanings self.old.pending.puts self.old.lists self.new.lists (first_list self.old.builds) name long outer }
+        requires assignable { IsPlaced (location name) (length self.old.groups.now.meanings) }
+        ensures refused { MatchResult result (λ _. refused self.old.sizes (name_demands global self.old.groups name) ≡ None) (λ full. refused self.old.sizes (name_demands global self.old.groups name) ≡ Some full) }
+        ensures ok { OnOk result (self.new ≡ record self.old { builds = drop 1 self.old.builds; groups = self.new.groups; lists = self.new.lists }) }
+        ensures defines { OnOk result (Defines global self.old.groups self.new.groups self.old.pending.puts self.old.lists self.new.lists (first_list self.old.builds) name long outer) }
+        ensures err { OnErr result (self.new ≡ self.old) }
         ensures macros { KeepsMacros self.old self.new }
     {
-        self.held.define(name, long, outer);
+        self.held.define(name, long, outer, global)
     }
 
     /// A name gets the meaning that `\let` gives it from a token that was handed on. A macro's list is shared by both names,
-    /// and the list of what the name meant is let go: a name that is let to itself keeps its meaning. No word is taken.
+    /// and the list of what the name meant is let go or saved: a name that is let to itself keeps its meaning. No word is taken.
     /// *The TeXbook*, chapter 20; *TeX: The Program*, part 49 (`let`).
-    pub fn let_name(&mut self, name: Name, x: Seen)
+    ///
+    /// # Errors
+    /// The save stack is full; nothing has changed.
+    pub fn let_name(&mut self, name: Name, x: Seen, global: bool) -> Result<(), Full>
         requires calls { self.old.call ≡ NotCalling }
-        requires assignable { IsPlaced (location name) (length self.old.meanings) }
-        ensures after { self.new ≡ record self.old { meanings = assigned self.old.meanings name (meaning_to_let self.old.meanings x); lists = self.new.lists } }
+        requires assignable { IsPlaced (location name) (length self.old.groups.now.meanings) }
+        ensures refused { MatchResult result (λ _. refused self.old.sizes (name_demands global self.old.groups name) ≡ None) (λ full. refused self.old.sizes (name_demands global self.old.groups name) ≡ Some full) }
+        ensures ok { OnOk result (self.new ≡ record self.old { groups = set_name global self.old.groups name (meaning_to_let self.old.groups.now.meanings x); lists = self.new.lists }) }
+        ensures err { OnErr result (self.new ≡ self.old) }
         ensures macros { KeepsMacros self.old self.new }
     {
-        self.held.let_name(name, x);
+        self.held.let_name(name, x, global)
     }
 
     /// A name becomes this primitive, as an undefined name that `\csname` makes becomes `\relax`. The list of what the name
-    /// meant is let go.
-    pub fn set_primitive(&mut self, name: Name, number: u16)
+    /// meant is let go, or saved.
+    ///
+    /// # Errors
+    /// The save stack is full; nothing has changed.
+    pub fn set_primitive(&mut self, name: Name, number: u16, global: bool) -> Result<(), Full>
         requires calls { self.old.call ≡ NotCalling }
-        requires assignable { IsPlaced (location name) (length self.old.meanings) }
-        ensures after { self.new ≡ record self.old { meanings = assigned self.old.meanings name (means.Prim number); lists = self.new.lists } }
+        requires assignable { IsPlaced (location name) (length self.old.groups.now.meanings) }
+        ensures refused { MatchResult result (λ _. refused self.old.sizes (name_demands global self.old.groups name) ≡ None) (λ full. refused self.old.sizes (name_demands global self.old.groups name) ≡ Some full) }
+        ensures ok { OnOk result (self.new ≡ record self.old { groups = set_name global self.old.groups name (means.Prim number); lists = self.new.lists }) }
+        ensures err { OnErr result (self.new ≡ self.old) }
         ensures macros { KeepsMacros self.old self.new }
     {
-        self.held.set_primitive(name, number);
+        self.held.set_primitive(name, number, global)
+    }
+
+    /// A code of a character, an integer or a dimension (in sp) gets this number, which suits it. *The TeXbook*, chapter 24; *TeX: The
+    /// Program*, part 19 (`eq_define`, `eq_word_define`).
+    ///
+    /// # Errors
+    /// The save stack is full; nothing has changed.
+    pub fn set_number(&mut self, loc: Loc, number: i32, global: bool) -> Result<(), Full>
+        requires within { IsLocation self.old.groups loc }
+        requires suits { Suits loc (val.Number number) }
+        ensures refused { MatchResult result (λ _. refused self.old.sizes (set_demands global self.old.groups loc) ≡ None) (λ full. refused self.old.sizes (set_demands global self.old.groups loc) ≡ Some full) }
+        ensures ok { OnOk result (self.new ≡ record self.old { groups = set global self.old.groups loc (val.Number number); lists = self.new.lists }) }
+        ensures err { OnErr result (self.new ≡ self.old) }
+        ensures macros { KeepsMacros self.old self.new }
+    {
+        self.held.set_number(loc, number, global)
+    }
+
+    /// The category codes, by their characters.
+    pub fn categories(&self) -> &[u8; 256]
+        ensures { result.now ≡ self.now.groups.now.categories }
+    {
+        self.held.categories()
+    }
+
+    /// The value of an integer parameter, by its place among the 55, from 0.
+    pub fn integer(&self, i: u8) -> i32
+        requires { i < 55 }
+        ensures { result ≡ slice_index_or self.now.groups.now.integers i (pos 0) }
+    {
+        self.held.integer(i)
     }
 
     /// A walk at the first token of the list of the macro that a name means: at its end where the name means none.
     pub fn walk(&self, name: Name) -> Walk
-        ensures { to_come self.now result ≡ text_of self.now.lists self.now.meanings name }
+        ensures { to_come self.now result ≡ text_of self.now.lists self.now.groups.now.meanings name }
     {
         Walk { name, index: 0 }
     }
@@ -579,21 +629,21 @@ impl Input {
     /// stand.
     pub fn macro_list(&self, name: Name) -> (&Lists, Option<&ListRef>)
         ensures held { IfSome result.1 (λ r. IsHeld result.0.now (id_of r.now)) }
-        ensures tokens { MatchOption result.1 (text_of self.now.lists self.now.meanings name ≡ []) (λ r. tokens_at result.0.now (id_of r.now) ≡ text_of self.now.lists self.now.meanings name) }
+        ensures tokens { MatchOption result.1 (text_of self.now.lists self.now.groups.now.meanings name ≡ []) (λ r. tokens_at result.0.now (id_of r.now) ≡ text_of self.now.lists self.now.groups.now.meanings name) }
     {
         self.held.macro_list(name)
     }
 
-    /// Each macro's list has a token, its end mark, and at most nine places. The call does nothing.
+    /// Each list that a location or a saved value has, has a token. The call does nothing.
     pub fn macros_are_lists(&self)
-        ensures { (id : ℕ) → is_meant id self.now.meanings ≡ true → IsDefined (list_at self.now.lists id) }
+        ensures { (id : ℕ) → is_listed (lists_held self.now.groups) id ≡ true → IsDefined (list_at self.now.lists id) }
     {
         self.held.macros_are_lists();
     }
 
     /// How a name is called.
     pub fn call_kind(&self, name: Name) -> CallKind
-        ensures { result ≡ call_kind self.now.lists (name_meaning self.now.meanings name) }
+        ensures { result ≡ call_kind self.now.lists (name_meaning self.now.groups.now.meanings name) }
     {
         self.held.call_kind(name)
     }
@@ -604,9 +654,9 @@ impl Input {
     /// # Errors
     /// The input stack is full, once the finished lists in front have gone; nothing else has changed.
     pub fn call_macro(&mut self, name: Name) -> Result<(), Full>
-        requires { call_kind self.old.lists (name_meaning self.old.meanings name) ≡ AtOnce }
-        ensures refused { MatchResult result (λ _. call_refusal (called_put self.old.lists (name_meaning self.old.meanings name)) self.old ≡ None) (λ full. call_refusal (called_put self.old.lists (name_meaning self.old.meanings name)) self.old ≡ Some full) }
-        ensures ok { OnOk result (self.new ≡ record self.old { pending = after_call (called_put self.old.lists (name_meaning self.old.meanings name)) self.old.pending; lists = self.new.lists }) }
+        requires { call_kind self.old.lists (name_meaning self.old.groups.now.meanings name) ≡ AtOnce }
+        ensures refused { MatchResult result (λ _. call_refusal (called_put self.old.lists (name_meaning self.old.groups.now.meanings name)) self.old ≡ None) (λ full. call_refusal (called_put self.old.lists (name_meaning self.old.groups.now.meanings name)) self.old ≡ Some full) }
+        ensures ok { OnOk result (self.new ≡ record self.old { pending = after_call (called_put self.old.lists (name_meaning self.old.groups.now.meanings name)) self.old.pending; lists = self.new.lists }) }
         ensures err { OnErr result (self.new ≡ record self.old { pending = settle self.old.pending; lists = self.new.lists }) }
         ensures macros { KeepsMacros self.old self.new }
     {
@@ -620,9 +670,9 @@ impl Input {
     /// The main memory is full; nothing has changed.
     pub fn begin_call(&mut self, name: Name, long: bool) -> Result<(), Full>
         requires none { self.old.call ≡ NotCalling }
-        requires gathers { call_kind self.old.lists (name_meaning self.old.meanings name) ≡ Gathers }
-        ensures refused { MatchResult result (λ _. refused self.old.sizes (memory (lists_words (begun_lists (text_of self.old.lists self.old.meanings name))) (words self.old) ∷ []) ≡ None) (λ full. refused self.old.sizes (memory (lists_words (begun_lists (text_of self.old.lists self.old.meanings name))) (words self.old) ∷ []) ≡ Some full) }
-        ensures ok { OnOk result (self.new ≡ record self.old { call = calls.Gathering name (first_scan (text_of self.old.lists self.old.meanings name) (mode_of long)); lists = self.new.lists }) }
+        requires gathers { call_kind self.old.lists (name_meaning self.old.groups.now.meanings name) ≡ Gathers }
+        ensures refused { MatchResult result (λ _. refused self.old.sizes (memory (lists_words (begun_lists (text_of self.old.lists self.old.groups.now.meanings name))) (words self.old) ∷ []) ≡ None) (λ full. refused self.old.sizes (memory (lists_words (begun_lists (text_of self.old.lists self.old.groups.now.meanings name))) (words self.old) ∷ []) ≡ Some full) }
+        ensures ok { OnOk result (self.new ≡ record self.old { call = calls.Gathering name (first_scan (text_of self.old.lists self.old.groups.now.meanings name) (mode_of long)); lists = self.new.lists }) }
         ensures err { OnErr result (self.new ≡ self.old) }
         ensures macros { KeepsMacros self.old self.new }
     {
@@ -658,9 +708,9 @@ impl Input {
     /// more tokens.
     pub fn feed_call(&mut self, token: Token) -> Result<CallTold, Full>
         requires { IsTaking self.old.call }
-        ensures ok { IfOk result (λ told. Feeds (text_of self.old.lists self.old.meanings) token told self.old.call self.new.call) }
-        ensures fits { OnOk result (words self.old + length (growth (text_of self.old.lists self.old.meanings) token self.old.call) ≤ self.old.sizes.main_memory_size) }
-        ensures err { OnErr result (CutShort (text_of self.old.lists self.old.meanings) token self.old.call self.new.call) }
+        ensures ok { IfOk result (λ told. Feeds (text_of self.old.lists self.old.groups.now.meanings) token told self.old.call self.new.call) }
+        ensures fits { OnOk result (words self.old + length (growth (text_of self.old.lists self.old.groups.now.meanings) token self.old.call) ≤ self.old.sizes.main_memory_size) }
+        ensures err { OnErr result (CutShort (text_of self.old.lists self.old.groups.now.meanings) token self.old.call self.new.call) }
         ensures full { IfErr result (λ full. refused self.new.sizes (memory 1 (words self.new) ∷ []) ≡ Some full) }
         ensures others { self.new ≡ record self.old { call = self.new.call; lists = self.new.lists } }
         ensures macros { KeepsMacros self.old self.new }
@@ -701,8 +751,8 @@ impl Input {
     /// The arguments or the level have no room, once the finished lists in front have gone; nothing else has changed.
     pub fn put_call(&mut self) -> Result<(), Full>
         requires { IsComplete self.old.call }
-        ensures refused { MatchResult result (λ _. put_refusal (put_of self.old.lists self.old.meanings self.old.call) self.old ≡ None) (λ full. put_refusal (put_of self.old.lists self.old.meanings self.old.call) self.old ≡ Some full) }
-        ensures ok { OnOk result (self.new ≡ record self.old { pending = after_call (put_of self.old.lists self.old.meanings self.old.call) self.old.pending; call = NotCalling; lists = self.new.lists }) }
+        ensures refused { MatchResult result (λ _. put_refusal (put_of self.old.lists self.old.groups.now.meanings self.old.call) self.old ≡ None) (λ full. put_refusal (put_of self.old.lists self.old.groups.now.meanings self.old.call) self.old ≡ Some full) }
+        ensures ok { OnOk result (self.new ≡ record self.old { pending = after_call (put_of self.old.lists self.old.groups.now.meanings self.old.call) self.old.pending; call = NotCalling; lists = self.new.lists }) }
         ensures err { OnErr result (self.new ≡ record self.old { pending = settle self.old.pending; lists = self.new.lists }) }
         ensures macros { KeepsMacros self.old self.new }
     {

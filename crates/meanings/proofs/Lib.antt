@@ -1,4 +1,2 @@
-pub mod Cells
+pub mod Counted
 pub mod Listed
-pub mod Lookups
-pub mod Releases

@@ -1,15 +1,9 @@
 -- The lists that meanings hold.
-use Rattle.std.specs.Prelude.{◌≡◌, ℕ, ◌<◌, List, Option, None, Some, sum_by, slice_set}
+use Rattle.std.specs.Prelude.{◌≡◌, ℕ, ◌<◌, List, Option, None, Some, slice_set}
 use Rattle.tex_defs.specs.declared.Meaning.{Meaning}
-use Rattle.tex_defs.specs.declared.Meaning.TheVariants as means
 use Rattle.token_lists.specs.Accounts.{holds}
 use Rattle.token_lists.specs.Table.{Entry, entry_at, tokens_at, places_at, holders_at, one_more, one_less}
-use Rattle.meanings.specs.Map.{Map}
-
--- the number of a macro's list
-abbrev pub list_of : Meaning (Option ℕ) → Option ℕ
-list_of (means.Macro long outer list) = list
-list_of m = None
+use Rattle.equivalents.specs.Holding.{list_of}
 
 abbrev pub list_holds : Option ℕ → ℕ → ℕ
 list_holds None h = 0
@@ -18,13 +12,6 @@ list_holds (Some id) h = holds id h
 -- how often a meaning holds the list of a number
 abbrev pub meaning_holds : Meaning (Option ℕ) → ℕ → ℕ
 meaning_holds m h = list_holds (list_of m) h
-
-abbrev pub cells_hold : List (Meaning (Option ℕ)) → ℕ → ℕ
-cells_hold cells h = sum_by (λ c. meaning_holds c h) cells
-
--- how often the meanings of all names hold the list of a number
-abbrev pub held : Map → ℕ → ℕ
-held m h = cells_hold m.cells h
 
 -- the lists once one has a holder more
 abbrev pub with_holder : Option ℕ → List (Option Entry) → List (Option Entry)

@@ -1,3 +1,3 @@
 pub mod Holding
+pub mod Kept
 pub mod Laws
-pub mod Map

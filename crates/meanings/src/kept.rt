@@ -3,10 +3,10 @@ ghost use Rattle.std.specs.Prelude.{◌≡◌, ◌+◌, ◌<◌, ◌^◌, IfSome
 ghost use Rattle.token_lists.specs.Table.{IsHeld, holders_at};
 ghost use Rattle.token_lists.specs.Accounts.{Moves, Keeps, none};
 ghost use Rattle.token_lists.specs.Ids.{id_of};
-ghost use Rattle.plain_tokens.specs.Names.{is_known};
 ghost use Rattle.plain_tokens.specs.Meanings.{seen_as, first_meaning, is_listed, is_expandable, marked_meaning};
-ghost use Rattle.meanings.specs.Map.{numbered, numbered_list, without_list};
-ghost use Rattle.meanings.specs.Holding.{list_of, list_holds, meaning_holds, with_holder, without_holder, Lasts};
+ghost use Rattle.meanings.specs.Kept.{numbered, numbered_list, without_list};
+ghost use Rattle.equivalents.specs.Holding.{list_of};
+ghost use Rattle.meanings.specs.Holding.{list_holds, meaning_holds, with_holder, without_holder, Lasts};
 
 use tex_defs::Meaning;
 use token_lists::{ListRef, Lists};
@@ -82,25 +82,7 @@ pub fn without_list(meaning: Meaning<()>) -> Kept
     }
 }
 
-// Whether a primitive means something.
-fn is_known(number: u16) -> bool
-    ensures { result ≡ is_known number }
-{
-    matches!(number, 1 | 5 | 6 | 9 | 23..=29 | 35 | 57)
-}
-
-// What the name of a primitive means at first.
-pub fn primitive(number: u16) -> Kept
-    ensures { numbered result ≡ first_meaning is_known number }
-{
-    if is_known(number) {
-        Meaning::Prim(number)
-    } else {
-        Meaning::Undefined
-    }
-}
-
-// The same, where these primitives mean something.
+// What the name of a primitive means at first, where these primitives mean something.
 pub fn known(numbers: &[u16], number: u16) -> Kept
     ensures { numbered result ≡ first_meaning (is_listed numbers.now) number }
 {
@@ -138,7 +120,7 @@ pub fn marked(meaning: Meaning<()>) -> Meaning<()>
 }
 
 // One more holder of a list, if there is one.
-fn share_list(lists: &mut Lists, list: &Option<ListRef>) -> Option<ListRef>
+pub fn share_list(lists: &mut Lists, list: &Option<ListRef>) -> Option<ListRef>
     requires held { IfSome list.now (λ r. IsHeld lists.old (id_of r)) }
     requires countable { IfSome list.now (λ r. holders_at lists.old (id_of r) + 1 < 2 ^ 32) }
     ensures same { numbered_list result ≡ numbered_list list.now }
@@ -172,7 +154,7 @@ pub fn share(lists: &mut Lists, kept: &Kept) -> Kept
 }
 
 // Lets a list go, if there is one.
-fn release_list(lists: &mut Lists, list: Option<ListRef>)
+pub fn release_list(lists: &mut Lists, list: Option<ListRef>)
     requires { IfSome (numbered_list list) (λ id. IsHeld lists.old id) }
     ensures after { lists.new ≡ without_holder (numbered_list list) lists.old }
     ensures account { Moves lists.old lists.new (list_holds (numbered_list list)) none }

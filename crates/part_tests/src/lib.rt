@@ -11,13 +11,13 @@ mod command_words_tests;
 #[cfg(test)]
 mod cs_hash_tests;
 #[cfg(test)]
+mod eqtb_tests;
+#[cfg(test)]
 mod input_stack_tests;
 #[cfg(test)]
 mod line_reader_tests;
 #[cfg(test)]
 mod list_builder_tests;
-#[cfg(test)]
-mod meanings_tests;
 #[cfg(test)]
 mod mem_words_tests;
 #[cfg(test)]

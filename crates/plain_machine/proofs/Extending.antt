@@ -140,9 +140,9 @@ line_demands first level = record { table = BufferSize; used = lines_beneath; ne
 line_extended : (left : List ℕ) (p : Pending) → first_bytes (p.rest ++ left) ≡ first_bytes p.rest → next_line (extended_pending left p) ≡ next_line p
 line_extended left p e = ap (λ (first : List ℕ). line_demands first (file_level p.file (extended_pending left p))) e ∙ ap (line_demands (first_bytes p.rest)) (level_extended left p.file p)
 
-module _ (sizes : Sizes) (left : List ℕ) (s : State) (same : pulled s.categories (extended_pending left s.pending) ≡ extended_pulled left (pulled s.categories s.pending)) where
-  makes_pending : record s { pending = pulled_pending s.categories (extended_pending left s.pending) } ≡ extended left (record s { pending = pulled_pending s.categories s.pending })
-  makes_pending = ap (λ (p : Pending). record s { pending = p }) (pending_extended left s.categories s.pending same)
+module _ (sizes : Sizes) (left : List ℕ) (s : State) (same : pulled s.groups.now.categories (extended_pending left s.pending) ≡ extended_pulled left (pulled s.groups.now.categories s.pending)) where
+  makes_pending : record s { pending = pulled_pending s.groups.now.categories (extended_pending left s.pending) } ≡ extended left (record s { pending = pulled_pending s.groups.now.categories s.pending })
+  makes_pending = ap (λ (p : Pending). record s { pending = p }) (pending_extended left s.groups.now.categories s.pending same)
 
   handed_agrees : (t : Token) → Agrees sizes left (Handed t) (made Settled s)
   handed_agrees t = record { makes = makes_pending; fits = ap (refused sizes) (opened_extended left (next_item (settle s.pending).puts) (settle s.pending)) }
@@ -159,16 +159,16 @@ module _ (sizes : Sizes) (left : List ℕ) (s : State) (same : pulled s.categori
   module _ (page : Page) (enters : Bool) (o : Option Scanning) (onward : Seen → List Move) (still : (x : Seen) → pulls (onward x) ≡ 0) where
     handed_all : (r : Pulled) → (takes_line r ≡ true → first_bytes (s.pending.rest ++ left) ≡ first_bytes s.pending.rest) → AllAgree sizes left (handed page enters o onward r) s
     handed_all (TokenFrom t next) e =
-        (still_agrees sizes left Settled s refl, (handed_agrees t, all_still sizes left (met page o onward (met_token page.meanings t)) (made (Handed t) (made Settled s)) (met_none page o onward (met_token page.meanings t) still)))
+        (still_agrees sizes left Settled s refl, (handed_agrees t, all_still sizes left (met page o onward (met_token page.now.meanings t)) (made (Handed t) (made Settled s)) (met_none page o onward (met_token page.now.meanings t) still)))
     handed_all (LexemeFrom x next) e =
         let t : Token = token_of enters page.names x in
         let names : List Move = entered (new_name enters page.names x) in
-        let behind : List Move = met page o onward (met_token page.meanings t) in (
+        let behind : List Move = met page o onward (met_token page.now.meanings t) in (
           still_agrees sizes left Settled s refl,
           (
             handed_agrees t,
             all_still sizes left (names ++ behind) (made (Handed t) (made Settled s))
-                (pulls_join names behind ∙ omega (arith, entered_none (new_name enters page.names x), met_none page o onward (met_token page.meanings t) still)),
+                (pulls_join names behind ∙ omega (arith, entered_none (new_name enters page.names x), met_none page o onward (met_token page.now.meanings t) still)),
           ),
         )
     handed_all (LineTaken line next) e = (still_agrees sizes left Settled s refl, (taken_agrees line (e refl), tt))
@@ -192,7 +192,7 @@ handed_same left page enters o onward NothingLeft = refl
 pub data Rules (left : List ℕ) (s : State) (ms' ms : List Move) : Type 0 where
   Still : ms' ≡ ms → pulls ms ≡ 0 → Rules left s ms' ms
   Pulling : (page : Page) → (enters : Bool) → (o : Option Scanning) → (onward : Seen → List Move) → ((x : Seen) → pulls (onward x) ≡ 0) →
-      ms ≡ handed page enters o onward (pulled s.categories s.pending) → ms' ≡ handed page enters o onward (pulled s.categories (extended_pending left s.pending)) → Rules left s ms' ms
+      ms ≡ handed page enters o onward (pulled s.groups.now.categories s.pending) → ms' ≡ handed page enters o onward (pulled s.groups.now.categories (extended_pending left s.pending)) → Rules left s ms' ms
 
 module _ (left : List ℕ) (s : State) where
   rules_still : (work : List Reading) (r : Reading) (a : Ask) → WantsNone a → Rules left s (answered (extended left s) work r a) (answered s work r a)
@@ -216,17 +216,17 @@ data Extends (sizes : Sizes) (left : List ℕ) (s : State) (ms' ms : List Move) 
 
 module _ (sizes : Sizes) (left : List ℕ) (s : State) where
   extends_handed : (page : Page) (enters : Bool) (o : Option Scanning) (onward : Seen → List Move) → ((x : Seen) → pulls (onward x) ≡ 0) →
-      Sight sizes.buffer_size left s.pending.rest (pulled s.categories (extended_pending left s.pending)) (pulled s.categories s.pending) →
-      Extends sizes left s (handed page enters o onward (pulled s.categories (extended_pending left s.pending))) (handed page enters o onward (pulled s.categories s.pending))
+      Sight sizes.buffer_size left s.pending.rest (pulled s.groups.now.categories (extended_pending left s.pending)) (pulled s.groups.now.categories s.pending) →
+      Extends sizes left s (handed page enters o onward (pulled s.groups.now.categories (extended_pending left s.pending))) (handed page enters o onward (pulled s.groups.now.categories s.pending))
   extends_handed page enters o onward still (Alike e first) =
-      Same (ap (handed page enters o onward) e ∙ handed_same left page enters o onward (pulled s.categories s.pending)) (handed_all sizes left s e page enters o onward still (pulled s.categories s.pending) first)
+      Same (ap (handed page enters o onward) e ∙ handed_same left page enters o onward (pulled s.groups.now.categories s.pending)) (handed_all sizes left s e page enters o onward still (pulled s.groups.now.categories s.pending) first)
   extends_handed page enters o onward still (Long line line' next next' e e' none l) =
       let rest : List ℕ = s.pending.rest in
       let need : sizes.buffer_size < line_need rest = omega (arith, long_need sizes.buffer_size rest [] none l, ap line_need (append-nil rest)) in
       Refused line line' (full_buffer sizes) (ap (handed page enters o onward) e) (ap (handed page enters o onward) e')
       (long_refused sizes (settle s.pending) need) (long_refused sizes (settle (extended_pending left s.pending)) (long_need sizes.buffer_size rest left none l))
 
-  extends_rule : (ms' ms : List Move) → Rules left s ms' ms → Sight sizes.buffer_size left s.pending.rest (pulled s.categories (extended_pending left s.pending)) (pulled s.categories s.pending) → Extends sizes left s ms' ms
+  extends_rule : (ms' ms : List Move) → Rules left s ms' ms → Sight sizes.buffer_size left s.pending.rest (pulled s.groups.now.categories (extended_pending left s.pending)) (pulled s.groups.now.categories s.pending) → Extends sizes left s ms' ms
   extends_rule ms' ms (Still e none) sees = Same e (all_still sizes left ms s none)
   extends_rule ms' ms (Pulling page enters o onward still e e') sees = rw (e, e') (extends_handed page enters o onward still sees)
 
@@ -319,7 +319,7 @@ module _ (sizes : Sizes) (s : State) where
 
   first_rule : (ms' ms : List Move) → Rules [] s ms' ms → (m : Move) (rest : List Move) → ms ≡ m ∷ rest → step_of m ≡ 0
   first_rule ms' ms (Still e none) m rest is = omega (arith, step_pulls m, none, ap pulls is)
-  first_rule ms' ms (Pulling page enters o onward still e e') m rest is = first_handed page enters o onward (pulled s.categories s.pending) m rest (sym e ∙ is)
+  first_rule ms' ms (Pulling page enters o onward still e e') m rest is = first_handed page enters o onward (pulled s.groups.now.categories s.pending) m rest (sym e ∙ is)
 
   -- no rule begins with a step
   first_silent : (m : Move) (rest : List Move) → planned s s.work ≡ m ∷ rest → step_of m ≡ 0
@@ -380,9 +380,9 @@ module _ (sizes : Sizes) (s : State) (none : s.due ≡ []) (stops : s.stopped �
 
 -- ONE RULE
 
-module _ (sizes : Sizes) (s : State) (left : List ℕ) (ready : IsReady sizes.buffer_size s.categories s.pending left) where
+module _ (sizes : Sizes) (s : State) (left : List ℕ) (ready : IsReady sizes.buffer_size s.groups.now.categories s.pending left) where
   extends : Extends sizes left s (planned (extended left s) s.work) (planned s s.work)
-  extends = extends_rule sizes left s (planned (extended left s) s.work) (planned s s.work) (rules left s s.work) (sight sizes.buffer_size s.categories s.pending left ready)
+  extends = extends_rule sizes left s (planned (extended left s) s.work) (planned s s.work) (rules left s s.work) (sight sizes.buffer_size s.groups.now.categories s.pending left ready)
 
   -- All its moves, done.
   pub extended_did : (s' : State) (w w' : World) → Did sizes s s' w w' (planned s s.work) → Did sizes (extended left s) (extended left s') w w' (planned (extended left s) s.work)
@@ -417,10 +417,10 @@ module _ (sizes : Sizes) (s : State) (left : List ℕ) (still : pulls (planned s
   still_rule : (ms' ms : List Move) → Rules left s ms' ms → pulls ms ≡ 0 → Extends sizes left s ms' ms
   still_rule ms' ms (Still e none) h = Same e (all_still sizes left ms s none)
   still_rule ms' ms (Pulling page enters o onward goes_on e e') h =
-      let r : Pulled = pulled s.categories s.pending in
-      let r' : Pulled = pulled s.categories (extended_pending left s.pending) in
+      let r : Pulled = pulled s.groups.now.categories s.pending in
+      let r' : Pulled = pulled s.groups.now.categories (extended_pending left s.pending) in
       let none : r ≡ NothingLeft = pulls_nothing page enters o onward r (sym (ap pulls e) ∙ h) in
-      let none' : r' ≡ NothingLeft = nothing_at left s.pending r' r (source s.categories left s.pending) none in
+      let none' : r' ≡ NothingLeft = nothing_at left s.pending r' r (source s.groups.now.categories left s.pending) none in
       rw (e, e') (extends_handed sizes left s page enters o onward goes_on (sight_nothing sizes.buffer_size left s.pending.rest r' r none none'))
 
   still_extends : Extends sizes left s (planned (extended left s) s.work) (planned s s.work)

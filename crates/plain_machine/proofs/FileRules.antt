@@ -40,6 +40,6 @@ module _ (page : Page) (enters : Bool) (s : Option Scanning) (onward : Seen → 
     at (File e e') = subst Reads (sym e) (file_reads p.file p.number p.rest is_open)
 
 -- where a token is wanted, nothing is left in front of the file, and the file is open
-pub wanted_reads : (t : State) (work : List Reading) → WantsToken work → takes_file (pulled t.categories t.pending) ≡ true → t.pending.file ≢ Closed → ReadsFile (planned t work)
-wanted_reads t [] wants takes is_open = pulled_reads (page_of t) false None (stomach (page_of t)) t.categories t.pending takes is_open
-wanted_reads t (r ∷ rs) wants takes is_open = subst (λ (a : Ask). ReadsFile (answered t (r ∷ rs) r a)) (sym wants.1) (pulled_reads (page_of t) (enters_names wants.0) (scanning (r ∷ rs) t.gathered) (λ x. wanted (page_of t) wants.0 (feeding r x) x) t.categories t.pending takes is_open)
+pub wanted_reads : (t : State) (work : List Reading) → WantsToken work → takes_file (pulled t.groups.now.categories t.pending) ≡ true → t.pending.file ≢ Closed → ReadsFile (planned t work)
+wanted_reads t [] wants takes is_open = pulled_reads (page_of t) false None (stomach (page_of t)) t.groups.now.categories t.pending takes is_open
+wanted_reads t (r ∷ rs) wants takes is_open = subst (λ (a : Ask). ReadsFile (answered t (r ∷ rs) r a)) (sym wants.1) (pulled_reads (page_of t) (enters_names wants.0) (scanning (r ∷ rs) t.gathered) (λ x. wanted (page_of t) wants.0 (feeding r x) x) t.groups.now.categories t.pending takes is_open)

@@ -86,7 +86,7 @@ taken_number : (line : List ℕ) (p : Pending) (r : Pulled) → MakesPull (Taken
 taken_number line p (LineTaken l q) h n = n
 taken_number line p r h n = absurd h
 
-made_pull : (m : Move) (s : State) → MakesPull m (pulled s.categories s.pending) → (made m s).pending ≡ after_pull s.pending (pulled s.categories s.pending)
+made_pull : (m : Move) (s : State) → MakesPull m (pulled s.groups.now.categories s.pending) → (made m s).pending ≡ after_pull s.pending (pulled s.groups.now.categories s.pending)
 made_pull (Handed t) s h = refl
 made_pull (Taken line) s h = refl
 made_pull Skipped s h = refl
@@ -105,7 +105,7 @@ made_still m s h = refl
 -- Nothing that is due pulls, or its first move does, by what comes next.
 data Waits (s : State) : Type 0 where
   Quiet : pulls s.due ≡ 0 → Waits s
-  Reads : (m : Move) → (rest : List Move) → s.due ≡ m ∷ rest → pulls rest ≡ 0 → MakesPull m (pulled s.categories s.pending) → Waits s
+  Reads : (m : Move) → (rest : List Move) → s.due ≡ m ∷ rest → pulls rest ≡ 0 → MakesPull m (pulled s.groups.now.categories s.pending) → Waits s
 
 record Came (s : State) (m : Move) (u : State) : Type 0 where
   waits : Waits u
@@ -129,23 +129,23 @@ still_by s (m ∷ ms) h =
     }
 
 module _ (s : State) where
-  settled_by : (m : Move) (rest : List Move) → pulls rest ≡ 0 → MakesPull m (pulled s.categories s.pending) → CameBy s (Settled ∷ m ∷ rest)
+  settled_by : (m : Move) (rest : List Move) → pulls rest ≡ 0 → MakesPull m (pulled s.groups.now.categories s.pending) → CameBy s (Settled ∷ m ∷ rest)
   settled_by m rest none makes = record {
-    waits = Reads m rest refl none (subst (MakesPull m) (sym (pulled_settled s.categories s.pending)) makes);
+    waits = Reads m rest refl none (subst (MakesPull m) (sym (pulled_settled s.groups.now.categories s.pending)) makes);
     within = omega arith;
     follows = λ line e. absurd (omega (arith, ap step_of e));
   }
 
   handed_by : (page : Page) (enters : Bool) (o : Option Scanning) (onward : Seen → List Move) → ((x : Seen) → pulls (onward x) ≡ 0) →
-      (r : Pulled) → r ≡ pulled s.categories s.pending → CameBy s (handed page enters o onward r)
+      (r : Pulled) → r ≡ pulled s.groups.now.categories s.pending → CameBy s (handed page enters o onward r)
   handed_by page enters o onward still (TokenFrom t q) is =
-      settled_by (Handed t) (met page o onward (met_token page.meanings t)) (met_none page o onward (met_token page.meanings t) still) (subst (MakesPull (Handed t)) is tt)
+      settled_by (Handed t) (met page o onward (met_token page.now.meanings t)) (met_none page o onward (met_token page.now.meanings t) still) (subst (MakesPull (Handed t)) is tt)
   handed_by page enters o onward still (LexemeFrom x q) is =
       let t = token_of enters page.names x in
       let names : List Move = entered (new_name enters page.names x) in
-      let behind : List Move = met page o onward (met_token page.meanings t) in
+      let behind : List Move = met page o onward (met_token page.now.meanings t) in
       settled_by (Handed t) (names ++ behind)
-      (pulls_join names behind ∙ omega (arith, entered_none (new_name enters page.names x), met_none page o onward (met_token page.meanings t) still)) (subst (MakesPull (Handed t)) is tt)
+      (pulls_join names behind ∙ omega (arith, entered_none (new_name enters page.names x), met_none page o onward (met_token page.now.meanings t) still)) (subst (MakesPull (Handed t)) is tt)
   handed_by page enters o onward still (LineTaken line q) is = settled_by (Taken line) [] refl (subst (MakesPull (Taken line)) is tt)
   handed_by page enters o onward still (InvalidMet q) is = settled_by Skipped (reported page InvalidCharacter []) (reported_none page InvalidCharacter [] refl) (subst (MakesPull Skipped) is tt)
   handed_by page enters o onward still (FileOver q) is = settled_by FileClosed (checked (without_file page) o) (checked_none (without_file page) o) (subst (MakesPull FileClosed) is tt)
@@ -153,21 +153,21 @@ module _ (s : State) where
 
   rule_by : (ms' ms : List Move) → Rules [] s ms' ms → CameBy s ms
   rule_by ms' ms (Still e none) = still_by s ms none
-  rule_by ms' ms (Pulling page enters o onward still e e') = subst (CameBy s) (sym e) (handed_by page enters o onward still (pulled s.categories s.pending) refl)
+  rule_by ms' ms (Pulling page enters o onward still e e') = subst (CameBy s) (sym e) (handed_by page enters o onward still (pulled s.groups.now.categories s.pending) refl)
 
   plan_by : (o : Option Outcome) → CameBy s (plan s o)
   plan_by None = rule_by _ (planned s s.work) (rules [] s s.work)
   plan_by (Some o) = tt
 
-  reads_by : (m : Move) (rest : List Move) → pulls rest ≡ 0 → MakesPull m (pulled s.categories s.pending) → CameBy s (m ∷ rest)
+  reads_by : (m : Move) (rest : List Move) → pulls rest ≡ 0 → MakesPull m (pulled s.groups.now.categories s.pending) → CameBy s (m ∷ rest)
   reads_by m rest none makes =
       let t : State = record s { due = rest } in
-      let r : Pulled = pulled s.categories s.pending in
+      let r : Pulled = pulled s.groups.now.categories s.pending in
       let is : (made m t).pending.number ≡ (after_pull s.pending r).number = ap (λ (p : Pending). p.number) (made_pull m t makes) in
       record {
         waits = Quiet (ap pulls (due_kept m t) ∙ none);
-        within = omega (arith, is, pull_number m s.pending r makes (numbered s.categories s.pending));
-        follows = λ line e. is ∙ taken_number line s.pending r (subst (λ (x : Move). MakesPull x r) e makes) (numbered s.categories s.pending);
+        within = omega (arith, is, pull_number m s.pending r makes (numbered s.groups.now.categories s.pending));
+        follows = λ line e. is ∙ taken_number line s.pending r (subst (λ (x : Move). MakesPull x r) e makes) (numbered s.groups.now.categories s.pending);
       }
 
   due_by : Waits s → (ms : List Move) → s.due ≡ ms → CameBy s ms
@@ -212,7 +212,7 @@ job_still file (Some bytes) = refl
 
 begins : (s : State) → Begins s → Waits s
 begins s (AtRule e) = Quiet (ap pulls e)
-begins s (AtJob is_known categories quiet file job e) = Quiet (ap (λ (x : State). pulls x.due) e ∙ job_still file job)
+begins s (AtJob groups quiet file job e) = Quiet (ap (λ (x : State). pulls x.due) e ∙ job_still file job)
 
 pub number_rises : (s t : State) (ms : List Move) → Begins s → Moves s ms t → t.pending.number ≤ s.pending.number + steps ms
 number_rises s t ms b h = (counted s t ms (begins s b) h).within

@@ -1,26 +1,28 @@
--- The lists of the macros that are held take as many words under other numbers.
-use Rattle.std.proofs.Common.{◌≡◌, ℕ, zero, suc, ◌+◌, ◌<◌, ◌≤◌, Bool, true, false, ◌||◌, ◌⊎◌, List, [], ◌∷◌, length, Option, Some, None, refl, ap, ◌∙◌, ⊎_elim, inl, inr, arith}
+-- The lists that are held take as many words under other numbers.
+use Rattle.std.proofs.Common.{◌≡◌, ℕ, zero, suc, ◌+◌, ◌<◌, ◌≤◌, Bool, true, false, ◌||◌, ◌⊎◌, List, [], ◌∷◌, length, map, Option, refl, ap, ◌∙◌, ⊎_elim, inl, inr, arith}
 use Rattle.std.specs.Prelude.{◌==◌, if◌then◌else◌, slice_index_or}
 use Rattle.std.proofs.lemmas.Bool.{eqb-true, eq-eqb, ne_eqb, or_cases, or_left, or_right, cases_Bool, false_from_ne_true}
 use Rattle.tex_defs.specs.declared.Token.{Token}
-use Rattle.tex_defs.specs.declared.Meaning.{Meaning}
-use Rattle.tex_defs.specs.declared.Meaning.TheVariants as means
 use Rattle.plain_tokens.specs.Puts.{Put, Whole, Own, Macro}
-use Rattle.plain_tokens.specs.Tables.{list_words, means_macro, is_meant, is_whole, is_put, macro_words, held_words}
-use Rattle.plain_machine.specs.Numbers.{meaning_of, meanings_of, whole_of, puts_of, Tied}
+use Rattle.plain_tokens.specs.Meanings.{is_listed}
+use Rattle.plain_tokens.specs.Tables.{list_words, is_whole, is_put, held_words}
+use Rattle.equivalents.specs.Groups.{Groups}
+use Rattle.equivalents.specs.Holding.{lists_held, shared_words}
+use Rattle.plain_machine.specs.Numbers.{whole_of, puts_of, groups_of, Tied}
 use Rattle.plain_machine.proofs.Renumbering.{held_words_of}
+use Rattle.plain_machine.proofs.Holders.{held_as}
 
-abbrev is_held : List (Meaning (Option ℕ)) → List Put → ℕ → Bool
-is_held meanings puts n = is_meant n meanings || is_put n puts
+abbrev is_held : List ℕ → List Put → ℕ → Bool
+is_held held puts n = is_listed held n || is_put n puts
 
 -- the words of the lists whose numbers pass, the first of which has the number n
 abbrev tally : (ℕ → Bool) → ℕ → List (List Token) → ℕ
 tally p n [] = 0
 tally p n (ts ∷ lists) = (if p n then list_words ts else 0) + tally p (suc n) lists
 
-tally_is : (meanings : List (Meaning (Option ℕ))) (puts : List Put) (n : ℕ) (lists : List (List Token)) → macro_words n meanings puts lists ≡ tally (is_held meanings puts) n lists
-tally_is meanings puts n [] = refl
-tally_is meanings puts n (ts ∷ lists) = ap (λ (k : ℕ). (if is_held meanings puts n then list_words ts else 0) + k) (tally_is meanings puts (suc n) lists)
+tally_is : (held : List ℕ) (puts : List Put) (n : ℕ) (lists : List (List Token)) → shared_words n held puts lists ≡ tally (is_held held puts) n lists
+tally_is held puts n [] = refl
+tally_is held puts n (ts ∷ lists) = ap (λ (k : ℕ). (if is_held held puts n then list_words ts else 0) + k) (tally_is held puts (suc n) lists)
 
 tally_same : (p q : ℕ → Bool) (n : ℕ) (lists : List (List Token)) → ((k : ℕ) → n ≤ k → p k ≡ q k) → tally p n lists ≡ tally q n lists
 tally_same p q n [] h = refl
@@ -113,14 +115,9 @@ pub either : (a b c d : Bool) → (a ≡ true → c ≡ true) → (b ≡ true �
 either a b c d f g h = ⊎_elim (λ e. or_left c d (f e)) (λ e. or_right c d (g e)) (or_cases a b h)
 
 module _ (number : ℕ → ℕ) where
-  means_forth : (n : ℕ) (m : Meaning (Option ℕ)) → means_macro n m ≡ true → means_macro (number n) (meaning_of number m) ≡ true
-  means_forth n (means.Macro long outer (Some k)) h = eq-eqb (number k) (number n) (ap number (eqb-true k n h))
-  means_forth n (means.Macro long outer None) h = cc
-  means_forth n m h = cc
-
-  meant_forth : (n : ℕ) (cells : List (Meaning (Option ℕ))) → is_meant n cells ≡ true → is_meant (number n) (meanings_of number cells) ≡ true
-  meant_forth n [] h = cc
-  meant_forth n (m ∷ cells) h = either (means_macro n m) (is_meant n cells) (means_macro (number n) (meaning_of number m)) (is_meant (number n) (meanings_of number cells)) (means_forth n m) (meant_forth n cells) h
+  listed_forth : (n : ℕ) (ns : List ℕ) → is_listed ns n ≡ true → is_listed (map number ns) (number n) ≡ true
+  listed_forth n [] h = cc
+  listed_forth n (k ∷ ns) h = either (k == n) (is_listed ns n) (number k == number n) (is_listed (map number ns) (number n)) (λ e. eq-eqb (number k) (number n) (ap number (eqb-true k n e))) (listed_forth n ns) h
 
   whole_forth : (n : ℕ) (w : Whole) → is_whole n w ≡ true → is_whole (number n) (whole_of number w) ≡ true
   whole_forth n (Own ts) h = cc
@@ -139,20 +136,12 @@ module _ (number : ℕ → ℕ) where
       ⊎_elim (λ e. (let x : Renumbered p k = f e in (x.0, or_left (p x.0) (q x.0) x.1, x.2)))
       (λ e. (let x : Renumbered q k = g e in (x.0, or_right (p x.0) (q x.0) x.1, x.2))) (or_cases a b h)
 
-  means_back : (k : ℕ) (m : Meaning (Option ℕ)) → means_macro k (meaning_of number m) ≡ true → Renumbered (λ n. means_macro n m) k
-  means_back k (means.Macro long outer (Some n)) h = (n, eq-eqb n n refl, eqb-true (number n) k h)
-  means_back k (means.Macro long outer None) h = cc
-  means_back k means.Undefined h = cc
-  means_back k means.RelaxMarked h = cc
-  means_back k (means.Char category code) h = cc
-  means_back k (means.CharGiven code) h = cc
-  means_back k (means.MathGiven code) h = cc
-  means_back k (means.Register kind n) h = cc
-  means_back k (means.Prim n) h = cc
+  number_back : (k n : ℕ) → (number n == k) ≡ true → Renumbered (λ m. n == m) k
+  number_back k n h = (n, eq-eqb n n refl, eqb-true (number n) k h)
 
-  meant_back : (k : ℕ) (cells : List (Meaning (Option ℕ))) → is_meant k (meanings_of number cells) ≡ true → Renumbered (λ n. is_meant n cells) k
-  meant_back k [] h = cc
-  meant_back k (m ∷ cells) h = one_of (λ n. means_macro n m) (λ n. is_meant n cells) (means_macro k (meaning_of number m)) (is_meant k (meanings_of number cells)) k (means_back k m) (meant_back k cells) h
+  listed_back : (k : ℕ) (ns : List ℕ) → is_listed (map number ns) k ≡ true → Renumbered (is_listed ns) k
+  listed_back k [] h = cc
+  listed_back k (n ∷ ns) h = one_of (λ m. n == m) (is_listed ns) (number n == k) (is_listed (map number ns) k) k (number_back k n) (listed_back k ns) h
 
   whole_back : (k : ℕ) (w : Whole) → is_whole k (whole_of number w) ≡ true → Renumbered (λ n. is_whole n w) k
   whole_back k (Own ts) h = cc
@@ -162,30 +151,34 @@ module _ (number : ℕ → ℕ) where
   put_back k [] h = cc
   put_back k (p ∷ ps) h = one_of (λ n. is_whole n p.list) (λ n. is_put n ps) (is_whole k (whole_of number p.list)) (is_put k (puts_of number ps)) k (whole_back k p.list) (put_back k ps) h
 
-  module _ (meanings : List (Meaning (Option ℕ))) (puts : List Put) where
-    held_forth : (n : ℕ) → is_held meanings puts n ≡ true → is_held (meanings_of number meanings) (puts_of number puts) (number n) ≡ true
-    held_forth n h = either (is_meant n meanings) (is_put n puts) (is_meant (number n) (meanings_of number meanings)) (is_put (number n) (puts_of number puts)) (meant_forth n meanings) (put_forth n puts) h
+  module _ (held : List ℕ) (puts : List Put) where
+    held_forth : (n : ℕ) → is_held held puts n ≡ true → is_held (map number held) (puts_of number puts) (number n) ≡ true
+    held_forth n h = either (is_listed held n) (is_put n puts) (is_listed (map number held) (number n)) (is_put (number n) (puts_of number puts)) (listed_forth n held) (put_forth n puts) h
 
-    held_back : (k : ℕ) → is_held (meanings_of number meanings) (puts_of number puts) k ≡ true → Renumbered (is_held meanings puts) k
-    held_back k h = one_of (λ n. is_meant n meanings) (λ n. is_put n puts) (is_meant k (meanings_of number meanings)) (is_put k (puts_of number puts)) k (meant_back k meanings) (put_back k puts) h
+    held_back : (k : ℕ) → is_held (map number held) (puts_of number puts) k ≡ true → Renumbered (is_held held puts) k
+    held_back k h = one_of (is_listed held) (λ n. is_put n puts) (is_listed (map number held) k) (is_put k (puts_of number puts)) k (listed_back k held) (put_back k puts) h
 
 -- THE WORDS ARE THE SAME
 
-pub words_tied : (number : ℕ → ℕ) (macros : List (List Token)) (meanings : List (Meaning (Option ℕ))) (puts : List Put) (lists : List (List Token)) → Tied number macros meanings puts lists → macro_words 0 (meanings_of number meanings) (puts_of number puts) macros ≡ macro_words 0 meanings puts lists
-words_tied number macros meanings puts lists t =
-    let r : Renumbers number macros lists (is_held meanings puts) (is_held (meanings_of number meanings) (puts_of number puts)) = record {
+shared_tied : (number : ℕ → ℕ) (macros : List (List Token)) (held : List ℕ) (puts : List Put) (lists : List (List Token)) → Tied number macros held puts lists → shared_words 0 (map number held) (puts_of number puts) macros ≡ shared_words 0 held puts lists
+shared_tied number macros held puts lists t =
+    let r : Renumbers number macros lists (is_held held puts) (is_held (map number held) (puts_of number puts)) = record {
       inside = t.inside;
       within = t.within;
       tokens = t.tokens;
       apart = t.apart;
-      forth = held_forth number meanings puts;
-      back = held_back number meanings puts;
+      forth = held_forth number held puts;
+      back = held_back number held puts;
     } in
-    let left : macro_words 0 (meanings_of number meanings) (puts_of number puts) macros ≡ tally (is_held (meanings_of number meanings) (puts_of number puts)) 0 macros = tally_is (meanings_of number meanings) (puts_of number puts) 0 macros in
-    let right : macro_words 0 meanings puts lists ≡ tally (is_held meanings puts) 0 lists = tally_is meanings puts 0 lists in
-    let between : tally (is_held (meanings_of number meanings) (puts_of number puts)) 0 macros ≡ tally (is_held meanings puts) 0 lists = tally_renumbered number macros lists (length lists) (is_held meanings puts) (is_held (meanings_of number meanings) (puts_of number puts)) r t.inside in
+    let left : shared_words 0 (map number held) (puts_of number puts) macros ≡ tally (is_held (map number held) (puts_of number puts)) 0 macros = tally_is (map number held) (puts_of number puts) 0 macros in
+    let right : shared_words 0 held puts lists ≡ tally (is_held held puts) 0 lists = tally_is held puts 0 lists in
+    let between : tally (is_held (map number held) (puts_of number puts)) 0 macros ≡ tally (is_held held puts) 0 lists = tally_renumbered number macros lists (length lists) (is_held held puts) (is_held (map number held) (puts_of number puts)) r t.inside in
     cc
 
+pub words_tied : (number : ℕ → ℕ) (macros : List (List Token)) (g : Groups) (puts : List Put) (lists : List (List Token)) → Tied number macros (lists_held g) puts lists → shared_words 0 (lists_held (groups_of number g)) (puts_of number puts) macros ≡ shared_words 0 (lists_held g) puts lists
+words_tied number macros g puts lists t = ap (λ (held : List ℕ). shared_words 0 held (puts_of number puts) macros) (held_as number g) ∙ shared_tied number macros (lists_held g) puts lists t
+
 -- all words of main memory
-pub all_words_tied : (number : ℕ → ℕ) (macros : List (List Token)) (meanings : List (Meaning (Option ℕ))) (puts : List Put) (lists : List (List Token)) (making : Option (List Token)) (gathered : List (List Token)) → Tied number macros meanings puts lists → macro_words 0 (meanings_of number meanings) (puts_of number puts) macros + held_words (puts_of number puts) making gathered ≡ macro_words 0 meanings puts lists + held_words puts making gathered
-all_words_tied number macros meanings puts lists making gathered t = rw (words_tied number macros meanings puts lists t, held_words_of number puts making gathered)
+pub all_words_tied : (number : ℕ → ℕ) (macros : List (List Token)) (g : Groups) (puts : List Put) (lists : List (List Token)) (making : Option (List Token)) (gathered : List (List Token)) → Tied number macros (lists_held g) puts lists →
+    shared_words 0 (lists_held (groups_of number g)) (puts_of number puts) macros + held_words (puts_of number puts) making gathered ≡ shared_words 0 (lists_held g) puts lists + held_words puts making gathered
+all_words_tied number macros g puts lists making gathered t = rw (words_tied number macros g puts lists t, held_words_of number puts making gathered)

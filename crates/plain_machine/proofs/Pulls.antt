@@ -164,7 +164,7 @@ called_meaning_none page n (means.Macro long outer list) = called_list_none page
 called_meaning_none page n m = refl
 
 called_none : (page : Page) (t : Token) → pulls (called page t) ≡ 0
-called_none page t = called_meaning_none page (name_of t) (name_meaning page.meanings (name_of t))
+called_none page t = called_meaning_none page (name_of t) (name_meaning page.now.meanings (name_of t))
 
 -- PRIMITIVES
 
@@ -233,9 +233,9 @@ checked_none page None = refl
 checked_none page (Some s) = away_none page (reports.FileEnded s.what s.name) s [] refl
 
 met_outer_none : (page : Page) (o : Option Scanning) (t : Token) (onward : Seen → List Move) → ((x : Seen) → pulls (onward x) ≡ 0) → pulls (met_outer page o t onward) ≡ 0
-met_outer_none page None t onward h = h (met_token page.meanings t)
+met_outer_none page None t onward h = h (met_token page.now.meanings t)
 met_outer_none page (Some s) t onward h =
-    omega (arith, away_none page (reports.Forbidden s.what s.name) s (onward (met_token page.meanings space_token)) (h (met_token page.meanings space_token)))
+    omega (arith, away_none page (reports.Forbidden s.what s.name) s (onward (met_token page.now.meanings space_token)) (h (met_token page.now.meanings space_token)))
 
 pub met_none : (page : Page) (o : Option Scanning) (onward : Seen → List Move) (x : Seen) → ((x : Seen) → pulls (onward x) ≡ 0) → pulls (met page o onward x) ≡ 0
 met_none page o onward x h = none_if (is_outer x.meaning) (met_outer page o x.token onward) (onward x) (met_outer_none page o x.token onward h) (h x)
@@ -287,23 +287,23 @@ acts_none page c (effect.MakeMeaning x) = and_closed_none (put_characters (meani
 acts_none page c e = refl
 
 relax_none : (meanings : List (Meaning (Option ℕ))) (n : Name) → pulls (relax_if_undefined meanings n) ≡ 0
-relax_none meanings n = none_if (is_undefined (seen_as (name_meaning meanings n))) (Assigned n (means.Prim relax_primitive) ∷ []) [] refl refl
+relax_none meanings n = none_if (is_undefined (seen_as (name_meaning meanings n))) (Assigned false n (means.Prim relax_primitive) ∷ []) [] refl refl
 
 made_name_none : (page : Page) (characters : List ℕ) → pulls (name_made page characters) ≡ 0
 made_name_none page characters =
     let n : Name = spelt page.names characters in
     let front : List Move = put_one (token.Named n) in
-    joined_none (entered (newly_spelt page.names characters)) (relax_if_undefined page.meanings n ++ front) (entered_none (newly_spelt page.names characters))
-    (joined_none (relax_if_undefined page.meanings n) front (relax_none page.meanings n) refl)
+    joined_none (entered (newly_spelt page.names characters)) (relax_if_undefined page.now.meanings n ++ front) (entered_none (newly_spelt page.names characters))
+    (joined_none (relax_if_undefined page.now.meanings n) front (relax_none page.now.meanings n) refl)
 
 pub acts_on_none : (page : Page) (c : Call) (e : Effect) (ts : List Token) → pulls (acts_on page c e ts) ≡ 0
 acts_on_none page c effect.ErrorMessage ts = reported_as_none page ts (Closed ∷ []) refl
 acts_on_none page c effect.MakeName ts = and_closed_none (name_made page (character_codes ts)) (made_name_none page (character_codes ts))
 acts_on_none page c e ts = refl
 
-pub macro_none : (c : Call) (n : Name) (ts : List Token) → pulls (macro_defined c n ts) ≡ 0
-macro_none c n [] = refl
-macro_none c n (t ∷ ts) = refl
+pub macro_none : (page : Page) (c : Call) (n : Name) (ts : List Token) → pulls (macro_defined page c n ts) ≡ 0
+macro_none page c n [] = refl
+macro_none page c n (t ∷ ts) = refl
 
 -- an answer by which no token is wanted
 abbrev pub WantsNone : Ask → Type 0
@@ -316,7 +316,7 @@ answered_none s work r (Inner k begins) h = inner_none (Reads k) begins
 answered_none s work r (Done v back) h = done_none (page_of s) r v back
 answered_none s work r (Acts c e) h = acts_none (page_of s) c e
 answered_none s work r (ActsOn c e ts) h = acts_on_none (page_of s) c e ts
-answered_none s work r (Defines c n ts) h = macro_none c n ts
+answered_none s work r (Defines c n ts) h = macro_none (page_of s) c n ts
 answered_none s work r Closes h = refl
 answered_none s work r (Calls args) h = called_with_none r.kind args
 answered_none s work r (Fails report) h = failed_none (page_of s) report

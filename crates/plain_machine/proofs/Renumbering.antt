@@ -1,8 +1,7 @@
 -- Each rule does the same under other numbers of the macros.
-use Rattle.std.proofs.Common.{◌≡◌, ℕ, ◌+◌, List, [], ◌∷◌, ◌++◌, length, Option, Some, None, refl, ap, ◌∙◌}
+use Rattle.std.proofs.Common.{◌≡◌, ℕ, ◌+◌, List, [], ◌∷◌, length, Option, Some, None, refl, ap, ◌∙◌}
 use Rattle.std.specs.Prelude.{fold}
 use Rattle.std.proofs.Math.ListN.{get_or-map}
-use Rattle.std.proofs.lemmas.List.{map-set, length-map}
 use Rattle.tex_defs.specs.declared.Token.{Token}
 use Rattle.tex_defs.specs.declared.Token.TheVariants as token
 use Rattle.tex_defs.specs.declared.Frozen.{Frozen}
@@ -15,7 +14,7 @@ use Rattle.tex_defs.specs.declared.Seen.{Seen}
 use Rattle.plain_tokens.specs.Lex.{Lexed, Gives, Invalid, UsedUp, lexed}
 use Rattle.plain_tokens.specs.Puts.{Item, First, Whole, Own, Macro, Put, put_top, with_put, settled_top, settled, without_gaps, passed_top, passed, top_item, next_item, put_levels, put_parameters, levels_of, when_some, token_put, call_put}
 use Rattle.plain_tokens.specs.Pending.{Pending, Progress, NotBegun, Begun, Closed, Pulled, TokenFrom, LexemeFrom, LineTaken, InvalidMet, FileOver, NothingLeft, with_puts, settle, put_front, from_file, from_line, from_list, from_front, pulled, after_pull}
-use Rattle.plain_tokens.specs.Meanings.{location, fixed_meaning, frozen_meaning, looked_up, name_meaning, set_at, assigned, seen_as, token_meaning, seen, met, whole_meaning, let_meaning, meaning_to_let}
+use Rattle.plain_tokens.specs.Meanings.{location, fixed_meaning, frozen_meaning, looked_up, name_meaning, seen_as, token_meaning, seen, met, whole_meaning, let_meaning, meaning_to_let}
 use Rattle.plain_tokens.specs.Tables.{whole_words, lists_words, argument_words, put_words, made_words, held_words, levels, file_levels, level, opened_level, parameters, file_level, next_line}
 use Rattle.plain_machine.specs.Numbers.{meaning_of, meanings_of, whole_of, put_of, puts_of, pending_of, pulled_of}
 
@@ -202,17 +201,3 @@ module _ (number : ℕ → ℕ) where
 
   pub meaning_to_let_of : (cells : List (Meaning (Option ℕ))) (x : Seen) → meaning_to_let (meanings_of number cells) x ≡ meaning_of number (meaning_to_let cells x)
   meaning_to_let_of cells x = let_meaning_of cells x.token x.meaning
-
-  set_at_of : (cells : List (Meaning (Option ℕ))) (k : Option ℕ) (m : Meaning (Option ℕ)) → set_at (meanings_of number cells) k (meaning_of number m) ≡ meanings_of number (set_at cells k m)
-  set_at_of cells None m = refl
-  set_at_of cells (Some k) m = rw (map-set (meaning_of number) cells k m)
-
-  pub assigned_of : (cells : List (Meaning (Option ℕ))) (n : Name) (m : Meaning (Option ℕ)) → assigned (meanings_of number cells) n (meaning_of number m) ≡ meanings_of number (assigned cells n m)
-  assigned_of cells n m = set_at_of cells (location n) m
-
-  pub entered_of : (cells : List (Meaning (Option ℕ))) → meanings_of number cells ++ means.Undefined ∷ [] ≡ meanings_of number (cells ++ means.Undefined ∷ [])
-  entered_of [] = refl
-  entered_of (m ∷ cells) = ap (λ (ms : List (Meaning (Option ℕ))). meaning_of number m ∷ ms) (entered_of cells)
-
-  pub length_of : (cells : List (Meaning (Option ℕ))) → length (meanings_of number cells) ≡ length cells
-  length_of cells = length-map cells (meaning_of number)

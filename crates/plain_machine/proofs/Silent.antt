@@ -25,6 +25,8 @@ use Rattle.plain_tokens.proofs.LexRests.{less}
 use Rattle.plain_tokens.specs.Puts.{Item, Put as PutList, passed, call_put}
 use Rattle.plain_tokens.specs.Pending.{Pending, Progress, NotBegun, Begun as BegunFile, Closed as ClosedFile, Pulled, TokenFrom, LexemeFrom, LineTaken, InvalidMet, FileOver, NothingLeft, settle, pulled, from_front, from_list, from_line, from_file}
 use Rattle.plain_tokens.specs.Arguments.{has_parameters}
+use Rattle.equivalents.specs.declared.values.Loc.TheVariants as loc
+use Rattle.equivalents.specs.declared.values.Val.TheVariants as val
 use Rattle.plain_state.specs.Reports.{report_bytes, error_message_bytes, fresh_line, string_text, message_bytes, hundred_line, token_line_bytes}
 use Rattle.rows.specs.declared.words.Value.{Value}
 use Rattle.rows.specs.declared.words.Kind.{Kind as Begins}
@@ -39,8 +41,8 @@ use Rattle.plain_readings.specs.Spelling.{endcsname_primitive}
 use Rattle.plain_readings.specs.Scanning.{Scanning, scanning}
 use Rattle.plain_readings.specs.Laws.{IsRead}
 use Rattle.plain_readings.specs.Weights.{frame_weight, value_weight, act_weight, end_weight, ask_weight, weight, IsReport, WeightsFall}
-use Rattle.plain_machine.specs.States.{State, Move, Settled, Skipped, FileClosed, Entered, Kept as KeptBytes, Grows, Feeds, Completed, Opened, ListBegun, ListGrown, Put, ListDropped, Called, SetCategoryOf, Assigned, Written, Begun, Ended, Closed, Reported, Flawed, Stopped, Handed, made}
-use Rattle.plain_machine.specs.Plan.{Page, page_of, style_of, plain_style_of, plan, planned, answered, handed, checked, check_noted, inserted_at, away_text, without_file, ran_away, page_behind, reported, behind_report, reports_room, finish, stomach, command, primitive, expansion, expanded, expanded_as, csname_primitive, jobname_primitive, is_expandable_primitive, job_in, begun, call_of, called_meaning, put_body, body_put, token_line, wanted, enters_names, feeding, given_back, grown_to, first_list, noting, noting_kind, put_one, put_text, put_made, put_characters, put_inserted, arguments_put, called_with, failed, failed_away, inner_begun, done, value_tokens, told, and_closed, expanded_behind, marked, meaning_characters, shown, natural, acts, macro_defined, newly_spelt, spelt, relax_if_undefined, name_made, entered, acts_on}
+use Rattle.plain_machine.specs.States.{State, Move, Settled, Skipped, FileClosed, Entered, Kept as KeptBytes, Grows, Feeds, Completed, Opened, ListBegun, ListGrown, Put, ListDropped, Called, Set, Assigned, Written, Begun, Ended, Closed, Reported, Flawed, Stopped, Handed, made}
+use Rattle.plain_machine.specs.Plan.{Page, page_of, style_of, plain_style_of, plan, planned, answered, handed, checked, check_noted, inserted_at, away_text, without_file, ran_away, page_behind, reported, behind_report, reports_room, finish, stomach, command, primitive, expansion, expanded, expanded_as, csname_primitive, jobname_primitive, is_expandable_primitive, job_in, begun, call_of, called_meaning, put_body, body_put, token_line, wanted, enters_names, feeding, given_back, grown_to, first_list, noting, noting_kind, put_one, put_text, put_made, put_characters, put_inserted, arguments_put, called_with, failed, failed_away, inner_begun, done, value_tokens, told, and_closed, expanded_behind, marked, meaning_characters, shown, is_global, natural, acts, macro_defined, newly_spelt, spelt, relax_if_undefined, name_made, entered, acts_on}
 use Rattle.plain_machine.specs.Runs.{step_of, all_made}
 use Rattle.plain_machine.proofs.Settling.{pulled_settled}
 
@@ -128,8 +130,8 @@ is_plain (ListGrown t) = true
 is_plain (Put ts) = true
 is_plain ListDropped = true
 is_plain (Called p) = true
-is_plain (SetCategoryOf code category) = true
-is_plain (Assigned name m) = true
+is_plain (Set global l v) = true
+is_plain (Assigned global name m) = true
 is_plain (Written p bs) = true
 is_plain Reported = true
 is_plain Flawed = true
@@ -169,8 +171,8 @@ kept (ListGrown t) s h = record { work = refl; stopped = refl; pending = refl }
 kept (Put ts) s h = record { work = refl; stopped = refl; pending = refl }
 kept ListDropped s h = record { work = refl; stopped = refl; pending = refl }
 kept (Called p) s h = record { work = refl; stopped = refl; pending = refl }
-kept (SetCategoryOf code category) s h = record { work = refl; stopped = refl; pending = refl }
-kept (Assigned name m) s h = record { work = refl; stopped = refl; pending = refl }
+kept (Set global l v) s h = record { work = refl; stopped = refl; pending = refl }
+kept (Assigned global name m) s h = record { work = refl; stopped = refl; pending = refl }
 kept (Written p bs) s h = record { work = refl; stopped = refl; pending = refl }
 kept Reported s h = record { work = refl; stopped = refl; pending = refl }
 kept Flawed s h = record { work = refl; stopped = refl; pending = refl }
@@ -252,16 +254,16 @@ plain_entered (name ∷ names) = (refl, tt)
 
 plain_relax : (meanings : List (Meaning (Option ℕ))) (n : Name) → AllPlain (relax_if_undefined meanings n)
 plain_relax meanings n = by (is_undefined (seen_as (name_meaning meanings n))) where
-  by : (b : Bool) → AllPlain (if b then Assigned n (means.Prim relax_primitive) ∷ [] else [])
+  by : (b : Bool) → AllPlain (if b then Assigned false n (means.Prim relax_primitive) ∷ [] else [])
   by true = (refl, tt)
   by false = tt
 
 plain_name : (page : Page) (characters : List ℕ) → AllPlain (name_made page characters)
 plain_name page characters =
-    all_plain (entered (newly_spelt page.names characters)) (relax_if_undefined page.meanings (spelt page.names characters) ++ put_one (token.Named (spelt page.names characters)))
+    all_plain (entered (newly_spelt page.names characters)) (relax_if_undefined page.now.meanings (spelt page.names characters) ++ put_one (token.Named (spelt page.names characters)))
     (plain_entered (newly_spelt page.names characters))
-    (all_plain (relax_if_undefined page.meanings (spelt page.names characters)) (put_one (token.Named (spelt page.names characters)))
-    (plain_relax page.meanings (spelt page.names characters)) (plain_one (token.Named (spelt page.names characters))))
+    (all_plain (relax_if_undefined page.now.meanings (spelt page.names characters)) (put_one (token.Named (spelt page.names characters)))
+    (plain_relax page.now.meanings (spelt page.names characters)) (plain_one (token.Named (spelt page.names characters))))
 
 -- a rule whose moves are plain, and lighter by one more at their end
 drops_all : (n : ℕ) (s : State) (ms : List Move) → AllPlain ms → ((u : State) → Kept s u → state_weight u < n) → Drops n ms s
@@ -317,13 +319,13 @@ module _ (falls : WeightsFall) (s : State) (q : Pending) (e : s.stopped ≡ None
 
 module _ (falls : WeightsFall) (s : State) (enters : Bool) (o : Option Scanning) (onward : Seen → List Move) (e : s.stopped ≡ None) where
   -- the pull comes once the finished lists in front have gone
-  pulled_then : (p : Pulled) → pulled s.categories s.pending ≡ p → pulled s.categories (settle s.pending) ≡ p
-  pulled_then p is = pulled_settled s.categories s.pending ∙ is
+  pulled_then : (p : Pulled) → pulled s.groups.now.categories s.pending ≡ p → pulled s.groups.now.categories (settle s.pending) ≡ p
+  pulled_then p is = pulled_settled s.groups.now.categories s.pending ∙ is
 
   abbrev settled_first : List Move → State
   settled_first rest = made Settled (record s { due = rest })
 
-  rule_pulled : (p : Pulled) → pulled s.categories s.pending ≡ p → Lighter s.pending p → Rule s (handed (page_of s) enters o onward p)
+  rule_pulled : (p : Pulled) → pulled s.groups.now.categories s.pending ≡ p → Lighter s.pending p → Rule s (handed (page_of s) enters o onward p)
   rule_pulled (TokenFrom t q) is l = Step _ _ refl refl
   rule_pulled (LexemeFrom x q) is l = Step _ _ refl refl
   rule_pulled (LineTaken line q) is l = Step _ _ refl refl
@@ -335,8 +337,8 @@ module _ (falls : WeightsFall) (s : State) (enters : Bool) (o : Option Scanning)
       Falls (check_below falls s q e l (made FileClosed (record (settled_first (FileClosed ∷ rest)) { due = rest })) e refl (rw (pulled_then (FileOver q) is) refl) (without_file (page_of s)) o)
   rule_pulled NothingLeft is l = Falls (rw e (omega arith))
 
-rule_handed : WeightsFall → (s : State) (enters : Bool) (o : Option Scanning) (onward : Seen → List Move) → s.stopped ≡ None → Rule s (handed (page_of s) enters o onward (pulled s.categories s.pending))
-rule_handed falls s enters o onward e = rule_pulled falls s enters o onward e (pulled s.categories s.pending) refl (lighter s.categories s.pending)
+rule_handed : WeightsFall → (s : State) (enters : Bool) (o : Option Scanning) (onward : Seen → List Move) → s.stopped ≡ None → Rule s (handed (page_of s) enters o onward (pulled s.groups.now.categories s.pending))
+rule_handed falls s enters o onward e = rule_pulled falls s enters o onward e (pulled s.groups.now.categories s.pending) refl (lighter s.groups.now.categories s.pending)
 
 -- MOVES BEHIND WHICH A READING MAY BEGIN
 -- from a state v that weighs less than n, also with one reading more
@@ -388,7 +390,7 @@ module _ (n : ℕ) (v : State) (e : v.stopped ≡ None) (less : state_weight v <
   -- a token is expanded, or comes to moves that stay below
   drops_expanded : (u : State) (page : Page) (t : Token) (m : Meaning Unit) (ms : List Move) → Kept v u → Drops n ms u → Drops n (expanded_as page t m ms) u
   drops_expanded u page t means.Undefined ms k d = drops_undefined u page UndefinedName k
-  drops_expanded u page t (means.Macro long outer list) ms k d = drops_called_meaning u page (name_of t) (name_meaning page.meanings (name_of t)) k
+  drops_expanded u page t (means.Macro long outer list) ms k d = drops_called_meaning u page (name_of t) (name_meaning page.now.meanings (name_of t)) k
   drops_expanded u page t (means.Prim number) ms k d = drops_unless u (is_expandable_primitive number) page t number ms k d
   drops_expanded u page t m ms k d = d
 
@@ -421,9 +423,9 @@ module _ (falls : WeightsFall) (s : State) (k : Kind) (fed : List Fed) (rs : Lis
     rule_closed ms h = Falls (drops_plain (state_weight s) s ms (Closed ∷ []) h (λ u kept. falls_closed u kept))
 
     -- a name becomes a macro
-    rule_defined : (c : Call) (name : Name) (ts : List Token) → Rule s (macro_defined c name ts)
-    rule_defined c name [] = rule_closed [] tt
-    rule_defined c name (t ∷ ts) = Falls (rw (e, w) (omega (arith, asked_least falls rs, heavy)))
+    rule_defined : (page : Page) (c : Call) (name : Name) (ts : List Token) → Rule s (macro_defined page c name ts)
+    rule_defined page c name [] = rule_closed [] tt
+    rule_defined page c name (t ∷ ts) = Falls (rw (e, w) (omega (arith, asked_least falls rs, heavy)))
 
     -- the body of a call is put
     rule_put : (p : PutList) (is : List Item) → Rule s (arguments_put p is)
@@ -475,10 +477,10 @@ module _ (falls : WeightsFall) (s : State) (k : Kind) (fed : List Fed) (rs : Lis
       by : (f : Effect) → ask k fed ≡ Acts c f → act_weight ≤ weight k fed → Rule s (acts page c f)
       by (effect.Obey x) is h = rule_obeyed h page x.token x.meaning
       by (effect.Show x) is h = rule_closed h (shown page x) (refl, (refl, tt))
-      by (effect.Let n x) is h = rule_closed h (Assigned n (meaning_to_let page.meanings x) ∷ []) (refl, tt)
-      by (effect.FutureLet n x y) is h = rule_closed h (put_one y.token ++ (put_one x.token ++ Assigned n (meaning_to_let page.meanings y) ∷ []))
-          (all_plain (put_one y.token) (put_one x.token ++ Assigned n (meaning_to_let page.meanings y) ∷ []) (plain_one y.token) (all_plain (put_one x.token) (Assigned n (meaning_to_let page.meanings y) ∷ []) (plain_one x.token) (refl, tt)))
-      by (effect.SetCategory code category) is h = rule_closed h (SetCategoryOf (natural code) (natural category) ∷ []) (refl, tt)
+      by (effect.Let n x) is h = rule_closed h (Assigned (is_global page c) n (meaning_to_let page.now.meanings x) ∷ []) (refl, tt)
+      by (effect.FutureLet n x y) is h = rule_closed h (put_one y.token ++ (put_one x.token ++ Assigned (is_global page c) n (meaning_to_let page.now.meanings y) ∷ []))
+          (all_plain (put_one y.token) (put_one x.token ++ Assigned (is_global page c) n (meaning_to_let page.now.meanings y) ∷ []) (plain_one y.token) (all_plain (put_one x.token) (Assigned (is_global page c) n (meaning_to_let page.now.meanings y) ∷ []) (plain_one x.token) (refl, tt)))
+      by (effect.SetCode kind char value) is h = rule_closed h (Set (is_global page c) (loc.Code kind (natural char)) (val.Number value) ∷ []) (refl, tt)
       by (effect.ExpandBehind x y) is h = rule_behind page c x y is
       by (effect.PutBack x) is h = rule_closed h (put_one x.token) (plain_one x.token)
       by (effect.PutMarked x) is h = rule_closed h (put_one (marked x.token)) (plain_one (marked x.token))
@@ -527,7 +529,7 @@ module _ (falls : WeightsFall) (s : State) (k : Kind) (fed : List Fed) (rs : Lis
   rule_asked (Done v back) is = rule_done (page_of s) v back (ap (ask_weight (end_weight k)) is)
   rule_asked (Acts c f) is = rule_acts c (page_of s) f is
   rule_asked (ActsOn c f ts) is = rule_acts_on (heavy_as _ is (omega arith)) (page_of s) c f ts
-  rule_asked (Defines c n ts) is = rule_defined (heavy_as _ is (omega arith)) c n ts
+  rule_asked (Defines c n ts) is = rule_defined (heavy_as _ is (omega arith)) (page_of s) c n ts
   rule_asked Closes is = rule_closed (heavy_as _ is (omega arith)) [] tt
   rule_asked (Calls args) is = rule_called (heavy_as _ is (omega arith)) k args
   rule_asked (Fails report) is = Falls (falls_failed (heavy_as _ is (omega arith)) (page_of s) report s (kept_none s))

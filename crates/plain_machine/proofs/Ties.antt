@@ -1,8 +1,7 @@
--- Macros stay under their other numbers: lists are put and read, a macro is defined, and a name means what another token means.
-use Rattle.std.proofs.Common.{◌≡◌, ℕ, zero, suc, ◌<◌, ◌≤◌, Bool, true, false, ◌||◌, ◌⊎◌, List, [], ◌∷◌, ◌++◌, map, length, set, replicate, Option, Some, None, refl, sym, ap, ◌∙◌, ⊎_elim, inl, inr, arith}
-use Rattle.std.specs.Prelude.{if◌then◌else◌, slice_index_or}
-use Rattle.std.specs.List.{range_with_len}
-use Rattle.std.proofs.lemmas.Bool.{eqb-true, eq-eqb, ne_eqb, or_cases, or_parts, or_left, or_right, cases_eq, cases_lt, false_from_ne_true}
+-- Lists stay under their other numbers: they are put and read, a macro is defined, a location gets a value, and a group ends.
+use Rattle.std.proofs.Common.{◌≡◌, ℕ, suc, ◌<◌, ◌≤◌, Bool, true, false, ◌||◌, ◌⊎◌, List, [], ◌∷◌, ◌++◌, length, ℤ, Option, Some, None, refl, sym, ap, ◌∙◌, subst, ⊎_elim, inl, inr, arith}
+use Rattle.std.specs.Prelude.{slice_index_or}
+use Rattle.std.proofs.lemmas.Bool.{eqb-true, eq-eqb, or_cases, or_parts, or_left, or_right, cases_eq, cases_lt, false_from_ne_true}
 use Rattle.std.proofs.lemmas.List.{get_or_at, get_or_append_left, get_or_past, length-append}
 use Rattle.tex_defs.specs.declared.Token.{Token}
 use Rattle.tex_defs.specs.declared.Token.TheVariants as token
@@ -16,13 +15,20 @@ use Rattle.tex_defs.specs.declared.Meaning.TheVariants as means
 use Rattle.plain_tokens.specs.Lex.{Lexed, Gives, Invalid, UsedUp, lexed}
 use Rattle.plain_tokens.specs.Puts.{Item, Whole, Own, Macro, Put, put_top, with_put, settled_top, settled, without_gaps, passed_top, passed}
 use Rattle.plain_tokens.specs.Pending.{Pending, Progress, NotBegun, Begun, Closed, from_file, from_line, from_list, from_front, pulled, after_pull}
-use Rattle.plain_tokens.specs.Meanings.{location, fixed_meaning, frozen_meaning, looked_up, name_meaning, set_at, assigned, whole_meaning, let_meaning, meaning_to_let, first_meaning, first_meanings, primitive_count, fixed_locations}
-use Rattle.plain_tokens.specs.Tables.{is_number, means_macro, is_meant, is_whole, is_put}
+use Rattle.plain_tokens.specs.Meanings.{location, is_listed, fixed_meaning, frozen_meaning, looked_up, name_meaning, whole_meaning, let_meaning, meaning_to_let}
+use Rattle.plain_tokens.specs.Tables.{is_whole, is_put}
 use Rattle.plain_tokens.specs.Printed.{Style, meaning_head, meaning_text, meaning_tokens, list_text}
+use Rattle.equivalents.specs.declared.values.Loc.{Loc}
+use Rattle.equivalents.specs.declared.values.Val.TheVariants as val
+use Rattle.equivalents.specs.Locations.{V}
+use Rattle.equivalents.proofs.Names.{fixed_unlisted}
+use Rattle.equivalents.specs.Groups.{Groups, set, set_name, entered, closed, first_groups}
+use Rattle.equivalents.specs.Holding.{list_of, value_list, lists_of_meanings, lists_held}
 use Rattle.plain_machine.specs.Plan.{macro_tokens}
-use Rattle.plain_machine.specs.Numbers.{number_of, meaning_of, meanings_of, whole_of, put_of, puts_of, renumbered, IsHeld, Tied}
-use Rattle.plain_machine.proofs.Renumbering.{assigned_of, meaning_to_let_of}
+use Rattle.plain_machine.specs.Numbers.{number_of, meaning_of, meanings_of, whole_of, put_of, puts_of, groups_of, renumbered, IsHeld, Tied}
+use Rattle.plain_machine.proofs.Renumbering.{meaning_to_let_of}
 use Rattle.plain_machine.proofs.MacroWords.{either}
+use Rattle.plain_machine.proofs.Holders.{is_number, OutsideIsHeld, meanings_at, names_hold, now_held, set_cases, name_cases, closed_held, outside_free, entered_lists, first_lists, other_number, new_number, defined_free}
 
 -- WHAT IS HELD
 
@@ -74,76 +80,23 @@ module _ (n : ℕ) where
   pub put_with_put : (x : Put) (ps : List Put) → is_put n (with_put x ps) ≡ true → (is_whole n x.list ≡ true) ⊎ (is_put n ps ≡ true)
   put_with_put x ps h = put_put_top x x.items ps h
 
-  meant_set : (cells : List (Meaning (Option ℕ))) (k : ℕ) (m : Meaning (Option ℕ)) → is_meant n (set cells k m) ≡ true → (means_macro n m ≡ true) ⊎ (is_meant n cells ≡ true)
-  meant_set [] k m h = inr h
-  meant_set (c ∷ cells) zero m h = ⊎_elim (λ a. inl a) (λ a. inr (or_right (means_macro n c) (is_meant n cells) a)) (or_cases (means_macro n m) (is_meant n cells) h)
-  meant_set (c ∷ cells) (suc k) m h =
-      ⊎_elim (λ a. inr (or_left (means_macro n c) (is_meant n cells) a))
-      (λ a. ⊎_elim (λ b. inl b) (λ b. inr (or_right (means_macro n c) (is_meant n cells) b)) (meant_set cells k m a)) (or_cases (means_macro n c) (is_meant n (set cells k m)) h)
-
-  meant_set_at : (cells : List (Meaning (Option ℕ))) (k : Option ℕ) (m : Meaning (Option ℕ)) → is_meant n (set_at cells k m) ≡ true → (means_macro n m ≡ true) ⊎ (is_meant n cells ≡ true)
-  meant_set_at cells None m h = inr h
-  meant_set_at cells (Some k) m h = meant_set cells k m h
-
-  pub meant_assigned : (cells : List (Meaning (Option ℕ))) (name : Name) (m : Meaning (Option ℕ)) → is_meant n (assigned cells name m) ≡ true → (means_macro n m ≡ true) ⊎ (is_meant n cells ≡ true)
-  meant_assigned cells name m h = meant_set_at cells (location name) m h
-
-  -- a name more, which is undefined
-  pub meant_entered : (cells : List (Meaning (Option ℕ))) → is_meant n (cells ++ means.Undefined ∷ []) ≡ is_meant n cells
-  meant_entered [] = refl
-  meant_entered (m ∷ cells) = ap (λ (b : Bool). means_macro n m || b) (meant_entered cells)
-
-  -- what is held is held by a name or by a list in front
-  pub held_more : (meanings meanings' : List (Meaning (Option ℕ))) (puts puts' : List Put) → (is_meant n meanings ≡ true → is_meant n meanings' ≡ true) → (is_put n puts ≡ true → is_put n puts' ≡ true) → IsHeld n meanings puts → IsHeld n meanings' puts'
-  held_more meanings meanings' puts puts' f g h = either (is_meant n meanings) (is_put n puts) (is_meant n meanings') (is_put n puts') f g h
-
-  -- INITEX's meanings hold no macro
-  meant_replicate : (k : ℕ) (cells : List (Meaning (Option ℕ))) → is_meant n (replicate k means.Undefined ++ cells) ≡ is_meant n cells
-  meant_replicate zero cells = refl
-  meant_replicate (suc k) cells = meant_replicate k cells
-
-  means_first : (b : Bool) (k : ℕ) → means_macro n (if b then means.Prim k else means.Undefined) ≡ false
-  means_first true k = refl
-  means_first false k = refl
-
-  meant_primitives : (is_known : ℕ → Bool) (ks : List ℕ) → is_meant n (map (first_meaning is_known) ks) ≡ false
-  meant_primitives is_known [] = refl
-  meant_primitives is_known (k ∷ ks) = rw (means_first (is_known k) k) (meant_primitives is_known ks)
-
-  pub meant_first : (is_known : ℕ → Bool) → is_meant n (first_meanings is_known) ≡ false
-  meant_first is_known = meant_replicate fixed_locations (map (first_meaning is_known) (range_with_len 1 primitive_count)) ∙ meant_primitives is_known (range_with_len 1 primitive_count)
-
--- INITEX's meanings are the same under other numbers
-first_replicate : (number : ℕ → ℕ) (k : ℕ) (cells : List (Meaning (Option ℕ))) → meanings_of number cells ≡ cells → meanings_of number (replicate k means.Undefined ++ cells) ≡ replicate k means.Undefined ++ cells
-first_replicate number zero cells h = h
-first_replicate number (suc k) cells h = ap (λ (ms : List (Meaning (Option ℕ))). means.Undefined ∷ ms) (first_replicate number k cells h)
-
-first_cell : (number : ℕ → ℕ) (b : Bool) (k : ℕ) → meaning_of number (if b then means.Prim k else means.Undefined) ≡ (if b then means.Prim k else means.Undefined)
-first_cell number true k = refl
-first_cell number false k = refl
-
-first_primitives : (number : ℕ → ℕ) (is_known : ℕ → Bool) (ks : List ℕ) → meanings_of number (map (first_meaning is_known) ks) ≡ map (first_meaning is_known) ks
-first_primitives number is_known [] = refl
-first_primitives number is_known (k ∷ ks) = rw (first_cell number (is_known k) k, first_primitives number is_known ks)
-
-pub first_meanings_of : (number : ℕ → ℕ) (is_known : ℕ → Bool) → meanings_of number (first_meanings is_known) ≡ first_meanings is_known
-first_meanings_of number is_known = first_replicate number fixed_locations (map (first_meaning is_known) (range_with_len 1 primitive_count)) (first_primitives number is_known (range_with_len 1 primitive_count))
+  -- what is held is held by a location, by a saved value or by a list in front
+  pub held_more : (held held' : List ℕ) (puts puts' : List Put) → (is_listed held n ≡ true → is_listed held' n ≡ true) → (is_put n puts ≡ true → is_put n puts' ≡ true) → IsHeld n held puts → IsHeld n held' puts'
+  held_more held held' puts puts' f g h = either (is_listed held n) (is_put n puts) (is_listed held' n) (is_put n puts') f g h
 
 -- THE MACROS KEEP THEIR NUMBERS
 
 module _ (number : ℕ → ℕ) (macros : List (List Token)) where
-  -- no macro yet
-  pub tied_first : (meanings : List (Meaning (Option ℕ))) (lists : List (List Token)) → ((n : ℕ) → is_meant n meanings ≡ false) → Tied number macros meanings [] lists
-  tied_first meanings lists none =
-      let not_held : (n : ℕ) → IsHeld n meanings [] → ⊥ = λ n h. ⊎_elim (λ a. (let e : is_meant n meanings ≡ false = none n in cc)) (λ a. cc) (or_cases (is_meant n meanings) false h) in
-      record { inside = λ n h. absurd (not_held n h); within = λ n h. absurd (not_held n h); tokens = λ n h. absurd (not_held n h); apart = λ n m h i e. absurd (not_held n h) }
+  -- nothing is held yet
+  pub tied_first : (lists : List (List Token)) → Tied number macros [] [] lists
+  tied_first lists = record { inside = λ n h. cc; within = λ n h. cc; tokens = λ n h. cc; apart = λ n m h i e. cc }
 
-  pub tied_at_first : (is_known : ℕ → Bool) (lists : List (List Token)) → Tied number macros (first_meanings is_known) [] lists
-  tied_at_first is_known lists = tied_first (first_meanings is_known) lists (λ n. meant_first n is_known)
+  pub tied_at_first : (knows : ℕ → Bool) (lists : List (List Token)) → Tied number macros (lists_held (first_groups knows)) [] lists
+  tied_at_first knows lists = subst (λ (held : List ℕ). Tied number macros held [] lists) (sym (first_lists knows)) (tied_first lists)
 
-  module _ (meanings meanings' : List (Meaning (Option ℕ))) (puts puts' : List Put) (lists lists' : List (List Token)) (t : Tied number macros meanings puts lists) where
+  module _ (held held' : List ℕ) (puts puts' : List Put) (lists lists' : List (List Token)) (t : Tied number macros held puts lists) where
     -- no more is held, and the lists of what is held stay
-    pub tied_kept : ((n : ℕ) → IsHeld n meanings' puts' → IsHeld n meanings puts × (slice_index_or lists' n [] ≡ slice_index_or lists n [])) → length lists' ≡ length lists → Tied number macros meanings' puts' lists'
+    pub tied_kept : ((n : ℕ) → IsHeld n held' puts' → IsHeld n held puts × (slice_index_or lists' n [] ≡ slice_index_or lists n [])) → length lists' ≡ length lists → Tied number macros held' puts' lists'
     tied_kept kept same = record {
       inside = λ n h. (let l : n < length lists = t.inside n (kept n h).0 in omega arith);
       within = λ n h. t.within n (kept n h).0;
@@ -151,71 +104,48 @@ module _ (number : ℕ → ℕ) (macros : List (List Token)) where
       apart = λ n m h i e. t.apart n m (kept n h).0 (kept m i).0 e;
     }
 
-  module _ (meanings : List (Meaning (Option ℕ))) (puts : List Put) (lists : List (List Token)) (t : Tied number macros meanings puts lists) where
+  module _ (held : List ℕ) (puts : List Put) (lists : List (List Token)) (t : Tied number macros held puts lists) where
     -- no more is held
-    pub tied_fewer : (meanings' : List (Meaning (Option ℕ))) (puts' : List Put) → ((n : ℕ) → IsHeld n meanings' puts' → IsHeld n meanings puts) → Tied number macros meanings' puts' lists
-    tied_fewer meanings' puts' fewer = tied_kept meanings meanings' puts puts' lists lists t (λ n h. (fewer n h, refl)) refl
+    pub tied_fewer : (held' : List ℕ) (puts' : List Put) → ((n : ℕ) → IsHeld n held' puts' → IsHeld n held puts) → Tied number macros held' puts' lists
+    tied_fewer held' puts' fewer = tied_kept held held' puts puts' lists lists t (λ n h. (fewer n h, refl)) refl
 
-    pub tied_puts : (puts' : List Put) → ((n : ℕ) → is_put n puts' ≡ true → is_put n puts ≡ true) → Tied number macros meanings puts' lists
-    tied_puts puts' fewer = tied_fewer meanings puts' (λ n h. held_more n meanings meanings puts' puts (λ a. a) (fewer n) h)
+    pub tied_puts : (puts' : List Put) → ((n : ℕ) → is_put n puts' ≡ true → is_put n puts ≡ true) → Tied number macros held puts' lists
+    tied_puts puts' fewer = tied_fewer held puts' (λ n h. held_more n held held puts' puts (λ a. a) (fewer n) h)
 
-    pub tied_settled : Tied number macros meanings (settled puts) lists
+    pub tied_settled : Tied number macros held (settled puts) lists
     tied_settled = tied_puts (settled puts) (λ n h. put_settled n puts h)
 
-    pub tied_entered : Tied number macros (meanings ++ means.Undefined ∷ []) puts lists
-    tied_entered = tied_fewer (meanings ++ means.Undefined ∷ []) puts (λ n h. held_more n (meanings ++ means.Undefined ∷ []) meanings puts puts (λ a. (let e : is_meant n (meanings ++ means.Undefined ∷ []) ≡ is_meant n meanings = meant_entered n meanings in cc)) (λ a. a) h)
+    put_held : (x : Put) → ((n : ℕ) → is_whole n x.list ≡ true → IsHeld n held puts) → Tied number macros held (with_put x puts) lists
+    put_held x own = tied_fewer held (with_put x puts) (λ n h.
+        ⊎_elim (λ a. or_left (is_listed held n) (is_put n puts) a)
+        (λ a. ⊎_elim (λ b. own n b) (λ b. or_right (is_listed held n) (is_put n puts) b) (put_with_put n x puts a)) (or_cases (is_listed held n) (is_put n (with_put x puts)) h))
 
-    put_held : (x : Put) → ((n : ℕ) → is_whole n x.list ≡ true → IsHeld n meanings puts) → Tied number macros meanings (with_put x puts) lists
-    put_held x held = tied_fewer meanings (with_put x puts) (λ n h.
-        ⊎_elim (λ a. or_left (is_meant n meanings) (is_put n puts) a)
-        (λ a. ⊎_elim (λ b. held n b) (λ b. or_right (is_meant n meanings) (is_put n puts) b) (put_with_put n x puts a)) (or_cases (is_meant n meanings) (is_put n (with_put x puts)) h))
-
-    macro_held : (id : ℕ) (w : Whole) → w ≡ Macro id → IsHeld id meanings puts → (n : ℕ) → is_whole n w ≡ true → IsHeld n meanings puts
-    macro_held id w e held n h =
+    macro_held : (id : ℕ) (w : Whole) → w ≡ Macro id → IsHeld id held puts → (n : ℕ) → is_whole n w ≡ true → IsHeld n held puts
+    macro_held id w e own n h =
         let here : is_whole n (Macro id) ≡ true = rw e at h in
         let same : id ≡ n = eqb-true id n here in
-        rw same at held
+        rw same at own
 
-    own_held : (ts : List Token) (w : Whole) → w ≡ Own ts → (n : ℕ) → is_whole n w ≡ true → IsHeld n meanings puts
+    own_held : (ts : List Token) (w : Whole) → w ≡ Own ts → (n : ℕ) → is_whole n w ≡ true → IsHeld n held puts
     own_held ts w e n h = let here : is_whole n (Own ts) ≡ true = rw e at h in cc
 
     -- the list of a macro that is held is put once more
-    pub tied_put : (id : ℕ) (x : Put) → x.list ≡ Macro id → IsHeld id meanings puts → Tied number macros meanings (with_put x puts) lists
-    tied_put id x e held = put_held x (macro_held id x.list e held)
+    pub tied_put : (id : ℕ) (x : Put) → x.list ≡ Macro id → IsHeld id held puts → Tied number macros held (with_put x puts) lists
+    tied_put id x e own = put_held x (macro_held id x.list e own)
 
     -- a list of its own
-    pub tied_own : (ts : List Token) (x : Put) → x.list ≡ Own ts → Tied number macros meanings (with_put x puts) lists
+    pub tied_own : (ts : List Token) (x : Put) → x.list ≡ Own ts → Tied number macros held (with_put x puts) lists
     tied_own ts x e = put_held x (own_held ts x.list e)
 
-  pub tied_pulled : (meanings : List (Meaning (Option ℕ))) (p : Pending) (lists : List (List Token)) (categories : List ℕ) → Tied number macros meanings p.puts lists → Tied number macros meanings (after_pull p (pulled categories p)).puts lists
-  tied_pulled meanings p lists categories t = tied_puts meanings p.puts lists t (after_pull p (pulled categories p)).puts (λ n h. put_pulled n p categories h)
+  pub tied_pulled : (held : List ℕ) (p : Pending) (lists : List (List Token)) (categories : List ℕ) → Tied number macros held p.puts lists → Tied number macros held (after_pull p (pulled categories p)).puts lists
+  tied_pulled held p lists categories t = tied_puts held p.puts lists t (after_pull p (pulled categories p)).puts (λ n h. put_pulled n p categories h)
 
 -- A MACRO IS DEFINED
 
 module _ (number : ℕ → ℕ) (id new : ℕ) where
-  other_number : (n : ℕ) → (n ≡ id → ⊥) → renumbered number id new n ≡ number n
-  other_number n h = ap (λ (b : Bool). if b then new else number n) (ne_eqb n id h)
-
-  new_number : (n : ℕ) → n ≡ id → renumbered number id new n ≡ new
-  new_number n h = ap (λ (b : Bool). if b then new else number n) (eq-eqb n id h)
-
-  meaning_renumbered : (m : Meaning (Option ℕ)) → means_macro id m ≡ false → meaning_of (renumbered number id new) m ≡ meaning_of number m
-  meaning_renumbered (means.Macro long outer (Some k)) h =
-      ap (λ (n : ℕ). means.Macro long outer (Some n)) (other_number k (λ e. (let f : is_number id (Some k) ≡ true = eq-eqb k id e in cc)))
-  meaning_renumbered (means.Macro long outer None) h = refl
-  meaning_renumbered m h = refl
-
-  pub meanings_renumbered : (cells : List (Meaning (Option ℕ))) → is_meant id cells ≡ false → meanings_of (renumbered number id new) cells ≡ meanings_of number cells
-  meanings_renumbered [] h = refl
-  meanings_renumbered (m ∷ cells) h =
-      let parts : (means_macro id m ≡ false) × (is_meant id cells ≡ false) = or_parts (means_macro id m) (is_meant id cells) h in
-      let here : meaning_of (renumbered number id new) m ≡ meaning_of number m = meaning_renumbered m parts.0 in
-      let behind : meanings_of (renumbered number id new) cells ≡ meanings_of number cells = meanings_renumbered cells parts.1 in
-      cc
-
   whole_renumbered : (w : Whole) → is_whole id w ≡ false → whole_of (renumbered number id new) w ≡ whole_of number w
   whole_renumbered (Own ts) h = refl
-  whole_renumbered (Macro k) h = ap (λ (n : ℕ). Macro n) (other_number k (λ e. (let f : is_whole id (Macro k) ≡ true = eq-eqb k id e in cc)))
+  whole_renumbered (Macro k) h = ap (λ (n : ℕ). Macro n) (other_number number id new k (λ e. (let f : is_whole id (Macro k) ≡ true = eq-eqb k id e in cc)))
 
   pub puts_renumbered : (puts : List Put) → is_put id puts ≡ false → puts_of (renumbered number id new) puts ≡ puts_of number puts
   puts_renumbered [] h = refl
@@ -226,37 +156,38 @@ module _ (number : ℕ → ℕ) (id new : ℕ) where
       let behind : puts_of (renumbered number id new) ps ≡ puts_of number ps = puts_renumbered ps parts.1 in
       cc
 
-  module _ (meanings : List (Meaning (Option ℕ))) (puts : List Put) (fresh : IsHeld id meanings puts → ⊥) where
-    pub not_held : (is_meant id meanings ≡ false) × (is_put id puts ≡ false)
-    not_held = or_parts (is_meant id meanings) (is_put id puts) (false_from_ne_true (is_meant id meanings || is_put id puts) fresh)
+  module _ (held : List ℕ) (puts : List Put) (fresh : IsHeld id held puts → ⊥) where
+    pub not_held : (is_listed held id ≡ false) × (is_put id puts ≡ false)
+    not_held = or_parts (is_listed held id) (is_put id puts) (false_from_ne_true (is_listed held id || is_put id puts) fresh)
 
     pub puts_defined : puts_of (renumbered number id new) puts ≡ puts_of number puts
     puts_defined = puts_renumbered puts not_held.1
 
-    -- the name means the new macro, and each other name what it meant
-    pub meanings_defined : (name : Name) (long outer : Bool) → meanings_of (renumbered number id new) (assigned meanings name (means.Macro long outer (Some id))) ≡ assigned (meanings_of number meanings) name (means.Macro long outer (Some new))
-    meanings_defined name long outer =
-        let moved : assigned (meanings_of (renumbered number id new) meanings) name (means.Macro long outer (Some (renumbered number id new id))) ≡ meanings_of (renumbered number id new) (assigned meanings name (means.Macro long outer (Some id))) = assigned_of (renumbered number id new) meanings name (means.Macro long outer (Some id)) in
-        let others : meanings_of (renumbered number id new) meanings ≡ meanings_of number meanings = meanings_renumbered meanings not_held.0 in
-        let itself : renumbered number id new id ≡ new = new_number id refl in
-        cc
+  -- the name means the new macro, and each other location has what it had
+  pub groups_defined : (global : Bool) (g : Groups) (puts : List Put) → (IsHeld id (lists_held g) puts → ⊥) → OutsideIsHeld g → (name : Name) (long outer : Bool) →
+      groups_of (renumbered number id new) (set_name global g name (means.Macro long outer (Some id))) ≡ set_name global (groups_of number g) name (means.Macro long outer (Some new))
+  groups_defined global g puts fresh outside name long outer =
+      let free : is_listed (lists_held g) id ≡ false = (not_held (lists_held g) puts fresh).0 in
+      defined_free number id new global g free (outside_free id g outside free) name long outer
 
 -- what is held then is the new macro, or was held
-pub held_defined : (meanings : List (Meaning (Option ℕ))) (puts : List Put) (name : Name) (long outer : Bool) (id n : ℕ) → IsHeld n (assigned meanings name (means.Macro long outer (Some id))) puts → (n ≡ id) ⊎ IsHeld n meanings puts
-held_defined meanings puts name long outer id n h =
-    ⊎_elim (λ a. ⊎_elim (λ b. inl (let e : id ≡ n = eqb-true id n b in cc)) (λ b. inr (or_left (is_meant n meanings) (is_put n puts) b)) (meant_assigned n meanings name (means.Macro long outer (Some id)) a))
-    (λ a. inr (or_right (is_meant n meanings) (is_put n puts) a)) (or_cases (is_meant n (assigned meanings name (means.Macro long outer (Some id)))) (is_put n puts) h)
+pub held_defined : (global : Bool) (g : Groups) (puts : List Put) (name : Name) (long outer : Bool) (id n : ℕ) → IsHeld n (lists_held (set_name global g name (means.Macro long outer (Some id)))) puts → (n ≡ id) ⊎ IsHeld n (lists_held g) puts
+held_defined global g puts name long outer id n h =
+    ⊎_elim
+    (λ a. ⊎_elim (λ b. inl (let e : id ≡ n = eqb-true id n b in cc)) (λ b. inr (or_left (is_listed (lists_held g) n) (is_put n puts) b)) (name_cases n global g name (means.Macro long outer (Some id)) a))
+    (λ a. inr (or_right (is_listed (lists_held g) n) (is_put n puts) a))
+    (or_cases (is_listed (lists_held (set_name global g name (means.Macro long outer (Some id)))) n) (is_put n puts) h)
 
-module _ (number : ℕ → ℕ) (macros : List (List Token)) (meanings : List (Meaning (Option ℕ))) (puts : List Put) (lists lists' : List (List Token)) (name : Name) (long outer : Bool) (id : ℕ) (ts : List Token) where
-  abbrev after : List (Meaning (Option ℕ))
-  after = assigned meanings name (means.Macro long outer (Some id))
+module _ (number : ℕ → ℕ) (macros : List (List Token)) (global : Bool) (g : Groups) (puts : List Put) (lists lists' : List (List Token)) (name : Name) (long outer : Bool) (id : ℕ) (ts : List Token) where
+  abbrev after : List ℕ
+  after = lists_held (set_name global g name (means.Macro long outer (Some id)))
 
   abbrev numbered : ℕ → ℕ
   numbered = renumbered number id (length macros)
 
-  module _ (t : Tied number macros meanings puts lists) (there : id < length lists') (longer : length lists ≤ length lists') (here : slice_index_or lists' id [] ≡ ts) (kept : (n : ℕ) → (n ≡ id → ⊥) → IsHeld n after puts → slice_index_or lists' n [] ≡ slice_index_or lists n []) where
-    old : (n : ℕ) → (n ≡ id → ⊥) → IsHeld n after puts → IsHeld n meanings puts
-    old n other h = ⊎_elim (λ e. absurd (other e)) (λ a. a) (held_defined meanings puts name long outer id n h)
+  module _ (t : Tied number macros (lists_held g) puts lists) (there : id < length lists') (longer : length lists ≤ length lists') (here : slice_index_or lists' id [] ≡ ts) (kept : (n : ℕ) → (n ≡ id → ⊥) → IsHeld n after puts → slice_index_or lists' n [] ≡ slice_index_or lists n []) where
+    old : (n : ℕ) → (n ≡ id → ⊥) → IsHeld n after puts → IsHeld n (lists_held g) puts
+    old n other h = ⊎_elim (λ e. absurd (other e)) (λ a. a) (held_defined global g puts name long outer id n h)
 
     old_within : (n : ℕ) → (n ≡ id → ⊥) → IsHeld n after puts → numbered n < length macros
     old_within n other h =
@@ -318,101 +249,99 @@ module _ (number : ℕ → ℕ) (macros : List (List Token)) (meanings : List (M
 -- A NAME MEANS WHAT ANOTHER TOKEN MEANS
 
 module _ (n : ℕ) where
-  meant_at : (cells : List (Meaning (Option ℕ))) (k : ℕ) → means_macro n (slice_index_or cells k means.Undefined) ≡ true → is_meant n cells ≡ true
-  meant_at [] k h = cc
-  meant_at (m ∷ cells) zero h = or_left (means_macro n m) (is_meant n cells) h
-  meant_at (m ∷ cells) (suc k) h = or_right (means_macro n m) (is_meant n cells) (meant_at cells k h)
+  fixed_not : (name : Name) → is_number n (list_of (fixed_meaning name)) ≡ false
+  fixed_not name = ap (is_number n) (fixed_unlisted name)
 
-  frozen_not : (f : Frozen) → means_macro n (frozen_meaning f) ≡ false
-  frozen_not frozen.Relax = refl
-  frozen_not frozen.Fi = refl
-  frozen_not frozen.EndGroup = refl
-  frozen_not frozen.EndWrite = refl
-  frozen_not f = refl
-
-  fixed_not : (name : Name) → means_macro n (fixed_meaning name) ≡ false
-  fixed_not (name.Frozen f) = frozen_not f
-  fixed_not x = refl
-
-  looked_up_meant : (cells : List (Meaning (Option ℕ))) (o : Option ℕ) (fixed : Meaning (Option ℕ)) → means_macro n fixed ≡ false → means_macro n (looked_up cells o fixed) ≡ true → is_meant n cells ≡ true
+  looked_up_meant : (cells : List (Meaning (Option ℕ))) (o : Option ℕ) (fixed : Meaning (Option ℕ)) → is_number n (list_of fixed) ≡ false → is_number n (list_of (looked_up cells o fixed)) ≡ true → is_listed (lists_of_meanings cells) n ≡ true
   looked_up_meant cells None fixed none h = cc
-  looked_up_meant cells (Some k) fixed none h = meant_at cells k h
+  looked_up_meant cells (Some k) fixed none h = meanings_at n cells k h
 
   -- the macro that a name means
-  pub named_meant : (cells : List (Meaning (Option ℕ))) (name : Name) → means_macro n (name_meaning cells name) ≡ true → is_meant n cells ≡ true
+  pub named_meant : (cells : List (Meaning (Option ℕ))) (name : Name) → is_number n (list_of (name_meaning cells name)) ≡ true → is_listed (lists_of_meanings cells) n ≡ true
   named_meant cells name h = looked_up_meant cells (location name) (fixed_meaning name) (fixed_not name) h
 
-  whole_meant : (cells : List (Meaning (Option ℕ))) (t : Token) → means_macro n (whole_meaning cells t) ≡ true → is_meant n cells ≡ true
+  whole_meant : (cells : List (Meaning (Option ℕ))) (t : Token) → is_number n (list_of (whole_meaning cells t)) ≡ true → is_listed (lists_of_meanings cells) n ≡ true
   whole_meant cells (token.Char category c) h = cc
   whole_meant cells (token.Named name) h = named_meant cells name h
   whole_meant cells (token.Marked name) h = named_meant cells name h
   whole_meant cells t h = cc
 
-  let_meant : (cells : List (Meaning (Option ℕ))) (t : Token) (m : Meaning Unit) → means_macro n (let_meaning cells t m) ≡ true → is_meant n cells ≡ true
+  let_meant : (cells : List (Meaning (Option ℕ))) (t : Token) (m : Meaning Unit) → is_number n (list_of (let_meaning cells t m)) ≡ true → is_listed (lists_of_meanings cells) n ≡ true
   let_meant cells t means.RelaxMarked h = cc
   let_meant cells t m h = whole_meant cells t h
 
   -- the macro that `\let` gives is meant by a name
-  pub given_meant : (cells : List (Meaning (Option ℕ))) (x : Seen) → means_macro n (meaning_to_let cells x) ≡ true → is_meant n cells ≡ true
+  pub given_meant : (cells : List (Meaning (Option ℕ))) (x : Seen) → is_number n (list_of (meaning_to_let cells x)) ≡ true → is_listed (lists_of_meanings cells) n ≡ true
   given_meant cells x h = let_meant cells x.token x.meaning h
 
-  -- What is held then was held: the macro that the name meant before may be held no more.
-  pub held_assigned : (meanings : List (Meaning (Option ℕ))) (puts : List Put) (name : Name) (m : Meaning (Option ℕ)) → (means_macro n m ≡ true → is_meant n meanings ≡ true) → IsHeld n (assigned meanings name m) puts → IsHeld n meanings puts
-  held_assigned meanings puts name m given h = held_more n (assigned meanings name m) meanings puts puts (λ a. ⊎_elim given (λ b. b) (meant_assigned n meanings name m a)) (λ a. a) h
+  -- and so it is held
+  pub name_held : (g : Groups) → is_listed (lists_of_meanings g.now.meanings) n ≡ true → is_listed (lists_held g) n ≡ true
+  name_held g h = now_held n g (names_hold n g.now h)
 
-  pub held_let : (meanings : List (Meaning (Option ℕ))) (puts : List Put) (name : Name) (x : Seen) → IsHeld n (assigned meanings name (meaning_to_let meanings x)) puts → IsHeld n meanings puts
-  held_let meanings puts name x h = held_assigned meanings puts name (meaning_to_let meanings x) (given_meant meanings x) h
+  -- What is held then was held: what the location had before may be held no more.
+  pub held_set : (global : Bool) (g : Groups) (puts : List Put) (l : Loc) (v : V) → (is_number n (value_list v) ≡ true → is_listed (lists_held g) n ≡ true) → IsHeld n (lists_held (set global g l v)) puts → IsHeld n (lists_held g) puts
+  held_set global g puts l v given h = held_more n (lists_held (set global g l v)) (lists_held g) puts puts (λ a. ⊎_elim given (λ b. b) (set_cases n global g l v a)) (λ a. a) h
 
-  pub held_primitive : (meanings : List (Meaning (Option ℕ))) (puts : List Put) (name : Name) (k : ℕ) → IsHeld n (assigned meanings name (means.Prim k)) puts → IsHeld n meanings puts
-  held_primitive meanings puts name k h = held_assigned meanings puts name (means.Prim k) (λ a. cc) h
+  pub held_assigned : (global : Bool) (g : Groups) (puts : List Put) (name : Name) (m : Meaning (Option ℕ)) → (is_number n (list_of m) ≡ true → is_listed (lists_held g) n ≡ true) → IsHeld n (lists_held (set_name global g name m)) puts → IsHeld n (lists_held g) puts
+  held_assigned global g puts name m given h = held_more n (lists_held (set_name global g name m)) (lists_held g) puts puts (λ a. ⊎_elim given (λ b. b) (name_cases n global g name m a)) (λ a. a) h
 
--- The name means it under the other numbers too.
-pub meanings_let : (number : ℕ → ℕ) (meanings : List (Meaning (Option ℕ))) (name : Name) (x : Seen) → meanings_of number (assigned meanings name (meaning_to_let meanings x)) ≡ assigned (meanings_of number meanings) name (meaning_to_let (meanings_of number meanings) x)
-meanings_let number meanings name x = sym (ap (assigned (meanings_of number meanings) name) (meaning_to_let_of number meanings x) ∙ assigned_of number meanings name (meaning_to_let meanings x))
+module _ (number : ℕ → ℕ) (macros : List (List Token)) (g : Groups) (puts : List Put) (lists : List (List Token)) (t : Tied number macros (lists_held g) puts lists) where
+  -- a list is shared: no number is new
+  pub tied_set : (global : Bool) (l : Loc) (v : V) → ((n : ℕ) → is_number n (value_list v) ≡ true → is_listed (lists_held g) n ≡ true) → Tied number macros (lists_held (set global g l v)) puts lists
+  tied_set global l v given = tied_fewer number macros (lists_held g) puts lists t (lists_held (set global g l v)) puts (λ n h. held_set n global g puts l v (given n) h)
 
-pub meanings_primitive : (number : ℕ → ℕ) (meanings : List (Meaning (Option ℕ))) (name : Name) (k : ℕ) → meanings_of number (assigned meanings name (means.Prim k)) ≡ assigned (meanings_of number meanings) name (means.Prim k)
-meanings_primitive number meanings name k = sym (assigned_of number meanings name (means.Prim k))
+  pub tied_assigned : (global : Bool) (name : Name) (m : Meaning (Option ℕ)) → ((n : ℕ) → is_number n (list_of m) ≡ true → is_listed (lists_held g) n ≡ true) → Tied number macros (lists_held (set_name global g name m)) puts lists
+  tied_assigned global name m given = tied_fewer number macros (lists_held g) puts lists t (lists_held (set_name global g name m)) puts (λ n h. held_assigned n global g puts name m (given n) h)
 
-module _ (number : ℕ → ℕ) (macros : List (List Token)) (meanings : List (Meaning (Option ℕ))) (puts : List Put) (lists : List (List Token)) (t : Tied number macros meanings puts lists) where
-  -- a macro's list is shared: no number is new
-  pub tied_let : (name : Name) (x : Seen) → Tied number macros (assigned meanings name (meaning_to_let meanings x)) puts lists
-  tied_let name x = tied_fewer number macros meanings puts lists t (assigned meanings name (meaning_to_let meanings x)) puts (λ n h. held_let n meanings puts name x h)
+  pub tied_number : (global : Bool) (l : Loc) (k : ℤ) → Tied number macros (lists_held (set global g l (val.Number k))) puts lists
+  tied_number global l k = tied_set global l (val.Number k) (λ n h. cc)
 
-  pub tied_primitive : (name : Name) (k : ℕ) → Tied number macros (assigned meanings name (means.Prim k)) puts lists
-  tied_primitive name k = tied_fewer number macros meanings puts lists t (assigned meanings name (means.Prim k)) puts (λ n h. held_primitive n meanings puts name k h)
+  pub tied_let : (global : Bool) (name : Name) (x : Seen) → Tied number macros (lists_held (set_name global g name (meaning_to_let g.now.meanings x))) puts lists
+  tied_let global name x = tied_assigned global name (meaning_to_let g.now.meanings x) (λ n h. name_held n g (given_meant n g.now.meanings x h))
 
+  pub tied_primitive : (global : Bool) (name : Name) (k : ℕ) → Tied number macros (lists_held (set_name global g name (means.Prim k))) puts lists
+  tied_primitive global name k = tied_assigned global name (means.Prim k) (λ n h. cc)
+
+  pub tied_entered : Tied number macros (lists_held (entered g)) puts lists
+  tied_entered = subst (λ (held : List ℕ). Tied number macros held puts lists) (sym (entered_lists g)) t
+
+  pub tied_closed : OutsideIsHeld g → Tied number macros (lists_held (closed g)) puts lists
+  tied_closed outside = tied_fewer number macros (lists_held g) puts lists t (lists_held (closed g)) puts (λ n h. held_more n (lists_held (closed g)) (lists_held g) puts puts (closed_held n g outside) (λ a. a) h)
+
+module _ (number : ℕ → ℕ) (macros : List (List Token)) (held : List ℕ) (puts : List Put) (lists : List (List Token)) (t : Tied number macros held puts lists) where
   -- the lists of what is held stay, each of which has a token
-  pub tied_stayed : (lists' : List (List Token)) → ((k : ℕ) → k < length macros → slice_index_or macros k [] ≡ [] → ⊥) → ((n : ℕ) → IsHeld n meanings puts → slice_index_or lists' n [] ≡ slice_index_or lists n []) →
-      Tied number macros meanings puts lists'
+  pub tied_stayed : (lists' : List (List Token)) → ((k : ℕ) → k < length macros → slice_index_or macros k [] ≡ [] → ⊥) → ((n : ℕ) → IsHeld n held puts → slice_index_or lists' n [] ≡ slice_index_or lists n []) →
+      Tied number macros held puts lists'
   tied_stayed lists' some stays = record { inside = λ n h. inside_then n h (cases_lt n (length lists')); within = t.within; tokens = tokens_then; apart = t.apart } where
-    tokens_then : (n : ℕ) → IsHeld n meanings puts → slice_index_or macros (number n) [] ≡ slice_index_or lists' n []
+    tokens_then : (n : ℕ) → IsHeld n held puts → slice_index_or macros (number n) [] ≡ slice_index_or lists' n []
     tokens_then n h = t.tokens n h ∙ sym (stays n h)
 
-    inside_then : (n : ℕ) → IsHeld n meanings puts → (n < length lists') ⊎ (length lists' ≤ n) → n < length lists'
+    inside_then : (n : ℕ) → IsHeld n held puts → (n < length lists') ⊎ (length lists' ≤ n) → n < length lists'
     inside_then n h (inl below) = below
     inside_then n h (inr past) = absurd (some (number n) (t.within n h) (tokens_then n h ∙ get_or_past lists' n [] past))
 
-  -- WHAT IS SHOWN OF A MEANING
+-- WHAT IS SHOWN OF A MEANING
 
-  macro_tokens_tied : (o : Option ℕ) → ((n : ℕ) → is_number n o ≡ true → IsHeld n meanings puts) → macro_tokens macros (number_of number o) ≡ macro_tokens lists o
+module _ (number : ℕ → ℕ) (macros : List (List Token)) (g : Groups) (puts : List Put) (lists : List (List Token)) (t : Tied number macros (lists_held g) puts lists) where
+  macro_tokens_tied : (o : Option ℕ) → ((n : ℕ) → is_number n o ≡ true → IsHeld n (lists_held g) puts) → macro_tokens macros (number_of number o) ≡ macro_tokens lists o
   macro_tokens_tied None held = refl
   macro_tokens_tied (Some k) held = t.tokens k (held k (eq-eqb k k refl))
 
-  tokens_tied : (m : Meaning (Option ℕ)) → ((n : ℕ) → means_macro n m ≡ true → IsHeld n meanings puts) → meaning_tokens (macro_tokens macros) (meaning_of number m) ≡ meaning_tokens (macro_tokens lists) m
+  tokens_tied : (m : Meaning (Option ℕ)) → ((n : ℕ) → is_number n (list_of m) ≡ true → IsHeld n (lists_held g) puts) → meaning_tokens (macro_tokens macros) (meaning_of number m) ≡ meaning_tokens (macro_tokens lists) m
   tokens_tied (means.Macro long outer list) held = macro_tokens_tied list held
   tokens_tied m held = refl
 
-  text_tied : (style : Style) (m : Meaning (Option ℕ)) → ((n : ℕ) → means_macro n m ≡ true → IsHeld n meanings puts) → meaning_text style (macro_tokens macros) (meaning_of number m) ≡ meaning_text style (macro_tokens lists) m
+  text_tied : (style : Style) (m : Meaning (Option ℕ)) → ((n : ℕ) → is_number n (list_of m) ≡ true → IsHeld n (lists_held g) puts) → meaning_text style (macro_tokens macros) (meaning_of number m) ≡ meaning_text style (macro_tokens lists) m
   text_tied style (means.Macro long outer list) held = ap (λ (ts : List Token). meaning_head style (means.Macro long outer list) ++ list_text style ts) (macro_tokens_tied list held)
   text_tied style m held = refl
 
-  given_held : (x : Seen) (n : ℕ) → means_macro n (meaning_to_let meanings x) ≡ true → IsHeld n meanings puts
-  given_held x n h = or_left (is_meant n meanings) (is_put n puts) (given_meant n meanings x h)
+  given_held : (x : Seen) (n : ℕ) → is_number n (list_of (meaning_to_let g.now.meanings x)) ≡ true → IsHeld n (lists_held g) puts
+  given_held x n h = or_left (is_listed (lists_held g) n) (is_put n puts) (name_held n g (given_meant n g.now.meanings x h))
 
   -- by `\meaning`
-  pub text_let : (style : Style) (x : Seen) → meaning_text style (macro_tokens macros) (meaning_to_let (meanings_of number meanings) x) ≡ meaning_text style (macro_tokens lists) (meaning_to_let meanings x)
-  text_let style x = ap (meaning_text style (macro_tokens macros)) (meaning_to_let_of number meanings x) ∙ text_tied style (meaning_to_let meanings x) (given_held x)
+  pub text_let : (style : Style) (x : Seen) → meaning_text style (macro_tokens macros) (meaning_to_let (meanings_of number g.now.meanings) x) ≡ meaning_text style (macro_tokens lists) (meaning_to_let g.now.meanings x)
+  text_let style x = ap (meaning_text style (macro_tokens macros)) (meaning_to_let_of number g.now.meanings x) ∙ text_tied style (meaning_to_let g.now.meanings x) (given_held x)
 
   -- by `\show`
-  pub tokens_let : (x : Seen) → meaning_tokens (macro_tokens macros) (meaning_to_let (meanings_of number meanings) x) ≡ meaning_tokens (macro_tokens lists) (meaning_to_let meanings x)
-  tokens_let x = ap (meaning_tokens (macro_tokens macros)) (meaning_to_let_of number meanings x) ∙ tokens_tied (meaning_to_let meanings x) (given_held x)
+  pub tokens_let : (x : Seen) → meaning_tokens (macro_tokens macros) (meaning_to_let (meanings_of number g.now.meanings) x) ≡ meaning_tokens (macro_tokens lists) (meaning_to_let g.now.meanings x)
+  tokens_let x = ap (meaning_tokens (macro_tokens macros)) (meaning_to_let_of number g.now.meanings x) ∙ tokens_tied (meaning_to_let g.now.meanings x) (given_held x)

@@ -4,14 +4,16 @@ use Rattle.tex_defs.specs.declared.Table.TheVariants.{ExpansionDepth}
 use Rattle.tex_defs.specs.declared.Full.{Full}
 use Rattle.tex_defs.specs.declared.Sizes.{Sizes}
 use Rattle.plain_tokens.specs.Puts.{next_item}
-use Rattle.plain_tokens.specs.Tables.{Demand, macro_words, held_words, lists_words, memory, level, opened_level, parameters, string, new_name, next_line, refused}
+use Rattle.plain_tokens.specs.Tables.{Demand, held_words, lists_words, memory, level, opened_level, parameters, string, new_name, next_line, refused}
+use Rattle.equivalents.specs.Groups.{set_demands, name_demands}
+use Rattle.equivalents.specs.Holding.{lists_held, shared_words}
 use Rattle.rows.specs.Readings.{Tok}
 use Rattle.plain_readings.specs.Readings.{Reading, lists}
-use Rattle.plain_machine.specs.States.{Move, Handed, Taken, Entered, Kept, Grows, Opened, ListBegun, ListGrown, Put, Called, CalledWith, Begun, BegunWith, State}
+use Rattle.plain_machine.specs.States.{Move, Handed, Taken, Entered, Kept, Grows, Opened, ListBegun, ListGrown, Put, Called, CalledWith, Set, Assigned, Defined, Begun, BegunWith, State}
 
 -- the words of main memory that are used
 abbrev pub words : State → ℕ
-words s = macro_words 0 s.meanings s.pending.puts s.macros + held_words s.pending.puts s.making s.gathered
+words s = shared_words 0 (lists_held s.groups) s.pending.puts s.macros + held_words s.pending.puts s.making s.gathered
 
 -- one reading more
 abbrev pub depth : List Reading → Demand
@@ -32,6 +34,9 @@ demands (Called p) s = level s.pending ∷ []
 demands (CalledWith p) s = parameters p s.pending ∷ level s.pending ∷ []
 demands (Begun k) s = depth s.work ∷ memory (lists_words (lists k [])) (words s) ∷ []
 demands (BegunWith k) s = depth s.work ∷ memory (lists_words (lists k (Tok s.last ∷ []))) (words s) ∷ []
+demands (Set global l v) s = set_demands global s.groups l
+demands (Assigned global name m) s = name_demands global s.groups name
+demands (Defined global name long outer ts) s = name_demands global s.groups name
 demands m s = []
 
 -- Where a move doesn't fit: the table, what is used of it, and its size.

@@ -29,9 +29,9 @@ pub data IsReady (size : ℕ) (categories : List ℕ) (p : Pending) (left : List
 -- Whichever of these bytes follow in the file, the next rule does the same: where all its moves are made, where it is cut off,
 -- and in its steps.
 pub record ExtensionIsFree : Type 0 where
-  pub does : (sizes : Sizes) (s : State) (left : List ℕ) → IsReady sizes.buffer_size s.categories s.pending left →
+  pub does : (sizes : Sizes) (s : State) (left : List ℕ) → IsReady sizes.buffer_size s.groups.now.categories s.pending left →
       (s' : State) (w w' : World) → Did sizes s s' w w' (planned s s.work) → Did sizes (extended left s) (extended left s') w w' (planned (extended left s) s.work)
-  pub cuts : (sizes : Sizes) (s : State) (left : List ℕ) → IsReady sizes.buffer_size s.categories s.pending left →
+  pub cuts : (sizes : Sizes) (s : State) (left : List ℕ) → IsReady sizes.buffer_size s.groups.now.categories s.pending left →
       (at : State) (w w' : World) (why : Why) → Cut sizes s at w w' (planned s s.work) why → Cut sizes (extended left s) (extended left at) w w' (planned (extended left s) s.work) why
-  pub steps : (sizes : Sizes) (s : State) (left : List ℕ) → IsReady sizes.buffer_size s.categories s.pending left →
+  pub steps : (sizes : Sizes) (s : State) (left : List ℕ) → IsReady sizes.buffer_size s.groups.now.categories s.pending left →
       steps (planned (extended left s) s.work) ≡ steps (planned s s.work)

@@ -7,7 +7,7 @@ use Rattle.tex_defs.specs.declared.Full.{Full}
 use Rattle.tex_defs.specs.declared.Sizes.{Sizes}
 use Rattle.tex_defs.specs.Sizes.{table_name, default_sizes}
 use Rattle.tex_defs.specs.Places.{World, Rose, Transcript, File, Untold, NotHeld, Holds}
-use Rattle.plain_tokens.specs.Categories.{initial_categories}
+use Rattle.equivalents.specs.Groups.{first_groups}
 use Rattle.plain_machine.specs.States.{State, Move, Kept, Written}
 use Rattle.plain_state.specs.Reports.{fresh_line}
 use Rattle.plain_machine.specs.Plan.{first_state, is_known}
@@ -46,7 +46,7 @@ full_line full = codes "! TeX capacity exceeded, sorry [" ++ (table_name full.ta
 
 -- INITEX's first state, with the job's file opened where it is held; token lines may be left out
 abbrev pub First : (quiet : Bool) → (file : List ℕ) → (job : Option (List ℕ)) → State
-First quiet file job = first_state is_known initial_categories quiet file job
+First quiet file job = first_state (first_groups is_known) quiet file job
 
 -- The machine's whole run ended so within the sizes, and all that it writes is written.
 pub record Whole (sizes : Sizes) (s : State) (n : ℕ) (w w' : World) (o : Outcome) : Type 0 where

@@ -1,13 +1,22 @@
 -- The same state with other numbers of its macros: what they are called is seen nowhere.
-use Rattle.std.specs.Prelude.{◌≡◌, ℕ, ◌<◌, ◌==◌, ◌||◌, true, List, [], length, map, slice_index_or, Option, None, Some, if◌then◌else◌}
+use Rattle.std.specs.Prelude.{◌≡◌, ℕ, Bool, ◌<◌, ◌==◌, ◌||◌, true, List, [], length, map, slice_index_or, Option, None, Some, if◌then◌else◌}
 use Rattle.tex_defs.specs.declared.Token.{Token}
 use Rattle.tex_defs.specs.declared.Meaning.{Meaning}
 use Rattle.tex_defs.specs.declared.Meaning.TheVariants as means
 use Rattle.tex_defs.specs.declared.Seen.{Seen}
 use Rattle.plain_tokens.specs.Puts.{Put, Whole, Own, Macro}
 use Rattle.plain_tokens.specs.Pending.{Pending, with_puts, put_front, pulled, Pulled, TokenFrom, LexemeFrom, LineTaken, InvalidMet, FileOver, NothingLeft}
-use Rattle.plain_tokens.specs.Tables.{is_meant, is_put, macro_words}
-use Rattle.plain_tokens.specs.Meanings.{seen, met, meaning_to_let}
+use Rattle.plain_tokens.specs.Tables.{is_put}
+use Rattle.tex_defs.specs.declared.Name.{Name}
+use Rattle.plain_tokens.specs.Meanings.{seen, met, meaning_to_let, is_listed}
+use Rattle.save_stack.specs.declared.GroupKind.{GroupKind}
+use Rattle.save_stack.specs.declared.Saved.{Saved}
+use Rattle.equivalents.specs.declared.values.Loc.{Loc}
+use Rattle.equivalents.specs.declared.values.Val.TheVariants as val
+use Rattle.equivalents.specs.Locations.{V}
+use Rattle.equivalents.specs.Tables.{Tables}
+use Rattle.equivalents.specs.Groups.{Groups, set, set_name, entered, opened, closed, set_demands, name_demands}
+use Rattle.equivalents.specs.Holding.{lists_held, shared_words}
 use Rattle.plain_tokens.specs.Printed.{Style, meaning_text, meaning_tokens}
 use Rattle.plain_machine.specs.Plan.{macro_tokens}
 
@@ -21,6 +30,20 @@ meaning_of number m = m
 
 abbrev pub meanings_of : (ℕ → ℕ) → List (Meaning (Option ℕ)) → List (Meaning (Option ℕ))
 meanings_of number cells = map (meaning_of number) cells
+
+abbrev pub value_of : (ℕ → ℕ) → V → V
+value_of number (val.Meant m) = val.Meant (meaning_of number m)
+value_of number (val.Tokens list) = val.Tokens (number_of number list)
+value_of number v = v
+
+abbrev pub tables_of : (ℕ → ℕ) → Tables → Tables
+tables_of number m = record m { toks = map (number_of number) m.toks; parameters = map (number_of number) m.parameters; meanings = meanings_of number m.meanings }
+
+abbrev pub saved_of : (ℕ → ℕ) → Saved V → Saved V
+saved_of number e = record { loc = e.loc; value = value_of number e.value; level = e.level }
+
+abbrev pub groups_of : (ℕ → ℕ) → Groups → Groups
+groups_of number g = record g { now = tables_of number g.now; outer = map (tables_of number) g.outer; entries = map (λ es. map (saved_of number) es) g.entries }
 
 abbrev pub whole_of : (ℕ → ℕ) → Whole → Whole
 whole_of number (Own ts) = Own ts
@@ -47,16 +70,16 @@ pulled_of number NothingLeft = NothingLeft
 abbrev pub renumbered : (number : ℕ → ℕ) → (id new : ℕ) → ℕ → ℕ
 renumbered number id new n = if n == id then new else number n
 
--- a macro that a name means, or whose body is read
-abbrev pub IsHeld : ℕ → List (Meaning (Option ℕ)) → List Put → Type 0
-IsHeld n meanings puts = (is_meant n meanings || is_put n puts) ≡ true
+-- a list that a location or a saved value holds, or whose body is read
+abbrev pub IsHeld : ℕ → (held : List ℕ) → List Put → Type 0
+IsHeld n held puts = (is_listed held n || is_put n puts) ≡ true
 
 -- Each macro that is held has its list under its other number, and no two have the same.
-pub record Tied (number : ℕ → ℕ) (macros : List (List Token)) (meanings : List (Meaning (Option ℕ))) (puts : List Put) (lists : List (List Token)) : Type 0 where
-  pub inside : (n : ℕ) → IsHeld n meanings puts → n < length lists
-  pub within : (n : ℕ) → IsHeld n meanings puts → number n < length macros
-  pub tokens : (n : ℕ) → IsHeld n meanings puts → slice_index_or macros (number n) [] ≡ slice_index_or lists n []
-  pub apart : (n m : ℕ) → IsHeld n meanings puts → IsHeld m meanings puts → number n ≡ number m → n ≡ m
+pub record Tied (number : ℕ → ℕ) (macros : List (List Token)) (held : List ℕ) (puts : List Put) (lists : List (List Token)) : Type 0 where
+  pub inside : (n : ℕ) → IsHeld n held puts → n < length lists
+  pub within : (n : ℕ) → IsHeld n held puts → number n < length macros
+  pub tokens : (n : ℕ) → IsHeld n held puts → slice_index_or macros (number n) [] ≡ slice_index_or lists n []
+  pub apart : (n m : ℕ) → IsHeld n held puts → IsHeld m held puts → number n ≡ number m → n ≡ m
 
 -- What macros are called is seen nowhere: not in what is read, nor in what names mean and what `\let` gives, nor in what is shown of that, nor in
 -- the words that are used.
@@ -66,9 +89,17 @@ pub record NumbersAreFree : Type 0 where
   pub means : (number : ℕ → ℕ) (cells : List (Meaning (Option ℕ))) (t : Token) → seen (meanings_of number cells) t ≡ seen cells t
   pub meets : (number : ℕ → ℕ) (cells : List (Meaning (Option ℕ))) (t : Token) → met (meanings_of number cells) t ≡ met cells t
   pub lets : (number : ℕ → ℕ) (cells : List (Meaning (Option ℕ))) (x : Seen) → meaning_to_let (meanings_of number cells) x ≡ meaning_of number (meaning_to_let cells x)
-  pub texts : (number : ℕ → ℕ) (macros : List (List Token)) (meanings : List (Meaning (Option ℕ))) (puts : List Put) (lists : List (List Token)) →
-      Tied number macros meanings puts lists → (style : Style) (x : Seen) → meaning_text style (macro_tokens macros) (meaning_to_let (meanings_of number meanings) x) ≡ meaning_text style (macro_tokens lists) (meaning_to_let meanings x)
-  pub shows : (number : ℕ → ℕ) (macros : List (List Token)) (meanings : List (Meaning (Option ℕ))) (puts : List Put) (lists : List (List Token)) →
-      Tied number macros meanings puts lists → (x : Seen) → meaning_tokens (macro_tokens macros) (meaning_to_let (meanings_of number meanings) x) ≡ meaning_tokens (macro_tokens lists) (meaning_to_let meanings x)
-  pub words : (number : ℕ → ℕ) (macros : List (List Token)) (meanings : List (Meaning (Option ℕ))) (puts : List Put) (lists : List (List Token)) →
-      Tied number macros meanings puts lists → macro_words 0 (meanings_of number meanings) (puts_of number puts) macros ≡ macro_words 0 meanings puts lists
+  pub texts : (number : ℕ → ℕ) (macros : List (List Token)) (g : Groups) (puts : List Put) (lists : List (List Token)) →
+      Tied number macros (lists_held g) puts lists → (style : Style) (x : Seen) → meaning_text style (macro_tokens macros) (meaning_to_let (meanings_of number g.now.meanings) x) ≡ meaning_text style (macro_tokens lists) (meaning_to_let g.now.meanings x)
+  pub shows : (number : ℕ → ℕ) (macros : List (List Token)) (g : Groups) (puts : List Put) (lists : List (List Token)) →
+      Tied number macros (lists_held g) puts lists → (x : Seen) → meaning_tokens (macro_tokens macros) (meaning_to_let (meanings_of number g.now.meanings) x) ≡ meaning_tokens (macro_tokens lists) (meaning_to_let g.now.meanings x)
+  pub words : (number : ℕ → ℕ) (macros : List (List Token)) (g : Groups) (puts : List Put) (lists : List (List Token)) →
+      Tied number macros (lists_held g) puts lists → shared_words 0 (lists_held (groups_of number g)) (puts_of number puts) macros ≡ shared_words 0 (lists_held g) puts lists
+  -- what is assigned, and where a group is opened and closed
+  pub sets : (number : ℕ → ℕ) (global : Bool) (g : Groups) (l : Loc) (v : V) → set global (groups_of number g) l (value_of number v) ≡ groups_of number (set global g l v)
+  pub names : (number : ℕ → ℕ) (global : Bool) (g : Groups) (n : Name) (m : Meaning (Option ℕ)) → set_name global (groups_of number g) n (meaning_of number m) ≡ groups_of number (set_name global g n m)
+  pub enters : (number : ℕ → ℕ) (g : Groups) → entered (groups_of number g) ≡ groups_of number (entered g)
+  pub opens : (number : ℕ → ℕ) (g : Groups) (kind : GroupKind) → opened (groups_of number g) kind ≡ groups_of number (opened g kind)
+  pub closes : (number : ℕ → ℕ) (g : Groups) → closed (groups_of number g) ≡ groups_of number (closed g)
+  pub demands : (number : ℕ → ℕ) (global : Bool) (g : Groups) (l : Loc) → set_demands global (groups_of number g) l ≡ set_demands global g l
+  pub name_demands : (number : ℕ → ℕ) (global : Bool) (g : Groups) (n : Name) → name_demands global (groups_of number g) n ≡ name_demands global g n

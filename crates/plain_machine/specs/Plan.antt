@@ -1,5 +1,5 @@
 -- The plain machine: the moves of the rule that comes next, and the next move.
-use Rattle.std.specs.Prelude.{ℕ, ℤ, pos, negsuc, Bool, true, false, ◌==◌, ◌||◌, List, [], ◌∷◌, ◌++◌, length, map, drop, slice_index_or, nat_lt, if◌then◌else◌, Option, Some, None}
+use Rattle.std.specs.Prelude.{ℕ, zero, suc, ℤ, pos, negsuc, Bool, true, false, ◌==◌, ◌||◌, List, [], ◌∷◌, ◌++◌, length, map, drop, slice_index_or, nat_lt, if◌then◌else◌, Option, Some, None}
 use Rattle.tex_syntax.specs.declared.words.Want.{Want}
 use Rattle.tex_syntax.specs.declared.words.Want.TheVariants.{Raw, Expanded, Copied, Nonblank, Command}
 use Rattle.tex_syntax.specs.declared.words.Report.{Report}
@@ -21,7 +21,12 @@ use Rattle.prim_table.specs.Primitives.{primitive_names}
 use Rattle.plain_tokens.specs.Categories.{end_group, is_between}
 use Rattle.plain_tokens.specs.Names.{name_of, means_relax, relax_primitive, par_primitive, end_primitive}
 use Rattle.plain_tokens.specs.Tokens.{is_space, is_outer, is_undefined, space_token, made_text, character_codes}
-use Rattle.plain_tokens.specs.Meanings.{name_meaning, met as met_token, meaning_to_let, seen_as, first_meanings}
+use Rattle.plain_tokens.specs.Meanings.{name_meaning, met as met_token, meaning_to_let, seen_as}
+use Rattle.equivalents.specs.declared.values.Loc.TheVariants as loc
+use Rattle.equivalents.specs.declared.values.Val.TheVariants as val
+use Rattle.equivalents.specs.First.{global_definitions}
+use Rattle.equivalents.specs.Groups.{Groups}
+use Rattle.equivalents.specs.Tables.{Tables}
 use Rattle.plain_tokens.specs.Puts.{Item, Put as PutList, call_put}
 use Rattle.plain_tokens.specs.Lookup.{token_of, new_name, name_among, new_among}
 use Rattle.plain_tokens.specs.Printed.{Style, initial_style, meaning_text, meaning_tokens}
@@ -44,16 +49,15 @@ use Rattle.plain_readings.specs.Calls.{gathered, par_token}
 use Rattle.plain_readings.specs.Spelling.{endcsname_primitive}
 use Rattle.plain_readings.specs.Readings.{Kind, Reads, Spelling, Arguments, Behind, Reading, ask, lists}
 use Rattle.plain_readings.specs.Scanning.{Scanning, scanning}
-use Rattle.plain_machine.specs.States.{Move, Handed, Taken, Settled, Skipped, FileClosed, Entered, Kept, Grows, Feeds, Completed, Opened, ListBegun, ListGrown, Put, ListDropped, Called, CalledWith, SetCategoryOf, Assigned, Defined, Written, Begun, BegunWith, Ended, Closed, Reported, Flawed, Stopped, State, no_token, made}
+use Rattle.plain_machine.specs.States.{Move, Handed, Taken, Settled, Skipped, FileClosed, Entered, Kept, Grows, Feeds, Completed, Opened, ListBegun, ListGrown, Put, ListDropped, Called, CalledWith, Set, Assigned, Defined, Written, Begun, BegunWith, Ended, Closed, Reported, Flawed, Stopped, State, no_token, made}
 
--- What the moves of a rule depend on: the category codes, the names entered, the job's name, what the names mean, the macros' lists, the token
+-- What the moves of a rule depend on: what stands at all locations, the names entered, the job's name, the macros' lists, the token
 -- that a reading was fed with last, whether the transcript's column isn't 0, the number of the line that is read, the reports so far, and
 -- whether token lines are left out.
 pub record Page : Type 0 where
-  pub categories : List ℕ
+  pub now : Tables
   pub names : List (List ℕ)
   pub strings : List (List ℕ)
-  pub meanings : List (Meaning (Option ℕ))
   pub macros : List (List Token)
   pub last : Seen
   pub in_line : Bool
@@ -63,10 +67,9 @@ pub record Page : Type 0 where
 
 abbrev pub page_of : State → Page
 page_of s = record {
-  categories = s.categories;
+  now = s.groups.now;
   names = s.names;
   strings = s.strings;
-  meanings = s.meanings;
   macros = s.macros;
   last = s.last;
   in_line = s.in_line;
@@ -77,7 +80,7 @@ page_of s = record {
 
 -- the style of its texts; of those that depend on no category code
 abbrev pub style_of : Page → Style
-style_of page = initial_style page.categories page.names
+style_of page = initial_style page.now.categories page.names
 
 abbrev pub plain_style_of : Page → Style
 plain_style_of page = plain_style page.names
@@ -156,7 +159,7 @@ called_meaning page name m = []
 
 -- a macro's name is expanded
 abbrev pub called : Page → Token → List Move
-called page t = called_meaning page (name_of t) (name_meaning page.meanings (name_of t))
+called page t = called_meaning page (name_of t) (name_meaning page.now.meanings (name_of t))
 
 -- PRIMITIVES
 
@@ -321,8 +324,8 @@ checked page (Some s) = ran_away page (FileEnded s.what s.name) s []
 
 -- The name of an \outer macro is put back where a reading goes on, and a space takes its place.
 abbrev pub met_outer : Page → Option Scanning → Token → (onward : Seen → List Move) → List Move
-met_outer page None t onward = onward (met_token page.meanings t)
-met_outer page (Some s) t onward = put_one t ++ ran_away page (Forbidden s.what s.name) s (onward (met_token page.meanings space_token))
+met_outer page None t onward = onward (met_token page.now.meanings t)
+met_outer page (Some s) t onward = put_one t ++ ran_away page (Forbidden s.what s.name) s (onward (met_token page.now.meanings space_token))
 
 abbrev pub met : Page → Option Scanning → (onward : Seen → List Move) → Seen → List Move
 met page s onward x = if is_outer x.meaning then met_outer page s x.token onward else onward x
@@ -334,10 +337,10 @@ entered (name ∷ names) = Entered name ∷ []
 
 -- The next token or line, and what is made of the token. A reading that enters names enters a new one behind the step.
 abbrev pub handed : Page → (enters : Bool) → Option Scanning → (onward : Seen → List Move) → Pulled → List Move
-handed page enters s onward (TokenFrom t p) = Settled ∷ Handed t ∷ met page s onward (met_token page.meanings t)
+handed page enters s onward (TokenFrom t p) = Settled ∷ Handed t ∷ met page s onward (met_token page.now.meanings t)
 handed page enters s onward (LexemeFrom x p) =
     Settled ∷ Handed (token_of enters page.names x)
-    ∷ (entered (new_name enters page.names x) ++ met page s onward (met_token page.meanings (token_of enters page.names x)))
+    ∷ (entered (new_name enters page.names x) ++ met page s onward (met_token page.now.meanings (token_of enters page.names x)))
 handed page enters s onward (LineTaken line p) = Settled ∷ Taken line ∷ []
 handed page enters s onward (InvalidMet p) = Settled ∷ Skipped ∷ reported page InvalidCharacter []
 handed page enters s onward (FileOver p) = Settled ∷ FileClosed ∷ checked (without_file page) s
@@ -421,17 +424,30 @@ macro_tokens macros None = []
 macro_tokens macros (Some number) = slice_index_or macros number []
 
 abbrev pub meaning_characters : Page → Seen → List ℕ
-meaning_characters page x = meaning_text (style_of page) (macro_tokens page.macros) (meaning_to_let page.meanings x)
+meaning_characters page x = meaning_text (style_of page) (macro_tokens page.macros) (meaning_to_let page.now.meanings x)
 
 -- the tokens of the macro that a token means, where it means one
 abbrev pub tokens_meant : Page → Seen → List Token
-tokens_meant page x = meaning_tokens (macro_tokens page.macros) (meaning_to_let page.meanings x)
+tokens_meant page x = meaning_tokens (macro_tokens page.macros) (meaning_to_let page.now.meanings x)
 
 -- `\show`: it makes the status 1
 abbrev pub shown : Page → Seen → List Move
 shown page x =
     Written Transcript (shown_meaning_bytes (style_of page) page.in_line page.line x.token x.meaning (tokens_meant page x))
     ∷ Flawed ∷ []
+
+-- an integer parameter
+abbrev pub integer_of : Page → ℕ → ℤ
+integer_of page i = slice_index_or page.now.integers i (pos 0)
+
+-- Whether an assignment is global: where `\globaldefs` is positive, each is, and where it is negative, none is.
+abbrev pub globally : ℤ → (asked : Bool) → Bool
+globally (pos zero) asked = asked
+globally (pos (suc n)) asked = true
+globally (negsuc n) asked = false
+
+abbrev pub is_global : Page → Call → Bool
+is_global page c = globally (integer_of page global_definitions) c.global
 
 -- a number that has been found in its range
 abbrev pub natural : ℤ → ℕ
@@ -441,9 +457,9 @@ natural (negsuc n) = 0
 abbrev pub acts : Page → Call → Effect → List Move
 acts page c (effect.Obey x) = Closed ∷ command page x.token x.meaning
 acts page c (effect.Show x) = and_closed (shown page x)
-acts page c (effect.Let n x) = and_closed (Assigned n (meaning_to_let page.meanings x) ∷ [])
-acts page c (effect.FutureLet n x y) = and_closed (put_one y.token ++ (put_one x.token ++ Assigned n (meaning_to_let page.meanings y) ∷ []))
-acts page c (effect.SetCategory code category) = and_closed (SetCategoryOf (natural code) (natural category) ∷ [])
+acts page c (effect.Let n x) = and_closed (Assigned (is_global page c) n (meaning_to_let page.now.meanings x) ∷ [])
+acts page c (effect.FutureLet n x y) = and_closed (put_one y.token ++ (put_one x.token ++ Assigned (is_global page c) n (meaning_to_let page.now.meanings y) ∷ []))
+acts page c (effect.SetCode kind char value) = and_closed (Set (is_global page c) (loc.Code kind (natural char)) (val.Number value) ∷ [])
 acts page c (effect.ExpandBehind x y) = expanded_behind page c x y
 acts page c (effect.PutBack x) = and_closed (put_one x.token)
 acts page c (effect.PutMarked x) = and_closed (put_one (marked x.token))
@@ -454,9 +470,9 @@ acts page c (effect.MakeMeaning x) = and_closed (put_characters (meaning_charact
 acts page c e = Closed ∷ []
 
 -- a name becomes a macro; a macro's list has a token, and without one the reading ends
-abbrev pub macro_defined : Call → Name → List Token → List Move
-macro_defined c n [] = Closed ∷ []
-macro_defined c n (t ∷ ts) = Defined n c.long c.outer (t ∷ ts) ∷ []
+abbrev pub macro_defined : Page → Call → Name → List Token → List Move
+macro_defined page c n [] = Closed ∷ []
+macro_defined page c n (t ∷ ts) = Defined (is_global page c) n c.long c.outer (t ∷ ts) ∷ []
 
 -- NAMES THAT ARE SPELT
 
@@ -472,15 +488,15 @@ newly_spelt names [] = []
 newly_spelt names (c ∷ []) = []
 newly_spelt names (c ∷ d ∷ cs) = new_among true names (c ∷ d ∷ cs)
 
--- a name that means nothing becomes `\relax`
+-- a name that means nothing becomes `\relax`, locally, whatever `\globaldefs` says
 abbrev pub relax_if_undefined : List (Meaning (Option ℕ)) → Name → List Move
-relax_if_undefined meanings n = if is_undefined (seen_as (name_meaning meanings n)) then Assigned n (means.Prim relax_primitive) ∷ [] else []
+relax_if_undefined meanings n = if is_undefined (seen_as (name_meaning meanings n)) then Assigned false n (means.Prim relax_primitive) ∷ [] else []
 
 -- `\csname`: the name is entered where it is new, means `\relax` where it meant nothing, and is put in front
 abbrev pub name_made : Page → (characters : List ℕ) → List Move
 name_made page characters =
     entered (newly_spelt page.names characters)
-    ++ (relax_if_undefined page.meanings (spelt page.names characters) ++ put_one (token.Named (spelt page.names characters)))
+    ++ (relax_if_undefined page.now.meanings (spelt page.names characters) ++ put_one (token.Named (spelt page.names characters)))
 
 abbrev pub acts_on : Page → Call → Effect → List Token → List Move
 acts_on page c effect.Message ts = and_closed (Written Transcript (message_bytes (style_of page) page.in_line ts) ∷ [])
@@ -490,12 +506,12 @@ acts_on page c e ts = Closed ∷ []
 
 -- WHAT COMES OF AN ANSWER
 abbrev pub answered : State → List Reading → Reading → Ask → List Move
-answered s work r (More want) = handed (page_of s) (enters_names want) (scanning work s.gathered) (λ x. wanted (page_of s) want (feeding r x) x) (pulled s.categories s.pending)
+answered s work r (More want) = handed (page_of s) (enters_names want) (scanning work s.gathered) (λ x. wanted (page_of s) want (feeding r x) x) (pulled s.groups.now.categories s.pending)
 answered s work r (Inner k begins) = inner_begun (Reads k) begins
 answered s work r (Done v back) = done (page_of s) r v back
 answered s work r (Acts c e) = acts (page_of s) c e
 answered s work r (ActsOn c e ts) = acts_on (page_of s) c e ts
-answered s work r (Defines c n ts) = macro_defined c n ts
+answered s work r (Defines c n ts) = macro_defined (page_of s) c n ts
 answered s work r Closes = Closed ∷ []
 answered s work r (Calls args) = called_with r.kind args
 answered s work r (Fails report) = failed (page_of s) report
@@ -504,7 +520,7 @@ answered s work r (Tells report back) = told (page_of s) report None back r
 answered s work r (Inserts t report back) = told (page_of s) report (Some t) back r
 
 abbrev pub planned : State → List Reading → List Move
-planned s [] = handed (page_of s) false None (stomach (page_of s)) (pulled s.categories s.pending)
+planned s [] = handed (page_of s) false None (stomach (page_of s)) (pulled s.groups.now.categories s.pending)
 planned s (r ∷ rs) = answered s (r ∷ rs) r (ask r.kind r.fed)
 
 -- the moves of the next rule
@@ -563,15 +579,13 @@ is_rowless number =
 abbrev pub is_known : ℕ → Bool
 is_known number = is_rowless number || has_row number
 
--- where the job of a file begins, which has these bytes, if it is held: the primitives' names are entered, and these of
--- them mean something
-abbrev pub first_state : (knows : ℕ → Bool) → List ℕ → Bool → List ℕ → Option (List ℕ) → State
-first_state knows categories quiet file job = record {
+-- Where the job of a file begins, which has these bytes, if it is held: the primitives' names are entered, and this stands at all locations.
+abbrev pub first_state : Groups → Bool → List ℕ → Option (List ℕ) → State
+first_state groups quiet file job = record {
   pending = record { puts = []; line = []; lex = NewLine; rest = file_opened job; file = job_progress job; number = 0 };
-  categories = categories;
+  groups = groups;
   names = primitive_names;
   strings = [];
-  meanings = first_meanings knows;
   macros = [];
   last = no_token;
   work = [];

@@ -6,7 +6,7 @@ use Rattle.tex_syntax.specs.declared.words.Outcome.TheVariants.{Finished}
 use Rattle.tex_defs.specs.declared.Full.{Full}
 use Rattle.tex_defs.specs.declared.Sizes.{Sizes}
 use Rattle.prim_table.specs.Primitives.{primitive_names}
-use Rattle.plain_tokens.specs.Categories.{initial_categories}
+use Rattle.equivalents.specs.Groups.{first_groups}
 use Rattle.plain_machine.specs.States.{State, Move, Written}
 use Rattle.plain_machine.specs.Demands.{refusal}
 use Rattle.plain_machine.specs.Plan.{Next, Ends, Goes, next, next_of, first_state, is_known}
@@ -46,7 +46,7 @@ run_of (suc n) s = went s (λ u. run_of n u) (next_of s s.due)
 
 -- where the job of a file begins, which has this name and these bytes; of one without a name
 abbrev pub named_job : (file : List ℕ) → List ℕ → State
-named_job file bytes = first_state is_known initial_categories false file (Some bytes)
+named_job file bytes = first_state (first_groups is_known) false file (Some bytes)
 
 abbrev pub job_state : List ℕ → State
 job_state bytes = named_job [] bytes

@@ -1,6 +1,7 @@
 -- Runs of the machine, and what they write.
 use Rattle.std.specs.Prelude.{◌≡◌, ◌⊎◌, ℕ, ◌+◌, ◌≤◌, ◌<◌, ◌^◌, Bool, List, [], ◌∷◌, ◌++◌, if◌then◌else◌, Option}
 use Rattle.tex_defs.specs.Places.{Place, File, World, Later, is_at, grown}
+use Rattle.equivalents.specs.Groups.{Groups}
 use Rattle.plain_machine.specs.States.{State, Move, Handed, Taken, Written, made, column_after}
 use Rattle.plain_machine.specs.Plan.{Ends, Goes, next, first_state}
 
@@ -97,7 +98,7 @@ SumsOfSteps =
 -- where a rule begins, or a job
 pub data Begins (s : State) : Type 0 where
   AtRule : s.due ≡ [] → Begins s
-  AtJob : (knows : ℕ → Bool) → (categories : List ℕ) → (quiet : Bool) → (file : List ℕ) → (job : Option (List ℕ)) → s ≡ first_state knows categories quiet file job → Begins s
+  AtJob : (groups : Groups) → (quiet : Bool) → (file : List ℕ) → (job : Option (List ℕ)) → s ≡ first_state groups quiet file job → Begins s
 
 -- The number of the line rises by no more than the steps, and by one where a line is taken: within fewer than 2^64 steps of a job, whose
 -- first number is 0, no line's number stands still.

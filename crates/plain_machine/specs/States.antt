@@ -1,5 +1,5 @@
 -- The plain machine's state, and its moves.
-use Rattle.std.specs.Prelude.{ℕ, ◌+◌, Bool, true, List, [], ◌∷◌, ◌++◌, length, drop, Option, Some, None, slice_set}
+use Rattle.std.specs.Prelude.{ℕ, ◌+◌, Bool, true, List, [], ◌∷◌, ◌++◌, length, drop, Option, Some, None}
 use Rattle.tex_syntax.specs.declared.words.Outcome.{Outcome}
 use Rattle.tex_defs.specs.declared.Token.{Token}
 use Rattle.tex_defs.specs.declared.Token.TheVariants as token
@@ -9,7 +9,9 @@ use Rattle.tex_defs.specs.declared.Name.{Name}
 use Rattle.tex_defs.specs.declared.Name.TheVariants as name
 use Rattle.tex_defs.specs.declared.Meaning.{Meaning}
 use Rattle.tex_defs.specs.declared.Meaning.TheVariants as means
-use Rattle.plain_tokens.specs.Meanings.{assigned}
+use Rattle.equivalents.specs.declared.values.Loc.{Loc}
+use Rattle.equivalents.specs.Locations.{V}
+use Rattle.equivalents.specs.Groups.{Groups, entered, set, set_name}
 use Rattle.plain_tokens.specs.Puts.{Put as PutList, token_put, grow_first, grown_by, list_of_tokens}
 use Rattle.plain_tokens.specs.Pending.{Pending, pulled, after_pull, put_front, settle}
 use Rattle.plain_state.specs.Reports.{in_line_after}
@@ -45,11 +47,11 @@ pub data Move : Type 0 where
   -- the body of a macro is put; of one with arguments, these pass from their reading, which ends
   Called : PutList → Move
   CalledWith : PutList → Move
-  -- a character has another category; a name means something else
-  SetCategoryOf : (code category : ℕ) → Move
-  Assigned : Name → Meaning (Option ℕ) → Move
+  -- an assignment; one to what a name means
+  Set : (global : Bool) → Loc → V → Move
+  Assigned : (global : Bool) → Name → Meaning (Option ℕ) → Move
   -- a name becomes a macro, to which the list passes that the innermost reading holds; this reading ends
-  Defined : Name → (long outer : Bool) → List Token → Move
+  Defined : (global : Bool) → Name → (long outer : Bool) → List Token → Move
   Written : Place → List ℕ → Move
   -- a reading begun, and with it the lists that it builds; one begun with the token that the one beneath looked at
   Begun : Kind → Move
@@ -65,14 +67,12 @@ pub data Move : Type 0 where
 
 pub record State : Type 0 where
   pub pending : Pending
-  -- the category codes of the characters 0 to 255
-  pub categories : List ℕ
   -- the names of two or more characters, in the order in which they were entered
   pub names : List (List ℕ)
   -- the other strings that are kept: the job's name
   pub strings : List (List ℕ)
-  -- what the names mean, by their locations, and the lists of all macros so far, in the order of their definitions
-  pub meanings : List (Meaning (Option ℕ))
+  -- what stands at all locations, in all groups that are open, and the lists of all macros so far, in the order of their definitions
+  pub groups : Groups
   pub macros : List (List Token)
   -- the token that a reading was fed with last
   pub last : Seen
@@ -134,12 +134,12 @@ with_argument a (ts ∷ held) = list_of_tokens a ++ held
 
 -- What each move does.
 abbrev pub made : Move → State → State
-made (Handed t) s = record s { pending = after_pull s.pending (pulled s.categories s.pending) }
-made (Taken line) s = record s { pending = after_pull s.pending (pulled s.categories s.pending) }
+made (Handed t) s = record s { pending = after_pull s.pending (pulled s.groups.now.categories s.pending) }
+made (Taken line) s = record s { pending = after_pull s.pending (pulled s.groups.now.categories s.pending) }
 made Settled s = record s { pending = settle s.pending }
-made Skipped s = record s { pending = after_pull s.pending (pulled s.categories s.pending) }
-made FileClosed s = record s { pending = after_pull s.pending (pulled s.categories s.pending) }
-made (Entered name) s = record s { names = s.names ++ name ∷ []; meanings = s.meanings ++ means.Undefined ∷ [] }
+made Skipped s = record s { pending = after_pull s.pending (pulled s.groups.now.categories s.pending) }
+made FileClosed s = record s { pending = after_pull s.pending (pulled s.groups.now.categories s.pending) }
+made (Entered name) s = record s { names = s.names ++ name ∷ []; groups = entered s.groups }
 made (Kept bytes) s = record s { strings = s.strings ++ bytes ∷ [] }
 made (Grows t) s = record s { gathered = grow_first t s.gathered }
 made (Feeds y) s = record s { work = fed_with y s.work; last = last_with y s.last }
@@ -151,10 +151,10 @@ made (Put ts) s = record s { pending = put_front (token_put ts) s.pending; makin
 made ListDropped s = record s { making = None }
 made (Called p) s = record s { pending = put_front p s.pending }
 made (CalledWith p) s = record s { pending = put_front p s.pending; work = drop 1 s.work; gathered = beneath s.work s.gathered }
-made (SetCategoryOf code category) s = record s { categories = slice_set s.categories code category }
-made (Assigned name m) s = record s { meanings = assigned s.meanings name m }
-made (Defined name long outer ts) s = record s {
-  meanings = assigned s.meanings name (means.Macro long outer (Some (length s.macros)));
+made (Set global l v) s = record s { groups = set global s.groups l v }
+made (Assigned global name m) s = record s { groups = set_name global s.groups name m }
+made (Defined global name long outer ts) s = record s {
+  groups = set_name global s.groups name (means.Macro long outer (Some (length s.macros)));
   macros = s.macros ++ ts ∷ [];
   work = drop 1 s.work;
   gathered = beneath s.work s.gathered;

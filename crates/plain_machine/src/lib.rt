@@ -52,7 +52,8 @@ pub fn bounded_runs_are_fronts()
     ensures { BoundedIsFront }
 {}
 
-/// What macros are called is seen nowhere: other numbers, no two of them the same, change nothing that is read, meant or counted.
+/// What macros are called is seen nowhere: other numbers, no two of them the same, change nothing that is read, meant or counted. What is
+/// assigned, and where a group begins and ends, the numbers stay with their lists.
 pub fn numbers_are_free()
     ensures { NumbersAreFree }
 {}
@@ -112,6 +113,19 @@ pub fn worked_rows()
     ensures prefix_before_a_letter { RunsSo (first_line_usual ++ codes "\\outer x\\end\n") (codes "! You can't use a prefix with `the letter x'.\nl.2\n{the letter x}\n") 34 Finished }
     ensures prefix_before_the_end { Writes (first_line_usual ++ codes "\\long\\foo\\global\\end\n") (codes "! Undefined control sequence.\nl.2\n! You can't use a prefix with `\\end'.\nl.2\n") Finished }
     ensures no_category { Writes (codes "\\catcode`\\x=16 ") (codes "! Invalid code (16), should be in the range 0..15.\nl.1\n! Emergency stop.\n*** (job aborted, no legal \\end found)\n") (AtFatal NoEnd) }
+{}
+
+/// The machine run on small files with codes of characters that are assigned.
+pub fn worked_codes()
+    ensures lowercase { RunsSo (first_line_usual ++ codes "\\lccode65=97 \\end\n") (codes "") 39 Finished }
+    ensures uppercase { Writes (first_line_usual ++ codes "\\uccode`\\a=256 \\end\n") (codes "! Invalid code (256), should be in the range 0..255.\nl.2\n") Finished }
+    ensures space_factor { Writes (first_line_usual ++ codes "\\sfcode65=32767 \\sfcode65=32768 \\end\n") (codes "! Invalid code (32768), should be in the range 0..32767.\nl.2\n") Finished }
+    ensures math { Writes (first_line_usual ++ codes "\\mathcode65=\"8000 \\mathcode65=32769 \\end\n") (codes "! Invalid code (32769), should be in the range 0..32768.\nl.2\n") Finished }
+    ensures delimiter { Writes (first_line_usual ++ codes "\\delcode40=\"FFFFFF \\delcode40=16777216 \\end\n") (codes "! Invalid code (16777216), should be at most 16777215.\nl.2\n") Finished }
+    ensures negative_delimiter { Writes (first_line_usual ++ codes "\\delcode40=-1 \\sfcode40=-1 \\end\n") (codes "! Invalid code (-1), should be in the range 0..32767.\nl.2\n") Finished }
+    ensures no_character { Writes (first_line_usual ++ codes "\\lccode256=1 \\end\n") (codes "! Bad character code (256).\nl.2\n") Finished }
+    ensures prefixed { Writes (first_line_usual ++ codes "\\global\\lccode65=97 \\long\\uccode97=65 \\end\n") (codes "! You can't use `\\long' or `\\outer' with `\\uccode'.\nl.2\n") Finished }
+    ensures shown { Writes (first_line_usual ++ codes "\\message{\\meaning\\delcode}\\show\\sfcode\\end\n") (codes "\\delcode\n> \\sfcode=\\sfcode.\nl.2\n") Finished }
 {}
 
 /// The machine run on small files with macros: the arguments of calls.

@@ -20,6 +20,7 @@ IsLow (Begins k) = rank (Reads k) < 1
 start_low : (s : Stage) (c : Call) (ds : List Datum) → IsLow (start s c ds)
 start_low stage.Number c ds = omega arith
 start_low (stage.NumberTo greatest complaint) c ds = omega arith
+start_low (stage.NumberUpTo greatest) c ds = omega arith
 start_low (stage.Text expanded) c ds = omega arith
 start_low (stage.MacroText expanded) c ds = omega arith
 start_low s c ds = tt

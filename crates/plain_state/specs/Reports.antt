@@ -4,7 +4,7 @@ use Rattle.std.specs.Fmt.{signed_decimal}
 use Rattle.tex_syntax.specs.declared.words.Scanned.{Scanned}
 use Rattle.tex_syntax.specs.declared.words.Scanned.TheVariants as scanned
 use Rattle.tex_syntax.specs.declared.words.Report.{Report}
-use Rattle.tex_syntax.specs.declared.words.Report.TheVariants.{UndefinedName, InvalidCharacter, ImproperConstant, MissingNumber, NumberTooBig, BadCharacterCode, InvalidCode, MissingBrace, FileEnded, Forbidden, MissingName, NotConsecutive, AlreadyNine, IllegalNumber, UseMismatch, ExtraBrace, ParagraphEnded, PrefixWith, LongOrOuterWith, MissingEndcsname, ExtraEndcsname}
+use Rattle.tex_syntax.specs.declared.words.Report.TheVariants.{UndefinedName, InvalidCharacter, ImproperConstant, MissingNumber, NumberTooBig, BadCharacterCode, InvalidCode, CodeTooGreat, MissingBrace, FileEnded, Forbidden, MissingName, NotConsecutive, AlreadyNine, IllegalNumber, UseMismatch, ExtraBrace, ParagraphEnded, PrefixWith, LongOrOuterWith, MissingEndcsname, ExtraEndcsname}
 use Rattle.tex_defs.specs.declared.Token.{Token}
 use Rattle.tex_defs.specs.declared.Token.TheVariants.{Char, Named, Marked}
 use Rattle.tex_defs.specs.declared.Name.{Name}
@@ -33,6 +33,7 @@ report_text style MissingNumber = codes "Missing number, treated as zero"
 report_text style NumberTooBig = codes "Number too big"
 report_text style (BadCharacterCode n) = codes "Bad character code (" ++ (signed_decimal n ++ codes ")")
 report_text style (InvalidCode n greatest) = codes "Invalid code (" ++ (signed_decimal n ++ (codes "), should be in the range 0.." ++ decimal greatest))
+report_text style (CodeTooGreat n greatest) = codes "Invalid code (" ++ (signed_decimal n ++ (codes "), should be at most " ++ decimal greatest))
 report_text style MissingBrace = codes "Missing { inserted"
 report_text style (FileEnded what name) = codes "File ended" ++ while_scanning style what name
 report_text style (Forbidden what name) = codes "Forbidden control sequence found" ++ while_scanning style what name

@@ -1,6 +1,6 @@
 -- What the names mean (TeX: The Program, part 17): a list with a meaning for each location. A macro has the number of its list,
 -- but for the meaning of the frozen `\endwrite`, which has none.
-use Rattle.std.specs.Prelude.{ℕ, ◌+◌, ◌==◌, ◌||◌, Bool, true, false, Option, None, Some, List, [], ◌∷◌, ◌++◌, map, replicate, slice_set, slice_index_or, if◌then◌else◌}
+use Rattle.std.specs.Prelude.{ℕ, ◌+◌, ◌==◌, ◌||◌, Bool, true, false, Option, None, Some, List, [], ◌∷◌, ◌++◌, map, replicate, slice_index_or, if◌then◌else◌}
 use Rattle.std.specs.List.{range_with_len}
 use Rattle.tex_defs.specs.declared.Frozen.{Frozen}
 use Rattle.tex_defs.specs.declared.Frozen.TheVariants as frozen
@@ -59,14 +59,6 @@ looked_up cells (Some k) fixed = slice_index_or cells k means.Undefined
 abbrev pub name_meaning : List (Meaning (Option ℕ)) → Name → Meaning (Option ℕ)
 name_meaning cells n = looked_up cells (location n) (fixed_meaning n)
 
-abbrev pub set_at : List (Meaning (Option ℕ)) → Option ℕ → Meaning (Option ℕ) → List (Meaning (Option ℕ))
-set_at cells None m = cells
-set_at cells (Some k) m = slice_set cells k m
-
--- one name means something else
-abbrev pub assigned : List (Meaning (Option ℕ)) → Name → Meaning (Option ℕ) → List (Meaning (Option ℕ))
-assigned cells n m = set_at cells (location n) m
-
 -- a meaning as readings see it, where a macro has no list
 abbrev pub seen_as : {L : Type 0} → Meaning L → Meaning Unit
 seen_as means.Undefined = means.Undefined
@@ -99,7 +91,7 @@ primitive_count = 186
 abbrev pub first_meanings : (ℕ → Bool) → List (Meaning (Option ℕ))
 first_meanings is_known = replicate fixed_locations means.Undefined ++ map (first_meaning is_known) (range_with_len 1 primitive_count)
 
--- the primitives of these numbers, as those that mean something
+-- whether a number is one of these
 abbrev pub is_listed : List ℕ → ℕ → Bool
 is_listed [] number = false
 is_listed (n ∷ ns) number = (n == number) || is_listed ns number

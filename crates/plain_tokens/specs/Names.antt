@@ -1,4 +1,4 @@
--- The primitives that mean something, and the names that tokens are.
+-- The numbers of primitives, and the names that tokens are.
 use Rattle.std.specs.Prelude.{ℕ, ◌==◌, Bool, true, false, ◌||◌}
 use Rattle.tex_defs.specs.declared.Token.{Token}
 use Rattle.tex_defs.specs.declared.Token.TheVariants as token
@@ -17,16 +17,6 @@ end_primitive = 6
 
 abbrev pub par_primitive : ℕ
 par_primitive = 5
-
-abbrev pub message_primitive : ℕ
-message_primitive = 9
-
-abbrev pub catcode_primitive : ℕ
-catcode_primitive = 35
-
--- `\number`, which is expanded
-abbrev pub number_primitive : ℕ
-number_primitive = 57
 
 -- the prefixes of assignments
 abbrev pub long_primitive : ℕ
@@ -53,13 +43,6 @@ xdef_primitive = 29
 
 abbrev pub is_definition_primitive : ℕ → Bool
 is_definition_primitive number = (number == def_primitive) || (number == gdef_primitive) || (number == edef_primitive) || (number == xdef_primitive)
-
--- the primitives that mean something
-abbrev pub is_known : ℕ → Bool
-is_known number =
-    (number == relax_primitive) || (number == par_primitive) || (number == end_primitive) || (number == message_primitive)
-    || (number == long_primitive) || (number == outer_primitive) || (number == global_primitive) || (number == catcode_primitive)
-    || is_definition_primitive number || (number == number_primitive)
 
 -- a primitive's own meaning, under whatever name
 abbrev pub means_primitive : ℕ → Meaning Unit → Bool

@@ -220,9 +220,6 @@ abbrev pub meaning_text : {L : Type 0} → Style → (L → List Token) → Mean
 meaning_text style tokens_of m = meaning_head style m ++ list_text style (meaning_tokens tokens_of m)
 
 -- What the transcript and the files that are written have of these texts.
-abbrev pub name_shown : Style → Name → List ℕ
-name_shown style n = printed_all style (name_in_list style n)
-
 abbrev pub shown_all : Style → List Token → List ℕ
 shown_all style ts = printed_all style (list_text style ts)
 

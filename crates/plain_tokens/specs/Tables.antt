@@ -1,5 +1,5 @@
 -- What counts as used of each table, what is asked of it, and where there is no room.
-use Rattle.std.specs.Prelude.{ℕ, suc, ◌+◌, ◌==◌, ◌||◌, Bool, false, List, [], ◌∷◌, ◌++◌, length, sum_by, nat_le, Option, Some, None, if◌then◌else◌}
+use Rattle.std.specs.Prelude.{ℕ, ◌+◌, ◌==◌, ◌||◌, Bool, false, List, [], ◌∷◌, ◌++◌, length, sum_by, nat_le, Option, Some, None, if◌then◌else◌}
 use Rattle.tex_defs.specs.declared.Token.{Token}
 use Rattle.tex_defs.specs.declared.Table.{Table}
 use Rattle.tex_defs.specs.declared.Table.TheVariants.{PoolSize, NumberOfStrings, HashSize, MainMemorySize, InputStackSize, ParameterStackSize, BufferSize}
@@ -7,8 +7,6 @@ use Rattle.tex_defs.specs.declared.Full.{Full}
 use Rattle.tex_defs.specs.declared.Sizes.{Sizes}
 use Rattle.tex_defs.specs.Sizes.{size_of}
 use Rattle.plain_tokens.specs.Lines.{first_bytes}
-use Rattle.tex_defs.specs.declared.Meaning.{Meaning}
-use Rattle.tex_defs.specs.declared.Meaning.TheVariants as means
 use Rattle.plain_tokens.specs.Puts.{Item, First, Put as PutList, Whole, Own, Macro, put_levels, put_parameters, list_of_tokens}
 use Rattle.plain_tokens.specs.Pending.{Pending, Progress, NotBegun, Begun as BegunFile}
 
@@ -42,19 +40,7 @@ made_words (Some ts) = list_words ts
 abbrev pub held_words : List PutList → Option (List Token) → List (List Token) → ℕ
 held_words puts making lists = put_words puts + (made_words making + lists_words lists)
 
--- a macro's list is held by the location of a name, and by each list in front that is its
-abbrev pub is_number : ℕ → Option ℕ → Bool
-is_number n None = false
-is_number n (Some number) = number == n
-
-abbrev pub means_macro : ℕ → Meaning (Option ℕ) → Bool
-means_macro n (means.Macro long outer list) = is_number n list
-means_macro n m = false
-
-abbrev pub is_meant : ℕ → List (Meaning (Option ℕ)) → Bool
-is_meant n [] = false
-is_meant n (m ∷ ms) = means_macro n m || is_meant n ms
-
+-- a list that has a number is held by each list in front that is its
 abbrev pub is_whole : ℕ → Whole → Bool
 is_whole n (Own ts) = false
 is_whole n (Macro number) = number == n
@@ -62,11 +48,6 @@ is_whole n (Macro number) = number == n
 abbrev pub is_put : ℕ → List PutList → Bool
 is_put n [] = false
 is_put n (p ∷ ps) = is_whole n p.list || is_put n ps
-
--- the words of the macros' lists that are held, the first of which has the number n
-abbrev pub macro_words : ℕ → List (Meaning (Option ℕ)) → List PutList → List (List Token) → ℕ
-macro_words n meanings puts [] = 0
-macro_words n meanings puts (ts ∷ macros) = (if is_meant n meanings || is_put n puts then list_words ts else 0) + macro_words (suc n) meanings puts macros
 
 -- THE INPUT STACK: a level for each list in front with an item left, one for the argument within which such a list
 -- stands, and one for a file that is begun.

@@ -6,7 +6,7 @@ use Rattle.rows.specs.declared.words.Datum.{Datum}
 use Rattle.rows.specs.declared.words.Datum.TheVariants as datum
 use Rattle.rows.specs.declared.words.Value.TheVariants.{Plain}
 use Rattle.rows.specs.declared.stage.Stage.{Stage}
-use Rattle.rows.specs.declared.stage.Stage.TheVariants.{NumberTo}
+use Rattle.rows.specs.declared.stage.Stage.TheVariants.{NumberTo, NumberUpTo}
 use Rattle.rows.specs.declared.stage.Start.{Start}
 use Rattle.rows.specs.declared.stage.Start.TheVariants.{Looks, Begins}
 use Rattle.rows.specs.declared.stage.Got.{Got}
@@ -14,7 +14,7 @@ use Rattle.rows.specs.declared.stage.Got.TheVariants as got
 use Rattle.rows.specs.declared.command.Call.{Call}
 use Rattle.rows.specs.Readings.{Fed, Val, Ask}
 use Rattle.rows.specs.Table.{stages_left}
-use Rattle.rows.specs.Tokens.{is_at_most}
+use Rattle.rows.specs.Tokens.{is_at_most, is_up_to}
 use Rattle.rows.specs.Stages.{start, on_datum}
 use Rattle.rows.specs.Run.{Outcome, valued, started, behind, run}
 use Rattle.row_frames.specs.declared.frame.RowFrame.{RowFrame}
@@ -34,6 +34,7 @@ either false g h i j = j
 
 datum_listless : (s : Stage) (d : Datum) → IsListless (on_datum s d)
 datum_listless (NumberTo greatest complaint) (datum.Number n) = either (is_at_most greatest n) _ _ tt tt
+datum_listless (NumberUpTo greatest) (datum.Number n) = either (is_up_to greatest n) _ _ tt tt
 datum_listless s d = tt
 
 module _ (d : Datum) (ts us : List Token) (fed : List Fed) where

@@ -1,5 +1,5 @@
 -- The weights of frames, by what they ask for.
-use Rattle.std.proofs.Common.{◌≡◌, ◌≤◌, ◌<◌, ℕ, ◌+◌, Bool, true, false, List, [], ◌∷◌, arith, refl, sym, subst, ap, ◌∙◌}
+use Rattle.std.proofs.Common.{◌≡◌, ◌≤◌, ◌<◌, ℕ, ◌+◌, Bool, true, false, List, [], ◌∷◌, Option, Some, arith, refl, sym, subst, ap, ◌∙◌}
 use Rattle.tex_defs.specs.declared.Token.{Token}
 use Rattle.tex_defs.specs.declared.Token.TheVariants.{EndPlaces}
 use Rattle.tex_syntax.specs.declared.words.Manner.{Manner}
@@ -20,7 +20,8 @@ use Rattle.scan_numbers.specs.declared.number.Place.TheVariants as place
 use Rattle.scan_numbers.specs.declared.number.NumberScan.{NumberScan}
 use Rattle.reading_frames.specs.Sees.{Lists, has_no_token}
 use Rattle.reading_frames.specs.Resumes.{resume, resume_command, resume_name, name_at, resume_build, build_at}
-use Rattle.reading_frames.specs.Weights.{frame_end, asks_weight, innermost_weight, innermost_end, opening_end, begun_with_weight}
+use Rattle.reading_frames.specs.Stack.{asks_in, frames_of}
+use Rattle.reading_frames.specs.Weights.{frame_end, asks_weight, innermost_weight, innermost_end, opening_end, begun_with_weight, IsReported}
 use Rattle.reading_frames.specs.declared.ask.Opening.{Opening}
 use Rattle.reading_frames.specs.declared.ask.Opening.TheVariants as opening
 use Rattle.rows.specs.declared.command.Call.{Call}
@@ -50,6 +51,12 @@ all_light f = any_light (frame_end f) (resume f [] []) (end_light f)
 pub small : (fs : List Frame) → innermost_weight fs < frame_weight + act_weight
 small [] = omega arith
 small (f ∷ fs) = omega (arith, all_light f)
+
+-- the innermost, whichever frames lie beneath it
+pub innermost_falls : (fs : List Frame) (o : Option Frame) (f new : Frame) (beneath : List Frame) → fs ≡ frames_of o beneath → Some f ≡ o → (IsReport (resume f [] []) → asks_weight new < asks_weight f) →
+    IsReported (asks_in fs []) → asks_weight new < innermost_weight fs
+innermost_falls fs o f new beneath is begun falls =
+    subst (λ (gs : List Frame). IsReported (asks_in gs []) → asks_weight new < innermost_weight gs) (ap (λ (p : Option Frame). frames_of p beneath) begun ∙ sym is) falls
 
 -- COMMANDS
 

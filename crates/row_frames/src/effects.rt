@@ -23,7 +23,7 @@ fn comes_to(action: Action, read: &Data) -> Effect
         Action::DefineGlobally => Effect::Nothing,
         Action::Let => Effect::Let(name(first), token(second)),
         Action::FutureLet => Effect::FutureLet(name(first), token(second), token(read.third())),
-        Action::SetCategory => Effect::SetCategory(number(first), number(second)),
+        Action::SetCode(kind) => Effect::SetCode(kind, number(first), number(second)),
         Action::ExpandBehind => Effect::ExpandBehind(token(first), token(second)),
         Action::PutMarked => Effect::PutMarked(token(first)),
         Action::MakeNumber => Effect::MakeNumber(number(first)),

@@ -99,6 +99,19 @@ fn ranged(complaint: Complaint, greatest: u32, n: i32) -> Got
     Got::Tells(report, Next::Takes(Datum::Number(0)))
 }
 
+/// A number that may be too great, where it is reported and 0 taken.
+fn bounded(greatest: u32, n: i32) -> Got
+    ensures { result ≡ stages.bounded greatest n }
+{
+    if n < 0 || n.unsigned_abs() <= greatest {
+        return Got::Takes(Datum::Number(n));
+    }
+    Got::Tells(
+        Report::CodeTooGreat(n, greatest),
+        Next::Takes(Datum::Number(0)),
+    )
+}
+
 /// The name that is assigned.
 fn control_sequence(call: Call, x: Seen) -> Met
     ensures { result ≡ stages.name_met call x }
@@ -279,6 +292,7 @@ pub fn on_value(stage: Stage, value: Value) -> Got
         (Stage::NumberTo(greatest, complaint), Value::Plain(Datum::Number(n))) => {
             ranged(complaint, greatest, n)
         }
+        (Stage::NumberUpTo(greatest), Value::Plain(Datum::Number(n))) => bounded(greatest, n),
         (_, Value::Plain(datum)) => Got::Takes(datum),
         (Stage::MacroText(_), Value::List) => Got::Defines,
         (_, Value::List) => Got::Gathers,
@@ -290,7 +304,7 @@ pub fn start(stage: Stage, call: Call, read: &Data) -> Start
     ensures { result ≡ stages.start stage call (values read.now) }
 {
     match stage {
-        Stage::Number | Stage::NumberTo(..) => Start::Begins(Kind::Integer),
+        Stage::Number | Stage::NumberTo(..) | Stage::NumberUpTo(_) => Start::Begins(Kind::Integer),
         Stage::Equals | Stage::NonblankToken => Start::Looks(Want::Nonblank),
         Stage::ControlSequence | Stage::LetEquals => Start::Looks(Want::Raw),
         Stage::Space | Stage::AnyToken => Start::Looks(Want::Raw),

@@ -10,7 +10,7 @@ use Rattle.rows.specs.declared.words.Datum.TheVariants as datum
 use Rattle.rows.specs.declared.words.Kind.{Kind}
 use Rattle.rows.specs.declared.words.Kind.TheVariants.{Definition}
 use Rattle.rows.specs.declared.stage.Stage.{Stage}
-use Rattle.rows.specs.declared.stage.Stage.TheVariants.{MacroText, NumberTo}
+use Rattle.rows.specs.declared.stage.Stage.TheVariants.{MacroText, NumberTo, NumberUpTo}
 use Rattle.rows.specs.declared.stage.Start.{Start}
 use Rattle.rows.specs.declared.stage.Start.TheVariants.{Looks, Begins}
 use Rattle.rows.specs.declared.stage.Met.{Met}
@@ -24,7 +24,7 @@ use Rattle.rows.specs.declared.stage.Note.TheVariants as note
 use Rattle.rows.specs.declared.command.Call.{Call}
 use Rattle.rows.specs.Readings.{Fed, Tok, Val, Told, Ask, More, Inner, Defines}
 use Rattle.rows.specs.Stages.{start, on_token, on_value, on_datum}
-use Rattle.rows.specs.Tokens.{is_at_most}
+use Rattle.rows.specs.Tokens.{is_at_most, is_up_to}
 use Rattle.std.specs.Prelude.{if◌then◌else◌}
 use Rattle.rows.specs.Table.{stages_of}
 use Rattle.rows.specs.Run.{Outcome, Asks, Takes, Passes, Gathers, Makes, Turns, comes, due, noted, valued, inner, begins, met_with, looks, again, started, behind, run, no_turn, turned, row}
@@ -115,6 +115,7 @@ got_if false g h i j = j
 
 datum_plain : (s : Stage) (d : Datum) → NotDefines (on_datum s d)
 datum_plain (NumberTo greatest complaint) (datum.Number n) = got_if (is_at_most greatest n) _ _ tt tt
+datum_plain (NumberUpTo greatest) (datum.Number n) = got_if (is_up_to greatest n) _ _ tt tt
 datum_plain s d = tt
 
 value_first : (s : Stage) (k : Kind) (b : Bool) (v : Value) (ts : List Token) → Fits s k → Follows (Val v ts) (Inner k b) (valued (on_value s v) ts [])

@@ -7,7 +7,7 @@ use Rattle.tex_syntax.specs.declared.words.Want.{Want}
 use Rattle.rows.specs.declared.words.Datum.{Datum}
 use Rattle.rows.specs.declared.words.Kind.{Kind}
 use Rattle.rows.specs.declared.stage.Stage.{Stage}
-use Rattle.rows.specs.declared.stage.Stage.TheVariants.{Number, NumberTo, Text, MacroText}
+use Rattle.rows.specs.declared.stage.Stage.TheVariants.{Number, NumberTo, NumberUpTo, Text, MacroText}
 use Rattle.rows.specs.declared.stage.Start.{Start}
 use Rattle.rows.specs.declared.stage.Start.TheVariants.{Looks, Begins}
 use Rattle.rows.specs.declared.stage.Met.{Met}
@@ -38,6 +38,7 @@ StartsLow (Begins k) = IsLow k
 start_low : (s : Stage) (c : Call) (ds : List Datum) → StartsLow (start s c ds)
 start_low Number c ds = omega arith
 start_low (NumberTo greatest complaint) c ds = omega arith
+start_low (NumberUpTo greatest) c ds = omega arith
 start_low (Text expanded) c ds = omega arith
 start_low (MacroText expanded) c ds = omega arith
 start_low s c ds = tt

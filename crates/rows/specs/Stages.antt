@@ -19,7 +19,7 @@ use Rattle.rows.specs.declared.words.Value.{Value}
 use Rattle.rows.specs.declared.words.Value.TheVariants as value
 use Rattle.rows.specs.declared.words.Kind.TheVariants as kind
 use Rattle.rows.specs.declared.stage.Stage.{Stage}
-use Rattle.rows.specs.declared.stage.Stage.TheVariants.{Number, NumberTo, Equals, ControlSequence, LetEquals, Space, AnyToken, NonblankToken, Text, MacroText, Prefixes}
+use Rattle.rows.specs.declared.stage.Stage.TheVariants.{Number, NumberTo, NumberUpTo, Equals, ControlSequence, LetEquals, Space, AnyToken, NonblankToken, Text, MacroText, Prefixes}
 use Rattle.rows.specs.declared.stage.Complaint.{Complaint}
 use Rattle.rows.specs.declared.stage.Complaint.TheVariants.{BadCharacterCode, InvalidCode}
 use Rattle.rows.specs.declared.stage.Start.{Start}
@@ -33,7 +33,7 @@ use Rattle.rows.specs.declared.stage.Note.TheVariants as note
 use Rattle.rows.specs.declared.command.Call.{Call}
 use Rattle.rows.specs.declared.command.Prefix.{Prefix}
 use Rattle.rows.specs.declared.command.Prefix.TheVariants.{Long, Outer, Global}
-use Rattle.rows.specs.Tokens.{is_equals, is_character, name_to_assign, inaccessible, is_at_most}
+use Rattle.rows.specs.Tokens.{is_equals, is_character, name_to_assign, inaccessible, is_at_most, is_up_to}
 use Rattle.rows.specs.Table.{has_row}
 
 -- WHAT HAS BEEN READ, in the order in which it was read
@@ -83,6 +83,12 @@ abbrev pub ranged : Complaint → ℕ → ℤ → Got
 ranged complaint greatest n =
     if is_at_most greatest n then got.Takes (datum.Number n)
     else got.Tells (out_of_range complaint greatest n) (next.Takes (datum.Number (pos 0)))
+
+-- a number that may be less than 0
+abbrev pub bounded : ℕ → ℤ → Got
+bounded greatest n =
+    if is_up_to greatest n then got.Takes (datum.Number n)
+    else got.Tells (report.CodeTooGreat n greatest) (next.Takes (datum.Number (pos 0)))
 
 -- NAMES TO ASSIGN
 
@@ -155,6 +161,7 @@ prefixed c None x = behind_prefixes c x
 abbrev pub start : Stage → Call → List Datum → Start
 start Number c ds = Begins kind.Integer
 start (NumberTo greatest complaint) c ds = Begins kind.Integer
+start (NumberUpTo greatest) c ds = Begins kind.Integer
 start Equals c ds = Looks want.Nonblank
 start ControlSequence c ds = Looks want.Raw
 start LetEquals c ds = Looks want.Raw
@@ -179,6 +186,7 @@ on_token s c x = met.Leaves
 -- and of the value of an inner reading
 abbrev pub on_datum : Stage → Datum → Got
 on_datum (NumberTo greatest complaint) (datum.Number n) = ranged complaint greatest n
+on_datum (NumberUpTo greatest) (datum.Number n) = bounded greatest n
 on_datum s d = got.Takes d
 
 abbrev pub on_list : Stage → Got

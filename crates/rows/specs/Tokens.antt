@@ -31,3 +31,8 @@ inaccessible = token.Named (name.Frozen frozen.Inaccessible)
 abbrev pub is_at_most : ℕ → ℤ → Bool
 is_at_most n (pos m) = nat_le m n
 is_at_most n (negsuc m) = false
+
+-- a number that isn't more than n
+abbrev pub is_up_to : ℕ → ℤ → Bool
+is_up_to n (pos m) = nat_le m n
+is_up_to n (negsuc m) = true

@@ -9,13 +9,14 @@ use Rattle.tex_defs.specs.declared.Meaning.TheVariants as means
 use Rattle.tex_defs.specs.declared.Seen.{Seen}
 use Rattle.tex_syntax.specs.declared.words.Want.TheVariants.{Raw, Nonblank}
 use Rattle.tex_syntax.specs.declared.words.Want.TheVariants as want
-use Rattle.tex_syntax.specs.declared.words.Report.TheVariants.{BadCharacterCode, InvalidCode, MissingName, PrefixWith, LongOrOuterWith}
+use Rattle.tex_syntax.specs.declared.words.Report.TheVariants.{BadCharacterCode, InvalidCode, CodeTooGreat, MissingName, PrefixWith, LongOrOuterWith}
 use Rattle.plain_tokens.specs.Categories.{space, letter, other}
 use Rattle.prim_table.specs.Primitives.{primitive_name}
 use Rattle.rows.specs.declared.words.Datum.TheVariants.{Number}
 use Rattle.rows.specs.declared.words.Value.TheVariants as value
 use Rattle.rows.specs.declared.words.Kind.TheVariants.{Integer, Text, Definition}
 use Rattle.rows.specs.declared.command.Call.{Call}
+use Rattle.equivalents.specs.declared.values.CodeKind.TheVariants as code
 use Rattle.rows.specs.declared.command.Effect.TheVariants as effect
 use Rattle.rows.specs.Tokens.{inaccessible}
 use Rattle.rows.specs.Table.{reads_under_normal}
@@ -109,10 +110,10 @@ pub record WorkedPrefixes : Type 0 where
       More want.Command ∷ More Raw ∷ Inner (Definition x_name true) false ∷ Defines (record (call 28) { outer = true }) x_name text ∷ []
   pub global :
       steps 25 (Tok (primitive 35) ∷ number (pos 65) ∷ Tok equals ∷ number (pos 11) ∷ []) ≡
-      More want.Command ∷ Inner Integer false ∷ More Nonblank ∷ Inner Integer false ∷ Acts (record (call 35) { global = true }) (effect.SetCategory (pos 65) (pos 11)) ∷ []
+      More want.Command ∷ Inner Integer false ∷ More Nonblank ∷ Inner Integer false ∷ Acts (record (call 35) { global = true }) (effect.SetCode code.Category (pos 65) (pos 11)) ∷ []
   pub long_catcode :
       steps 23 (Tok (primitive 35) ∷ Told ∷ number (pos 65) ∷ Tok equals ∷ number (pos 11) ∷ []) ≡
-      More want.Command ∷ Tells (LongOrOuterWith (means.Prim 35)) false ∷ Inner Integer false ∷ More Nonblank ∷ Inner Integer false ∷ Acts (call 35) (effect.SetCategory (pos 65) (pos 11)) ∷ []
+      More want.Command ∷ Tells (LongOrOuterWith (means.Prim 35)) false ∷ Inner Integer false ∷ More Nonblank ∷ Inner Integer false ∷ Acts (call 35) (effect.SetCode code.Category (pos 65) (pos 11)) ∷ []
   pub outer_let :
       steps 24 (Tok (primitive 25) ∷ Tok (primitive 30) ∷ Told ∷ Tok x ∷ Tok y ∷ []) ≡
       More want.Command ∷ More want.Command ∷ Tells (LongOrOuterWith (means.Prim 30)) false ∷ More Raw ∷ More Raw ∷ Acts (record (call 30) { global = true }) (effect.Let x_name y) ∷ []
@@ -134,17 +135,38 @@ pub record WorkedMeanings : Type 0 where
 -- `\catcode 65=11`, `\catcode 65 11`, where the second number begins with its first digit, and `\catcode 256=16` and `\catcode -1=-1` with their reports
 pub record WorkedCategories : Type 0 where
   pub sets :
-      steps 35 (number (pos 65) ∷ Tok equals ∷ number (pos 11) ∷ []) ≡ Inner Integer false ∷ More Nonblank ∷ Inner Integer false ∷ Acts (call 35) (effect.SetCategory (pos 65) (pos 11)) ∷ []
+      steps 35 (number (pos 65) ∷ Tok equals ∷ number (pos 11) ∷ []) ≡ Inner Integer false ∷ More Nonblank ∷ Inner Integer false ∷ Acts (call 35) (effect.SetCode code.Category (pos 65) (pos 11)) ∷ []
   pub begins :
-      steps 35 (number (pos 65) ∷ Tok digit ∷ number (pos 11) ∷ []) ≡ Inner Integer false ∷ More Nonblank ∷ Inner Integer true ∷ Acts (call 35) (effect.SetCategory (pos 65) (pos 11)) ∷ []
+      steps 35 (number (pos 65) ∷ Tok digit ∷ number (pos 11) ∷ []) ≡ Inner Integer false ∷ More Nonblank ∷ Inner Integer true ∷ Acts (call 35) (effect.SetCode code.Category (pos 65) (pos 11)) ∷ []
   pub too_great :
       steps 35 (number (pos 256) ∷ Told ∷ Tok equals ∷ number (pos 16) ∷ Told ∷ []) ≡
-      Inner Integer false ∷ Tells (BadCharacterCode (pos 256)) false ∷ More Nonblank ∷ Inner Integer false ∷ Tells (InvalidCode (pos 16) 15) false ∷ Acts (call 35) (effect.SetCategory (pos 0) (pos 0)) ∷ []
+      Inner Integer false ∷ Tells (BadCharacterCode (pos 256)) false ∷ More Nonblank ∷ Inner Integer false ∷ Tells (InvalidCode (pos 16) 15) false ∷ Acts (call 35) (effect.SetCode code.Category (pos 0) (pos 0)) ∷ []
   pub negative :
       steps 35 (number (negsuc 0) ∷ Told ∷ Tok digit ∷ number (negsuc 0) ∷ Told ∷ []) ≡
-      Inner Integer false ∷ Tells (BadCharacterCode (negsuc 0)) false ∷ More Nonblank ∷ Inner Integer true ∷ Tells (InvalidCode (negsuc 0) 15) false ∷ Acts (call 35) (effect.SetCategory (pos 0) (pos 0)) ∷ []
+      Inner Integer false ∷ Tells (BadCharacterCode (negsuc 0)) false ∷ More Nonblank ∷ Inner Integer true ∷ Tells (InvalidCode (negsuc 0) 15) false ∷ Acts (call 35) (effect.SetCode code.Category (pos 0) (pos 0)) ∷ []
   pub greatest :
-      steps 35 (number (pos 255) ∷ Tok equals ∷ number (pos 15) ∷ []) ≡ Inner Integer false ∷ More Nonblank ∷ Inner Integer false ∷ Acts (call 35) (effect.SetCategory (pos 255) (pos 15)) ∷ []
+      steps 35 (number (pos 255) ∷ Tok equals ∷ number (pos 15) ∷ []) ≡ Inner Integer false ∷ More Nonblank ∷ Inner Integer false ∷ Acts (call 35) (effect.SetCode code.Category (pos 255) (pos 15)) ∷ []
+
+-- `\lccode 65=97`, `\uccode 97=256`, `\sfcode 65=32768`, `\mathcode 65=32768` and `=32769`, `\delcode 40=-1` and `=16777216`
+pub record WorkedCodes : Type 0 where
+  pub lowercase :
+      steps 36 (number (pos 65) ∷ Tok equals ∷ number (pos 97) ∷ []) ≡ Inner Integer false ∷ More Nonblank ∷ Inner Integer false ∷ Acts (call 36) (effect.SetCode code.Lowercase (pos 65) (pos 97)) ∷ []
+  pub uppercase :
+      steps 37 (number (pos 97) ∷ Tok equals ∷ number (pos 256) ∷ Told ∷ []) ≡
+      Inner Integer false ∷ More Nonblank ∷ Inner Integer false ∷ Tells (InvalidCode (pos 256) 255) false ∷ Acts (call 37) (effect.SetCode code.Uppercase (pos 97) (pos 0)) ∷ []
+  pub space_factor :
+      steps 38 (number (pos 65) ∷ Tok equals ∷ number (pos 32768) ∷ Told ∷ []) ≡
+      Inner Integer false ∷ More Nonblank ∷ Inner Integer false ∷ Tells (InvalidCode (pos 32768) 32767) false ∷ Acts (call 38) (effect.SetCode code.SpaceFactor (pos 65) (pos 0)) ∷ []
+  pub math :
+      steps 39 (number (pos 65) ∷ Tok equals ∷ number (pos 32768) ∷ []) ≡ Inner Integer false ∷ More Nonblank ∷ Inner Integer false ∷ Acts (call 39) (effect.SetCode code.Math (pos 65) (pos 32768)) ∷ []
+  pub math_too_great :
+      steps 39 (number (pos 65) ∷ Tok equals ∷ number (pos 32769) ∷ Told ∷ []) ≡
+      Inner Integer false ∷ More Nonblank ∷ Inner Integer false ∷ Tells (InvalidCode (pos 32769) 32768) false ∷ Acts (call 39) (effect.SetCode code.Math (pos 65) (pos 0)) ∷ []
+  pub delimiter :
+      steps 40 (number (pos 40) ∷ Tok equals ∷ number (negsuc 0) ∷ []) ≡ Inner Integer false ∷ More Nonblank ∷ Inner Integer false ∷ Acts (call 40) (effect.SetCode code.Delimiter (pos 40) (negsuc 0)) ∷ []
+  pub delimiter_too_great :
+      steps 40 (number (pos 40) ∷ Tok equals ∷ number (pos 16777216) ∷ Told ∷ []) ≡
+      Inner Integer false ∷ More Nonblank ∷ Inner Integer false ∷ Tells (CodeTooGreat (pos 16777216) 16777215) false ∷ Acts (call 40) (effect.SetCode code.Delimiter (pos 40) (pos 0)) ∷ []
 
 -- `\expandafter`, `\noexpand`, `\number`, `\romannumeral`, `\string` and `\meaning`, and which of them read under normal status
 pub record WorkedExpansions : Type 0 where
@@ -158,12 +180,12 @@ pub record WorkedExpansions : Type 0 where
 
 -- the numbers above, and the names of their primitives
 abbrev pub numbers : List ℕ
-numbers = 8 ∷ 9 ∷ 10 ∷ 11 ∷ 23 ∷ 24 ∷ 25 ∷ 26 ∷ 27 ∷ 28 ∷ 29 ∷ 30 ∷ 31 ∷ 35 ∷ 54 ∷ 55 ∷ 57 ∷ 58 ∷ 59 ∷ 60 ∷ []
+numbers = 8 ∷ 9 ∷ 10 ∷ 11 ∷ 23 ∷ 24 ∷ 25 ∷ 26 ∷ 27 ∷ 28 ∷ 29 ∷ 30 ∷ 31 ∷ 35 ∷ 36 ∷ 37 ∷ 38 ∷ 39 ∷ 40 ∷ 54 ∷ 55 ∷ 57 ∷ 58 ∷ 59 ∷ 60 ∷ []
 
 abbrev pub commands : List (List ℕ)
 commands =
     codes "ignorespaces" ∷ codes "message" ∷ codes "errmessage" ∷ codes "show" ∷ codes "long" ∷ codes "outer" ∷ codes "global" ∷ codes "def" ∷ codes "gdef" ∷ codes "edef" ∷ codes "xdef" ∷
-    codes "let" ∷ codes "futurelet" ∷ codes "catcode" ∷ codes "expandafter" ∷ codes "noexpand" ∷ codes "number" ∷ codes "romannumeral" ∷ codes "string" ∷ codes "meaning" ∷ []
+    codes "let" ∷ codes "futurelet" ∷ codes "catcode" ∷ codes "lccode" ∷ codes "uccode" ∷ codes "sfcode" ∷ codes "mathcode" ∷ codes "delcode" ∷ codes "expandafter" ∷ codes "noexpand" ∷ codes "number" ∷ codes "romannumeral" ∷ codes "string" ∷ codes "meaning" ∷ []
 
 pub record WorkedRows : Type 0 where
   pub names : map primitive_name numbers ≡ commands
@@ -172,4 +194,5 @@ pub record WorkedRows : Type 0 where
   pub prefixes : WorkedPrefixes
   pub meanings : WorkedMeanings
   pub categories : WorkedCategories
+  pub codes : WorkedCodes
   pub expansions : WorkedExpansions

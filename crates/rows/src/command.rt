@@ -6,13 +6,15 @@ use crate::stage::Complaint::{BadCharacterCode, InvalidCode};
 use crate::stage::Stage;
 use crate::stage::Stage::{
     AnyToken, ControlSequence, Equals, LetEquals, MacroText, NonblankToken, Number, NumberTo,
-    Prefixes, Space, Text,
+    NumberUpTo, Prefixes, Space, Text,
 };
 use Action::{
     Define, DefineGlobally, ErrorMessage, ExpandBehind, FutureLet, Let, MakeMeaning, MakeNumber,
-    MakeRoman, MakeString, Message, Nothing, Obey, PutMarked, SetCategory, Show,
+    MakeRoman, MakeString, Message, Nothing, Obey, PutMarked, SetCode, Show,
 };
 use Row::{Four, One, Three, Two};
+use equivalents::CodeKind;
+use equivalents::CodeKind::{Category, Delimiter, Lowercase, Math, SpaceFactor, Uppercase};
 use tex_defs::{Name, Seen};
 
 /// A prefix of an assignment.
@@ -70,7 +72,8 @@ pub enum Action {
     DefineGlobally,
     Let,
     FutureLet,
-    SetCategory,
+    /// A character gets a code of this kind.
+    SetCode(CodeKind),
     ExpandBehind,
     PutMarked,
     MakeNumber,
@@ -95,8 +98,8 @@ pub enum Effect {
     Let(Name, Seen),
     /// Both tokens are put back, and the name means what the second one means.
     FutureLet(Name, Seen, Seen),
-    /// The character of this code has this category.
-    SetCategory(i32, i32),
+    /// The character, the first number, gets the second as its code of this kind.
+    SetCode(CodeKind, i32, i32),
     /// The second token is expanded or put back, while the first waits behind it.
     ExpandBehind(Seen, Seen),
     /// The token is put back.
@@ -131,6 +134,9 @@ const CHARACTER_CODE: Stage = NumberTo(255, BadCharacterCode);
 /// A character's category.
 const CATEGORY: Stage = NumberTo(15, InvalidCode);
 
+/// A small or a capital letter of a character, or 0.
+const OTHER_CASE: Stage = NumberTo(255, InvalidCode);
+
 /// What the primitives read, by their numbers, and what they do then.
 pub const SYNTAX: &[(u16, Row, Action)] = &[
     (8, One(NonblankToken), Obey),
@@ -146,7 +152,36 @@ pub const SYNTAX: &[(u16, Row, Action)] = &[
     (29, Two(ControlSequence, MacroText(true)), DefineGlobally),
     (30, Four(ControlSequence, LetEquals, Space, AnyToken), Let),
     (31, Three(ControlSequence, AnyToken, AnyToken), FutureLet),
-    (35, Three(CHARACTER_CODE, Equals, CATEGORY), SetCategory),
+    (
+        35,
+        Three(CHARACTER_CODE, Equals, CATEGORY),
+        SetCode(Category),
+    ),
+    (
+        36,
+        Three(CHARACTER_CODE, Equals, OTHER_CASE),
+        SetCode(Lowercase),
+    ),
+    (
+        37,
+        Three(CHARACTER_CODE, Equals, OTHER_CASE),
+        SetCode(Uppercase),
+    ),
+    (
+        38,
+        Three(CHARACTER_CODE, Equals, NumberTo(32767, InvalidCode)),
+        SetCode(SpaceFactor),
+    ),
+    (
+        39,
+        Three(CHARACTER_CODE, Equals, NumberTo(32768, InvalidCode)),
+        SetCode(Math),
+    ),
+    (
+        40,
+        Three(CHARACTER_CODE, Equals, NumberUpTo(16777215)),
+        SetCode(Delimiter),
+    ),
     (54, Two(AnyToken, AnyToken), ExpandBehind),
     (55, One(AnyToken), PutMarked),
     (57, One(Number), MakeNumber),

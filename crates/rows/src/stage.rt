@@ -18,6 +18,8 @@ pub enum Stage {
     Number,
     /// A number from 0 to this one; another is reported so, and 0 taken.
     NumberTo(u32, Complaint),
+    /// A number that is at most this one; a greater one is reported, and 0 taken.
+    NumberUpTo(u32),
     /// An optional `=`.
     Equals,
     /// The name that is assigned.

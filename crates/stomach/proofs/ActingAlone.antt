@@ -1,28 +1,40 @@
 -- What a command does where no token is obeyed and none expanded.
-use Rattle.std.proofs.Common.{◌≡◌, ℕ, ℤ, w32, to_z, of_z, FitsSigned, ◌≤◌, List, [], ◌∷◌, length, None, refl, sym, ap, subst}
-use Rattle.std.specs.Prelude.{Bool, slice_set}
+use Rattle.std.proofs.Common.{◌≡◌, ℕ, ℤ, w32, to_z, of_z, FitsSigned, List, [], ◌∷◌, length, Bool, true, false, Some, None, refl, sym, ap, subst, ⊎_elim}
 use Rattle.std.proofs.lemmas.Int.{to_z-of_z}
-use Rattle.std.proofs.lemmas.List.{set_past}
 use Rattle.tex_defs.specs.Places.{World}
+use Rattle.tex_defs.specs.declared.Full.{Full}
 use Rattle.tex_defs.specs.declared.Name.{Name}
 use Rattle.tex_defs.specs.declared.Seen.{Seen}
 use Rattle.tex_defs.specs.declared.Sizes.{Sizes}
+use Rattle.plain_tokens.specs.Meanings.{is_listed}
+use Rattle.plain_tokens.specs.Tables.{refused}
+use Rattle.equivalents.specs.declared.values.CodeKind.{CodeKind}
+use Rattle.equivalents.specs.declared.values.CodeKind.TheVariants as code
+use Rattle.equivalents.specs.declared.values.Loc.TheVariants as loc
+use Rattle.equivalents.specs.declared.values.Val.TheVariants as val
+use Rattle.equivalents.specs.Groups.{Groups, set, set_demands}
+use Rattle.equivalents.specs.Holding.{lists_held}
+use Rattle.equivalents.specs.Tables.{Tables, put}
+use Rattle.rows.specs.declared.command.Call.{Call}
 use Rattle.rows.specs.declared.command.Effect.{Effect}
 use Rattle.rows.specs.declared.command.Effect.TheVariants as effect
-use Rattle.plain_machine.specs.States.{State, Move, SetCategoryOf}
-use Rattle.plain_machine.specs.Plan.{Page, natural}
+use Rattle.plain_machine.specs.States.{State, Move, Set}
+use Rattle.plain_machine.specs.Plan.{Page}
 use Rattle.plain_machine.specs.Does.{Did}
-use Rattle.plain_machine.proofs.Doing.{did_silent}
+use Rattle.plain_machine.proofs.GroupNumbers.{set_of, set_demands_of}
+use Rattle.plain_machine.proofs.Holders.{set_cases}
 use Rattle.world_io.specs.Told.{FilesTold, SinkTold, world}
+use Rattle.input_state.specs.Stored.{Stored, KeepsMacros}
 use Rattle.engine_state.specs.declared.broken.Broken.{Broken}
+use Rattle.engine_state.specs.declared.broken.Broken.TheVariants as broken
 use Rattle.engine_state.specs.declared.engine.Engine.{Engine}
 use Rattle.engine_state.specs.Book.{Book}
 use Rattle.engine_state.specs.Making.{IsInFront}
 use Rattle.engine_state.specs.Rules.{world_of, Cuts}
 use Rattle.engine_state.specs.Stands.{Stands, state_of}
 use Rattle.gullet.proofs.JobName.{name_stands}
-use Rattle.engine_state.proofs.Joining.{quiet_here}
 use Rattle.stomach.specs.Effects.{put_by, done_alone}
+use Rattle.stomach.proofs.Regrouped.{asks_same, regrouped_did, regrouped_stands, unchanged_cuts}
 
 -- THE COLUMN STAYS
 
@@ -32,29 +44,48 @@ did_still sizes s s' e e' f t ms column h = subst (λ (b : Bool). Did sizes s s'
 pub cuts_still : (sizes : Sizes) (s : State) (e e' : Engine) (book : Book) (f : FilesTold) (t : SinkTold) (ms : List Move) (b : Broken) → e'.in_line ≡ e.in_line → Cuts sizes s e' book (world_of f t e) (world_of f t e) ms b → Cuts sizes s e' book (world_of f t e) (world_of f t e') ms b
 cuts_still sizes s e e' book f t ms b column h = subst (λ (c : Bool). Cuts sizes s e' book (world_of f t e) (world f t c) ms b) (sym column) h
 
--- A CATEGORY
+-- A CODE
 
-category_state : (e : Engine) (book : Book) (cells : List ℕ) → cells ≡ e.categories → record (state_of e book) { categories = cells } ≡ state_of e book
-category_state e book cells same = ap (λ (x : List ℕ). record (state_of e book) { categories = x }) same
+-- a number is no list
+code_held : (n : ℕ) (global : Bool) (g : Groups) (kind : CodeKind) (c : ℕ) (z : ℤ) → is_listed (lists_held (set global g (loc.Code kind c) (val.Number z))) n ≡ true → is_listed (lists_held g) n ≡ true
+code_held n global g kind c z held = ⊎_elim (λ none. cc) (λ was. was) (set_cases n global g (loc.Code kind c) (val.Number z) held)
 
-module _ (sizes : Sizes) (e : Engine) (w : World) (book : Book) (code category : ℕ) where
-  pub category_did : Did sizes (state_of e book) (state_of (record e { categories = slice_set e.categories code category }) book) w w (SetCategoryOf code category ∷ [])
-  category_did = did_silent sizes (SetCategoryOf code category) (state_of e book) (state_of (record e { categories = slice_set e.categories code category }) book) w refl refl (quiet_here (SetCategoryOf code category) w tt)
+put_length : (m : Tables) (kind : CodeKind) (c : ℕ) (z : ℤ) → length (put m (loc.Code kind c) (val.Number z)).meanings ≡ length m.meanings
+put_length m code.Category c z = refl
+put_length m code.Lowercase c z = refl
+put_length m code.Uppercase c z = refl
+put_length m code.SpaceFactor c z = refl
+put_length m code.Math c z = refl
+put_length m code.Delimiter c z = refl
 
-  -- of no character
-  pub no_character : length e.categories ≤ code → Did sizes (state_of e book) (state_of e book) w w (SetCategoryOf code category ∷ [])
-  no_character past =
-      did_silent sizes (SetCategoryOf code category) (state_of e book) (state_of e book) w refl
-      (category_state e book (slice_set e.categories code category) (set_past e.categories code category past)) (quiet_here (SetCategoryOf code category) w tt)
+code_length : (global : Bool) (g : Groups) (kind : CodeKind) (c : ℕ) (z : ℤ) → length (set global g (loc.Code kind c) (val.Number z)).now.meanings ≡ length g.now.meanings
+code_length true g kind c z = put_length g.now kind c z
+code_length false g kind c z = put_length g.now kind c z
 
--- by numbers as they are passed
-pub set_as : (sizes : Sizes) (s s' : State) (w : World) (code category : ℤ) → FitsSigned w32 code → FitsSigned w32 category → natural category ≤ 255 →
-    (natural (to_z w32 (of_z w32 category)) ≤ 255 → Did sizes s s' w w (SetCategoryOf (natural (to_z w32 (of_z w32 code))) (natural (to_z w32 (of_z w32 category))) ∷ [])) → Did sizes s s' w w (SetCategoryOf (natural code) (natural category) ∷ [])
-set_as sizes s s' w code category fits fits' small h =
-    let is : to_z w32 (of_z w32 code) ≡ code = to_z-of_z w32 code fits in
-    let is' : to_z w32 (of_z w32 category) ≡ category = to_z-of_z w32 category fits' in
-    subst (λ (x : ℤ). Did sizes s s' w w (SetCategoryOf (natural code) (natural x) ∷ [])) is'
-    (subst (λ (x : ℤ). Did sizes s s' w w (SetCategoryOf (natural x) (natural (to_z w32 (of_z w32 category))) ∷ [])) is (h (subst (λ (x : ℤ). natural x ≤ 255) (sym is') small)))
+module _ (e : Engine) (i : Stored) (global : Bool) (kind : CodeKind) (c : ℕ) (z : ℤ) (is : i ≡ record e.input { groups = set global e.input.groups (loc.Code kind c) (val.Number z); lists = i.lists }) where
+  abbrev given : Groups
+  given = set global e.input.groups (loc.Code kind c) (val.Number z)
+
+  pub code_did : (sizes : Sizes) (w : World) (book : Book) → Stands sizes e book → refused e.input.sizes (set_demands global e.input.groups (loc.Code kind c)) ≡ None →
+      Did sizes (state_of e book) (state_of (record e { input = i }) book) w w (Set global (loc.Code kind c) (val.Number z) ∷ [])
+  code_did sizes w book st fits =
+      regrouped_did e given i is sizes w book (Set global (loc.Code kind c) (val.Number z)) tt
+      (asks_same sizes e book None st _ _ (set_demands_of book.number global e.input.groups (loc.Code kind c)) fits)
+      (ap (λ (g : Groups). record (state_of e book) { groups = g }) (set_of book.number global e.input.groups (loc.Code kind c) (val.Number z)))
+
+  pub code_stands : KeepsMacros e.input i → (sizes : Sizes) (book : Book) → Stands sizes e book → Stands sizes (record e { input = i }) book
+  code_stands kept sizes book st =
+      regrouped_stands e given i is (code_length global e.input.groups kind c z) (λ n held. code_held n global e.input.groups kind c z held) kept sizes book st
+
+-- there is no room for the code that the character had
+pub code_cuts : (sizes : Sizes) (e : Engine) (i : Stored) (book : Book) (w : World) (global : Bool) (kind : CodeKind) (c : ℕ) (z : ℤ) (more : List Move) (full : Full) → i ≡ e.input → Stands sizes e book → refused e.input.sizes (set_demands global e.input.groups (loc.Code kind c)) ≡ Some full →
+    Cuts sizes (state_of e book) (record e { input = i }) book w w (Set global (loc.Code kind c) (val.Number z) ∷ more) (broken.Full full)
+code_cuts sizes e i book w global kind c z more full same st refuses =
+    unchanged_cuts sizes e i book w (Set global (loc.Code kind c) (val.Number z)) more full same (asks_same sizes e book (Some full) st _ _ (set_demands_of book.number global e.input.groups (loc.Code kind c)) refuses)
+
+-- numbers as they are passed
+pub as_passed : (P : ℤ → ℤ → Type 0) (a b : ℤ) → FitsSigned w32 a → FitsSigned w32 b → P (to_z w32 (of_z w32 a)) (to_z w32 (of_z w32 b)) → P a b
+as_passed P a b fits fits' h = subst (λ (x : ℤ). P a x) (to_z-of_z w32 b fits') (subst (λ (x : ℤ). P x (to_z w32 (of_z w32 b))) (to_z-of_z w32 a fits) h)
 
 -- WHAT IS PUT IN FRONT
 
@@ -62,10 +93,10 @@ pub front_stands : (sizes : Sizes) (e e' : Engine) (book : Book) → IsInFront e
 front_stands sizes e e' book front idle st = name_stands sizes e e' book front.frames front.others front.store idle st
 
 -- another effect is what is put in front
-pub put_alone : (page : Page) (x : Effect) → ((s : Seen) → x ≡ effect.Show s → ⊥) → ((n : Name) (s : Seen) → x ≡ effect.Let n s → ⊥) → ((n : Name) (s t : Seen) → x ≡ effect.FutureLet n s t → ⊥) →
-    ((code category : ℤ) → x ≡ effect.SetCategory code category → ⊥) → done_alone page x ≡ put_by page x
-put_alone page (effect.Show s) a b c d = absurd (a s refl)
-put_alone page (effect.Let n s) a b c d = absurd (b n s refl)
-put_alone page (effect.FutureLet n s t) a b c d = absurd (c n s t refl)
-put_alone page (effect.SetCategory code category) a b c d = absurd (d code category refl)
-put_alone page x a b c d = refl
+pub put_alone : (page : Page) (c : Call) (x : Effect) → ((s : Seen) → x ≡ effect.Show s → ⊥) → ((n : Name) (s : Seen) → x ≡ effect.Let n s → ⊥) → ((n : Name) (s t : Seen) → x ≡ effect.FutureLet n s t → ⊥) →
+    ((kind : CodeKind) (char value : ℤ) → x ≡ effect.SetCode kind char value → ⊥) → done_alone page c x ≡ put_by page x
+put_alone page c (effect.Show s) shows lets later sets = absurd (shows s refl)
+put_alone page c (effect.Let n s) shows lets later sets = absurd (lets n s refl)
+put_alone page c (effect.FutureLet n s t) shows lets later sets = absurd (later n s t refl)
+put_alone page c (effect.SetCode kind char value) shows lets later sets = absurd (sets kind char value refl)
+put_alone page c x shows lets later sets = refl

@@ -54,12 +54,12 @@ use Rattle.gullet.proofs.Stepping.{free_of}
 use Rattle.engine_state.proofs.Weighing.{acted_lighter}
 use Rattle.stomach.specs.Effects.{done_alone, IsAlone, IsSmall}
 use Rattle.stomach.specs.Halting.{DoesRuleIn}
-use Rattle.stomach.proofs.Categories.{SetsCategory, sets_category}
+use Rattle.stomach.proofs.Codes.{SetsCode, sets_code}
 
 -- WHAT IS DONE ALONE
 
 -- the moves of an effect that is done alone, behind which the reading ends
-pub alone_acts : (page : Page) (c : Call) (e : Effect) → IsAlone e → acts page c e ≡ done_alone page e ++ Closed ∷ []
+pub alone_acts : (page : Page) (c : Call) (e : Effect) → IsAlone e → acts page c e ≡ done_alone page c e ++ Closed ∷ []
 alone_acts page c (effect.Obey x) h = absurd h
 alone_acts page c (effect.ExpandBehind x y) h = absurd h
 alone_acts page c e h = refl
@@ -69,9 +69,9 @@ is_alone (effect.Obey x) obeys expands = obeys x refl
 is_alone (effect.ExpandBehind x y) obeys expands = expands x y refl
 is_alone e obeys expands = tt
 
--- a category that is set is a byte
-small_of : (c : Call) (e : Effect) → SetsCategory (Acts c e) → IsSmall e
-small_of c (effect.SetCategory code category) h = omega (arith, h)
+-- a code that is set is one of its kind, of a character
+small_of : (c : Call) (e : Effect) → SetsCode (Acts c e) → IsSmall e
+small_of c (effect.SetCode kind char z) h = h
 small_of c e h = tt
 
 asks_as : (fs : List Frame) (held : List (List Token)) (r : Reading) (rs : List Reading) (a : Ask) → frames.FramesStand fs held (r ∷ rs) → asks_in fs held ≡ Some a → ask r.kind r.fed ≡ a
@@ -82,7 +82,7 @@ asks_as (f ∷ fs) held r rs a st asks =
 
 pub small_effect : (sizes : Sizes) (e : Engine) (book : Book) (r : Reading) (rs : List Reading) (c : Call) (does : Effect) → Stands sizes e (with_work (r ∷ rs) book) → asked e ≡ Some (Acts c does) → IsSmall does
 small_effect sizes e book r rs c does st asks =
-    small_of c does (subst SetsCategory (asks_as e.readings.frames e.input.builds r rs (Acts c does) st.readings.frames asks) (sets_category r.kind r.fed))
+    small_of c does (subst SetsCode (asks_as e.readings.frames e.input.builds r rs (Acts c does) st.readings.frames asks) (sets_code r.kind r.fed))
 
 -- THE OPEN READINGS
 
@@ -254,18 +254,18 @@ module _ (sizes : Sizes) (e e1 : Engine) (book : Book) (r : Reading) (rs : List 
 
 module _ (sizes : Sizes) (e e1 : Engine) (book : Book) (r : Reading) (rs : List Reading) (f : FilesTold) (s s' : SinkTold) (c : Call) (does : Effect) where
   pub alone_cut : (b : Broken) → IsAlone does → SameFrames e e1 → Stands sizes e (with_work (r ∷ rs) book) →
-      Cuts sizes (state_of e (with_work (r ∷ rs) book)) e1 (with_work (r ∷ rs) book) (world_of f s e) (world_of f s' e1) (done_alone (page_of e (with_work (r ∷ rs) book)) does ++ Closed ∷ []) b → CutsIn sizes (state_of e (with_work (r ∷ rs) book)) e1 (world_of f s e) (world_of f s' e1) (acts (page_of e book) c does) b
+      Cuts sizes (state_of e (with_work (r ∷ rs) book)) e1 (with_work (r ∷ rs) book) (world_of f s e) (world_of f s' e1) (done_alone (page_of e (with_work (r ∷ rs) book)) c does ++ Closed ∷ []) b → CutsIn sizes (state_of e (with_work (r ∷ rs) book)) e1 (world_of f s e) (world_of f s' e1) (acts (page_of e book) c does) b
   alone_cut b alone same st cuts =
-      in_by sizes (state_of e (with_work (r ∷ rs) book)) e1 (world_of f s e) (world_of f s' e1) (done_alone (page_of e (with_work (r ∷ rs) book)) does ++ Closed ∷ []) (acts (page_of e book) c does) b (alone_acts (page_of e book) c does alone)
-      (stands_in sizes e e1 (with_work (r ∷ rs) book) (world_of f s e) (world_of f s' e1) (done_alone (page_of e (with_work (r ∷ rs) book)) does ++ Closed ∷ []) b cuts same st)
+      in_by sizes (state_of e (with_work (r ∷ rs) book)) e1 (world_of f s e) (world_of f s' e1) (done_alone (page_of e (with_work (r ∷ rs) book)) c does ++ Closed ∷ []) (acts (page_of e book) c does) b (alone_acts (page_of e book) c does alone)
+      (stands_in sizes e e1 (with_work (r ∷ rs) book) (world_of f s e) (world_of f s' e1) (done_alone (page_of e (with_work (r ∷ rs) book)) c does ++ Closed ∷ []) b cuts same st)
 
-  pub alone_rule : (e2 : Engine) → IsAlone does → Did sizes (state_of e (with_work (r ∷ rs) book)) (state_of e1 (with_work (r ∷ rs) book)) (world_of f s e) (world_of f s' e1) (done_alone (page_of e (with_work (r ∷ rs) book)) does) →
+  pub alone_rule : (e2 : Engine) → IsAlone does → Did sizes (state_of e (with_work (r ∷ rs) book)) (state_of e1 (with_work (r ∷ rs) book)) (world_of f s e) (world_of f s' e1) (done_alone (page_of e (with_work (r ∷ rs) book)) c does) →
       made Closed (state_of e1 (with_work (r ∷ rs) book)) ≡ state_of e2 (with_work rs book) → e2.in_line ≡ e1.in_line → Stands sizes e2 (with_work rs book) → Went sizes (state_of e (with_work (r ∷ rs) book)) e2 (world_of f s e) (world_of f s' e2) (acts (page_of e book) c does) 0
   alone_rule e2 alone did is column st = record {
     book' = with_work rs book;
     stands = all_of sizes e2 (with_work rs book) st;
     did = subst (Did sizes (state_of e (with_work (r ∷ rs) book)) (state_of e2 (with_work rs book)) (world_of f s e) (world_of f s' e2)) (sym (alone_acts (page_of e book) c does alone))
-        (did_join sizes (state_of e (with_work (r ∷ rs) book)) (state_of e1 (with_work (r ∷ rs) book)) (state_of e2 (with_work rs book)) (world_of f s e) (world_of f s' e1) (world_of f s' e2) (done_alone (page_of e (with_work (r ∷ rs) book)) does) (Closed ∷ []) did (closed_did sizes e1 e2 book r rs f s' is column));
+        (did_join sizes (state_of e (with_work (r ∷ rs) book)) (state_of e1 (with_work (r ∷ rs) book)) (state_of e2 (with_work rs book)) (world_of f s e) (world_of f s' e1) (world_of f s' e2) (done_alone (page_of e (with_work (r ∷ rs) book)) c does) (Closed ∷ []) did (closed_did sizes e1 e2 book r rs f s' is column));
     count = free_of (acts (page_of e book) c does) (acts_none (page_of e book) c does);
   }
 

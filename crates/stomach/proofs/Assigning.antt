@@ -1,103 +1,133 @@
--- A name means what a token means.
-use Rattle.std.proofs.Common.{◌≡◌, ℕ, List, [], ◌∷◌, ◌++◌, length, Option, Some, None, refl, sym, ap, ◌∙◌, subst}
-use Rattle.std.proofs.lemmas.List.{length-set}
+-- A name means something else.
+use Rattle.std.proofs.Common.{◌≡◌, ℕ, List, [], ◌∷◌, ◌++◌, length, Bool, true, false, Option, Some, None, inl, inr, refl, ap, ◌∙◌, subst, ⊎_elim, arith}
+use Rattle.std.specs.Prelude.{nat_lt, if◌then◌else◌}
+use Rattle.std.proofs.lemmas.Bool.{cases_lt}
+use Rattle.std.proofs.lemmas.Bool.Decides.{nat_tests}
+use Rattle.std.proofs.lemmas.List.{length-map, length-set}
 use Rattle.tex_defs.specs.Places.{World}
+use Rattle.tex_defs.specs.declared.Full.{Full}
 use Rattle.tex_defs.specs.declared.Meaning.{Meaning}
 use Rattle.tex_defs.specs.declared.Name.{Name}
 use Rattle.tex_defs.specs.declared.Seen.{Seen}
 use Rattle.tex_defs.specs.declared.Sizes.{Sizes}
-use Rattle.tex_defs.specs.declared.Token.{Token}
-use Rattle.plain_tokens.specs.Meanings.{location, set_at, assigned, meaning_to_let}
+use Rattle.plain_tokens.specs.Meanings.{is_listed, location, meaning_to_let}
+use Rattle.plain_tokens.specs.Tables.{refused}
+use Rattle.equivalents.specs.Groups.{Groups, placed, placed_demands, place_of, set_placed, set_name, name_demands}
+use Rattle.equivalents.specs.Holding.{lists_held}
+use Rattle.meanings.specs.Kept.{IsPlaced}
 use Rattle.plain_machine.specs.States.{Move, Assigned}
 use Rattle.plain_machine.specs.Plan.{Page, put_one}
-use Rattle.plain_machine.specs.Numbers.{meanings_of}
+use Rattle.plain_machine.specs.Numbers.{groups_of, meaning_of, meanings_of}
 use Rattle.plain_machine.specs.Does.{Did}
-use Rattle.plain_machine.proofs.Doing.{did_join, did_silent}
-use Rattle.plain_machine.proofs.Ties.{meanings_let, tied_let, tied_stayed}
+use Rattle.plain_machine.proofs.Doing.{did_join}
+use Rattle.plain_machine.proofs.GroupNumbers.{set_name_of, name_demands_of}
+use Rattle.plain_machine.proofs.Renumbering.{meaning_to_let_of}
+use Rattle.plain_machine.proofs.Holders.{name_cases}
+use Rattle.plain_machine.proofs.Ties.{given_meant, name_held}
 use Rattle.input_state.specs.Stored.{Stored, KeepsMacros}
 use Rattle.engine_state.specs.declared.broken.Broken.{Broken}
+use Rattle.engine_state.specs.declared.broken.Broken.TheVariants as broken
 use Rattle.engine_state.specs.declared.engine.Engine.{Engine}
 use Rattle.engine_state.specs.Book.{Book}
 use Rattle.engine_state.specs.Rules.{Cuts}
-use Rattle.engine_state.specs.Stands.{IsSound, Stands, SameFrames, state_of, page_of}
+use Rattle.engine_state.specs.Stands.{Stands, state_of, page_of}
 use Rattle.engine_state.proofs.Cutting.{later_cuts}
-use Rattle.engine_state.proofs.Joining.{quiet_here}
-use Rattle.engine_state.proofs.Reporting.{stands_still}
-use Rattle.engine_state.proofs.Storing.{body_at}
+use Rattle.stomach.proofs.Regrouped.{asks_same, regrouped_did, regrouped_stands, unchanged_cuts}
 
 abbrev Cell : Type 0
 Cell = Meaning (Option ℕ)
 
-set_length : (cells : List Cell) (o : Option ℕ) (m : Cell) → length (set_at cells o m) ≡ length cells
-set_length cells None m = refl
-set_length cells (Some k) m = length-set cells k m
+-- HOW MANY MEANINGS THERE ARE stays
 
-module _ (e : Engine) (i : Stored) (name : Name) (x : Seen) (is : i ≡ record e.input { meanings = assigned e.input.meanings name (meaning_to_let e.input.meanings x); lists = i.lists }) where
-  abbrev with_input : Stored → Engine
-  with_input j = record e { input = j }
+placed_length : (global : Bool) (g : Groups) (o : Option ℕ) (m : Cell) → length (set_placed global g o m).now.meanings ≡ length g.now.meanings
+placed_length global g None m = refl
+placed_length true g (Some k) m = length-set g.now.meanings k m
+placed_length false g (Some k) m = length-set g.now.meanings k m
 
-  abbrev given : List Cell
-  given = assigned e.input.meanings name (meaning_to_let e.input.meanings x)
+pub named_length : (global : Bool) (g : Groups) (name : Name) (m : Cell) → length (set_name global g name m).now.meanings ≡ length g.now.meanings
+named_length global g name m = placed_length global g (place_of g name) m
 
-  abbrev after : Stored
-  after = record e.input { meanings = given; lists = i.lists }
+-- A NAME WITHOUT A LOCATION means what it meant
 
-  pub assigned_frames : SameFrames e (with_input i)
-  assigned_frames = record {
-    readings = refl;
-    lists = ap (λ (j : Stored). j.builds) is;
-    call = refl;
-    calling = ap (λ (j : Stored). j.call) is;
-  }
+placed_none : (count : ℕ) (o : Option ℕ) → (IsPlaced o count → ⊥) → placed count o ≡ None
+placed_none count None h = refl
+placed_none count (Some k) h = elim (cases_lt k count) [
+  | inl below ↦ absurd (h below)
+  | inr past ↦ (let no : nat_lt k count ≡ false = grind (arith, nat_tests, past) in ap (λ (b : Bool). if b then Some k else None) no)
+]
 
-  pub assigned_did : (sizes : Sizes) (w : World) (book : Book) → Did sizes (state_of e book) (state_of (with_input i) book) w w (Assigned name (meaning_to_let (page_of e book).meanings x) ∷ [])
-  assigned_did sizes w book =
-      let m = meaning_to_let (meanings_of book.number e.input.meanings) x in
-      did_silent sizes (Assigned name m) (state_of e book) (state_of (with_input i) book) w refl
-      (ap (λ (cells : List Cell). record (state_of e book) { meanings = cells }) (sym (meanings_let book.number e.input.meanings name x)) ∙ ap (λ (j : Stored). state_of (with_input j) book) (sym is))
-      (quiet_here (Assigned name m) w tt)
+module _ (number : ℕ → ℕ) (g : Groups) (name : Name) (lost : IsPlaced (location name) (length g.now.meanings) → ⊥) where
+  lost_place : place_of (groups_of number g) name ≡ None
+  lost_place = placed_none (length (meanings_of number g.now.meanings)) (location name) (λ there. lost (subst (IsPlaced (location name)) (length-map g.now.meanings (meaning_of number)) there))
 
-  module _ (kept : KeepsMacros e.input i) where
-    kept_after : KeepsMacros e.input after
-    kept_after = subst (KeepsMacros e.input) is kept
+  pub lost_name : (global : Bool) (m : Cell) → set_name global (groups_of number g) name m ≡ groups_of number g
+  lost_name global m = ap (λ (o : Option ℕ). set_placed global (groups_of number g) o m) lost_place
 
-    -- a macro's list is shared: each macro that is held then was held
-    sound_after : (sizes : Sizes) (number : ℕ → ℕ) (macros : List (List Token)) → IsSound sizes e number macros → IsSound sizes (with_input after) number macros
-    sound_after sizes number macros h = record {
-      sized = record {
-        few_reports = h.sized.few_reports;
-        small = h.sized.small;
-        own = h.sized.own;
-        readings = h.sized.readings;
-        input = h.sized.input;
-        names = h.sized.names;
-        hash = h.sized.hash;
-        located = set_length e.input.meanings (location name) (meaning_to_let e.input.meanings x) ∙ h.sized.located;
-      };
-      tied = tied_stayed number macros given e.input.pending.puts e.input.lists (tied_let number macros e.input.meanings e.input.pending.puts e.input.lists h.tied name x) i.lists
-          (λ k below none. body_at macros k h.bodies below none) kept_after.tokens;
-      bodies = h.bodies;
-    }
+  -- nothing is asked for
+  pub lost_refused : (sizes : Sizes) (global : Bool) → refused sizes (name_demands global (groups_of number g) name) ≡ None
+  lost_refused sizes global = ap (λ (o : Option ℕ). refused sizes (placed_demands global (groups_of number g) o)) lost_place
 
-    pub assigned_stands : (sizes : Sizes) (book : Book) → Stands sizes e book → Stands sizes (with_input i) book
-    assigned_stands sizes book st =
-        stands_still sizes e (with_input i) book assigned_frames
-        (subst (λ (j : Stored). IsSound sizes (with_input j) book.number book.macros) (sym is) (sound_after sizes book.number book.macros st.sound))
-        (ap (λ (j : Stored). j.making) is ∙ st.idle) st
+-- THE NAME MEANS IT
+
+-- of a meaning with the engine's numbers and with the machine's
+module _ (e : Engine) (i : Stored) (global : Bool) (name : Name) (m : Cell) (is : i ≡ record e.input { groups = set_name global e.input.groups name m; lists = i.lists }) where
+  abbrev given : Groups
+  given = set_name global e.input.groups name m
+
+  module _ (sizes : Sizes) (book : Book) (w : World) (own : Cell) (same : own ≡ meaning_of book.number m) (st : Stands sizes e book) where
+    pub named_did : refused e.input.sizes (name_demands global e.input.groups name) ≡ None → Did sizes (state_of e book) (state_of (record e { input = i }) book) w w (Assigned global name own ∷ [])
+    named_did fits =
+        regrouped_did e given i is sizes w book (Assigned global name own) tt
+        (asks_same sizes e book None st _ _ (name_demands_of book.number global e.input.groups name) fits)
+        (ap (λ (g : Groups). record (state_of e book) { groups = g }) (ap (set_name global (groups_of book.number e.input.groups) name) same ∙ set_name_of book.number global e.input.groups name m))
+
+  pub named_stands : ((n : ℕ) → is_listed (lists_held given) n ≡ true → is_listed (lists_held e.input.groups) n ≡ true) → KeepsMacros e.input i → (sizes : Sizes) (book : Book) → Stands sizes e book → Stands sizes (record e { input = i }) book
+  named_stands fewer kept sizes book st = regrouped_stands e given i is (named_length global e.input.groups name m) fewer kept sizes book st
+
+-- there is no room for what it meant
+pub named_cuts : (sizes : Sizes) (e : Engine) (i : Stored) (book : Book) (w : World) (global : Bool) (name : Name) (m : Cell) (more : List Move) (full : Full) → i ≡ e.input → Stands sizes e book → refused e.input.sizes (name_demands global e.input.groups name) ≡ Some full →
+    Cuts sizes (state_of e book) (record e { input = i }) book w w (Assigned global name m ∷ more) (broken.Full full)
+named_cuts sizes e i book w global name m more full same st refuses =
+    unchanged_cuts sizes e i book w (Assigned global name m) more full same (asks_same sizes e book (Some full) st _ _ (name_demands_of book.number global e.input.groups name) refuses)
+
+-- WHAT A TOKEN MEANS
+
+module _ (e : Engine) (i : Stored) (global : Bool) (name : Name) (x : Seen) (is : i ≡ record e.input { groups = set_name global e.input.groups name (meaning_to_let e.input.groups.now.meanings x); lists = i.lists }) where
+  abbrev meant : Cell
+  meant = meaning_to_let e.input.groups.now.meanings x
+
+  pub assigned_did : (sizes : Sizes) (w : World) (book : Book) → Stands sizes e book → refused e.input.sizes (name_demands global e.input.groups name) ≡ None →
+      Did sizes (state_of e book) (state_of (record e { input = i }) book) w w (Assigned global name (meaning_to_let (page_of e book).now.meanings x) ∷ [])
+  assigned_did sizes w book st fits =
+      named_did e i global name meant is sizes book w (meaning_to_let (meanings_of book.number e.input.groups.now.meanings) x) (meaning_to_let_of book.number e.input.groups.now.meanings x) st fits
+
+  -- a macro's list is shared: each list that is held then was held
+  meant_held : (n : ℕ) → is_listed (lists_held (set_name global e.input.groups name meant)) n ≡ true → is_listed (lists_held e.input.groups) n ≡ true
+  meant_held n held = ⊎_elim (λ a. name_held n e.input.groups (given_meant n e.input.groups.now.meanings x a)) (λ was. was) (name_cases n global e.input.groups name meant held)
+
+  pub assigned_stands : KeepsMacros e.input i → (sizes : Sizes) (book : Book) → Stands sizes e book → Stands sizes (record e { input = i }) book
+  assigned_stands kept sizes book st = named_stands e i global name meant is meant_held kept sizes book st
 
 -- BEHIND TWO TOKENS THAT ARE PUT BACK
 
-module _ (sizes : Sizes) (e e1 e2 : Engine) (book : Book) (w : World) (name : Name) (x y : Seen) (first : Did sizes (state_of e book) (state_of e1 book) w w (put_one y.token)) where
+module _ (sizes : Sizes) (e e1 e2 : Engine) (book : Book) (w : World) (global : Bool) (name : Name) (x y : Seen) (first : Did sizes (state_of e book) (state_of e1 book) w w (put_one y.token)) where
   abbrev lets : Engine → List Move
-  lets d = Assigned name (meaning_to_let (page_of d book).meanings y) ∷ []
+  lets d = Assigned global name (meaning_to_let (page_of d book).now.meanings y) ∷ []
 
   -- the second has no room
   pub behind_cuts : (b : Broken) (more : List Move) → Cuts sizes (state_of e1 book) e2 book w w (put_one x.token ++ (lets e ++ more)) b → Cuts sizes (state_of e book) e2 book w w ((put_one y.token ++ (put_one x.token ++ lets e)) ++ more) b
   behind_cuts b more h = later_cuts sizes (state_of e book) (state_of e1 book) e2 book w w w (put_one y.token) (put_one x.token ++ (lets e ++ more)) b first h
 
-  pub behind_did : (e3 : Engine) → page_of e2 book ≡ page_of e book → Did sizes (state_of e1 book) (state_of e2 book) w w (put_one x.token) → Did sizes (state_of e2 book) (state_of e3 book) w w (lets e2) →
-      Did sizes (state_of e book) (state_of e3 book) w w (put_one y.token ++ (put_one x.token ++ lets e))
-  behind_did e3 page second third =
-      did_join sizes (state_of e book) (state_of e1 book) (state_of e3 book) w w w (put_one y.token) (put_one x.token ++ lets e) first
-      (did_join sizes (state_of e1 book) (state_of e2 book) (state_of e3 book) w w w (put_one x.token) (lets e) second
-      (subst (λ (p : Page). Did sizes (state_of e2 book) (state_of e3 book) w w (Assigned name (meaning_to_let p.meanings y) ∷ [])) page third))
+  module _ (e3 : Engine) (page : page_of e2 book ≡ page_of e book) (second : Did sizes (state_of e1 book) (state_of e2 book) w w (put_one x.token)) where
+    -- what the name meant has none
+    pub unset_cuts : (b : Broken) (more : List Move) → Cuts sizes (state_of e2 book) e3 book w w (lets e2 ++ more) b → Cuts sizes (state_of e book) e3 book w w ((put_one y.token ++ (put_one x.token ++ lets e)) ++ more) b
+    unset_cuts b more h =
+        later_cuts sizes (state_of e book) (state_of e1 book) e3 book w w w (put_one y.token) (put_one x.token ++ (lets e ++ more)) b first
+        (later_cuts sizes (state_of e1 book) (state_of e2 book) e3 book w w w (put_one x.token) (lets e ++ more) b second
+        (subst (λ (p : Page). Cuts sizes (state_of e2 book) e3 book w w (Assigned global name (meaning_to_let p.now.meanings y) ∷ more) b) page h))
+
+    pub behind_did : Did sizes (state_of e2 book) (state_of e3 book) w w (lets e2) → Did sizes (state_of e book) (state_of e3 book) w w (put_one y.token ++ (put_one x.token ++ lets e))
+    behind_did third =
+        did_join sizes (state_of e book) (state_of e1 book) (state_of e3 book) w w w (put_one y.token) (put_one x.token ++ lets e) first
+        (did_join sizes (state_of e1 book) (state_of e2 book) (state_of e3 book) w w w (put_one x.token) (lets e) second
+        (subst (λ (p : Page). Did sizes (state_of e2 book) (state_of e3 book) w w (Assigned global name (meaning_to_let p.now.meanings y) ∷ [])) page third))

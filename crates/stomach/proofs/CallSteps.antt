@@ -27,14 +27,14 @@ use Rattle.stomach.proofs.Unread.{call_none}
 
 -- A RULE'S STEPS
 
-call_steps : (e : Engine) (book : Book) (work : List Reading) (r : Reading) (name : Name) (a : CallAsk) → steps (answered (state_of e book) work r (asks_by name a e.input.call)) ≡ one_if (call_asks_more a && gives_step (pulled e.categories e.input.pending))
+call_steps : (e : Engine) (book : Book) (work : List Reading) (r : Reading) (name : Name) (a : CallAsk) → steps (answered (state_of e book) work r (asks_by name a e.input.call)) ≡ one_if (call_asks_more a && gives_step (pulled e.input.groups.now.categories e.input.pending))
 call_steps e book work r name call.More =
     let page : Page = page_of (state_of e book) in
     handed_now e book page true (scanning work (gathered e.input)) (λ x. wanted page Raw (feeding r x) x) (λ x. wanted_none page Raw (feeding r x) x (kind_none r.kind r.fed x))
 call_steps e book work r name a =
     free_of (answered (state_of e book) work r (asks_by name a e.input.call)) (answered_none (state_of e book) work r (asks_by name a e.input.call) (call_none name a e.input.call refl))
 
-steps_at : (e : Engine) (c : Option Call) (book : Book) (work : List Reading) → ReadingsStand c e book.number work → steps (plan_of e (with_work work book)) ≡ one_if (all_want c (asked e) && gives_step (pulled e.categories e.input.pending))
+steps_at : (e : Engine) (c : Option Call) (book : Book) (work : List Reading) → ReadingsStand c e book.number work → steps (plan_of e (with_work work book)) ≡ one_if (all_want c (asked e) && gives_step (pulled e.input.groups.now.categories e.input.pending))
 steps_at e None book work h = frame_steps e (with_work work book) h.0
 steps_at e (Some c) book [] h = absurd h
 steps_at e (Some c) book (r ∷ rs) h = rw (← h.0.asked) (call_steps e (with_work (r ∷ rs) book) (r ∷ rs) r c.name c.ask)
@@ -53,13 +53,13 @@ plan_one sizes e g book h = plan_steps sizes e book h ∙ ap one_if g
 -- A STEP COMES
 
 call_needs : (sizes : Sizes) (e : Engine) (book : Book) (work : List Reading) (r : Reading) (name : Name) (a : CallAsk) → plan_of e book ≡ answered (state_of e book) work r (asks_by name a e.input.call) →
-    (call_asks_more a && gives_step (pulled e.categories e.input.pending)) ≡ true → StepComes sizes (state_of e book)
+    (call_asks_more a && gives_step (pulled e.input.groups.now.categories e.input.pending)) ≡ true → StepComes sizes (state_of e book)
 call_needs sizes e book work r name call.More h g =
     let page : Page = page_of (state_of e book) in
     pulled_needs sizes e book page true (scanning work (gathered e.input)) (λ x. wanted page Raw (feeding r x) x) h g
 call_needs sizes e book work r name a h g = no g
 
-needs_at : (sizes : Sizes) (e : Engine) (c : Option Call) (book : Book) (work : List Reading) → ReadingsStand c e book.number work → (all_want c (asked e) && gives_step (pulled e.categories e.input.pending)) ≡ true → StepComes sizes (state_of e (with_work work book))
+needs_at : (sizes : Sizes) (e : Engine) (c : Option Call) (book : Book) (work : List Reading) → ReadingsStand c e book.number work → (all_want c (asked e) && gives_step (pulled e.input.groups.now.categories e.input.pending)) ≡ true → StepComes sizes (state_of e (with_work work book))
 needs_at sizes e None book work h g = frame_needs sizes e (with_work work book) h.0 g
 needs_at sizes e (Some c) book [] h g = absurd h
 needs_at sizes e (Some c) book (r ∷ rs) h g =

@@ -1,17 +1,21 @@
 -- A macro is defined.
-use Rattle.std.proofs.Common.{◌≡◌, ℕ, zero, suc, ◌<◌, Bool, true, false, List, [], ◌∷◌, ◌++◌, length, drop, replicate, Option, Some, None, inl, inr, refl, sym, ap, ◌∙◌, subst, arith}
+use Rattle.std.proofs.Common.{◌≡◌, ℕ, zero, suc, ◌<◌, Bool, true, false, List, [], ◌∷◌, ◌++◌, length, drop, replicate, Option, Some, None, refl, sym, ap, ◌∙◌, subst, arith}
 use Rattle.std.specs.Prelude.{◌≢◌, slice_index_or}
-use Rattle.std.proofs.lemmas.Bool.{cases_lt, true≢false}
-use Rattle.std.proofs.lemmas.List.{length-append, length-set, set_past, get_or_append_left, length-map, length-replicate}
+use Rattle.std.proofs.lemmas.Bool.{or_parts, true≢false}
+use Rattle.std.proofs.lemmas.List.{length-append, get_or_append_left, length-replicate}
 use Rattle.tex_defs.specs.Places.{World}
+use Rattle.tex_defs.specs.declared.Full.{Full}
 use Rattle.tex_defs.specs.declared.Meaning.{Meaning}
 use Rattle.tex_defs.specs.declared.Meaning.TheVariants as means
 use Rattle.tex_defs.specs.declared.Name.{Name}
 use Rattle.tex_defs.specs.declared.Sizes.{Sizes}
 use Rattle.tex_defs.specs.declared.Token.{Token}
-use Rattle.plain_tokens.specs.Meanings.{location, set_at, assigned}
+use Rattle.plain_tokens.specs.Meanings.{is_listed, location}
 use Rattle.plain_tokens.specs.Pending.{with_puts}
 use Rattle.plain_tokens.specs.Puts.{Put}
+use Rattle.plain_tokens.specs.Tables.{is_put, refused}
+use Rattle.equivalents.specs.Groups.{Groups, set_name, name_demands}
+use Rattle.equivalents.specs.Holding.{lists_held}
 use Rattle.rows.specs.declared.command.Call.{Call}
 use Rattle.rows.specs.Readings.{Defines as DefinesAsk}
 use Rattle.plain_readings.specs.Readings.{Reading}
@@ -19,27 +23,34 @@ use Rattle.reading_frames.specs.Sees.{top_list, kept_list_of}
 use Rattle.reading_frames.specs.Stack.{Stack, innermost_count, lists_beneath}
 use Rattle.reading_frames.specs.Stands as frames
 use Rattle.reading_frames.specs.Stands.{AreShallow}
-use Rattle.plain_machine.specs.States.{State, Closed, Defined, made, beneath}
+use Rattle.plain_machine.specs.States.{State, Move, Closed, Defined, made, beneath}
 use Rattle.plain_machine.specs.Does.{Did}
-use Rattle.plain_machine.specs.Numbers.{IsHeld, Tied, renumbered, meaning_of, meanings_of, puts_of}
-use Rattle.plain_machine.specs.Plan.{macro_defined}
+use Rattle.plain_machine.specs.Numbers.{IsHeld, Tied, renumbered, groups_of, puts_of}
+use Rattle.plain_machine.specs.Plan.{Page, is_global, macro_defined}
 use Rattle.plain_machine.proofs.Doing.{did_one}
-use Rattle.plain_machine.proofs.Ties.{tied_defined, puts_defined, meanings_defined}
-use Rattle.meanings.specs.Map.{IsPlaced}
+use Rattle.plain_machine.proofs.GroupNumbers.{name_demands_of}
+use Rattle.plain_machine.proofs.Holders.{defined_free}
+use Rattle.plain_machine.proofs.Ties.{tied_defined, puts_defined}
+use Rattle.meanings.specs.Kept.{IsPlaced}
 use Rattle.input_state.specs.Calls.{Defines}
 use Rattle.input_state.specs.HeldLists as held
 use Rattle.input_state.specs.Stored.{Stored, KeepsMacros, gathered}
+use Rattle.engine_state.specs.declared.broken.Broken.TheVariants as broken
 use Rattle.engine_state.specs.declared.engine.Engine.{Engine}
 use Rattle.engine_state.specs.Book.{Book, AreBodies, with_work}
+use Rattle.engine_state.specs.CutReadings.{CutsIn}
 use Rattle.engine_state.specs.Rules.{Went}
-use Rattle.engine_state.specs.Stands.{Stands, state_of}
+use Rattle.engine_state.specs.Stands.{Stands, page_of, state_of}
 use Rattle.engine_state.specs.Steps.{asked}
 use Rattle.engine_state.proofs.Uncalled.{all_of}
 use Rattle.engine_state.proofs.FramesHeld.{gathered_is, held_beneath, stands_gathered}
+use Rattle.engine_state.proofs.CuttingReadings.{in_by, stands_in}
 use Rattle.engine_state.proofs.Joining.{quiet_here, went_by}
 use Rattle.engine_state.proofs.Storing.{inside_by, body_at}
 use Rattle.stomach.specs.Sets.{MayDefine, with_macro}
+use Rattle.stomach.proofs.Assigning.{lost_name, lost_refused, named_length}
 use Rattle.stomach.proofs.FrameAsks.{innermost_own}
+use Rattle.stomach.proofs.Regrouped.{asks_same, unchanged_cuts}
 
 abbrev Cell : Type 0
 Cell = Meaning (Option ℕ)
@@ -75,25 +86,12 @@ bodies_more : (macros : List (List Token)) (ts : List Token) → AreBodies macro
 bodies_more [] ts h some = (some, tt)
 bodies_more (us ∷ macros) ts h some = (h.0, bodies_more macros ts h.1 some)
 
--- A NAME THAT HAS NO LOCATION means what it meant
-
-lost_at : (cells : List Cell) (o : Option ℕ) (m : Cell) → (IsPlaced o (length cells) → ⊥) → set_at cells o m ≡ cells
-lost_at cells None m h = refl
-lost_at cells (Some k) m h = elim (cases_lt k (length cells)) [
-  | inl below ↦ absurd (h below)
-  | inr past ↦ set_past cells k m past
-]
-
-set_length : (cells : List Cell) (o : Option ℕ) (m : Cell) → length (set_at cells o m) ≡ length cells
-set_length cells None m = refl
-set_length cells (Some k) m = length-set cells k m
-
 -- THE MACROS
 
 module _ (number : ℕ → ℕ) (macros : List (List Token)) (ts : List Token) where
   -- one that no name means
-  tied_more : (meanings : List Cell) (puts : List Put) (lists : List (List Token)) → Tied number macros meanings puts lists → Tied number (macros ++ ts ∷ []) meanings puts lists
-  tied_more meanings puts lists t = record {
+  tied_more : (holders : List ℕ) (puts : List Put) (lists : List (List Token)) → Tied number macros holders puts lists → Tied number (macros ++ ts ∷ []) holders puts lists
+  tied_more holders puts lists t = record {
     inside = t.inside;
     within = λ n h. omega (arith, t.within n h, length-append macros (ts ∷ []));
     tokens = λ n h. get_or_append_left macros (ts ∷ []) [] (number n) (t.within n h) ∙ t.tokens n h;
@@ -101,14 +99,14 @@ module _ (number : ℕ → ℕ) (macros : List (List Token)) (ts : List Token) w
   }
 
   -- lists of which only those without tokens are too few
-  tied_fewer : (meanings : List Cell) (puts : List Put) (lists : List (List Token)) (n : ℕ) → AreBodies macros → Tied number macros meanings puts (lists ++ replicate n []) → Tied number macros meanings puts lists
-  tied_fewer meanings puts lists n bodies t = record {
+  tied_fewer : (holders : List ℕ) (puts : List Put) (lists : List (List Token)) (n : ℕ) → AreBodies macros → Tied number macros holders puts (lists ++ replicate n []) → Tied number macros holders puts lists
+  tied_fewer holders puts lists n bodies t = record {
     inside = λ k h. inside_by lists k (λ none. body_at macros (number k) bodies (t.within k h) (tokens k h ∙ none));
     within = t.within;
     tokens = tokens;
     apart = t.apart;
   } where
-    tokens : (k : ℕ) → IsHeld k meanings puts → slice_index_or macros (number k) [] ≡ slice_index_or lists k []
+    tokens : (k : ℕ) → IsHeld k holders puts → slice_index_or macros (number k) [] ≡ slice_index_or lists k []
     tokens k h = t.tokens k h ∙ nothing_more lists n k
 
 -- THE READING ENDS, and its list goes
@@ -117,8 +115,12 @@ module _ (sizes : Sizes) (e e' : Engine) (book : Book) (w : World) (r : Reading)
   abbrev at : Book
   at = with_work (r ∷ rs) book
 
+  -- the moves that define it
+  abbrev defines : List Token → List Move
+  defines ts = macro_defined (page_of e book) c name ts
+
   -- without a token
-  none_went : Went sizes (state_of e at) e' w w (macro_defined c name []) 0
+  none_went : Went sizes (state_of e at) e' w w (defines []) 0
   none_went = record {
     book' = with_work rs book;
     stands = all_of sizes e' (with_work rs book) stands;
@@ -127,22 +129,24 @@ module _ (sizes : Sizes) (e e' : Engine) (book : Book) (w : World) (r : Reading)
   }
 
   -- and the list of a name without a location is that of a macro that no name means
-  module _ (t : Token) (ts : List Token) (lost : IsPlaced (location name) (length e.input.meanings) → ⊥) (same : e'.input.meanings ≡ e.input.meanings) where
+  module _ (t : Token) (ts : List Token) (lost : IsPlaced (location name) (length e.input.groups.now.meanings) → ⊥) (same : e'.input.groups ≡ e.input.groups) where
+    abbrev globally : Bool
+    globally = is_global (page_of e book) c
+
     abbrev more : Book
     more = with_macro book.number (t ∷ ts) at
 
     abbrev meant : Cell
     meant = means.Macro c.long c.outer (Some (length book.macros))
 
-    still : assigned (meanings_of book.number e'.input.meanings) name meant ≡ meanings_of book.number e'.input.meanings
-    still = lost_at (meanings_of book.number e'.input.meanings) (location name) meant
-        (λ placed. lost (subst (IsPlaced (location name)) (length-map e'.input.meanings (meaning_of book.number) ∙ ap (length {A = Cell}) same) placed))
+    lost_there : IsPlaced (location name) (length e'.input.groups.now.meanings) → ⊥
+    lost_there placed = lost (subst (λ (g : Groups). IsPlaced (location name) (length g.now.meanings)) same placed)
 
     lost_stands : Stands sizes e' more
     lost_stands = record {
       sound = record {
         sized = stands.sound.sized;
-        tied = tied_more book.number book.macros (t ∷ ts) e'.input.meanings e'.input.pending.puts e'.input.lists stands.sound.tied;
+        tied = tied_more book.number book.macros (t ∷ ts) (lists_held e'.input.groups) e'.input.pending.puts e'.input.lists stands.sound.tied;
         bodies = bodies_more book.macros (t ∷ ts) stands.sound.bodies (λ none. cc);
       };
       idle = stands.idle;
@@ -150,56 +154,66 @@ module _ (sizes : Sizes) (e e' : Engine) (book : Book) (w : World) (r : Reading)
       uncalled = stands.uncalled;
     }
 
-    lost_state : made (Defined name c.long c.outer (t ∷ ts)) (state_of e at) ≡ state_of e' more
+    lost_state : made (Defined globally name c.long c.outer (t ∷ ts)) (state_of e at) ≡ state_of e' more
     lost_state =
-        ap (λ (s : State). record s { meanings = assigned s.meanings name (means.Macro c.long c.outer (Some (length s.macros))); macros = s.macros ++ (t ∷ ts) ∷ [] }) state
-        ∙ ap (λ (cells : List Cell). record (state_of e' more) { meanings = cells }) still
+        ap (λ (s : State). record s { groups = set_name globally s.groups name (means.Macro c.long c.outer (Some (length s.macros))); macros = s.macros ++ (t ∷ ts) ∷ [] }) state
+        ∙ ap (λ (g : Groups). record (state_of e' more) { groups = g }) (lost_name book.number e'.input.groups name lost_there globally meant)
 
-    lost_went : Went sizes (state_of e at) e' w w (macro_defined c name (t ∷ ts)) 0
+    lost_went : Went sizes (state_of e at) e' w w (defines (t ∷ ts)) 0
     lost_went = record {
       book' = more;
       stands = all_of sizes e' more lost_stands;
-      did = did_one sizes (Defined name c.long c.outer (t ∷ ts)) (state_of e at) (state_of e' more) w w refl lost_state (quiet_here (Defined name c.long c.outer (t ∷ ts)) w tt);
+      did = did_one sizes (Defined globally name c.long c.outer (t ∷ ts)) (state_of e at) (state_of e' more) w w (lost_refused book.number e.input.groups name lost sizes globally) lost_state
+          (quiet_here (Defined globally name c.long c.outer (t ∷ ts)) w tt);
       count = refl;
     }
 
-  kept_went : (ts : List Token) → (ts ≢ [] → IsPlaced (location name) (length e.input.meanings) → ⊥) → e'.input.meanings ≡ e.input.meanings → Went sizes (state_of e at) e' w w (macro_defined c name ts) 0
+  kept_went : (ts : List Token) → (ts ≢ [] → IsPlaced (location name) (length e.input.groups.now.meanings) → ⊥) → e'.input.groups ≡ e.input.groups → Went sizes (state_of e at) e' w w (defines ts) 0
   kept_went [] lost same = none_went
   kept_went (t ∷ ts) lost same = lost_went t ts (lost (λ none. cc)) same
 
   -- a list that isn't listed
-  pub unlisted_went : (listed : Bool) → listed ≡ false → Went sizes (state_of e at) e' w w (macro_defined c name (kept_list_of listed e.input.builds)) 0
-  unlisted_went listed is = subst (λ (ts : List Token). Went sizes (state_of e at) e' w w (macro_defined c name ts) 0) (sym (kept_none listed e.input.builds is)) none_went
+  pub unlisted_went : (listed : Bool) → listed ≡ false → Went sizes (state_of e at) e' w w (macro_defined (page_of e book) c name (kept_list_of listed e.input.builds)) 0
+  unlisted_went listed is = subst (λ (ts : List Token). Went sizes (state_of e at) e' w w (defines ts) 0) (sym (kept_none listed e.input.builds is)) none_went
 
   -- or that can't become a macro's
-  pub refused_went : (listed : Bool) → (MayDefine e name → ⊥) → e'.input.meanings ≡ e.input.meanings → Went sizes (state_of e at) e' w w (macro_defined c name (kept_list_of listed e.input.builds)) 0
+  pub refused_went : (listed : Bool) → (MayDefine e name → ⊥) → e'.input.groups ≡ e.input.groups → Went sizes (state_of e at) e' w w (macro_defined (page_of e book) c name (kept_list_of listed e.input.builds)) 0
   refused_went listed never same = kept_went (kept_list_of listed e.input.builds)
       (λ some placed. let so = kept_some listed e.input.builds some in never (record { list = so.0; some = so.1; placed = placed })) same
 
 -- THE READING ENDS, and its list passes to the macro
 
-module _ (sizes : Sizes) (e : Engine) (book : Book) (w : World) (r : Reading) (rs : List Reading) (c : Call) (name : Name) (ts : List Token) (some : ts ≢ []) (top : top_list e.input.builds ≡ ts)
+-- a list with a token is a macro's
+moves_are : (page : Page) (c : Call) (name : Name) (global : Bool) (ts : List Token) → global ≡ is_global page c → ts ≢ [] → macro_defined page c name ts ≡ Defined global name c.long c.outer ts ∷ []
+moves_are page c name global [] is some = absurd (some refl)
+moves_are page c name global (t ∷ ts) is some = ap (λ (b : Bool). Defined b name c.long c.outer (t ∷ ts) ∷ []) (sym is)
+
+module _ (sizes : Sizes) (e : Engine) (book : Book) (w : World) (r : Reading) (rs : List Reading) (c : Call) (name : Name) (global : Bool) (is_so : global ≡ is_global (page_of e book) c) (ts : List Token) (some : ts ≢ []) (top : top_list e.input.builds ≡ ts)
     (stack : Stack) (size : stack.size ≡ e.readings.size) (own : innermost_count e.readings.frames ≡ 1)
     (stand : (lists : List (List Token)) (work : List Reading) → frames.FramesStand e.readings.frames lists work → frames.FramesStand stack.frames (lists_beneath e.readings.frames lists) (drop 1 work))
     (shallow : (lists : List (List Token)) → AreShallow e.readings.frames lists → AreShallow stack.frames (lists_beneath e.readings.frames lists)) (st : Stands sizes e (with_work (r ∷ rs) book)) where
   abbrev here : Book
   here = with_work (r ∷ rs) book
 
-  abbrev after : List Cell → List (List Token) → Engine
-  after meanings lists = record e { readings = stack; input = record e.input { builds = drop 1 e.input.builds; meanings = meanings; lists = lists } }
+  abbrev after : Groups → List (List Token) → Engine
+  after g lists = record e { readings = stack; input = record e.input { builds = drop 1 e.input.builds; groups = g; lists = lists } }
 
   own_beneath : lists_beneath e.readings.frames e.input.builds ≡ drop 1 e.input.builds
   own_beneath = ap (λ (n : ℕ). drop n e.input.builds) own
 
-  under : (meanings : List Cell) (lists : List (List Token)) → beneath (r ∷ rs) (gathered e.input) ≡ gathered (after meanings lists).input
-  under meanings lists =
+  under : (g : Groups) (lists : List (List Token)) → beneath (r ∷ rs) (gathered e.input) ≡ gathered (after g lists).input
+  under g lists =
       ap (λ (l : List (List Token)). beneath (r ∷ rs) l) (stands_gathered sizes e here st) ∙ (held_beneath e.readings.frames e.input.builds (r ∷ rs) st.readings.frames ∙ (own_beneath
-      ∙ sym (gathered_is (after meanings lists).input st.uncalled.input)))
+      ∙ sym (gathered_is (after g lists).input st.uncalled.input)))
 
-  module _ (number : ℕ → ℕ) (meanings : List Cell) (lists : List (List Token)) (same : length meanings ≡ length e.input.meanings) (tied : Tied number (book.macros ++ ts ∷ []) meanings e.input.pending.puts lists)
-      (puts : puts_of number e.input.pending.puts ≡ puts_of book.number e.input.pending.puts) (means_it : meanings_of number meanings ≡ assigned (meanings_of book.number e.input.meanings) name (means.Macro c.long c.outer (Some (length book.macros)))) where
+  -- its number for the machine
+  abbrev own_meaning : Cell
+  own_meaning = means.Macro c.long c.outer (Some (length book.macros))
+
+  module _ (number : ℕ → ℕ) (g : Groups) (lists : List (List Token)) (same : length g.now.meanings ≡ length e.input.groups.now.meanings) (tied : Tied number (book.macros ++ ts ∷ []) (lists_held g) e.input.pending.puts lists)
+      (puts : puts_of number e.input.pending.puts ≡ puts_of book.number e.input.pending.puts) (means_it : groups_of number g ≡ set_name global (groups_of book.number e.input.groups) name own_meaning) (fits : refused e.input.sizes (name_demands global e.input.groups name) ≡ None) where
     abbrev then : Engine
-    then = after meanings lists
+    then = after g lists
 
     abbrev next : Book
     next = with_macro number ts here
@@ -214,7 +228,6 @@ module _ (sizes : Sizes) (e : Engine) (book : Book) (w : World) (r : Reading) (r
           readings = size ∙ st.sound.sized.readings;
           input = st.sound.sized.input;
           names = st.sound.sized.names;
-          hash = st.sound.sized.hash;
           located = same ∙ st.sound.sized.located;
         };
         tied = tied;
@@ -228,67 +241,84 @@ module _ (sizes : Sizes) (e : Engine) (book : Book) (w : World) (r : Reading) (r
       uncalled = record { none = st.uncalled.none; input = st.uncalled.input };
     }
 
-    abbrev defined_state : List Put → List Cell → List (List Token) → State
-    defined_state ps cells l = record (made (Defined name c.long c.outer ts) (state_of e here)) { pending = with_puts ps e.input.pending; meanings = cells; gathered = l }
+    abbrev defined_state : List Put → Groups → List (List Token) → State
+    defined_state ps x l = record (made (Defined global name c.long c.outer ts) (state_of e here)) { pending = with_puts ps e.input.pending; groups = x; gathered = l }
 
-    macro_state : made (Defined name c.long c.outer ts) (state_of e here) ≡ state_of then next
+    macro_state : made (Defined global name c.long c.outer ts) (state_of e here) ≡ state_of then next
     macro_state =
-        ap (λ (l : List (List Token)). defined_state (puts_of book.number e.input.pending.puts) (assigned (meanings_of book.number e.input.meanings) name (means.Macro c.long c.outer (Some (length book.macros)))) l) (under meanings lists)
-        ∙ (ap (λ (cells : List Cell). defined_state (puts_of book.number e.input.pending.puts) cells (gathered then.input)) (sym means_it)
-        ∙ ap (λ (ps : List Put). defined_state ps (meanings_of number meanings) (gathered then.input)) (sym puts))
+        ap (λ (l : List (List Token)). defined_state (puts_of book.number e.input.pending.puts) (set_name global (groups_of book.number e.input.groups) name own_meaning) l) (under g lists)
+        ∙ (ap (λ (x : Groups). defined_state (puts_of book.number e.input.pending.puts) x (gathered then.input)) (sym means_it)
+        ∙ ap (λ (ps : List Put). defined_state ps (groups_of number g) (gathered then.input)) (sym puts))
 
-    macro_did : Did sizes (state_of e here) (state_of then next) w w (Defined name c.long c.outer ts ∷ [])
-    macro_did = did_one sizes (Defined name c.long c.outer ts) (state_of e here) (state_of then next) w w refl macro_state (quiet_here (Defined name c.long c.outer ts) w tt)
+    macro_did : Did sizes (state_of e here) (state_of then next) w w (Defined global name c.long c.outer ts ∷ [])
+    macro_did = did_one sizes (Defined global name c.long c.outer ts) (state_of e here) (state_of then next) w w
+        (asks_same sizes e here None st _ _ (name_demands_of book.number global e.input.groups name) fits) macro_state (quiet_here (Defined global name c.long c.outer ts) w tt)
 
-    moves_are : (us : List Token) → us ≢ [] → macro_defined c name us ≡ Defined name c.long c.outer us ∷ []
-    moves_are [] h = absurd (h refl)
-    moves_are (u ∷ us) h = refl
-
-    macro_went : Went sizes (state_of e here) then w w (macro_defined c name ts) 0
-    macro_went = went_by sizes (state_of e here) then w w (Defined name c.long c.outer ts ∷ []) (macro_defined c name ts) 0 (moves_are ts some)
+    macro_went : Went sizes (state_of e here) then w w (macro_defined (page_of e book) c name ts) 0
+    macro_went = went_by sizes (state_of e here) then w w (Defined global name c.long c.outer ts ∷ []) (macro_defined (page_of e book) c name ts) 0 (moves_are (page_of e book) c name global ts is_so some)
         (record { book' = next; stands = all_of sizes then next macro_stands; did = macro_did; count = refl })
 
   -- the name means it
-  placed_went : (meanings : List Cell) (lists : List (List Token)) → Defines e.input.meanings meanings e.input.pending.puts e.input.lists lists ts name c.long c.outer → KeepsMacros e.input (after meanings lists).input →
-      Went sizes (state_of e here) (after meanings lists) w w (macro_defined c name ts) 0
-  placed_went meanings lists d kept =
+  placed_went : (g : Groups) (lists : List (List Token)) → Defines global e.input.groups g e.input.pending.puts e.input.lists lists ts name c.long c.outer → KeepsMacros e.input (after g lists).input →
+      refused e.input.sizes (name_demands global e.input.groups name) ≡ None → Went sizes (state_of e here) (after g lists) w w (macro_defined (page_of e book) c name ts) 0
+  placed_went g lists d kept fits =
       let puts = e.input.pending.puts in
+      let old = e.input.groups in
       let id = d.id in
-      let fresh : IsHeld id e.input.meanings puts → ⊥ = λ i. true≢false (sym i ∙ d.free) in
+      let fresh : IsHeld id (lists_held old) puts → ⊥ = λ i. true≢false (sym i ∙ d.free) in
+      let free : is_listed (lists_held old) id ≡ false = (or_parts (is_listed (lists_held old) id) (is_put id puts) d.free).0 in
       let count = length e.input.lists in
       let more : List (List Token) = lists ++ replicate count [] in
       let number : ℕ → ℕ = renumbered book.number id (length book.macros) in
       let there : id < length lists = inside_by lists id (λ none. some (sym d.list ∙ none)) in
-      let defined : List Cell = assigned e.input.meanings name (means.Macro c.long c.outer (Some id)) in
-      let tied : Tied number (book.macros ++ ts ∷ []) defined puts more =
-      tied_defined book.number book.macros e.input.meanings puts e.input.lists more name c.long c.outer id ts st.sound.tied
+      let defined : Groups = set_name global old name (means.Macro c.long c.outer (Some id)) in
+      let tied : Tied number (book.macros ++ ts ∷ []) (lists_held defined) puts more =
+      tied_defined book.number book.macros global old puts e.input.lists more name c.long c.outer id ts st.sound.tied
       (omega (arith, there, length-append lists (replicate count [])))
       (omega (arith, length-append lists (replicate count []), length-replicate {A = List Token} count []))
       (nothing_more lists count id ∙ d.list)
-      (λ n other held. nothing_more lists count n ∙ kept.tokens n (subst (λ (x : List Cell). IsHeld n x puts) (sym d.means) held)) in
-      macro_went number meanings lists (ap (length {A = Cell}) d.means ∙ set_length e.input.meanings (location name) (means.Macro c.long c.outer (Some id)))
-      (subst (λ (x : List Cell). Tied number (book.macros ++ ts ∷ []) x puts lists) (sym d.means) (tied_fewer number (book.macros ++ ts ∷ []) ts defined puts lists count (bodies_more book.macros ts st.sound.bodies some) tied))
-      (puts_defined book.number id (length book.macros) e.input.meanings puts fresh)
-      (ap (meanings_of number) d.means ∙ meanings_defined book.number id (length book.macros) e.input.meanings puts fresh name c.long c.outer)
+      (λ n other held. nothing_more lists count n ∙ kept.tokens n (subst (λ (x : Groups). IsHeld n (lists_held x) puts) (sym d.means) held)) in
+      macro_went number g lists (ap (λ (x : Groups). length x.now.meanings) d.means ∙ named_length global old name (means.Macro c.long c.outer (Some id)))
+      (subst (λ (x : Groups). Tied number (book.macros ++ ts ∷ []) (lists_held x) puts lists) (sym d.means) (tied_fewer number (book.macros ++ ts ∷ []) ts (lists_held defined) puts lists count (bodies_more book.macros ts st.sound.bodies some) tied))
+      (puts_defined book.number id (length book.macros) (lists_held old) puts fresh)
+      (ap (groups_of number) d.means ∙ defined_free book.number id (length book.macros) global old free d.outside name c.long c.outer)
+      fits
 
   -- by what the input says
-  input_went : (i : Stored) → i ≡ record e.input { builds = drop 1 e.input.builds; meanings = i.meanings; lists = i.lists } →
-      Defines e.input.meanings i.meanings e.input.pending.puts e.input.lists i.lists (held.first_list e.input.builds) name c.long c.outer → KeepsMacros e.input i →
-      Went sizes (state_of e here) (record e { readings = stack; input = i }) w w (macro_defined c name ts) 0
-  input_went i is d kept =
-      let of_top : Defines e.input.meanings i.meanings e.input.pending.puts e.input.lists i.lists ts name c.long c.outer =
-      subst (λ (us : List Token). Defines e.input.meanings i.meanings e.input.pending.puts e.input.lists i.lists us name c.long c.outer) (first_is e.input.builds ∙ top) d in
-      subst (λ (x : Stored). Went sizes (state_of e here) (record e { readings = stack; input = x }) w w (macro_defined c name ts) 0) (sym is) (placed_went i.meanings i.lists of_top (subst (KeepsMacros e.input) is kept))
+  input_went : (i : Stored) → i ≡ record e.input { builds = drop 1 e.input.builds; groups = i.groups; lists = i.lists } →
+      Defines global e.input.groups i.groups e.input.pending.puts e.input.lists i.lists (held.first_list e.input.builds) name c.long c.outer → KeepsMacros e.input i →
+      refused e.input.sizes (name_demands global e.input.groups name) ≡ None → Went sizes (state_of e here) (record e { readings = stack; input = i }) w w (macro_defined (page_of e book) c name ts) 0
+  input_went i is d kept fits =
+      let of_top : Defines global e.input.groups i.groups e.input.pending.puts e.input.lists i.lists ts name c.long c.outer =
+      subst (λ (us : List Token). Defines global e.input.groups i.groups e.input.pending.puts e.input.lists i.lists us name c.long c.outer) (first_is e.input.builds ∙ top) d in
+      subst (λ (x : Stored). Went sizes (state_of e here) (record e { readings = stack; input = x }) w w (macro_defined (page_of e book) c name ts) 0) (sym is) (placed_went i.groups i.lists of_top (subst (KeepsMacros e.input) is kept) fits)
 
 -- the list that is listed is that of what asks
-pub listed_went : (sizes : Sizes) (e : Engine) (book : Book) (w : World) (r : Reading) (rs : List Reading) (c : Call) (name : Name) (listed : Bool) (stack : Stack) (i : Stored) → listed ≡ true → MayDefine e name → stack ≡ record { frames = drop 1 e.readings.frames; size = e.readings.size } →
+some_listed : (e : Engine) (name : Name) (listed : Bool) → listed ≡ true → MayDefine e name → kept_list_of listed e.input.builds ≢ []
+some_listed e name listed is may none = may.some (sym (kept_top listed e.input.builds is) ∙ none)
+
+pub listed_went : (sizes : Sizes) (e : Engine) (book : Book) (w : World) (r : Reading) (rs : List Reading) (c : Call) (name : Name) (global listed : Bool) (stack : Stack) (i : Stored) → global ≡ is_global (page_of e book) c → listed ≡ true → MayDefine e name →
+    stack ≡ record { frames = drop 1 e.readings.frames; size = e.readings.size } →
     ((lists : List (List Token)) (work : List Reading) → frames.FramesStand e.readings.frames lists work → frames.FramesStand stack.frames (lists_beneath e.readings.frames lists) (drop 1 work)) →
     ((lists : List (List Token)) → AreShallow e.readings.frames lists → AreShallow stack.frames (lists_beneath e.readings.frames lists)) →
-    i ≡ record e.input { builds = drop 1 e.input.builds; meanings = i.meanings; lists = i.lists } → Defines e.input.meanings i.meanings e.input.pending.puts e.input.lists i.lists (held.first_list e.input.builds) name c.long c.outer → KeepsMacros e.input i →
+    i ≡ record e.input { builds = drop 1 e.input.builds; groups = i.groups; lists = i.lists } → Defines global e.input.groups i.groups e.input.pending.puts e.input.lists i.lists (held.first_list e.input.builds) name c.long c.outer → KeepsMacros e.input i →
+    refused e.input.sizes (name_demands global e.input.groups name) ≡ None →
     Stands sizes e (with_work (r ∷ rs) book) → asked e ≡ Some (DefinesAsk c name (kept_list_of listed e.input.builds)) →
-    Went sizes (state_of e (with_work (r ∷ rs) book)) (record e { readings = stack; input = i }) w w (macro_defined c name (kept_list_of listed e.input.builds)) 0
-listed_went sizes e book w r rs c name listed stack i is may rest stand shallow after defines kept st asks =
+    Went sizes (state_of e (with_work (r ∷ rs) book)) (record e { readings = stack; input = i }) w w (macro_defined (page_of e book) c name (kept_list_of listed e.input.builds)) 0
+listed_went sizes e book w r rs c name global listed stack i is_so is may rest stand shallow after defines kept fits st asks =
     let ts = kept_list_of listed e.input.builds in
-    let top : ts ≡ top_list e.input.builds = kept_top listed e.input.builds is in
-    let some : ts ≢ [] = λ none. may.some (sym top ∙ none) in
-    input_went sizes e book w r rs c name ts some (sym top) stack (ap (λ (s : Stack). s.size) rest) (innermost_own e.readings.frames e.input.builds c name ts asks some) stand shallow st i after defines kept
+    let some : ts ≢ [] = some_listed e name listed is may in
+    input_went sizes e book w r rs c name global is_so ts some (sym (kept_top listed e.input.builds is)) stack (ap (λ (s : Stack). s.size) rest) (innermost_own e.readings.frames e.input.builds c name ts asks some) stand shallow st i after defines kept fits
+
+-- THE SAVE STACK IS FULL: nothing has changed
+pub defined_cut : (sizes : Sizes) (e : Engine) (book : Book) (w : World) (r : Reading) (rs : List Reading) (c : Call) (name : Name) (global listed : Bool) (i : Stored) (full : Full) → global ≡ is_global (page_of e book) c → listed ≡ true → MayDefine e name → i ≡ e.input →
+    refused e.input.sizes (name_demands global e.input.groups name) ≡ Some full → Stands sizes e (with_work (r ∷ rs) book) →
+    CutsIn sizes (state_of e (with_work (r ∷ rs) book)) (record e { input = i }) w w (macro_defined (page_of e book) c name (kept_list_of listed e.input.builds)) (broken.Full full)
+defined_cut sizes e book w r rs c name global listed i full is_so is may same refuses st =
+    let here = with_work (r ∷ rs) book in
+    let ts = kept_list_of listed e.input.builds in
+    let move : Move = Defined global name c.long c.outer ts in
+    in_by sizes (state_of e here) (record e { input = i }) w w (move ∷ []) (macro_defined (page_of e book) c name ts) (broken.Full full) (moves_are (page_of e book) c name global ts is_so (some_listed e name listed is may))
+    (stands_in sizes e (record e { input = i }) here w w (move ∷ []) (broken.Full full)
+    (unchanged_cuts sizes e i here w move [] full same (asks_same sizes e here (Some full) st _ _ (name_demands_of book.number global e.input.groups name) refuses))
+    (record { readings = refl; lists = ap (λ (x : Stored). x.builds) same; call = refl; calling = ap (λ (x : Stored). x.call) same }) st)

@@ -53,6 +53,7 @@ module _ (turn : Call → List Fed → Ask) (c : Call) (ds : List Datum) (onward
   started_modest : (s : Stage) → IsModest (behind turn c ds onward (started s c (start s c ds) []))
   started_modest stage.Number = tt
   started_modest (stage.NumberTo greatest complaint) = tt
+  started_modest (stage.NumberUpTo greatest) = tt
   started_modest stage.Equals = tt
   started_modest stage.ControlSequence = tt
   started_modest stage.LetEquals = tt

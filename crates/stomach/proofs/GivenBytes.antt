@@ -31,7 +31,7 @@ use Rattle.stomach.proofs.Unread.{plan_unread, work_wants}
 
 module _ (sizes : Sizes) (e : Engine) (bytes : List ℕ) where
   given_store : SameStore e.input (given bytes e).input
-  given_store = record { sizes = refl; hash = refl; meanings = refl; puts = λ n h. h; lists = record { tokens = λ n h. refl } }
+  given_store = record { sizes = refl; groups = refl; closing = refl; ending = refl; puts = λ n h. h; lists = record { tokens = λ n h. refl } }
 
   given_frames : SameFrames e (given bytes e)
   given_frames = record { readings = refl; lists = refl; call = refl; calling = refl }
@@ -94,10 +94,10 @@ takes_same number categories p = ap takes_file (pulled_same number categories p)
 -- what the engine knows is enough, with what may be left
 module _ (sizes : Sizes) (e : Engine) (left : List ℕ) (book : Book) (stands : AllStand sizes e book) where
   abbrev Ready : Type 0
-  Ready = IsReady sizes.buffer_size (state_of e book).categories (state_of e book).pending left
+  Ready = IsReady sizes.buffer_size (state_of e book).groups.now.categories (state_of e book).pending left
 
-  next_ready : KnowsNext e.input e.categories → Ready
-  next_ready (next.InFront h) = InFront (takes_same book.number e.categories e.input.pending ∙ h)
+  next_ready : KnowsNext e.input → Ready
+  next_ready (next.InFront h) = InFront (takes_same book.number e.input.groups.now.categories e.input.pending ∙ h)
   next_ready (next.NoFile h) = NoFile h
   next_ready (next.HasLine h) = HasLine h
   next_ready (next.TooLong h) = TooLong (subst (λ (x : Sizes). x.buffer_size < length e.input.pending.rest) stands.sound.sized.input h)
@@ -122,7 +122,7 @@ module _ (sizes : Sizes) (e : Engine) (r : OpenReader) (needs : Needs e r) (w : 
     within = omega arith;
     due = refl;
     needs = wanted_reads (whole_state left e book) book.work (work_wants sizes e needs.wanted book stands)
-        (extended_takes e.categories (pending_of book.number e.input.pending) left ∙ (takes_same book.number e.categories e.input.pending ∙ needs.needs.at_file)) needs.needs.not_closed;
+        (extended_takes e.input.groups.now.categories (pending_of book.number e.input.pending) left ∙ (takes_same book.number e.input.groups.now.categories e.input.pending ∙ needs.needs.at_file)) needs.needs.not_closed;
     written = wrote_none w;
   }
 

@@ -1,5 +1,6 @@
 pub mod Handing
 pub mod TokensObeyed
+pub mod Regrouped
 pub mod ActingAlone
 pub mod Assigning
 pub mod Naturals
@@ -19,4 +20,4 @@ pub mod RuleAsks
 pub mod RuleCloses
 pub mod RuleHalts
 pub mod ActsEnding
-pub mod Categories
+pub mod Codes

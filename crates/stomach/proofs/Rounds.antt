@@ -152,7 +152,7 @@ pub came_steps : (b : NameBuffer) (e0 e : Engine) (s0 s : SinkTold) (k : ℕ) (r
     (i : Stored) → i ≡ record e.input { pending = settle e.input.pending; lists = i.lists } → KeepsMacros e.input i → stepping e ≡ true → RanTo b e0 s0 (record e { input = i }) s k ended.Steps all left
 came_steps b e0 e s0 s k r knows all left may came i is kept waits sizes f book roomy stands =
     came_whole sizes e left i is kept (whole_state all e0 book) (world_of f s0 e0) (world_of f s e) k (came sizes f book roomy stands)
-    (whole_needs sizes e left (λ w h. is_ready sizes e left w h r knows (wants_step (all_want e.call (asked e)) (gives_step (pulled e.categories e.input.pending)) waits) may) (λ w h. stepping_needs sizes e waits w h))
+    (whole_needs sizes e left (λ w h. is_ready sizes e left w h r knows (wants_step (all_want e.call (asked e)) (gives_step (pulled e.input.groups.now.categories e.input.pending)) waits) may) (λ w h. stepping_needs sizes e waits w h))
 
 -- ONE PART OF A RUN BEHIND ANOTHER
 

@@ -93,7 +93,7 @@ more_taken sizes e want book none asks st = (subst (λ (c : Option Call). WantsH
 
 -- WHETHER THE RULE HAS A STEP
 
-pub asked_steps : (e : Engine) (a : Option reading.Ask) → e.call ≡ None → asked e ≡ a → stepping e ≡ (frames_want a && gives_step (pulled e.categories e.input.pending))
+pub asked_steps : (e : Engine) (a : Option reading.Ask) → e.call ≡ None → asked e ≡ a → stepping e ≡ (frames_want a && gives_step (pulled e.input.groups.now.categories e.input.pending))
 asked_steps e a none is =
-    ap (λ (c : Option Call). all_want c (asked e) && gives_step (pulled e.categories e.input.pending)) none
-    ∙ ap (λ (o : Option reading.Ask). frames_want o && gives_step (pulled e.categories e.input.pending)) is
+    ap (λ (c : Option Call). all_want c (asked e) && gives_step (pulled e.input.groups.now.categories e.input.pending)) none
+    ∙ ap (λ (o : Option reading.Ask). frames_want o && gives_step (pulled e.input.groups.now.categories e.input.pending)) is

@@ -115,15 +115,15 @@ entered_free (name ∷ names) = refl
 
 relax_free : (meanings : List (Meaning (Option ℕ))) (n : Name) → steps (relax_if_undefined meanings n) ≡ 0
 relax_free meanings n = by _ where
-  by : (b : Bool) → steps (if b then Assigned n (means.Prim relax_primitive) ∷ [] else []) ≡ 0
+  by : (b : Bool) → steps (if b then Assigned false n (means.Prim relax_primitive) ∷ [] else []) ≡ 0
   by true = refl
   by false = refl
 
 pub name_free : (page : Page) (characters : List ℕ) → steps (name_made page characters) ≡ 0
 name_free page characters =
     let n : Name = spelt page.names characters in
-    steps_join (entered (newly_spelt page.names characters)) (relax_if_undefined page.meanings n ++ put_one (token.Named n))
-    ∙ (let last : steps (relax_if_undefined page.meanings n ++ put_one (token.Named n)) ≡ 0 = steps_join (relax_if_undefined page.meanings n) (put_one (token.Named n)) ∙ omega (arith, relax_free page.meanings n) in
+    steps_join (entered (newly_spelt page.names characters)) (relax_if_undefined page.now.meanings n ++ put_one (token.Named n))
+    ∙ (let last : steps (relax_if_undefined page.now.meanings n ++ put_one (token.Named n)) ≡ 0 = steps_join (relax_if_undefined page.now.meanings n) (put_one (token.Named n)) ∙ omega (arith, relax_free page.now.meanings n) in
     omega (arith, entered_free (newly_spelt page.names characters), last))
 
 -- WHAT BECOMES LIGHTER

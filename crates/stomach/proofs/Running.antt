@@ -40,7 +40,7 @@ use Rattle.engine_state.proofs.Storing.{store_settled, sound_still}
 
 -- what is known of the file is enough for the next rule, with these bytes left: for its reading, or it reads nothing
 abbrev pub IsKnown : Sizes → Engine → List ℕ → Book → Type 0
-IsKnown sizes e left book = IsReady sizes.buffer_size (state_of e book).categories (state_of e book).pending left ⊎ (pulls (plan_of e book) ≡ 0)
+IsKnown sizes e left book = IsReady sizes.buffer_size (state_of e book).groups.now.categories (state_of e book).pending left ⊎ (pulls (plan_of e book) ≡ 0)
 
 -- the moves of the next rule, where these bytes are left of the file
 abbrev pub whole_plan : List ℕ → Engine → Book → List Move
@@ -247,7 +247,7 @@ module _ (sizes : Sizes) (e : Engine) (left : List ℕ) (i : Stored) (is : i ≡
       }
 
 -- a step is needed with these bytes left too
-pub whole_needs : (sizes : Sizes) (e : Engine) (left : List ℕ) → ((book : Book) → AllStand sizes e book → IsReady sizes.buffer_size (state_of e book).categories (state_of e book).pending left) → ((book : Book) → AllStand sizes e book → StepComes sizes (state_of e book)) →
+pub whole_needs : (sizes : Sizes) (e : Engine) (left : List ℕ) → ((book : Book) → AllStand sizes e book → IsReady sizes.buffer_size (state_of e book).groups.now.categories (state_of e book).pending left) → ((book : Book) → AllStand sizes e book → StepComes sizes (state_of e book)) →
     (book : Book) → AllStand sizes e book → StepComes sizes (whole_state left e book)
 whole_needs sizes e left known needs book stands = extended_comes sizes (state_of e book) left (known book stands) refl refl (needs book stands)
 

@@ -1,8 +1,7 @@
 -- Names that are spelt: the room for their characters, a name that joins those that are entered, and one that becomes `\relax`.
-use Rattle.std.proofs.Common.{◌≡◌, ℕ, ◌<◌, ◌≤◌, Bool, true, false, List, [], ◌∷◌, ◌++◌, length, refl, sym, ap, ◌∙◌, subst, append_assoc, inl, inr, arith}
+use Rattle.std.proofs.Common.{◌≡◌, ℕ, ◌<◌, ◌≤◌, Bool, true, false, List, [], ◌∷◌, ◌++◌, length, refl, sym, ap, ◌∙◌, subst, append_assoc, ⊎_elim, arith}
 use Rattle.std.specs.Prelude.{Option, Some, None, if◌then◌else◌}
-use Rattle.std.proofs.lemmas.Bool.{cases_lt}
-use Rattle.std.proofs.lemmas.List.{length-append, length-map, length-set, set_past}
+use Rattle.std.proofs.lemmas.List.{length-append}
 use Rattle.std.proofs.lemmas.List.Sums.{sum_by-cons, sum_by-append}
 use Rattle.tex_defs.specs.Places.{World}
 use Rattle.tex_defs.specs.declared.Full.{Full}
@@ -13,34 +12,34 @@ use Rattle.tex_defs.specs.declared.Sizes.{Sizes}
 use Rattle.tex_defs.specs.declared.Token.{Token}
 use Rattle.tex_defs.specs.declared.Token.TheVariants as token
 use Rattle.plain_tokens.specs.Lex.{WordName}
-use Rattle.plain_tokens.specs.Meanings.{location, set_at, assigned, name_meaning, seen_as}
+use Rattle.plain_tokens.specs.Meanings.{is_listed, name_meaning, seen_as}
 use Rattle.plain_tokens.specs.Names.{relax_primitive}
-use Rattle.plain_tokens.specs.Tables.{list_words, lists_words}
+use Rattle.plain_tokens.specs.Tables.{list_words, lists_words, refused}
 use Rattle.plain_tokens.specs.Tokens.{code_of, character_codes, is_undefined}
-use Rattle.meanings.specs.Map.{IsPlaced}
+use Rattle.equivalents.specs.Groups.{Groups, set_name, name_demands}
+use Rattle.equivalents.specs.Holding.{lists_held}
 use Rattle.input_state.specs.Callings.{call_lists}
 use Rattle.input_state.specs.Stored.{Stored, KeepsMacros, words as stored_words}
 use Rattle.reading_frames.specs.Sees.{kept_list_of}
 use Rattle.plain_machine.specs.States.{State, Move, Assigned}
-use Rattle.plain_machine.specs.Numbers.{meaning_of, meanings_of}
+use Rattle.plain_machine.specs.Numbers.{meanings_of}
 use Rattle.plain_machine.specs.Plan.{spelt, newly_spelt, relax_if_undefined, name_made, entered, put_one}
 use Rattle.plain_machine.specs.Does.{Did}
-use Rattle.plain_machine.proofs.Doing.{did_join, did_none, did_one}
+use Rattle.plain_machine.proofs.Doing.{did_join}
 use Rattle.plain_machine.proofs.Renumbering.{name_seen_of}
-use Rattle.plain_machine.proofs.Ties.{meanings_primitive, tied_primitive, tied_stayed}
+use Rattle.plain_machine.proofs.Holders.{name_cases}
 use Rattle.engine_state.specs.declared.broken.Broken.{Broken}
 use Rattle.engine_state.specs.declared.broken.Broken.TheVariants as broken
 use Rattle.engine_state.specs.declared.engine.Engine.{Engine}
 use Rattle.engine_state.specs.Book.{Book}
-use Rattle.engine_state.specs.Entering.{with_names, EntryFits, EntryRefused}
+use Rattle.engine_state.specs.Entering.{all_entered, with_names, EntryFits, EntryRefused}
 use Rattle.engine_state.specs.Rules.{Cuts}
 use Rattle.engine_state.specs.Stands.{IsSized, IsSound, Stands, state_of, page_of}
 use Rattle.engine_state.proofs.Cells.{meaning_more}
 use Rattle.engine_state.proofs.Cutting.{cuts_by, first_cuts, later_cuts}
-use Rattle.engine_state.proofs.Joining.{quiet_here}
 use Rattle.engine_state.proofs.Pulling.{FewNames, few_names, did_entered, cut_entered, sound_names}
 use Rattle.engine_state.proofs.Reporting.{stands_still}
-use Rattle.engine_state.proofs.Storing.{body_at}
+use Rattle.stomach.proofs.Assigning.{named_cuts, named_did, named_stands}
 
 abbrev Cell : Type 0
 Cell = Meaning (Option ℕ)
@@ -100,81 +99,44 @@ lacking_of : (number : ℕ → ℕ) (cells : List Cell) (n : Name) → is_lackin
 lacking_of number cells n = ap is_undefined (name_seen_of number cells n)
 
 abbrev relaxed_if : Name → Bool → List Move
-relaxed_if n b = if b then Assigned n (means.Prim relax_primitive) ∷ [] else []
+relaxed_if n b = if b then Assigned false n (means.Prim relax_primitive) ∷ [] else []
 
 -- it does so whatever name has joined the others
-relax_named : (e : Engine) (book : Book) (new : List (List ℕ)) (n : Name) → relax_if_undefined (page_of e book).meanings n ≡ relax_if_undefined (page_of (with_names new e) book).meanings n
+relax_named : (e : Engine) (book : Book) (new : List (List ℕ)) (n : Name) → relax_if_undefined (page_of e book).now.meanings n ≡ relax_if_undefined (page_of (with_names new e) book).now.meanings n
 relax_named e book new n =
-    ap (relaxed_if n) (lacking_of book.number e.input.meanings n ∙ ap (λ (m : Cell). is_undefined (seen_as m)) (sym (meaning_more e.input.meanings new n)) ∙ sym (lacking_of book.number (with_names new e).input.meanings n))
+    ap (relaxed_if n) (lacking_of book.number e.input.groups.now.meanings n ∙ ap (λ (m : Cell). is_undefined (seen_as m)) (sym (meaning_more new e.input.groups n)) ∙ sym (lacking_of book.number (all_entered new e.input.groups).now.meanings n))
 
--- a name that has no location means what it meant
-lost_at : (cells : List Cell) (o : Option ℕ) (m : Cell) → (IsPlaced o (length cells) → ⊥) → set_at cells o m ≡ cells
-lost_at cells None m h = refl
-lost_at cells (Some k) m h = elim (cases_lt k (length cells)) [
-  | inl below ↦ absurd (h below)
-  | inr past ↦ set_past cells k m past
-]
-
-set_length : (cells : List Cell) (o : Option ℕ) (m : Cell) → length (set_at cells o m) ≡ length cells
-set_length cells None m = refl
-set_length cells (Some k) m = length-set cells k m
+-- a primitive has no list
+primitive_held : (k : ℕ) (global : Bool) (g : Groups) (n : Name) (number : ℕ) → is_listed (lists_held (set_name global g n (means.Prim number))) k ≡ true → is_listed (lists_held g) k ≡ true
+primitive_held k global g n number held = ⊎_elim (λ none. cc) (λ was. was) (name_cases k global g n (means.Prim number) held)
 
 module _ (sizes : Sizes) (e : Engine) (book : Book) (n : Name) where
   abbrev plan : List Move
-  plan = relax_if_undefined (page_of e book).meanings n
+  plan = relax_if_undefined (page_of e book).now.meanings n
 
-  plan_is : (b : Bool) → is_lacking e.input.meanings n ≡ b → plan ≡ relaxed_if n b
-  plan_is b is = ap (relaxed_if n) (lacking_of book.number e.input.meanings n ∙ is)
+  plan_is : (b : Bool) → is_lacking e.input.groups.now.meanings n ≡ b → plan ≡ relaxed_if n b
+  plan_is b is = ap (relaxed_if n) (lacking_of book.number e.input.groups.now.meanings n ∙ is)
 
-  -- it means something
-  pub defined_did : (w : World) → is_lacking e.input.meanings n ≡ false → Did sizes (state_of e book) (state_of e book) w w plan
-  defined_did w is = subst (λ (ms : List Move). Did sizes (state_of e book) (state_of e book) w w ms) (sym (plan_is false is)) (did_none sizes (state_of e book) w)
-
-  assigned_did : (s' : State) (w : World) → is_lacking e.input.meanings n ≡ true → record (state_of e book) { meanings = assigned (meanings_of book.number e.input.meanings) n (means.Prim relax_primitive) } ≡ s' → Did sizes (state_of e book) s' w w plan
-  assigned_did s' w is same =
-      subst (λ (ms : List Move). Did sizes (state_of e book) s' w w ms) (sym (plan_is true is))
-      (did_one sizes (Assigned n (means.Prim relax_primitive)) (state_of e book) s' w w refl same (quiet_here (Assigned n (means.Prim relax_primitive)) w tt))
-
-  -- it has no location
-  pub lost_did : (w : World) → is_lacking e.input.meanings n ≡ true → (IsPlaced (location n) (length e.input.meanings) → ⊥) → Did sizes (state_of e book) (state_of e book) w w plan
-  lost_did w is lost =
-      assigned_did (state_of e book) w is
-      (ap (λ (cells : List Cell). record (state_of e book) { meanings = cells })
-      (lost_at (meanings_of book.number e.input.meanings) (location n) (means.Prim relax_primitive) (λ placed. lost (subst (IsPlaced (location n)) (length-map e.input.meanings (meaning_of book.number)) placed))))
-
-  abbrev relaxed : List (List Token) → Stored
-  relaxed lists = record e.input { meanings = assigned e.input.meanings n (means.Prim relax_primitive); lists = lists }
+  lacking_did : (s' : State) (w : World) → is_lacking e.input.groups.now.meanings n ≡ true → Did sizes (state_of e book) s' w w (relaxed_if n true) → Did sizes (state_of e book) s' w w plan
+  lacking_did s' w is h = subst (λ (ms : List Move). Did sizes (state_of e book) s' w w ms) (sym (plan_is true is)) h
 
   -- it becomes `\relax`
-  pub relaxed_did : (i : Stored) (w : World) → is_lacking e.input.meanings n ≡ true → i ≡ relaxed i.lists → Did sizes (state_of e book) (state_of (record e { input = i }) book) w w plan
-  relaxed_did i w is same =
-      assigned_did (state_of (record e { input = i }) book) w is
-      (ap (λ (cells : List Cell). record (state_of e book) { meanings = cells }) (sym (meanings_primitive book.number e.input.meanings n relax_primitive)) ∙ ap (λ (x : Stored). state_of (record e { input = x }) book) (sym same))
+  module _ (i : Stored) (same : i ≡ record e.input { groups = set_name false e.input.groups n (means.Prim relax_primitive); lists = i.lists }) where
+    pub relaxed_did : (w : World) → is_lacking e.input.groups.now.meanings n ≡ true → Stands sizes e book → refused e.input.sizes (name_demands false e.input.groups n) ≡ None → Did sizes (state_of e book) (state_of (record e { input = i }) book) w w plan
+    relaxed_did w is st fits =
+        lacking_did (state_of (record e { input = i }) book) w is
+        (named_did e i false n (means.Prim relax_primitive) same sizes book w (means.Prim relax_primitive) refl st fits)
 
-  -- the macros keep their numbers
-  sound_relaxed : (lists : List (List Token)) → KeepsMacros e.input (relaxed lists) → IsSound sizes e book.number book.macros → IsSound sizes (record e { input = relaxed lists }) book.number book.macros
-  sound_relaxed lists kept h = record {
-    sized = record {
-      few_reports = h.sized.few_reports;
-      small = h.sized.small;
-      own = h.sized.own;
-      readings = h.sized.readings;
-      input = h.sized.input;
-      names = h.sized.names;
-      hash = h.sized.hash;
-      located = set_length e.input.meanings (location n) (means.Prim relax_primitive) ∙ h.sized.located;
-    };
-    tied = tied_stayed book.number book.macros (relaxed lists).meanings e.input.pending.puts e.input.lists
-        (tied_primitive book.number book.macros e.input.meanings e.input.pending.puts e.input.lists h.tied n relax_primitive) lists
-        (λ k below none. body_at book.macros k h.bodies below none) (λ k held. kept.tokens k held);
-    bodies = h.bodies;
-  }
+    pub relaxed_stands : KeepsMacros e.input i → Stands sizes e book → Stands sizes (record e { input = i }) book
+    relaxed_stands kept st =
+        named_stands e i false n (means.Prim relax_primitive) same (λ k held. primitive_held k false e.input.groups n relax_primitive held) kept sizes book st
 
-  pub relaxed_stands : (i : Stored) → i ≡ relaxed i.lists → KeepsMacros e.input i → Stands sizes e book → Stands sizes (record e { input = i }) book
-  relaxed_stands i same kept st =
-      subst (λ (x : Stored). Stands sizes (record e { input = x }) book) (sym same)
-      (stands_still sizes e (record e { input = relaxed i.lists }) book (record { readings = refl; lists = refl; call = refl; calling = refl })
-      (sound_relaxed i.lists (subst (KeepsMacros e.input) same kept) st.sound) st.idle st)
+  -- or the save stack has no room
+  pub relaxed_cuts : (i : Stored) (w : World) (more : List Move) (full : Full) → i ≡ e.input → is_lacking e.input.groups.now.meanings n ≡ true → Stands sizes e book → refused e.input.sizes (name_demands false e.input.groups n) ≡ Some full →
+      Cuts sizes (state_of e book) (record e { input = i }) book w w (plan ++ more) (broken.Full full)
+  relaxed_cuts i w more full same is st refuses =
+      cuts_by sizes (state_of e book) (record e { input = i }) book w w (relaxed_if n true ++ more) (plan ++ more) (broken.Full full) (ap (λ (ms : List Move). ms ++ more) (plan_is true is))
+      (named_cuts sizes e i book w false n (means.Prim relax_primitive) more full same st refuses)
 
 -- A NAME IS MADE
 
@@ -197,15 +159,22 @@ module _ (sizes : Sizes) (e e1 : Engine) (book : Book) (codes : List ℕ) where
     spelt_did = subst (λ (x : Engine). Did sizes (state_of e book) (state_of x book) w w (entered new)) (sym after) (did_entered sizes e book new w (few_spelt e.names.names codes) sized fits)
 
     abbrev relaxes : List Move
-    relaxes = relax_if_undefined (page_of e1 book).meanings n
+    relaxes = relax_if_undefined (page_of e1 book).now.meanings n
 
     abbrev puts : List Move
     puts = put_one (token.Named n)
 
     here_is : here ≡ entered new ++ (relaxes ++ puts)
     here_is =
-        ap (λ (x : Name). entered new ++ (relax_if_undefined (page_of e book).meanings x ++ put_one (token.Named x))) (sym is)
-        ∙ ap (λ (ms : List Move). entered new ++ (ms ++ puts)) (relax_named e book new n ∙ ap (λ (x : Engine). relax_if_undefined (page_of x book).meanings n) (sym after))
+        ap (λ (x : Name). entered new ++ (relax_if_undefined (page_of e book).now.meanings x ++ put_one (token.Named x))) (sym is)
+        ∙ ap (λ (ms : List Move). entered new ++ (ms ++ puts)) (relax_named e book new n ∙ ap (λ (x : Engine). relax_if_undefined (page_of x book).now.meanings n) (sym after))
+
+    -- what comes behind its entry is cut off
+    pub unmade_cuts : (e2 : Engine) (more : List Move) (b : Broken) → Cuts sizes (state_of e1 book) e2 book w w (relaxes ++ (puts ++ more)) b → Cuts sizes (state_of e book) e2 book w w (here ++ more) b
+    unmade_cuts e2 more b h =
+        cuts_by sizes _ e2 book w w _ _ b
+        (ap (λ (ms : List Move). ms ++ more) here_is ∙ append_assoc (entered new) (relaxes ++ puts) more ∙ ap (λ (ms : List Move). entered new ++ ms) (append_assoc relaxes puts more))
+        (later_cuts sizes _ _ e2 book w w w (entered new) _ b spelt_did h)
 
     module _ (e2 : Engine) (relaxed : Did sizes (state_of e1 book) (state_of e2 book) w w relaxes) where
       pub made_did : (e3 : Engine) → Did sizes (state_of e2 book) (state_of e3 book) w w puts → Did sizes (state_of e book) (state_of e3 book) w w here
@@ -213,7 +182,4 @@ module _ (sizes : Sizes) (e e1 : Engine) (book : Book) (codes : List ℕ) where
 
       -- it isn't put
       pub unput_cuts : (e3 : Engine) (more : List Move) (b : Broken) → Cuts sizes (state_of e2 book) e3 book w w (puts ++ more) b → Cuts sizes (state_of e book) e3 book w w (here ++ more) b
-      unput_cuts e3 more b h =
-          cuts_by sizes _ e3 book w w _ _ b
-          (ap (λ (ms : List Move). ms ++ more) here_is ∙ append_assoc (entered new) (relaxes ++ puts) more ∙ ap (λ (ms : List Move). entered new ++ ms) (append_assoc relaxes puts more))
-          (later_cuts sizes _ _ e3 book w w w (entered new) _ b spelt_did (later_cuts sizes _ _ e3 book w w w relaxes (puts ++ more) b relaxed h))
+      unput_cuts e3 more b h = unmade_cuts e3 more b (later_cuts sizes _ _ e3 book w w w relaxes (puts ++ more) b relaxed h)

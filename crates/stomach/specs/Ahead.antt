@@ -17,14 +17,14 @@ pub record IsGiven (all left : List ℕ) (e e' : Engine) : Type 0 where
 
 -- What the engine holds is enough for the next rule: its reading is known, the file's end has come, or it wants no token.
 pub data Knows (e : Engine) (r : OpenReader) : Type 0 where
-  IsNext : KnowsNext e.input e.categories → Knows e r
+  IsNext : KnowsNext e.input → Knows e r
   HasEnded : r.ended ≡ true → Knows e r
   WantsNone : all_want e.call (asked e) ≡ false → Knows e r
 
 -- It isn't: a token is wanted, the next reading isn't known, and the file's end hasn't come.
 pub record Needs (e : Engine) (r : OpenReader) : Type 0 where
   pub wanted : all_want e.call (asked e) ≡ true
-  pub needs : NeedsBytes e.input e.categories
+  pub needs : NeedsBytes e.input
   pub goes_on : r.ended ≡ false
 
 abbrev pub end_weight : Bool → ℕ

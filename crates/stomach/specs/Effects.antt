@@ -3,10 +3,14 @@ use Rattle.std.specs.Prelude.{List, [], ◌∷◌, ◌++◌, ◌≤◌}
 use Rattle.plain_tokens.specs.Meanings.{meaning_to_let}
 use Rattle.plain_tokens.specs.Numerals.{whole_number, roman}
 use Rattle.plain_state.specs.Reports.{string_text}
+use Rattle.equivalents.specs.declared.values.Loc.TheVariants as loc
+use Rattle.equivalents.specs.declared.values.Val.TheVariants as val
+use Rattle.equivalents.specs.Locations.{Suits}
+use Rattle.rows.specs.declared.command.Call.{Call}
 use Rattle.rows.specs.declared.command.Effect.{Effect}
 use Rattle.rows.specs.declared.command.Effect.TheVariants as effect
-use Rattle.plain_machine.specs.States.{Move, SetCategoryOf, Assigned}
-use Rattle.plain_machine.specs.Plan.{Page, natural, shown, put_one, put_characters, marked, meaning_characters, style_of}
+use Rattle.plain_machine.specs.States.{Move, Set, Assigned}
+use Rattle.plain_machine.specs.Plan.{Page, natural, is_global, shown, put_one, put_characters, marked, meaning_characters, style_of}
 
 -- what is put in front
 abbrev pub put_by : Page → Effect → List Move
@@ -19,12 +23,12 @@ put_by page (effect.MakeMeaning x) = put_characters (meaning_characters page x)
 put_by page e = []
 
 -- what is done alone, where no token is obeyed and none expanded
-abbrev pub done_alone : Page → Effect → List Move
-done_alone page (effect.Show x) = shown page x
-done_alone page (effect.Let n x) = Assigned n (meaning_to_let page.meanings x) ∷ []
-done_alone page (effect.FutureLet n x y) = put_one y.token ++ (put_one x.token ++ Assigned n (meaning_to_let page.meanings y) ∷ [])
-done_alone page (effect.SetCategory code category) = SetCategoryOf (natural code) (natural category) ∷ []
-done_alone page e = put_by page e
+abbrev pub done_alone : Page → Call → Effect → List Move
+done_alone page c (effect.Show x) = shown page x
+done_alone page c (effect.Let n x) = Assigned (is_global page c) n (meaning_to_let page.now.meanings x) ∷ []
+done_alone page c (effect.FutureLet n x y) = put_one y.token ++ (put_one x.token ++ Assigned (is_global page c) n (meaning_to_let page.now.meanings y) ∷ [])
+done_alone page c (effect.SetCode kind char value) = Set (is_global page c) (loc.Code kind (natural char)) (val.Number value) ∷ []
+done_alone page c e = put_by page e
 
 -- an effect that is done alone
 abbrev pub IsAlone : Effect → Type 0
@@ -32,7 +36,7 @@ IsAlone (effect.Obey x) = ⊥
 IsAlone (effect.ExpandBehind x y) = ⊥
 IsAlone e = Unit {0}
 
--- a category that is set is a byte
+-- a code that is set is one of its kind, of a character
 abbrev pub IsSmall : Effect → Type 0
-IsSmall (effect.SetCategory code category) = natural category ≤ 255
+IsSmall (effect.SetCode kind char value) = (natural char ≤ 255) × Suits (loc.Code kind (natural char)) (val.Number value)
 IsSmall e = Unit {0}

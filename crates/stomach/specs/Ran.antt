@@ -100,7 +100,7 @@ pub record UnreadBy (sizes : Sizes) (s : State) (n : ℕ) (e' : Engine) (left : 
   pub t : State
   pub read : ReadAt sizes s n t w w'
   pub at : IsAt sizes e' left t
-  pub lacks : NeedsBytes e'.input e'.categories
+  pub lacks : NeedsBytes e'.input
 
 -- The run stopped early.
 abbrev pub StoppedBy : Sizes → State → ℕ → Engine → List ℕ → World → World → Early → Type 0

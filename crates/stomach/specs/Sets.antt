@@ -3,7 +3,7 @@ use Rattle.std.specs.Prelude.{◌≢◌, ℕ, List, [], ◌∷◌, ◌++◌, dro
 use Rattle.tex_defs.specs.declared.Name.{Name}
 use Rattle.tex_defs.specs.declared.Token.{Token}
 use Rattle.plain_tokens.specs.Meanings.{location}
-use Rattle.meanings.specs.Map.{IsPlaced}
+use Rattle.meanings.specs.Kept.{IsPlaced}
 use Rattle.reading_frames.specs.Sees.{top_list}
 use Rattle.engine_state.specs.declared.engine.Engine.{Engine}
 use Rattle.engine_state.specs.Book.{Book}
@@ -16,4 +16,4 @@ with_macro number ts book = record { work = drop 1 book.work; number = number; m
 pub record MayDefine (e : Engine) (name : Name) : Type 0 where
   pub list : e.input.builds ≢ []
   pub some : top_list e.input.builds ≢ []
-  pub placed : IsPlaced (location name) (length e.input.meanings)
+  pub placed : IsPlaced (location name) (length e.input.groups.now.meanings)

@@ -30,7 +30,7 @@ pub fn wants_token(engine: &Engine) -> bool
 fn needs_bytes(engine: &Engine, reader: &Reader) -> bool
     ensures { MatchBool result (Needs engine.now reader.now) (Knows engine.now reader.now) }
 {
-    !reader.is_ended() && wants_token(engine) && engine.input.needs_bytes(&engine.categories)
+    !reader.is_ended() && wants_token(engine) && engine.input.needs_bytes()
 }
 
 /// Reads the file's next bytes, or finds its end.

@@ -1,14 +1,17 @@
 // What a command does, and its reading ends.
-ghost use Rattle.std.specs.Prelude.{◌≡◌, ◌<◌, ◌≤◌, List, [], ◌∷◌, ◌++◌, IfOk, IfErr, OnOk, Some, None};
+ghost use Rattle.std.specs.Prelude.{◌≡◌, ◌<◌, ◌≤◌, ℕ, List, [], ◌∷◌, ◌++◌, IfOk, IfErr, OnOk, MatchBool, Some, None};
 ghost use Rattle.tex_defs.specs.Places.{World};
 ghost use Rattle.tex_defs.specs.declared.Sizes.{Sizes};
 ghost use Rattle.plain_tokens.specs.Meanings.{meaning_to_let};
+ghost use Rattle.equivalents.specs.declared.values.Loc.TheVariants as loc;
+ghost use Rattle.equivalents.specs.declared.values.Val.TheVariants as val;
+ghost use Rattle.equivalents.specs.Locations.{Suits};
 ghost use Rattle.plain_readings.specs.Readings.{Reading};
 ghost use Rattle.rows.specs.Readings.{Acts};
 ghost use Rattle.rows.specs.declared.command.Effect.TheVariants as effects;
 ghost use Rattle.reading_frames.specs.Stack.{asks_in};
-ghost use Rattle.plain_machine.specs.States.{Move, Assigned, SetCategoryOf};
-ghost use Rattle.plain_machine.specs.Plan.{acts, marked as plain_marked, natural, put_one};
+ghost use Rattle.plain_machine.specs.States.{Move, Set, Assigned};
+ghost use Rattle.plain_machine.specs.Plan.{acts, is_global as plain_global, marked as plain_marked, natural, put_one};
 ghost use Rattle.plain_machine.specs.Does.{Did};
 ghost use Rattle.world_io.specs.Told.{FilesTold};
 ghost use Rattle.engine_state.specs.Book.{Book, with_work};
@@ -22,6 +25,7 @@ ghost use Rattle.stomach.specs.Halting.{DoesRuleIn};
 
 use crate::obeying::obey;
 use engine_state::{Broken, Engine, Ruled};
+use equivalents::{CodeKind, Loc};
 use gullet::{Once, expand_once};
 use reading_frames::Opening;
 use rows::{Call, Effect};
@@ -57,26 +61,51 @@ fn put_effect(engine: &mut Engine, effect: Effect) -> Result<(), Broken>
     }
 }
 
-/// A name means what a token means.
-fn assign(engine: &mut Engine, name: Name, x: Seen)
-    ensures did { (sizes : Sizes) (w : World) (book : Book) → Stands sizes engine.old book → Did sizes (state_of engine.old book) (state_of engine.new book) w w (Assigned name (meaning_to_let (page_of engine.old book).meanings x) ∷ []) }
-    ensures stands { (sizes : Sizes) (book : Book) → Stands sizes engine.old book → Stands sizes engine.new book }
-    ensures frames { SameFrames engine.old engine.new }
-    ensures only { engine.new ≡ record engine.old { input = record engine.old.input { meanings = engine.new.input.meanings; lists = engine.new.input.lists } } }
+/// The place of `\globaldefs` among the integer parameters.
+const GLOBAL_DEFINITIONS: u8 = 43;
+
+/// Whether an assignment of this command is global. *The TeXbook*, chapter 24 (`\globaldefs`).
+pub(crate) fn is_global(engine: &Engine, call: Call) -> bool
+    ensures { (book : Book) → result ≡ plain_global (page_of engine.now book) call }
 {
-    if engine.input.is_placed(name) && !engine.input.is_calling() {
-        engine.input.let_name(name, x);
+    match engine.input.integer(GLOBAL_DEFINITIONS) {
+        0 => call.global,
+        n => n > 0,
     }
+}
+
+/// A name means what a token means.
+///
+/// # Errors
+/// The save stack is full; nothing has changed.
+fn assign(engine: &mut Engine, name: Name, x: Seen, global: bool) -> Result<(), Broken>
+    ensures did { OnOk result ((sizes : Sizes) (w : World) (book : Book) → Stands sizes engine.old book → Did sizes (state_of engine.old book) (state_of engine.new book) w w (Assigned global name (meaning_to_let (page_of engine.old book).now.meanings x) ∷ [])) }
+    ensures err { IfErr result (λ b. (sizes : Sizes) (w : World) (book : Book) (more : List Move) → Stands sizes engine.old book → Cuts sizes (state_of engine.old book) engine.new book w w (Assigned global name (meaning_to_let (page_of engine.old book).now.meanings x) ∷ more) b) }
+    ensures stands { OnOk result ((sizes : Sizes) (book : Book) → Stands sizes engine.old book → Stands sizes engine.new book) }
+    ensures frames { SameFrames engine.old engine.new }
+    ensures only { engine.new ≡ record engine.old { input = record engine.old.input { groups = engine.new.input.groups; lists = engine.new.input.lists } } }
+{
+    if !engine.input.is_placed(name) || engine.input.is_calling() {
+        return Ok(());
+    }
+    engine.input.let_name(name, x, global)?;
+    Ok(())
 }
 
 /// Both tokens are put back, and the name means what the second one means.
 ///
 /// # Errors
-/// There is no room for the tokens: what had room is there.
-fn assign_behind(engine: &mut Engine, name: Name, x: Seen, y: Seen) -> Result<(), Broken>
+/// There is no room for the tokens or in the save stack: what had room is there.
+fn assign_behind(
+    engine: &mut Engine,
+    name: Name,
+    x: Seen,
+    y: Seen,
+    global: bool,
+) -> Result<(), Broken>
     requires idle { engine.old.input.making ≡ None }
-    ensures did { OnOk result ((sizes : Sizes) (w : World) (book : Book) → Stands sizes engine.old book → Did sizes (state_of engine.old book) (state_of engine.new book) w w (put_one y.token ++ (put_one x.token ++ Assigned name (meaning_to_let (page_of engine.old book).meanings y) ∷ []))) }
-    ensures err { IfErr result (λ b. (sizes : Sizes) (w : World) (book : Book) (more : List Move) → Stands sizes engine.old book → Cuts sizes (state_of engine.old book) engine.new book w w ((put_one y.token ++ (put_one x.token ++ Assigned name (meaning_to_let (page_of engine.old book).meanings y) ∷ [])) ++ more) b) }
+    ensures did { OnOk result ((sizes : Sizes) (w : World) (book : Book) → Stands sizes engine.old book → Did sizes (state_of engine.old book) (state_of engine.new book) w w (put_one y.token ++ (put_one x.token ++ Assigned global name (meaning_to_let (page_of engine.old book).now.meanings y) ∷ []))) }
+    ensures err { IfErr result (λ b. (sizes : Sizes) (w : World) (book : Book) (more : List Move) → Stands sizes engine.old book → Cuts sizes (state_of engine.old book) engine.new book w w ((put_one y.token ++ (put_one x.token ++ Assigned global name (meaning_to_let (page_of engine.old book).now.meanings y) ∷ [])) ++ more) b) }
     ensures stands { OnOk result ((sizes : Sizes) (book : Book) → Stands sizes engine.old book → Stands sizes engine.new book) }
     ensures frames { SameFrames engine.old engine.new }
     ensures column { engine.new.in_line ≡ engine.old.in_line }
@@ -85,32 +114,64 @@ fn assign_behind(engine: &mut Engine, name: Name, x: Seen, y: Seen) -> Result<()
 {
     engine.put_one(y.token)?;
     engine.put_one(x.token)?;
-    assign(engine, name, y);
+    assign(engine, name, y, global)?;
     Ok(())
 }
 
-/// The character of this code has this category, if they are a character's code and a category.
-fn set_category(engine: &mut Engine, code: i32, category: i32)
-    ensures did { natural category ≤ 255 → (sizes : Sizes) (w : World) (book : Book) → Did sizes (state_of engine.old book) (state_of engine.new book) w w (SetCategoryOf (natural code) (natural category) ∷ []) }
-    ensures only { engine.new ≡ record engine.old { categories = engine.new.categories } }
+/// Whether a code of this kind may have this value.
+fn may_be(kind: CodeKind, value: i32) -> bool
+    ensures { MatchBool result ((char : ℕ) → Suits (loc.Code kind char) (val.Number value)) ((char : ℕ) → Suits (loc.Code kind char) (val.Number value) → ⊥) }
 {
-    let code = code.max(0);
-    let category = category.max(0);
-    if code <= 255 && category <= 255 {
-        engine.categories[code as usize] = category as u8;
+    match kind {
+        CodeKind::Category => (0..16).contains(&value),
+        _ => true,
     }
+}
+
+/// The character of this code gets this value as its code of this kind, if they are a character's code and one of this kind.
+///
+/// # Errors
+/// The save stack is full; nothing has changed.
+fn set_code(
+    engine: &mut Engine,
+    kind: CodeKind,
+    char: i32,
+    value: i32,
+    global: bool,
+) -> Result<(), Broken>
+    ensures did { OnOk result (natural char ≤ 255 → Suits (loc.Code kind (natural char)) (val.Number value) → (sizes : Sizes) (w : World) (book : Book) → Stands sizes engine.old book → Did sizes (state_of engine.old book) (state_of engine.new book) w w (Set global (loc.Code kind (natural char)) (val.Number value) ∷ [])) }
+    ensures err { IfErr result (λ b. (sizes : Sizes) (w : World) (book : Book) (more : List Move) → Stands sizes engine.old book → Cuts sizes (state_of engine.old book) engine.new book w w (Set global (loc.Code kind (natural char)) (val.Number value) ∷ more) b) }
+    ensures stands { OnOk result ((sizes : Sizes) (book : Book) → Stands sizes engine.old book → Stands sizes engine.new book) }
+    ensures frames { SameFrames engine.old engine.new }
+    ensures only { engine.new ≡ record engine.old { input = record engine.old.input { groups = engine.new.input.groups; lists = engine.new.input.lists } } }
+{
+    let char = char.max(0);
+    if char > 255 || !may_be(kind, value) {
+        return Ok(());
+    }
+    let loc = Loc::Code {
+        kind,
+        code: char as u8,
+    };
+    engine.input.set_number(loc, value, global)?;
+    Ok(())
 }
 
 /// Does what a command says, where no token is obeyed and none expanded.
 ///
 /// # Errors
-/// There is no room for what is put in front, or a write failed: the engine stands for the moment before.
-fn act_alone<S: Sink>(engine: &mut Engine, out: &mut S, effect: Effect) -> Result<(), Broken>
+/// There is no room for what is put in front or in the save stack, or a write failed: the engine stands for the moment before.
+fn act_alone<S: Sink>(
+    engine: &mut Engine,
+    out: &mut S,
+    call: Call,
+    effect: Effect,
+) -> Result<(), Broken>
     requires idle { engine.old.input.making ≡ None }
     ensures did { OnOk result (IsSmall effect → (sizes : Sizes) (f : FilesTold) (book : Book) → Stands sizes engine.old book →
-        Did sizes (state_of engine.old book) (state_of engine.new book) (world_of f (S.told out.old) engine.old) (world_of f (S.told out.new) engine.new) (done_alone (page_of engine.old book) effect)) }
+        Did sizes (state_of engine.old book) (state_of engine.new book) (world_of f (S.told out.old) engine.old) (world_of f (S.told out.new) engine.new) (done_alone (page_of engine.old book) call effect)) }
     ensures err { IfErr result (λ b. (sizes : Sizes) (f : FilesTold) (book : Book) (more : List Move) → Stands sizes engine.old book →
-        Cuts sizes (state_of engine.old book) engine.new book (world_of f (S.told out.old) engine.old) (world_of f (S.told out.new) engine.new) (done_alone (page_of engine.old book) effect ++ more) b) }
+        Cuts sizes (state_of engine.old book) engine.new book (world_of f (S.told out.old) engine.old) (world_of f (S.told out.new) engine.new) (done_alone (page_of engine.old book) call effect ++ more) b) }
     ensures stands { OnOk result ((sizes : Sizes) (book : Book) → Stands sizes engine.old book → Stands sizes engine.new book) }
     ensures frames { SameFrames engine.old engine.new }
     ensures light { OnOk result (pending_weight engine.new.input.pending ≡ pending_weight engine.old.input.pending) }
@@ -119,13 +180,16 @@ fn act_alone<S: Sink>(engine: &mut Engine, out: &mut S, effect: Effect) -> Resul
     match effect {
         Effect::Show(x) => engine.show(out, x),
         Effect::Let(name, x) => {
-            assign(engine, name, x);
-            Ok(())
+            let global = is_global(engine, call);
+            assign(engine, name, x, global)
         }
-        Effect::FutureLet(name, x, y) => assign_behind(engine, name, x, y),
-        Effect::SetCategory(code, category) => {
-            set_category(engine, code, category);
-            Ok(())
+        Effect::FutureLet(name, x, y) => {
+            let global = is_global(engine, call);
+            assign_behind(engine, name, x, y, global)
+        }
+        Effect::SetCode(kind, char, value) => {
+            let global = is_global(engine, call);
+            set_code(engine, kind, char, value, global)
         }
         _ => put_effect(engine, effect),
     }
@@ -225,7 +289,7 @@ pub(crate) fn act<S: Sink>(
         Effect::Obey(x) => obey_behind(engine, out, call, x),
         Effect::ExpandBehind(x, y) => expand_behind(engine, out, call, x, y),
         _ => {
-            act_alone(engine, out, effect)?;
+            act_alone(engine, out, call, effect)?;
             engine.close_reading();
             Ok(Ruled::Free)
         }

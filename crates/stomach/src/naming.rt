@@ -52,7 +52,7 @@ fn spell(engine: &mut Engine, buffer: &mut NameBuffer, listed: bool) -> Result<N
     ensures refused { IfErr result (λ full. (sizes : Sizes) (book : Book) → HoldsAnyName sizes buffer.old → IsSound sizes engine.old book.number book.macros →
         EntryRefused engine.old.names (newly_spelt engine.old.names.names (character_codes (kept_list_of listed engine.old.input.builds))) full) }
     ensures err { OnErr result (engine.new ≡ engine.old) }
-    ensures only { engine.new ≡ record engine.old { names = engine.new.names; input = record engine.old.input { meanings = engine.new.input.meanings } } }
+    ensures only { engine.new ≡ record engine.old { names = engine.new.names; input = record engine.old.input { groups = engine.new.input.groups } } }
     ensures frames { SameFrames engine.old engine.new }
     ensures idle { engine.new.input.making ≡ engine.old.input.making }
     ensures capacity { vec_capacity buffer.new.text ≡ vec_capacity buffer.old.text }
@@ -72,7 +72,7 @@ fn spell(engine: &mut Engine, buffer: &mut NameBuffer, listed: bool) -> Result<N
 
 /// Whether a name is undefined.
 fn is_undefined(engine: &Engine, name: Name) -> bool
-    ensures { result ≡ plain_undefined (seen_as (name_meaning engine.now.input.meanings name)) }
+    ensures { result ≡ plain_undefined (seen_as (name_meaning engine.now.input.groups.now.meanings name)) }
 {
     matches!(
         engine.input.seen(Token::Named(name)).meaning,
@@ -80,23 +80,29 @@ fn is_undefined(engine: &Engine, name: Name) -> bool
     )
 }
 
-/// A name that means nothing becomes `\relax`.
-fn relax_if_undefined(engine: &mut Engine, name: Name)
-    ensures did { (sizes : Sizes) (w : World) (book : Book) → Stands sizes engine.old book → Did sizes (state_of engine.old book) (state_of engine.new book) w w (made_relax (page_of engine.old book).meanings name) }
-    ensures stands { (sizes : Sizes) (book : Book) → Stands sizes engine.old book → Stands sizes engine.new book }
+/// A name that means nothing becomes `\relax`, locally.
+///
+/// # Errors
+/// The save stack is full; nothing has changed.
+fn relax_if_undefined(engine: &mut Engine, name: Name) -> Result<(), Broken>
+    ensures did { OnOk result ((sizes : Sizes) (w : World) (book : Book) → Stands sizes engine.old book → Did sizes (state_of engine.old book) (state_of engine.new book) w w (made_relax (page_of engine.old book).now.meanings name)) }
+    ensures err { IfErr result (λ b. (sizes : Sizes) (w : World) (book : Book) (more : List Move) → Stands sizes engine.old book → Cuts sizes (state_of engine.old book) engine.new book w w (made_relax (page_of engine.old book).now.meanings name ++ more) b) }
+    ensures stands { OnOk result ((sizes : Sizes) (book : Book) → Stands sizes engine.old book → Stands sizes engine.new book) }
     ensures frames { SameFrames engine.old engine.new }
-    ensures only { engine.new ≡ record engine.old { input = record engine.old.input { meanings = engine.new.input.meanings; lists = engine.new.input.lists } } }
+    ensures only { engine.new ≡ record engine.old { input = record engine.old.input { groups = engine.new.input.groups; lists = engine.new.input.lists } } }
 {
-    if is_undefined(engine, name) && engine.input.is_placed(name) && !engine.input.is_calling() {
-        engine.input.set_primitive(name, RELAX);
+    if !is_undefined(engine, name) || !engine.input.is_placed(name) || engine.input.is_calling() {
+        return Ok(());
     }
+    engine.input.set_primitive(name, RELAX, false)?;
+    Ok(())
 }
 
 /// The name of the characters of the list on top, if it is listed, and else of none, is entered where it is new, becomes `\relax` where it means nothing,
 /// and is put in front.
 ///
 /// # Errors
-/// There is no room for a new name, in the main memory or on the input stack: what comes before is there.
+/// There is no room for a new name, in the save stack, in the main memory or on the input stack: what comes before is there.
 pub fn make_name(engine: &mut Engine, buffer: &mut NameBuffer, listed: bool) -> Result<(), Broken>
     requires idle { engine.old.input.making ≡ None }
     ensures did { OnOk result ((sizes : Sizes) (w : World) (book : Book) → HoldsAnyName sizes buffer.old → Stands sizes engine.old book →
@@ -111,7 +117,7 @@ pub fn make_name(engine: &mut Engine, buffer: &mut NameBuffer, listed: bool) -> 
     ensures capacity { vec_capacity buffer.new.text ≡ vec_capacity buffer.old.text }
 {
     let name = spell(engine, buffer, listed)?;
-    relax_if_undefined(engine, name);
+    relax_if_undefined(engine, name)?;
     engine.put_one(Token::Named(name))?;
     Ok(())
 }

@@ -43,7 +43,7 @@ fn token_rule<S: Sink>(
     requires uncalled { engine.old.call ≡ None }
     requires running { engine.old.stopped ≡ false }
     ensures light { IfOk result (λ ruled. IsFree ruled → weight engine.new < weight engine.old) }
-    ensures step { IfOk result (λ ruled. StepsIf ruled (gives_step (pulled engine.old.categories engine.old.input.pending))) }
+    ensures step { IfOk result (λ ruled. StepsIf ruled (gives_step (pulled engine.old.input.groups.now.categories engine.old.input.pending))) }
     ensures rule { IfOk result (λ ruled. (sizes : Sizes) (f : FilesTold) (book : Book) → Takes sizes want engine.old book →
         DoesRule sizes (state_of engine.old book) engine.new book (world_of f (S.told out.old) engine.old) (world_of f (S.told out.new) engine.new) (next_moves want engine.old book) ruled) }
     ensures err { IfErr result (λ b. (sizes : Sizes) (f : FilesTold) (book : Book) → Takes sizes want engine.old book →
@@ -148,7 +148,7 @@ fn ask_rule<S: Sink>(
         Ask::Acts(call, effect) => act(engine, out, call, effect),
         Ask::ActsOn(call, effect, listed) => act_on(engine, out, buffer, call, effect, listed),
         Ask::Defines(call, name, listed) => {
-            define(engine, call, name, listed);
+            define(engine, call, name, listed)?;
             Ok(Ruled::Free)
         }
         Ask::Ends => {

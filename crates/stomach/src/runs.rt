@@ -34,7 +34,7 @@ pub enum Ended {
 fn needs_step(engine: &Engine) -> bool
     ensures { result ≡ stepping engine.now }
 {
-    wants_token(engine) && engine.input.is_ready(&engine.categories)
+    wants_token(engine) && engine.input.is_ready()
 }
 
 /// Makes the rules that need no step, until the next one needs one or the run ends. The file is read on where it must be.

@@ -13,6 +13,7 @@ use Rattle.plain_tokens.specs.Lex.{NewLine}
 use Rattle.plain_tokens.specs.Pending.{Pending, Closed}
 use Rattle.plain_tokens.specs.Puts.{Put}
 use Rattle.plain_tokens.specs.Tables.{string, refused}
+use Rattle.equivalents.specs.Holding.{lists_held}
 use Rattle.plain_machine.specs.States.{State, Move, Kept, made}
 use Rattle.plain_machine.specs.Demands.{refusal}
 use Rattle.plain_machine.specs.Extended.{extended}
@@ -261,8 +262,8 @@ named_dropped sizes e quiet file none h =
     let sound = h.stands.sound in
     record {
       stands = stands_still sizes e (dropped e) first_book (record { readings = refl; lists = refl; call = refl; calling = refl }) (record {
-        sized = record { few_reports = sound.sized.few_reports; small = sound.sized.small; own = sound.sized.own; readings = sound.sized.readings; input = sound.sized.input; names = sound.sized.names; hash = sound.sized.hash; located = sound.sized.located };
-        tied = subst (λ (ps : List Put). Tied first_book.number first_book.macros e.input.meanings ps e.input.lists) (ap (λ (p : Pending). p.puts) none) sound.tied;
+        sized = record { few_reports = sound.sized.few_reports; small = sound.sized.small; own = sound.sized.own; readings = sound.sized.readings; input = sound.sized.input; names = sound.sized.names; located = sound.sized.located };
+        tied = subst (λ (ps : List Put). Tied first_book.number first_book.macros (lists_held e.input.groups) ps e.input.lists) (ap (λ (p : Pending). p.puts) none) sound.tied;
         bodies = sound.bodies;
       }) h.stands.idle h.stands;
       room = h.room;

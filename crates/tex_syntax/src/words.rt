@@ -52,6 +52,8 @@ pub enum Report {
     BadCharacterCode(i32),
     /// "Invalid code (n), should be in the range 0..m": the code, and the greatest of its range.
     InvalidCode(i32, u32),
+    /// "Invalid code (n), should be at most m": the code, and the greatest that may be.
+    CodeTooGreat(i32, u32),
     /// "Missing { inserted".
     MissingBrace,
     /// The file ended while this was read, of a macro or of a command.

@@ -386,6 +386,72 @@ fn meanings_and_errors_are_shown(rt: HostRuntime) {
     rows_hold(&rt, rt.alloc(), &SHOWN);
 }
 
+/// Assignments to the six tables of codes. *TeX: The Program*, section 1232.
+const CODES: [Row; 13] = [
+    (b"\\lccode65=97 \\uccode`\\a=`\\A\\end\n", b"", 0),
+    (
+        b"\\lccode`\\A=255 \\lccode`\\A=256 \\end\n",
+        b"! Invalid code (256), should be in the range 0..255.\nl.2\n",
+        1,
+    ),
+    (
+        b"\\uccode97=256 \\end\n",
+        b"! Invalid code (256), should be in the range 0..255.\nl.2\n",
+        1,
+    ),
+    (
+        b"\\sfcode65=32767 \\sfcode65=32768 \\end\n",
+        b"! Invalid code (32768), should be in the range 0..32767.\nl.2\n",
+        1,
+    ),
+    (
+        b"\\mathcode65=\"8000 \\mathcode65=32769 \\end\n",
+        b"! Invalid code (32769), should be in the range 0..32768.\nl.2\n",
+        1,
+    ),
+    (
+        b"\\delcode40=\"FFFFFF \\delcode40=16777216 \\end\n",
+        b"! Invalid code (16777216), should be at most 16777215.\nl.2\n",
+        1,
+    ),
+    (b"\\delcode40=-1 \\delcode 41 -2147483647 \\end\n", b"", 0),
+    (
+        b"\\mathcode40=-1 \\sfcode40=-1 \\end\n",
+        b"! Invalid code (-1), should be in the range 0..32768.\nl.2\n! Invalid code (-1), should be in the range 0..32767.\nl.2\n",
+        1,
+    ),
+    (
+        b"\\lccode256=1 \\delcode-1=-1 \\end\n",
+        b"! Bad character code (256).\nl.2\n! Bad character code (-1).\nl.2\n",
+        1,
+    ),
+    (
+        b"\\catcode`\\%=12 \\lccode`\\%=14 \\delcode`\\%=14 \\message{a%b}\\end\n",
+        b"a%b\n",
+        0,
+    ),
+    (
+        b"\\sfcode`\\x=\\end\\end\n",
+        b"! Missing number, treated as zero.\nl.2\n",
+        1,
+    ),
+    (
+        b"\\global\\lccode65=97 \\long\\uccode97=65 \\end\n",
+        b"! You can't use `\\long' or `\\outer' with `\\uccode'.\nl.2\n",
+        1,
+    ),
+    (
+        b"\\message{\\lccode\\meaning\\delcode}\\show\\mathcode\\end\n",
+        b"\\lccode \\delcode\n> \\mathcode=\\mathcode.\nl.2\n",
+        1,
+    ),
+];
+
+#[test]
+fn codes_are_set_in_their_ranges(rt: HostRuntime) {
+    rows_hold(&rt, rt.alloc(), &CODES);
+}
+
 /// Files by their names, behind the line with the usual categories, and what they write.
 const JOBS: [(&str, &[u8], &[u8]); 4] = [
     (

@@ -52,6 +52,17 @@ fn put_invalid_code(text: &mut Text, newline: i32, n: i32, greatest: u32)
     put_number(text, newline, u64::from(greatest));
 }
 
+// Puts the report of a code that is more than `greatest`.
+fn put_great_code(text: &mut Text, newline: i32, n: i32, greatest: u32)
+    requires { length text.old ≤ 3 }
+    ensures { (style : Style) → text.new ≡ text.old ++ all_printed newline (opening style (Report.CodeTooGreat n greatest)) }
+{
+    put_fixed(text, newline, b"Invalid code (");
+    put_signed(text, newline, n);
+    put_fixed(text, newline, b"), should be at most ");
+    put_number(text, newline, u64::from(greatest));
+}
+
 // Puts the report of `\long` or `\outer` before a command with which they don't go, up to that command.
 fn put_prefix(text: &mut Text, view: View<'_>)
     requires names { IsView view }
@@ -139,6 +150,7 @@ fn fixed_opening(report: Report) -> &'static [u8]
         Report::PrefixWith(_) => b"You can't use a prefix with `",
         Report::BadCharacterCode(_)
         | Report::InvalidCode(_, _)
+        | Report::CodeTooGreat(_, _)
         | Report::LongOrOuterWith(_)
         | Report::MissingEndcsname
         | Report::ExtraEndcsname => b"",
@@ -154,6 +166,7 @@ fn put_opening(text: &mut Text, view: View<'_>, report: Report)
     match report {
         Report::BadCharacterCode(n) => put_bad_code(text, view.names.newline, n),
         Report::InvalidCode(n, greatest) => put_invalid_code(text, view.names.newline, n, greatest),
+        Report::CodeTooGreat(n, greatest) => put_great_code(text, view.names.newline, n, greatest),
         Report::LongOrOuterWith(_) => put_prefix(text, view),
         Report::MissingEndcsname => put_missing_endcsname(text, view),
         Report::ExtraEndcsname => put_extra_endcsname(text, view),

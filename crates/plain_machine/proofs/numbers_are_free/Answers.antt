@@ -1,7 +1,24 @@
 use Rattle.plain_machine.proofs.Renumbering.{pulled_same, put_front_of, seen_of, met_of, meaning_to_let_of}
+use Rattle.plain_machine.proofs.GroupNumbers.{set_of, set_name_of, entered_of, opened_of, closed_of, set_demands_of, name_demands_of}
 use Rattle.plain_machine.proofs.MacroWords.{words_tied}
 use Rattle.plain_machine.proofs.Ties.{text_let, tokens_let}
 use Rattle.plain_machine.proofs.numbers_are_free.Goals as goal
 
 pub returns : goal.returns
-returns c = record { reads = pulled_same; puts = put_front_of; means = seen_of; meets = met_of; lets = meaning_to_let_of; texts = text_let; shows = tokens_let; words = words_tied }
+returns c = record {
+  reads = pulled_same;
+  puts = put_front_of;
+  means = seen_of;
+  meets = met_of;
+  lets = meaning_to_let_of;
+  texts = text_let;
+  shows = tokens_let;
+  words = words_tied;
+  sets = set_of;
+  names = set_name_of;
+  enters = entered_of;
+  opens = opened_of;
+  closes = closed_of;
+  demands = set_demands_of;
+  name_demands = name_demands_of;
+}

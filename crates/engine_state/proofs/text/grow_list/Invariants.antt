@@ -9,7 +9,7 @@ use Rattle.engine_state.proofs.text.grow_list.Given as goal
 abbrev pub invariant-loop-token : goal.invariant-loop-token
 invariant-loop-token l = record {
   few : l.places ≤ 9;
-  along : Along l.fn.input l.input (list_text (names_style l.fn.names) (text_of l.fn.input.lists l.fn.input.meanings l.fn.name)) (list_from (names_style l.fn.names) l.places l.last (to_come l.input l.walk)) l.some;
+  along : Along l.fn.input l.input (list_text (names_style l.fn.names) (text_of l.fn.input.lists l.fn.input.groups.now.meanings l.fn.name)) (list_from (names_style l.fn.names) l.places l.last (to_come l.input l.walk)) l.some;
 }
 
 abbrev pub decreases-loop-token : goal.decreases-loop-token

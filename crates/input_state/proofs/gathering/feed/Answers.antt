@@ -4,8 +4,8 @@ use Rattle.tex_defs.specs.declared.Name.{Name}
 use Rattle.token_lists.specs.Table.{Entry}
 use Rattle.token_lists.specs.Ids.{id_of}
 use Rattle.plain_tokens.specs.Meanings.{name_meaning}
-use Rattle.meanings.specs.Map.{Map}
-use Rattle.meanings.specs.Holding.{list_of}
+use Rattle.eqtb_save.specs.Table.{Table}
+use Rattle.equivalents.specs.Holding.{list_of}
 use Rattle.macro_call.specs.declared.scan.ArgScan.{ArgScan}
 use Rattle.macro_call.specs.declared.scan.ArgAsk.{ArgAsk}
 use Rattle.macro_call.specs.declared.scan.ArgAsk.TheVariants as ask
@@ -14,7 +14,7 @@ use Rattle.input_state.specs.Recalls.{Recalls}
 use Rattle.input_state.specs.declared.gathering.Gathering.TheVariants as call
 use Rattle.input_state.proofs.gathering.feed.Goals as goal
 
-module _ (old new : List (Option Entry)) (macro : ℕ) (scan next : ArgScan) (x : Token) (answer : ArgAsk) (answers : Answers old new macro scan next x answer) (size : length new ≡ length old) (name : Name) (m : Map) (means : list_of (name_meaning m.cells name) ≡ Some macro) where
+module _ (old new : List (Option Entry)) (macro : ℕ) (scan next : ArgScan) (x : Token) (answer : ArgAsk) (answers : Answers old new macro scan next x answer) (size : length new ≡ length old) (name : Name) (m : Table) (means : list_of (name_meaning m.groups.now.meanings name) ≡ Some macro) where
   -- the scanner goes on, and hands nothing out
   goes_on : IsOpen answer → ((h : ℕ) → handed answer h ≡ 0) → Recalls old new m (call.Gathers name scan) (call.Gathers name next)
   goes_on still none = record {

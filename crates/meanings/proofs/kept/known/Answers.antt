@@ -1,6 +1,6 @@
 use Rattle.std.proofs.Common.{◌≡◌, ◌∙◌, refl, sym, true, false}
 use Rattle.plain_tokens.specs.Meanings.{is_listed}
-use Rattle.meanings.proofs.Lookups.{listed_is}
+use Rattle.meanings.proofs.Listed.{listed_is}
 use Rattle.meanings.proofs.kept.known.Goals as goal
 
 pub returns-then-contains : goal.returns-then-contains

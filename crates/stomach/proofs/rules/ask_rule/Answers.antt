@@ -98,16 +98,22 @@ pub returns-in-ActsOn-clause-step : goal.returns-in-ActsOn-clause-step
 returns-in-ActsOn-clause-step g c = let e = c.args.engine.now in let n = c.act_on in let i = c.in-ActsOn in
     free_steps n.result _ (asked_steps e _ c.requires.uncalled (asked_here e c.args.ask (ActsOn i.call i.effect i.listed) i.is c.requires.asks)) n.ensures.step
 
-pub returns-in-Defines-clause-rule : goal.returns-in-Defines-clause-rule
-returns-in-Defines-clause-rule g c = let e = c.args.engine.now in let e' = c.define.new.engine in let i = c.in-Defines in let n = c.define.ensures in let s = g.S.Sink.told c.args.out.now in
+pub returns-in_ok-define-in-Defines-clause-rule : goal.returns-in_ok-define-in-Defines-clause-rule
+returns-in_ok-define-in-Defines-clause-rule g c = let e = c.args.engine.now in let e' = c.define.new.engine in let i = c.in-Defines in let n = c.in_ok-define-in-Defines.ensures in let s = g.S.Sink.told c.args.out.now in
     λ sizes f book roomy. asked_rules e e' s s c.args.ask (Defines i.call i.name i.listed) Free i.is c.requires.stands sizes f (λ b r rs st. column_went sizes _ e' f s e.in_line _ 0 n.column (n.rule sizes _ b r rs st (asked_here e c.args.ask (Defines i.call i.name i.listed) i.is c.requires.asks))) book
 
-pub returns-in-Defines-clause-light : goal.returns-in-Defines-clause-light
-returns-in-Defines-clause-light g c free = let i = c.in-Defines in
-    c.define.ensures.light c.requires.uncalled (asked_bare c.args.engine.now c.args.ask (Defines i.call i.name i.listed) i.is c.requires.asks ∙ ap (λ (ts : List Token). Some (reading.Defines i.call i.name ts)) (none_kept i.listed))
+pub returns-in_err-define-in-Defines-clause-err : goal.returns-in_err-define-in-Defines-clause-err
+returns-in_err-define-in-Defines-clause-err g c = let e = c.args.engine.now in let e' = c.define.new.engine in let i = c.in-Defines in let n = c.in_err-define-in-Defines in let s = g.S.Sink.told c.args.out.now in
+    same_err c.from_residual-in_err-define-in-Defines.result n.field-0.0 _ c.from_residual-in_err-define-in-Defines.ensures.1
+    (λ sizes f book roomy. asked_cuts e e' s s c.args.ask (Defines i.call i.name i.listed) n.field-0.0 i.is c.requires.stands sizes f
+    (λ b r rs st. column_in sizes _ e' f s e.in_line _ n.field-0.0 n.ensures.column (n.ensures.err sizes _ b r rs st (asked_here e c.args.ask (Defines i.call i.name i.listed) i.is c.requires.asks))) book)
 
-pub returns-in-Defines-clause-step : goal.returns-in-Defines-clause-step
-returns-in-Defines-clause-step g c = let e = c.args.engine.now in let i = c.in-Defines in asked_steps e _ c.requires.uncalled (asked_here e c.args.ask (Defines i.call i.name i.listed) i.is c.requires.asks)
+pub returns-in_ok-define-in-Defines-clause-light : goal.returns-in_ok-define-in-Defines-clause-light
+returns-in_ok-define-in-Defines-clause-light g c free = let i = c.in-Defines in
+    c.in_ok-define-in-Defines.ensures.light c.requires.uncalled (asked_bare c.args.engine.now c.args.ask (Defines i.call i.name i.listed) i.is c.requires.asks ∙ ap (λ (ts : List Token). Some (reading.Defines i.call i.name ts)) (none_kept i.listed))
+
+pub returns-in_ok-define-in-Defines-clause-step : goal.returns-in_ok-define-in-Defines-clause-step
+returns-in_ok-define-in-Defines-clause-step g c = let e = c.args.engine.now in let i = c.in-Defines in asked_steps e _ c.requires.uncalled (asked_here e c.args.ask (Defines i.call i.name i.listed) i.is c.requires.asks)
 
 pub returns-in-Ends-clause-rule : goal.returns-in-Ends-clause-rule
 returns-in-Ends-clause-rule g c = let e = c.args.engine.now in let e' = c.close_reading.new.self in let i = c.in-Ends in let n = c.close_reading.ensures in let s = g.S.Sink.told c.args.out.now in
@@ -236,15 +242,6 @@ returns-in_err-done-in-Done-clause-idle g c = no_on _ _ c.from_residual-in_err-d
 
 pub returns-in_err-done-in-Done-clause-capacity : goal.returns-in_err-done-in-Done-clause-capacity
 returns-in_err-done-in-Done-clause-capacity g c = refl
-
-pub returns-in-Defines-clause-err : goal.returns-in-Defines-clause-err
-returns-in-Defines-clause-err g c = tt
-
-pub returns-in-Defines-clause-idle : goal.returns-in-Defines-clause-idle
-returns-in-Defines-clause-idle g c = c.define.ensures.idle ∙ c.requires.idle
-
-pub returns-in-Defines-clause-capacity : goal.returns-in-Defines-clause-capacity
-returns-in-Defines-clause-capacity g c = refl
 
 pub returns-in-Ends-clause-err : goal.returns-in-Ends-clause-err
 returns-in-Ends-clause-err g c = tt

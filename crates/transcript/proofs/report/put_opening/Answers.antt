@@ -1,6 +1,6 @@
 use Rattle.std.proofs.Common.{ap, sym, ◌∙◌, ℤ, w32, FitsSigned, rules}
 use Rattle.std.proofs.lemmas.Int.{to_z-of_z}
-use Rattle.tex_syntax.specs.declared.words.Report.TheVariants.{BadCharacterCode, InvalidCode}
+use Rattle.tex_syntax.specs.declared.words.Report.TheVariants.{BadCharacterCode, InvalidCode, CodeTooGreat}
 use Rattle.token_show.specs.Views.{style_of}
 use Rattle.transcript.proofs.Texts.{opening_by}
 use Rattle.transcript.proofs.report.put_opening.Goals as goal
@@ -16,3 +16,9 @@ returns-in-InvalidCode c = let r : FitsSigned w32 c.args.view.names.newline = se
     let rn : FitsSigned w32 n = search rules in
     opening_by (style_of c.args.view) c.args.report _ _ c.args.text.now c.put_invalid_code.new.text (c.in-InvalidCode.is ∙ ap (λ (m : ℤ). InvalidCode m c.in-InvalidCode.greatest) (sym (to_z-of_z w32 n rn))) (to_z-of_z w32 c.args.view.names.newline r)
     (c.put_invalid_code.ensures (style_of c.args.view))
+
+pub returns-in-CodeTooGreat : goal.returns-in-CodeTooGreat
+returns-in-CodeTooGreat c = let r : FitsSigned w32 c.args.view.names.newline = search rules in let n = c.in-CodeTooGreat.n in
+    let rn : FitsSigned w32 n = search rules in
+    opening_by (style_of c.args.view) c.args.report _ _ c.args.text.now c.put_great_code.new.text (c.in-CodeTooGreat.is ∙ ap (λ (m : ℤ). CodeTooGreat m c.in-CodeTooGreat.greatest) (sym (to_z-of_z w32 n rn))) (to_z-of_z w32 c.args.view.names.newline r)
+    (c.put_great_code.ensures (style_of c.args.view))

@@ -3,6 +3,7 @@ use Rattle.std.specs.Prelude.{Some, None}
 use Rattle.tex_defs.specs.declared.Sizes.{Sizes}
 use Rattle.plain_tokens.specs.Pending.{Pending}
 use Rattle.plain_tokens.specs.Puts.{Put}
+use Rattle.equivalents.specs.Holding.{lists_held}
 use Rattle.plain_machine.specs.States.{State}
 use Rattle.plain_machine.specs.Numbers.{Tied, pending_of}
 use Rattle.plain_machine.specs.Plan.{job_due}
@@ -22,8 +23,8 @@ begins_dropped e sizes quiet b =
     record {
       stands = record {
         sound = record {
-          sized = record { few_reports = sound.sized.few_reports; small = sound.sized.small; own = sound.sized.own; readings = sound.sized.readings; input = sound.sized.input; names = sound.sized.names; hash = sound.sized.hash; located = sound.sized.located };
-          tied = subst (λ (ps : List Put). Tied first_book.number first_book.macros e.input.meanings ps e.input.lists) (ap (λ (p : Pending). p.puts) b.unread) sound.tied;
+          sized = record { few_reports = sound.sized.few_reports; small = sound.sized.small; own = sound.sized.own; readings = sound.sized.readings; input = sound.sized.input; names = sound.sized.names; located = sound.sized.located };
+          tied = subst (λ (ps : List Put). Tied first_book.number first_book.macros (lists_held e.input.groups) ps e.input.lists) (ap (λ (p : Pending). p.puts) b.unread) sound.tied;
           bodies = sound.bodies;
         };
         idle = b.stands.idle;

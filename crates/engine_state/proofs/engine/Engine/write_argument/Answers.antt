@@ -18,15 +18,15 @@ use Rattle.engine_state.proofs.engine.Engine.write_argument.Goals as goal
 pub returns-in_err-write_runaway-in-Some-clause-err : goal.returns-in_err-write_runaway-in-Some-clause-err
 returns-in_err-write_runaway-in-Some-clause-err g c =
     let e = c.args.self.now in let view = c.initial_view-view in
-    let style : style_of view.result ≡ initial_style e.categories e.names.names = style_is _ e.categories _ _ view.ensures.style c.parts.ensures.names in
-    err_out _ _ e c.write_runaway.new.in_line _ _ (shown_is (λ style ts. runaway_bytes scanned.Use style e.in_line ts) (style_of view.result) (initial_style e.categories e.names.names) _ _ style
+    let style : style_of view.result ≡ initial_style e.input.groups.now.categories e.names.names = style_is _ _ e.input.groups.now.categories _ _ view.ensures.style c.categories.ensures c.parts.ensures.names in
+    err_out _ _ e c.write_runaway.new.in_line _ _ (shown_is (λ style ts. runaway_bytes scanned.Use style e.in_line ts) (style_of view.result) (initial_style e.input.groups.now.categories e.names.names) _ _ style
     (work_is _ _ _ _ view.ensures.same_lists (c.call_list.ensures.tokens ∙ ap (option_map _) c.in-Some.is))) c.from_residual.result c.in_err-write_runaway-in-Some.field-0.0 c.from_residual.ensures.1 c.in_err-write_runaway-in-Some.ensures.err
 
 pub returns-in_ok-write_runaway-in-Some-clause-did : goal.returns-in_ok-write_runaway-in-Some-clause-did
 returns-in_ok-write_runaway-in-Some-clause-did g c =
     let e = c.args.self.now in let view = c.initial_view-view in
-    let style : style_of view.result ≡ initial_style e.categories e.names.names = style_is _ e.categories _ _ view.ensures.style c.parts.ensures.names in
-    took_out _ _ e c.write_runaway.new.in_line _ _ (shown_is (λ style ts. runaway_bytes scanned.Use style e.in_line ts) (style_of view.result) (initial_style e.categories e.names.names) _ _ style
+    let style : style_of view.result ≡ initial_style e.input.groups.now.categories e.names.names = style_is _ _ e.input.groups.now.categories _ _ view.ensures.style c.categories.ensures c.parts.ensures.names in
+    took_out _ _ e c.write_runaway.new.in_line _ _ (shown_is (λ style ts. runaway_bytes scanned.Use style e.in_line ts) (style_of view.result) (initial_style e.input.groups.now.categories e.names.names) _ _ style
     (work_is _ _ _ _ view.ensures.same_lists (c.call_list.ensures.tokens ∙ ap (option_map _) c.in-Some.is))) c.in_ok-write_runaway-in-Some.ensures.ok
 
 pub returns-in-None-clause-did : goal.returns-in-None-clause-did
@@ -34,11 +34,11 @@ returns-in-None-clause-did g c =
     let e = c.args.self.now in let e1 = c.write_text.new.self in
     let none : call_work e.input.call ≡ None = c.call_list.ensures.tokens ∙ ap (option_map _) c.in-None.is in
     on_ok c.write_text.result (λ h sizes f book. subst (λ (text : List ℕ). Did sizes (state_of e book) (state_of e1 book) (world_of f (g.S.Sink.told c.args.out.now) e) (world_of f (g.S.Sink.told c.write_text.new.out) e1) (Written Transcript text ∷ []))
-    (empty_is e.categories e.names.names e.in_line _ (call_work e.input.call) none (c.empty_argument.ensures e.categories e.names.names)) (h sizes f book)) c.write_text.ensures.did
+    (empty_is e.input.groups.now.categories e.names.names e.in_line _ (call_work e.input.call) none (c.empty_argument.ensures e.input.groups.now.categories e.names.names)) (h sizes f book)) c.write_text.ensures.did
 
 pub returns-in-None-clause-err : goal.returns-in-None-clause-err
 returns-in-None-clause-err g c =
     let e = c.args.self.now in let e1 = c.write_text.new.self in
     let none : call_work e.input.call ≡ None = c.call_list.ensures.tokens ∙ ap (option_map _) c.in-None.is in
     err_to c.write_text.result (λ b h sizes f book more. subst (λ (text : List ℕ). Cuts sizes (state_of e book) e1 book (world_of f (g.S.Sink.told c.args.out.now) e) (world_of f (g.S.Sink.told c.write_text.new.out) e1) (Written Transcript text ∷ more) b)
-    (empty_is e.categories e.names.names e.in_line _ (call_work e.input.call) none (c.empty_argument.ensures e.categories e.names.names)) (h sizes f book more)) c.write_text.ensures.err
+    (empty_is e.input.groups.now.categories e.names.names e.in_line _ (call_work e.input.call) none (c.empty_argument.ensures e.input.groups.now.categories e.names.names)) (h sizes f book more)) c.write_text.ensures.err

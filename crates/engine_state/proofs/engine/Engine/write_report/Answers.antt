@@ -8,13 +8,13 @@ use Rattle.engine_state.proofs.engine.Engine.write_report.Goals as goal
 pub returns-in_err-write_report-clause-err : goal.returns-in_err-write_report-clause-err
 returns-in_err-write_report-clause-err g c =
     let e = c.args.self.now in let view = c.initial_view-view in
-    let style : style_of view.result ≡ initial_style e.categories e.names.names = style_is _ e.categories _ _ view.ensures.style c.parts.ensures.names in
+    let style : style_of view.result ≡ initial_style e.input.groups.now.categories e.names.names = style_is _ _ e.input.groups.now.categories _ _ view.ensures.style c.categories.ensures c.parts.ensures.names in
     err_out _ _ e c.write_report.new.in_line _ _ (ap (λ (x : Style). report_bytes x e.in_line c.line_number-line.result c.args.report) style
     ∙ ap (λ (n : ℕ). report_bytes (plain_style e.names.names) e.in_line n c.args.report) c.line_number-line.ensures) c.from_residual.result c.in_err-write_report.field-0.0 c.from_residual.ensures.1 c.in_err-write_report.ensures.err
 
 pub returns-clause-did : goal.returns-clause-did
 returns-clause-did g c =
     let e = c.args.self.now in let view = c.initial_view-view in
-    let style : style_of view.result ≡ initial_style e.categories e.names.names = style_is _ e.categories _ _ view.ensures.style c.parts.ensures.names in
+    let style : style_of view.result ≡ initial_style e.input.groups.now.categories e.names.names = style_is _ _ e.input.groups.now.categories _ _ view.ensures.style c.categories.ensures c.parts.ensures.names in
     took_out _ _ e c.write_report.new.in_line _ _ (ap (λ (x : Style). report_bytes x e.in_line c.line_number-line.result c.args.report) style
     ∙ ap (λ (n : ℕ). report_bytes (plain_style e.names.names) e.in_line n c.args.report) c.line_number-line.ensures) c.in_ok-write_report.ensures.ok

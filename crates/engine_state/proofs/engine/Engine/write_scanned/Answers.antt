@@ -20,11 +20,11 @@ returns-in-Use-clause-err g c = rw c.in-Use.is c.write_argument.ensures.err
 pub returns-in_default-clause-did : goal.returns-in_default-clause-did
 returns-in_default-clause-did g c = let e = c.args.self.now in let e1 = c.write_runaway.new.self in
     on_ok c.write_runaway.result (λ h sizes f book.
-    subst (λ (ts : List Token). Did sizes (state_of e book) (state_of e1 book) (world_of f (g.S.Sink.told c.args.out.now) e) (world_of f (g.S.Sink.told c.write_runaway.new.out) e1) (Written Transcript (runaway_bytes c.args.what (initial_style e.categories e.names.names) e.in_line ts) ∷ []))
+    subst (λ (ts : List Token). Did sizes (state_of e book) (state_of e1 book) (world_of f (g.S.Sink.told c.args.out.now) e) (world_of f (g.S.Sink.told c.write_runaway.new.out) e1) (Written Transcript (runaway_bytes c.args.what (initial_style e.input.groups.now.categories e.names.names) e.in_line ts) ∷ []))
     (sym (frame_list c.args.what c.args.number e c.in_default.not-Use)) (h sizes f book)) c.write_runaway.ensures.did
 
 pub returns-in_default-clause-err : goal.returns-in_default-clause-err
 returns-in_default-clause-err g c = let e = c.args.self.now in let e1 = c.write_runaway.new.self in
     err_to c.write_runaway.result (λ b h sizes f book more.
-    subst (λ (ts : List Token). Cuts sizes (state_of e book) e1 book (world_of f (g.S.Sink.told c.args.out.now) e) (world_of f (g.S.Sink.told c.write_runaway.new.out) e1) (Written Transcript (runaway_bytes c.args.what (initial_style e.categories e.names.names) e.in_line ts) ∷ more) b)
+    subst (λ (ts : List Token). Cuts sizes (state_of e book) e1 book (world_of f (g.S.Sink.told c.args.out.now) e) (world_of f (g.S.Sink.told c.write_runaway.new.out) e1) (Written Transcript (runaway_bytes c.args.what (initial_style e.input.groups.now.categories e.names.names) e.in_line ts) ∷ more) b)
     (sym (frame_list c.args.what c.args.number e c.in_default.not-Use)) (h sizes f book more)) c.write_runaway.ensures.err

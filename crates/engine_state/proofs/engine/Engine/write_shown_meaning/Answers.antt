@@ -16,7 +16,7 @@ write_shown_meaning-requires-clause-held g c =
 pub returns-in_err-write_shown_meaning-clause-err : goal.returns-in_err-write_shown_meaning-clause-err
 returns-in_err-write_shown_meaning-clause-err g c =
     let e = c.args.self.now in let view = c.initial_view-view in
-    let style : style_of view.result ≡ initial_style e.categories e.names.names = style_is _ e.categories _ _ view.ensures.style c.parts.ensures.names in
+    let style : style_of view.result ≡ initial_style e.input.groups.now.categories e.names.names = style_is _ _ e.input.groups.now.categories _ _ view.ensures.style c.categories.ensures c.parts.ensures.names in
     let tokens = ap (λ (table : List (Option Entry)). tokens_given (λ r. tokens_at table (id_of r.now)) c.given_list.result.1) view.ensures.same_lists ∙ c.given_list.ensures.tokens in
     err_out _ _ e c.write_shown_meaning.new.in_line _ _ (text_by (style_of view.result) _ e.in_line c.line_number-line.result _ c.args.x.token c.args.x.meaning _ _ style c.line_number-line.ensures tokens)
     c.from_residual.result c.in_err-write_shown_meaning.field-0.0 c.from_residual.ensures.1 c.in_err-write_shown_meaning.ensures.err
@@ -24,7 +24,7 @@ returns-in_err-write_shown_meaning-clause-err g c =
 pub returns-clause-did : goal.returns-clause-did
 returns-clause-did g c =
     let e = c.args.self.now in let view = c.initial_view-view in
-    let style : style_of view.result ≡ initial_style e.categories e.names.names = style_is _ e.categories _ _ view.ensures.style c.parts.ensures.names in
+    let style : style_of view.result ≡ initial_style e.input.groups.now.categories e.names.names = style_is _ _ e.input.groups.now.categories _ _ view.ensures.style c.categories.ensures c.parts.ensures.names in
     let tokens = ap (λ (table : List (Option Entry)). tokens_given (λ r. tokens_at table (id_of r.now)) c.given_list.result.1) view.ensures.same_lists ∙ c.given_list.ensures.tokens in
     took_out _ _ e c.write_shown_meaning.new.in_line _ _ (text_by (style_of view.result) _ e.in_line c.line_number-line.result _ c.args.x.token c.args.x.meaning _ _ style c.line_number-line.ensures tokens)
     c.in_ok-write_shown_meaning.ensures.ok

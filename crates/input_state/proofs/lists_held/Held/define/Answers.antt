@@ -1,42 +1,53 @@
-use Rattle.std.proofs.Common.{refl}
-use Rattle.plain_tokens.specs.Meanings.{name_meaning}
+use Rattle.std.proofs.Common.{◌≡◌, ℕ, true, refl, ap, subst, ◌∙◌, Some}
+use Rattle.plain_tokens.specs.Meanings.{is_listed}
+use Rattle.equivalents.specs.Groups.{Groups}
+use Rattle.equivalents.specs.Holding.{lists_held, lists_outside}
+use Rattle.input_state.specs.HeldLists.{HeldLists}
+use Rattle.tex_defs.specs.declared.Meaning.TheVariants as means
 use Rattle.token_lists.specs.Ids.{id_of}
-use Rattle.meanings.specs.Holding.{list_of}
+use Rattle.equivalents.specs.declared.values.Loc.{Loc}
+use Rattle.equivalents.specs.declared.values.Val.TheVariants as val
 use Rattle.input_state.specs.HeldViews.{named}
 use Rattle.input_state.proofs.Sounds.{push_building}
+use Rattle.input_state.proofs.Assigning.{placed_in}
 use Rattle.input_state.proofs.Defining.{covered_now, define_sound, define_view, define_macros, define_defines}
 use Rattle.input_state.proofs.lists_held.Held.define.Goals as goal
 
 pub finish-requires : goal.finish-requires
 finish-requires c =
     let i = c.self.inside in
-    push_building i.lists i.stack (named i.meanings i.call) i.making i.builds.items c.pop.new.self.items c.in-Some.build c.in-Some.ensures.items c.self.invariant.shared
+    push_building i.lists i.stack (named i.table i.call) i.making i.builds.items c.pop.new.self.items c.in-Some.build c.in-Some.ensures.items c.self.invariant.shared
 
-pub define-requires-clause-covered : goal.define-requires-clause-covered
-define-requires-clause-covered c =
+pub assign-requires-clause-covered : goal.assign-requires-clause-covered
+assign-requires-clause-covered c =
     let i = c.self.inside in
-    covered_now i.lists i.stack (named i.meanings i.call) i.making i.builds.items c.pop.new.self.items c.in-Some.build c.in-Some.ensures.items c.self.invariant.shared c.args.long c.args.outer (id_of c.finish.result) c.finish.ensures.same
+    covered_now i.lists i.stack (named i.table i.call) i.making i.builds.items c.pop.new.self.items c.in-Some.build c.in-Some.ensures.items c.self.invariant.shared c.args.long c.args.outer (id_of c.finish.result) c.finish.ensures.same
 
 pub invariant_of-self : goal.invariant_of-self
 invariant_of-self c =
     let i = c.self.inside in
-    let e = c.define.ensures in
-    define_sound i.lists c.define.new.lists i.stack (named i.meanings i.call) (named c.define.new.self i.call) i.making i.builds.items c.pop.new.self.items c.in-Some.build c.in-Some.ensures.items i.sizes _ _ c.self.invariant c.in-Some.ensures.capacity c.args.self.now c.self.view_is c.args.name c.args.long c.args.outer (id_of c.finish.result) c.finish.ensures.same c.requires.calls c.requires.list c.requires.assignable e.after refl (list_of (name_meaning i.meanings.cells c.args.name)) e.lists e.account e.kept e.lasting
+    let e = c.assign.ensures in
+    let p = c.in_ok-loc.ensures.place in
+    define_sound i.lists c.assign.new.lists i.stack (named i.table i.call) (named c.assign.new.table i.call) i.making i.builds.items c.pop.new.self.items c.in-Some.build c.in-Some.ensures.items i.sizes _ _ c.self.invariant c.in-Some.ensures.capacity c.args.self.now c.self.view_is c.args.name c.args.long c.args.outer c.args.global (id_of c.finish.result) p.number c.finish.ensures.same c.requires.calls c.requires.list p.placed (e.after ∙ ap (λ (l : Loc). placed_in c.args.global i.table l (val.Meant (means.Macro c.args.long c.args.outer (Some (id_of c.finish.result))))) p.is) refl (record { moves = e.account; keeps = e.kept; lasting = e.lasting; fewer = e.fewer; size = e.length }) (e.stored p.number p.is)
 
-pub returns-clause-after : goal.returns-clause-after
-returns-clause-after c =
+pub returns-clause-ok : goal.returns-clause-ok
+returns-clause-ok c =
     let i = c.self.inside in
-    let e = c.define.ensures in
-    define_view i.lists c.define.new.lists i.stack (named i.meanings i.call) (named c.define.new.self i.call) i.making i.builds.items c.pop.new.self.items c.in-Some.build c.in-Some.ensures.items i.sizes _ _ c.self.invariant c.in-Some.ensures.capacity c.args.self.now c.self.view_is c.args.name c.args.long c.args.outer (id_of c.finish.result) c.finish.ensures.same c.requires.calls c.requires.list c.requires.assignable e.after refl (list_of (name_meaning i.meanings.cells c.args.name)) e.lists e.account e.kept e.lasting
+    let e = c.assign.ensures in
+    let p = c.in_ok-loc.ensures.place in
+    define_view i.lists c.assign.new.lists i.stack (named i.table i.call) (named c.assign.new.table i.call) i.making i.builds.items c.pop.new.self.items c.in-Some.build c.in-Some.ensures.items i.sizes _ _ c.self.invariant c.in-Some.ensures.capacity c.args.self.now c.self.view_is c.args.name c.args.long c.args.outer c.args.global (id_of c.finish.result) p.number c.finish.ensures.same c.requires.calls c.requires.list p.placed (e.after ∙ ap (λ (l : Loc). placed_in c.args.global i.table l (val.Meant (means.Macro c.args.long c.args.outer (Some (id_of c.finish.result))))) p.is) refl (record { moves = e.account; keeps = e.kept; lasting = e.lasting; fewer = e.fewer; size = e.length }) (e.stored p.number p.is)
 
 pub returns-clause-macros : goal.returns-clause-macros
 returns-clause-macros c =
     let i = c.self.inside in
-    let e = c.define.ensures in
-    define_macros i.lists c.define.new.lists i.stack (named i.meanings i.call) (named c.define.new.self i.call) i.making i.builds.items c.pop.new.self.items c.in-Some.build c.in-Some.ensures.items i.sizes _ _ c.self.invariant c.in-Some.ensures.capacity c.args.self.now c.self.view_is c.args.name c.args.long c.args.outer (id_of c.finish.result) c.finish.ensures.same c.requires.calls c.requires.list c.requires.assignable e.after refl (list_of (name_meaning i.meanings.cells c.args.name)) e.lists e.account e.kept e.lasting
+    let e = c.assign.ensures in
+    let p = c.in_ok-loc.ensures.place in
+    define_macros i.lists c.assign.new.lists i.stack (named i.table i.call) (named c.assign.new.table i.call) i.making i.builds.items c.pop.new.self.items c.in-Some.build c.in-Some.ensures.items i.sizes _ _ c.self.invariant c.in-Some.ensures.capacity c.args.self.now c.self.view_is c.args.name c.args.long c.args.outer c.args.global (id_of c.finish.result) p.number c.finish.ensures.same c.requires.calls c.requires.list p.placed (e.after ∙ ap (λ (l : Loc). placed_in c.args.global i.table l (val.Meant (means.Macro c.args.long c.args.outer (Some (id_of c.finish.result))))) p.is) refl (record { moves = e.account; keeps = e.kept; lasting = e.lasting; fewer = e.fewer; size = e.length }) (e.stored p.number p.is)
 
 pub returns-clause-defines : goal.returns-clause-defines
 returns-clause-defines c =
     let i = c.self.inside in
-    let e = c.define.ensures in
-    define_defines i.lists c.define.new.lists i.stack (named i.meanings i.call) (named c.define.new.self i.call) i.making i.builds.items c.pop.new.self.items c.in-Some.build c.in-Some.ensures.items i.sizes _ _ c.self.invariant c.in-Some.ensures.capacity c.args.self.now c.self.view_is c.args.name c.args.long c.args.outer (id_of c.finish.result) c.finish.ensures.same c.requires.calls c.requires.list c.requires.assignable e.after refl (list_of (name_meaning i.meanings.cells c.args.name)) e.lists e.account e.kept e.lasting
+    let e = c.assign.ensures in
+    let p = c.in_ok-loc.ensures.place in
+    define_defines i.lists c.assign.new.lists i.stack (named i.table i.call) (named c.assign.new.table i.call) i.making i.builds.items c.pop.new.self.items c.in-Some.build c.in-Some.ensures.items i.sizes _ _ c.self.invariant c.in-Some.ensures.capacity c.args.self.now c.self.view_is c.args.name c.args.long c.args.outer c.args.global (id_of c.finish.result) p.number c.finish.ensures.same c.requires.calls c.requires.list p.placed (e.after ∙ ap (λ (l : Loc). placed_in c.args.global i.table l (val.Meant (means.Macro c.args.long c.args.outer (Some (id_of c.finish.result))))) p.is) refl (record { moves = e.account; keeps = e.kept; lasting = e.lasting; fewer = e.fewer; size = e.length }) (e.stored p.number p.is) p.within
+    (subst (λ (g : Groups). (h : ℕ) → is_listed (lists_outside g.outer) h ≡ true → is_listed (lists_held g) h ≡ true) (ap (λ (w : HeldLists). w.groups) c.self.view_is) c.recall.ensures.outside)

@@ -1,4 +1,4 @@
-use Rattle.std.proofs.Common.{◌≡◌, ◌∙◌, [], length, refl, sym, ap, subst}
+use Rattle.std.proofs.Common.{◌≡◌, ◌∙◌, ℕ, List, [], length, refl, sym, ap, subst}
 use Rattle.plain_tokens.specs.Pending.{NotBegun}
 use Rattle.line_lexer.specs.declared.Ahead.TheVariants as ahead
 use Rattle.input_stack.specs.Pulls.{looks}
@@ -23,35 +23,37 @@ returns-clause-in_buffer c = line_inside (pending c.pull-given.new.lists c.pull-
 pub pull-given-requires-clause-countable : goal.pull-given-requires-clause-countable
 pull-given-requires-clause-countable c =
     let i = c.self.inside in
-    countable_item i.lists _ (countable_now i.lists i.stack i.making i.builds.items (named i.meanings i.call) i.sizes _ c.self.invariant)
+    countable_item i.lists _ (countable_now i.lists i.stack i.making i.builds.items (named i.table i.call) i.sizes _ c.self.invariant c.recall.ensures.bounded)
 
 pub invariant_of-self : goal.invariant_of-self
 invariant_of-self c =
     let i = c.self.inside in
     let e = c.pull-given.ensures in
-    pulled_sound i.lists c.pull-given.new.lists i.stack c.pull-given.new.self i.making i.builds.items (named i.meanings i.call) i.sizes _ c.self.invariant e.stands e.account e.kept e.lasting e.size e.parameter_size i.stack.size c.args.categories.now c.args.bytes.now c.pull-given.new.bytes c.pull-given.result e.pulls
+    pulled_sound i.lists c.pull-given.new.lists i.stack c.pull-given.new.self i.making i.builds.items (named i.table i.call) i.sizes _ c.self.invariant e.stands e.account e.kept e.lasting e.size e.parameter_size i.stack.size c.categories-categories.result.now c.args.bytes.now c.pull-given.new.bytes c.pull-given.result e.pulls
 
 pub returns-clause-macros : goal.returns-clause-macros
 returns-clause-macros c =
     let i = c.self.inside in
     let e = c.pull-given.ensures in
-    pulled_macros i.lists c.pull-given.new.lists i.stack c.pull-given.new.self i.making i.builds.items (named i.meanings i.call) i.sizes _ c.self.invariant e.stands e.account e.kept e.lasting e.size e.parameter_size i.stack.size c.args.categories.now c.args.bytes.now c.pull-given.new.bytes c.pull-given.result e.pulls c.args.self.now c.self.view_is
+    pulled_macros i.lists c.pull-given.new.lists i.stack c.pull-given.new.self i.making i.builds.items (named i.table i.call) i.sizes _ c.self.invariant e.stands e.account e.kept e.lasting e.size e.parameter_size i.stack.size c.categories-categories.result.now c.args.bytes.now c.pull-given.new.bytes c.pull-given.result e.pulls c.args.self.now c.self.view_is
 
 pub returns-clause-levels : goal.returns-clause-levels
 returns-clause-levels c =
     let i = c.self.inside in
     let e = c.pull-given.ensures in
-    pulled_levels i.lists c.pull-given.new.lists i.stack c.pull-given.new.self i.making i.builds.items (named i.meanings i.call) i.sizes _ c.self.invariant e.stands e.account e.kept e.lasting e.size e.parameter_size i.stack.size c.args.categories.now c.args.bytes.now c.pull-given.new.bytes c.pull-given.result e.pulls c.args.self.now c.self.view_is
+    pulled_levels i.lists c.pull-given.new.lists i.stack c.pull-given.new.self i.making i.builds.items (named i.table i.call) i.sizes _ c.self.invariant e.stands e.account e.kept e.lasting e.size e.parameter_size i.stack.size c.categories-categories.result.now c.args.bytes.now c.pull-given.new.bytes c.pull-given.result e.pulls c.args.self.now c.self.view_is
 
 pub returns-clause-after : goal.returns-clause-after
 returns-clause-after c =
     let i = c.self.inside in
     let e = c.pull-given.ensures in
-    let cats = c.args.categories.now in
+    let cats = c.categories-categories.result.now in
+    let same = c.categories-categories.ensures ∙ ap (λ (w : HeldLists). w.groups.now.categories) c.self.view_is in
     let b = c.args.bytes.now in
-    let v = lists_of i.lists (pending i.lists i.stack) i.making i.builds.items (named i.meanings i.call) i.sizes in
+    let v = lists_of i.lists (pending i.lists i.stack) i.making i.builds.items (named i.table i.call) i.sizes in
     let end : looks cats b (pending i.lists i.stack) ≡ ahead.End =
     looks_are i.lists i.lists cats b (innermost i.stack) (pending_of v b [] NotBegun 0) refl refl refl
     ∙ ap (λ (w : HeldLists). ahead_of cats (pending_of w b [] NotBegun 0)) c.self.view_is
+    ∙ ap (λ (cs : List ℕ). ahead_of cs (pending_of c.args.self.now b [] NotBegun 0)) same
     ∙ c.requires.end [] NotBegun 0 in
-    passed_view i.lists c.pull-given.new.lists i.stack c.pull-given.new.self i.making i.builds.items (named i.meanings i.call) i.sizes _ c.self.invariant e.stands e.account e.kept e.lasting e.size e.parameter_size i.stack.size c.args.categories.now c.args.bytes.now c.pull-given.new.bytes c.pull-given.result e.pulls c.args.self.now c.self.view_is (none_left i.stack.size cats b c.pull-given.new.bytes (pending i.lists i.stack) (pending c.pull-given.new.lists c.pull-given.new.self) c.pull-given.result end e.pulls)
+    passed_view i.lists c.pull-given.new.lists i.stack c.pull-given.new.self i.making i.builds.items (named i.table i.call) i.sizes _ c.self.invariant e.stands e.account e.kept e.lasting e.size e.parameter_size i.stack.size c.categories-categories.result.now c.args.bytes.now c.pull-given.new.bytes c.pull-given.result e.pulls c.args.self.now c.self.view_is (none_left i.stack.size cats b c.pull-given.new.bytes (pending i.lists i.stack) (pending c.pull-given.new.lists c.pull-given.new.self) c.pull-given.result end e.pulls)

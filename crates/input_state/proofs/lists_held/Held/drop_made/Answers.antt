@@ -17,9 +17,9 @@ invariant_of-self c =
     let e = c.abandon.ensures in
     let ys = reverse i.builds.items in
     let some : i.making ≡ Some a = sym c.take.ensures.value ∙ c.in-Some.is in
-    let shared : IsShared i.lists i.stack (a ∷ ys) (named i.meanings i.call) = subst (λ (m : Option Build). IsShared i.lists i.stack (all_builds m i.builds.items) (named i.meanings i.call)) some c.self.invariant.shared in
-    let changed = gone i.lists new i.stack (named i.meanings i.call) [] ys a shared (All-head (IsBuilding i.lists) a ys shared.building) e.others e.account in
-    changed_sound i.lists new i.stack (named i.meanings i.call) i.sizes _ _ e.length refl [] [] ys c.take.new.self i.making i.builds.items i.builds.items (ap (λ (m : Option Build). all_builds m i.builds.items) c.take.ensures.after) changed c.self.invariant
+    let shared : IsShared i.lists i.stack (a ∷ ys) (named i.table i.call) = subst (λ (m : Option Build). IsShared i.lists i.stack (all_builds m i.builds.items) (named i.table i.call)) some c.self.invariant.shared in
+    let changed = gone i.lists new i.stack (named i.table i.call) [] ys a shared (All-head (IsBuilding i.lists) a ys shared.building) e.others e.account in
+    changed_sound i.lists new i.stack (named i.table i.call) i.sizes _ _ e.length refl [] [] ys c.take.new.self i.making i.builds.items i.builds.items (ap (λ (m : Option Build). all_builds m i.builds.items) c.take.ensures.after) changed c.self.invariant
 
 pub returns-in-Some-clause-after : goal.returns-in-Some-clause-after
 returns-in-Some-clause-after c =
@@ -29,10 +29,10 @@ returns-in-Some-clause-after c =
     let e = c.abandon.ensures in
     let ys = reverse i.builds.items in
     let some : i.making ≡ Some a = sym c.take.ensures.value ∙ c.in-Some.is in
-    let shared : IsShared i.lists i.stack (a ∷ ys) (named i.meanings i.call) = subst (λ (m : Option Build). IsShared i.lists i.stack (all_builds m i.builds.items) (named i.meanings i.call)) some c.self.invariant.shared in
-    let changed = gone i.lists new i.stack (named i.meanings i.call) [] ys a shared (All-head (IsBuilding i.lists) a ys shared.building) e.others e.account in
-    ap (λ (m : Option Build). lists_of new (pending new i.stack) m i.builds.items (named i.meanings i.call) i.sizes) c.take.ensures.after
-    ∙ none_view i.lists new i.stack (named i.meanings i.call) i.sizes i.builds.items changed
+    let shared : IsShared i.lists i.stack (a ∷ ys) (named i.table i.call) = subst (λ (m : Option Build). IsShared i.lists i.stack (all_builds m i.builds.items) (named i.table i.call)) some c.self.invariant.shared in
+    let changed = gone i.lists new i.stack (named i.table i.call) [] ys a shared (All-head (IsBuilding i.lists) a ys shared.building) e.others e.account in
+    ap (λ (m : Option Build). lists_of new (pending new i.stack) m i.builds.items (named i.table i.call) i.sizes) c.take.ensures.after
+    ∙ none_view i.lists new i.stack (named i.table i.call) i.sizes i.builds.items changed
     ∙ ap (λ (v : HeldLists). record v { making = None; lists = texts new }) c.self.view_is
 
 pub abandon-requires : goal.abandon-requires
@@ -41,7 +41,7 @@ abandon-requires c =
     let a = c.in-Some.build in
     let ys = reverse i.builds.items in
     let some : i.making ≡ Some a = sym c.take.ensures.value ∙ c.in-Some.is in
-    let shared : IsShared i.lists i.stack (a ∷ ys) (named i.meanings i.call) = subst (λ (m : Option Build). IsShared i.lists i.stack (all_builds m i.builds.items) (named i.meanings i.call)) some c.self.invariant.shared in
+    let shared : IsShared i.lists i.stack (a ∷ ys) (named i.table i.call) = subst (λ (m : Option Build). IsShared i.lists i.stack (all_builds m i.builds.items) (named i.table i.call)) some c.self.invariant.shared in
     All-head (IsBuilding i.lists) a ys shared.building
 
 pub returns-in-Some-clause-macros : goal.returns-in-Some-clause-macros
@@ -52,6 +52,6 @@ returns-in-Some-clause-macros c =
     let e = c.abandon.ensures in
     let ys = reverse i.builds.items in
     let some : i.making ≡ Some a = sym c.take.ensures.value ∙ c.in-Some.is in
-    let shared : IsShared i.lists i.stack (a ∷ ys) (named i.meanings i.call) = subst (λ (m : Option Build). IsShared i.lists i.stack (all_builds m i.builds.items) (named i.meanings i.call)) some c.self.invariant.shared in
-    let changed = gone i.lists new i.stack (named i.meanings i.call) [] ys a shared (All-head (IsBuilding i.lists) a ys shared.building) e.others e.account in
-    macros_view i.lists new i.stack (named i.meanings i.call) i.sizes i.making i.builds.items [] [] ys c.args.self.now changed shared.simple.single c.self.view_is
+    let shared : IsShared i.lists i.stack (a ∷ ys) (named i.table i.call) = subst (λ (m : Option Build). IsShared i.lists i.stack (all_builds m i.builds.items) (named i.table i.call)) some c.self.invariant.shared in
+    let changed = gone i.lists new i.stack (named i.table i.call) [] ys a shared (All-head (IsBuilding i.lists) a ys shared.building) e.others e.account in
+    macros_view i.lists new i.stack (named i.table i.call) i.sizes i.making i.builds.items [] [] ys c.args.self.now changed shared.simple.single c.self.view_is

@@ -1,37 +1,40 @@
 use Rattle.std.proofs.Common.{ℕ, refl, ap, ◌∙◌, Option}
 use Rattle.tex_defs.specs.declared.Meaning.{Meaning}
-use Rattle.plain_tokens.specs.Meanings.{name_meaning, assigned, meaning_to_let}
-use Rattle.meanings.specs.Map.{numbered}
-use Rattle.meanings.specs.Holding.{list_of}
+use Rattle.plain_tokens.specs.Meanings.{meaning_to_let}
+use Rattle.meanings.specs.Kept.{numbered}
+use Rattle.equivalents.specs.declared.values.Val.TheVariants as val
+use Rattle.equivalents.specs.Groups.{set_name}
+use Rattle.equivalents.specs.Holding.{list_of}
 use Rattle.input_state.specs.HeldLists.{HeldLists}
 use Rattle.input_state.specs.HeldViews.{named, texts}
 use Rattle.input_state.proofs.CallKept.{countable_now}
-use Rattle.input_state.proofs.Letting.{if_each, shared_size, let_sound, let_view, let_macros}
+use Rattle.input_state.proofs.Letting.{if_each, shared_size, let_sound, let_view, let_macros, named_groups}
 use Rattle.input_state.proofs.lists_held.Held.let_name.Goals as goal
 
-pub to_let-value-requires-clause-countable : goal.to_let-value-requires-clause-countable
-to_let-value-requires-clause-countable c =
+pub to_let-meaning-requires-clause-countable : goal.to_let-meaning-requires-clause-countable
+to_let-meaning-requires-clause-countable c =
     let i = c.self.inside in
-    if_each _ (list_of (meaning_to_let i.meanings.cells c.args.x)) (countable_now i.lists i.stack i.making i.builds.items (named i.meanings i.call) i.sizes _ c.self.invariant)
+    if_each _ (list_of (meaning_to_let i.table.groups.now.meanings c.args.x)) (countable_now i.lists i.stack i.making i.builds.items (named i.table i.call) i.sizes _ c.self.invariant c.recall.ensures.bounded)
 
 pub invariant_of-self : goal.invariant_of-self
 invariant_of-self c =
     let i = c.self.inside in
-    let t = c.to_let-value.ensures in
-    let e = c.define.ensures in
-    let_sound i.lists c.to_let-value.new.lists c.define.new.lists i.stack (named i.meanings i.call) (named c.define.new.self i.call) i.making i.builds.items i.sizes _ c.self.invariant c.args.self.now c.self.view_is c.args.name (numbered c.to_let-value.result) c.requires.calls c.requires.assignable t.held t.account t.kept (shared_size i.lists c.to_let-value.new.lists _ t.after) e.after refl (list_of (name_meaning i.meanings.cells c.args.name)) e.lists e.account e.kept e.lasting
+    let t = c.to_let-meaning.ensures in
+    let e = c.assign.ensures in
+    let_sound i.lists c.to_let-meaning.new.lists c.assign.new.lists i.stack (named i.table i.call) (named c.assign.new.table i.call) i.making i.builds.items i.sizes _ c.self.invariant c.args.self.now c.self.view_is (val.Meant (numbered c.to_let-meaning.result)) t.held t.account t.kept (shared_size i.lists c.to_let-meaning.new.lists _ t.after) c.args.global c.in_ok-loc.loc e.after refl (record { moves = e.account; keeps = e.kept; lasting = e.lasting; fewer = e.fewer; size = e.length }) c.requires.calls
 
-pub returns-clause-after : goal.returns-clause-after
-returns-clause-after c =
+pub returns-clause-ok : goal.returns-clause-ok
+returns-clause-ok c =
     let i = c.self.inside in
-    let t = c.to_let-value.ensures in
-    let e = c.define.ensures in
-    let_view i.lists c.to_let-value.new.lists c.define.new.lists i.stack (named i.meanings i.call) (named c.define.new.self i.call) i.making i.builds.items i.sizes _ c.self.invariant c.args.self.now c.self.view_is c.args.name (numbered c.to_let-value.result) c.requires.calls c.requires.assignable t.held t.account t.kept (shared_size i.lists c.to_let-value.new.lists _ t.after) e.after refl (list_of (name_meaning i.meanings.cells c.args.name)) e.lists e.account e.kept e.lasting
-    ∙ ap (λ (m : Meaning (Option ℕ)). record c.args.self.now { meanings = assigned c.args.self.now.meanings c.args.name m; lists = texts c.define.new.lists }) (t.same ∙ ap (λ (w : HeldLists). meaning_to_let w.meanings c.args.x) c.self.view_is)
+    let t = c.to_let-meaning.ensures in
+    let e = c.assign.ensures in
+    let_view i.lists c.to_let-meaning.new.lists c.assign.new.lists i.stack (named i.table i.call) (named c.assign.new.table i.call) i.making i.builds.items i.sizes _ c.self.invariant c.args.self.now c.self.view_is (val.Meant (numbered c.to_let-meaning.result)) t.held t.account t.kept (shared_size i.lists c.to_let-meaning.new.lists _ t.after) c.args.global c.in_ok-loc.loc e.after refl (record { moves = e.account; keeps = e.kept; lasting = e.lasting; fewer = e.fewer; size = e.length })
+    ∙ named_groups c.args.global c.args.self.now c.args.name (numbered c.to_let-meaning.result) c.in_ok-loc.loc c.assign.new.lists c.in_ok-loc.ensures.place
+    ∙ ap (λ (m : Meaning (Option ℕ)). record c.args.self.now { groups = set_name c.args.global c.args.self.now.groups c.args.name m; lists = texts c.assign.new.lists }) (t.same ∙ ap (λ (w : HeldLists). meaning_to_let w.groups.now.meanings c.args.x) c.self.view_is)
 
 pub returns-clause-macros : goal.returns-clause-macros
 returns-clause-macros c =
     let i = c.self.inside in
-    let t = c.to_let-value.ensures in
-    let e = c.define.ensures in
-    let_macros i.lists c.to_let-value.new.lists c.define.new.lists i.stack (named i.meanings i.call) (named c.define.new.self i.call) i.making i.builds.items i.sizes _ c.self.invariant c.args.self.now c.self.view_is c.args.name (numbered c.to_let-value.result) c.requires.calls c.requires.assignable t.held t.account t.kept (shared_size i.lists c.to_let-value.new.lists _ t.after) e.after refl (list_of (name_meaning i.meanings.cells c.args.name)) e.lists e.account e.kept e.lasting
+    let t = c.to_let-meaning.ensures in
+    let e = c.assign.ensures in
+    let_macros i.lists c.to_let-meaning.new.lists c.assign.new.lists i.stack (named i.table i.call) (named c.assign.new.table i.call) i.making i.builds.items i.sizes _ c.self.invariant c.args.self.now c.self.view_is (val.Meant (numbered c.to_let-meaning.result)) t.held t.account t.kept (shared_size i.lists c.to_let-meaning.new.lists _ t.after) c.args.global c.in_ok-loc.loc e.after refl (record { moves = e.account; keeps = e.kept; lasting = e.lasting; fewer = e.fewer; size = e.length })

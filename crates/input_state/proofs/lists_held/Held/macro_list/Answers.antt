@@ -16,7 +16,7 @@ pub returns-clause-tokens : goal.returns-clause-tokens
 returns-clause-tokens c =
     let i = c.self.inside in
     let lists = ap (λ (w : HeldLists). w.lists) c.self.view_is in
-    let meanings = ap (λ (w : HeldLists). w.meanings) c.self.view_is in
+    let groups = ap (λ (w : HeldLists). w.groups) c.self.view_is in
     option_then c.list.result c.list.ensures.list
-    (λ none. sym (ap (λ (w : HeldLists). text_of w.lists w.meanings c.args.name) c.self.view_is) ∙ no_text (texts i.lists) (name_meaning i.meanings.cells c.args.name) none)
-    (λ r some. named_text i.lists i.meanings c.args.name (id_of r.now) c.args.self.now some lists meanings)
+    (λ none. sym (ap (λ (w : HeldLists). text_of w.lists w.groups.now.meanings c.args.name) c.self.view_is) ∙ no_text (texts i.lists) (name_meaning i.table.groups.now.meanings c.args.name) none)
+    (λ r some. named_text i.lists i.table c.args.name (id_of r.now) c.args.self.now some lists groups)

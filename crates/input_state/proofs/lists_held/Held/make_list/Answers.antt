@@ -15,14 +15,14 @@ invariant_of-self c =
     let new = c.begin.new.lists in
     let ys = reverse i.builds.items in
     let none : i.making ≡ None = sym c.replace.ensures.value ∙ c.in-None.is in
-    let shared : IsShared i.lists i.stack ys (named i.meanings i.call) = subst (λ (m : Option Build). IsShared i.lists i.stack (all_builds m i.builds.items) (named i.meanings i.call)) none c.self.invariant.shared in
-    let changed = begun i.lists new i.stack (named i.meanings i.call) [] ys b shared e.building e.fresh e.others e.account in
-    changed_sound i.lists new i.stack (named i.meanings i.call) i.sizes _ _ e.length refl [] (b ∷ []) ys c.replace.new.self i.making i.builds.items i.builds.items (ap (λ (m : Option Build). all_builds m i.builds.items) c.replace.ensures.after) changed c.self.invariant
+    let shared : IsShared i.lists i.stack ys (named i.table i.call) = subst (λ (m : Option Build). IsShared i.lists i.stack (all_builds m i.builds.items) (named i.table i.call)) none c.self.invariant.shared in
+    let changed = begun i.lists new i.stack (named i.table i.call) [] ys b shared e.building e.fresh e.others e.account in
+    changed_sound i.lists new i.stack (named i.table i.call) i.sizes _ _ e.length refl [] (b ∷ []) ys c.replace.new.self i.making i.builds.items i.builds.items (ap (λ (m : Option Build). all_builds m i.builds.items) c.replace.ensures.after) changed c.self.invariant
 
 pub returns-in-None-clause-refused : goal.returns-in-None-clause-refused
 returns-in-None-clause-refused c =
     let i = c.self.inside in
-    fits_now i.lists i.stack i.making i.builds.items (named i.meanings i.call) i.sizes _ c.self.invariant c.args.self.now c.self.view_is c.in-Ok.ensures.room
+    fits_now i.lists i.stack i.making i.builds.items (named i.table i.call) i.sizes _ c.self.invariant c.args.self.now c.self.view_is c.in-Ok.ensures.room
 
 pub returns-in-None-clause-ok : goal.returns-in-None-clause-ok
 returns-in-None-clause-ok c =
@@ -32,16 +32,16 @@ returns-in-None-clause-ok c =
     let new = c.begin.new.lists in
     let ys = reverse i.builds.items in
     let none : i.making ≡ None = sym c.replace.ensures.value ∙ c.in-None.is in
-    let shared : IsShared i.lists i.stack ys (named i.meanings i.call) = subst (λ (m : Option Build). IsShared i.lists i.stack (all_builds m i.builds.items) (named i.meanings i.call)) none c.self.invariant.shared in
-    let changed = begun i.lists new i.stack (named i.meanings i.call) [] ys b shared e.building e.fresh e.others e.account in
-    ap (λ (m : Option Build). lists_of new (pending new i.stack) m i.builds.items (named i.meanings i.call) i.sizes) c.replace.ensures.after
-    ∙ made_view i.lists new i.stack (named i.meanings i.call) i.sizes i.builds.items b [] changed e.empty
+    let shared : IsShared i.lists i.stack ys (named i.table i.call) = subst (λ (m : Option Build). IsShared i.lists i.stack (all_builds m i.builds.items) (named i.table i.call)) none c.self.invariant.shared in
+    let changed = begun i.lists new i.stack (named i.table i.call) [] ys b shared e.building e.fresh e.others e.account in
+    ap (λ (m : Option Build). lists_of new (pending new i.stack) m i.builds.items (named i.table i.call) i.sizes) c.replace.ensures.after
+    ∙ made_view i.lists new i.stack (named i.table i.call) i.sizes i.builds.items b [] changed e.empty
     ∙ ap (λ (v : HeldLists). record v { making = Some []; lists = texts new }) c.self.view_is
 
 pub returns-in-Err-clause-refused : goal.returns-in-Err-clause-refused
 returns-in-Err-clause-refused c =
     let i = c.self.inside in
-    full_now i.lists i.stack i.making i.builds.items (named i.meanings i.call) i.sizes _ c.self.invariant c.args.self.now c.self.view_is c.in-Err.full c.in-Err.ensures.full
+    full_now i.lists i.stack i.making i.builds.items (named i.table i.call) i.sizes _ c.self.invariant c.args.self.now c.self.view_is c.in-Err.full c.in-Err.ensures.full
 
 pub returns-in-None-clause-macros : goal.returns-in-None-clause-macros
 returns-in-None-clause-macros c =
@@ -51,6 +51,6 @@ returns-in-None-clause-macros c =
     let new = c.begin.new.lists in
     let ys = reverse i.builds.items in
     let none : i.making ≡ None = sym c.replace.ensures.value ∙ c.in-None.is in
-    let shared : IsShared i.lists i.stack ys (named i.meanings i.call) = subst (λ (m : Option Build). IsShared i.lists i.stack (all_builds m i.builds.items) (named i.meanings i.call)) none c.self.invariant.shared in
-    let changed = begun i.lists new i.stack (named i.meanings i.call) [] ys b shared e.building e.fresh e.others e.account in
-    macros_view i.lists new i.stack (named i.meanings i.call) i.sizes i.making i.builds.items [] (b ∷ []) ys c.args.self.now changed shared.simple.single c.self.view_is
+    let shared : IsShared i.lists i.stack ys (named i.table i.call) = subst (λ (m : Option Build). IsShared i.lists i.stack (all_builds m i.builds.items) (named i.table i.call)) none c.self.invariant.shared in
+    let changed = begun i.lists new i.stack (named i.table i.call) [] ys b shared e.building e.fresh e.others e.account in
+    macros_view i.lists new i.stack (named i.table i.call) i.sizes i.making i.builds.items [] (b ∷ []) ys c.args.self.now changed shared.simple.single c.self.view_is

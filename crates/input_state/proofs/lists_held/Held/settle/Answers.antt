@@ -6,16 +6,16 @@ pub invariant_of-self : goal.invariant_of-self
 invariant_of-self c =
     let i = c.self.inside in
     let e = c.drop_finished.ensures in
-    settled_sound i.lists c.drop_finished.new.lists i.stack c.drop_finished.new.self i.making i.builds.items (named i.meanings i.call) i.sizes _ c.self.invariant e.stands e.account e.kept e.lasting e.size e.parameter_size e.after
+    settled_sound i.lists c.drop_finished.new.lists i.stack c.drop_finished.new.self i.making i.builds.items (named i.table i.call) i.sizes _ c.self.invariant e.stands e.account e.kept e.lasting e.size e.parameter_size e.after
 
 pub returns-clause-after : goal.returns-clause-after
 returns-clause-after c =
     let i = c.self.inside in
     let e = c.drop_finished.ensures in
-    settled_view i.lists c.drop_finished.new.lists i.stack c.drop_finished.new.self i.making i.builds.items (named i.meanings i.call) i.sizes _ c.self.invariant e.stands e.account e.kept e.lasting e.size e.parameter_size e.after c.args.self.now c.self.view_is
+    settled_view i.lists c.drop_finished.new.lists i.stack c.drop_finished.new.self i.making i.builds.items (named i.table i.call) i.sizes _ c.self.invariant e.stands e.account e.kept e.lasting e.size e.parameter_size e.after c.args.self.now c.self.view_is
 
 pub returns-clause-macros : goal.returns-clause-macros
 returns-clause-macros c =
     let i = c.self.inside in
     let e = c.drop_finished.ensures in
-    settled_macros i.lists c.drop_finished.new.lists i.stack c.drop_finished.new.self i.making i.builds.items (named i.meanings i.call) i.sizes _ c.self.invariant e.stands e.account e.kept e.lasting e.size e.parameter_size e.after c.args.self.now c.self.view_is
+    settled_macros i.lists c.drop_finished.new.lists i.stack c.drop_finished.new.self i.making i.builds.items (named i.table i.call) i.sizes _ c.self.invariant e.stands e.account e.kept e.lasting e.size e.parameter_size e.after c.args.self.now c.self.view_is

@@ -11,4 +11,4 @@ invariant_of-self c =
     let name = c.into_scan-name.result.0 in
     let scan = c.into_scan-name.result.1 in
     let was : i.call ≡ call.Gathers name scan = sym c.replace.ensures.value ∙ c.into_scan-name.ensures in
-    recalls_sound i.lists i.lists i.stack i.making i.builds.items i.meanings i.call (call.Gathers name scan) (call.Gathers name c.settle.new.self) c.replace-2.new.dest i.sizes _ c.self.invariant was c.replace-2.ensures.after (stands_recalls i.lists i.meanings name scan c.settle.new.self (subst (IsCall i.lists i.meanings) was c.self.invariant.call) c.settle.ensures.sound c.settle.ensures.same)
+    recalls_sound i.lists i.lists i.stack i.making i.builds.items i.table i.call (call.Gathers name scan) (call.Gathers name c.settle.new.self) c.replace-2.new.dest i.sizes _ c.self.invariant was c.replace-2.ensures.after (stands_recalls i.lists i.table name scan c.settle.new.self (subst (IsCall i.lists i.table) was c.self.invariant.call) c.settle.ensures.sound c.settle.ensures.same)

@@ -11,7 +11,7 @@ no_end a (inr invalid) h = let k = sym invalid ∙ h in cc
 
 pub returns-in-Token : goal.returns-in-Token
 returns-in-Token c = record {
-  ready = λ e. InFront (in_front c.args.categories.now c.args.self.now.pending (λ h. no_end c.looks.result c.in-Token.is (c.looks.ensures.ahead ∙ h)));
+  ready = λ e. InFront (in_front c.args.self.now.groups.now.categories c.args.self.now.pending (λ h. no_end c.looks.result c.in-Token.is (c.looks.ensures.ahead ∙ h)));
   needs = λ e. cc;
 }
 
@@ -19,6 +19,6 @@ pub returns-in-End : goal.returns-in-End
 returns-in-End c =
     let i = c.self.inside in
     record {
-      ready = λ e. knows_next c.args.categories.now i.held i.buffer.items i.file c.args.self.now c.self.view_is c.self.invariant.file_size (sym c.lacks_line.ensures ∙ e);
-      needs = λ e. needs_bytes c.args.categories.now i.held i.buffer.items i.file c.args.self.now c.self.view_is c.self.invariant.file_size (sym c.looks.ensures.ahead ∙ c.in-End.is) (sym c.lacks_line.ensures ∙ e);
+      ready = λ e. knows_next i.held i.buffer.items i.file c.args.self.now c.self.view_is c.self.invariant.file_size (sym c.lacks_line.ensures ∙ e);
+      needs = λ e. needs_bytes i.held i.buffer.items i.file c.args.self.now c.self.view_is c.self.invariant.file_size (sym c.looks.ensures.ahead ∙ c.in-End.is) (sym c.lacks_line.ensures ∙ e);
     }

@@ -1,7 +1,8 @@
 use Rattle.std.proofs.Common.{◌≡◌, ℕ, List, [], length, refl, sym, ◌∙◌, Bool, true, false}
 use Rattle.std.specs.Prelude.{None, replicate, if◌then◌else◌}
 use Rattle.tex_defs.specs.declared.Sizes.{Sizes}
-use Rattle.plain_tokens.specs.Meanings.{first_meanings, is_listed}
+use Rattle.plain_tokens.specs.Meanings.{is_listed}
+use Rattle.equivalents.specs.Groups.{first_groups}
 use Rattle.plain_tokens.specs.Pending.{NotBegun, Closed}
 use Rattle.input_state.specs.Callings.{NotCalling}
 use Rattle.input_state.specs.InputViews.{stored_of, IsTied}
@@ -10,13 +11,13 @@ use Rattle.input_state.proofs.state.Input.new.Goals as goal
 
 -- no list is held, and no byte of the file has come
 first_is : (knows : ℕ → Bool) (buffer : List ℕ) (sizes : Sizes) (size : ℕ) (held : Bool) →
-    stored_of (record { puts = []; making = None; call = NotCalling; builds = []; line = None; sizes = sizes; meanings = first_meanings knows; hash_size = sizes.hash_size; lists = replicate sizes.main_memory_size [] }) buffer (record { rest = []; file = (if held then NotBegun else Closed); number = 0; buffer_size = size })
-    ≡ record { pending = unread (no_bytes held); making = None; call = NotCalling; builds = []; buffer = buffer; sizes = sizes; meanings = first_meanings knows; hash_size = sizes.hash_size; lists = replicate sizes.main_memory_size [] }
+    stored_of (record { puts = []; making = None; call = NotCalling; builds = []; line = None; sizes = sizes; groups = first_groups knows; closing = []; ending = None; lists = replicate sizes.main_memory_size [] }) buffer (record { rest = []; file = (if held then NotBegun else Closed); number = 0; buffer_size = size })
+    ≡ record { pending = unread (no_bytes held); making = None; call = NotCalling; builds = []; buffer = buffer; sizes = sizes; groups = first_groups knows; closing = []; ending = None; lists = replicate sizes.main_memory_size [] }
 first_is knows buffer sizes size true = refl
 first_is knows buffer sizes size false = refl
 
 first_tied : (knows : ℕ → Bool) (buffer : List ℕ) (sizes : Sizes) (held : Bool) → length buffer ≡ sizes.buffer_size →
-    IsTied (record { puts = []; making = None; call = NotCalling; builds = []; line = None; sizes = sizes; meanings = first_meanings knows; hash_size = sizes.hash_size; lists = replicate sizes.main_memory_size [] }) buffer (record { rest = []; file = (if held then NotBegun else Closed); number = 0; buffer_size = sizes.buffer_size })
+    IsTied (record { puts = []; making = None; call = NotCalling; builds = []; line = None; sizes = sizes; groups = first_groups knows; closing = []; ending = None; lists = replicate sizes.main_memory_size [] }) buffer (record { rest = []; file = (if held then NotBegun else Closed); number = 0; buffer_size = sizes.buffer_size })
 first_tied knows buffer sizes true size = record { tied = refl; in_buffer = tt; size = size; file_size = refl }
 first_tied knows buffer sizes false size = record { tied = refl; in_buffer = tt; size = size; file_size = refl }
 

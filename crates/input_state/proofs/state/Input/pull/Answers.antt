@@ -6,17 +6,17 @@ use Rattle.input_state.proofs.Files.{keeps_twice, settled_twice, ahead_settled, 
 use Rattle.input_state.proofs.state.Input.pull.Goals as goal
 
 pub returns-in-End-clause-ok : goal.returns-in-End-clause-ok
-returns-in-End-clause-ok c = pull_ok c.args.categories.now c.settle.new.self.lists c.args.self.now c.pull_file.new.self (sym c.looks.ensures.ahead ∙ c.in-End.is) c.settle.new.self c.pull_file.result c.settle.ensures.after c.pull_file.ensures.ok
+returns-in-End-clause-ok c = pull_ok c.settle.new.self.lists c.args.self.now c.pull_file.new.self (sym c.looks.ensures.ahead ∙ c.in-End.is) c.settle.new.self c.pull_file.result c.settle.ensures.after c.pull_file.ensures.ok
 
 pub returns-in-End-clause-refused : goal.returns-in-End-clause-refused
-returns-in-End-clause-refused c = pull_refused c.args.categories.now c.settle.new.self.lists c.args.self.now c.pull_file.new.self (sym c.looks.ensures.ahead ∙ c.in-End.is) c.settle.new.self c.pull_file.result c.settle.ensures.after c.pull_file.ensures.ok c.pull_file.ensures.err
+returns-in-End-clause-refused c = pull_refused c.settle.new.self.lists c.args.self.now c.pull_file.new.self (sym c.looks.ensures.ahead ∙ c.in-End.is) c.settle.new.self c.pull_file.result c.settle.ensures.after c.pull_file.ensures.ok c.pull_file.ensures.err
 
 pub returns-in-End-clause-err : goal.returns-in-End-clause-err
-returns-in-End-clause-err c = pull_err c.args.categories.now c.settle.new.self.lists c.args.self.now c.pull_file.new.self (sym c.looks.ensures.ahead ∙ c.in-End.is) c.settle.new.self c.pull_file.result c.settle.ensures.after c.pull_file.ensures.err
+returns-in-End-clause-err c = pull_err c.settle.new.self.lists c.args.self.now c.pull_file.new.self (sym c.looks.ensures.ahead ∙ c.in-End.is) c.settle.new.self c.pull_file.result c.settle.ensures.after c.pull_file.ensures.err
 
 pub pull_file-requires-clause-end : goal.pull_file-requires-clause-end
 pull_file-requires-clause-end c =
-    ap (λ (s : Stored). ahead_of c.args.categories.now s.pending) c.settle.ensures.after ∙ ahead_settled c.args.categories.now c.args.self.now.pending ∙ sym c.looks.ensures.ahead ∙ c.in-End.is
+    ap (λ (s : Stored). ahead_of s.groups.now.categories s.pending) c.settle.ensures.after ∙ ahead_settled c.args.self.now.groups.now.categories c.args.self.now.pending ∙ sym c.looks.ensures.ahead ∙ c.in-End.is
 
 pub pull_file-requires-clause-settled : goal.pull_file-requires-clause-settled
 pull_file-requires-clause-settled c =
@@ -24,4 +24,4 @@ pull_file-requires-clause-settled c =
 
 pub returns-in-End-clause-macros : goal.returns-in-End-clause-macros
 returns-in-End-clause-macros c =
-    keeps_twice c.args.self.now c.settle.new.self c.pull_file.new.self c.settle.ensures.macros c.pull_file.ensures.macros (ap (λ (s : Stored). s.meanings) c.pull_file.ensures.others) c.pull_file.ensures.puts
+    keeps_twice c.args.self.now c.settle.new.self c.pull_file.new.self c.settle.ensures.macros c.pull_file.ensures.macros (ap (λ (s : Stored). s.groups) c.pull_file.ensures.others) c.pull_file.ensures.puts

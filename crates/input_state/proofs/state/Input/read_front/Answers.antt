@@ -15,4 +15,4 @@ invariant_of-self c =
 pub returns-clause-refused : goal.returns-clause-refused
 returns-clause-refused c =
     let i = c.self.inside in
-    front_refused c.args.categories.now i.held c.deref_mut.result.now i.file c.args.self.now (ap (λ (b : List ℕ). stored_of i.held b i.file) c.deref_mut.ensures.value ∙ c.self.view_is) c.self.invariant.tied c.pull.result c.pull.ensures.refused
+    front_refused i.held c.deref_mut.result.now i.file c.args.self.now (ap (λ (b : List ℕ). stored_of i.held b i.file) c.deref_mut.ensures.value ∙ c.self.view_is) c.self.invariant.tied c.pull.result c.pull.ensures.refused

@@ -1,0 +1,17 @@
+-- Values with the numbers of their lists.
+use Rattle.std.specs.Prelude.{ℕ, List, map, take, Option}
+use Rattle.token_lists.specs.declared.ListRef.{ListRef}
+use Rattle.equivalents.specs.declared.values.Val.{Val}
+use Rattle.equivalents.specs.declared.values.Val.TheVariants as val
+use Rattle.equivalents.specs.Locations.{V, category_of}
+use Rattle.meanings.specs.Kept.{numbered as numbered_meaning, numbered_list}
+
+abbrev pub numbered : Val (Option ListRef) → V
+numbered (val.Number n) = val.Number n
+numbered (val.Skip g) = val.Skip g
+numbered (val.Meant m) = val.Meant (numbered_meaning m)
+numbered (val.Tokens list) = val.Tokens (numbered_list list)
+
+-- the category codes stand first
+abbrev pub categories_in : List V → List ℕ
+categories_in cells = map category_of (take 256 cells)

@@ -1,0 +1,7 @@
+pub mod Rows
+pub mod Decoding
+pub mod Sorts
+pub mod Reading
+pub mod Joins
+pub mod Whole
+pub mod Names

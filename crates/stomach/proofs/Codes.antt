@@ -1,0 +1,317 @@
+-- The code that a command sets is one of its kind, of a character: its row has read both in their ranges.
+use Rattle.std.proofs.Common.{◌≡◌, ℕ, ℤ, pos, negsuc, ◌≤◌, Bool, true, false, List, [], ◌∷◌, ◌++◌, refl, subst, arith}
+use Rattle.std.specs.Prelude.{Option, Some, nat_le, ◌==◌, ◌&&◌, if◌then◌else◌}
+use Rattle.std.proofs.lemmas.Bool.Decides.{nat_tests}
+use Rattle.tex_defs.specs.declared.Token.{Token}
+use Rattle.tex_defs.specs.declared.Seen.{Seen}
+use Rattle.tex_defs.specs.declared.Name.{Name}
+use Rattle.tex_syntax.specs.declared.words.Want.{Want}
+use Rattle.plain_state.specs.Definitions as build
+use Rattle.plain_tokens.specs.Arguments as call
+use Rattle.equivalents.specs.declared.values.CodeKind.{CodeKind}
+use Rattle.equivalents.specs.declared.values.CodeKind.TheVariants as code
+use Rattle.equivalents.specs.declared.values.Loc.TheVariants as loc
+use Rattle.equivalents.specs.declared.values.Val.TheVariants as val
+use Rattle.equivalents.specs.Locations.{Suits, IsCategory}
+use Rattle.rows.specs.declared.words.Datum.{Datum}
+use Rattle.rows.specs.declared.words.Datum.TheVariants as datum
+use Rattle.rows.specs.declared.words.Value.{Value}
+use Rattle.rows.specs.declared.words.Value.TheVariants as value
+use Rattle.rows.specs.declared.words.Kind.{Kind as Begun}
+use Rattle.rows.specs.declared.words.Kind.TheVariants.{Command, Integer, Text, Definition}
+use Rattle.rows.specs.declared.stage.Stage.{Stage}
+use Rattle.rows.specs.declared.stage.Stage.TheVariants.{NumberTo, NumberUpTo, Equals, MacroText}
+use Rattle.rows.specs.declared.stage.Start.{Start}
+use Rattle.rows.specs.declared.stage.Start.TheVariants.{Looks, Begins}
+use Rattle.rows.specs.declared.stage.Met.{Met}
+use Rattle.rows.specs.declared.stage.Met.TheVariants as met
+use Rattle.rows.specs.declared.stage.Got.{Got}
+use Rattle.rows.specs.declared.stage.Got.TheVariants as got
+use Rattle.rows.specs.declared.stage.Next.{Next}
+use Rattle.rows.specs.declared.stage.Next.TheVariants as next
+use Rattle.rows.specs.declared.stage.Note.{Note}
+use Rattle.rows.specs.declared.stage.Note.TheVariants as note
+use Rattle.rows.specs.declared.command.Action.{Action}
+use Rattle.rows.specs.declared.command.Action.TheVariants as action
+use Rattle.rows.specs.declared.command.Call.{Call}
+use Rattle.rows.specs.declared.command.Effect.TheVariants.{SetCode}
+use Rattle.rows.specs.declared.command.Row.{Row}
+use Rattle.rows.specs.declared.command.TheConstants.{SYNTAX}
+use Rattle.rows.specs.Effects.{comes_to}
+use Rattle.rows.specs.Readings.{Fed, Tok, Val, Told, Ask, Acts}
+use Rattle.rows.specs.Run.{Outcome, Asks, Takes, Passes, Gathers, Makes, Turns, comes, due, noted, valued, inner, begins, met_with, looks, again, started, behind, run, no_turn, turned, row}
+use Rattle.rows.specs.Stages.{number, number_in, start, on_token, on_value, on_datum, on_list}
+use Rattle.rows.specs.Table.{stages_in, stages_of, row_among, row_or_token, action_of}
+use Rattle.rows.specs.Tokens.{is_at_most, is_up_to, is_equals}
+use Rattle.plain_readings.specs.Readings.{Kind, Reads, Spelling, Behind, Arguments, ask}
+use Rattle.plain_readings.specs.Calls.{call_ask, gathered}
+use Rattle.plain_readings.specs.Lists.{build_ask, text, definition}
+use Rattle.plain_readings.proofs.Steps.{integer_holds, spelling_holds}
+use Rattle.plain_machine.specs.Plan.{natural}
+
+-- a code of this kind for a character
+abbrev IsCode : CodeKind → (char : ℤ) → ℤ → Type 0
+IsCode kind char z = (natural char ≤ 255) × Suits (loc.Code kind (natural char)) (val.Number z)
+
+-- a code that is to be set is one of its kind, of a character
+abbrev pub SetsCode : Ask → Type 0
+SetsCode (Acts c (SetCode kind char z)) = IsCode kind char z
+SetsCode a = Unit {0}
+
+-- STAGES
+
+-- what a stage may have read: a number in its range; an `=` isn't kept
+abbrev IsRead : Stage → Datum → Type 0
+IsRead (NumberTo greatest complaint) d = is_at_most greatest (number_in d) ≡ true
+IsRead Equals d = ⊥
+IsRead s d = Unit {0}
+
+-- whether it may be over with nothing that is kept, and whether it may be an inner reading
+abbrev MayPass : Stage → Type 0
+MayPass (NumberTo greatest complaint) = ⊥
+MayPass s = Unit {0}
+
+abbrev MayBegin : Stage → Type 0
+MayBegin Equals = ⊥
+MayBegin s = Unit {0}
+
+abbrev StartFits : Stage → Start → Type 0
+StartFits s (Looks want) = MayPass s
+StartFits s (Begins k) = MayBegin s
+
+abbrev NextFits : Stage → Next → Type 0
+NextFits s (next.Takes d) = IsRead s d
+NextFits s n = Unit {0}
+
+abbrev MetFits : Stage → Met → Type 0
+MetFits s (met.Takes d) = IsRead s d
+MetFits s (met.Notes n m) = NextFits s m
+MetFits s m = Unit {0}
+
+abbrev GotFits : Stage → Got → Type 0
+GotFits s (got.Takes d) = IsRead s d
+GotFits s (got.Tells report m) = NextFits s m
+GotFits s g = Unit {0}
+
+abbrev Fits : Stage → Outcome → Type 0
+Fits s (Asks a) = SetsCode a
+Fits s (Takes d fed) = IsRead s d
+Fits s (Passes fed) = MayPass s
+Fits s o = Unit {0}
+
+start_fits : (s : Stage) (c : Call) (ds : List Datum) → StartFits s (start s c ds)
+start_fits (NumberTo greatest complaint) c ds = tt
+start_fits Equals c ds = tt
+start_fits s c ds = tt
+
+any_next : (s : Stage) → ((d : Datum) → IsRead s d) → (m : Next) → NextFits s m
+any_next s h (next.Takes d) = h d
+any_next s h m = tt
+
+any_met : (s : Stage) → ((d : Datum) → IsRead s d) → (m : Met) → MetFits s m
+any_met s h (met.Takes d) = h d
+any_met s h (met.Notes n m) = any_next s h m
+any_met s h m = tt
+
+met_if : (s : Stage) (b : Bool) (l m : Met) → MetFits s l → MetFits s m → MetFits s (if b then l else m)
+met_if s true l m h i = h
+met_if s false l m h i = i
+
+token_fits : (s : Stage) (c : Call) (x : Seen) → MetFits s (on_token s c x)
+token_fits (NumberTo greatest complaint) c x = tt
+token_fits Equals c x = met_if Equals (is_equals x) met.Passes met.Leaves tt tt
+token_fits s c x = any_met s (λ d. tt) (on_token s c x)
+
+-- a number out of its range is 0
+range_fits : (b : Bool) (s : Stage) (n : ℤ) (l m : Got) → (b ≡ true → GotFits s l) → GotFits s m → GotFits s (if b then l else m)
+range_fits true s n l m h i = h refl
+range_fits false s n l m h i = i
+
+zero_is_read : (greatest : ℕ) → is_at_most greatest (pos 0) ≡ true
+zero_is_read greatest = grind (arith, nat_tests)
+
+datum_fits : (s : Stage) → MayBegin s → (d : Datum) → GotFits s (on_datum s d)
+datum_fits (NumberTo greatest complaint) h (datum.Number n) = range_fits (is_at_most greatest n) (NumberTo greatest complaint) n _ _ (λ h. h) (zero_is_read greatest)
+datum_fits (NumberTo greatest complaint) h d = zero_is_read greatest
+datum_fits (NumberUpTo greatest) h (datum.Number n) = range_fits (is_up_to greatest n) (NumberUpTo greatest) n _ _ (λ is. tt) tt
+datum_fits (NumberUpTo greatest) h d = tt
+datum_fits Equals h d = absurd h
+datum_fits s h d = tt
+
+list_fits : (s : Stage) → GotFits s (on_list s)
+list_fits (MacroText expanded) = tt
+list_fits s = tt
+
+value_fits : (s : Stage) → MayBegin s → (v : Value) → GotFits s (on_value s v)
+value_fits s h (value.Plain d) = datum_fits s h d
+value_fits s h value.List = list_fits s
+
+due_sets : (n : Note) → SetsCode (due n)
+due_sets (note.Tells report back) = tt
+due_sets (note.Inserts t report back) = tt
+
+comes_fits : (s : Stage) (m : Next) → NextFits s m → (fed : List Fed) → Fits s (comes m fed)
+comes_fits s (next.Takes d) h fed = h
+comes_fits s next.Stops h fed = tt
+comes_fits s (next.Turns c) h fed = tt
+
+noted_fits : (s : Stage) (n : Note) (m : Next) → NextFits s m → (fed : List Fed) → Fits s (noted n m fed)
+noted_fits s n m h [] = due_sets n
+noted_fits s n m h (Told ∷ fed) = comes_fits s m h fed
+noted_fits s n m h (y ∷ fed) = tt
+
+valued_fits : (s : Stage) (g : Got) → GotFits s g → (ts : List Token) (fed : List Fed) → Fits s (valued g ts fed)
+valued_fits s (got.Takes d) h ts fed = h
+valued_fits s (got.Tells report m) h ts fed = noted_fits s (note.Tells report false) m h fed
+valued_fits s got.Gathers h ts fed = tt
+valued_fits s got.Defines h ts fed = tt
+
+inner_fits : (s : Stage) → MayBegin s → (k : Begun) (fed : List Fed) → Fits s (inner s k fed)
+inner_fits s h k [] = tt
+inner_fits s h k (Val v ts ∷ fed) = valued_fits s (on_value s v) (value_fits s h v) ts fed
+inner_fits s h k (y ∷ fed) = tt
+
+begins_fits : (s : Stage) → MayBegin s → (k : Begun) (fed : List Fed) → Fits s (begins s k fed)
+begins_fits s h k [] = tt
+begins_fits s h k (Tok x ∷ fed) = inner_fits s h k fed
+begins_fits s h k (Val v ts ∷ fed) = valued_fits s (on_value s v) (value_fits s h v) ts fed
+begins_fits s h k (y ∷ fed) = tt
+
+met_with_fits : (s : Stage) → MayPass s → (x : Seen) (m : Met) → MetFits s m → (skipped : Call → Outcome) (retried : Note → Outcome) (fed : List Fed) → ((c : Call) → Fits s (skipped c)) → ((n : Note) → Fits s (retried n)) →
+    Fits s (met_with (Tok x) m skipped retried fed)
+met_with_fits s pass x (met.Takes d) h skipped retried fed i j = h
+met_with_fits s pass x met.Passes h skipped retried fed i j = pass
+met_with_fits s pass x met.Leaves h skipped retried fed i j = pass
+met_with_fits s pass x (met.Skips c) h skipped retried fed i j = i c
+met_with_fits s pass x (met.Notes n m) h skipped retried fed i j = noted_fits s n m h fed
+met_with_fits s pass x (met.Retries n) h skipped retried fed i j = j n
+met_with_fits s pass x (met.Turns c) h skipped retried fed i j = tt
+
+mutual
+  looks_fits : (s : Stage) → MayPass s → (c : Call) (want : Want) (fed : List Fed) → Fits s (looks s c want fed)
+  looks_fits s pass c want [] = tt
+  looks_fits s pass c want (Tok x ∷ fed) =
+      met_with_fits s pass x (on_token s c x) (token_fits s c x) (λ d. looks s d want fed) (λ n. again s c want n fed) fed (λ d. looks_fits s pass d want fed) (λ n. again_fits s pass c want n fed)
+  looks_fits s pass c want (y ∷ fed) = tt
+
+  again_fits : (s : Stage) → MayPass s → (c : Call) (want : Want) (n : Note) (fed : List Fed) → Fits s (again s c want n fed)
+  again_fits s pass c want n [] = due_sets n
+  again_fits s pass c want n (Told ∷ fed) = looks_fits s pass c want fed
+  again_fits s pass c want n (y ∷ fed) = tt
+
+started_fits : (s : Stage) (c : Call) (b : Start) → StartFits s b → (fed : List Fed) → Fits s (started s c b fed)
+started_fits s c (Looks want) h fed = looks_fits s h c want fed
+started_fits s c (Begins k) h fed = begins_fits s h k fed
+
+-- ROWS
+
+-- behind these stages the two things that were read are a character and its code, where these things were
+abbrev ReadsCode : CodeKind → List Stage → List Datum → Type 0
+ReadsCode kind [] ds = IsCode kind (number 0 ds) (number 1 ds)
+ReadsCode kind (s ∷ ss) ds = ((d : Datum) → IsRead s d → ReadsCode kind ss (ds ++ d ∷ [])) × (MayPass s → ReadsCode kind ss ds)
+
+effect_sets : (c : Call) (a : Action) (ds : List Datum) → ((kind : CodeKind) → a ≡ action.SetCode kind → IsCode kind (number 0 ds) (number 1 ds)) → SetsCode (Acts c (comes_to a ds))
+effect_sets c (action.SetCode kind) ds h = h kind refl
+effect_sets c a ds h = tt
+
+module _ (turn : Call → List Fed → Ask) (turns : (c : Call) (fed : List Fed) → SetsCode (turn c fed)) where
+  behind_sets : (c : Call) (s : Stage) (ds : List Datum) (onward : List Datum → List Fed → Ask) → ((d : Datum) → IsRead s d → (fed : List Fed) → SetsCode (onward (ds ++ d ∷ []) fed)) → (MayPass s → (fed : List Fed) → SetsCode (onward ds fed)) →
+      (o : Outcome) → Fits s o → SetsCode (behind turn c ds onward o)
+  behind_sets c s ds onward h i (Asks a) fits = fits
+  behind_sets c s ds onward h i (Takes d fed) fits = h d fits fed
+  behind_sets c s ds onward h i (Passes fed) fits = i fits fed
+  behind_sets c s ds onward h i (Gathers ts) fits = tt
+  behind_sets c s ds onward h i (Makes ts) fits = tt
+  behind_sets c s ds onward h i (Turns d fed) fits = turns d fed
+
+  run_sets : (c : Call) (ss : List Stage) (ds : List Datum) → ((kind : CodeKind) → action_of c.primitive ≡ action.SetCode kind → ReadsCode kind ss ds) → (fed : List Fed) → SetsCode (run turn c ss ds fed)
+  run_sets c [] ds h fed = effect_sets c (action_of c.primitive) ds h
+  run_sets c (s ∷ ss) ds h fed =
+      behind_sets c s ds (λ es more. run turn c ss es more) (λ d read more. run_sets c ss (ds ++ d ∷ []) (λ kind e. (h kind e).0 d read) more) (λ pass more. run_sets c ss ds (λ kind e. (h kind e).1 pass) more)
+      (started s c (start s c ds) fed) (started_fits s c (start s c ds) (start_fits s c ds) fed)
+
+-- THE TABLE, of which each row is tried
+
+abbrev is_code_row : CodeKind → List Stage → Bool
+is_code_row code.Category (NumberTo m first ∷ Equals ∷ NumberTo n second ∷ []) = nat_le m 255 && nat_le n 15
+is_code_row code.Category ss = false
+is_code_row kind (NumberTo m first ∷ Equals ∷ s ∷ []) = nat_le m 255
+is_code_row kind ss = false
+
+abbrev reads_if_set : Action → List Stage → Bool
+reads_if_set (action.SetCode kind) ss = is_code_row kind ss
+reads_if_set a ss = true
+
+abbrev all_read : List (ℕ × Row × Action) → Bool
+all_read [] = true
+all_read (first ∷ rows) = reads_if_set first.2 (stages_in first.1) && all_read rows
+
+table_reads : all_read SYNTAX.now ≡ true
+table_reads = refl
+
+most : (greatest bound : ℕ) (n : ℤ) → is_at_most greatest n ≡ true → nat_le greatest bound ≡ true → natural n ≤ bound
+most greatest bound (pos n) h i = grind (arith, nat_tests, h, i)
+most greatest bound (negsuc n) h i = omega arith
+
+category : (greatest : ℕ) (n : ℤ) → is_at_most greatest n ≡ true → nat_le greatest 15 ≡ true → IsCategory n
+category greatest (pos n) h i = grind (arith, nat_tests, h, i)
+category greatest (negsuc n) h i = absurd cc
+
+row_reads : (kind : CodeKind) (ss : List Stage) → is_code_row kind ss ≡ true → ReadsCode kind ss []
+row_reads code.Category (NumberTo m first ∷ Equals ∷ NumberTo n second ∷ []) h =
+    let code : nat_le m 255 ≡ true = grind (arith, nat_tests, h) in let least : nat_le n 15 ≡ true = grind (arith, nat_tests, h) in
+    (λ a in_a. (λ b no. absurd no, λ pass. (λ d in_d. (most m 255 (number_in a) in_a code, category n (number_in d) in_d least), λ no. absurd no)), λ no. absurd no)
+row_reads code.Category ss h = absurd cc
+row_reads kind (NumberTo m first ∷ Equals ∷ s ∷ []) h =
+    (λ a in_a. (λ b no. absurd no, λ pass. (λ d in_d. (most m 255 (number_in a) in_a h, tt), λ passes. (most m 255 (number_in a) in_a h, tt))), λ no. absurd no)
+row_reads kind ss h = absurd cc
+
+kind_same : (j k : CodeKind) → action.SetCode j ≡ action.SetCode k → j ≡ k
+kind_same j k e = cc
+
+set_reads : (a : Action) (ss : List Stage) → reads_if_set a ss ≡ true → (kind : CodeKind) → a ≡ action.SetCode kind → ReadsCode kind ss []
+set_reads (action.SetCode k) ss h kind e = subst (λ (j : CodeKind). ReadsCode j ss []) (kind_same k kind e) (row_reads k ss h)
+set_reads a ss h kind e = absurd cc
+
+abbrev found_reads : Option (Row × Action) → Bool
+found_reads o = reads_if_set (row_or_token o).1 (stages_in (row_or_token o).0)
+
+found_if : (b d : Bool) (found : Row × Action) (o : Option (Row × Action)) → reads_if_set found.1 (stages_in found.0) && d ≡ true → (d ≡ true → found_reads o ≡ true) → found_reads (if b then Some found else o) ≡ true
+found_if true d found o h i = grind (arith, nat_tests, h)
+found_if false d found o h i = i (grind (arith, nat_tests, h))
+
+among_reads : (n : ℕ) (rows : List (ℕ × Row × Action)) → all_read rows ≡ true → found_reads (row_among n rows) ≡ true
+among_reads n [] h = refl
+among_reads n (first ∷ rows) h = found_if (first.0 == n) (all_read rows) (first.1, first.2) (row_among n rows) h (among_reads n rows)
+
+reads_code : (n : ℕ) (kind : CodeKind) → action_of n ≡ action.SetCode kind → ReadsCode kind (stages_of n) []
+reads_code n = set_reads (action_of n) (stages_of n) (among_reads n SYNTAX.now table_reads)
+
+row_sets : (c : Call) (fed : List Fed) → SetsCode (row c fed)
+row_sets c fed =
+    run_sets turned (λ d more. run_sets no_turn (λ e rest. tt) d (stages_of d.primitive) [] (reads_code d.primitive) more) c (stages_of c.primitive) [] (reads_code c.primitive) fed
+
+-- ALL READINGS
+
+build_sets : (a : build.Answer) → SetsCode (build_ask a)
+build_sets (build.More want list) = tt
+build_sets (build.Tells report back list) = tt
+build_sets (build.Done list) = tt
+
+call_sets : (name : Name) (a : call.Answer) → SetsCode (call_ask name a)
+call_sets name (call.More args work) = tt
+call_sets name (call.ExtraBraceFound args work) = tt
+call_sets name (call.Called args) = tt
+call_sets name call.Mismatch = tt
+call_sets name (call.Ended false args work) = tt
+call_sets name (call.Ended true args work) = tt
+
+pub sets_code : (k : Kind) (fed : List Fed) → SetsCode (ask k fed)
+sets_code (Reads (Command c)) fed = row_sets c fed
+sets_code (Reads Integer) fed = integer_holds (λ b a. SetsCode a) (λ b want. tt) (λ report back. tt) (λ b n back. tt) false false fed
+sets_code (Reads (Text name expanded)) fed = build_sets (text name expanded fed)
+sets_code (Reads (Definition name expanded)) fed = build_sets (definition name expanded fed)
+sets_code (Spelling c) fed = spelling_holds (λ b a. SetsCode a) (λ b want. tt) (λ report back. tt) (λ b. tt) (λ b c ts. tt) c [] false fed
+sets_code (Behind c x) fed = tt
+sets_code (Arguments name long number ts) [] = tt
+sets_code (Arguments name long number ts) (y ∷ fed) = call_sets name (gathered long ts (y ∷ fed))
