@@ -18,14 +18,13 @@ use Rattle.tex_defs.specs.declared.Token.{Token}
 use Rattle.tex_defs.specs.Places.{World, Transcript}
 use Rattle.plain_tokens.specs.Arguments.{is_par}
 use Rattle.plain_tokens.specs.Meanings.{met as met_token, token_meaning, is_expandable, marked_meaning}
-use Rattle.plain_tokens.specs.Printed.{initial_style}
-use Rattle.plain_state.specs.Reports.{plain_style, report_bytes, runaway_bytes}
+use Rattle.plain_state.specs.Reports.{report_bytes, runaway_bytes}
 use Rattle.rows.specs.Readings.{Cut}
 use Rattle.plain_readings.specs.Readings.{Reading, fed_with}
 use Rattle.plain_readings.specs.Scanning.{Scanning}
 use Rattle.plain_machine.specs.States.{State, Move, Written, Reported, Feeds}
 use Rattle.plain_tokens.specs.Tokens.{space_token, is_outer}
-use Rattle.plain_machine.specs.Plan.{Page, wanted, reported, check_noted, put_one, page_behind, checked, met, met_outer}
+use Rattle.plain_machine.specs.Plan.{Page, style_of, wanted, reported, check_noted, put_one, page_behind, checked, met, met_outer}
 use Rattle.plain_machine.specs.Does.{Did}
 use Rattle.plain_machine.proofs.Doing.{did_join, did_none}
 use Rattle.plain_machine.proofs.Renumbering.{met_of}
@@ -43,7 +42,7 @@ use Rattle.engine_state.specs.Begins.{away_moves}
 use Rattle.engine_state.specs.Book.{Book, with_work}
 use Rattle.engine_state.specs.Calls.{AllStand, work_or_none}
 use Rattle.engine_state.specs.CutReadings.{CutsIn}
-use Rattle.engine_state.specs.Stands.{IsSized, SameFrames, SameOthers, SameStore, OnlyColumn, state_of, page_of}
+use Rattle.engine_state.specs.Stands.{IsSized, SameFrames, SameOthers, SameStore, OnlyColumn, state_of, page_of, own_style}
 use Rattle.engine_state.specs.Steps.{asked}
 use Rattle.engine_state.specs.Rules.{world_of, onward_of, feeds_of, space_moves, token_moves, scanning_of, list_number, scanned_list, away_text, IsScanned, Scans, Takes, WantsHere, Behind, Comes, Went, Reports, DoesOnward}
 use Rattle.engine_state.proofs.Uncalled.{framed}
@@ -114,7 +113,7 @@ space_same page (Some want) r rs feeds = ap (λ (ms : List Move). wanted page wa
 module _ (sizes : Sizes) (want space : Option Want) (e e1 e2 : Engine) (f : FilesTold) (s0 s1 : SinkTold) (report : Report) (page : Page) (book : Book)
     (same : SameFrames e e1) (input : e1.input ≡ e.input) (sized : IsSized sizes e → IsSized sizes e1) (t : Takes sizes want e book) where
   abbrev written : List Move
-  written = Written Transcript (report_bytes (plain_style e.names.names) e.in_line e.input.pending.number report) ∷ Reported ∷ []
+  written = Written Transcript (report_bytes (own_style e) e.in_line e.input.pending.number report) ∷ Reported ∷ []
 
   takes1 : Takes sizes want e1 book
   takes1 = takes_still sizes want e e1 book same (all_input sizes e e1 book same input sized t.1) t
@@ -239,8 +238,8 @@ module _ (sizes : Sizes) (e e1 e2 : Engine) (f : FilesTold) (s : SinkTold) (w2 :
     (put : (w : World) → Did sizes (state_of e book) (state_of e1 book) w w (put_one t)) where
   away_same : away_moves (page_of e book) what (away_text what k e) report rest ≡ away_moves (page_of e1 book) what (away_text what k e1) report rest
   away_same =
-      ap (λ (p : Page). away_moves p what (runaway_bytes what (initial_style p.now.categories p.names) p.in_line (scanned_list what k e)) report rest) (sym page)
-      ∙ ap (λ (ts : List Token). away_moves (page_of e1 book) what (runaway_bytes what (initial_style e1.input.groups.now.categories e1.names.names) e1.in_line ts) report rest) (sym (list_still what k e e1 same.calling same.lists))
+      ap (λ (p : Page). away_moves p what (runaway_bytes what (style_of p) p.in_line (scanned_list what k e)) report rest) (sym page)
+      ∙ ap (λ (ts : List Token). away_moves (page_of e1 book) what (runaway_bytes what (own_style e1) e1.in_line ts) report rest) (sym (list_still what k e e1 same.calling same.lists))
 
   put_did : Did sizes (state_of e book) (state_of e1 book) (world_of f s e) (world_of f s e1) (put_one t)
   put_did = subst (λ (b : Bool). Did sizes (state_of e book) (state_of e1 book) (world_of f s e) (world f s b) (put_one t)) (sym (ap (λ (p : Page). p.in_line) page)) (put (world_of f s e))

@@ -87,6 +87,7 @@ same_with e e' stack held is size kept = record {
     depth = ap (λ (x : Engine). x.readings.size) is ∙ size;
     call = ap (λ (x : Engine). x.call) is;
     names = ap (λ (x : Engine). x.names) is;
+    after = ap (λ (x : Engine). x.after) is;
     in_line = ap (λ (x : Engine). x.in_line) is;
     reports = ap (λ (x : Engine). x.reports) is;
     flawed = ap (λ (x : Engine). x.flawed) is;

@@ -4,11 +4,14 @@ pub mod Cells
 pub mod Checking
 pub mod CheckingMoves
 pub mod CheckingNotes
+pub mod Closing
 pub mod Coming
 pub mod Counting
 pub mod Cutting
 pub mod FramesHeld
 pub mod Joining
+pub mod GroupEnds
+pub mod Grouping
 pub mod Known
 pub mod MadeTexts
 pub mod MeaningTexts

@@ -10,7 +10,7 @@ use Rattle.tex_defs.specs.declared.Meaning.{Meaning}
 use Rattle.tex_defs.specs.declared.Meaning.TheVariants as means
 use Rattle.plain_tokens.specs.Tokens.{made_token, made_text}
 use Rattle.plain_tokens.specs.Meanings.{seen_as, token_meaning, whole_meaning}
-use Rattle.plain_tokens.specs.Printed.{Style, initial_style, meaning_head, token_text, list_from, places_after, last_after}
+use Rattle.plain_tokens.specs.Printed.{Style, meaning_head, token_text, list_from, places_after, last_after}
 use Rattle.plain_machine.specs.Plan.{Page}
 use Rattle.plain_machine.proofs.Ties.{text_let}
 use Rattle.input_state.specs.HeldLists.{made as made_list}
@@ -19,7 +19,7 @@ use Rattle.engine_state.specs.declared.engine.Engine.{Engine}
 use Rattle.engine_state.specs.declared.text.Made.{Made}
 use Rattle.engine_state.specs.declared.text.Made.TheVariants as make
 use Rattle.engine_state.specs.Book.{Book}
-use Rattle.engine_state.specs.Stands.{IsSound, page_of}
+use Rattle.engine_state.specs.Stands.{IsSound, page_of, own_style}
 use Rattle.engine_state.specs.Making.{HasGrown, GrowsNot, IsInFront, characters_of, characters_in}
 use Rattle.engine_state.proofs.TextPutting.{grown_none, grown_both, later_not, first_not, not_by, front_sound}
 
@@ -125,7 +125,7 @@ characters_are sizes e book sound make.JobName = refl
 characters_are sizes e book sound (make.Number n) = refl
 characters_are sizes e book sound (make.Roman n) = refl
 characters_are sizes e book sound (make.Spelling t) = refl
-characters_are sizes e book sound (make.Meaning x) = text_let book.number book.macros e.input.groups e.input.pending.puts e.input.lists sound.tied (initial_style e.input.groups.now.categories e.names.names) x
+characters_are sizes e book sound (make.Meaning x) = text_let book.number book.macros e.input.groups e.input.pending.puts e.input.lists sound.tied (own_style e) x
 
 -- before and behind what begins a text
 pub characters_behind : (sizes : Sizes) (e e1 : Engine) (book : Book) → IsInFront e e1 → IsSound sizes e book.number book.macros → (m : Made) → characters_of (page_of e book) m ≡ characters_in e1 m

@@ -14,7 +14,8 @@ use Rattle.tex_defs.specs.declared.Full.{Full}
 use Rattle.tex_defs.specs.declared.Table.TheVariants.{InputStackSize}
 use Rattle.tex_defs.specs.Places.{World}
 use Rattle.plain_tokens.specs.Puts.{Item, Text, First, Later, Gap, Put as PutList, settled, settled_top, passed, next_item, top_item, first_item, put_levels, levels_of}
-use Rattle.plain_tokens.specs.Pending.{Pending, Progress, NotBegun, Begun as BegunFile, Closed, Pulled, TokenFrom, LexemeFrom, LineTaken, InvalidMet, FileOver, NothingLeft, settle, pulled, after_pull, taken_line, from_front, from_list, from_line, from_file}
+use Rattle.plain_tokens.specs.Lines.{first_line}
+use Rattle.plain_tokens.specs.Pending.{Pending, Progress, NotBegun, Begun as BegunFile, Closed, Pulled, TokenFrom, LexemeFrom, LineTaken, InvalidMet, FileOver, NothingLeft, settle, pulled, after_pull, with_end, from_front, from_list, from_line, from_file}
 use Rattle.plain_tokens.specs.Lex.{Lexeme, Character, ActiveName, SingleName, EmptyName, WordName, ParName, Lexed, Gives, Invalid, UsedUp, lexed}
 use Rattle.plain_tokens.specs.Lookup.{number_of, token_of, joins, new_among, new_name}
 use Rattle.tex_defs.specs.declared.Meaning.{Meaning}
@@ -27,6 +28,7 @@ use Rattle.plain_tokens.specs.Tables.{is_put, Demand, level, opened_level, file_
 use Rattle.plain_machine.specs.Demands.{refusal}
 use Rattle.plain_machine.specs.Plan.{Page, handed, met, entered, without_file, checked, reported}
 use Rattle.equivalents.specs.Groups.{Groups}
+use Rattle.equivalents.specs.Parameters.{end_of_line}
 use Rattle.plain_machine.specs.Numbers.{Tied, pending_of, pulled_of}
 use Rattle.plain_machine.specs.Runs.{steps}
 use Rattle.plain_machine.specs.Does.{Did}
@@ -38,7 +40,7 @@ use Rattle.plain_machine.proofs.Settling.{pulled_settled, passed_settled}
 use Rattle.plain_machine.proofs.Silent.{Lighter, lighter}
 use Rattle.world_io.specs.Told.{FilesTold, SinkTold, world}
 use Rattle.input_state.specs.Stored.{Stored, KeepsMacros, gathered}
-use Rattle.input_state.specs.Reads.{Pulls, ReadsLexeme, step_demands, pull_refusal}
+use Rattle.input_state.specs.Reads.{Pulls, ReadsLexeme, TakesLine, step_demands, pull_refusal}
 use Rattle.input_state.specs.declared.answer.Pulled as answers
 use Rattle.input_state.specs.declared.answer.Pulled.TheVariants as answer
 use Rattle.line_lexer.specs.declared.Lexed as answered
@@ -412,7 +414,9 @@ module _ (sizes : Sizes) (e : Engine) (i : Stored) (others : i ≡ record e.inpu
     fewer : (a : answers.Pulled) → Pulls (pulled e.input.groups.now.categories e.input.pending) a e.input i → (n : ℕ) → is_put n i.pending.puts ≡ true → is_put n e.input.pending.puts ≡ true
     fewer (answer.Token t) h = fewer_by e.input.groups.now.categories e.input.pending i.pending (TokenFrom t i.pending) h.0 refl
     fewer (answer.Lexeme l) h = fewer_by e.input.groups.now.categories e.input.pending i.pending (LexemeFrom h.lexeme i.pending) h.pulls refl
-    fewer answer.Taken h = fewer_by e.input.groups.now.categories e.input.pending i.pending (LineTaken (taken_line e.input.pending.rest) i.pending) h.0 refl
+    fewer answer.Taken h = λ n put.
+        fewer_by e.input.groups.now.categories e.input.pending h.0.next (LineTaken (first_line e.input.pending.rest) h.0.next) h.0.is refl n
+        (subst (λ (x : Pending). is_put n x.puts ≡ true) h.0.ended put)
     fewer answer.Invalid h = fewer_by e.input.groups.now.categories e.input.pending i.pending (InvalidMet i.pending) h refl
     fewer answer.FileOver h = fewer_by e.input.groups.now.categories e.input.pending i.pending (FileOver i.pending) h refl
     fewer answer.Nothing h = λ n put. put_settled n e.input.pending.puts (subst (λ (x : Pending). is_put n x.puts ≡ true) h.1 put)
@@ -438,6 +442,9 @@ module _ (sizes : Sizes) (e : Engine) (i : Stored) (others : i ≡ record e.inpu
 
   pub invalid_page : (book : Book) → pulled e.input.groups.now.categories e.input.pending ≡ InvalidMet i.pending → page_of now book ≡ page_of e book
   invalid_page book is = page_at book (subst (KeepsNumber e.input.pending) is (number_kept e.input.groups.now.categories e.input.pending (passed e.input.pending.puts)))
+
+  pub settled_page : (book : Book) → i.pending ≡ settle e.input.pending → page_of now book ≡ page_of e book
+  settled_page book is = page_at book (ap (λ (p : Pending). p.number) is)
 
   pub file_gone : (book : Book) → pulled e.input.groups.now.categories e.input.pending ≡ FileOver i.pending → page_of now book ≡ without_file (page_of e book)
   file_gone book is =
@@ -476,12 +483,16 @@ module _ (sizes : Sizes) (e : Engine) (i : Stored) (others : i ≡ record e.inpu
     did_settled : Did sizes (state_of e book) at_settled w w (Settled ∷ [])
     did_settled = did_one sizes Settled _ _ w w refl refl (quiet_here Settled w tt)
 
-    -- and then the move that takes what was pulled
+    -- and then the move that takes what was pulled, so much changed
+    did_change : (f : Pending → Pending) (m : Move) (p : Pulled) → pulled e.input.groups.now.categories here ≡ p → f (after_pull (settle here) p) ≡ next → IsQuiet m → refusal sizes m at_settled ≡ None →
+        made m at_settled ≡ record (state_of e book) { pending = f (after_pull (settle here) (pulled e.input.groups.now.categories (settle here))) } → Did sizes (state_of e book) (state_of now book) w w (Settled ∷ m ∷ [])
+    did_change f m p is after q fits makes =
+        let onto : next ≡ f (after_pull (settle here) (pulled e.input.groups.now.categories (settle here))) = sym (ap (λ (x : Pulled). f (after_pull (settle here) x)) (pulled_settled e.input.groups.now.categories here ∙ is) ∙ after) in
+        did_join sizes _ _ _ w w w (Settled ∷ []) (m ∷ []) did_settled (did_one sizes m _ _ w w fits (makes ∙ at_behind _ onto) (quiet_here m w q))
+
     did_pull : (m : Move) (p : Pulled) → pulled e.input.groups.now.categories here ≡ p → after_pull (settle here) p ≡ next → IsQuiet m → refusal sizes m at_settled ≡ None →
         made m at_settled ≡ record (state_of e book) { pending = after_pull (settle here) (pulled e.input.groups.now.categories (settle here)) } → Did sizes (state_of e book) (state_of now book) w w (Settled ∷ m ∷ [])
-    did_pull m p is after q fits makes =
-        let onto : next ≡ after_pull (settle here) (pulled e.input.groups.now.categories (settle here)) = sym (ap (after_pull (settle here)) (pulled_settled e.input.groups.now.categories here ∙ is) ∙ after) in
-        did_join sizes _ _ _ w w w (Settled ∷ []) (m ∷ []) did_settled (did_one sizes m _ _ w w fits (makes ∙ at_behind _ onto) (quiet_here m w q))
+    did_pull m p is after q fits makes = did_change (λ x. x) m p is after q fits makes
 
     module _ (page : Page) (want : Option Want) (scanned : Option Scanning) (onward : Seen → List Move) where
       abbrev plan : List Move
@@ -534,13 +545,16 @@ module _ (sizes : Sizes) (e : Engine) (i : Stored) (others : i ≡ record e.inpu
       taken_plan : (line : List ℕ) (q : Pending) → pulled e.input.groups.now.categories e.input.pending ≡ LineTaken line q → plan ≡ Settled ∷ Taken line ∷ []
       taken_plan line q is = rw (pulled_as book.number e.input.pending e.input.groups.now.categories (LineTaken line q) is) refl
 
-      pub taken_rule : (line : List ℕ) → pulled e.input.groups.now.categories e.input.pending ≡ LineTaken line i.pending → refused e.input.sizes (next_line e.input.pending) ≡ None → e.input.sizes ≡ sizes → AllStand sizes now book →
-          Went sizes (state_of e book) now w w plan 1
-      taken_rule line is fits sized stands =
-          went_by sizes _ now w w (Settled ∷ Taken line ∷ []) plan 1 (taken_plan line i.pending is) (record {
+      -- it gets its end character
+      pub taken_rule : TakesLine (pulled e.input.groups.now.categories e.input.pending) (end_of_line e.input.groups.now) e.input.pending i.pending → refused e.input.sizes (next_line e.input.pending) ≡ None → e.input.sizes ≡ sizes →
+          AllStand sizes now book → Went sizes (state_of e book) now w w plan 1
+      taken_rule takes fits sized stands =
+          let line = first_line e.input.pending.rest in
+          went_by sizes _ now w w (Settled ∷ Taken line ∷ []) plan 1 (taken_plan line takes.next takes.is) (record {
             book' = book;
             stands = stands;
-            did = did_pull (Taken line) (LineTaken line next) (pulled_as book.number e.input.pending e.input.groups.now.categories (LineTaken line i.pending) is) refl tt (line_demands None fits sized) refl;
+            did = did_change (with_end (end_of_line e.input.groups.now)) (Taken line) (LineTaken line (pending_of book.number takes.next))
+                (pulled_as book.number e.input.pending e.input.groups.now.categories (LineTaken line takes.next) takes.is) (ap (pending_of book.number) (sym takes.ended)) tt (line_demands None fits sized) refl;
             count = refl;
           })
 
@@ -609,18 +623,18 @@ module _ (sizes : Sizes) (e : Engine) (i : Stored) (others : i ≡ record e.inpu
 
       -- nothing is left
       module _ (is : pulled e.input.groups.now.categories e.input.pending ≡ NothingLeft) (stays : i.pending ≡ settle e.input.pending) where
-        nothing_plan : plan ≡ Settled ∷ last_moves page.in_line last.NoEnd
+        nothing_plan : plan ≡ Settled ∷ last_moves page last.NoEnd
         nothing_plan = rw (pulled_as book.number e.input.pending e.input.groups.now.categories NothingLeft is) refl
 
         nothing_did : Did sizes (state_of e book) (state_of now book) w w (Settled ∷ [])
         nothing_did = did_one sizes Settled _ _ w w refl (at_behind _ (stays_there stays)) (quiet_here Settled w tt)
 
-        pub no_end_nexts : (w' : World) (e2 : Engine) (ruled : Ruled) → DoesOnward sizes (state_of now book) e2 book w w' (last_moves page.in_line last.NoEnd) ruled → Nexts sizes want (state_of e book) e2 book w w' plan (next_free ruled)
+        pub no_end_nexts : (w' : World) (e2 : Engine) (ruled : Ruled) → DoesOnward sizes (state_of now book) e2 book w w' (last_moves page last.NoEnd) ruled → Nexts sizes want (state_of e book) e2 book w w' plan (next_free ruled)
         no_end_nexts w' e2 ruled h =
-            next_by sizes want _ e2 book w w' _ _ (next_free ruled) nothing_plan (next_freely sizes want _ e2 book w w' _ ruled (onward_join sizes (state_of e book) (state_of now book) e2 book w w w' (Settled ∷ []) (last_moves page.in_line last.NoEnd) ruled refl nothing_did refl h))
+            next_by sizes want _ e2 book w w' _ _ (next_free ruled) nothing_plan (next_freely sizes want _ e2 book w w' _ ruled (onward_join sizes (state_of e book) (state_of now book) e2 book w w w' (Settled ∷ []) (last_moves page last.NoEnd) ruled refl nothing_did refl h))
 
-        pub no_end_cuts : (w' : World) (e2 : Engine) (b : Broken) → CutsIn sizes (state_of now book) e2 w w' (last_moves page.in_line last.NoEnd) b → CutsIn sizes (state_of e book) e2 w w' plan b
-        no_end_cuts w' e2 b h = in_by sizes _ e2 w w' _ _ b nothing_plan (later_in sizes _ (state_of now book) e2 w w w' (Settled ∷ []) (last_moves page.in_line last.NoEnd) b nothing_did h)
+        pub no_end_cuts : (w' : World) (e2 : Engine) (b : Broken) → CutsIn sizes (state_of now book) e2 w w' (last_moves page last.NoEnd) b → CutsIn sizes (state_of e book) e2 w w' plan b
+        no_end_cuts w' e2 b h = in_by sizes _ e2 w w' _ _ b nothing_plan (later_in sizes _ (state_of now book) e2 w w w' (Settled ∷ []) (last_moves page last.NoEnd) b nothing_did h)
 
 -- WHAT WAS PULLED, by the answer
 
@@ -631,7 +645,7 @@ module _ (p : Pulled) (a : answers.Pulled) (old new : Stored) (h : Pulls p a old
   pub lexeme_at : (l : answered.Lexed) → a ≡ answer.Lexeme l → ReadsLexeme p l new.pending new.buffer
   lexeme_at l is = subst (λ (x : answers.Pulled). Pulls p x old new) is h
 
-  pub taken_at : a ≡ answer.Taken → (p ≡ LineTaken (taken_line old.pending.rest) new.pending) × (refused old.sizes (next_line old.pending) ≡ None)
+  pub taken_at : a ≡ answer.Taken → TakesLine p (end_of_line old.groups.now) old.pending new.pending × (refused old.sizes (next_line old.pending) ≡ None)
   taken_at is = subst (λ (x : answers.Pulled). Pulls p x old new) is h
 
   pub invalid_at : a ≡ answer.Invalid → p ≡ InvalidMet new.pending

@@ -11,7 +11,7 @@ use Rattle.tex_defs.specs.Places.{World, Transcript}
 use Rattle.plain_tokens.specs.Puts.{Item, Put as PutList, token_put, settled, settled_top, grown_by}
 use Rattle.plain_tokens.specs.Pending.{Pending, settle, put_front}
 use Rattle.plain_tokens.specs.Tables.{Demand, refused, memory, level, string}
-use Rattle.plain_state.specs.Reports.{plain_style, report_bytes}
+use Rattle.plain_state.specs.Reports.{report_bytes}
 use Rattle.rows.specs.Readings.{Fed, Told}
 use Rattle.plain_readings.specs.Readings.{Kind, Reads, Spelling, Arguments, Behind, Reading, fed_with, lists}
 use Rattle.plain_machine.specs.States.{State, Move, Settled, Kept, Grows, Feeds, ListBegun, ListGrown, Put, Written, Reported, made}
@@ -32,7 +32,7 @@ use Rattle.engine_state.specs.declared.broken.Broken.{Broken}
 use Rattle.engine_state.specs.declared.broken.Broken.TheVariants as broken
 use Rattle.engine_state.specs.declared.engine.Engine.{Engine}
 use Rattle.engine_state.specs.Book.{Book, with_work}
-use Rattle.engine_state.specs.Stands.{SameFrames, call_count, Counts, IsSized, IsSound, Stands, SameStore, state_of, page_of}
+use Rattle.engine_state.specs.Stands.{SameFrames, call_count, Counts, IsSized, IsSound, Stands, SameStore, state_of, page_of, own_style}
 use Rattle.engine_state.specs.Rules.{world_of, Cuts, Went, Reports, Halts}
 use Rattle.engine_state.proofs.Uncalled.{all_of}
 use Rattle.engine_state.proofs.Cutting.{cuts_by, later_cuts, full_cuts}
@@ -233,7 +233,7 @@ module _ (sizes : Sizes) (e : Engine) (f : FilesTold) (s0 : SinkTold) (book : Bo
     on_page rep = subst (λ (p : Page). Reports sizes (state_of e1 (with_work (r ∷ rs) book)) (state_of e2 (with_work (r ∷ rs) book)) (world f s0 p.in_line) (world_of f s2 e2) p report (noting r)) page rep
 
     abbrev written : List Move
-    written = Written Transcript (report_bytes (plain_style e.names.names) e.in_line e.input.pending.number report) ∷ Reported ∷ []
+    written = Written Transcript (report_bytes (own_style e) e.in_line e.input.pending.number report) ∷ Reported ∷ []
 
     whole_is : Reports sizes (state_of e1 (with_work (r ∷ rs) book)) (state_of e2 (with_work (r ∷ rs) book)) (world_of f s0 e) (world_of f s2 e2) (page_of e book) report (noting r) → told (page_of e book) report inserted back r ≡ fronts inserted back e.last ++ (written ++ noting r)
     whole_is h = told_is (page_of e book) report inserted back r ∙ ap (λ (x : List Move). fronts inserted back e.last ++ x) h.moves

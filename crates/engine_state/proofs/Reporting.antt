@@ -4,24 +4,20 @@ use Rattle.std.specs.Prelude.{Option, Some, None, Result, Ok, Err, IfErr, IsErrA
 use Rattle.tex_syntax.specs.declared.words.Outcome.{Outcome}
 use Rattle.tex_syntax.specs.declared.words.Outcome.TheVariants.{AtFatal, Finished}
 use Rattle.tex_syntax.specs.declared.words.Report.{Report}
-use Rattle.tex_syntax.specs.declared.words.Scanned.TheVariants as scanned
 use Rattle.tex_defs.specs.declared.Sizes.{Sizes}
 use Rattle.tex_defs.specs.declared.Token.{Token}
 use Rattle.tex_defs.specs.declared.Meaning.{Meaning}
 use Rattle.tex_defs.specs.declared.Full.{Full}
 use Rattle.tex_defs.specs.declared.Fatal.{Fatal}
 use Rattle.tex_defs.specs.declared.Fatal.TheVariants as fatal
-use Rattle.prim_table.specs.Primitives.{primitive_names}
 use Rattle.tex_defs.specs.Places.{World, Transcript}
-use Rattle.plain_tokens.specs.Printed.{Style, initial_style}
+use Rattle.plain_tokens.specs.Printed.{Style}
 use Rattle.plain_state.specs.Reports as reports
-use Rattle.plain_state.specs.Reports.{plain_style, report_bytes, hundred_line, token_line_bytes, missing_file_bytes, runaway_bytes}
-use Rattle.plain_readings.specs.Readings.{Reading}
+use Rattle.plain_state.specs.Reports.{hundred_line, token_line_bytes, missing_file_bytes}
 use Rattle.plain_machine.specs.States.{State, Move, Written, Reported, Stopped, made}
 use Rattle.plain_machine.specs.Demands.{refusal}
-use Rattle.plain_machine.specs.Plan.{Page, reported, reports_room, token_line, no_file}
-use Rattle.plain_machine.specs.Numbers.{pending_of, groups_of}
-use Rattle.plain_machine.specs.Runs.{Wrote, steps, step_of}
+use Rattle.plain_machine.specs.Plan.{Page, style_of, reported, reports_room, token_line, no_file}
+use Rattle.plain_machine.specs.Runs.{Wrote, steps}
 use Rattle.plain_machine.specs.Does.{Did}
 use Rattle.plain_machine.proofs.Doing.{did_join, did_one, wrote_join}
 use Rattle.world_io.specs.Told.{FilesTold, SinkTold, world}
@@ -30,7 +26,6 @@ use Rattle.transcript.specs.Taken.{Took, TookFront}
 use Rattle.token_lists.specs.Table.{Entry, tokens_at}
 use Rattle.input_state.specs.HeldLists.{first_list as first_held}
 use Rattle.input_state.specs.Macros.{list_at}
-use Rattle.input_state.specs.Stored.{gathered}
 use Rattle.reading_frames.specs.Sees.{kept_list_of}
 use Rattle.engine_state.specs.declared.broken.Broken.{Broken}
 use Rattle.engine_state.specs.declared.engine.Engine.{Engine}
@@ -39,23 +34,18 @@ use Rattle.engine_state.specs.declared.outcome.Last.{Last}
 use Rattle.engine_state.specs.declared.outcome.Last.TheVariants as last
 use Rattle.engine_state.specs.Faults.{broken_by}
 use Rattle.engine_state.specs.Begins.{outcome_of_last, last_moves, last_bytes}
-use Rattle.engine_state.specs.Book.{Book, with_work}
+use Rattle.engine_state.specs.Book.{Book}
 use Rattle.engine_state.specs.Calls.{AllStand, work_or_none}
-use Rattle.engine_state.specs.Stands.{Stands, IsSized, IsSound, IsUncalled, SameFrames, SameStore, SameBut, SameOthers, OnlyColumn, state_of, page_of}
+use Rattle.engine_state.specs.Stands.{Stands, IsSized, IsSound, IsUncalled, SameFrames, SameStore, SameOthers, OnlyColumn, state_of, page_of, own_style}
 use Rattle.engine_state.specs.Rules.{world_of, list_number, counted, CountsOn, Cuts, CountsReports, Went, Halts, Reports}
-use Rattle.engine_state.proofs.Uncalled.{all_of}
 use Rattle.engine_state.proofs.CallKept.{frames_kept}
 use Rattle.engine_state.proofs.Cutting.{cuts_by, full_cuts, later_cuts, did_out, cut_out}
-use Rattle.engine_state.proofs.Joining.{IsQuiet, quiet_here, quiet_wrote, halts_on}
+use Rattle.engine_state.proofs.Joining.{quiet_here, halts_on}
 use Rattle.engine_state.proofs.Storing.{store_is, store_same, sound_sized, sound_still}
 
 -- WRITES
 
--- the style of a view
-pub style_is : (style : Style) (codes categories : List ℕ) (found names : List (List ℕ)) → style ≡ initial_style codes found → codes ≡ categories → found ≡ names → style ≡ initial_style categories names
-style_is style codes categories found names h c n = h ∙ ap (λ (x : List ℕ). initial_style x found) c ∙ ap (λ (x : List (List ℕ)). initial_style categories x) n
-
--- and a text of tokens in it
+-- a text of tokens in a style
 pub shown_is : (text : Style → List Token → List ℕ) (style style' : Style) (ts us : List Token) → style ≡ style' → ts ≡ us → text style ts ≡ text style' us
 shown_is text style style' ts us s t = cc
 
@@ -87,8 +77,9 @@ unlisted_is true lists none = ap (kept_list_of true) (sym (none refl))
 pub work_is : (table held : List (Option Entry)) (id : ℕ) (o : Option (List Token)) → table ≡ held → o ≡ Some (tokens_at held id) → tokens_at table id ≡ work_or_none o
 work_is table held id o t is = ap (λ (x : List (Option Entry)). tokens_at x id) t ∙ ap work_or_none (sym is)
 
-pub empty_is : (categories : List ℕ) (names : List (List ℕ)) (b : Bool) (text : List ℕ) (o : Option (List Token)) → o ≡ None → text ≡ runaway_bytes scanned.Use (initial_style categories names) b [] → text ≡ runaway_bytes scanned.Use (initial_style categories names) b (work_or_none o)
-empty_is categories names b text o none is = is ∙ ap (λ (x : Option (List Token)). runaway_bytes scanned.Use (initial_style categories names) b (work_or_none x)) (sym none)
+-- or none, where no place is reached
+pub none_is : (o : Option (List Token)) → o ≡ None → [] ≡ work_or_none o
+none_is o none = ap work_or_none (sym none)
 
 module _ (s s' : SinkTold) (e : Engine) (b' : Bool) (text shown : List ℕ) (is : shown ≡ text) where
   only_column : OnlyColumn e (record e { in_line = b' })
@@ -107,28 +98,36 @@ module _ (s s' : SinkTold) (e : Engine) (b' : Bool) (text shown : List ℕ) (is 
   err_out (Err b) fault h front = λ sizes f book more.
       cut_out sizes f s s' e (record e { in_line = b' }) book only_column b fault text more h (subst (λ (bs : List ℕ). TookFront s s' e.in_line b' bs fault) is front)
 
+-- the same text
+pub did_text : (sizes : Sizes) (s t : State) (w w' : World) (text shown : List ℕ) → shown ≡ text → Did sizes s t w w' (Written Transcript shown ∷ []) → Did sizes s t w w' (Written Transcript text ∷ [])
+did_text sizes s t w w' text shown is h = subst (λ (bs : List ℕ). Did sizes s t w w' (Written Transcript bs ∷ [])) is h
+
+pub cut_text : (sizes : Sizes) (s : State) (e' : Engine) (book : Book) (w w' : World) (b : Broken) (text shown : List ℕ) → shown ≡ text →
+    ((more : List Move) → Cuts sizes s e' book w w' (Written Transcript shown ∷ more) b) → (more : List Move) → Cuts sizes s e' book w w' (Written Transcript text ∷ more) b
+cut_text sizes s e' book w w' b text shown is h more = subst (λ (bs : List ℕ). Cuts sizes s e' book w w' (Written Transcript bs ∷ more) b) is (h more)
+
 -- a token line that is written
-pub loud : (page : Page) (m : Meaning Unit) → page.quiet ≡ false → token_line page m ≡ Written Transcript (token_line_bytes (plain_style page.names) page.in_line m) ∷ []
+pub loud : (page : Page) (m : Meaning Unit) → page.quiet ≡ false → token_line page m ≡ Written Transcript (token_line_bytes (style_of page) page.in_line m) ∷ []
 loud page m e = rw e refl
 
 -- and that is cut off
 pub loud_cuts : {T : Type 0} → (r : Result T Broken) (s s' : SinkTold) (e e' : Engine) (m : Meaning Unit) → e.quiet ≡ false →
     IfErr r (λ b. (sizes : Sizes) (f : FilesTold) (book : Book) (more : List Move) →
-    Cuts sizes (state_of e book) e' book (world_of f s e) (world_of f s' e') (Written Transcript (token_line_bytes (plain_style e.names.names) e.in_line m) ∷ more) b) →
+    Cuts sizes (state_of e book) e' book (world_of f s e) (world_of f s' e') (Written Transcript (token_line_bytes (own_style e) e.in_line m) ∷ more) b) →
     IfErr r (λ b. (sizes : Sizes) (f : FilesTold) (book : Book) → Cuts sizes (state_of e book) e' book (world_of f s e) (world_of f s' e') (token_line (page_of e book) m) b)
 loud_cuts (Ok x) s s' e e' m q h = tt
 loud_cuts (Err b) s s' e e' m q h = λ sizes f book. cuts_by sizes _ e' book _ _ _ _ b (loud (page_of e book) m q) (h sizes f book [])
 
 -- REPORTS
 
-abbrev no_file_lines : List ℕ
-no_file_lines = reports.emergency (plain_style []) ++ reports.no_file_line (plain_style [])
+abbrev no_file_lines : Style → List ℕ
+no_file_lines style = reports.emergency style ++ reports.no_file_line style
 
 counted_on : (page : Page) (rest : List Move) → nat_lt page.reports reports_room ≡ true → counted page rest ≡ Reported ∷ rest
 counted_on page rest e = rw e refl
 
 counted_end : (page : Page) (rest : List Move) → nat_lt page.reports reports_room ≡ false →
-    counted page rest ≡ Reported ∷ Written Transcript (hundred_line (plain_style page.names)) ∷ Stopped (AtFatal fatal.HundredErrors) ∷ []
+    counted page rest ≡ Reported ∷ Written Transcript (hundred_line (style_of page)) ∷ Stopped (AtFatal fatal.HundredErrors) ∷ []
 counted_end page rest e = rw e refl
 
 -- the machine stops behind its last text
@@ -161,15 +160,15 @@ stops sizes s e' book w w' bs o due counts d = record {
   by_outcome (AtFatal f) h = tt
 
 -- where the machine stops of itself
-pub last_is : (sizes : Sizes) (st : State) (e' : Engine) (book : Book) (w w' : World) (b : Bool) (l : Last) → st.due ≡ [] → e'.reports ≡ st.reports → e'.flawed ≡ st.flawed → Did sizes st (state_of e' book) w w' (Written Transcript (last_bytes b l) ∷ []) →
-    Halts sizes st e' book w w' (last_moves b l) (outcome_of_last l) 0
-last_is sizes st e' book w w' b last.End due is flawed d = stops sizes st e' book w w' _ _ due (sym is, sym flawed) d
-last_is sizes st e' book w w' b last.NoEnd due is flawed d = stops sizes st e' book w w' _ _ due tt d
+pub last_is : (sizes : Sizes) (st : State) (e' : Engine) (book : Book) (w w' : World) (page : Page) (l : Last) → st.due ≡ [] → e'.reports ≡ st.reports → e'.flawed ≡ st.flawed → Did sizes st (state_of e' book) w w' (Written Transcript (last_bytes page l) ∷ []) →
+    Halts sizes st e' book w w' (last_moves page l) (outcome_of_last l) 0
+last_is sizes st e' book w w' page last.End due is flawed d = stops sizes st e' book w w' _ _ due (sym is, sym flawed) d
+last_is sizes st e' book w w' page last.NoEnd due is flawed d = stops sizes st e' book w w' _ _ due tt d
 
-pub last_cut : (sizes : Sizes) (s : State) (e' : Engine) (book : Book) (w w' : World) (b : Bool) (l : Last) (k : Broken) →
-    ((more : List Move) → Cuts sizes s e' book w w' (Written Transcript (last_bytes b l) ∷ more) k) → Cuts sizes s e' book w w' (last_moves b l) k
-last_cut sizes s e' book w w' b last.End k h = h _
-last_cut sizes s e' book w w' b last.NoEnd k h = h _
+pub last_cut : (sizes : Sizes) (s : State) (e' : Engine) (book : Book) (w w' : World) (page : Page) (l : Last) (k : Broken) →
+    ((more : List Move) → Cuts sizes s e' book w w' (Written Transcript (last_bytes page l) ∷ more) k) → Cuts sizes s e' book w w' (last_moves page l) k
+last_cut sizes s e' book w w' page last.End k h = h _
+last_cut sizes s e' book w w' page last.NoEnd k h = h _
 
 -- a report that is counted
 module _ (sizes : Sizes) (s u : State) (w w1 : World) (text : List ℕ) (first : Did sizes s u w w1 (Written Transcript text ∷ [])) where
@@ -214,7 +213,7 @@ counts_on sizes e book n w rest is room = record {
 -- or it was the hundredth
 module _ (sizes : Sizes) (e e' : Engine) (book : Book) (w w' : World) (rest : List Move) (full : nat_lt e.reports reports_room ≡ false) where
   abbrev hundred : List ℕ
-  hundred = hundred_line (plain_style e.names.names)
+  hundred = hundred_line (own_style e)
 
   reported_here : Did sizes (state_of e book) (made Reported (state_of e book)) w w (Reported ∷ [])
   reported_here = did_one sizes Reported _ _ w w refl refl (quiet_here Reported w tt)
@@ -263,28 +262,27 @@ module _ (sizes : Sizes) (e e1 e' : Engine) (book : Book) (only : OnlyColumn e e
       (later_cuts sizes _ _ e' book w w1 w' (Written Transcript text ∷ []) (counted (page_of e1 book) rest) b first h)
 
 -- a job whose file isn't held
-no_file_is : (file : List ℕ) (names : List (List ℕ)) (b : Bool) → names ≡ primitive_names → b ≡ false →
-    no_file file ≡ Written Transcript (missing_file_bytes (plain_style names) b 0 file) ∷ Reported ∷ Written Transcript no_file_lines ∷ Stopped (AtFatal fatal.NoFile) ∷ []
-no_file_is file names b n c =
-    ap (λ (bs : List ℕ). Written Transcript bs ∷ Reported ∷ Written Transcript no_file_lines ∷ Stopped (AtFatal fatal.NoFile) ∷ [])
-    (ap (λ (x : List (List ℕ)). missing_file_bytes (plain_style x) false 0 file) (sym n) ∙ ap (λ (x : Bool). missing_file_bytes (plain_style names) x 0 file) (sym c))
+no_file_is : (style : Style) (file : List ℕ) (b : Bool) → b ≡ false →
+    no_file style file ≡ Written Transcript (missing_file_bytes style b 0 file) ∷ Reported ∷ Written Transcript (no_file_lines style) ∷ Stopped (AtFatal fatal.NoFile) ∷ []
+no_file_is style file b c =
+    ap (λ (x : Bool). Written Transcript (missing_file_bytes style x 0 file) ∷ Reported ∷ Written Transcript (no_file_lines style) ∷ Stopped (AtFatal fatal.NoFile) ∷ []) (sym c)
 
-module _ (sizes : Sizes) (file : List ℕ) (names : List (List ℕ)) (b : Bool) (names_are : names ≡ primitive_names) (column : b ≡ false) (s : State) where
+module _ (sizes : Sizes) (style : Style) (file : List ℕ) (b : Bool) (column : b ≡ false) (s : State) where
   -- the first text is cut off
-  pub missing_cuts : (e' : Engine) (book : Book) (w w' : World) (k : Broken) → ((more : List Move) → Cuts sizes s e' book w w' (Written Transcript (missing_file_bytes (plain_style names) b 0 file) ∷ more) k) →
-      Cuts sizes s e' book w w' (no_file file) k
-  missing_cuts e' book w w' k h = cuts_by sizes s e' book w w' _ _ k (no_file_is file names b names_are column) (h (Reported ∷ Written Transcript no_file_lines ∷ Stopped (AtFatal fatal.NoFile) ∷ []))
+  pub missing_cuts : (e' : Engine) (book : Book) (w w' : World) (k : Broken) → ((more : List Move) → Cuts sizes s e' book w w' (Written Transcript (missing_file_bytes style b 0 file) ∷ more) k) →
+      Cuts sizes s e' book w w' (no_file style file) k
+  missing_cuts e' book w w' k h = cuts_by sizes s e' book w w' _ _ k (no_file_is style file b column) (h (Reported ∷ Written Transcript (no_file_lines style) ∷ Stopped (AtFatal fatal.NoFile) ∷ []))
 
-  module _ (u : State) (w w1 w2 : World) (first : Did sizes s u w w1 (Written Transcript (missing_file_bytes (plain_style names) b 0 file) ∷ [])) where
-    pub job_halts : (v : State) (e' : Engine) (book : Book) → u.due ≡ [] → Did sizes v (state_of e' book) w1 w2 (Written Transcript no_file_lines ∷ []) → (s.reports ≤ reports_room → made Reported u ≡ v) →
-        Halts sizes s e' book w w2 (no_file file) (AtFatal fatal.NoFile) 0
+  module _ (u : State) (w w1 w2 : World) (first : Did sizes s u w w1 (Written Transcript (missing_file_bytes style b 0 file) ∷ [])) where
+    pub job_halts : (v : State) (e' : Engine) (book : Book) → u.due ≡ [] → Did sizes v (state_of e' book) w1 w2 (Written Transcript (no_file_lines style) ∷ []) → (s.reports ≤ reports_room → made Reported u ≡ v) →
+        Halts sizes s e' book w w2 (no_file style file) (AtFatal fatal.NoFile) 0
     job_halts v e' book due second is =
-        subst (λ (ms : List Move). Halts sizes s e' book w w2 ms (AtFatal fatal.NoFile) 0) (sym (no_file_is file names b names_are column))
-        (ends_behind sizes s u w w1 (missing_file_bytes (plain_style names) b 0 file) first w2 no_file_lines fatal.NoFile v e' book due second is)
+        subst (λ (ms : List Move). Halts sizes s e' book w w2 ms (AtFatal fatal.NoFile) 0) (sym (no_file_is style file b column))
+        (ends_behind sizes s u w w1 (missing_file_bytes style b 0 file) first w2 (no_file_lines style) fatal.NoFile v e' book due second is)
 
-    pub job_cuts : (v : State) (e' : Engine) (book : Book) (k : Broken) → made Reported u ≡ v → ((more : List Move) → Cuts sizes v e' book w1 w2 (Written Transcript no_file_lines ∷ more) k) → Cuts sizes s e' book w w2 (no_file file) k
-    job_cuts v e' book k is h = cuts_by sizes s e' book w w2 _ _ k (no_file_is file names b names_are column)
-        (cuts_behind sizes s u w w1 (missing_file_bytes (plain_style names) b 0 file) first w2 no_file_lines fatal.NoFile v e' book k is h)
+    pub job_cuts : (v : State) (e' : Engine) (book : Book) (k : Broken) → made Reported u ≡ v → ((more : List Move) → Cuts sizes v e' book w1 w2 (Written Transcript (no_file_lines style) ∷ more) k) → Cuts sizes s e' book w w2 (no_file style file) k
+    job_cuts v e' book k is h = cuts_by sizes s e' book w w2 _ _ k (no_file_is style file b column)
+        (cuts_behind sizes s u w w1 (missing_file_bytes style b 0 file) first w2 (no_file_lines style) fatal.NoFile v e' book k is h)
 
 -- WHAT STAYS
 
@@ -295,13 +293,6 @@ uncalled_still e e' same h = record { none = same.call ∙ h.none; input = same.
 -- the engine whose readings are as they were
 pub stands_still : (sizes : Sizes) (e e' : Engine) (book : Book) → SameFrames e e' → IsSound sizes e' book.number book.macros → e'.input.making ≡ None → Stands sizes e book → Stands sizes e' book
 stands_still sizes e e' book same sound idle st = record { sound = sound; idle = idle; readings = frames_kept e e' book.work same st.readings; uncalled = uncalled_still e e' same st.uncalled }
-
--- with these readings, the lists that they hold, and the token that they were fed with last
-pub reads_now : (e e' : Engine) (book : Book) (work : List Reading) → SameBut e e' → record (state_of e book) { work = work; gathered = gathered e'.input; last = e'.last } ≡ state_of e' (with_work work book)
-reads_now e e' book work same = let h = same.others in
-    let pending : pending_of book.number e'.input.pending ≡ pending_of book.number e.input.pending = ap (pending_of book.number) same.pending in
-    let groups : groups_of book.number e'.input.groups ≡ groups_of book.number e.input.groups = ap (groups_of book.number) same.store.groups in
-    cc (pending, groups, same.making, h.names, h.in_line, h.reports, h.flawed, h.quiet)
 
 -- a report alone
 pub reports_went : (sizes : Sizes) (e e' : Engine) (book : Book) (w w' : World) (report : Report) → AllStand sizes e' book → Reports sizes (state_of e book) (state_of e' book) w w' (page_of e book) report [] →
@@ -322,16 +313,6 @@ full_out sizes e e' f s book m rest full is refused =
     subst (λ (x : Engine). Cuts sizes (state_of e book) x book (world_of f s e) (world_of f s x) (m ∷ rest) (broken.Full full)) (sym is)
     (full_cuts sizes (state_of e book) e book (world_of f s e) m rest full (broken.Full full) refl refused refl)
 
--- a move of the readings alone
-pub reading_went : (sizes : Sizes) (e e' : Engine) (book : Book) (work : List Reading) (f : FilesTold) (s : SinkTold) (m : Move) → IsQuiet m → step_of m ≡ 0 → refusal sizes m (state_of e book) ≡ None →
-    made m (state_of e book) ≡ record (state_of e book) { work = work; gathered = gathered e'.input; last = e'.last } → SameBut e e' → Stands sizes e' (with_work work book) → Went sizes (state_of e book) e' (world_of f s e) (world_of f s e') (m ∷ []) 0
-reading_went sizes e e' book work f s m quiet silent fits is same stands = record {
-  book' = with_work work book;
-  stands = all_of sizes e' (with_work work book) stands;
-  did = did_one sizes m _ _ _ _ fits (is ∙ reads_now e e' book work same) (quiet_wrote m f s e.in_line e'.in_line quiet same.others.in_line);
-  count = omega (arith, silent);
-}
-
 -- an engine that has the same input
 pub input_sound : (sizes : Sizes) (e e' : Engine) (book : Book) → e'.input ≡ e.input → (IsSized sizes e → IsSized sizes e') → IsSound sizes e book.number book.macros → IsSound sizes e' book.number book.macros
 input_sound sizes e e' book is sized h = sound_sized sizes e e' book.number book.macros (sized h.sized) (store_is e.input e'.input is) h
@@ -347,7 +328,7 @@ column_sound sizes e e' number macros only h = subst (λ (x : Engine). IsSound s
 -- a token's line alone
 line_silent : (page : Page) (m : Meaning Unit) → steps (token_line page m) ≡ 0
 line_silent page m = silent page.quiet where
-  silent : (b : Bool) → steps (if b then [] else Written Transcript (token_line_bytes (plain_style page.names) page.in_line m) ∷ []) ≡ 0
+  silent : (b : Bool) → steps (if b then [] else Written Transcript (token_line_bytes (style_of page) page.in_line m) ∷ []) ≡ 0
   silent true = refl
   silent false = refl
 

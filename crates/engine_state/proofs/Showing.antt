@@ -7,7 +7,7 @@ use Rattle.tex_defs.specs.declared.Meaning.{Meaning}
 use Rattle.tex_defs.specs.declared.Seen.{Seen}
 use Rattle.tex_defs.specs.Places.{World, Transcript}
 use Rattle.plain_tokens.specs.Meanings.{meaning_to_let}
-use Rattle.plain_tokens.specs.Printed.{Style, initial_style, meaning_tokens}
+use Rattle.plain_tokens.specs.Printed.{Style, meaning_tokens}
 use Rattle.plain_state.specs.Reports.{shown_meaning_bytes}
 use Rattle.plain_machine.specs.States.{Move, Written, Flawed}
 use Rattle.plain_machine.specs.Plan.{macro_tokens, shown}
@@ -18,7 +18,7 @@ use Rattle.transcript.specs.Given.{tokens_given}
 use Rattle.engine_state.specs.declared.broken.Broken.{Broken}
 use Rattle.engine_state.specs.declared.engine.Engine.{Engine}
 use Rattle.engine_state.specs.Book.{Book}
-use Rattle.engine_state.specs.Stands.{IsSound, state_of, page_of}
+use Rattle.engine_state.specs.Stands.{IsSound, state_of, page_of, own_style}
 use Rattle.engine_state.specs.Rules.{Cuts}
 use Rattle.engine_state.proofs.Cutting.{cuts_by}
 use Rattle.engine_state.proofs.Joining.{quiet_here}
@@ -36,7 +36,7 @@ text_by style style' b line line' t m ts us s l is =
 
 module _ (sizes : Sizes) (e : Engine) (book : Book) (sound : IsSound sizes e book.number book.macros) (x : Seen) where
   abbrev bytes : List Token → List ℕ
-  bytes ts = shown_meaning_bytes (initial_style e.input.groups.now.categories e.names.names) e.in_line e.input.pending.number x.token x.meaning ts
+  bytes ts = shown_meaning_bytes (own_style e) e.in_line e.input.pending.number x.token x.meaning ts
 
   abbrev text : List ℕ
   text = bytes (meaning_tokens (macro_tokens e.input.lists) (meaning_to_let e.input.groups.now.meanings x))

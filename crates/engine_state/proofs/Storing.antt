@@ -168,6 +168,7 @@ same_join e e1 e2 a b = record {
     depth = b.others.depth ∙ a.others.depth;
     call = b.others.call ∙ a.others.call;
     names = b.others.names ∙ a.others.names;
+    after = b.others.after ∙ a.others.after;
     in_line = b.others.in_line ∙ a.others.in_line;
     reports = b.others.reports ∙ a.others.reports;
     flawed = b.others.flawed ∙ a.others.flawed;

@@ -7,17 +7,17 @@ use Rattle.tex_defs.specs.declared.Token.{Token}
 use Rattle.tex_defs.specs.declared.Sizes.{Sizes}
 use Rattle.tex_defs.specs.declared.Full.{Full}
 use Rattle.tex_defs.specs.Places.{World}
-use Rattle.plain_tokens.specs.Puts.{Put as PutList, token_put, grown_by, settled, with_put}
-use Rattle.plain_tokens.specs.Pending.{Pending, settle, put_front, with_puts}
+use Rattle.plain_tokens.specs.Puts.{Put as PutList, grown_by, settled}
+use Rattle.plain_tokens.specs.Pending.{Pending, settle, with_puts}
 use Rattle.plain_tokens.specs.Tokens.{made_token, made_text}
 use Rattle.plain_tokens.specs.Tables.{Demand, refused, memory, level}
-use Rattle.plain_machine.specs.States.{State, Move, Settled, ListBegun, ListGrown, ListDropped, Put, made}
+use Rattle.plain_machine.specs.States.{State, Move, Settled, ListBegun, ListGrown, Put, made}
 use Rattle.plain_machine.specs.Demands.{refusal}
 use Rattle.plain_machine.specs.Plan.{put_text, put_made}
 use Rattle.plain_machine.specs.Numbers.{pending_of}
 use Rattle.plain_machine.specs.Does.{Did}
 use Rattle.plain_machine.proofs.Doing.{did_join, did_one, did_none}
-use Rattle.plain_machine.proofs.Renumbering.{settle_of, put_front_of, level_of}
+use Rattle.plain_machine.proofs.Renumbering.{settle_of, level_of}
 use Rattle.input_state.specs.Stored.{Stored, KeepsMacros, words as stored_words}
 use Rattle.input_state.specs.HeldLists.{made as made_list}
 use Rattle.engine_state.specs.Steps.{pending_weight}
@@ -32,7 +32,7 @@ use Rattle.engine_state.proofs.Cutting.{cuts_by, later_cuts, full_cuts}
 use Rattle.engine_state.proofs.Joining.{IsQuiet, quiet_here}
 use Rattle.engine_state.proofs.Putting.{settled_still}
 use Rattle.engine_state.proofs.Standing.{frames_join}
-use Rattle.engine_state.proofs.Storing.{store_same, store_join, store_making, store_settled, store_put, sound_still, words_more}
+use Rattle.engine_state.proofs.Storing.{store_same, store_join, store_making, store_settled, sound_still, words_more}
 
 -- MOVES ON THE INPUT ALONE
 
@@ -171,9 +171,6 @@ made_of : (ts : List Token) → (ts ≡ [] → ⊥) → put_made ts ≡ Put ts �
 made_of [] some = absurd (some refl)
 made_of (t ∷ ts) some = refl
 
-made_none : (ts : List Token) → ts ≡ [] → put_made ts ≡ ListDropped ∷ []
-made_none ts is = ap put_made is
-
 -- begun behind the finished lists in front
 module _ (sizes : Sizes) (e : Engine) (w : World) (book : Book) (sound : IsSound sizes e book.number book.macros)
     (i1 i2 : Stored) (a1 : i1 ≡ record e.input { pending = settle e.input.pending; lists = i1.lists }) (k1 : KeepsMacros e.input i1) where
@@ -193,7 +190,7 @@ module _ (sizes : Sizes) (e : Engine) (w : World) (book : Book) (sound : IsSound
   done_begun f1 a2 = did_join sizes _ _ _ w w w (Settled ∷ []) (ListBegun ∷ []) done_settled
       (moved sizes e w book i1 i2 ListBegun (words_more sizes (with_input e i1) book 1 None (sound_in sizes e w book e.input i1 store1 sound) f1) (ap (at sizes e w book) (sym a2)) tt)
 
--- and put, or dropped where it has no token
+-- and put
 module _ (sizes : Sizes) (e : Engine) (w : World) (book : Book) (sound : IsSound sizes e book.number book.macros) (ts : List Token) (is : e.input.making ≡ Some ts) (j : Stored) where
   level_at : (o : Option Full) → refused e.input.sizes (level e.input.pending ∷ []) ≡ o → refused sizes (level (pending_of book.number e.input.pending) ∷ []) ≡ o
   level_at o r = ap (λ (d : Demand). refused sizes (d ∷ [])) (level_of book.number e.input.pending) ∙ ap (λ (x : Sizes). refused x (level e.input.pending ∷ [])) (sym sound.sized.input) ∙ r
@@ -204,19 +201,6 @@ module _ (sizes : Sizes) (e : Engine) (w : World) (book : Book) (sound : IsSound
   unput_cuts some full more same r =
       cuts_by sizes _ (with_input e j) book w w (Put ts ∷ more) (put_made ts ++ more) (broken.Full full) (ap (λ (ms : List Move). ms ++ more) (made_of ts some))
       (full_cuts sizes (state_of e book) (with_input e j) book w (Put ts) more full (broken.Full full) refl (level_at (Some full) r) (ap (at sizes e w book) (sym same)))
-
-  pub text_put : (ts ≡ [] → ⊥) → j ≡ record e.input { pending = put_front (token_put (made_list e.input.making)) e.input.pending; making = None; lists = j.lists } → refused e.input.sizes (level e.input.pending ∷ []) ≡ None →
-      Did sizes (state_of e book) (at sizes e w book j) w w (put_made ts)
-  text_put some a f =
-      subst (λ (ms : List Move). Did sizes (state_of e book) (at sizes e w book j) w w ms) (sym (made_of ts some))
-      (moved sizes e w book e.input j (Put ts) (level_at None f)
-      (ap (λ (p : Pending). record (state_of e book) { pending = p; making = None }) (put_front_of book.number (token_put ts) e.input.pending)
-      ∙ ap (λ (us : List Token). at sizes e w book (record e.input { pending = put_front (token_put us) e.input.pending; making = None })) (sym (ap made_list is)) ∙ ap (at sizes e w book) (sym a)) tt)
-
-  pub text_dropped : ts ≡ [] → j ≡ record e.input { making = None; lists = j.lists } → Did sizes (state_of e book) (at sizes e w book j) w w (put_made ts)
-  text_dropped none a =
-      subst (λ (ms : List Move). Did sizes (state_of e book) (at sizes e w book j) w w ms) (sym (made_none ts none))
-      (moved sizes e w book e.input j ListDropped refl (ap (at sizes e w book) (sym a)) tt)
 
 -- ALL TOGETHER
 
@@ -241,7 +225,7 @@ module _ (sizes : Sizes) (s s1 : State) (e' : Engine) (book : Book) (w : World) 
 pub in_front : (e : Engine) (j : Stored) (puts : List PutList) (making : Option (List Token)) → j ≡ record e.input { pending = with_puts puts e.input.pending; making = making; lists = j.lists } → SameStore e.input j → IsInFront e (with_input e j)
 in_front e j puts making is store = record {
   frames = record { readings = refl; lists = ap (λ (x : Stored). x.builds) is; call = refl; calling = ap (λ (x : Stored). x.call) is };
-  others = record { depth = refl; call = refl; names = refl; last = refl; in_line = refl; reports = refl; flawed = refl; quiet = refl; sizes = refl };
+  others = record { depth = refl; call = refl; names = refl; after = refl; last = refl; in_line = refl; reports = refl; flawed = refl; quiet = refl; sizes = refl };
   store = store;
   light = ap (λ (x : Stored). pending_weight x.pending) is;
   page = λ book. ap (λ (x : Stored). page_of (with_input e x) book) is;
@@ -254,6 +238,7 @@ front_join e e1 e2 a b = record {
     depth = b.others.depth ∙ a.others.depth;
     call = b.others.call ∙ a.others.call;
     names = b.others.names ∙ a.others.names;
+    after = b.others.after ∙ a.others.after;
     last = b.others.last ∙ a.others.last;
     in_line = b.others.in_line ∙ a.others.in_line;
     reports = b.others.reports ∙ a.others.reports;
@@ -273,9 +258,6 @@ begun_front e i1 i2 making a1 k1 a2 k2 =
 pub making_front : (e : Engine) (j : Stored) (making : Option (List Token)) → j ≡ record e.input { making = making; lists = j.lists } → KeepsMacros e.input j → IsInFront e (with_input e j)
 making_front e j making a k = in_front e j e.input.pending.puts making a (store_making e.input j making a k)
 
-pub put_front_of_text : (e : Engine) (j : Stored) (ts : List Token) → j ≡ record e.input { pending = put_front (token_put ts) e.input.pending; making = None; lists = j.lists } → KeepsMacros e.input j → IsInFront e (with_input e j)
-put_front_of_text e j ts a k = in_front e j (with_put (token_put ts) e.input.pending.puts) None a (store_put e.input j ts a k)
-
 pub begun_none : (e : Engine) (i1 i2 : Stored) → i1 ≡ record e.input { pending = settle e.input.pending; lists = i1.lists } → KeepsMacros e.input i1 → i2 ≡ i1 → IsInFront e (with_input e i2)
 begun_none e i1 i2 a k same = subst (λ (x : Stored). IsInFront e (with_input e x)) (sym same) (in_front e i1 (settled e.input.pending.puts) e.input.making a (store_settled e.input i1 a k))
 
@@ -292,10 +274,6 @@ some_made (Some ts) h = refl
 
 pub made_with : (i j : Stored) (ts : List Token) → i.making ≡ Some [] → HasGrown i j ts → j.making ≡ Some ts
 made_with i j ts empty h = ap (λ (x : Stored). x.making) h.is ∙ ap (grown_with ts) empty
-
-some_text : (text : List ℕ) → (text ≡ [] → ⊥) → made_text text ≡ [] → ⊥
-some_text [] some is = some refl
-some_text (c ∷ cs) some is = cc
 
 -- A TEXT IN FRONT, of an engine whose list is begun and grows to it
 module _ (e e1 : Engine) (i2 : Stored) (ts : List Token) (begun : e1.input.making ≡ Some []) (front : IsInFront e e1) (same : e1.input.pending ≡ settle e.input.pending) where

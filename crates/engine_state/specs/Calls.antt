@@ -11,7 +11,6 @@ use Rattle.tex_defs.specs.declared.Name.{Name}
 use Rattle.tex_defs.specs.declared.Meaning.TheVariants.{Macro}
 use Rattle.plain_tokens.specs.Arguments.{arguments_in, work_in, has_parameters}
 use Rattle.plain_tokens.specs.Meanings.{name_meaning}
-use Rattle.plain_tokens.specs.Printed.{initial_style}
 use Rattle.rows.specs.Readings as reading
 use Rattle.rows.specs.Readings.{Fed}
 use Rattle.plain_readings.specs.Calls.{gathered, call_fed, par_token}
@@ -28,7 +27,7 @@ use Rattle.engine_state.specs.declared.call.CallAsk.{CallAsk}
 use Rattle.engine_state.specs.declared.call.CallAsk.TheVariants as call
 use Rattle.engine_state.specs.declared.engine.Engine.{Engine}
 use Rattle.engine_state.specs.Book.{Book}
-use Rattle.engine_state.specs.Stands.{FramesStand, IsSound}
+use Rattle.engine_state.specs.Stands.{FramesStand, IsSound, own_style}
 
 -- the arguments, where all of them are there
 abbrev pub args_of : Calling → List (List Token)
@@ -137,7 +136,7 @@ work_or_none (Some ts) = ts
 
 -- what is shown of it: the list in work, if a place is reached
 abbrev pub argument_bytes : Engine → List ℕ
-argument_bytes e = texts.runaway_bytes scanned.Use (initial_style e.input.groups.now.categories e.names.names) e.in_line (work_or_none (call_work e.input.call))
+argument_bytes e = texts.runaway_bytes scanned.Use (own_style e) e.in_line (work_or_none (call_work e.input.call))
 
 -- it is shown, the token put back, and the call reports and ends
 abbrev pub call_away_moves : Page → (text : List ℕ) → Token → Report → List Move

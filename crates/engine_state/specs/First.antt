@@ -7,7 +7,7 @@ use Rattle.plain_machine.specs.Plan.{first_state, is_known, job_due}
 use Rattle.input_state.specs.Stored.{unread}
 use Rattle.engine_state.specs.declared.engine.Engine.{Engine}
 use Rattle.engine_state.specs.Book.{first_book}
-use Rattle.engine_state.specs.Stands.{Stands, state_of}
+use Rattle.engine_state.specs.Stands.{Stands, state_of, own_style}
 
 -- no byte of the job's file has come
 abbrev pub IsUnread : Engine → Type 0
@@ -16,7 +16,7 @@ IsUnread e = e.input.pending ≡ unread (Some [])
 -- It stands for the first state of any job whose file has these bytes, where it is held, but for what is due.
 pub record Begins (sizes : Sizes) (e : Engine) (quiet : Bool) (job : Option (List ℕ)) : Type 0 where
   pub stands : Stands sizes e first_book
-  pub state : (file : List ℕ) → record (state_of e first_book) { due = job_due file job } ≡ first_state (first_groups is_known) quiet file job
+  pub state : (file : List ℕ) → record (state_of e first_book) { due = job_due (own_style e) file job } ≡ first_state (first_groups is_known) quiet file job
   pub column : e.in_line ≡ false
   pub reports : e.reports ≡ 0
   pub flawed : e.flawed ≡ false

@@ -6,7 +6,7 @@ use Rattle.tex_defs.specs.declared.Sizes.{Sizes}
 use Rattle.tex_defs.specs.declared.Token.{Token}
 use Rattle.plain_tokens.specs.Meanings.{meaning_to_let}
 use Rattle.plain_tokens.specs.Numerals.{whole_number, roman}
-use Rattle.plain_tokens.specs.Printed.{initial_style, meaning_text}
+use Rattle.plain_tokens.specs.Printed.{meaning_text}
 use Rattle.plain_state.specs.Reports.{string_text}
 use Rattle.plain_machine.specs.Plan.{Page, style_of, job_in, meaning_characters, macro_tokens}
 use Rattle.plain_machine.specs.States.{Move, ListGrown}
@@ -17,7 +17,7 @@ use Rattle.engine_state.specs.declared.engine.Engine.{Engine}
 use Rattle.engine_state.specs.declared.text.Made.{Made}
 use Rattle.engine_state.specs.declared.text.Made.TheVariants as make
 use Rattle.engine_state.specs.Book.{Book}
-use Rattle.engine_state.specs.Stands.{IsSound, SameFrames, SameOthers, SameStore, state_of, page_of}
+use Rattle.engine_state.specs.Stands.{IsSound, SameFrames, SameOthers, SameStore, state_of, page_of, own_style}
 use Rattle.engine_state.specs.Steps.{pending_weight}
 use Rattle.engine_state.specs.Rules.{Cuts}
 
@@ -63,5 +63,5 @@ abbrev pub characters_in : Engine → Made → List ℕ
 characters_in e make.JobName = job_in e.names.others
 characters_in e (make.Number n) = whole_number n
 characters_in e (make.Roman n) = roman n
-characters_in e (make.Spelling t) = string_text (initial_style e.input.groups.now.categories e.names.names) t
-characters_in e (make.Meaning x) = meaning_text (initial_style e.input.groups.now.categories e.names.names) (macro_tokens e.input.lists) (meaning_to_let e.input.groups.now.meanings x)
+characters_in e (make.Spelling t) = string_text (own_style e) t
+characters_in e (make.Meaning x) = meaning_text (own_style e) (macro_tokens e.input.lists) (meaning_to_let e.input.groups.now.meanings x)

@@ -11,8 +11,7 @@ use Rattle.tex_defs.specs.Places.{World, Transcript}
 use Rattle.tex_defs.specs.declared.Seen.{Seen}
 use Rattle.tex_defs.specs.declared.Token.{Token as PlainToken}
 use Rattle.tex_defs.specs.declared.Sizes.{Sizes}
-use Rattle.plain_tokens.specs.Printed.{initial_style}
-use Rattle.plain_state.specs.Reports.{plain_style, report_bytes, error_message_bytes, runaway_bytes}
+use Rattle.plain_state.specs.Reports.{report_bytes, error_message_bytes, runaway_bytes}
 use Rattle.tex_defs.specs.declared.Name.{Name}
 use Rattle.plain_tokens.specs.Lex.{Lexeme}
 use Rattle.plain_tokens.specs.Lookup.{new_name, token_of}
@@ -24,7 +23,7 @@ use Rattle.plain_readings.specs.Scanning.{Scanning, scanning}
 use Rattle.plain_machine.specs.States.{State, Move, Written, Reported}
 use Rattle.plain_tokens.specs.Pending.{pulled}
 use Rattle.plain_machine.specs.Numbers.{pending_of}
-use Rattle.plain_machine.specs.Plan.{Page, planned, stomach, wanted, feeding, first_list, handed, met, reported, reported_as, behind_report, entered, enters_names, reports_room}
+use Rattle.plain_machine.specs.Plan.{Page, style_of, planned, stomach, wanted, feeding, first_list, handed, met, reported, reported_as, behind_report, entered, enters_names, reports_room}
 use Rattle.plain_machine.specs.Runs.{steps}
 use Rattle.plain_machine.specs.Does.{Did, Cut, Why, IsFull, IsFault, IsWant}
 use Rattle.world_io.specs.Told.{FilesTold, SinkTold, world}
@@ -43,7 +42,7 @@ use Rattle.engine_state.specs.Steps.{asked}
 use Rattle.engine_state.specs.declared.call.Call.{Call}
 use Rattle.engine_state.specs.declared.call.CallAsk.TheVariants as call
 use Rattle.input_state.specs.CallFeeds.{IsTaking, call_work}
-use Rattle.engine_state.specs.Stands.{state_of, page_of}
+use Rattle.engine_state.specs.Stands.{state_of, page_of, own_style}
 
 -- the world of these files and this sink, whose column the engine keeps
 abbrev pub world_of : FilesTold → SinkTold → Engine → World
@@ -78,17 +77,17 @@ pub record Halts (sizes : Sizes) (s : State) (e' : Engine) (book : Book) (w w' :
 
 -- A report is written and counted, behind which the rule goes on.
 pub record Reports (sizes : Sizes) (s s' : State) (w w' : World) (page : Page) (report : Report) (rest : List Move) : Type 0 where
-  pub moves : reported page report rest ≡ Written Transcript (report_bytes (plain_style page.names) page.in_line page.line report) ∷ Reported ∷ rest
-  pub did : Did sizes s s' w w' (Written Transcript (report_bytes (plain_style page.names) page.in_line page.line report) ∷ Reported ∷ [])
+  pub moves : reported page report rest ≡ Written Transcript (report_bytes (style_of page) page.in_line page.line report) ∷ Reported ∷ rest
+  pub did : Did sizes s s' w w' (Written Transcript (report_bytes (style_of page) page.in_line page.line report) ∷ Reported ∷ [])
 
 -- So is one whose text is this list.
 pub record ReportsAs (sizes : Sizes) (s s' : State) (w w' : World) (page : Page) (ts : List PlainToken) (rest : List Move) : Type 0 where
-  pub moves : reported_as page ts rest ≡ Written Transcript (error_message_bytes (initial_style page.now.categories page.names) page.in_line page.line ts) ∷ Reported ∷ rest
-  pub did : Did sizes s s' w w' (Written Transcript (error_message_bytes (initial_style page.now.categories page.names) page.in_line page.line ts) ∷ Reported ∷ [])
+  pub moves : reported_as page ts rest ≡ Written Transcript (error_message_bytes (style_of page) page.in_line page.line ts) ∷ Reported ∷ rest
+  pub did : Did sizes s s' w w' (Written Transcript (error_message_bytes (style_of page) page.in_line page.line ts) ∷ Reported ∷ [])
 
 -- what comes behind the text of a report: it is counted
 abbrev pub counted : Page → List Move → List Move
-counted page rest = Reported ∷ behind_report (plain_style page.names) page.reports rest
+counted page rest = Reported ∷ behind_report (style_of page) page.reports rest
 
 pub record CountsOn (sizes : Sizes) (s s' : State) (w w' : World) (page : Page) (rest : List Move) : Type 0 where
   pub moves : counted page rest ≡ Reported ∷ rest
@@ -131,7 +130,7 @@ scanned_list what k e = list_number k e.input.builds
 
 -- what is shown of it where it runs away
 abbrev pub away_text : Scanned → ℕ → Engine → List ℕ
-away_text what k e = runaway_bytes what (initial_style e.input.groups.now.categories e.names.names) e.in_line (scanned_list what k e)
+away_text what k e = runaway_bytes what (own_style e) e.in_line (scanned_list what k e)
 
 -- a call takes tokens, or there is such a list
 abbrev pub IsScanned : Scanned → ℕ → Engine → Type 0

@@ -9,7 +9,10 @@ use Rattle.plain_tokens.specs.Tables.{is_put}
 use Rattle.plain_readings.specs.Readings.{Reading}
 use Rattle.reading_frames.specs.Stands as frames
 use Rattle.reading_frames.specs.Stands.{AreShallow}
+use Rattle.plain_tokens.specs.Printed.{Style}
+use Rattle.equivalents.specs.Groups.{depth as groups_depth, kind_of, tokens_after}
 use Rattle.equivalents.specs.Holding.{lists_held}
+use Rattle.equivalents.specs.Parameters.{style_in}
 use Rattle.plain_machine.specs.States.{State}
 use Rattle.plain_machine.specs.Plan.{Page, reports_room}
 use Rattle.plain_machine.specs.Numbers.{Tied, pending_of, groups_of, tables_of}
@@ -27,6 +30,7 @@ state_of e book = record {
   names = e.names.names;
   strings = e.names.others;
   macros = book.macros;
+  after = e.after;
   last = e.last;
   work = book.work;
   gathered = gathered e.input;
@@ -43,6 +47,10 @@ state_of e book = record {
 abbrev pub page_of : Engine → Book → Page
 page_of e book = record {
   now = tables_of book.number e.input.groups.now;
+  depth = groups_depth e.input.groups;
+  group = kind_of e.input.groups;
+  tokens = tokens_after e.input.groups;
+  after = e.after;
   names = e.names.names;
   strings = e.names.others;
   macros = book.macros;
@@ -52,6 +60,10 @@ page_of e book = record {
   reports = e.reports;
   quiet = e.quiet;
 }
+
+-- how its texts are printed
+abbrev pub own_style : Engine → Style
+own_style e = style_in e.input.groups.now e.names.names
 
 -- THE TABLES
 
@@ -128,6 +140,7 @@ pub record SameOthers (e e' : Engine) : Type 0 where
   pub depth : e'.readings.size ≡ e.readings.size
   pub call : e'.call ≡ e.call
   pub names : e'.names ≡ e.names
+  pub after : e'.after ≡ e.after
   pub last : e'.last ≡ e.last
   pub in_line : e'.in_line ≡ e.in_line
   pub reports : e'.reports ≡ e.reports
@@ -140,6 +153,7 @@ pub record SameElse (e e' : Engine) : Type 0 where
   pub depth : e'.readings.size ≡ e.readings.size
   pub call : e'.call ≡ e.call
   pub names : e'.names ≡ e.names
+  pub after : e'.after ≡ e.after
   pub in_line : e'.in_line ≡ e.in_line
   pub reports : e'.reports ≡ e.reports
   pub flawed : e'.flawed ≡ e.flawed

@@ -5,20 +5,20 @@ ghost use Rattle.tex_defs.specs.Places.{Transcript, World};
 ghost use Rattle.tex_defs.specs.Sizes.{first_out_of_range};
 ghost use Rattle.tex_defs.specs.declared.Sizes.{Sizes};
 ghost use Rattle.tex_defs.specs.declared.Fatal.TheVariants as fatal;
-ghost use Rattle.prim_table.specs.Primitives.{primitive_names};
-ghost use Rattle.plain_state.specs.Reports.{plain_style, missing_file_bytes};
+ghost use Rattle.plain_state.specs.Reports.{missing_file_bytes};
 ghost use Rattle.plain_machine.specs.Demands.{words};
 ghost use Rattle.plain_machine.specs.States.{Move, Kept, Written};
 ghost use Rattle.plain_machine.specs.Plan.{no_file};
 ghost use Rattle.plain_machine.specs.Does.{Did};
 ghost use Rattle.world_io.specs.Told.{FilesTold};
 ghost use Rattle.engine_state.specs.Book.{Book};
-ghost use Rattle.engine_state.specs.Stands.{Stands, IsSized, IsSound, SameFrames, OnlyColumn, state_of};
+ghost use Rattle.engine_state.specs.Stands.{Stands, IsSized, IsSound, SameFrames, OnlyColumn, state_of, own_style};
 ghost use Rattle.engine_state.specs.Rules.{world_of, Cuts, Halts};
 ghost use Rattle.engine_state.specs.First.{Begins, IsUnread};
 
 use crate::broken::Broken;
 use crate::call::Call;
+use crate::views::view_of;
 use crate::writing::REPORTS_ROOM;
 use input_state::Input;
 use name_table::NameTable;
@@ -26,7 +26,7 @@ use reading_frames::Readings;
 use std::alloc::{AllocError, Global};
 use tex_defs::{Fatal, Meaning, Name, Seen, Sizes, Token};
 use tex_syntax::Outcome;
-use transcript::{initial_view, write_missing_file};
+use transcript::{no_file_lines, write_missing_file};
 use world_io::Sink;
 
 /// The machine's state, kept in tables that were reserved when the engine was made. An engine is closed at its end.
@@ -39,6 +39,8 @@ pub struct Engine {
     pub readings: Readings,
     /// The call that gathers its arguments, if one does: the innermost reading.
     pub call: Option<Call>,
+    /// The token that `\\afterassignment` keeps.
+    pub after: Option<Token>,
     /// The token that a reading was fed with last.
     pub last: Seen,
     /// Whether the last byte that the transcript took isn't a line feed.
@@ -53,10 +55,11 @@ pub struct Engine {
     pub stopped: bool,
 }
 
-/// The primitives that mean something: those that a row reads, and `\\relax`, `\\endcsname`, `\\par`, `\\end`, `\\csname` and `\\jobname`.
+/// The primitives that mean something: those that a row reads, and `\\relax`, `\\begingroup`, `\\endgroup`, `\\endcsname`, `\\par`, `\\end`,
+/// `\\csname` and `\\jobname`.
 const KNOWN: &[u16] = &[
-    1, 4, 5, 6, 8, 9, 10, 11, 23, 24, 25, 26, 27, 28, 29, 30, 31, 35, 36, 37, 38, 39, 40, 54, 55,
-    56, 57, 58, 59, 60, 61,
+    1, 2, 3, 4, 5, 6, 8, 9, 10, 11, 15, 16, 23, 24, 25, 26, 27, 28, 29, 30, 31, 35, 36, 37, 38, 39,
+    40, 54, 55, 56, 57, 58, 59, 60, 61, 128, 130, 133, 134,
 ];
 
 /// Before a reading is fed with a token.
@@ -95,6 +98,7 @@ impl Engine {
             names,
             readings,
             call: None,
+            after: None,
             last: NO_TOKEN,
             in_line: false,
             reports: 0,
@@ -120,6 +124,7 @@ impl Engine {
             names: _,
             readings: _,
             call: _,
+            after: _,
             last: _,
             in_line: _,
             reports: _,
@@ -183,10 +188,10 @@ impl Engine {
     /// # Errors
     /// A write failed or wanted memory: a front of the text was written.
     pub fn refuse_job<S: Sink>(&mut self, out: &mut S, file: &[u8]) -> Result<Outcome, Broken>
-        ensures run { IfOk result (λ o. (sizes : Sizes) (f : FilesTold) (book : Book) → self.old.in_line ≡ false → self.old.names.names ≡ primitive_names →
-            Halts sizes (state_of self.old book) self.new book (world_of f (S.told out.old) self.old) (world_of f (S.told out.new) self.new) (no_file file.now) o 0) }
-        ensures err { IfErr result (λ b. (sizes : Sizes) (f : FilesTold) (book : Book) → self.old.in_line ≡ false → self.old.names.names ≡ primitive_names → self.old.reports ≡ 0 →
-            Cuts sizes (state_of self.old book) self.new book (world_of f (S.told out.old) self.old) (world_of f (S.told out.new) self.new) (no_file file.now) b) }
+        ensures run { IfOk result (λ o. (sizes : Sizes) (f : FilesTold) (book : Book) → self.old.in_line ≡ false →
+            Halts sizes (state_of self.old book) self.new book (world_of f (S.told out.old) self.old) (world_of f (S.told out.new) self.new) (no_file (own_style self.old) file.now) o 0) }
+        ensures err { IfErr result (λ b. (sizes : Sizes) (f : FilesTold) (book : Book) → self.old.in_line ≡ false → self.old.reports ≡ 0 →
+            Cuts sizes (state_of self.old book) self.new book (world_of f (S.told out.old) self.old) (world_of f (S.told out.new) self.new) (no_file (own_style self.old) file.now) b) }
         ensures frames { SameFrames self.old self.new }
         ensures no_file { IfOk result (λ o. o ≡ outcomes.AtFatal fatal.NoFile) }
         ensures stopped { self.new.stopped ≡ true }
@@ -198,31 +203,28 @@ impl Engine {
 
     /// Writes and counts the report that a job's file isn't held, and writes what comes behind it.
     fn write_refusal<S: Sink>(&mut self, out: &mut S, file: &[u8]) -> Result<Outcome, Broken>
-        ensures run { IfOk result (λ o. (sizes : Sizes) (f : FilesTold) (book : Book) → self.old.in_line ≡ false → self.old.names.names ≡ primitive_names →
-            Halts sizes (state_of self.old book) self.new book (world_of f (S.told out.old) self.old) (world_of f (S.told out.new) self.new) (no_file file.now) o 0) }
-        ensures err { IfErr result (λ b. (sizes : Sizes) (f : FilesTold) (book : Book) → self.old.in_line ≡ false → self.old.names.names ≡ primitive_names → self.old.reports ≡ 0 →
-            Cuts sizes (state_of self.old book) self.new book (world_of f (S.told out.old) self.old) (world_of f (S.told out.new) self.new) (no_file file.now) b) }
+        ensures run { IfOk result (λ o. (sizes : Sizes) (f : FilesTold) (book : Book) → self.old.in_line ≡ false →
+            Halts sizes (state_of self.old book) self.new book (world_of f (S.told out.old) self.old) (world_of f (S.told out.new) self.new) (no_file (own_style self.old) file.now) o 0) }
+        ensures err { IfErr result (λ b. (sizes : Sizes) (f : FilesTold) (book : Book) → self.old.in_line ≡ false → self.old.reports ≡ 0 →
+            Cuts sizes (state_of self.old book) self.new book (world_of f (S.told out.old) self.old) (world_of f (S.told out.new) self.new) (no_file (own_style self.old) file.now) b) }
         ensures frames { SameFrames self.old self.new }
         ensures no_file { IfOk result (λ o. o ≡ outcomes.AtFatal fatal.NoFile) }
     {
         self.write_missing(out, file)?;
         self.reports = self.reports.min(REPORTS_ROOM) + 1;
-        self.write_text(out, NO_FILE_LINES)?;
+        let text = no_file_lines(view_of(self.input.lists(), &self.input, &self.names));
+        self.write_text(out, text.bytes())?;
         Ok(Outcome::AtFatal(Fatal::NoFile))
     }
 
     /// Writes the report that a file isn't held.
     fn write_missing<S: Sink>(&mut self, out: &mut S, file: &[u8]) -> Result<(), Broken>
-        ensures did { OnOk result ((sizes : Sizes) (f : FilesTold) (book : Book) → Did sizes (state_of self.old book) (state_of self.new book) (world_of f (S.told out.old) self.old) (world_of f (S.told out.new) self.new) (Written Transcript (missing_file_bytes (plain_style self.old.names.names) self.old.in_line 0 file.now) ∷ [])) }
-        ensures err { IfErr result (λ b. (sizes : Sizes) (f : FilesTold) (book : Book) (more : List Move) → Cuts sizes (state_of self.old book) self.new book (world_of f (S.told out.old) self.old) (world_of f (S.told out.new) self.new) (Written Transcript (missing_file_bytes (plain_style self.old.names.names) self.old.in_line 0 file.now) ∷ more) b) }
+        ensures did { OnOk result ((sizes : Sizes) (f : FilesTold) (book : Book) → Did sizes (state_of self.old book) (state_of self.new book) (world_of f (S.told out.old) self.old) (world_of f (S.told out.new) self.new) (Written Transcript (missing_file_bytes (own_style self.old) self.old.in_line 0 file.now) ∷ [])) }
+        ensures err { IfErr result (λ b. (sizes : Sizes) (f : FilesTold) (book : Book) (more : List Move) → Cuts sizes (state_of self.old book) self.new book (world_of f (S.told out.old) self.old) (world_of f (S.told out.new) self.new) (Written Transcript (missing_file_bytes (own_style self.old) self.old.in_line 0 file.now) ∷ more) b) }
         ensures only { OnlyColumn self.old self.new }
     {
-        let (hash, pool) = self.names.parts();
-        let view = initial_view(self.input.lists(), hash, pool, self.input.categories());
+        let view = view_of(self.input.lists(), &self.input, &self.names);
         write_missing_file(out, &mut self.in_line, view, file)?;
         Ok(())
     }
 }
-
-/// What comes behind the report that a job's file isn't held.
-const NO_FILE_LINES: &[u8] = b"! Emergency stop.\n*** (job aborted, file error in nonstop mode)\n";

@@ -9,12 +9,14 @@ mod call;
 mod check;
 mod engine;
 mod front;
+mod groups;
 mod meaning;
 mod names;
 mod next;
 mod outcome;
 mod readings;
 mod text;
+mod views;
 mod writing;
 
 pub use broken::Broken;

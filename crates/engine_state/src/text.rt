@@ -7,14 +7,15 @@ ghost use Rattle.plain_tokens.specs.Tokens.{made_token, made_text};
 ghost use Rattle.plain_tokens.specs.Pending.{settle};
 ghost use Rattle.plain_tokens.specs.Meanings.{seen_as, meaning_to_let};
 ghost use Rattle.plain_tokens.specs.Numerals.{whole_number, roman};
-ghost use Rattle.plain_tokens.specs.Printed.{initial_style, list_text, meaning_text, meaning_tokens};
+ghost use Rattle.plain_tokens.specs.Printed.{list_text, meaning_text, meaning_tokens};
+ghost use Rattle.equivalents.specs.Parameters.{style_in};
 ghost use Rattle.plain_state.specs.Reports.{string_text};
 ghost use Rattle.token_lists.specs.Table.{tokens_at, IsHeld};
 ghost use Rattle.token_lists.specs.Ids.{id_of};
 ghost use Rattle.token_show.specs.Views.{names_style, IsNamesView};
 ghost use Rattle.transcript.specs.Given.{tokens_given};
 ghost use Rattle.input_state.specs.Calls.{text_of};
-ghost use Rattle.plain_machine.specs.Plan.{put_text, put_made, put_characters, job_in, meaning_characters, macro_tokens};
+ghost use Rattle.plain_machine.specs.Plan.{put_made, put_characters, macro_tokens};
 ghost use Rattle.plain_machine.specs.Does.{Did};
 ghost use Rattle.input_state.specs.HeldLists.{made};
 ghost use Rattle.engine_state.specs.Book.{Book};
@@ -26,13 +27,13 @@ ghost use Rattle.engine_state.specs.Steps.{pending_weight};
 use crate::broken::Broken;
 use crate::engine::Engine;
 use crate::meaning::name_of;
+use crate::views::{ESCAPE_CHARACTER, NEW_LINE_CHARACTER, names_view};
 use char_text::{Roman, Text, whole_number_length};
 use input_state::{Input, walks_stay};
 use name_table::NameTable;
 use tex_defs::{Full, Meaning, Name, Seen, Sizes, Token};
 use token_lists::{ListRef, Lists};
 use token_show::{NamesView, TokenText, last_after, places_after};
-use transcript::initial_names;
 
 /// What a text is made of.
 #[derive(Clone, Copy)]
@@ -208,39 +209,32 @@ fn grow_meaning(input: &mut Input, names: NamesView<'_>, x: Seen) -> Result<bool
     }
 }
 
-/// The list that is made gets the characters of a token as `\string` shows it, under these category codes. Answers whether there was one.
-fn grow_spelling(
-    input: &mut Input,
-    names: &NameTable,
-    categories: &[u8; 256],
-    token: Token,
-) -> Result<bool, Full>
+/// The list that is made gets the characters of a token as `\string` shows it. Answers whether there was one.
+fn grow_spelling(input: &mut Input, names: &NameTable, token: Token) -> Result<bool, Full>
     requires { IsSome input.old.making }
-    ensures ok { OnOk result (HasGrown input.old input.new (made_text (string_text (initial_style categories.now names.now.names) token))) }
-    ensures err { IfErr result (λ full. GrowsNot input.old input.new (made_text (string_text (initial_style categories.now names.now.names) token)) full) }
-    ensures some { IfOk result (λ some. MatchBool some (string_text (initial_style categories.now names.now.names) token ≢ []) (string_text (initial_style categories.now names.now.names) token ≡ [])) }
+    ensures ok { OnOk result (HasGrown input.old input.new (made_text (string_text (style_in input.old.groups.now names.now.names) token))) }
+    ensures err { IfErr result (λ full. GrowsNot input.old input.new (made_text (string_text (style_in input.old.groups.now names.now.names) token)) full) }
+    ensures some { IfOk result (λ some. MatchBool some (string_text (style_in input.old.groups.now names.now.names) token ≢ []) (string_text (style_in input.old.groups.now names.now.names) token ≡ [])) }
 {
-    let (hash, pool) = names.parts();
-    let names = initial_names(hash, pool, categories);
-    grow_piece(input, TokenText::of_string(names, token))
+    let categories = *input.categories();
+    let escape = input.integer(ESCAPE_CHARACTER);
+    let newline = input.integer(NEW_LINE_CHARACTER);
+    let view = names_view(names, &categories, escape, newline);
+    grow_piece(input, TokenText::of_string(view, token))
 }
 
-/// The list that is made gets the characters of what a token means, as `\meaning` shows it, under these category codes. Answers whether
-/// there was one.
-fn grow_shown(
-    input: &mut Input,
-    names: &NameTable,
-    categories: &[u8; 256],
-    x: Seen,
-) -> Result<bool, Full>
+/// The list that is made gets the characters of what a token means, as `\meaning` shows it. Answers whether there was one.
+fn grow_shown(input: &mut Input, names: &NameTable, x: Seen) -> Result<bool, Full>
     requires { IsSome input.old.making }
-    ensures ok { OnOk result (HasGrown input.old input.new (made_text (meaning_text (initial_style categories.now names.now.names) (macro_tokens input.old.lists) (meaning_to_let input.old.groups.now.meanings x)))) }
-    ensures err { IfErr result (λ full. GrowsNot input.old input.new (made_text (meaning_text (initial_style categories.now names.now.names) (macro_tokens input.old.lists) (meaning_to_let input.old.groups.now.meanings x))) full) }
-    ensures some { IfOk result (λ some. MatchBool some (meaning_text (initial_style categories.now names.now.names) (macro_tokens input.old.lists) (meaning_to_let input.old.groups.now.meanings x) ≢ []) (meaning_text (initial_style categories.now names.now.names) (macro_tokens input.old.lists) (meaning_to_let input.old.groups.now.meanings x) ≡ [])) }
+    ensures ok { OnOk result (HasGrown input.old input.new (made_text (meaning_text (style_in input.old.groups.now names.now.names) (macro_tokens input.old.lists) (meaning_to_let input.old.groups.now.meanings x)))) }
+    ensures err { IfErr result (λ full. GrowsNot input.old input.new (made_text (meaning_text (style_in input.old.groups.now names.now.names) (macro_tokens input.old.lists) (meaning_to_let input.old.groups.now.meanings x))) full) }
+    ensures some { IfOk result (λ some. MatchBool some (meaning_text (style_in input.old.groups.now names.now.names) (macro_tokens input.old.lists) (meaning_to_let input.old.groups.now.meanings x) ≢ []) (meaning_text (style_in input.old.groups.now names.now.names) (macro_tokens input.old.lists) (meaning_to_let input.old.groups.now.meanings x) ≡ [])) }
 {
-    let (hash, pool) = names.parts();
-    let names = initial_names(hash, pool, categories);
-    grow_meaning(input, names, x)
+    let categories = *input.categories();
+    let escape = input.integer(ESCAPE_CHARACTER);
+    let newline = input.integer(NEW_LINE_CHARACTER);
+    let view = names_view(names, &categories, escape, newline);
+    grow_meaning(input, view, x)
 }
 
 impl Engine {
@@ -276,27 +270,6 @@ impl Engine {
         Ok(())
     }
 
-    /// Puts a made text in front: a list of its characters is begun, grown and put, once the finished lists in front have gone;
-    /// one without characters goes.
-    ///
-    /// # Errors
-    /// The main memory or the input stack is full: of the list there is what had room.
-    pub fn put_text(&mut self, text: &[u8]) -> Result<(), Broken>
-        requires idle { self.old.input.making ≡ None }
-        ensures did { OnOk result ((sizes : Sizes) (w : World) (book : Book) → Counts sizes self.old book → self.old.input.making ≡ None → Did sizes (state_of self.old book) (state_of self.new book) w w (put_text (made_text text.now))) }
-        ensures err { IfErr result (λ b. (sizes : Sizes) (w : World) (book : Book) (more : List Move) → Counts sizes self.old book → self.old.input.making ≡ None → Cuts sizes (state_of self.old book) self.new book w w (put_text (made_text text.now) ++ more) b) }
-        ensures frames { SameFrames self.old self.new }
-        ensures others { SameOthers self.old self.new }
-        ensures store { SameStore self.old.input self.new.input }
-        ensures light { pending_weight self.new.input.pending ≡ pending_weight self.old.input.pending }
-        ensures page { (book : Book) → page_of self.new book ≡ page_of self.old book }
-        ensures idle { OnOk result (self.new.input.making ≡ None) }
-    {
-        self.begin_text()?;
-        grow_text(&mut self.input, text)?;
-        self.end_text(!text.is_empty())
-    }
-
     /// The list that is made gets the characters of such a text. Answers whether there was one.
     fn grow_made(&mut self, made: Made) -> Result<bool, Full>
         requires { IsSome self.old.input.making }
@@ -309,22 +282,17 @@ impl Engine {
             Made::JobName => grow_bytes(&mut self.input, self.names.first_string()),
             Made::Number(n) => grow_number(&mut self.input, n),
             Made::Roman(n) => grow_roman(&mut self.input, n),
-            Made::Spelling(token) => {
-                let categories = *self.input.categories();
-                grow_spelling(&mut self.input, &self.names, &categories, token)
-            }
-            Made::Meaning(x) => {
-                let categories = *self.input.categories();
-                grow_shown(&mut self.input, &self.names, &categories, x)
-            }
+            Made::Spelling(token) => grow_spelling(&mut self.input, &self.names, token),
+            Made::Meaning(x) => grow_shown(&mut self.input, &self.names, x),
         }
     }
 
-    /// Puts such a text in front, as [`Engine::put_text`] does.
+    /// Puts such a text in front: a list of its characters is begun, grown and put, once the finished lists in front have gone; one without
+    /// characters goes. *The TeXbook*, chapter 20 (`\jobname`, `\number`, `\romannumeral`, `\string`, `\meaning`).
     ///
     /// # Errors
-    /// As [`Engine::put_text`].
-    fn put_characters(&mut self, made: Made) -> Result<(), Broken>
+    /// The main memory or the input stack is full: of the list there is what had room.
+    pub fn put_characters(&mut self, made: Made) -> Result<(), Broken>
         requires idle { self.old.input.making ≡ None }
         ensures did { OnOk result ((sizes : Sizes) (w : World) (book : Book) → Counts sizes self.old book → self.old.input.making ≡ None → Did sizes (state_of self.old book) (state_of self.new book) w w (put_characters (characters_of (page_of self.old book) made))) }
         ensures err { IfErr result (λ b. (sizes : Sizes) (w : World) (book : Book) (more : List Move) → Counts sizes self.old book → self.old.input.making ≡ None → Cuts sizes (state_of self.old book) self.new book w w (put_characters (characters_of (page_of self.old book) made) ++ more) b) }
@@ -338,95 +306,5 @@ impl Engine {
         self.begin_text()?;
         let some = self.grow_made(made)?;
         self.end_text(some)
-    }
-
-    /// Puts the job's name in front: the first string that was kept. *The TeXbook*, chapter 20 (`\jobname`).
-    ///
-    /// # Errors
-    /// As [`Engine::put_text`].
-    pub fn put_job_name(&mut self) -> Result<(), Broken>
-        requires idle { self.old.input.making ≡ None }
-        ensures did { OnOk result ((sizes : Sizes) (w : World) (book : Book) → Counts sizes self.old book → self.old.input.making ≡ None → Did sizes (state_of self.old book) (state_of self.new book) w w (put_characters (job_in self.old.names.others))) }
-        ensures err { IfErr result (λ b. (sizes : Sizes) (w : World) (book : Book) (more : List Move) → Counts sizes self.old book → self.old.input.making ≡ None → Cuts sizes (state_of self.old book) self.new book w w (put_characters (job_in self.old.names.others) ++ more) b) }
-        ensures frames { SameFrames self.old self.new }
-        ensures others { SameOthers self.old self.new }
-        ensures store { SameStore self.old.input self.new.input }
-        ensures light { pending_weight self.new.input.pending ≡ pending_weight self.old.input.pending }
-        ensures page { (book : Book) → page_of self.new book ≡ page_of self.old book }
-        ensures idle { OnOk result (self.new.input.making ≡ None) }
-    {
-        self.put_characters(Made::JobName)
-    }
-
-    /// Puts a number's characters in front. *The TeXbook*, chapter 20 (`\number`).
-    ///
-    /// # Errors
-    /// As [`Engine::put_text`].
-    pub fn put_number(&mut self, n: i32) -> Result<(), Broken>
-        requires idle { self.old.input.making ≡ None }
-        ensures did { OnOk result ((sizes : Sizes) (w : World) (book : Book) → Counts sizes self.old book → self.old.input.making ≡ None → Did sizes (state_of self.old book) (state_of self.new book) w w (put_characters (whole_number n))) }
-        ensures err { IfErr result (λ b. (sizes : Sizes) (w : World) (book : Book) (more : List Move) → Counts sizes self.old book → self.old.input.making ≡ None → Cuts sizes (state_of self.old book) self.new book w w (put_characters (whole_number n) ++ more) b) }
-        ensures frames { SameFrames self.old self.new }
-        ensures others { SameOthers self.old self.new }
-        ensures store { SameStore self.old.input self.new.input }
-        ensures light { pending_weight self.new.input.pending ≡ pending_weight self.old.input.pending }
-        ensures page { (book : Book) → page_of self.new book ≡ page_of self.old book }
-        ensures idle { OnOk result (self.new.input.making ≡ None) }
-    {
-        self.put_characters(Made::Number(n))
-    }
-
-    /// Puts a number's roman letters in front. *The TeXbook*, chapter 20 (`\romannumeral`).
-    ///
-    /// # Errors
-    /// As [`Engine::put_text`].
-    pub fn put_roman(&mut self, n: i32) -> Result<(), Broken>
-        requires idle { self.old.input.making ≡ None }
-        ensures did { OnOk result ((sizes : Sizes) (w : World) (book : Book) → Counts sizes self.old book → self.old.input.making ≡ None → Did sizes (state_of self.old book) (state_of self.new book) w w (put_characters (roman n))) }
-        ensures err { IfErr result (λ b. (sizes : Sizes) (w : World) (book : Book) (more : List Move) → Counts sizes self.old book → self.old.input.making ≡ None → Cuts sizes (state_of self.old book) self.new book w w (put_characters (roman n) ++ more) b) }
-        ensures frames { SameFrames self.old self.new }
-        ensures others { SameOthers self.old self.new }
-        ensures store { SameStore self.old.input self.new.input }
-        ensures light { pending_weight self.new.input.pending ≡ pending_weight self.old.input.pending }
-        ensures page { (book : Book) → page_of self.new book ≡ page_of self.old book }
-        ensures idle { OnOk result (self.new.input.making ≡ None) }
-    {
-        self.put_characters(Made::Roman(n))
-    }
-
-    /// Puts a token's characters in front. *The TeXbook*, chapter 20 (`\string`).
-    ///
-    /// # Errors
-    /// As [`Engine::put_text`].
-    pub fn put_string(&mut self, token: Token) -> Result<(), Broken>
-        requires idle { self.old.input.making ≡ None }
-        ensures did { OnOk result ((sizes : Sizes) (w : World) (book : Book) → Counts sizes self.old book → self.old.input.making ≡ None → Did sizes (state_of self.old book) (state_of self.new book) w w (put_characters (string_text (initial_style self.old.input.groups.now.categories self.old.names.names) token))) }
-        ensures err { IfErr result (λ b. (sizes : Sizes) (w : World) (book : Book) (more : List Move) → Counts sizes self.old book → self.old.input.making ≡ None → Cuts sizes (state_of self.old book) self.new book w w (put_characters (string_text (initial_style self.old.input.groups.now.categories self.old.names.names) token) ++ more) b) }
-        ensures frames { SameFrames self.old self.new }
-        ensures others { SameOthers self.old self.new }
-        ensures store { SameStore self.old.input self.new.input }
-        ensures light { pending_weight self.new.input.pending ≡ pending_weight self.old.input.pending }
-        ensures page { (book : Book) → page_of self.new book ≡ page_of self.old book }
-        ensures idle { OnOk result (self.new.input.making ≡ None) }
-    {
-        self.put_characters(Made::Spelling(token))
-    }
-
-    /// Puts the characters of what a token means in front. *The TeXbook*, chapter 20 (`\meaning`).
-    ///
-    /// # Errors
-    /// As [`Engine::put_text`].
-    pub fn put_meaning(&mut self, x: Seen) -> Result<(), Broken>
-        requires idle { self.old.input.making ≡ None }
-        ensures did { OnOk result ((sizes : Sizes) (w : World) (book : Book) → Counts sizes self.old book → self.old.input.making ≡ None → Did sizes (state_of self.old book) (state_of self.new book) w w (put_characters (meaning_characters (page_of self.old book) x))) }
-        ensures err { IfErr result (λ b. (sizes : Sizes) (w : World) (book : Book) (more : List Move) → Counts sizes self.old book → self.old.input.making ≡ None → Cuts sizes (state_of self.old book) self.new book w w (put_characters (meaning_characters (page_of self.old book) x) ++ more) b) }
-        ensures frames { SameFrames self.old self.new }
-        ensures others { SameOthers self.old self.new }
-        ensures store { SameStore self.old.input self.new.input }
-        ensures light { pending_weight self.new.input.pending ≡ pending_weight self.old.input.pending }
-        ensures page { (book : Book) → page_of self.new book ≡ page_of self.old book }
-        ensures idle { OnOk result (self.new.input.making ≡ None) }
-    {
-        self.put_characters(Made::Meaning(x))
     }
 }

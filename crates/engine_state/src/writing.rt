@@ -1,13 +1,13 @@
 // What the engine writes.
-ghost use Rattle.std.specs.Prelude.{◌≡◌, ◌≤◌, ◌<◌, ℕ, length, List, [], ◌∷◌, ◌++◌, IfOk, IfErr, OnOk, None, true, false};
+ghost use Rattle.std.specs.Prelude.{◌≡◌, ◌≤◌, ◌<◌, length, List, [], ◌∷◌, ◌++◌, IfOk, IfErr, OnOk, None, true, false};
 ghost use Rattle.tex_syntax.specs.declared.words.Outcome.TheVariants.{AtFatal};
 ghost use Rattle.tex_syntax.specs.declared.words.Scanned.TheVariants as scanned;
 ghost use Rattle.tex_defs.specs.Places.{Transcript};
 ghost use Rattle.tex_defs.specs.declared.Sizes.{Sizes};
 ghost use Rattle.tex_defs.specs.declared.Fatal.TheVariants as fatal;
 ghost use Rattle.plain_tokens.specs.Meanings.{meaning_to_let};
-ghost use Rattle.plain_tokens.specs.Printed.{initial_style, meaning_tokens};
-ghost use Rattle.plain_state.specs.Reports.{plain_style, report_bytes, message_bytes, error_message_bytes, runaway_bytes, shown_meaning_bytes};
+ghost use Rattle.plain_tokens.specs.Printed.{meaning_tokens};
+ghost use Rattle.plain_state.specs.Reports.{report_bytes, message_bytes, error_message_bytes, runaway_bytes, shown_meaning_bytes};
 ghost use Rattle.plain_machine.specs.States.{Move, Written};
 ghost use Rattle.plain_machine.specs.Plan.{reported, reported_as, token_line, reports_room, macro_tokens, shown};
 ghost use Rattle.plain_machine.specs.Does.{Did};
@@ -16,7 +16,7 @@ ghost use Rattle.reading_frames.specs.Sees.{kept_list_of};
 ghost use Rattle.engine_state.specs.Book.{Book};
 ghost use Rattle.engine_state.specs.Calls.{AllStand, argument_bytes};
 ghost use Rattle.engine_state.specs.Begins.{outcome_of_last, last_moves, last_bytes};
-ghost use Rattle.engine_state.specs.Stands.{IsSized, IsSound, SameFrames, OnlyColumn, state_of, page_of};
+ghost use Rattle.engine_state.specs.Stands.{IsSized, IsSound, SameFrames, OnlyColumn, state_of, page_of, own_style};
 ghost use Rattle.engine_state.specs.Rules.{world_of, list_number, counted, CountsOn, Cuts, Reports, ReportsAs, Halts, DoesOnward};
 ghost use Rattle.engine_state.specs.Steps.{IsFree};
 ghost use Rattle.engine_state.specs.declared.outcome.Ruled.TheVariants.{Halted};
@@ -25,11 +25,13 @@ use crate::broken::Broken;
 use crate::engine::Engine;
 use crate::outcome::{Last, Ruled};
 use crate::text::given_list;
+use crate::views::view_of;
+use char_text::Text;
 use tex_defs::{Fatal, Meaning, Seen, Sizes};
 use tex_syntax::{Outcome, Report, Scanned};
 use transcript::{
-    initial_view, put, write_error_message, write_message, write_report, write_runaway,
-    write_shown_meaning, write_token_line,
+    empty_runaway, end_lines, hundred_line, no_end_lines, put, write_error_message, write_message,
+    write_report, write_runaway, write_shown_meaning, write_token_line,
 };
 use world_io::Sink;
 
@@ -55,17 +57,16 @@ impl Engine {
     /// # Errors
     /// A write failed or wanted memory: a front of the text was written.
     pub fn write_message<S: Sink>(&mut self, out: &mut S, listed: bool) -> Result<(), Broken>
-        ensures did { OnOk result ((sizes : Sizes) (f : FilesTold) (book : Book) → Did sizes (state_of self.old book) (state_of self.new book) (world_of f (S.told out.old) self.old) (world_of f (S.told out.new) self.new) (Written Transcript (message_bytes (initial_style self.old.input.groups.now.categories self.old.names.names) self.old.in_line (kept_list_of listed self.old.input.builds)) ∷ [])) }
-        ensures err { IfErr result (λ b. (sizes : Sizes) (f : FilesTold) (book : Book) (more : List Move) → Cuts sizes (state_of self.old book) self.new book (world_of f (S.told out.old) self.old) (world_of f (S.told out.new) self.new) (Written Transcript (message_bytes (initial_style self.old.input.groups.now.categories self.old.names.names) self.old.in_line (kept_list_of listed self.old.input.builds)) ∷ more) b) }
+        ensures did { OnOk result ((sizes : Sizes) (f : FilesTold) (book : Book) → Did sizes (state_of self.old book) (state_of self.new book) (world_of f (S.told out.old) self.old) (world_of f (S.told out.new) self.new) (Written Transcript (message_bytes (own_style self.old) self.old.in_line (kept_list_of listed self.old.input.builds)) ∷ [])) }
+        ensures err { IfErr result (λ b. (sizes : Sizes) (f : FilesTold) (book : Book) (more : List Move) → Cuts sizes (state_of self.old book) self.new book (world_of f (S.told out.old) self.old) (world_of f (S.told out.new) self.new) (Written Transcript (message_bytes (own_style self.old) self.old.in_line (kept_list_of listed self.old.input.builds)) ∷ more) b) }
         ensures only { OnlyColumn self.old self.new }
     {
-        let (hash, pool) = self.names.parts();
         if listed && self.input.has_list() {
             let (lists, list) = self.input.list();
-            let view = initial_view(lists, hash, pool, self.input.categories());
+            let view = view_of(lists, &self.input, &self.names);
             write_message(out, &mut self.in_line, view, Some(list))?;
         } else {
-            let view = initial_view(self.input.lists(), hash, pool, self.input.categories());
+            let view = view_of(self.input.lists(), &self.input, &self.names);
             write_message(out, &mut self.in_line, view, None)?;
         }
         Ok(())
@@ -76,18 +77,17 @@ impl Engine {
     /// # Errors
     /// A write failed or wanted memory: a front of the report was written.
     pub fn write_error_message<S: Sink>(&mut self, out: &mut S, listed: bool) -> Result<(), Broken>
-        ensures did { OnOk result ((sizes : Sizes) (f : FilesTold) (book : Book) → Did sizes (state_of self.old book) (state_of self.new book) (world_of f (S.told out.old) self.old) (world_of f (S.told out.new) self.new) (Written Transcript (error_message_bytes (initial_style self.old.input.groups.now.categories self.old.names.names) self.old.in_line self.old.input.pending.number (kept_list_of listed self.old.input.builds)) ∷ [])) }
-        ensures err { IfErr result (λ b. (sizes : Sizes) (f : FilesTold) (book : Book) (more : List Move) → Cuts sizes (state_of self.old book) self.new book (world_of f (S.told out.old) self.old) (world_of f (S.told out.new) self.new) (Written Transcript (error_message_bytes (initial_style self.old.input.groups.now.categories self.old.names.names) self.old.in_line self.old.input.pending.number (kept_list_of listed self.old.input.builds)) ∷ more) b) }
+        ensures did { OnOk result ((sizes : Sizes) (f : FilesTold) (book : Book) → Did sizes (state_of self.old book) (state_of self.new book) (world_of f (S.told out.old) self.old) (world_of f (S.told out.new) self.new) (Written Transcript (error_message_bytes (own_style self.old) self.old.in_line self.old.input.pending.number (kept_list_of listed self.old.input.builds)) ∷ [])) }
+        ensures err { IfErr result (λ b. (sizes : Sizes) (f : FilesTold) (book : Book) (more : List Move) → Cuts sizes (state_of self.old book) self.new book (world_of f (S.told out.old) self.old) (world_of f (S.told out.new) self.new) (Written Transcript (error_message_bytes (own_style self.old) self.old.in_line self.old.input.pending.number (kept_list_of listed self.old.input.builds)) ∷ more) b) }
         ensures only { OnlyColumn self.old self.new }
     {
         let line = self.input.line_number();
-        let (hash, pool) = self.names.parts();
         if listed && self.input.has_list() {
             let (lists, list) = self.input.list();
-            let view = initial_view(lists, hash, pool, self.input.categories());
+            let view = view_of(lists, &self.input, &self.names);
             write_error_message(out, &mut self.in_line, view, line, Some(list))?;
         } else {
-            let view = initial_view(self.input.lists(), hash, pool, self.input.categories());
+            let view = view_of(self.input.lists(), &self.input, &self.names);
             write_error_message(out, &mut self.in_line, view, line, None)?;
         }
         Ok(())
@@ -101,13 +101,12 @@ impl Engine {
         number: u32,
     ) -> Result<(), Broken>
         requires { number < length self.old.input.builds }
-        ensures did { OnOk result ((sizes : Sizes) (f : FilesTold) (book : Book) → Did sizes (state_of self.old book) (state_of self.new book) (world_of f (S.told out.old) self.old) (world_of f (S.told out.new) self.new) (Written Transcript (runaway_bytes what (initial_style self.old.input.groups.now.categories self.old.names.names) self.old.in_line (list_number number self.old.input.builds)) ∷ [])) }
-        ensures err { IfErr result (λ b. (sizes : Sizes) (f : FilesTold) (book : Book) (more : List Move) → Cuts sizes (state_of self.old book) self.new book (world_of f (S.told out.old) self.old) (world_of f (S.told out.new) self.new) (Written Transcript (runaway_bytes what (initial_style self.old.input.groups.now.categories self.old.names.names) self.old.in_line (list_number number self.old.input.builds)) ∷ more) b) }
+        ensures did { OnOk result ((sizes : Sizes) (f : FilesTold) (book : Book) → Did sizes (state_of self.old book) (state_of self.new book) (world_of f (S.told out.old) self.old) (world_of f (S.told out.new) self.new) (Written Transcript (runaway_bytes what (own_style self.old) self.old.in_line (list_number number self.old.input.builds)) ∷ [])) }
+        ensures err { IfErr result (λ b. (sizes : Sizes) (f : FilesTold) (book : Book) (more : List Move) → Cuts sizes (state_of self.old book) self.new book (world_of f (S.told out.old) self.old) (world_of f (S.told out.new) self.new) (Written Transcript (runaway_bytes what (own_style self.old) self.old.in_line (list_number number self.old.input.builds)) ∷ more) b) }
         ensures only { OnlyColumn self.old self.new }
     {
-        let (hash, pool) = self.names.parts();
         let (lists, list) = self.input.list_number(number);
-        let view = initial_view(lists, hash, pool, self.input.categories());
+        let view = view_of(lists, &self.input, &self.names);
         write_runaway(out, &mut self.in_line, view, what, list)?;
         Ok(())
     }
@@ -121,14 +120,17 @@ impl Engine {
         ensures err { IfErr result (λ b. (sizes : Sizes) (f : FilesTold) (book : Book) (more : List Move) → Cuts sizes (state_of self.old book) self.new book (world_of f (S.told out.old) self.old) (world_of f (S.told out.new) self.new) (Written Transcript (argument_bytes self.old) ∷ more) b) }
         ensures only { OnlyColumn self.old self.new }
     {
-        let (hash, pool) = self.names.parts();
         match self.input.call_list() {
             Some((lists, list)) => {
-                let view = initial_view(lists, hash, pool, self.input.categories());
+                let view = view_of(lists, &self.input, &self.names);
                 write_runaway(out, &mut self.in_line, view, Scanned::Use, list)?;
                 Ok(())
             }
-            None => self.write_text(out, empty_argument(self.in_line)),
+            None => {
+                let view = view_of(self.input.lists(), &self.input, &self.names);
+                let text = empty_runaway(Scanned::Use, view, self.in_line);
+                self.write_text(out, text.bytes())
+            }
         }
     }
 
@@ -145,8 +147,7 @@ impl Engine {
         if self.quiet {
             return Ok(());
         }
-        let (hash, pool) = self.names.parts();
-        let view = initial_view(self.input.lists(), hash, pool, self.input.categories());
+        let view = view_of(self.input.lists(), &self.input, &self.names);
         write_token_line(out, &mut self.in_line, view, meaning)?;
         Ok(())
     }
@@ -208,33 +209,32 @@ impl Engine {
             return Ok(true);
         }
         self.reports = REPORTS_ROOM + 1;
-        self.write_text(out, HUNDRED_LINE)?;
+        let text = hundred_line(view_of(self.input.lists(), &self.input, &self.names));
+        self.write_text(out, text.bytes())?;
         Ok(false)
     }
 
     /// Writes a report.
     fn write_report<S: Sink>(&mut self, out: &mut S, report: Report) -> Result<(), Broken>
-        ensures did { OnOk result ((sizes : Sizes) (f : FilesTold) (book : Book) → Did sizes (state_of self.old book) (state_of self.new book) (world_of f (S.told out.old) self.old) (world_of f (S.told out.new) self.new) (Written Transcript (report_bytes (plain_style self.old.names.names) self.old.in_line self.old.input.pending.number report) ∷ [])) }
-        ensures err { IfErr result (λ b. (sizes : Sizes) (f : FilesTold) (book : Book) (more : List Move) → Cuts sizes (state_of self.old book) self.new book (world_of f (S.told out.old) self.old) (world_of f (S.told out.new) self.new) (Written Transcript (report_bytes (plain_style self.old.names.names) self.old.in_line self.old.input.pending.number report) ∷ more) b) }
+        ensures did { OnOk result ((sizes : Sizes) (f : FilesTold) (book : Book) → Did sizes (state_of self.old book) (state_of self.new book) (world_of f (S.told out.old) self.old) (world_of f (S.told out.new) self.new) (Written Transcript (report_bytes (own_style self.old) self.old.in_line self.old.input.pending.number report) ∷ [])) }
+        ensures err { IfErr result (λ b. (sizes : Sizes) (f : FilesTold) (book : Book) (more : List Move) → Cuts sizes (state_of self.old book) self.new book (world_of f (S.told out.old) self.old) (world_of f (S.told out.new) self.new) (Written Transcript (report_bytes (own_style self.old) self.old.in_line self.old.input.pending.number report) ∷ more) b) }
         ensures only { OnlyColumn self.old self.new }
     {
         let line = self.input.line_number();
-        let (hash, pool) = self.names.parts();
-        let view = initial_view(self.input.lists(), hash, pool, self.input.categories());
+        let view = view_of(self.input.lists(), &self.input, &self.names);
         write_report(out, &mut self.in_line, view, line, report)?;
         Ok(())
     }
 
     /// Writes a token and what it means, of a macro with the tokens of its list.
     fn write_shown_meaning<S: Sink>(&mut self, out: &mut S, x: Seen) -> Result<(), Broken>
-        ensures did { OnOk result ((sizes : Sizes) (f : FilesTold) (book : Book) → Did sizes (state_of self.old book) (state_of self.new book) (world_of f (S.told out.old) self.old) (world_of f (S.told out.new) self.new) (Written Transcript (shown_meaning_bytes (initial_style self.old.input.groups.now.categories self.old.names.names) self.old.in_line self.old.input.pending.number x.token x.meaning (meaning_tokens (macro_tokens self.old.input.lists) (meaning_to_let self.old.input.groups.now.meanings x))) ∷ [])) }
-        ensures err { IfErr result (λ b. (sizes : Sizes) (f : FilesTold) (book : Book) (more : List Move) → Cuts sizes (state_of self.old book) self.new book (world_of f (S.told out.old) self.old) (world_of f (S.told out.new) self.new) (Written Transcript (shown_meaning_bytes (initial_style self.old.input.groups.now.categories self.old.names.names) self.old.in_line self.old.input.pending.number x.token x.meaning (meaning_tokens (macro_tokens self.old.input.lists) (meaning_to_let self.old.input.groups.now.meanings x))) ∷ more) b) }
+        ensures did { OnOk result ((sizes : Sizes) (f : FilesTold) (book : Book) → Did sizes (state_of self.old book) (state_of self.new book) (world_of f (S.told out.old) self.old) (world_of f (S.told out.new) self.new) (Written Transcript (shown_meaning_bytes (own_style self.old) self.old.in_line self.old.input.pending.number x.token x.meaning (meaning_tokens (macro_tokens self.old.input.lists) (meaning_to_let self.old.input.groups.now.meanings x))) ∷ [])) }
+        ensures err { IfErr result (λ b. (sizes : Sizes) (f : FilesTold) (book : Book) (more : List Move) → Cuts sizes (state_of self.old book) self.new book (world_of f (S.told out.old) self.old) (world_of f (S.told out.new) self.new) (Written Transcript (shown_meaning_bytes (own_style self.old) self.old.in_line self.old.input.pending.number x.token x.meaning (meaning_tokens (macro_tokens self.old.input.lists) (meaning_to_let self.old.input.groups.now.meanings x))) ∷ more) b) }
         ensures only { OnlyColumn self.old self.new }
     {
         let line = self.input.line_number();
         let (lists, list) = given_list(&self.input, x);
-        let (hash, pool) = self.names.parts();
-        let view = initial_view(lists, hash, pool, self.input.categories());
+        let view = view_of(lists, &self.input, &self.names);
         write_shown_meaning(out, &mut self.in_line, view, line, x.token, x.meaning, list)?;
         Ok(())
     }
@@ -277,6 +277,17 @@ impl Engine {
         }
     }
 
+    /// The text that the machine writes where it stops.
+    fn last_text(&self, last: Last) -> Text
+        ensures { (book : Book) → result ≡ last_bytes (page_of self.now book) last }
+    {
+        let view = view_of(self.input.lists(), &self.input, &self.names);
+        match last {
+            Last::End => end_lines(view, self.in_line, self.input.group_depth()),
+            Last::NoEnd => no_end_lines(view, self.in_line),
+        }
+    }
+
     /// Writes what the machine writes where it stops, and ends the run.
     ///
     /// # Errors
@@ -284,40 +295,15 @@ impl Engine {
     pub fn halt<S: Sink>(&mut self, out: &mut S, last: Last) -> Result<Ruled, Broken>
         requires idle { self.old.input.making ≡ None }
         ensures rule { IfOk result (λ ruled. (sizes : Sizes) (f : FilesTold) (book : Book) →
-            DoesOnward sizes (state_of self.old book) self.new book (world_of f (S.told out.old) self.old) (world_of f (S.told out.new) self.new) (last_moves self.old.in_line last) ruled) }
-        ensures err { IfErr result (λ b. (sizes : Sizes) (f : FilesTold) (book : Book) → Cuts sizes (state_of self.old book) self.new book (world_of f (S.told out.old) self.old) (world_of f (S.told out.new) self.new) (last_moves self.old.in_line last) b) }
+            DoesOnward sizes (state_of self.old book) self.new book (world_of f (S.told out.old) self.old) (world_of f (S.told out.new) self.new) (last_moves (page_of self.old book) last) ruled) }
+        ensures err { IfErr result (λ b. (sizes : Sizes) (f : FilesTold) (book : Book) → Cuts sizes (state_of self.old book) self.new book (world_of f (S.told out.old) self.old) (world_of f (S.told out.new) self.new) (last_moves (page_of self.old book) last) b) }
         ensures ends { IfOk result (λ ruled. ruled ≡ Halted (outcome_of_last last)) }
         ensures frames { SameFrames self.old self.new }
         ensures input { self.new.input ≡ self.old.input }
         ensures idle { OnOk result (self.new.input.making ≡ None) }
     {
-        self.write_text(out, last_text(self.in_line, last))?;
+        let text = self.last_text(last);
+        self.write_text(out, text.bytes())?;
         Ok(Ruled::Halted(last.outcome()))
-    }
-}
-
-/// What comes behind the hundredth report.
-const HUNDRED_LINE: &[u8] = b"(That makes 100 errors; please try again.)\n";
-
-/// The text that the machine writes where it stops.
-fn last_text(in_line: bool, last: Last) -> &'static [u8]
-    ensures { result.now ≡ last_bytes in_line last }
-{
-    match (last, in_line) {
-        (Last::End, true) => b"\n",
-        (Last::End, false) => b"",
-        (Last::NoEnd, true) => b"\n! Emergency stop.\n*** (job aborted, no legal \\end found)\n",
-        (Last::NoEnd, false) => b"! Emergency stop.\n*** (job aborted, no legal \\end found)\n",
-    }
-}
-
-/// What is shown of an argument that runs away before it has a list.
-fn empty_argument(in_line: bool) -> &'static [u8]
-    ensures { (categories : List ℕ) (names : List (List ℕ)) → result.now ≡ runaway_bytes scanned.Use (initial_style categories names) in_line [] }
-{
-    if in_line {
-        b"\nRunaway argument?\n"
-    } else {
-        b"Runaway argument?\n"
     }
 }

@@ -25,13 +25,15 @@ use Rattle.equivalents.specs.Holding.{value_list}
 use Rattle.equivalents.specs.Laws.{IsWhole}
 use Rattle.equivalents.proofs.Joins.{closes as closes_groups}
 use Rattle.equivalents.proofs.Whole.{closes}
-use Rattle.meanings.specs.Holding.{Lasts}
+use Rattle.meanings.specs.Holding.{Lasts, without_holder}
 use Rattle.meanings.proofs.Counted.{list_is_held}
 use Rattle.eqtb_save.specs.Values.{numbered, categories_in}
+use Rattle.eqtb_save.specs.Holding.{MarksLast}
 use Rattle.eqtb_save.specs.Table.{Table, IsSound, noted, begun_by}
 use Rattle.eqtb_save.proofs.Codes.{noted_set, noted_still}
 use Rattle.eqtb_save.proofs.Held.{K, weight}
 use Rattle.eqtb_save.proofs.Kept.{mk}
+use Rattle.eqtb_save.proofs.Marks.{marks_last, same_length, then_marks}
 
 -- THE CODES FOLLOW WHAT IS TAKEN BACK
 
@@ -67,6 +69,8 @@ pub record IsGoing (lists0 : List (Option Entry)) (s0 : Stack K) (lists : List (
   pub moves : (h : ℕ) → holders_at lists h + weighs (weight h) s0 ≡ holders_at lists0 h + weighs (weight h) s
   pub kept : Keeps lists0 lists (λ h. weighs (weight h) s0)
   pub lasting : Lasts lists0 lists
+  pub length : length lists ≡ length lists0
+  pub marks : MarksLast lists0 lists
   pub same : restored s ≡ restored s0
   pub codes : cs ≡ categories_in (top (mapped numbered s).maps)
 
@@ -75,6 +79,8 @@ going_first lists s cs is = record {
   moves = λ h. refl;
   kept = record { tokens = λ h more. refl; places = λ h more. refl };
   lasting = record { tokens = λ h some. refl; places = λ h some. refl };
+  length = refl;
+  marks = λ h some. refl;
   same = refl;
   codes = is;
 }
@@ -84,8 +90,8 @@ module _ (lists0 lists : List (Option Entry)) (s0 s s' : Stack K) (cs : List ℕ
   going_counted = list_is_held lists (value_list (numbered y)) (λ h. omega (arith, covers h, g.moves h, account h))
 
   pub going_on : (lists' : List (Option Entry)) (cs' : List ℕ) (at : ℕ) → s' ≡ took_back (last_entry s.entries) s → Some (let p : ℕ × K = (at, y) in p) ≡ gone (last_entry s.entries) s →
-      Moves lists lists' (λ h. weight h y) none → Keeps lists lists' (λ h. weight h y) → Lasts lists lists' → cs' ≡ noted cs (top (mapped numbered s').maps) at → IsGoing lists0 s0 lists' s' cs'
-  going_on lists' cs' at taken out moves keeps lasts codes = record {
+      Moves lists lists' (λ h. weight h y) none → Keeps lists lists' (λ h. weight h y) → Lasts lists lists' → lists' ≡ without_holder (value_list (numbered y)) lists → cs' ≡ noted cs (top (mapped numbered s').maps) at → IsGoing lists0 s0 lists' s' cs'
+  going_on lists' cs' at taken out moves keeps lasts without codes = record {
     moves = λ h. omega (arith, g.moves h, account h, moves h);
     kept = record {
       tokens = λ h more. keeps.tokens h (omega (arith, more, covers h, g.moves h, account h)) ∙ g.kept.tokens h more;
@@ -95,6 +101,8 @@ module _ (lists0 lists : List (Option Entry)) (s0 s s' : Stack K) (cs : List ℕ
       tokens = λ h some. lasts.tokens h some ∙ g.lasting.tokens h (omega (arith, some, moves h));
       places = λ h some. lasts.places h some ∙ g.lasting.places h (omega (arith, some, moves h));
     };
+    length = same_length (value_list (numbered y)) lists lists' without ∙ g.length;
+    marks = then_marks lists0 lists lists' (λ h. weight h y) g.marks moves (marks_last (value_list (numbered y)) lists lists' without);
     same = restored_taken s s' taken ∙ g.same;
     codes = codes ∙ noted_taken cs s s' at y g.codes taken out;
   }

@@ -12,6 +12,7 @@ pub mod Held
 pub mod Innermost
 pub mod Kept
 pub mod Listed
+pub mod Marks
 pub mod Names
 pub mod Next
 pub mod Opening

@@ -1,7 +1,8 @@
--- Each list of an outer map is held now.
-use Rattle.std.proofs.Common.{◌≡◌, ℕ, ◌+◌, ◌<◌, List, [], ◌∷◌, map, Bool, true, false, cond, inl, inr, refl, ap, arith}
+-- The outer maps: there is one for each open group, and each of their lists is held now.
+use Rattle.std.proofs.Common.{◌≡◌, ℕ, ◌+◌, ◌-◌, ◌<◌, List, [], ◌∷◌, length, map, Bool, true, false, cond, inl, inr, refl, ap, arith}
 use Rattle.std.specs.Prelude.{sum_by, ◌==◌, ◌||◌}
 use Rattle.std.proofs.lemmas.Bool.{eq-eqb, eqb-true, cases_lt}
+use Rattle.std.proofs.lemmas.List.{length-map}
 use Rattle.std.proofs.lemmas.List.Sums.{sum_by-cons}
 use Rattle.plain_tokens.specs.Meanings.{is_listed}
 use Rattle.token_lists.specs.Accounts.{holds}
@@ -19,6 +20,13 @@ use Rattle.equivalents.specs.Laws.{IsWhole}
 use Rattle.eqtb_save.specs.Values.{numbered}
 use Rattle.eqtb_save.specs.Holding.{val_holds}
 use Rattle.eqtb_save.proofs.Held.{K, weight, held_is, map_holds, times_append}
+
+length_below : (ms : List (List V)) → length (below ms) ≡ length ms - 1
+length_below [] = refl
+length_below (m ∷ ms) = omega arith
+
+pub outer_count : (s : Stack V) → IsWhole s → length (groups_of s).outer ≡ length s.kinds
+outer_count s whole = omega (arith, length-map (below s.maps) tables_of, length_below s.maps, whole.maps)
 
 -- a number that stands among these, and how often it does
 

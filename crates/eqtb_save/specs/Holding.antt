@@ -1,7 +1,8 @@
 -- The lists that values hold.
-use Rattle.std.specs.Prelude.{ℕ, ◌+◌, Option, None, Some, cond}
+use Rattle.std.specs.Prelude.{◌≡◌, ℕ, ◌+◌, ◌<◌, List, Option, None, Some, cond}
 use Rattle.plain_tokens.specs.Meanings.{fixed_locations}
 use Rattle.token_lists.specs.Holders.{times}
+use Rattle.token_lists.specs.Table.{Entry, holders_at, mark_at}
 use Rattle.token_lists.specs.declared.ListRef.{ListRef}
 use Rattle.save_stack.specs.declared.Saved.{Saved}
 use Rattle.equivalents.specs.declared.values.Loc.{Loc}
@@ -34,3 +35,7 @@ entry_holds (Some e) h = val_holds (numbered e.value) h
 -- no list has more holders among values than there are locations with lists and saved values
 abbrev pub most_holders : Table → ℕ
 most_holders t = 264 + (fixed_locations + (t.sizes.hash_size + t.sizes.save_size))
+
+-- lists may go with their last holders, and what is still held has the mark that it had
+abbrev pub MarksLast : List (Option Entry) → List (Option Entry) → Type 0
+MarksLast old new = (h : ℕ) → 0 < holders_at new h → mark_at new h ≡ mark_at old h

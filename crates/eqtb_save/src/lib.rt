@@ -20,10 +20,11 @@ ghost use Rattle.equivalents.specs.Tables.{get};
 ghost use Rattle.equivalents.specs.Locations.{Suits, index, locations_without_names};
 ghost use Rattle.equivalents.specs.Groups.{saves, kind_of, depth as groups_depth, set_demands, group_demands, token_demands, IsLocation};
 ghost use Rattle.equivalents.specs.Holding.{list_of, value_list, lists_held, lists_outside};
+ghost use Rattle.equivalents.specs.Laws.{AreAlike};
 ghost use Rattle.meanings.specs.Kept.{numbered as numbered_meaning};
 ghost use Rattle.meanings.specs.Holding.{meaning_holds, with_holder, without_holder, Lasts};
 ghost use Rattle.eqtb_save.specs.Values.{numbered, categories_in};
-ghost use Rattle.eqtb_save.specs.Holding.{val_holds, held, replaced_list, entry_holds, most_holders};
+ghost use Rattle.eqtb_save.specs.Holding.{val_holds, held, replaced_list, entry_holds, most_holders, MarksLast};
 ghost use Rattle.eqtb_save.specs.Table.{Table, first_table, begun_by, GivesNext, set_at, set_all, group_opened, name_entered, token_kept, IsAssignable, HasRoom, CanClose, Closes, noted};
 
 mod first;
@@ -131,6 +132,8 @@ fn release_entry(lists: &mut Lists, entry: Option<Saved<Value>>)
     requires { Covers lists.old (entry_holds entry) }
     ensures account { Moves lists.old lists.new (entry_holds entry) none }
     ensures kept { Keeps lists.old lists.new (entry_holds entry) }
+    ensures length { length lists.new ≡ length lists.old }
+    ensures marks { MarksLast lists.old lists.new }
 {
     if let Some(
         Saved {
@@ -301,12 +304,18 @@ impl Eqtb {
         release(lists, old);
     }
 
-    /// Does nothing. Its contract tells that what is held stays within the tables, so that a list's holders can be counted, and that
-    /// each list that holds again behind the innermost group, or one around it, is held now.
+    /// Does nothing. Its contract tells that what is held stays within the tables, so that a list's holders can be counted, that there is
+    /// a map outside for each open group, with as many names as the present one, and that each list that holds again behind the innermost
+    /// group, or one around it, is held now.
     pub fn recall(&self)
         ensures bounded { (h : ℕ) → held self.now h ≤ most_holders self.now }
         ensures few { length self.now.groups.now.meanings ≤ fixed_locations + self.now.sizes.hash_size }
         ensures saves { saves self.now.groups ≤ self.now.sizes.save_size }
+        ensures maps { length self.now.groups.outer ≡ groups_depth self.now.groups }
+        ensures entries { length self.now.groups.entries ≡ groups_depth self.now.groups }
+        ensures tokens { length self.now.groups.tokens ≡ groups_depth self.now.groups }
+        ensures levels { length self.now.groups.levels ≡ locations_without_names + length self.now.groups.now.meanings }
+        ensures alike { AreAlike self.now.groups }
         ensures outside { (id : ℕ) → is_listed (lists_outside self.now.groups.outer) id ≡ true → is_listed (lists_held self.now.groups) id ≡ true }
     {
         let _count = self.groups.locations();
@@ -492,9 +501,9 @@ impl Eqtb {
         self.groups.after_group(token)
     }
 
-    // The innermost group goes, with its saved values: the first part of its end.
-    fn close_group(&mut self, lists: &mut Lists)
-        requires idle { self.old.ending ≡ None }
+    /// The innermost group goes, with its saved values: each value is restored, or let go where the location was assigned globally since. Its
+    /// tokens are still to be given; what an earlier group had still to give is given no more.
+    pub fn close_group(&mut self, lists: &mut Lists)
         requires open { 0 < groups_depth self.old.groups }
         requires covered { Covers lists.old (held self.old) }
         ensures after { self.new ≡ begun_by (kind_of self.old.groups) self.old }
@@ -502,6 +511,8 @@ impl Eqtb {
         ensures account { Moves lists.old lists.new (held self.old) (held self.new) }
         ensures kept { Keeps lists.old lists.new (held self.old) }
         ensures lasting { Lasts lists.old lists.new }
+        ensures length { length lists.new ≡ length lists.old }
+        ensures marks { MarksLast lists.old lists.new }
     {
         while let Some((at, value)) = self.groups.take_back() {
             note(&mut self.categories, &self.groups, at);
@@ -514,8 +525,8 @@ impl Eqtb {
         self.ending = Some(kind);
     }
 
-    // The next token of the group that is being closed, or its end.
-    fn next_closing(&mut self) -> Closed
+    /// The next token of the group that is being closed, the last first, or its end.
+    pub fn next_closing(&mut self) -> Closed
         requires { self.old.ending ≡ None → ⊥ }
         ensures step { GivesNext result self.old self.new }
         ensures account { (h : ℕ) → held self.new h ≡ held self.old h }
@@ -532,9 +543,8 @@ impl Eqtb {
         Closed::Done(kind)
     }
 
-    /// One step of the innermost group's end. At the first the group goes with its saved values: each value is restored, or let
-    /// go where the location was assigned globally since. Then come its tokens, the last first, and at last its kind. A group is open or
-    /// being closed.
+    /// One step of the innermost group's end. At the first the group goes with its saved values ([`Eqtb::close_group`]). Then come its tokens,
+    /// the last first, and at last its kind. A group is open or being closed.
     pub fn close_step(&mut self, lists: &mut Lists) -> Closed
         requires open { CanClose self.old }
         requires covered { Covers lists.old (held self.old) }
@@ -542,6 +552,8 @@ impl Eqtb {
         ensures account { Moves lists.old lists.new (held self.old) (held self.new) }
         ensures kept { Keeps lists.old lists.new (held self.old) }
         ensures lasting { Lasts lists.old lists.new }
+        ensures length { length lists.new ≡ length lists.old }
+        ensures marks { MarksLast lists.old lists.new }
     {
         match self.ending {
             None => {
@@ -557,6 +569,8 @@ impl Eqtb {
         requires { Covers lists.old (held self) }
         ensures account { Moves lists.old lists.new (held self) none }
         ensures kept { Keeps lists.old lists.new (held self) }
+        ensures length { length lists.new ≡ length lists.old }
+        ensures marks { MarksLast lists.old lists.new }
     {
         let Eqtb {
             groups,

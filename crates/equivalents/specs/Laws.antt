@@ -22,8 +22,10 @@ use Rattle.equivalents.specs.First.{first_tables, global_definitions, escape_cha
 use Rattle.equivalents.specs.Groups.{Groups, set_local, set_global, place_of, set_name, opened, with_token, closed, entered, saves, first_groups}
 use Rattle.equivalents.specs.Flat.{tables_of, groups_of, EachIsSuited, EachHas}
 
--- who reads category codes sees nothing of an assignment to a name or to a register, and who reads meanings nothing of one to a category code
+-- An assignment changes what stands at its location and nothing else. So who reads category codes sees nothing of one to a name or to a register, and who reads
+-- meanings nothing of one to a category code.
 pub record OtherKindsStay : Type 0 where
+  pub others : (m : Tables) (l k : Loc) (v : V) → l ≢ k → get (put m l v) k ≡ get m k
   pub codes : (m : Tables) (n : ℕ) (v : V) → (put m (loc.Means n) v).categories ≡ m.categories
   pub names : (m : Tables) (c : ℕ) (v : V) → (put m (loc.Code code.Category c) v).meanings ≡ m.meanings
   pub counts : (m : Tables) (n : ℕ) (v : V) → (put m (loc.Register register.Count n) v).categories ≡ m.categories

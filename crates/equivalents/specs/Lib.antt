@@ -5,3 +5,4 @@ pub mod Holding
 pub mod Laws
 pub mod Locations
 pub mod Tables
+pub mod Parameters

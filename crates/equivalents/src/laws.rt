@@ -1,6 +1,6 @@
 ghost use Rattle.equivalents.specs.Laws.{OtherKindsStay, GroupsTakeBack, EngineIsMachine, StaysWhole, NamesMean, Worked, FirstValues};
 
-/// Who reads category codes or meanings sees nothing of some assignments to other kinds.
+/// An assignment changes no other location, and who reads category codes or meanings sees nothing of some to other kinds.
 pub fn other_kinds_stay()
     ensures { OtherKindsStay }
 {}

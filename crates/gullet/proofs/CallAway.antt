@@ -1,13 +1,10 @@
 -- An argument that runs away: it is shown, a token put in front, and a report comes.
 use Rattle.std.proofs.Common.{◌≡◌, ℕ, List, [], ◌∷◌, ◌++◌, refl, sym, ap, subst, ◌∙◌, Bool}
-use Rattle.std.specs.Prelude.{Option, Some, None}
+use Rattle.std.specs.Prelude.{Option, Some}
 use Rattle.tex_syntax.specs.declared.words.Report.{Report}
-use Rattle.tex_syntax.specs.declared.words.Scanned.TheVariants as scanned
 use Rattle.tex_defs.specs.declared.Sizes.{Sizes}
 use Rattle.tex_defs.specs.declared.Token.{Token}
 use Rattle.tex_defs.specs.Places.{World, Transcript}
-use Rattle.plain_tokens.specs.Printed.{initial_style}
-use Rattle.plain_state.specs.Reports.{runaway_bytes}
 use Rattle.token_lists.specs.Table.{Entry, tokens_at}
 use Rattle.plain_machine.specs.States.{State, Move, Written}
 use Rattle.plain_machine.specs.Plan.{Page, page_behind, put_one, failed}
@@ -71,7 +68,3 @@ module _ (sizes : Sizes) (e e1 e2 : Engine) (f : FilesTold) (s0 s1 : SinkTold) (
 
 pub work_is : (table held : List (Option Entry)) (id : ℕ) (o : Option (List Token)) → table ≡ held → o ≡ Some (tokens_at held id) → tokens_at table id ≡ work_or_none o
 work_is table held id o t is = ap (λ (x : List (Option Entry)). tokens_at x id) t ∙ ap work_or_none (sym is)
-
--- an argument without a list
-pub empty_is : (categories : List ℕ) (names : List (List ℕ)) (b : Bool) (text : List ℕ) (o : Option (List Token)) → o ≡ None → text ≡ runaway_bytes scanned.Use (initial_style categories names) b [] → text ≡ runaway_bytes scanned.Use (initial_style categories names) b (work_or_none o)
-empty_is categories names b text o none is = is ∙ ap (λ (x : Option (List Token)). runaway_bytes scanned.Use (initial_style categories names) b (work_or_none x)) (sym none)

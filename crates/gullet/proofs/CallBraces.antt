@@ -16,7 +16,7 @@ use Rattle.rows.specs.Readings as reading
 use Rattle.plain_readings.specs.Readings.{Kind, ask as asked_by, lists as lists_held, fed_with}
 use Rattle.rows.specs.Readings.{Fed, Told}
 use Rattle.plain_readings.specs.Calls.{gathered, call_fed, call_ask, arguments, par_token}
-use Rattle.plain_state.specs.Reports.{plain_style, report_bytes}
+use Rattle.plain_state.specs.Reports.{report_bytes}
 use Rattle.plain_readings.specs.Readings.{Reading}
 use Rattle.plain_machine.specs.States.{Move, Feeds, Written, Reported, made}
 use Rattle.plain_machine.specs.Plan.{Page, told, noting, noting_kind, put_one, reported}
@@ -34,7 +34,7 @@ use Rattle.engine_state.specs.declared.broken.Broken.{Broken}
 use Rattle.engine_state.specs.declared.engine.Engine.{Engine}
 use Rattle.engine_state.specs.Book.{Book, with_work}
 use Rattle.engine_state.specs.Calls.{AllStand, ReadingsStand, CallStands, Gathers, IsTaking, brace_call, open_call}
-use Rattle.engine_state.specs.Stands.{state_of, page_of}
+use Rattle.engine_state.specs.Stands.{state_of, page_of, own_style}
 use Rattle.engine_state.specs.Rules.{world_of, Cuts, Halts, Reports, Went}
 use Rattle.gullet.proofs.CallLists.{gathers_lists}
 use Rattle.gullet.proofs.CallEnding.{here as here_call}
@@ -193,7 +193,7 @@ module _ (sizes : Sizes) (e e1 e2 : Engine) (f : FilesTold) (s0 : SinkTold) (nam
             subst (λ (p : Page). Reports sizes (state_of e2 W) (state_of e3 W) (world_of f s0 e2) (world_of f s3 e3) p (reports.ExtraBrace name) (Feeds Told ∷ [])) page_same rep in
             let k : ReadingsStand (Some (brace_call name)) e3 book.number (r ∷ rs) = here_call sizes e3 book (brace_call name) r rs is st in
             let b : Braced e3 book.number name r e3.input.call = braced e3 book.number name r k.0 in
-            let written : List Move = Written Transcript (report_bytes (plain_style e.names.names) e.in_line e.input.pending.number (reports.ExtraBrace name)) ∷ Reported ∷ [] in
+            let written : List Move = Written Transcript (report_bytes (own_style e) e.in_line e.input.pending.number (reports.ExtraBrace name)) ∷ Reported ∷ [] in
             let whole : moves ≡ (put_one x.token ++ put_one par_token) ++ (written ++ Feeds Told ∷ []) = ap (λ (ms : List Move). put_one x.token ++ (put_one par_token ++ ms)) h.moves in
             let work : List Reading = fed_with Told (r ∷ rs) in
             let made_now : made (Feeds Told) (state_of e3 W) ≡ state_of e4 (with_work work book) =

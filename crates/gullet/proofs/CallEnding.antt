@@ -7,7 +7,7 @@ use Rattle.tex_defs.specs.declared.Sizes.{Sizes}
 use Rattle.tex_defs.specs.declared.Token.{Token}
 use Rattle.tex_defs.specs.Places.{World, Transcript}
 use Rattle.rows.specs.Readings as reading
-use Rattle.plain_state.specs.Reports.{plain_style, report_bytes}
+use Rattle.plain_state.specs.Reports.{report_bytes}
 use Rattle.plain_readings.specs.Readings.{Reading, lists}
 use Rattle.plain_machine.specs.States.{State, Move, Closed, Written, Reported, made}
 use Rattle.plain_machine.specs.Plan.{answered, failed, reported}
@@ -22,7 +22,7 @@ use Rattle.engine_state.specs.declared.call.Call.{Call}
 use Rattle.engine_state.specs.declared.engine.Engine.{Engine}
 use Rattle.engine_state.specs.Book.{Book, with_work}
 use Rattle.engine_state.specs.Calls.{AllStand, ReadingsStand, CallStands, asks_of}
-use Rattle.engine_state.specs.Stands.{IsSized, SameFrames, SameOthers, SameStore, OnlyColumn, state_of, page_of}
+use Rattle.engine_state.specs.Stands.{IsSized, SameFrames, SameOthers, SameStore, OnlyColumn, state_of, page_of, own_style}
 use Rattle.engine_state.specs.Rules.{world_of, plan_of, Went, Halts, Reports}
 use Rattle.engine_state.proofs.CallKept.{all_still}
 use Rattle.engine_state.proofs.Joining.{quiet_wrote, went_by, halts_least}
@@ -96,7 +96,7 @@ pub failed_went : (sizes : Sizes) (e e1 e2 : Engine) (book : Book) (r : Reading)
     Reports sizes (state_of e (with_work (r ∷ rs) book)) (state_of e1 (with_work (r ∷ rs) book)) (world_of f s0 e) (world_of f s1 e1) (page_of e book) report (Closed ∷ []) →
     Went sizes (state_of e (with_work (r ∷ rs) book)) e2 (world_of f s0 e) (world_of f s1 e2) (failed (page_of e book) report) 0
 failed_went sizes e e1 e2 book r rs c f s0 s1 report is st same input sized after macros h =
-    let written : List Move = Written Transcript (report_bytes (plain_style e.names.names) e.in_line e.input.pending.number report) ∷ Reported ∷ [] in
+    let written : List Move = Written Transcript (report_bytes (own_style e) e.in_line e.input.pending.number report) ∷ Reported ∷ [] in
     went_by sizes _ e2 _ _ (written ++ Closed ∷ []) (failed (page_of e book) report) 0 h.moves
     (closed_went sizes e1 e2 book r rs c (same.call ∙ is) (reported_stands sizes e e1 (with_work (r ∷ rs) book) same input sized st) after macros _ f s1 _ written h.did refl)
 

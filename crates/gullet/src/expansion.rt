@@ -19,7 +19,7 @@ ghost use Rattle.engine_state.specs.Steps.{weight, pending_weight};
 ghost use Rattle.gullet.specs.Stepping.{IsLight, ExpandsTo, is_expansion, expands, job_moves, ExpandsOnce, IsExpanded, IsStayed, EndsRun, changes, once_by, Expands, Steps, StepStepsIf, IsSkipped, IsKept, IsOver, ends_run};
 
 use crate::call_name::call_name;
-use engine_state::{Broken, Engine, Next, Ruled, name_of};
+use engine_state::{Broken, Engine, Made, Next, Ruled, name_of};
 use reading_frames::Opening;
 use rows::{Call, Kind};
 use tex_defs::{Meaning, Seen, Token};
@@ -143,7 +143,7 @@ fn put_job(engine: &mut Engine, opening: Opening) -> Result<(), Broken>
     ensures idle { OnOk result (engine.new.input.making ≡ None) }
 {
     engine.begin(opening)?;
-    engine.put_job_name()?;
+    engine.put_characters(Made::JobName)?;
     engine.close_reading();
     Ok(())
 }

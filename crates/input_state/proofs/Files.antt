@@ -1,5 +1,5 @@
 -- Where only the file is left, what it gives is what is next pending.
-use Rattle.std.proofs.Common.{◌≡◌, ℕ, ◌+◌, List, [], ◌∷◌, Result, Ok, Err, refl, sym, ap, ◌∙◌, subst, arith}
+use Rattle.std.proofs.Common.{◌≡◌, ℕ, ◌+◌, ℤ, List, [], ◌∷◌, Result, Ok, Err, refl, sym, ap, ◌∙◌, subst, arith}
 use Rattle.std.specs.Prelude.{IfOk, IfErr, OnErr, MatchResult, None, Some, Bool, true, false, ◌||◌}
 use Rattle.std.proofs.lemmas.List.Sums.{sum_by-cons}
 use Rattle.tex_defs.specs.declared.Token.{Token}
@@ -7,11 +7,12 @@ use Rattle.tex_defs.specs.declared.Full.{Full}
 use Rattle.tex_defs.specs.declared.Sizes.{Sizes}
 use Rattle.tex_defs.specs.declared.Table.TheVariants.{InputStackSize}
 use Rattle.plain_tokens.specs.Puts.{Item, Put, settled, settled_top, passed, passed_top, without_gaps, top_item, put_levels, levels_of}
-use Rattle.plain_tokens.specs.Pending.{Pending, Progress, NotBegun, Begun, Closed, settle, with_puts, pulled, from_file}
+use Rattle.plain_tokens.specs.Pending.{Pending, Progress, NotBegun, Begun, Closed, settle, with_puts, pulled, from_file, takes_file}
 use Rattle.plain_tokens.specs.Pending as plain
 use Rattle.plain_tokens.specs.Meanings.{is_listed}
 use Rattle.plain_tokens.specs.Tables.{is_put, Demand, file_levels, file_level, next_line, opened_level, buffer, refused}
 use Rattle.equivalents.specs.Groups.{Groups}
+use Rattle.equivalents.specs.Parameters.{end_of_line}
 use Rattle.equivalents.specs.Holding.{lists_held}
 use Rattle.line_lexer.specs.declared.Ahead.TheVariants as ahead
 use Rattle.input_state.specs.declared.answer.Pulled.{Pulled}
@@ -22,7 +23,7 @@ use Rattle.input_state.specs.Reads.{Reads, Gives, GivesTo, Pulls, step_demands, 
 use Rattle.input_state.specs.HeldLists.{HeldLists, pending_of, line_levels, ahead_of, front_ahead}
 use Rattle.input_state.specs.FileLeft.{FileLeft}
 use Rattle.input_state.specs.InputViews.{stored_of}
-use Rattle.input_state.proofs.Readies.{used_up}
+use Rattle.input_state.proofs.Readies.{used_up, in_front}
 
 top_levels : (p : Put) (xs : List Item) (below rest : List Put) → p.items ≡ xs → put_levels below ≡ put_levels rest → put_levels (settled_top p xs below rest) ≡ levels_of xs + put_levels rest
 top_levels p [] below rest is same = omega (arith, same)
@@ -69,29 +70,30 @@ pub ahead_settled : (c : List ℕ) (p : Pending) → ahead_of c (settle p) ≡ a
 ahead_settled c p = ap (front_ahead c p) (passed_settled p.puts)
 
 -- the answer on what is settled is that on all
-settled_reads : (q : plain.Pulled) (x : Pulled) (sizes : Sizes) (p new : Pending) (bytes : List ℕ) → passed p.puts ≡ [] → Reads q x sizes (settle p) new bytes → Reads q x sizes p new bytes
-settled_reads q (answer.Token t) sizes p new bytes past h = (h.0, ap (λ (ps : List Put). refused sizes (opened_level (top_item ps) p)) past)
-settled_reads q (answer.Lexeme l) sizes p new bytes past h = h
-settled_reads q answer.Taken sizes p new bytes past h = (h.0, sym (ap (refused sizes) (settled_line p)) ∙ h.1)
-settled_reads q answer.Invalid sizes p new bytes past h = h
-settled_reads q answer.FileOver sizes p new bytes past h = h
-settled_reads q answer.Nothing sizes p new bytes past h = (h.0, h.1 ∙ settled_twice p)
+settled_reads : (q : plain.Pulled) (x : Pulled) (sizes : Sizes) (end : ℤ) (p new : Pending) (bytes : List ℕ) → passed p.puts ≡ [] →
+    Reads q x sizes end (settle p) new bytes → Reads q x sizes end p new bytes
+settled_reads q (answer.Token t) sizes end p new bytes past h = (h.0, ap (λ (ps : List Put). refused sizes (opened_level (top_item ps) p)) past)
+settled_reads q (answer.Lexeme l) sizes end p new bytes past h = h
+settled_reads q answer.Taken sizes end p new bytes past h = (record { next = h.0.next; is = h.0.is; ended = h.0.ended }, sym (ap (refused sizes) (settled_line p)) ∙ h.1)
+settled_reads q answer.Invalid sizes end p new bytes past h = h
+settled_reads q answer.FileOver sizes end p new bytes past h = h
+settled_reads q answer.Nothing sizes end p new bytes past h = (h.0, h.1 ∙ settled_twice p)
 
 -- what was read had room
-fits_reads : (q : plain.Pulled) (x : Pulled) (sizes : Sizes) (p new : Pending) (bytes : List ℕ) → Reads q x sizes p new bytes → refused sizes (step_demands q p) ≡ None
-fits_reads q (answer.Token t) sizes p new bytes h = ap (λ (o : plain.Pulled). refused sizes (step_demands o p)) h.0 ∙ h.1
-fits_reads q (answer.Lexeme l) sizes p new bytes h = ap (λ (o : plain.Pulled). refused sizes (step_demands o p)) h.pulls
-fits_reads q answer.Taken sizes p new bytes h = ap (λ (o : plain.Pulled). refused sizes (step_demands o p)) h.0 ∙ h.1
-fits_reads q answer.Invalid sizes p new bytes h = ap (λ (o : plain.Pulled). refused sizes (step_demands o p)) h
-fits_reads q answer.FileOver sizes p new bytes h = ap (λ (o : plain.Pulled). refused sizes (step_demands o p)) h
-fits_reads q answer.Nothing sizes p new bytes h = ap (λ (o : plain.Pulled). refused sizes (step_demands o p)) h.0
+fits_reads : (q : plain.Pulled) (x : Pulled) (sizes : Sizes) (end : ℤ) (p new : Pending) (bytes : List ℕ) → Reads q x sizes end p new bytes → refused sizes (step_demands q p) ≡ None
+fits_reads q (answer.Token t) sizes end p new bytes h = ap (λ (o : plain.Pulled). refused sizes (step_demands o p)) h.0 ∙ h.1
+fits_reads q (answer.Lexeme l) sizes end p new bytes h = ap (λ (o : plain.Pulled). refused sizes (step_demands o p)) h.pulls
+fits_reads q answer.Taken sizes end p new bytes h = ap (λ (o : plain.Pulled). refused sizes (step_demands o p)) h.0.is ∙ h.1
+fits_reads q answer.Invalid sizes end p new bytes h = ap (λ (o : plain.Pulled). refused sizes (step_demands o p)) h
+fits_reads q answer.FileOver sizes end p new bytes h = ap (λ (o : plain.Pulled). refused sizes (step_demands o p)) h
+fits_reads q answer.Nothing sizes end p new bytes h = ap (λ (o : plain.Pulled). refused sizes (step_demands o p)) h.0
 
 -- the category codes
 abbrev pub codes_of : Stored → List ℕ
 codes_of s = s.groups.now.categories
 
 pub fits_pulled : (old new : Stored) (x : Pulled) → Pulls (pulled (codes_of old) old.pending) x old new → pull_refusal old ≡ None
-fits_pulled old new x h = fits_reads (pulled (codes_of old) old.pending) x old.sizes old.pending new.pending new.buffer h
+fits_pulled old new x h = fits_reads (pulled (codes_of old) old.pending) x old.sizes (end_of_line old.groups.now) old.pending new.pending new.buffer h
 
 abbrev settled_store : List (List Token) → Stored → Stored
 settled_store lists s = record s { pending = settle s.pending; lists = lists }
@@ -100,7 +102,8 @@ module _ (ls : List (List Token)) (old new : Stored) (used : ahead_of (codes_of 
   pulls_now : (x : Pulled) → Pulls (from_file old.pending.file old.pending.number old.pending.rest) x (settled_store ls old) new → Pulls (pulled (codes_of old) old.pending) x old new
   pulls_now x h =
       let k = used_up (codes_of old) old.pending used in
-      subst (λ (q : plain.Pulled). Reads q x old.sizes old.pending new.pending new.buffer) (sym k.1) (settled_reads _ x old.sizes old.pending new.pending new.buffer k.0 h)
+      subst (λ (q : plain.Pulled). Reads q x old.sizes (end_of_line old.groups.now) old.pending new.pending new.buffer) (sym k.1)
+      (settled_reads _ x old.sizes (end_of_line old.groups.now) old.pending new.pending new.buffer k.0 h)
 
   refuses_now : (full : Full) → RefusesLine full (settled_store ls old) new → pull_refusal old ≡ Some full
   refuses_now full h =
@@ -137,18 +140,22 @@ pub front_refused : (h : HeldLists) (b : List ℕ) (file : FileLeft) (old : Stor
     MatchResult r (λ _. pull_refusal old ≡ None) (λ full. pull_refusal old ≡ Some full)
 front_refused h b file old is tied r why = subst (λ (v : Stored). MatchResult r (λ _. pull_refusal v ≡ None) (λ full. pull_refusal v ≡ Some full)) is (why file.rest file.file file.number tied)
 
--- what is given and has room is read
-reads_of : (q : plain.Pulled) (x : Pulled) (sizes : Sizes) (p new : Pending) (bytes : List ℕ) → Gives q x p new bytes → refused sizes (step_demands q p) ≡ None → Reads q x sizes p new bytes
-reads_of q (answer.Token t) sizes p new bytes h room = (h, sym (ap (λ (o : plain.Pulled). refused sizes (step_demands o p)) h) ∙ room)
-reads_of q (answer.Lexeme l) sizes p new bytes h room = h
-reads_of q answer.Taken sizes p new bytes h room = (h, sym (ap (λ (o : plain.Pulled). refused sizes (step_demands o p)) h) ∙ room)
-reads_of q answer.Invalid sizes p new bytes h room = h
-reads_of q answer.FileOver sizes p new bytes h room = h
-reads_of q answer.Nothing sizes p new bytes h room = h
+-- what is given and has room is read; no line is taken where something is left in front of the file
+reads_of : (q : plain.Pulled) (x : Pulled) (sizes : Sizes) (end : ℤ) (p new : Pending) (bytes : List ℕ) → takes_file q ≡ false →
+    Gives q x p new bytes → refused sizes (step_demands q p) ≡ None → Reads q x sizes end p new bytes
+reads_of q (answer.Token t) sizes end p new bytes left h room = (h, sym (ap (λ (o : plain.Pulled). refused sizes (step_demands o p)) h) ∙ room)
+reads_of q (answer.Lexeme l) sizes end p new bytes left h room = h
+reads_of q answer.Taken sizes end p new bytes left h room = let taken = ap takes_file h in cc
+reads_of q answer.Invalid sizes end p new bytes left h room = h
+reads_of q answer.FileOver sizes end p new bytes left h room = h
+reads_of q answer.Nothing sizes end p new bytes left h room = h
 
-pub front_ok : (old new : Stored) (r : Result Pulled Full) → GivesTo (pulled (codes_of old) old.pending) r old.pending new.pending new.buffer → MatchResult r (λ _. pull_refusal old ≡ None) (λ full. pull_refusal old ≡ Some full) → IfOk r (λ x. Pulls (pulled (codes_of old) old.pending) x old new)
-front_ok old new (Ok x) gives room = reads_of (pulled (codes_of old) old.pending) x old.sizes old.pending new.pending new.buffer gives room
-front_ok old new (Err f) gives room = tt
+pub front_ok : (old new : Stored) (r : Result Pulled Full) → (ahead_of (codes_of old) old.pending ≡ ahead.End → ⊥) → GivesTo (pulled (codes_of old) old.pending) r old.pending new.pending new.buffer →
+    MatchResult r (λ _. pull_refusal old ≡ None) (λ full. pull_refusal old ≡ Some full) → IfOk r (λ x. Pulls (pulled (codes_of old) old.pending) x old new)
+front_ok old new (Ok x) left gives room =
+    reads_of (pulled (codes_of old) old.pending) x old.sizes (end_of_line old.groups.now) old.pending new.pending new.buffer
+    (in_front (codes_of old) old.pending left) gives room
+front_ok old new (Err f) left gives room = tt
 
 -- what keeps the lists of macros twice keeps them
 pub keeps_twice : (old mid new : Stored) → KeepsMacros old mid → KeepsMacros mid new → new.groups ≡ mid.groups → ((id : ℕ) → is_put id new.pending.puts ≡ true → is_put id mid.pending.puts ≡ true) → KeepsLists (lists_held new.groups) new.pending.puts old.lists new.lists

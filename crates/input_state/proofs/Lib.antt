@@ -32,5 +32,7 @@ pub mod Readies
 pub mod Files
 pub mod TakenLines
 pub mod Letting
+pub mod Grouping
+pub mod Closing
 pub mod Walking
 pub mod ListNumbers

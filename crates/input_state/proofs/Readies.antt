@@ -1,5 +1,5 @@
 -- Whether a token or a line comes next.
-use Rattle.std.proofs.Common.{◌≡◌, ℕ, ◌<◌, ◌≤◌, List, [], ◌∷◌, refl, ap, subst, ◌∙◌, inl, inr, drop, length, Bool, true, false, arith}
+use Rattle.std.proofs.Common.{◌≡◌, ℕ, ◌<◌, ◌≤◌, ◌⊎◌, List, [], ◌∷◌, refl, sym, ap, subst, ◌∙◌, inl, inr, drop, length, Bool, true, false, arith}
 use Rattle.std.specs.Prelude.{nat_lt, nat_le, ◌&&◌, not}
 use Rattle.std.proofs.lemmas.Bool.{cases_lt}
 use Rattle.std.proofs.lemmas.Bool.Decides.{nat_tests}
@@ -8,6 +8,7 @@ use Rattle.plain_tokens.specs.Lex.{lexed}
 use Rattle.plain_tokens.specs.Puts.{Item, Put, passed, passed_top, without_gaps}
 use Rattle.plain_tokens.specs.Lines.{has_feed}
 use Rattle.plain_tokens.specs.Pending.{Pending, Progress, NotBegun, Begun, Closed, pulled, takes_file, from_front, from_list, from_line, from_file}
+use Rattle.line_lexer.specs.declared.Ahead.{Ahead}
 use Rattle.line_lexer.specs.declared.Ahead.TheVariants as ahead
 use Rattle.line_lexer.specs.Answers.{looks_of}
 use Rattle.input_state.specs.Reads.{gives_step}
@@ -68,6 +69,11 @@ token_comes c p is = front_token c p (passed p.puts) refl is
 front_used : (c : List ℕ) (p : Pending) (ps : List Put) → front_ahead c p ps ≡ ahead.End → (ps ≡ []) × (from_front c p ps ≡ from_file p.file p.number p.rest)
 front_used c p [] is = (refl, ap (from_line p) (line_used (lexed c p.lex p.line) is))
 front_used c p (x ∷ ps) is = cc
+
+-- what is a token or a character isn't the end
+pub no_end : (a : Ahead) → (a ≡ ahead.Token) ⊎ (a ≡ ahead.Invalid) → a ≡ ahead.End → ⊥
+no_end a (inl token) h = let k = sym token ∙ h in cc
+no_end a (inr invalid) h = let k = sym invalid ∙ h in cc
 
 -- nothing is left but the file
 pub used_up : (c : List ℕ) (p : Pending) → ahead_of c p ≡ ahead.End → (passed p.puts ≡ []) × (pulled c p ≡ from_file p.file p.number p.rest)

@@ -1,11 +1,12 @@
 -- A line of the file is taken.
-use Rattle.std.proofs.Common.{◌≡◌, ℕ, zero, suc, ◌+◌, ◌-◌, ◌<◌, ◌≤◌, List, [], ◌∷◌, ◌++◌, length, take, drop, Some, Result, Ok, Err, false, true≢false, refl, sym, ap, ap₂, ◌∙◌, subst, length-take, length-append, arith}
-use Rattle.std.specs.Prelude.{◌==◌, IsErrAnd, IfErr}
+use Rattle.std.proofs.Common.{◌≡◌, ℕ, zero, suc, ◌+◌, ◌-◌, ◌<◌, ◌≤◌, ℤ, pos, negsuc, List, [], ◌∷◌, ◌++◌, length, take, drop, Some, Result, Ok, Err, Bool, true, false, true≢false, refl, sym, ap, ap₂, ◌∙◌, subst, length-take, length-append, arith}
+use Rattle.std.specs.Prelude.{◌==◌, IsErrAnd, IfErr, nat_lt, if◌then◌else◌}
 use Rattle.tex_defs.specs.declared.Full.{Full}
-use Rattle.plain_tokens.specs.Lines.{first_line, behind_feed, end_char}
+use Rattle.plain_tokens.specs.Lines.{first_line, behind_feed}
+use Rattle.plain_tokens.specs.Printed.{character_of}
 use Rattle.plain_tokens.specs.Lex as plain
 use Rattle.plain_tokens.specs.Puts.{Put}
-use Rattle.plain_tokens.specs.Pending.{Pending, Begun, LineTaken, line_taken, taken_line, next_number, from_file, settle}
+use Rattle.plain_tokens.specs.Pending.{Pending, Begun, line_taken, line_ended, next_number, from_file, settle}
 use Rattle.plain_tokens.specs.Tables.{refused, next_line}
 use Rattle.line_lexer.specs.declared.Line.{Line}
 use Rattle.line_lexer.specs.declared.LineState.TheVariants.{NewLine}
@@ -14,14 +15,15 @@ use Rattle.input_state.specs.FileLeft.{FileLeft}
 use Rattle.input_state.specs.HeldLists.{HeldLists, pending_of, line_levels, IsLineIn}
 use Rattle.input_state.specs.InputViews.{stored_of, IsTied}
 use Rattle.input_state.specs.Stored.{Stored}
-use Rattle.input_state.specs.Reads.{RefusesLine}
+use Rattle.input_state.specs.Reads.{RefusesLine, TakesLine}
+use Rattle.equivalents.specs.Parameters.{end_of_line}
 use Rattle.input_state.specs.FileViews.{progress_of}
 use Rattle.input_state.specs.declared.file.Progress.{Progress}
 use Rattle.input_state.specs.declared.file.Progress.TheVariants as code
 
--- a line of so many bytes and its end character, at the front of the buffer
+-- a line of this length, at the front of the buffer
 abbrev pub line_of_length : ℕ → Line
-line_of_length kept = record { at = 0; end = kept + 1; state = NewLine }
+line_of_length n = record { at = 0; end = n; state = NewLine }
 
 -- the file behind a line
 abbrev pub file_behind : FileLeft → (used : ℕ) → FileLeft
@@ -35,15 +37,23 @@ front_kept [] c (suc k) n within below = absurd (omega arith)
 front_kept (x ∷ b) c (suc k) zero within below = absurd (omega arith)
 front_kept (x ∷ b) c (suc k) (suc n) within below = ap (λ (xs : List ℕ). x ∷ xs) (front_kept b c k n (omega arith) (omega arith))
 
-long_enough : (line b : List ℕ) → take (length line + 1) b ≡ line ++ end_char ∷ [] → length line + 1 ≤ length b
-long_enough line b is = omega (arith, ap length is, length-take (length line + 1) b, length-append line (end_char ∷ []))
+-- a line gets one character at most
+by_code : (b : Bool) (n : ℕ) → length (if b then n ∷ [] else []) ≤ 1
+by_code true n = omega arith
+by_code false n = omega arith
 
-line_stands : (line b c : List ℕ) (n kept : ℕ) → kept ≡ length line → take (length line + 1) b ≡ line ++ end_char ∷ [] → kept + 1 ≤ n → rest_of (take n (b ++ c)) (line_of_length kept) ≡ line ++ end_char ∷ []
-line_stands line b c n kept same is within =
-    let k : kept + 1 ≡ length line + 1 = omega (arith, same) in
-    let whole : (kept + 1) - 0 ≡ kept + 1 = omega arith in
+one_at_most : (end : ℤ) → length (character_of end) ≤ 1
+one_at_most (pos n) = by_code (nat_lt n 256) n
+one_at_most (negsuc n) = omega arith
+
+pub ended_length : (end : ℤ) (line : List ℕ) → length (line_ended end line) ≤ length line + 1
+ended_length end line = omega (arith, one_at_most end, length-append line (character_of end))
+
+line_stands : (line b c : List ℕ) (n count : ℕ) → count ≡ length line → take count b ≡ line → count ≤ n → rest_of (take n (b ++ c)) (line_of_length count) ≡ line
+line_stands line b c n count same is within =
+    let whole : count - 0 ≡ count = omega arith in
     ap (λ (i : ℕ). take i (take n (b ++ c))) whole
-    ∙ front_kept b c (kept + 1) n within (omega (arith, same, long_enough line b is)) ∙ ap (λ (i : ℕ). take i b) k ∙ is
+    ∙ front_kept b c count n within (omega (arith, same, ap length is, length-take count b)) ∙ is
 
 pub below_length : (whole count n size : ℕ) → whole < count → count ≡ n → n ≡ size → whole < size
 below_length whole count n size below is same = omega arith
@@ -54,8 +64,8 @@ front_length bytes first again kept whole is same fewer within = omega (arith, l
 
 -- THE LISTS
 
-module _ (h room front now : HeldLists) (line : Line) (kept : ℕ) (room_is : room ≡ record h { lists = room.lists }) (front_is : front ≡ record room { puts = []; line = front.line; lists = front.lists }) (now_is : now ≡ record front { line = Some line; lists = now.lists }) (line_is : line ≡ line_of_length kept) where
-  opened : now ≡ record h { puts = []; line = Some (line_of_length kept); lists = now.lists }
+module _ (h room front now : HeldLists) (line : Line) (count : ℕ) (room_is : room ≡ record h { lists = room.lists }) (front_is : front ≡ record room { puts = []; line = front.line; lists = front.lists }) (now_is : now ≡ record front { line = Some line; lists = now.lists }) (line_is : line ≡ line_of_length count) where
+  opened : now ≡ record h { puts = []; line = Some (line_of_length count); lists = now.lists }
   opened =
       now_is
       ∙ ap (λ (w : HeldLists). record w { line = Some line; lists = now.lists }) front_is
@@ -63,15 +73,15 @@ module _ (h room front now : HeldLists) (line : Line) (kept : ℕ) (room_is : ro
       ∙ ap (λ (l : Line). record h { puts = []; line = Some l; lists = now.lists }) line_is
 
   module _ (b c : List ℕ) (f g : FileLeft) (used : ℕ) (file_is : g ≡ file_behind f used) where
-    pub taken_tied : (whole : ℕ) → IsTied h b f → length c ≡ length b → kept ≤ whole → whole < length b → IsTied now c g
-    taken_tied whole t same fewer within =
-        let there : IsTied (record h { puts = []; line = Some (line_of_length kept); lists = now.lists }) c (file_behind f used) = record {
+    pub taken_tied : (kept whole : ℕ) → IsTied h b f → length c ≡ length b → count ≤ kept + 1 → kept ≤ whole → whole < length b → IsTied now c g
+    taken_tied kept whole t same ended fewer within =
+        let there : IsTied (record h { puts = []; line = Some (line_of_length count); lists = now.lists }) c (file_behind f used) = record {
           tied = refl;
-          in_buffer = (omega arith, omega (arith, same, fewer, within));
+          in_buffer = (omega arith, omega (arith, same, ended, fewer, within));
           size = same ∙ t.size;
           file_size = t.file_size;
         } in
-        subst (λ (w : HeldLists). IsTied w c g) (sym opened) (subst (λ (k : FileLeft). IsTied (record h { puts = []; line = Some (line_of_length kept); lists = now.lists }) c k) (sym file_is) there)
+        subst (λ (w : HeldLists). IsTied w c g) (sym opened) (subst (λ (k : FileLeft). IsTied (record h { puts = []; line = Some (line_of_length count); lists = now.lists }) c k) (sym file_is) there)
 
     pub taken_others : (v : Stored) → stored_of h b f ≡ v → stored_of now c g ≡ record v { pending = pending_of now c g.rest g.file g.number; buffer = c; lists = now.lists }
     taken_others v is =
@@ -80,14 +90,21 @@ module _ (h room front now : HeldLists) (line : Line) (kept : ℕ) (room_is : ro
         ap (λ (w : HeldLists). record (stored_of w c g) { pending = p; buffer = c; lists = lists }) opened
         ∙ ap (λ (w : Stored). record w { pending = p; buffer = c; lists = lists }) is
 
-    pub taken_pending : (v : Stored) → stored_of h b f ≡ v → rest_of c (line_of_length kept) ≡ taken_line f.rest → drop used f.rest ≡ behind_feed f.rest → line_taken v.pending.number v.pending.rest ≡ LineTaken (taken_line v.pending.rest) (pending_of now c g.rest g.file g.number)
+    pub taken_pending : (v : Stored) → stored_of h b f ≡ v → rest_of c (line_of_length count) ≡ line_ended (end_of_line h.groups.now) (first_line f.rest) → drop used f.rest ≡ behind_feed f.rest →
+        TakesLine (line_taken v.pending.number v.pending.rest) (end_of_line v.groups.now) v.pending (pending_of now c g.rest g.file g.number)
     taken_pending v is line behind =
         let p = pending_of now c g.rest g.file g.number in
-        let there : p ≡ record { puts = []; line = taken_line f.rest; lex = plain.NewLine; rest = behind_feed f.rest; file = Begun; number = next_number f.number } =
+        let end = end_of_line h.groups.now in
+        let there : p ≡ record { puts = []; line = line_ended end (first_line f.rest); lex = plain.NewLine; rest = behind_feed f.rest; file = Begun; number = next_number f.number } =
         ap (λ (w : HeldLists). pending_of w c g.rest g.file g.number) opened
-        ∙ ap (λ (k : FileLeft). pending_of (record h { puts = []; line = Some (line_of_length kept); lists = now.lists }) c k.rest k.file k.number) file_is
+        ∙ ap (λ (k : FileLeft). pending_of (record h { puts = []; line = Some (line_of_length count); lists = now.lists }) c k.rest k.file k.number) file_is
         ∙ ap₂ (λ (l rest : List ℕ). let q : Pending = record { puts = []; line = l; lex = plain.NewLine; rest = rest; file = Begun; number = next_number f.number } in q) line behind in
-        subst (λ (w : Stored). line_taken w.pending.number w.pending.rest ≡ LineTaken (taken_line w.pending.rest) p) is (sym (ap (LineTaken (taken_line f.rest)) there))
+        subst (λ (w : Stored). TakesLine (line_taken w.pending.number w.pending.rest) (end_of_line w.groups.now) w.pending p) is
+        (record {
+          next = record { puts = []; line = first_line f.rest; lex = plain.NewLine; rest = behind_feed f.rest; file = Begun; number = next_number f.number };
+          is = refl;
+          ended = there;
+        })
 
 -- The lists alone are others.
 pub lists_tied : (h now : HeldLists) (b : List ℕ) (f : FileLeft) → now ≡ record h { lists = now.lists } → IsTied h b f → IsTied now b f
@@ -102,12 +119,13 @@ read_tied h now b c f n puts is levels inside count same t = record {
   file_size = t.file_size ∙ sym (ap (λ (w : HeldLists). w.sizes.buffer_size) is);
 }
 
--- the bytes that were copied are the line's
-pub line_copied : (bytes first again b c : List ℕ) (n kept whole : ℕ) → first ≡ bytes → again ≡ bytes → kept ≤ whole → whole ≤ length first → whole < n → take kept first ≡ first_line first → take (length (take kept again) + 1) b ≡ take kept again ++ end_char ∷ [] →
-    rest_of (take n (b ++ c)) (line_of_length kept) ≡ taken_line bytes
-line_copied bytes first again b c n kept whole is same fewer within below line copied =
-    line_stands (take kept again) b c n kept (front_length bytes first again kept whole is same fewer within) copied (omega arith)
-    ∙ ap (λ (xs : List ℕ). xs ++ end_char ∷ []) (ap (take kept) (same ∙ sym is) ∙ line ∙ ap first_line is)
+-- the bytes that were copied are the line's, with its end character
+pub line_copied : (end : ℤ) (bytes first again b c : List ℕ) (n kept whole count : ℕ) → first ≡ bytes → again ≡ bytes → kept ≤ whole → whole ≤ length first → whole < n → take kept first ≡ first_line first →
+    take count b ≡ line_ended end (take kept again) → count ≡ length (line_ended end (take kept again)) → rest_of (take n (b ++ c)) (line_of_length count) ≡ line_ended end (first_line bytes)
+line_copied end bytes first again b c n kept whole count is same fewer within below line copied length_is =
+    line_stands (line_ended end (take kept again)) b c n count length_is copied
+    (omega (arith, length_is, ended_length end (take kept again), front_length bytes first again kept whole is same fewer within))
+    ∙ ap (line_ended end) (ap (take kept) (same ∙ sym is) ∙ line ∙ ap first_line is)
 
 -- THE FILE GIVES A LINE
 
@@ -124,8 +142,8 @@ first_gives number bytes code.Closed begun closed = absurd (closed refl)
 pub line_refused : {T : Type 0} (r : Result T Full) (full : Full) (old new : Stored) → IsErrAnd r (λ f. f ≡ full) → from_file old.pending.file old.pending.number old.pending.rest ≡ line_taken old.pending.number old.pending.rest → refused old.sizes (next_line old.pending) ≡ Some full → new.pending ≡ old.pending → settle old.pending ≡ old.pending → IfErr r (λ f. RefusesLine f old new)
 line_refused (Ok x) full old new is gives refuses same settled = tt
 line_refused (Err f) full old new is gives refuses same settled = record {
-  line = taken_line old.pending.rest;
-  next = record { puts = []; line = taken_line old.pending.rest; lex = plain.NewLine; rest = behind_feed old.pending.rest; file = Begun; number = next_number old.pending.number };
+  line = first_line old.pending.rest;
+  next = record { puts = []; line = first_line old.pending.rest; lex = plain.NewLine; rest = behind_feed old.pending.rest; file = Begun; number = next_number old.pending.number };
   takes = gives;
   refused = refuses ∙ ap (λ (e : Full). Some e) (sym is);
   stays = same ∙ sym settled;

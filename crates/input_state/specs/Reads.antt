@@ -1,11 +1,13 @@
 -- What a reading answers, and what is pending then.
-use Rattle.std.specs.Prelude.{◌≡◌, ℕ, ◌<◌, ◌≤◌, List, [], length, Option, None, Some, Bool, true, false, Result, Ok, Err}
+use Rattle.std.specs.Prelude.{◌≡◌, ℕ, ◌<◌, ◌≤◌, ℤ, List, [], length, Option, None, Some, Bool, true, false, Result, Ok, Err}
 use Rattle.tex_defs.specs.declared.Full.{Full}
 use Rattle.tex_defs.specs.declared.Sizes.{Sizes}
 use Rattle.plain_tokens.specs.Lex as plain
 use Rattle.plain_tokens.specs.Puts.{next_item}
-use Rattle.plain_tokens.specs.Pending.{Pending, Pulled, TokenFrom, LexemeFrom, LineTaken, InvalidMet, FileOver, NothingLeft, pulled, from_file, taken_line, settle}
+use Rattle.plain_tokens.specs.Lines.{first_line}
+use Rattle.plain_tokens.specs.Pending.{Pending, Pulled, TokenFrom, LexemeFrom, LineTaken, InvalidMet, FileOver, NothingLeft, pulled, from_file, with_end, settle}
 use Rattle.plain_tokens.specs.Tables.{Demand, refused, opened_level, next_line}
+use Rattle.equivalents.specs.Parameters.{end_of_line}
 use Rattle.line_lexer.specs.Answers.{span}
 use Rattle.line_lexer.specs.declared.Lexed.{Lexed}
 use Rattle.line_lexer.specs.declared.Lexed.TheVariants.{Char, Active, Single, Word, Empty, Par, Invalid, End}
@@ -29,11 +31,17 @@ pub record ReadsLexeme (p : Pulled) (lexed : Lexed) (next : Pending) (buffer : L
   pub is : IsLexeme buffer lexed lexeme
   pub pulls : p ≡ LexemeFrom lexeme next
 
--- The answer on a reading from what is pending, before and after it.
+-- A line of the file is taken, and gets its end character.
+pub record TakesLine (p : Pulled) (end : ℤ) (old new : Pending) : Type 0 where
+  pub next : Pending
+  pub is : p ≡ LineTaken (first_line old.rest) next
+  pub ended : new ≡ with_end end next
+
+-- The answer on a reading from what is pending, before and after it; no line is taken in front of the file.
 abbrev pub Gives : Pulled → answers.Pulled → Pending → Pending → List ℕ → Type 0
 Gives p (answer.Token t) old new buffer = p ≡ TokenFrom t new
 Gives p (answer.Lexeme l) old new buffer = ReadsLexeme p l new buffer
-Gives p answer.Taken old new buffer = p ≡ LineTaken (taken_line old.rest) new
+Gives p answer.Taken old new buffer = p ≡ LineTaken (first_line old.rest) new
 Gives p answer.Invalid old new buffer = p ≡ InvalidMet new
 Gives p answer.FileOver old new buffer = p ≡ FileOver new
 Gives p answer.Nothing old new buffer = (p ≡ NothingLeft) × (new ≡ settle old)
@@ -43,17 +51,17 @@ abbrev pub GivesTo : Pulled → Result answers.Pulled Full → Pending → Pendi
 GivesTo p (Ok a) old new buffer = Gives p a old new buffer
 GivesTo p (Err f) old new buffer = Unit {0}
 
--- The same, where the step of a list's token or of a line fits.
-abbrev pub Reads : Pulled → answers.Pulled → Sizes → Pending → Pending → List ℕ → Type 0
-Reads p (answer.Token t) sizes old new buffer = (p ≡ TokenFrom t new) × (refused sizes (opened_level (next_item old.puts) old) ≡ None)
-Reads p (answer.Lexeme l) sizes old new buffer = ReadsLexeme p l new buffer
-Reads p answer.Taken sizes old new buffer = (p ≡ LineTaken (taken_line old.rest) new) × (refused sizes (next_line old) ≡ None)
-Reads p answer.Invalid sizes old new buffer = p ≡ InvalidMet new
-Reads p answer.FileOver sizes old new buffer = p ≡ FileOver new
-Reads p answer.Nothing sizes old new buffer = (p ≡ NothingLeft) × (new ≡ settle old)
+-- The same, where the step of a list's token or of a line fits, by the value of `\endlinechar`.
+abbrev pub Reads : Pulled → answers.Pulled → Sizes → (end : ℤ) → Pending → Pending → List ℕ → Type 0
+Reads p (answer.Token t) sizes end old new buffer = (p ≡ TokenFrom t new) × (refused sizes (opened_level (next_item old.puts) old) ≡ None)
+Reads p (answer.Lexeme l) sizes end old new buffer = ReadsLexeme p l new buffer
+Reads p answer.Taken sizes end old new buffer = TakesLine p end old new × (refused sizes (next_line old) ≡ None)
+Reads p answer.Invalid sizes end old new buffer = p ≡ InvalidMet new
+Reads p answer.FileOver sizes end old new buffer = p ≡ FileOver new
+Reads p answer.Nothing sizes end old new buffer = (p ≡ NothingLeft) × (new ≡ settle old)
 
 abbrev pub Pulls : Pulled → answers.Pulled → Stored → Stored → Type 0
-Pulls p result old new = Reads p result old.sizes old.pending new.pending new.buffer
+Pulls p result old new = Reads p result old.sizes (end_of_line old.groups.now) old.pending new.pending new.buffer
 
 -- What the next step needs: a level for the first token of an argument, and room for a line.
 abbrev pub step_demands : Pulled → Pending → List Demand

@@ -1,7 +1,8 @@
 // The lines of a file.
 ghost use Rattle.std.specs.Prelude.{◌≡◌, ◌≤◌, ◌<◌, ◌+◌, ◌++◌, ◌∷◌, [], nat_lt, take, drop, length};
 ghost use Rattle.plain_tokens.specs.Lines as plain;
-ghost use Rattle.plain_tokens.specs.Lines.{before_feed, behind_feed, has_feed, without_last, trimmed, end_char};
+ghost use Rattle.plain_tokens.specs.Lines.{before_feed, behind_feed, has_feed, without_last, trimmed};
+ghost use Rattle.plain_tokens.specs.Pending.{line_ended};
 
 /// A file's first line: how many bytes it has before its trailing spaces are cut, how many of the file's first bytes
 /// it keeps, and how many it takes up.
@@ -72,12 +73,18 @@ pub fn first_line(bytes: &[u8]) -> Cut
     }
 }
 
-/// Copies a line to the front of the buffer, and its end character behind it.
-pub fn put_line(buffer: &mut [u8], line: &[u8])
+/// Copies a line to the front of the buffer, and its end character behind it, where this is the code of a character. Answers the
+/// line's length then.
+pub fn put_line(buffer: &mut [u8], line: &[u8], end: i32) -> usize
     requires { length line.now < length buffer.old }
-    ensures { take (length line.now + 1) buffer.new ≡ line.now ++ end_char ∷ [] }
+    ensures line { take result buffer.new ≡ line_ended end line.now }
+    ensures length { result ≡ length (line_ended end line.now) }
 {
-    let end = line.len();
-    buffer[..end].copy_from_slice(line);
-    buffer[end] = 13;
+    let count = line.len();
+    buffer[..count].copy_from_slice(line);
+    if (0..256).contains(&end) {
+        buffer[count] = end as u8;
+        return count + 1;
+    }
+    count
 }

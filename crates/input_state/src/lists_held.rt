@@ -6,8 +6,10 @@ ghost use Rattle.plain_tokens.specs.Meanings.{is_listed, location, name_meaning,
 ghost use Rattle.equivalents.specs.declared.values.Loc.TheVariants as loc;
 ghost use Rattle.equivalents.specs.declared.values.Val.TheVariants as val;
 ghost use Rattle.equivalents.specs.Locations.{Suits};
-ghost use Rattle.equivalents.specs.Groups.{first_groups, entered, set, set_name, set_demands, name_demands, IsLocation};
-ghost use Rattle.equivalents.specs.Holding.{lists_held};
+ghost use Rattle.equivalents.specs.Groups.{first_groups, entered, set, set_name, set_demands, name_demands, group_demands, token_demands, opened, with_token, closed, tokens_after, kind_of, depth, IsLocation};
+ghost use Rattle.equivalents.specs.Parameters.{integer_in};
+ghost use Rattle.equivalents.specs.Holding.{lists_held, lists_outside};
+ghost use Rattle.equivalents.specs.Laws.{AreAlike};
 ghost use Rattle.eqtb_save.specs.Values.{numbered};
 ghost use Rattle.eqtb_save.specs.Holding.{val_holds, held};
 ghost use Rattle.meanings.specs.Holding.{Lasts};
@@ -40,7 +42,7 @@ use crate::gathering::{Gathering, begin as begin_call, feed};
 use crate::holders::{give_back, has_parameters, let_go, share};
 use crate::places::behind;
 use crate::{CallKind, CallTold, Pulled};
-use eqtb_save::{Eqtb, Loc, Val, Value, name_loc};
+use eqtb_save::{Closed, Eqtb, GroupKind, Loc, Val, Value, name_loc};
 use input_stack::{InputStack, Pulled as Given};
 use line_lexer::{Ahead, Lexed, Line};
 use macro_args::Args;
@@ -561,6 +563,72 @@ impl Held {
         }
     }
 
+    /// Opens a group. Nothing is copied.
+    ///
+    /// # Errors
+    /// The save stack is full, or else as many groups are open as may be; nothing has changed.
+    pub fn open_group(&mut self, kind: GroupKind) -> Result<(), Full>
+        ensures refused { MatchResult result (λ _. refused self.old.sizes (group_demands self.old.groups) ≡ None) (λ full. refused self.old.sizes (group_demands self.old.groups) ≡ Some full) }
+        ensures ok { OnOk result (self.new ≡ record self.old { groups = opened self.old.groups kind }) }
+        ensures err { OnErr result (self.new ≡ self.old) }
+        ensures macros { KeepsHeld self.old self.new }
+    {
+        self.table.open_group(kind)
+    }
+
+    /// Keeps a token for the end of the innermost group. A group is open.
+    ///
+    /// # Errors
+    /// The save stack is full; nothing has changed.
+    pub fn after_group(&mut self, token: Token) -> Result<(), Full>
+        requires { 0 < depth self.old.groups }
+        ensures refused { MatchResult result (λ _. refused self.old.sizes (token_demands self.old.groups) ≡ None) (λ full. refused self.old.sizes (token_demands self.old.groups) ≡ Some full) }
+        ensures ok { OnOk result (self.new ≡ record self.old { groups = with_token self.old.groups token }) }
+        ensures err { OnErr result (self.new ≡ self.old) }
+        ensures macros { KeepsHeld self.old self.new }
+    {
+        self.table.after_group(token)
+    }
+
+    /// The innermost group goes, with its saved values; its tokens are still to be given.
+    pub fn close_group(&mut self)
+        requires open { 0 < depth self.old.groups }
+        requires calls { self.old.call ≡ NotCalling }
+        ensures after { self.new ≡ record self.old { groups = closed self.old.groups; closing = tokens_after self.old.groups; ending = kind_of self.old.groups; lists = self.new.lists } }
+        ensures macros { KeepsHeld self.old self.new }
+    {
+        self.table.recall();
+        self.table.close_group(&mut self.lists);
+    }
+
+    /// The next token of the group that was closed, the last first; behind them all its end.
+    pub fn next_after(&mut self) -> Option<Token>
+        requires { self.old.ending ≡ None → ⊥ }
+        ensures next { MatchOption result (self.old.closing ≡ []) (λ t. self.old.closing ≡ t ∷ self.new.closing) }
+        ensures others { self.new ≡ record self.old { closing = self.new.closing; ending = self.new.ending } }
+        ensures goes_on { IsSome result → self.new.ending ≡ self.old.ending }
+        ensures ends { result ≡ None → self.new.ending ≡ None }
+    {
+        match self.table.next_closing() {
+            Closed::After(token) => Some(token),
+            Closed::Done(_kind) => None,
+        }
+    }
+
+    /// The kind of the innermost open group, if one is open.
+    pub fn group_kind(&self) -> Option<GroupKind>
+        ensures { result ≡ kind_of self.now.groups }
+    {
+        self.table.kind()
+    }
+
+    /// How many groups are open.
+    pub fn group_depth(&self) -> u32
+        ensures { result ≡ depth self.now.groups }
+    {
+        self.table.depth()
+    }
+
     /// A name becomes a macro: the innermost gathered list is its parameter text, the end mark and its body.
     ///
     /// # Errors
@@ -673,7 +741,7 @@ impl Held {
     /// The value of an integer parameter, by its place.
     pub fn integer(&self, i: u8) -> i32
         requires { i < 55 }
-        ensures { result ≡ slice_index_or self.now.groups.now.integers i (pos 0) }
+        ensures { result ≡ integer_in self.now.groups.now i }
     {
         self.table.integer(i)
     }
@@ -705,6 +773,15 @@ impl Held {
         ensures { (id : ℕ) → is_listed (lists_held self.now.groups) id ≡ true → IsDefined (list_at self.now.lists id) }
     {
         let _lists = &self.lists;
+    }
+
+    /// Each list that holds again behind the innermost group, or one around it, is held now, and the names have as many locations there. The call
+    /// does nothing.
+    pub fn recall_groups(&self)
+        ensures outside { (id : ℕ) → is_listed (lists_outside self.now.groups.outer) id ≡ true → is_listed (lists_held self.now.groups) id ≡ true }
+        ensures alike { AreAlike self.now.groups }
+    {
+        self.table.recall();
     }
 
     /// How a name is called.

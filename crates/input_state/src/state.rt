@@ -8,10 +8,11 @@ ghost use Rattle.plain_tokens.specs.Tokens.{character_codes};
 ghost use Rattle.plain_tokens.specs.Meanings.{is_listed, location, name_meaning, seen, met, meaning_to_let};
 ghost use Rattle.equivalents.specs.declared.values.Val.TheVariants as val;
 ghost use Rattle.equivalents.specs.Locations.{Suits};
-ghost use Rattle.equivalents.specs.Groups.{first_groups, entered, set, set_name, set_demands, name_demands, IsLocation};
-ghost use Rattle.equivalents.specs.Holding.{lists_held};
+ghost use Rattle.equivalents.specs.Groups.{first_groups, entered, set, set_name, set_demands, name_demands, group_demands, token_demands, opened, with_token, closed as group_closed, tokens_after, kind_of, depth, IsLocation};
+ghost use Rattle.equivalents.specs.Holding.{lists_held, lists_outside};
+ghost use Rattle.equivalents.specs.Laws.{AreAlike};
 ghost use Rattle.plain_tokens.specs.Puts.{settled, passed, token_put, grow_first, grown_by};
-ghost use Rattle.plain_tokens.specs.Pending.{NotBegun, Begun, Closed, LineTaken, pulled, settle, put_front, line_taken, taken_line, from_file};
+ghost use Rattle.plain_tokens.specs.Pending.{NotBegun, Begun, Closed, pulled, settle, put_front, line_taken, from_file};
 ghost use Rattle.plain_tokens.specs.Tables.{is_put, lists_words, memory, level, file_levels, next_line, refused};
 ghost use Rattle.line_lexer.specs.declared.Ahead.TheVariants as ahead;
 ghost use Rattle.line_lexer.specs.declared.LineState.TheVariants.{NewLine};
@@ -35,14 +36,15 @@ ghost use Rattle.input_state.specs.NextBytes.{KnowsNext, NeedsBytes, with_bytes}
 ghost use Rattle.input_state.specs.Counted.{AreCounted};
 ghost use Rattle.input_state.specs.Stored.{KeepsMacros, call_refusal, put_refusal, words, unread, no_bytes, closed};
 ghost use Rattle.input_state.specs.Walks.{to_come};
-ghost use Rattle.input_state.specs.Reads.{GivesTo, Pulls, pull_refusal, RefusesLine, gives_step};
+ghost use Rattle.equivalents.specs.Parameters.{integer_in, end_of_line};
+ghost use Rattle.input_state.specs.Reads.{GivesTo, TakesLine, Pulls, pull_refusal, RefusesLine, gives_step};
 
 use crate::file::{JobFile, Progress};
 use crate::lines::{first_line, put_line};
 use crate::lists_held::Held;
 use crate::places::spell;
 use crate::{CallKind, CallTold, Pulled, Walk};
-use eqtb_save::Loc;
+use eqtb_save::{GroupKind, Loc};
 use line_lexer::{Ahead, Line, LineState};
 use std::alloc::{AllocError, Global};
 use std::marker::Model;
@@ -73,6 +75,9 @@ impl Model for Input {
 
     ghost invariant = { λ i. IsTied i.held i.buffer.items i.file };
 }
+
+/// The place of `\endlinechar` among the integer parameters.
+const END_LINE_CHARACTER: u8 = 48;
 
 // A line of this length, none of it read.
 fn line_start(end: usize) -> Line
@@ -380,7 +385,7 @@ impl Input {
         requires end { ahead_of self.old.groups.now.categories self.old.pending ≡ ahead.End }
         requires settled { settle self.old.pending ≡ self.old.pending }
         requires open { self.old.pending.file ≢ Closed }
-        ensures ok { OnOk result (line_taken self.old.pending.number self.old.pending.rest ≡ LineTaken (taken_line self.old.pending.rest) self.new.pending) }
+        ensures ok { OnOk result (TakesLine (line_taken self.old.pending.number self.old.pending.rest) (end_of_line self.old.groups.now) self.old.pending self.new.pending) }
         ensures refused { MatchResult result (λ _. refused self.old.sizes (next_line self.old.pending) ≡ None) (λ full. refused self.old.sizes (next_line self.old.pending) ≡ Some full) }
         ensures err { OnErr result (self.new.pending ≡ self.old.pending) }
         ensures others { self.new ≡ record self.old { pending = self.new.pending; buffer = self.new.buffer; lists = self.new.lists } }
@@ -393,8 +398,9 @@ impl Input {
         let progress = self.file.progress();
         line_room(&mut self.held, progress)?;
         self.held.drop_front(&mut self.buffer);
-        put_line(&mut self.buffer, &self.file.rest()[..cut.kept]);
-        open_line(&mut self.held, progress, line_start(cut.kept + 1));
+        let end = self.held.integer(END_LINE_CHARACTER);
+        let length = put_line(&mut self.buffer, &self.file.rest()[..cut.kept], end);
+        open_line(&mut self.held, progress, line_start(length));
         self.file.go_on(cut.used);
         Ok(())
     }
@@ -593,6 +599,69 @@ impl Input {
         self.held.set_number(loc, number, global)
     }
 
+    /// Opens a group. Nothing is copied. *The TeXbook*, chapter 24; *TeX: The Program*, part 19 (`new_save_level`).
+    ///
+    /// # Errors
+    /// The save stack is full, or else as many groups are open as may be; nothing has changed.
+    pub fn open_group(&mut self, kind: GroupKind) -> Result<(), Full>
+        ensures refused { MatchResult result (λ _. refused self.old.sizes (group_demands self.old.groups) ≡ None) (λ full. refused self.old.sizes (group_demands self.old.groups) ≡ Some full) }
+        ensures ok { OnOk result (self.new ≡ record self.old { groups = opened self.old.groups kind }) }
+        ensures err { OnErr result (self.new ≡ self.old) }
+        ensures macros { KeepsMacros self.old self.new }
+    {
+        self.held.open_group(kind)
+    }
+
+    /// Keeps a token for the end of the innermost group. A group is open. *TeX: The Program*, part 19 (`save_for_after`).
+    ///
+    /// # Errors
+    /// The save stack is full; nothing has changed.
+    pub fn after_group(&mut self, token: Token) -> Result<(), Full>
+        requires { 0 < depth self.old.groups }
+        ensures refused { MatchResult result (λ _. refused self.old.sizes (token_demands self.old.groups) ≡ None) (λ full. refused self.old.sizes (token_demands self.old.groups) ≡ Some full) }
+        ensures ok { OnOk result (self.new ≡ record self.old { groups = with_token self.old.groups token }) }
+        ensures err { OnErr result (self.new ≡ self.old) }
+        ensures macros { KeepsMacros self.old self.new }
+    {
+        self.held.after_group(token)
+    }
+
+    /// The innermost group goes: what was saved in it holds again, and what no location has then is let go. Its tokens are still to be given; what an
+    /// earlier group had still to give is given no more. *TeX: The Program*, part 19 (`unsave`).
+    pub fn close_group(&mut self)
+        requires open { 0 < depth self.old.groups }
+        requires calls { self.old.call ≡ NotCalling }
+        ensures after { self.new ≡ record self.old { groups = group_closed self.old.groups; closing = tokens_after self.old.groups; ending = kind_of self.old.groups; lists = self.new.lists } }
+        ensures macros { KeepsMacros self.old self.new }
+    {
+        self.held.close_group();
+    }
+
+    /// The next token of the group that was closed, the last first; behind them all its end.
+    pub fn next_after(&mut self) -> Option<Token>
+        requires { self.old.ending ≡ None → ⊥ }
+        ensures next { MatchOption result (self.old.closing ≡ []) (λ t. self.old.closing ≡ t ∷ self.new.closing) }
+        ensures others { self.new ≡ record self.old { closing = self.new.closing; ending = self.new.ending } }
+        ensures goes_on { IsSome result → self.new.ending ≡ self.old.ending }
+        ensures ends { result ≡ None → self.new.ending ≡ None }
+    {
+        self.held.next_after()
+    }
+
+    /// The kind of the innermost open group, if one is open.
+    pub fn group_kind(&self) -> Option<GroupKind>
+        ensures { result ≡ kind_of self.now.groups }
+    {
+        self.held.group_kind()
+    }
+
+    /// How many groups are open.
+    pub fn group_depth(&self) -> u32
+        ensures { result ≡ depth self.now.groups }
+    {
+        self.held.group_depth()
+    }
+
     /// The category codes, by their characters.
     pub fn categories(&self) -> &[u8; 256]
         ensures { result.now ≡ self.now.groups.now.categories }
@@ -603,7 +672,7 @@ impl Input {
     /// The value of an integer parameter, by its place among the 55, from 0.
     pub fn integer(&self, i: u8) -> i32
         requires { i < 55 }
-        ensures { result ≡ slice_index_or self.now.groups.now.integers i (pos 0) }
+        ensures { result ≡ integer_in self.now.groups.now i }
     {
         self.held.integer(i)
     }
@@ -639,6 +708,15 @@ impl Input {
         ensures { (id : ℕ) → is_listed (lists_held self.now.groups) id ≡ true → IsDefined (list_at self.now.lists id) }
     {
         self.held.macros_are_lists();
+    }
+
+    /// Each list that holds again behind the innermost group, or one around it, is held now, and the names have as many locations there. The call
+    /// does nothing.
+    pub fn recall_groups(&self)
+        ensures outside { (id : ℕ) → is_listed (lists_outside self.now.groups.outer) id ≡ true → is_listed (lists_held self.now.groups) id ≡ true }
+        ensures alike { AreAlike self.now.groups }
+    {
+        self.held.recall_groups();
     }
 
     /// How a name is called.

@@ -387,6 +387,70 @@ fn a_group_gives_codes_and_tokens_back(rt: HostRuntime) {
     assert!(rt; given);
 }
 
+// `{\count1=2 \aftergroup 1}`, closed at once: what is told in the group and behind it, its token and its kind.
+fn closed_at_once(
+    eqtb: &mut Eqtb,
+    lists: &mut Lists,
+) -> Result<(Told, Told, Option<(Token, GroupKind)>), Full>
+    requires { Covers lists.old (held eqtb.old) }
+    ensures { Covers lists.new (held eqtb.new) }
+{
+    eqtb.open_group(GroupKind::Simple)?;
+    set_count(eqtb, lists, false, 2)?;
+    if eqtb.depth() > 0 {
+        eqtb.after_group(AFTER[0])?;
+    }
+    let inside = told(eqtb);
+    let given = end_at_once(eqtb, lists);
+    Ok((inside, told(eqtb), given))
+}
+
+// The innermost group goes, if one is open: its one token and its kind.
+fn end_at_once(eqtb: &mut Eqtb, lists: &mut Lists) -> Option<(Token, GroupKind)>
+    requires { Covers lists.old (held eqtb.old) }
+    ensures { Covers lists.new (held eqtb.new) }
+{
+    if eqtb.depth() == 0 {
+        return None;
+    }
+    eqtb.close_group(lists);
+    let Closed::After(token) = eqtb.next_closing() else {
+        return None;
+    };
+    match eqtb.next_closing() {
+        Closed::Done(kind) => Some((token, kind)),
+        Closed::After(_) => None,
+    }
+}
+
+// Whether a group that goes at once gives its values back, its token and its kind.
+fn is_closed(alloc: Global, lists: &mut Lists) -> bool {
+    let Ok(mut eqtb) = Eqtb::new(alloc, &Sizes::DEFAULT, &[]) else {
+        return false;
+    };
+    let told = closed_at_once(&mut eqtb, lists);
+    eqtb.close(lists);
+    match told {
+        Ok(told) => {
+            told == (
+                (Some(2), 3),
+                (Some(0), 0),
+                Some((AFTER[0], GroupKind::Simple)),
+            )
+        }
+        Err(_) => false,
+    }
+}
+
+#[test]
+fn a_group_goes_at_once(rt: HostRuntime) {
+    let closed = match Lists::new(rt.alloc(), 4) {
+        Ok(mut lists) => is_closed(rt.alloc(), &mut lists),
+        Err(_) => false,
+    };
+    assert!(rt; closed);
+}
+
 // REFUSALS
 
 const SAVES: Full = Full {

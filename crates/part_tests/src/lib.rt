@@ -15,6 +15,8 @@ mod eqtb_tests;
 #[cfg(test)]
 mod input_stack_tests;
 #[cfg(test)]
+mod input_state_tests;
+#[cfg(test)]
 mod line_reader_tests;
 #[cfg(test)]
 mod list_builder_tests;

@@ -1,4 +1,5 @@
-// What `\show`, `\errmessage` and a report write.
+// What `\show`, `\errmessage` and reports write, and the lines of a run's ends.
+ghost use Rattle.std.specs.Prelude.{◌≡◌};
 ghost use Rattle.token_lists.specs.Table.{IsHeld};
 ghost use Rattle.token_lists.specs.Ids.{build_id, id_of};
 ghost use Rattle.token_show.specs.Views.{IsView};
@@ -6,12 +7,16 @@ ghost use Rattle.cs_hash.specs.Names.{Knows};
 
 use crate::tables::Tables;
 use crate::token_show_tests::{BRACKETS, append_all, categories};
+use char_text::Text;
 use std::alloc::Global;
 use tex_defs::{Meaning, Name, Token};
 use tex_syntax::Report;
 use token_lists::{Build, ListRef};
-use token_show::View;
-use transcript::{initial_view, write_error_message, write_report, write_shown_meaning};
+use token_show::{NamesView, View};
+use transcript::{
+    end_lines, hundred_line, no_end_lines, no_file_lines, write_error_message, write_report,
+    write_shown_meaning,
+};
 use world_io::MemSink;
 
 const LONG: Meaning<()> = Meaning::Macro {
@@ -19,6 +24,24 @@ const LONG: Meaning<()> = Meaning::Macro {
     outer: false,
     list: (),
 };
+
+// The names and lists of these tables at INITEX's parameters: a backslash is the escape character, and 0 the newline character.
+fn view_of<'a>(tables: &'a Tables, categories: &'a [u8; 256]) -> View<'a>
+    requires { Knows tables.now.hash tables.now.pool.kept }
+    ensures names { IsView result }
+    ensures lists { result.lists.now ≡ tables.now.lists }
+{
+    View {
+        lists: &tables.lists,
+        names: NamesView {
+            hash: &tables.hash,
+            pool: &tables.pool,
+            categories,
+            escape: 92,
+            newline: 0,
+        },
+    }
+}
 
 // Whether this is shown of a token on line 2, at the beginning of a line, where it is no macro.
 fn is_shown(
@@ -72,7 +95,7 @@ fn are_tokens_shown(alloc: Global, tables: &Tables) -> bool
     requires { Knows tables.now.hash tables.now.pool.kept }
 {
     let categories = categories();
-    let view = initial_view(&tables.lists, &tables.hash, &tables.pool, &categories);
+    let view = view_of(tables, &categories);
     let undefined = Token::Named(Name::Word(1));
     let letter = Token::Char {
         cat: 11,
@@ -111,13 +134,94 @@ fn tokens_shown(rt: HostRuntime) {
     assert!(rt; shown);
 }
 
+// The reports of groups that don't match, as TeX words them.
+static GROUP_REPORTS: [(Report, &[u8]); 4] = [
+    (Report::TooManyBraces, b"! Too many }'s.\nl.5\n"),
+    (
+        Report::ForgottenEndgroup,
+        b"! Extra }, or forgotten \\endgroup.\nl.5\n",
+    ),
+    (Report::ExtraEndgroup, b"! Extra \\endgroup.\nl.5\n"),
+    (Report::MissingRightBrace, b"! Missing } inserted.\nl.5\n"),
+];
+
+// Whether they are written like this.
+fn are_groups_reported(alloc: Global, tables: &Tables) -> bool
+    requires { Knows tables.now.hash tables.now.pool.kept }
+{
+    let categories = categories();
+    let view = view_of(tables, &categories);
+    for k in 0..4usize {
+        let (report, wanted) = GROUP_REPORTS[k];
+        if !is_report(view, MemSink::new(alloc), report, wanted) {
+            return false;
+        }
+    }
+    true
+}
+
+#[test]
+fn groups_reported(rt: HostRuntime) {
+    let reported = match Tables::new(rt.alloc(), b"foo") {
+        Ok(tables) => are_groups_reported(rt.alloc(), &tables),
+        Err(_) => false,
+    };
+    assert!(rt; reported);
+}
+
+fn is_text(text: Text, wanted: &[u8]) -> bool {
+    text.bytes() == wanted
+}
+
+// Whether `\end` outside and inside a group leaves these lines.
+fn are_end_lines(view: View<'_>) -> bool
+    requires { IsView view }
+{
+    let inside = b"(\\end occurred inside a group at level 1)\n";
+    let fresh = b"\n(\\end occurred inside a group at level 1)\n";
+    is_text(end_lines(view, false, 0), b"")
+        && is_text(end_lines(view, true, 0), b"\n")
+        && is_text(end_lines(view, false, 1), inside)
+        && is_text(end_lines(view, true, 1), fresh)
+}
+
+// Whether these lines come where a run ends without `\end`.
+fn are_stops(view: View<'_>) -> bool
+    requires { IsView view }
+{
+    let hundred = b"(That makes 100 errors; please try again.)\n";
+    let no_end = b"\n! Emergency stop.\n*** (job aborted, no legal \\end found)\n";
+    let no_file = b"! Emergency stop.\n*** (job aborted, file error in nonstop mode)\n";
+    is_text(hundred_line(view), hundred)
+        && is_text(no_end_lines(view, true), no_end)
+        && is_text(no_file_lines(view), no_file)
+}
+
+// Whether runs end with these lines.
+fn are_ends(tables: &Tables) -> bool
+    requires { Knows tables.now.hash tables.now.pool.kept }
+{
+    let categories = categories();
+    let view = view_of(tables, &categories);
+    are_end_lines(view) && are_stops(view)
+}
+
+#[test]
+fn ends_of_runs(rt: HostRuntime) {
+    let ended = match Tables::new(rt.alloc(), b"foo") {
+        Ok(tables) => are_ends(&tables),
+        Err(_) => false,
+    };
+    assert!(rt; ended);
+}
+
 // Whether the list of a message is reported.
 fn is_list_reported(alloc: Global, tables: &Tables, list: &Build) -> bool
     requires knows { Knows tables.now.hash tables.now.pool.kept }
     requires held { IsHeld tables.now.lists (build_id list.now) }
 {
     let categories = categories();
-    let view = initial_view(&tables.lists, &tables.hash, &tables.pool, &categories);
+    let view = view_of(tables, &categories);
     is_message(view, MemSink::new(alloc), list, b"! #1->[#1].\nl.3\n")
 }
 
@@ -127,7 +231,7 @@ fn is_list_shown(alloc: Global, tables: &Tables, list: &ListRef) -> bool
     requires held { IsHeld tables.now.lists (id_of list.now) }
 {
     let categories = categories();
-    let view = initial_view(&tables.lists, &tables.hash, &tables.pool, &categories);
+    let view = view_of(tables, &categories);
     let wanted = b"\n> \\foo=\\long macro:\n#1->[#1].\nl.7\n";
     is_macro_shown(view, MemSink::new(alloc), list, wanted)
 }

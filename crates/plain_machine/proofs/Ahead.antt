@@ -8,9 +8,9 @@ use Rattle.tex_defs.specs.declared.Full.{Full}
 use Rattle.tex_defs.specs.declared.Sizes.{Sizes}
 use Rattle.tex_defs.specs.declared.Table.TheVariants.{BufferSize}
 use Rattle.plain_tokens.specs.Lex.{Lexed, Gives, Invalid, UsedUp, NewLine, lexed}
-use Rattle.plain_tokens.specs.Lines.{end_char, has_feed, before_feed, behind_feed, without_last, trimmed, first_bytes}
+use Rattle.plain_tokens.specs.Lines.{has_feed, before_feed, behind_feed, without_last, trimmed, first_bytes, first_line}
 use Rattle.plain_tokens.specs.Puts.{Item, Put as PutList, passed}
-use Rattle.plain_tokens.specs.Pending.{Pending, Progress, NotBegun, Begun as BegunFile, Closed as ClosedFile, Pulled, TokenFrom, LexemeFrom, LineTaken, InvalidMet, FileOver, NothingLeft, taken_line, next_number, line_taken, from_file, from_line, from_list, from_front, pulled, takes_file}
+use Rattle.plain_tokens.specs.Pending.{Pending, Progress, NotBegun, Begun as BegunFile, Closed as ClosedFile, Pulled, TokenFrom, LexemeFrom, LineTaken, InvalidMet, FileOver, NothingLeft, next_number, line_taken, from_file, from_line, from_list, from_front, pulled, takes_file}
 use Rattle.plain_tokens.specs.Tables.{lines_beneath, line_need, file_level, next_line, refused}
 use Rattle.plain_machine.specs.Extended.{extended_pending, IsReady, InFront, NoFile, HasLine, NoMore, TooLong}
 
@@ -146,7 +146,7 @@ no_line NothingLeft h k = false≢true k
 -- each line of a file, by its first bytes and the bytes behind it
 abbrev line_from : ℕ → List ℕ → List ℕ → Pulled
 line_from number first behind =
-    LineTaken (trimmed first ++ end_char ∷ []) (record { puts = []; line = trimmed first ++ end_char ∷ []; lex = NewLine; rest = behind; file = BegunFile; number = next_number number })
+    LineTaken (trimmed first) (record { puts = []; line = trimmed first; lex = NewLine; rest = behind; file = BegunFile; number = next_number number })
 
 line_more : (number : ℕ) (xs ys : List ℕ) → has_feed xs ≡ true → line_taken number (xs ++ ys) ≡ extended_pulled ys (line_taken number xs)
 line_more number xs ys h = ap (λ (first : List ℕ). line_from number first (behind_feed (xs ++ ys))) (first_more xs ys h) ∙ ap (line_from number (first_bytes xs)) (behind_more xs ys h)
@@ -167,9 +167,9 @@ sight_closed : (size : ℕ) (left rest : List ℕ) (file : Progress) (number : �
 sight_closed size left rest file number r' r e e' c = sight_nothing size left rest r' r (e ∙ ap (λ (f : Progress). from_file f number rest) c) (e' ∙ ap (λ (f : Progress). from_file f number (rest ++ left)) c)
 
 sight_long : (size : ℕ) (left rest : List ℕ) (file : Progress) (number : ℕ) (r' r : Pulled) → r ≡ from_file file number rest → r' ≡ from_file file number (rest ++ left) → has_feed rest ≡ false → size < length rest → Sight size left rest r' r
-sight_long size left rest NotBegun number r' r e e' h l = Long (taken_line rest) (taken_line (rest ++ left)) _ _ e e' h l
+sight_long size left rest NotBegun number r' r e e' h l = Long (first_line rest) (first_line (rest ++ left)) _ _ e e' h l
 sight_long size left [] BegunFile number r' r e e' h l = absurd (omega (arith, l))
-sight_long size left (c ∷ cs) BegunFile number r' r e e' h l = Long (taken_line (c ∷ cs)) (taken_line (c ∷ cs ++ left)) _ _ e e' h l
+sight_long size left (c ∷ cs) BegunFile number r' r e e' h l = Long (first_line (c ∷ cs)) (first_line (c ∷ cs ++ left)) _ _ e e' h l
 sight_long size left rest ClosedFile number r' r e e' h l = sight_nothing size left rest r' r e e'
 
 module _ (size : ℕ) (categories : List ℕ) (p : Pending) where

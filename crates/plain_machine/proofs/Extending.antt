@@ -14,10 +14,11 @@ use Rattle.plain_tokens.specs.Lines.{first_bytes}
 use Rattle.plain_tokens.specs.Lookup.{token_of, new_name}
 use Rattle.plain_tokens.specs.Meanings.{met as met_token}
 use Rattle.plain_tokens.specs.Puts.{Item, First, next_item}
-use Rattle.plain_tokens.specs.Pending.{Pending, Progress, NotBegun, Pulled, TokenFrom, LexemeFrom, LineTaken, InvalidMet, FileOver, NothingLeft, settle, pulled, after_pull, takes_file}
+use Rattle.plain_tokens.specs.Pending.{Pending, Progress, NotBegun, Pulled, TokenFrom, LexemeFrom, LineTaken, InvalidMet, FileOver, NothingLeft, settle, pulled, after_pull, with_end, takes_file}
 use Rattle.rows.specs.Readings.{Ask, More}
 use Rattle.plain_readings.specs.Readings.{Reading, ask}
 use Rattle.plain_readings.specs.Scanning.{Scanning, scanning}
+use Rattle.equivalents.specs.Parameters.{end_of_line}
 use Rattle.plain_machine.specs.States.{State, Move, Handed, Taken, Settled, Skipped, FileClosed, made}
 use Rattle.plain_tokens.specs.Tables.{Demand, lines_beneath, line_need, opened_level, file_level, next_line, refused}
 use Rattle.plain_machine.specs.Demands.{refusal}
@@ -144,11 +145,18 @@ module _ (sizes : Sizes) (left : List ℕ) (s : State) (same : pulled s.groups.n
   makes_pending : record s { pending = pulled_pending s.groups.now.categories (extended_pending left s.pending) } ≡ extended left (record s { pending = pulled_pending s.groups.now.categories s.pending })
   makes_pending = ap (λ (p : Pending). record s { pending = p }) (pending_extended left s.groups.now.categories s.pending same)
 
+  -- a line gets its end character
+  abbrev ended : Pending → State
+  ended p = record s { pending = with_end (end_of_line s.groups.now) p }
+
+  ends_pending : ended (pulled_pending s.groups.now.categories (extended_pending left s.pending)) ≡ extended left (ended (pulled_pending s.groups.now.categories s.pending))
+  ends_pending = ap ended (pending_extended left s.groups.now.categories s.pending same)
+
   handed_agrees : (t : Token) → Agrees sizes left (Handed t) (made Settled s)
   handed_agrees t = record { makes = makes_pending; fits = ap (refused sizes) (opened_extended left (next_item (settle s.pending).puts) (settle s.pending)) }
 
   taken_agrees : (line : List ℕ) → first_bytes (s.pending.rest ++ left) ≡ first_bytes s.pending.rest → Agrees sizes left (Taken line) (made Settled s)
-  taken_agrees line e = record { makes = makes_pending; fits = ap (refused sizes) (line_extended left (settle s.pending) e) }
+  taken_agrees line e = record { makes = ends_pending; fits = ap (refused sizes) (line_extended left (settle s.pending) e) }
 
   skipped_agrees : Agrees sizes left Skipped (made Settled s)
   skipped_agrees = record { makes = makes_pending; fits = refl }

@@ -4,6 +4,8 @@ use Rattle.std.specs.Prelude.{if◌then◌else◌, slice_set, fold}
 use Rattle.std.specs.List.{range_with_len}
 use Rattle.std.proofs.Math.ListN.{get_or-map}
 use Rattle.std.proofs.lemmas.List.{map-set, map-append, length-map}
+use Rattle.tex_defs.specs.declared.Token.{Token}
+use Rattle.tex_defs.specs.declared.Table.TheVariants.{GroupingLevels}
 use Rattle.tex_defs.specs.declared.Name.{Name}
 use Rattle.tex_defs.specs.declared.Meaning.{Meaning}
 use Rattle.tex_defs.specs.declared.Meaning.TheVariants as means
@@ -21,7 +23,7 @@ use Rattle.equivalents.specs.declared.values.Val.TheVariants as val
 use Rattle.equivalents.specs.Locations.{V, index, category_of, glue_of, tokens_of, meaning_of as meaning_in, number_of as number_in}
 use Rattle.equivalents.specs.Tables.{Tables, put, get, longer}
 use Rattle.equivalents.specs.First.{first_tables}
-use Rattle.equivalents.specs.Groups.{Groups, level_of, depth, is_present, entry_for, put_all, set_local, set_global, set, placed, place_of, set_placed, set_name, all_longer, entered, opened, uncovered, beneath, closed, save, set_demands, placed_demands, name_demands, first_groups}
+use Rattle.equivalents.specs.Groups.{Groups, level_of, depth, is_present, entry_for, put_all, set_local, set_global, set, placed, place_of, set_placed, set_name, all_longer, entered, opened, uncovered, beneath, closed, with_token, tokens_after, kind_of, saves, save, set_demands, placed_demands, name_demands, group_demands, token_demands, first_groups}
 use Rattle.plain_machine.specs.Numbers.{number_of, meaning_of, meanings_of, value_of, tables_of, saved_of, groups_of}
 use Rattle.plain_machine.proofs.Renumbering.{meaning_to_let_of}
 
@@ -216,7 +218,23 @@ module _ (number : ℕ → ℕ) where
     levels_of : undo_levels (top (entries_of g.entries)) g.levels ≡ undo_levels (top g.entries) g.levels
     levels_of = ap (λ (es : List (Saved V)). undo_levels es g.levels) (top_of g.entries) ∙ undo_of (top g.entries) g.levels
 
+  pub with_token_of : (g : Groups) (t : Token) → with_token (groups_of number g) t ≡ groups_of number (with_token g t)
+  with_token_of g t = refl
+
+  -- what is seen of the open groups
+  pub depth_of : (g : Groups) → depth (groups_of number g) ≡ depth g
+  depth_of g = refl
+
+  pub kind_same : (g : Groups) → kind_of (groups_of number g) ≡ kind_of g
+  kind_same g = refl
+
+  pub tokens_after_of : (g : Groups) → tokens_after (groups_of number g) ≡ tokens_after g
+  tokens_after_of g = refl
+
   -- WHAT THEY NEED
+
+  pub saves_of : (g : Groups) → saves (groups_of number g) ≡ saves g
+  saves_of g = ap (λ (k : ℕ). depth g + (k + held g.tokens)) (held_of g.entries)
 
   save_of : (g : Groups) → save (groups_of number g) ≡ save g
   save_of g = rw (held_of g.entries)
@@ -230,6 +248,12 @@ module _ (number : ℕ → ℕ) where
 
   pub name_demands_of : (global : Bool) (g : Groups) (n : Name) → name_demands global (groups_of number g) n ≡ name_demands global g n
   name_demands_of global g n = ap (placed_demands global (groups_of number g)) (place_same g n) ∙ placed_demands_of global g (place_of g n)
+
+  pub group_demands_of : (g : Groups) → group_demands (groups_of number g) ≡ group_demands g
+  group_demands_of g = ap (λ (d : Demand). d ∷ record { table = GroupingLevels; used = depth g; need = 1 } ∷ []) (save_of g)
+
+  pub token_demands_of : (g : Groups) → token_demands (groups_of number g) ≡ token_demands g
+  token_demands_of g = ap (λ (d : Demand). d ∷ []) (save_of g)
 
   -- INITEX'S hold no list
 

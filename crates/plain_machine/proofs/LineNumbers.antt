@@ -8,9 +8,12 @@ use Rattle.tex_defs.specs.declared.Seen.{Seen}
 use Rattle.plain_tokens.specs.Lex.{Lexed, Gives, Invalid, UsedUp, lexed}
 use Rattle.plain_tokens.specs.Lookup.{token_of, new_name}
 use Rattle.plain_tokens.specs.Meanings.{met as met_token}
+use Rattle.prim_table.specs.Primitives.{primitive_names}
+use Rattle.plain_tokens.specs.Printed.{Style}
 use Rattle.plain_tokens.specs.Puts.{Item, Put as PutList, passed}
 use Rattle.plain_tokens.specs.Pending.{Pending, Progress, NotBegun, Begun as BegunFile, Closed as ClosedFile, Pulled, TokenFrom, LexemeFrom, LineTaken, InvalidMet, FileOver, NothingLeft, next_number, pulled, after_pull, from_front, from_list, from_line, from_file}
 use Rattle.plain_readings.specs.Scanning.{Scanning}
+use Rattle.equivalents.specs.Parameters.{style_in}
 use Rattle.plain_machine.specs.States.{State, Move, Handed, Taken, Settled, Skipped, FileClosed, made}
 use Rattle.plain_machine.specs.Plan.{Page, plan, planned, handed, met, entered, checked, without_file, reported, Ends, Goes, next, job_due}
 use Rattle.plain_machine.specs.Runs.{step_of, steps, Moves, Begins, AtRule, AtJob}
@@ -86,7 +89,7 @@ taken_number : (line : List ℕ) (p : Pending) (r : Pulled) → MakesPull (Taken
 taken_number line p (LineTaken l q) h n = n
 taken_number line p r h n = absurd h
 
-made_pull : (m : Move) (s : State) → MakesPull m (pulled s.groups.now.categories s.pending) → (made m s).pending ≡ after_pull s.pending (pulled s.groups.now.categories s.pending)
+made_pull : (m : Move) (s : State) → MakesPull m (pulled s.groups.now.categories s.pending) → (made m s).pending.number ≡ (after_pull s.pending (pulled s.groups.now.categories s.pending)).number
 made_pull (Handed t) s h = refl
 made_pull (Taken line) s h = refl
 made_pull Skipped s h = refl
@@ -163,7 +166,7 @@ module _ (s : State) where
   reads_by m rest none makes =
       let t : State = record s { due = rest } in
       let r : Pulled = pulled s.groups.now.categories s.pending in
-      let is : (made m t).pending.number ≡ (after_pull s.pending r).number = ap (λ (p : Pending). p.number) (made_pull m t makes) in
+      let is : (made m t).pending.number ≡ (after_pull s.pending r).number = made_pull m t makes in
       record {
         waits = Quiet (ap pulls (due_kept m t) ∙ none);
         within = omega (arith, is, pull_number m s.pending r makes (numbered s.groups.now.categories s.pending));
@@ -206,13 +209,13 @@ counted s t (m ∷ ms) w h =
     let rest : Counted h.0 ms t = counted h.0 t ms c.waits h.1.1 in
     record { waits = rest.waits; within = omega (arith, c.within, rest.within) }
 
-job_still : (file : List ℕ) (job : Option (List ℕ)) → pulls (job_due file job) ≡ 0
-job_still file None = refl
-job_still file (Some bytes) = refl
+job_still : (style : Style) (file : List ℕ) (job : Option (List ℕ)) → pulls (job_due style file job) ≡ 0
+job_still style file None = refl
+job_still style file (Some bytes) = refl
 
 begins : (s : State) → Begins s → Waits s
 begins s (AtRule e) = Quiet (ap pulls e)
-begins s (AtJob groups quiet file job e) = Quiet (ap (λ (x : State). pulls x.due) e ∙ job_still file job)
+begins s (AtJob groups quiet file job e) = Quiet (ap (λ (x : State). pulls x.due) e ∙ job_still (style_in groups.now primitive_names) file job)
 
 pub number_rises : (s t : State) (ms : List Move) → Begins s → Moves s ms t → t.pending.number ≤ s.pending.number + steps ms
 number_rises s t ms b h = (counted s t ms (begins s b) h).within

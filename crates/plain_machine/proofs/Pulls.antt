@@ -16,14 +16,19 @@ use Rattle.tex_defs.specs.declared.Token.TheVariants as token
 use Rattle.tex_defs.specs.declared.Fatal.TheVariants.{HundredErrors}
 use Rattle.tex_defs.specs.Places.{Transcript}
 use Rattle.tex_defs.specs.declared.Name.{Name}
+use Rattle.plain_tokens.specs.Categories.{begin_group, end_group}
 use Rattle.plain_tokens.specs.Names.{name_of, means_relax, relax_primitive, end_primitive}
 use Rattle.plain_tokens.specs.Tokens.{is_space, is_outer, is_undefined, space_token, made_text, character_codes}
 use Rattle.plain_tokens.specs.Numerals.{whole_number, roman}
-use Rattle.plain_tokens.specs.Meanings.{name_meaning, seen_as, met as met_token}
+use Rattle.plain_tokens.specs.Meanings.{name_meaning, seen_as, met as met_token, meaning_to_let}
 use Rattle.plain_tokens.specs.Printed.{Style}
 use Rattle.plain_tokens.specs.Puts.{Item, Put as PutList, call_put}
 use Rattle.plain_tokens.specs.Arguments.{has_parameters, arguments_in, work_in}
 use Rattle.plain_tokens.specs.Arguments as call
+use Rattle.save_stack.specs.declared.GroupKind.{GroupKind}
+use Rattle.save_stack.specs.declared.GroupKind.TheVariants.{Simple, SemiSimple}
+use Rattle.equivalents.specs.declared.values.Loc.TheVariants as loc
+use Rattle.equivalents.specs.declared.values.Val.TheVariants as val
 use Rattle.plain_state.specs.Reports.{string_text, hundred_line, token_line_bytes}
 use Rattle.rows.specs.declared.command.Call.{Call}
 use Rattle.rows.specs.declared.command.Effect.{Effect}
@@ -35,8 +40,8 @@ use Rattle.plain_readings.specs.Calls.{gathered}
 use Rattle.plain_readings.specs.Spelling.{endcsname_primitive}
 use Rattle.plain_readings.specs.Readings.{Kind, Reads, Spelling, Arguments, Reading, lists}
 use Rattle.plain_readings.specs.Scanning.{Scanning, scanning}
-use Rattle.plain_machine.specs.States.{State, Move, Handed, Taken, Skipped, FileClosed, Grows, Feeds, Completed, ListGrown, Assigned, Begun, Ended, Closed, Written, Stopped}
-use Rattle.plain_machine.specs.Plan.{Page, page_of, plain_style_of, style_of, met, met_outer, entered, checked, check_noted, ran_away, away_text, page_behind, reported, reported_as, behind_report, reports_room, told, put_inserted, put_one, put_made, put_text, put_characters, noting, noting_kind, token_line, finish, command, primitive, call_of, begun, csname_primitive, jobname_primitive, is_expandable_primitive, job_in, expansion, unless_expanded, called, called_meaning, called_list, put_body, body_put, stomach, wanted, expanded, expanded_as, feeding_kind, grown_and_fed, first_list, grown_to, opened, in_place, argument_fed, call_fed, inner_begun, given_back, value_tokens, done, arguments_put, called_with, failed, failed_away, acts, acts_on, and_closed, meaning_characters, macro_defined, name_made, relax_if_undefined, spelt, newly_spelt, answered}
+use Rattle.plain_machine.specs.States.{State, Move, Handed, Taken, Skipped, FileClosed, Grows, Feeds, Completed, ListGrown, Set, Assigned, Defined, GroupOpened, Begun, Ended, Closed, Written, Stopped}
+use Rattle.plain_machine.specs.Plan.{Page, page_of, style_of, met, met_outer, entered, checked, check_noted, ran_away, away_text, page_behind, reported, reported_as, behind_report, reports_room, told, put_inserted, put_one, put_made, put_text, put_characters, noting, noting_kind, token_line, finish, command, primitive, call_of, begun, csname_primitive, jobname_primitive, is_expandable_primitive, job_in, expansion, begingroup_primitive, endgroup_primitive, put_each, group_ended, brace_met, endgroup_met, character, unless_expanded, called, called_meaning, called_list, put_body, body_put, stomach, wanted, expanded, expanded_as, feeding_kind, grown_and_fed, first_list, grown_to, opened, in_place, argument_fed, call_fed, inner_begun, given_back, value_tokens, done, arguments_put, called_with, failed, failed_away, is_global, natural, behind_assignment, assigned, kept_for_group, acts, acts_on, and_closed, meaning_characters, macro_defined, name_made, relax_if_undefined, spelt, newly_spelt, answered}
 use Rattle.plain_machine.specs.Runs.{step_of, steps}
 
 -- the moves that pull
@@ -102,13 +107,13 @@ behind_none : (style : Style) (reports : ℕ) (rest : List Move) → pulls rest 
 behind_none style reports rest h = none_if (nat_lt reports reports_room) rest (Written Transcript (hundred_line style) ∷ Stopped (AtFatal HundredErrors) ∷ []) h refl
 
 pub reported_none : (page : Page) (report : Report) (rest : List Move) → pulls rest ≡ 0 → pulls (reported page report rest) ≡ 0
-reported_none page report rest h = omega (arith, behind_none (plain_style_of page) page.reports rest h)
+reported_none page report rest h = omega (arith, behind_none (style_of page) page.reports rest h)
 
 pub reported_as_none : (page : Page) (ts : List Token) (rest : List Move) → pulls rest ≡ 0 → pulls (reported_as page ts rest) ≡ 0
-reported_as_none page ts rest h = omega (arith, behind_none (plain_style_of page) page.reports rest h)
+reported_as_none page ts rest h = omega (arith, behind_none (style_of page) page.reports rest h)
 
 line_none : (page : Page) (m : Meaning Unit) → pulls (token_line page m) ≡ 0
-line_none page m = none_if page.quiet [] (Written Transcript (token_line_bytes (plain_style_of page) page.in_line m) ∷ []) refl refl
+line_none page m = none_if page.quiet [] (Written Transcript (token_line_bytes (style_of page) page.in_line m) ∷ []) refl refl
 
 -- a list that grows, and how a reading is fed
 grown_none : (ts : List Token) → pulls (map Grows ts) ≡ 0
@@ -168,16 +173,45 @@ called_none page t = called_meaning_none page (name_of t) (name_meaning page.now
 
 -- PRIMITIVES
 
+-- the tokens behind a group, put in front one behind the other
+each_none : (ts : List Token) → pulls (put_each ts) ≡ 0
+each_none [] = refl
+each_none (t ∷ ts) = joined_none (put_one t) (put_each ts) refl (each_none ts)
+
+ended_none : (page : Page) → pulls (group_ended page) ≡ 0
+ended_none page = omega (arith, each_none page.tokens)
+
+brace_none : (page : Page) (kind : Option GroupKind) → pulls (brace_met page kind) ≡ 0
+brace_none page None = reported_none page reports.TooManyBraces [] refl
+brace_none page (Some Simple) = ended_none page
+brace_none page (Some SemiSimple) = reported_none page reports.ForgottenEndgroup [] refl
+
+endgroup_none : (page : Page) (t : Token) (kind : Option GroupKind) → pulls (endgroup_met page t kind) ≡ 0
+endgroup_none page t None = reported_none page reports.ExtraEndgroup [] refl
+endgroup_none page t (Some SemiSimple) = ended_none page
+endgroup_none page t (Some Simple) = omega (arith, reported_none page reports.MissingRightBrace [] refl)
+
+character_none : (page : Page) (category code : ℕ) → pulls (character page category code) ≡ 0
+character_none page category code =
+    let line : List Move = token_line page (means.Char category code) in
+    let closing : List Move = if nat_eq category end_group then brace_met page page.group else line in
+    none_if (nat_eq category begin_group) (GroupOpened Simple ∷ []) closing refl
+    (none_if (nat_eq category end_group) (brace_met page page.group) line (brace_none page page.group) (line_none page (means.Char category code)))
+
 primitive_none : (page : Page) (t : Token) (n : ℕ) → pulls (primitive page t n) ≡ 0
 primitive_none page t n =
     let line : List Move = token_line page (means.Prim n) in
     let extra : List Move = if nat_eq n endcsname_primitive then reported page reports.ExtraEndcsname [] else line in
-    let relax : List Move = if nat_eq n relax_primitive then [] else extra in
-    let ending : List Move = if nat_eq n end_primitive then finish page.in_line else relax in
+    let closing : List Move = if nat_eq n endgroup_primitive then endgroup_met page t page.group else extra in
+    let opening : List Move = if nat_eq n begingroup_primitive then GroupOpened SemiSimple ∷ [] else closing in
+    let relax : List Move = if nat_eq n relax_primitive then [] else opening in
+    let ending : List Move = if nat_eq n end_primitive then finish page else relax in
     none_if (has_row n) (begun t n) ending refl
-    (none_if (nat_eq n end_primitive) (finish page.in_line) relax refl
-    (none_if (nat_eq n relax_primitive) [] extra refl
-    (none_if (nat_eq n endcsname_primitive) (reported page reports.ExtraEndcsname []) line (reported_none page reports.ExtraEndcsname [] refl) (line_none page (means.Prim n)))))
+    (none_if (nat_eq n end_primitive) (finish page) relax refl
+    (none_if (nat_eq n relax_primitive) [] opening refl
+    (none_if (nat_eq n begingroup_primitive) (GroupOpened SemiSimple ∷ []) closing refl
+    (none_if (nat_eq n endgroup_primitive) (endgroup_met page t page.group) extra (endgroup_none page t page.group)
+    (none_if (nat_eq n endcsname_primitive) (reported page reports.ExtraEndcsname []) line (reported_none page reports.ExtraEndcsname [] refl) (line_none page (means.Prim n)))))))
 
 expansion_none : (page : Page) (t : Token) (n : ℕ) → pulls (expansion page t n) ≡ 0
 expansion_none page t n =
@@ -194,7 +228,7 @@ pub command_none : (page : Page) (t : Token) (m : Meaning Unit) → pulls (comma
 command_none page t (means.Prim n) = primitive_none page t n
 command_none page t means.RelaxMarked = refl
 command_none page t means.Undefined = line_none page means.Undefined
-command_none page t (means.Char category code) = line_none page (means.Char category code)
+command_none page t (means.Char category code) = character_none page category code
 command_none page t (means.CharGiven code) = line_none page (means.CharGiven code)
 command_none page t (means.MathGiven code) = line_none page (means.MathGiven code)
 command_none page t (means.Register kind number) = line_none page (means.Register kind number)
@@ -277,8 +311,33 @@ failed_away_none page report (Some s) = omega (arith, failed_none (page_behind p
 and_closed_none : (moves : List Move) → pulls moves ≡ 0 → pulls (and_closed moves) ≡ 0
 and_closed_none moves h = joined_none moves (Closed ∷ []) h refl
 
+-- behind an assignment
+behind_assignment_none : (after : Option Token) → pulls (behind_assignment after) ≡ 0
+behind_assignment_none None = refl
+behind_assignment_none (Some t) = refl
+
+assigned_none : (page : Page) (m : Move) → pull_of m ≡ 0 → pulls (assigned page m) ≡ 0
+assigned_none page m h = omega (arith, h, behind_assignment_none page.after)
+
+kept_for_group_none : (kind : Option GroupKind) (t : Token) → pulls (kept_for_group kind t) ≡ 0
+kept_for_group_none None t = refl
+kept_for_group_none (Some kind) t = refl
+
+closed_assigned : (page : Page) (m : Move) → pull_of m ≡ 0 → pulls (and_closed (assigned page m)) ≡ 0
+closed_assigned page m h = and_closed_none (assigned page m) (assigned_none page m h)
+
+future_none : (page : Page) (x y : Token) (m : Move) → pull_of m ≡ 0 → pulls (put_one y ++ (put_one x ++ assigned page m)) ≡ 0
+future_none page x y m h = joined_none (put_one y) (put_one x ++ assigned page m) refl (joined_none (put_one x) (assigned page m) refl (assigned_none page m h))
+
 pub acts_none : (page : Page) (c : Call) (e : Effect) → pulls (acts page c e) ≡ 0
 acts_none page c (effect.Obey x) = omega (arith, command_none page x.token x.meaning)
+acts_none page c (effect.Let n x) = closed_assigned page (Assigned (is_global page c) n (meaning_to_let page.now.meanings x)) refl
+acts_none page c (effect.FutureLet n x y) =
+    let m : Move = Assigned (is_global page c) n (meaning_to_let page.now.meanings y) in
+    and_closed_none (put_one y.token ++ (put_one x.token ++ assigned page m)) (future_none page x.token y.token m refl)
+acts_none page c (effect.SetCode kind char value) = closed_assigned page (Set (is_global page c) (loc.Code kind (natural char)) (val.Number value)) refl
+acts_none page c (effect.SetInteger i value) = closed_assigned page (Set (is_global page c) (loc.Integer i) (val.Number value)) refl
+acts_none page c (effect.AfterGroup x) = and_closed_none (kept_for_group page.group x.token) (kept_for_group_none page.group x.token)
 acts_none page c (effect.ExpandBehind x y) = omega (arith, expanded_none page y (put_one y.token) refl)
 acts_none page c (effect.MakeNumber n) = and_closed_none (put_characters (whole_number n)) (characters_none (whole_number n))
 acts_none page c (effect.MakeRoman n) = and_closed_none (put_characters (roman n)) (characters_none (roman n))
@@ -303,7 +362,7 @@ acts_on_none page c e ts = refl
 
 pub macro_none : (page : Page) (c : Call) (n : Name) (ts : List Token) → pulls (macro_defined page c n ts) ≡ 0
 macro_none page c n [] = refl
-macro_none page c n (t ∷ ts) = refl
+macro_none page c n (t ∷ ts) = assigned_none page (Defined (is_global page c) n c.long c.outer (t ∷ ts)) refl
 
 -- an answer by which no token is wanted
 abbrev pub WantsNone : Ask → Type 0

@@ -3,7 +3,7 @@ use Rattle.std.proofs.Common.{◌≡◌, ℕ, ◌+◌, ◌*◌, ◌≤◌, ◌<�
 use Rattle.std.specs.Prelude.{Option, Some, None, if◌then◌else◌, nat_lt, ◌==◌, map, drop, slice_index_or}
 use Rattle.tex_syntax.specs.declared.words.Report.{Report}
 use Rattle.tex_syntax.specs.declared.words.Scanned.{Scanned}
-use Rattle.tex_syntax.specs.declared.words.Report.TheVariants.{InvalidCharacter, FileEnded, UndefinedName, ExtraEndcsname}
+use Rattle.tex_syntax.specs.declared.words.Report.TheVariants.{InvalidCharacter, FileEnded, UndefinedName, ExtraEndcsname, TooManyBraces, ForgottenEndgroup, ExtraEndgroup, MissingRightBrace}
 use Rattle.tex_syntax.specs.declared.words.Outcome.{Outcome}
 use Rattle.tex_syntax.specs.declared.words.Outcome.TheVariants.{Finished, AtFatal}
 use Rattle.tex_syntax.specs.declared.words.Scanned.TheVariants as scanned
@@ -15,6 +15,7 @@ use Rattle.tex_defs.specs.declared.Meaning.{Meaning}
 use Rattle.tex_defs.specs.declared.Meaning.TheVariants as means
 use Rattle.tex_defs.specs.Places.{Transcript}
 use Rattle.tex_defs.specs.declared.Fatal.TheVariants.{HundredErrors}
+use Rattle.plain_tokens.specs.Categories.{begin_group, end_group}
 use Rattle.plain_tokens.specs.Names.{name_of, relax_primitive, end_primitive}
 use Rattle.plain_tokens.specs.Tokens.{character_codes, is_undefined, made_text}
 use Rattle.plain_tokens.specs.Meanings.{name_meaning, meaning_to_let, seen_as}
@@ -25,6 +26,8 @@ use Rattle.plain_tokens.proofs.LexRests.{less}
 use Rattle.plain_tokens.specs.Puts.{Item, Put as PutList, passed, call_put}
 use Rattle.plain_tokens.specs.Pending.{Pending, Progress, NotBegun, Begun as BegunFile, Closed as ClosedFile, Pulled, TokenFrom, LexemeFrom, LineTaken, InvalidMet, FileOver, NothingLeft, settle, pulled, from_front, from_list, from_line, from_file}
 use Rattle.plain_tokens.specs.Arguments.{has_parameters}
+use Rattle.save_stack.specs.declared.GroupKind.{GroupKind}
+use Rattle.save_stack.specs.declared.GroupKind.TheVariants.{Simple, SemiSimple}
 use Rattle.equivalents.specs.declared.values.Loc.TheVariants as loc
 use Rattle.equivalents.specs.declared.values.Val.TheVariants as val
 use Rattle.plain_state.specs.Reports.{report_bytes, error_message_bytes, fresh_line, string_text, message_bytes, hundred_line, token_line_bytes}
@@ -41,8 +44,8 @@ use Rattle.plain_readings.specs.Spelling.{endcsname_primitive}
 use Rattle.plain_readings.specs.Scanning.{Scanning, scanning}
 use Rattle.plain_readings.specs.Laws.{IsRead}
 use Rattle.plain_readings.specs.Weights.{frame_weight, value_weight, act_weight, end_weight, ask_weight, weight, IsReport, WeightsFall}
-use Rattle.plain_machine.specs.States.{State, Move, Settled, Skipped, FileClosed, Entered, Kept as KeptBytes, Grows, Feeds, Completed, Opened, ListBegun, ListGrown, Put, ListDropped, Called, Set, Assigned, Written, Begun, Ended, Closed, Reported, Flawed, Stopped, Handed, made}
-use Rattle.plain_machine.specs.Plan.{Page, page_of, style_of, plain_style_of, plan, planned, answered, handed, checked, check_noted, inserted_at, away_text, without_file, ran_away, page_behind, reported, behind_report, reports_room, finish, stomach, command, primitive, expansion, expanded, expanded_as, csname_primitive, jobname_primitive, is_expandable_primitive, job_in, begun, call_of, called_meaning, put_body, body_put, token_line, wanted, enters_names, feeding, given_back, grown_to, first_list, noting, noting_kind, put_one, put_text, put_made, put_characters, put_inserted, arguments_put, called_with, failed, failed_away, inner_begun, done, value_tokens, told, and_closed, expanded_behind, marked, meaning_characters, shown, is_global, natural, acts, macro_defined, newly_spelt, spelt, relax_if_undefined, name_made, entered, acts_on}
+use Rattle.plain_machine.specs.States.{State, Move, Settled, Skipped, FileClosed, Entered, Kept as KeptBytes, Grows, Feeds, Completed, Opened, ListBegun, ListGrown, Put, ListDropped, Called, Set, Assigned, Defined, GroupOpened, GroupClosed, KeptForGroup, KeptForAssignment, Written, Begun, Ended, Closed, Reported, Flawed, Stopped, Handed, made}
+use Rattle.plain_machine.specs.Plan.{Page, page_of, style_of, plan, planned, answered, handed, checked, check_noted, inserted_at, away_text, without_file, ran_away, page_behind, reported, behind_report, reports_room, finish, groups_left, stomach, command, primitive, begingroup_primitive, endgroup_primitive, right_brace, put_each, group_ended, brace_met, endgroup_met, character, expansion, expanded, expanded_as, csname_primitive, jobname_primitive, is_expandable_primitive, job_in, begun, call_of, called_meaning, put_body, body_put, token_line, wanted, enters_names, feeding, given_back, grown_to, first_list, noting, noting_kind, put_one, put_text, put_made, put_characters, put_inserted, arguments_put, called_with, failed, failed_away, inner_begun, done, value_tokens, told, and_closed, expanded_behind, marked, meaning_characters, shown, is_global, natural, behind_assignment, assigned, kept_for_group, acts, macro_defined, newly_spelt, spelt, relax_if_undefined, name_made, entered, acts_on}
 use Rattle.plain_machine.specs.Runs.{step_of, all_made}
 use Rattle.plain_machine.proofs.Settling.{pulled_settled}
 
@@ -132,6 +135,10 @@ is_plain ListDropped = true
 is_plain (Called p) = true
 is_plain (Set global l v) = true
 is_plain (Assigned global name m) = true
+is_plain (GroupOpened kind) = true
+is_plain GroupClosed = true
+is_plain (KeptForGroup t) = true
+is_plain (KeptForAssignment after) = true
 is_plain (Written p bs) = true
 is_plain Reported = true
 is_plain Flawed = true
@@ -173,6 +180,10 @@ kept ListDropped s h = record { work = refl; stopped = refl; pending = refl }
 kept (Called p) s h = record { work = refl; stopped = refl; pending = refl }
 kept (Set global l v) s h = record { work = refl; stopped = refl; pending = refl }
 kept (Assigned global name m) s h = record { work = refl; stopped = refl; pending = refl }
+kept (GroupOpened kind) s h = record { work = refl; stopped = refl; pending = refl }
+kept GroupClosed s h = record { work = refl; stopped = refl; pending = refl }
+kept (KeptForGroup t) s h = record { work = refl; stopped = refl; pending = refl }
+kept (KeptForAssignment after) s h = record { work = refl; stopped = refl; pending = refl }
 kept (Written p bs) s h = record { work = refl; stopped = refl; pending = refl }
 kept Reported s h = record { work = refl; stopped = refl; pending = refl }
 kept Flawed s h = record { work = refl; stopped = refl; pending = refl }
@@ -196,13 +207,13 @@ drops_behind n s text false rest h f = halted_none n s text (AtFatal HundredErro
 
 -- a report's moves, and those behind it
 drops_told : (n : ℕ) (s : State) (page : Page) (text : List ℕ) (rest : List Move) → 0 < n → ((u : State) → Kept s u → Drops n rest u) →
-    Drops n (Written Transcript text ∷ Reported ∷ behind_report (plain_style_of page) page.reports rest) s
+    Drops n (Written Transcript text ∷ Reported ∷ behind_report (style_of page) page.reports rest) s
 drops_told n s page text rest h f =
-    drops_plain n s (Written Transcript text ∷ Reported ∷ []) (behind_report (plain_style_of page) page.reports rest) (refl, (refl, tt))
-    (λ u k. drops_behind n u (hundred_line (plain_style_of page)) (nat_lt page.reports reports_room) rest h (λ v l. f v (kept_on s u v k l)))
+    drops_plain n s (Written Transcript text ∷ Reported ∷ []) (behind_report (style_of page) page.reports rest) (refl, (refl, tt))
+    (λ u k. drops_behind n u (hundred_line (style_of page)) (nat_lt page.reports reports_room) rest h (λ v l. f v (kept_on s u v k l)))
 
 drops_report : (n : ℕ) (s : State) (page : Page) (report : Report) (rest : List Move) → 0 < n → ((u : State) → Kept s u → Drops n rest u) → Drops n (reported page report rest) s
-drops_report n s page report rest h f = drops_told n s page (report_bytes (plain_style_of page) page.in_line page.line report) rest h f
+drops_report n s page report rest h f = drops_told n s page (report_bytes (style_of page) page.in_line page.line report) rest h f
 
 some_weight : (s : State) → s.stopped ≡ None → 0 < state_weight s
 some_weight s e = rw e (omega arith)
@@ -244,7 +255,7 @@ plain_body p (i ∷ is) = (refl, (refl, tt))
 
 plain_line : (page : Page) (m : Meaning Unit) → AllPlain (token_line page m)
 plain_line page m = by page.quiet where
-  by : (quiet : Bool) → AllPlain (if quiet then [] else Written Transcript (token_line_bytes (plain_style_of page) page.in_line m) ∷ [])
+  by : (quiet : Bool) → AllPlain (if quiet then [] else Written Transcript (token_line_bytes (style_of page) page.in_line m) ∷ [])
   by true = tt
   by false = (refl, tt)
 
@@ -264,6 +275,27 @@ plain_name page characters =
     (plain_entered (newly_spelt page.names characters))
     (all_plain (relax_if_undefined page.now.meanings (spelt page.names characters)) (put_one (token.Named (spelt page.names characters)))
     (plain_relax page.now.meanings (spelt page.names characters)) (plain_one (token.Named (spelt page.names characters))))
+
+plain_each : (ts : List Token) → AllPlain (put_each ts)
+plain_each [] = tt
+plain_each (t ∷ ts) = all_plain (put_one t) (put_each ts) (plain_one t) (plain_each ts)
+
+plain_ended : (page : Page) → AllPlain (group_ended page)
+plain_ended page = (refl, plain_each page.tokens)
+
+plain_behind : (after : Option Token) → AllPlain (behind_assignment after)
+plain_behind None = tt
+plain_behind (Some t) = (refl, plain_one t)
+
+plain_assigned : (page : Page) (m : Move) → is_plain m ≡ true → AllPlain (assigned page m)
+plain_assigned page m h = (h, plain_behind page.after)
+
+plain_kept : (kind : Option GroupKind) (t : Token) → AllPlain (kept_for_group kind t)
+plain_kept None t = tt
+plain_kept (Some kind) t = (refl, tt)
+
+plain_future : (page : Page) (x y : Token) (m : Move) → is_plain m ≡ true → AllPlain (put_one y ++ (put_one x ++ assigned page m))
+plain_future page x y m h = all_plain (put_one y) (put_one x ++ assigned page m) (plain_one y) (all_plain (put_one x) (assigned page m) (plain_one x) (plain_assigned page m h))
 
 -- a rule whose moves are plain, and lighter by one more at their end
 drops_all : (n : ℕ) (s : State) (ms : List Move) → AllPlain ms → ((u : State) → Kept s u → state_weight u < n) → Drops n ms s
@@ -394,18 +426,49 @@ module _ (n : ℕ) (v : State) (e : v.stopped ≡ None) (less : state_weight v <
   drops_expanded u page t (means.Prim number) ms k d = drops_unless u (is_expandable_primitive number) page t number ms k d
   drops_expanded u page t m ms k d = d
 
+  drops_brace : (u : State) (page : Page) (kind : Option GroupKind) → Kept v u → Drops n (brace_met page kind) u
+  drops_brace u page None k = drops_undefined u page TooManyBraces k
+  drops_brace u page (Some Simple) k = drops_stays u (group_ended page) k (plain_ended page)
+  drops_brace u page (Some SemiSimple) k = drops_undefined u page ForgottenEndgroup k
+
+  drops_endgroup : (u : State) (page : Page) (t : Token) (kind : Option GroupKind) → Kept v u → Drops n (endgroup_met page t kind) u
+  drops_endgroup u page t None k = drops_undefined u page ExtraEndgroup k
+  drops_endgroup u page t (Some SemiSimple) k = drops_stays u (group_ended page) k (plain_ended page)
+  drops_endgroup u page t (Some Simple) k =
+      drops_plain n u (put_one t ++ put_one right_brace) (reported page MissingRightBrace []) (all_plain (put_one t) (put_one right_brace) (plain_one t) (plain_one right_brace))
+      (λ x l. drops_undefined x page MissingRightBrace (kept_on v u x k l))
+
+  drops_character : (u : State) (page : Page) (category code : ℕ) → Kept v u → Drops n (character page category code) u
+  drops_character u page category code k = by (category == begin_group) (category == end_group) where
+    by : (b c : Bool) → Drops n (if b then GroupOpened Simple ∷ [] else if c then brace_met page page.group else token_line page (means.Char category code)) u
+    by true c = drops_stays u (GroupOpened Simple ∷ []) k (refl, tt)
+    by false true = drops_brace u page page.group k
+    by false false = drops_stays u (token_line page (means.Char category code)) k (plain_line page (means.Char category code))
+
   drops_primitive : (u : State) (page : Page) (t : Token) (number : ℕ) → Kept v u → Drops n (primitive page t number) u
-  drops_primitive u page t number k = by (has_row number) (number == end_primitive) (number == relax_primitive) (number == endcsname_primitive) where
-    by : (b c d f : Bool) →
-        Drops n (if b then begun t number else if c then finish page.in_line else if d then [] else if f then reported page ExtraEndcsname [] else token_line page (means.Prim number)) u
-    by true c d f = drops_begun u (Reads (Row (call_of t number))) k tt
-    by false true d f = halted_none n u (fresh_line page.in_line) Finished some
-    by false false true f = stays u k
-    by false false false true = drops_undefined u page ExtraEndcsname k
-    by false false false false = drops_stays u (token_line page (means.Prim number)) k (plain_line page (means.Prim number))
+  drops_primitive u page t number k =
+      by (has_row number) (number == end_primitive) (number == relax_primitive) (number == begingroup_primitive) (number == endgroup_primitive) (number == endcsname_primitive) where
+        by : (b c d o g f : Bool) →
+            Drops n (
+            if b then begun t number
+            else if c then finish page
+            else if d then []
+            else if o then GroupOpened SemiSimple ∷ []
+            else if g then endgroup_met page t page.group
+            else if f then reported page ExtraEndcsname []
+            else token_line page (means.Prim number)
+            ) u
+        by true c d o g f = drops_begun u (Reads (Row (call_of t number))) k tt
+        by false true d o g f = halted_none n u (fresh_line page.in_line ++ groups_left page) Finished some
+        by false false true o g f = stays u k
+        by false false false true g f = drops_stays u (GroupOpened SemiSimple ∷ []) k (refl, tt)
+        by false false false false true f = drops_endgroup u page t page.group k
+        by false false false false false true = drops_undefined u page ExtraEndcsname k
+        by false false false false false false = drops_stays u (token_line page (means.Prim number)) k (plain_line page (means.Prim number))
 
   drops_command : (u : State) (page : Page) (t : Token) (m : Meaning Unit) → Kept v u → Drops n (command page t m) u
   drops_command u page t (means.Prim number) k = drops_primitive u page t number k
+  drops_command u page t (means.Char category code) k = drops_character u page category code k
   drops_command u page t means.RelaxMarked k = stays u k
   drops_command u page t m k = drops_stays u (token_line page m) k (plain_line page m)
 
@@ -422,10 +485,16 @@ module _ (falls : WeightsFall) (s : State) (k : Kind) (fed : List Fed) (rs : Lis
     rule_closed : (ms : List Move) → AllPlain ms → Rule s (and_closed ms)
     rule_closed ms h = Falls (drops_plain (state_weight s) s ms (Closed ∷ []) h (λ u kept. falls_closed u kept))
 
+    rule_assigned : (page : Page) (m : Move) → is_plain m ≡ true → Rule s (and_closed (assigned page m))
+    rule_assigned page m h = rule_closed (assigned page m) (plain_assigned page m h)
+
     -- a name becomes a macro
     rule_defined : (page : Page) (c : Call) (name : Name) (ts : List Token) → Rule s (macro_defined page c name ts)
     rule_defined page c name [] = rule_closed [] tt
-    rule_defined page c name (t ∷ ts) = Falls (rw (e, w) (omega (arith, asked_least falls rs, heavy)))
+    rule_defined page c name (t ∷ ts) =
+        let behind : List Move = behind_assignment page.after in
+        let u : State = made (Defined (is_global page c) name c.long c.outer (t ∷ ts)) (record s { due = behind }) in
+        Falls (drops_all (state_weight s) u behind (plain_behind page.after) (λ v k. rw (k.stopped, k.work, e, w) (omega (arith, k.pending, asked_least falls rs, heavy))))
 
     -- the body of a call is put
     rule_put : (p : PutList) (is : List Item) → Rule s (arguments_put p is)
@@ -477,10 +546,14 @@ module _ (falls : WeightsFall) (s : State) (k : Kind) (fed : List Fed) (rs : Lis
       by : (f : Effect) → ask k fed ≡ Acts c f → act_weight ≤ weight k fed → Rule s (acts page c f)
       by (effect.Obey x) is h = rule_obeyed h page x.token x.meaning
       by (effect.Show x) is h = rule_closed h (shown page x) (refl, (refl, tt))
-      by (effect.Let n x) is h = rule_closed h (Assigned (is_global page c) n (meaning_to_let page.now.meanings x) ∷ []) (refl, tt)
-      by (effect.FutureLet n x y) is h = rule_closed h (put_one y.token ++ (put_one x.token ++ Assigned (is_global page c) n (meaning_to_let page.now.meanings y) ∷ []))
-          (all_plain (put_one y.token) (put_one x.token ++ Assigned (is_global page c) n (meaning_to_let page.now.meanings y) ∷ []) (plain_one y.token) (all_plain (put_one x.token) (Assigned (is_global page c) n (meaning_to_let page.now.meanings y) ∷ []) (plain_one x.token) (refl, tt)))
-      by (effect.SetCode kind char value) is h = rule_closed h (Set (is_global page c) (loc.Code kind (natural char)) (val.Number value) ∷ []) (refl, tt)
+      by (effect.Let n x) is h = rule_assigned h page (Assigned (is_global page c) n (meaning_to_let page.now.meanings x)) refl
+      by (effect.FutureLet n x y) is h =
+          let m : Move = Assigned (is_global page c) n (meaning_to_let page.now.meanings y) in
+          rule_closed h (put_one y.token ++ (put_one x.token ++ assigned page m)) (plain_future page x.token y.token m refl)
+      by (effect.SetCode kind char value) is h = rule_assigned h page (Set (is_global page c) (loc.Code kind (natural char)) (val.Number value)) refl
+      by (effect.SetInteger i value) is h = rule_assigned h page (Set (is_global page c) (loc.Integer i) (val.Number value)) refl
+      by (effect.AfterGroup x) is h = rule_closed h (kept_for_group page.group x.token) (plain_kept page.group x.token)
+      by (effect.AfterAssignment x) is h = rule_closed h (KeptForAssignment (Some x.token) ∷ []) (refl, tt)
       by (effect.ExpandBehind x y) is h = rule_behind page c x y is
       by (effect.PutBack x) is h = rule_closed h (put_one x.token) (plain_one x.token)
       by (effect.PutMarked x) is h = rule_closed h (put_one (marked x.token)) (plain_one (marked x.token))

@@ -5,24 +5,22 @@ use Rattle.std.proofs.lemmas.Bool.{eqb-true, eq-eqb, or_cases, or_parts, or_left
 use Rattle.std.proofs.lemmas.List.{get_or_at, get_or_append_left, get_or_past, length-append}
 use Rattle.tex_defs.specs.declared.Token.{Token}
 use Rattle.tex_defs.specs.declared.Token.TheVariants as token
-use Rattle.tex_defs.specs.declared.Frozen.{Frozen}
-use Rattle.tex_defs.specs.declared.Frozen.TheVariants as frozen
 use Rattle.tex_defs.specs.declared.Name.{Name}
-use Rattle.tex_defs.specs.declared.Name.TheVariants as name
 use Rattle.tex_defs.specs.declared.Seen.{Seen}
 use Rattle.tex_defs.specs.declared.Meaning.{Meaning}
 use Rattle.tex_defs.specs.declared.Meaning.TheVariants as means
 use Rattle.plain_tokens.specs.Lex.{Lexed, Gives, Invalid, UsedUp, lexed}
 use Rattle.plain_tokens.specs.Puts.{Item, Whole, Own, Macro, Put, put_top, with_put, settled_top, settled, without_gaps, passed_top, passed}
 use Rattle.plain_tokens.specs.Pending.{Pending, Progress, NotBegun, Begun, Closed, from_file, from_line, from_list, from_front, pulled, after_pull}
-use Rattle.plain_tokens.specs.Meanings.{location, is_listed, fixed_meaning, frozen_meaning, looked_up, name_meaning, whole_meaning, let_meaning, meaning_to_let}
+use Rattle.plain_tokens.specs.Meanings.{location, is_listed, fixed_meaning, looked_up, name_meaning, whole_meaning, let_meaning, meaning_to_let}
 use Rattle.plain_tokens.specs.Tables.{is_whole, is_put}
 use Rattle.plain_tokens.specs.Printed.{Style, meaning_head, meaning_text, meaning_tokens, list_text}
+use Rattle.save_stack.specs.declared.GroupKind.{GroupKind}
 use Rattle.equivalents.specs.declared.values.Loc.{Loc}
 use Rattle.equivalents.specs.declared.values.Val.TheVariants as val
 use Rattle.equivalents.specs.Locations.{V}
 use Rattle.equivalents.proofs.Names.{fixed_unlisted}
-use Rattle.equivalents.specs.Groups.{Groups, set, set_name, entered, closed, first_groups}
+use Rattle.equivalents.specs.Groups.{Groups, set, set_name, entered, opened, closed, with_token, first_groups}
 use Rattle.equivalents.specs.Holding.{list_of, value_list, lists_of_meanings, lists_held}
 use Rattle.plain_machine.specs.Plan.{macro_tokens}
 use Rattle.plain_machine.specs.Numbers.{number_of, meaning_of, meanings_of, whole_of, put_of, puts_of, groups_of, renumbered, IsHeld, Tied}
@@ -305,6 +303,14 @@ module _ (number : ℕ → ℕ) (macros : List (List Token)) (g : Groups) (puts 
   pub tied_entered : Tied number macros (lists_held (entered g)) puts lists
   tied_entered = subst (λ (held : List ℕ). Tied number macros held puts lists) (sym (entered_lists g)) t
 
+  -- A group that is opened, and a token that is kept for its end, change no holder.
+  pub tied_opened : (kind : GroupKind) → Tied number macros (lists_held (opened g kind)) puts lists
+  tied_opened kind = t
+
+  pub tied_with_token : (x : Token) → Tied number macros (lists_held (with_token g x)) puts lists
+  tied_with_token x = t
+
+  -- Behind a group's end no more is held, where each list of the maps outside was held.
   pub tied_closed : OutsideIsHeld g → Tied number macros (lists_held (closed g)) puts lists
   tied_closed outside = tied_fewer number macros (lists_held g) puts lists t (lists_held (closed g)) puts (λ n h. held_more n (lists_held (closed g)) (lists_held g) puts puts (closed_held n g outside) (λ a. a) h)
 

@@ -5,11 +5,11 @@ use Rattle.tex_defs.specs.declared.Full.{Full}
 use Rattle.tex_defs.specs.declared.Sizes.{Sizes}
 use Rattle.plain_tokens.specs.Puts.{next_item}
 use Rattle.plain_tokens.specs.Tables.{Demand, held_words, lists_words, memory, level, opened_level, parameters, string, new_name, next_line, refused}
-use Rattle.equivalents.specs.Groups.{set_demands, name_demands}
+use Rattle.equivalents.specs.Groups.{set_demands, name_demands, group_demands, token_demands}
 use Rattle.equivalents.specs.Holding.{lists_held, shared_words}
 use Rattle.rows.specs.Readings.{Tok}
 use Rattle.plain_readings.specs.Readings.{Reading, lists}
-use Rattle.plain_machine.specs.States.{Move, Handed, Taken, Entered, Kept, Grows, Opened, ListBegun, ListGrown, Put, Called, CalledWith, Set, Assigned, Defined, Begun, BegunWith, State}
+use Rattle.plain_machine.specs.States.{Move, Handed, Taken, Entered, Kept, Grows, Opened, ListBegun, ListGrown, Put, Called, CalledWith, Set, Assigned, Defined, GroupOpened, KeptForGroup, Begun, BegunWith, State}
 
 -- the words of main memory that are used
 abbrev pub words : State → ℕ
@@ -37,6 +37,8 @@ demands (BegunWith k) s = depth s.work ∷ memory (lists_words (lists k (Tok s.l
 demands (Set global l v) s = set_demands global s.groups l
 demands (Assigned global name m) s = name_demands global s.groups name
 demands (Defined global name long outer ts) s = name_demands global s.groups name
+demands (GroupOpened kind) s = group_demands s.groups
+demands (KeptForGroup t) s = token_demands s.groups
 demands m s = []
 
 -- Where a move doesn't fit: the table, what is used of it, and its size.

@@ -15,7 +15,7 @@ use Rattle.equivalents.specs.declared.values.Loc.{Loc}
 use Rattle.equivalents.specs.declared.values.Val.TheVariants as val
 use Rattle.equivalents.specs.Locations.{V}
 use Rattle.equivalents.specs.Tables.{Tables}
-use Rattle.equivalents.specs.Groups.{Groups, set, set_name, entered, opened, closed, set_demands, name_demands}
+use Rattle.equivalents.specs.Groups.{Groups, set, set_name, entered, opened, closed, with_token, depth, kind_of, tokens_after, saves, set_demands, name_demands, group_demands, token_demands}
 use Rattle.equivalents.specs.Holding.{lists_held, shared_words}
 use Rattle.plain_tokens.specs.Printed.{Style, meaning_text, meaning_tokens}
 use Rattle.plain_machine.specs.Plan.{macro_tokens}
@@ -95,11 +95,19 @@ pub record NumbersAreFree : Type 0 where
       Tied number macros (lists_held g) puts lists → (x : Seen) → meaning_tokens (macro_tokens macros) (meaning_to_let (meanings_of number g.now.meanings) x) ≡ meaning_tokens (macro_tokens lists) (meaning_to_let g.now.meanings x)
   pub words : (number : ℕ → ℕ) (macros : List (List Token)) (g : Groups) (puts : List Put) (lists : List (List Token)) →
       Tied number macros (lists_held g) puts lists → shared_words 0 (lists_held (groups_of number g)) (puts_of number puts) macros ≡ shared_words 0 (lists_held g) puts lists
-  -- what is assigned, and where a group is opened and closed
+  -- what is assigned, where a group is opened and closed, and where a token is kept for its end
   pub sets : (number : ℕ → ℕ) (global : Bool) (g : Groups) (l : Loc) (v : V) → set global (groups_of number g) l (value_of number v) ≡ groups_of number (set global g l v)
   pub names : (number : ℕ → ℕ) (global : Bool) (g : Groups) (n : Name) (m : Meaning (Option ℕ)) → set_name global (groups_of number g) n (meaning_of number m) ≡ groups_of number (set_name global g n m)
   pub enters : (number : ℕ → ℕ) (g : Groups) → entered (groups_of number g) ≡ groups_of number (entered g)
   pub opens : (number : ℕ → ℕ) (g : Groups) (kind : GroupKind) → opened (groups_of number g) kind ≡ groups_of number (opened g kind)
   pub closes : (number : ℕ → ℕ) (g : Groups) → closed (groups_of number g) ≡ groups_of number (closed g)
+  pub keeps : (number : ℕ → ℕ) (g : Groups) (t : Token) → with_token (groups_of number g) t ≡ groups_of number (with_token g t)
+  -- what is seen of the open groups, and what they use and need
+  pub depth : (number : ℕ → ℕ) (g : Groups) → depth (groups_of number g) ≡ depth g
+  pub kind_of : (number : ℕ → ℕ) (g : Groups) → kind_of (groups_of number g) ≡ kind_of g
+  pub tokens_after : (number : ℕ → ℕ) (g : Groups) → tokens_after (groups_of number g) ≡ tokens_after g
+  pub saves : (number : ℕ → ℕ) (g : Groups) → saves (groups_of number g) ≡ saves g
   pub demands : (number : ℕ → ℕ) (global : Bool) (g : Groups) (l : Loc) → set_demands global (groups_of number g) l ≡ set_demands global g l
   pub name_demands : (number : ℕ → ℕ) (global : Bool) (g : Groups) (n : Name) → name_demands global (groups_of number g) n ≡ name_demands global g n
+  pub group_demands : (number : ℕ → ℕ) (g : Groups) → group_demands (groups_of number g) ≡ group_demands g
+  pub token_demands : (number : ℕ → ℕ) (g : Groups) → token_demands (groups_of number g) ≡ token_demands g

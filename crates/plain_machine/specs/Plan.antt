@@ -3,7 +3,7 @@ use Rattle.std.specs.Prelude.{ℕ, zero, suc, ℤ, pos, negsuc, Bool, true, fals
 use Rattle.tex_syntax.specs.declared.words.Want.{Want}
 use Rattle.tex_syntax.specs.declared.words.Want.TheVariants.{Raw, Expanded, Copied, Nonblank, Command}
 use Rattle.tex_syntax.specs.declared.words.Report.{Report}
-use Rattle.tex_syntax.specs.declared.words.Report.TheVariants.{UndefinedName, InvalidCharacter, FileEnded, Forbidden, ExtraEndcsname}
+use Rattle.tex_syntax.specs.declared.words.Report.TheVariants.{UndefinedName, InvalidCharacter, FileEnded, Forbidden, ExtraEndcsname, TooManyBraces, ForgottenEndgroup, ExtraEndgroup, MissingRightBrace}
 use Rattle.tex_syntax.specs.declared.words.Scanned.{Scanned}
 use Rattle.tex_syntax.specs.declared.words.Scanned.TheVariants as scanned
 use Rattle.tex_syntax.specs.declared.words.Outcome.{Outcome}
@@ -18,24 +18,26 @@ use Rattle.tex_defs.specs.declared.Seen.{Seen}
 use Rattle.tex_defs.specs.declared.Fatal.TheVariants.{NoEnd, NoFile, HundredErrors}
 use Rattle.tex_defs.specs.Places.{Transcript}
 use Rattle.prim_table.specs.Primitives.{primitive_names}
-use Rattle.plain_tokens.specs.Categories.{end_group, is_between}
+use Rattle.plain_tokens.specs.Categories.{begin_group, end_group, is_between}
 use Rattle.plain_tokens.specs.Names.{name_of, means_relax, relax_primitive, par_primitive, end_primitive}
 use Rattle.plain_tokens.specs.Tokens.{is_space, is_outer, is_undefined, space_token, made_text, character_codes}
 use Rattle.plain_tokens.specs.Meanings.{name_meaning, met as met_token, meaning_to_let, seen_as}
 use Rattle.equivalents.specs.declared.values.Loc.TheVariants as loc
 use Rattle.equivalents.specs.declared.values.Val.TheVariants as val
 use Rattle.equivalents.specs.First.{global_definitions}
-use Rattle.equivalents.specs.Groups.{Groups}
+use Rattle.save_stack.specs.declared.GroupKind.{GroupKind}
+use Rattle.save_stack.specs.declared.GroupKind.TheVariants.{Simple, SemiSimple}
+use Rattle.equivalents.specs.Groups.{Groups, depth, kind_of, tokens_after}
 use Rattle.equivalents.specs.Tables.{Tables}
 use Rattle.plain_tokens.specs.Puts.{Item, Put as PutList, call_put}
 use Rattle.plain_tokens.specs.Lookup.{token_of, new_name, name_among, new_among}
-use Rattle.plain_tokens.specs.Printed.{Style, initial_style, meaning_text, meaning_tokens}
+use Rattle.plain_tokens.specs.Printed.{Style, meaning_text, meaning_tokens}
 use Rattle.plain_tokens.specs.Numerals.{whole_number, roman}
 use Rattle.plain_tokens.specs.Lex.{NewLine}
 use Rattle.plain_tokens.specs.Pending.{Pulled, TokenFrom, LexemeFrom, LineTaken, InvalidMet, FileOver, NothingLeft, Progress, NotBegun, Closed as ClosedFile, pulled}
 use Rattle.plain_tokens.specs.Arguments.{has_parameters, arguments_in, work_in}
 use Rattle.plain_tokens.specs.Arguments as call
-use Rattle.plain_state.specs.Reports.{in_line_after, plain_style, missing_file_bytes, fresh_line, report_bytes, error_message_bytes, shown_meaning_bytes, string_text, hundred_line, emergency, no_end_line, no_file_line, token_line_bytes, runaway_bytes, message_bytes}
+use Rattle.plain_state.specs.Reports.{in_line_after, missing_file_bytes, fresh_line, end_in_group, report_bytes, error_message_bytes, shown_meaning_bytes, string_text, hundred_line, emergency, no_end_line, no_file_line, token_line_bytes, runaway_bytes, message_bytes}
 use Rattle.command_words.specs.Words.{job_name}
 use Rattle.rows.specs.declared.words.Value.{Value}
 use Rattle.rows.specs.declared.words.Value.TheVariants as value
@@ -49,13 +51,19 @@ use Rattle.plain_readings.specs.Calls.{gathered, par_token}
 use Rattle.plain_readings.specs.Spelling.{endcsname_primitive}
 use Rattle.plain_readings.specs.Readings.{Kind, Reads, Spelling, Arguments, Behind, Reading, ask, lists}
 use Rattle.plain_readings.specs.Scanning.{Scanning, scanning}
-use Rattle.plain_machine.specs.States.{Move, Handed, Taken, Settled, Skipped, FileClosed, Entered, Kept, Grows, Feeds, Completed, Opened, ListBegun, ListGrown, Put, ListDropped, Called, CalledWith, Set, Assigned, Defined, Written, Begun, BegunWith, Ended, Closed, Reported, Flawed, Stopped, State, no_token, made}
+use Rattle.equivalents.specs.Parameters.{integer_in, style_in}
+use Rattle.plain_machine.specs.States.{Move, Handed, Taken, Settled, Skipped, FileClosed, Entered, Kept, Grows, Feeds, Completed, Opened, ListBegun, ListGrown, Put, ListDropped, Called, CalledWith, Set, Assigned, Defined, GroupOpened, GroupClosed, KeptForGroup, KeptForAssignment, Written, Begun, BegunWith, Ended, Closed, Reported, Flawed, Stopped, State, no_token, made}
 
--- What the moves of a rule depend on: what stands at all locations, the names entered, the job's name, the macros' lists, the token
+-- What the moves of a rule depend on: what stands at all locations, how many groups are open, the kind of the innermost and the tokens that come after it
+-- (the last first), the token that comes behind the next assignment, the names entered, the job's name, the macros' lists, the token
 -- that a reading was fed with last, whether the transcript's column isn't 0, the number of the line that is read, the reports so far, and
 -- whether token lines are left out.
 pub record Page : Type 0 where
   pub now : Tables
+  pub depth : ℕ
+  pub group : Option GroupKind
+  pub tokens : List Token
+  pub after : Option Token
   pub names : List (List ℕ)
   pub strings : List (List ℕ)
   pub macros : List (List Token)
@@ -68,6 +76,10 @@ pub record Page : Type 0 where
 abbrev pub page_of : State → Page
 page_of s = record {
   now = s.groups.now;
+  depth = depth s.groups;
+  group = kind_of s.groups;
+  tokens = tokens_after s.groups;
+  after = s.after;
   names = s.names;
   strings = s.strings;
   macros = s.macros;
@@ -78,20 +90,22 @@ page_of s = record {
   quiet = s.quiet;
 }
 
--- the style of its texts; of those that depend on no category code
+-- how its texts are printed
 abbrev pub style_of : Page → Style
-style_of page = initial_style page.now.categories page.names
+style_of page = style_in page.now page.names
 
-abbrev pub plain_style_of : Page → Style
-plain_style_of page = plain_style page.names
+-- the line that says where `\end` came, where a group is open
+abbrev pub groups_left : Page → List ℕ
+groups_left page = if page.depth == 0 then [] else end_in_group (style_of page) page.depth
 
 -- `\end`: the run ends on a fresh line
-abbrev pub finish : Bool → List Move
-finish in_line = Written Transcript (fresh_line in_line) ∷ Stopped Finished ∷ []
+abbrev pub finish : Page → List Move
+finish page = Written Transcript (fresh_line page.in_line ++ groups_left page) ∷ Stopped Finished ∷ []
 
 -- nothing is left to be read
-abbrev pub no_end : Style → Bool → List Move
-no_end style in_line = Written Transcript (fresh_line in_line ++ (emergency style ++ no_end_line style)) ∷ Stopped (AtFatal NoEnd) ∷ []
+abbrev pub no_end : Page → List Move
+no_end page =
+    Written Transcript (fresh_line page.in_line ++ (emergency (style_of page) ++ no_end_line (style_of page))) ∷ Stopped (AtFatal NoEnd) ∷ []
 
 -- the reports that a run may have, but for the last
 abbrev pub reports_room : ℕ
@@ -105,17 +119,17 @@ behind_report style reports rest =
 -- a report, and the moves behind it
 abbrev pub reported : Page → Report → List Move → List Move
 reported page report rest =
-    Written Transcript (report_bytes (plain_style_of page) page.in_line page.line report) ∷ Reported
-    ∷ behind_report (plain_style_of page) page.reports rest
+    Written Transcript (report_bytes (style_of page) page.in_line page.line report) ∷ Reported
+    ∷ behind_report (style_of page) page.reports rest
 
 -- the report of `\errmessage`, which has this text
 abbrev pub reported_as : Page → List Token → List Move → List Move
 reported_as page ts rest =
-    Written Transcript (error_message_bytes (style_of page) page.in_line page.line ts) ∷ Reported ∷ behind_report (plain_style_of page) page.reports rest
+    Written Transcript (error_message_bytes (style_of page) page.in_line page.line ts) ∷ Reported ∷ behind_report (style_of page) page.reports rest
 
 -- a token that only typesetting would use
 abbrev pub token_line : Page → Meaning Unit → List Move
-token_line page m = if page.quiet then [] else Written Transcript (token_line_bytes (plain_style_of page) page.in_line m) ∷ []
+token_line page m = if page.quiet then [] else Written Transcript (token_line_bytes (style_of page) page.in_line m) ∷ []
 
 -- a token put in front: the list of it is begun, grown and put, once the finished lists in front have gone
 abbrev pub put_one : Token → List Move
@@ -193,12 +207,47 @@ expansion page t number =
     else if number == jobname_primitive then begun t number ++ (put_characters (job_in page.strings) ++ Closed ∷ [])
     else begun t number
 
+-- GROUPS
+
+abbrev pub begingroup_primitive : ℕ
+begingroup_primitive = 2
+
+abbrev pub endgroup_primitive : ℕ
+endgroup_primitive = 3
+
+-- these tokens are put in front, one behind the other, the first of them deepest
+abbrev pub put_each : List Token → List Move
+put_each [] = []
+put_each (t ∷ ts) = put_one t ++ put_each ts
+
+-- The innermost group ends, and the tokens that come after it are put in front: the last first, so they come in their order.
+abbrev pub group_ended : Page → List Move
+group_ended page = GroupClosed ∷ put_each page.tokens
+
+-- a right brace, by the kind of the innermost group
+abbrev pub brace_met : Page → Option GroupKind → List Move
+brace_met page None = reported page TooManyBraces []
+brace_met page (Some Simple) = group_ended page
+brace_met page (Some SemiSimple) = reported page ForgottenEndgroup []
+
+-- a right brace, which is inserted or closes a group
+abbrev pub right_brace : Token
+right_brace = token.Char end_group 125
+
+-- `\endgroup`, by this token; in a group that a brace opened it is put back, and a right brace inserted
+abbrev pub endgroup_met : Page → Token → Option GroupKind → List Move
+endgroup_met page t None = reported page ExtraEndgroup []
+endgroup_met page t (Some SemiSimple) = group_ended page
+endgroup_met page t (Some Simple) = put_one t ++ (put_one right_brace ++ reported page MissingRightBrace [])
+
 -- a primitive in the stomach that isn't expanded
 abbrev pub primitive : Page → Token → ℕ → List Move
 primitive page t number =
     if has_row number then begun t number
-    else if number == end_primitive then finish page.in_line
+    else if number == end_primitive then finish page
     else if number == relax_primitive then []
+    else if number == begingroup_primitive then GroupOpened SemiSimple ∷ []
+    else if number == endgroup_primitive then endgroup_met page t page.group
     else if number == endcsname_primitive then reported page ExtraEndcsname []
     else token_line page (means.Prim number)
 
@@ -216,9 +265,17 @@ expanded_as page t m moves = moves
 abbrev pub expanded : Page → Seen → List Move → List Move
 expanded page x moves = expanded_as page x.token x.meaning moves
 
+-- a character in the stomach, explicit or implicit: braces open and close groups
+abbrev pub character : Page → (category code : ℕ) → List Move
+character page category code =
+    if category == begin_group then GroupOpened Simple ∷ []
+    else if category == end_group then brace_met page page.group
+    else token_line page (means.Char category code)
+
 -- what a token that isn't expanded comes to in the stomach
 abbrev pub command : Page → Token → Meaning Unit → List Move
 command page t (means.Prim number) = primitive page t number
+command page t (means.Char category code) = character page category code
 command page t means.RelaxMarked = []
 command page t m = token_line page m
 
@@ -286,9 +343,6 @@ wanted page Command feeds x = if is_space x || means_relax x.meaning then [] els
 
 -- CHECKS, where a file has ended or the name of an \outer macro has come
 
-abbrev pub right_brace : Token
-right_brace = token.Char end_group 125
-
 -- what is inserted at a check
 abbrev pub inserted_at : Scanned → Token
 inserted_at scanned.Definition = right_brace
@@ -344,7 +398,7 @@ handed page enters s onward (LexemeFrom x p) =
 handed page enters s onward (LineTaken line p) = Settled ∷ Taken line ∷ []
 handed page enters s onward (InvalidMet p) = Settled ∷ Skipped ∷ reported page InvalidCharacter []
 handed page enters s onward (FileOver p) = Settled ∷ FileClosed ∷ checked (without_file page) s
-handed page enters s onward NothingLeft = Settled ∷ no_end (plain_style_of page) page.in_line
+handed page enters s onward NothingLeft = Settled ∷ no_end page
 
 -- a raw reading enters names
 abbrev pub enters_names : Want → Bool
@@ -436,10 +490,6 @@ shown page x =
     Written Transcript (shown_meaning_bytes (style_of page) page.in_line page.line x.token x.meaning (tokens_meant page x))
     ∷ Flawed ∷ []
 
--- an integer parameter
-abbrev pub integer_of : Page → ℕ → ℤ
-integer_of page i = slice_index_or page.now.integers i (pos 0)
-
 -- Whether an assignment is global: where `\globaldefs` is positive, each is, and where it is negative, none is.
 abbrev pub globally : ℤ → (asked : Bool) → Bool
 globally (pos zero) asked = asked
@@ -447,7 +497,21 @@ globally (pos (suc n)) asked = true
 globally (negsuc n) asked = false
 
 abbrev pub is_global : Page → Call → Bool
-is_global page c = globally (integer_of page global_definitions) c.global
+is_global page c = globally (integer_in page.now global_definitions) c.global
+
+-- Behind an assignment comes the token that `\afterassignment` kept, if it kept one.
+abbrev pub behind_assignment : Option Token → List Move
+behind_assignment None = []
+behind_assignment (Some t) = KeptForAssignment None ∷ put_one t
+
+-- an assignment
+abbrev pub assigned : Page → Move → List Move
+assigned page m = m ∷ behind_assignment page.after
+
+-- a token that comes after the innermost group; outside all groups it is dropped
+abbrev pub kept_for_group : Option GroupKind → Token → List Move
+kept_for_group None t = []
+kept_for_group (Some kind) t = KeptForGroup t ∷ []
 
 -- a number that has been found in its range
 abbrev pub natural : ℤ → ℕ
@@ -457,9 +521,12 @@ natural (negsuc n) = 0
 abbrev pub acts : Page → Call → Effect → List Move
 acts page c (effect.Obey x) = Closed ∷ command page x.token x.meaning
 acts page c (effect.Show x) = and_closed (shown page x)
-acts page c (effect.Let n x) = and_closed (Assigned (is_global page c) n (meaning_to_let page.now.meanings x) ∷ [])
-acts page c (effect.FutureLet n x y) = and_closed (put_one y.token ++ (put_one x.token ++ Assigned (is_global page c) n (meaning_to_let page.now.meanings y) ∷ []))
-acts page c (effect.SetCode kind char value) = and_closed (Set (is_global page c) (loc.Code kind (natural char)) (val.Number value) ∷ [])
+acts page c (effect.Let n x) = and_closed (assigned page (Assigned (is_global page c) n (meaning_to_let page.now.meanings x)))
+acts page c (effect.FutureLet n x y) = and_closed (put_one y.token ++ (put_one x.token ++ assigned page (Assigned (is_global page c) n (meaning_to_let page.now.meanings y))))
+acts page c (effect.SetCode kind char value) = and_closed (assigned page (Set (is_global page c) (loc.Code kind (natural char)) (val.Number value)))
+acts page c (effect.SetInteger i value) = and_closed (assigned page (Set (is_global page c) (loc.Integer i) (val.Number value)))
+acts page c (effect.AfterGroup x) = and_closed (kept_for_group page.group x.token)
+acts page c (effect.AfterAssignment x) = and_closed (KeptForAssignment (Some x.token) ∷ [])
 acts page c (effect.ExpandBehind x y) = expanded_behind page c x y
 acts page c (effect.PutBack x) = and_closed (put_one x.token)
 acts page c (effect.PutMarked x) = and_closed (put_one (marked x.token))
@@ -472,7 +539,7 @@ acts page c e = Closed ∷ []
 -- a name becomes a macro; a macro's list has a token, and without one the reading ends
 abbrev pub macro_defined : Page → Call → Name → List Token → List Move
 macro_defined page c n [] = Closed ∷ []
-macro_defined page c n (t ∷ ts) = Defined (is_global page c) n c.long c.outer (t ∷ ts) ∷ []
+macro_defined page c n (t ∷ ts) = assigned page (Defined (is_global page c) n c.long c.outer (t ∷ ts))
 
 -- NAMES THAT ARE SPELT
 
@@ -550,18 +617,18 @@ file_opened None = []
 file_opened (Some bytes) = bytes
 
 -- a job whose file isn't held
-abbrev pub no_file : List ℕ → List Move
-no_file file =
-    Written Transcript (missing_file_bytes (plain_style primitive_names) false 0 file) ∷ Reported
-    ∷ Written Transcript (emergency (plain_style primitive_names) ++ no_file_line (plain_style primitive_names)) ∷ Stopped (AtFatal NoFile) ∷ []
+abbrev pub no_file : Style → List ℕ → List Move
+no_file style file =
+    Written Transcript (missing_file_bytes style false 0 file) ∷ Reported
+    ∷ Written Transcript (emergency style ++ no_file_line style) ∷ Stopped (AtFatal NoFile) ∷ []
 
-abbrev pub file_missing : List ℕ → Option (List ℕ) → List Move
-file_missing file None = no_file file
-file_missing file (Some bytes) = []
+abbrev pub file_missing : Style → List ℕ → Option (List ℕ) → List Move
+file_missing style file None = no_file style file
+file_missing style file (Some bytes) = []
 
 -- the job's name is kept, and then its file opened
-abbrev pub job_due : List ℕ → Option (List ℕ) → List Move
-job_due file job = Kept (job_name file) ∷ file_missing file job
+abbrev pub job_due : Style → List ℕ → Option (List ℕ) → List Move
+job_due style file job = Kept (job_name file) ∷ file_missing style file job
 
 abbrev pub job_progress : Option (List ℕ) → Progress
 job_progress None = ClosedFile
@@ -572,8 +639,8 @@ job_progress (Some bytes) = NotBegun
 -- the primitives that mean something and are read by no row
 abbrev pub is_rowless : ℕ → Bool
 is_rowless number =
-    (number == relax_primitive) || (number == endcsname_primitive) || (number == par_primitive) || (number == end_primitive)
-    || (number == csname_primitive) || (number == jobname_primitive)
+    (number == relax_primitive) || (number == begingroup_primitive) || (number == endgroup_primitive) || (number == endcsname_primitive)
+    || (number == par_primitive) || (number == end_primitive) || (number == csname_primitive) || (number == jobname_primitive)
 
 -- the primitives that mean something
 abbrev pub is_known : ℕ → Bool
@@ -587,6 +654,7 @@ first_state groups quiet file job = record {
   names = primitive_names;
   strings = [];
   macros = [];
+  after = None;
   last = no_token;
   work = [];
   gathered = [];
@@ -596,5 +664,5 @@ first_state groups quiet file job = record {
   flawed = false;
   quiet = quiet;
   stopped = None;
-  due = job_due file job;
+  due = job_due (style_in groups.now primitive_names) file job;
 }

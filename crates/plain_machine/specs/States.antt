@@ -11,16 +11,18 @@ use Rattle.tex_defs.specs.declared.Meaning.{Meaning}
 use Rattle.tex_defs.specs.declared.Meaning.TheVariants as means
 use Rattle.equivalents.specs.declared.values.Loc.{Loc}
 use Rattle.equivalents.specs.Locations.{V}
-use Rattle.equivalents.specs.Groups.{Groups, entered, set, set_name}
+use Rattle.save_stack.specs.declared.GroupKind.{GroupKind}
+use Rattle.equivalents.specs.Groups.{Groups, entered, set, set_name, opened as group_opened, closed as group_closed, with_token}
 use Rattle.plain_tokens.specs.Puts.{Put as PutList, token_put, grow_first, grown_by, list_of_tokens}
-use Rattle.plain_tokens.specs.Pending.{Pending, pulled, after_pull, put_front, settle}
+use Rattle.plain_tokens.specs.Pending.{Pending, pulled, after_pull, with_end, put_front, settle}
 use Rattle.plain_state.specs.Reports.{in_line_after}
 use Rattle.rows.specs.declared.words.Value.{Value}
 use Rattle.rows.specs.Readings.{Fed, Tok, Val}
 use Rattle.plain_readings.specs.Readings.{Kind, Reading, lists, fed_with, opened, opened_with}
+use Rattle.equivalents.specs.Parameters.{end_of_line}
 
 pub data Move : Type 0 where
-  -- the two steps: a token handed on, a line taken
+  -- the two steps: a token handed on, a line taken, which gets its end character then
   Handed : Token → Move
   Taken : List ℕ → Move
   -- a reading from pending or a push begins: the finished lists in front go
@@ -52,6 +54,12 @@ pub data Move : Type 0 where
   Assigned : (global : Bool) → Name → Meaning (Option ℕ) → Move
   -- a name becomes a macro, to which the list passes that the innermost reading holds; this reading ends
   Defined : (global : Bool) → Name → (long outer : Bool) → List Token → Move
+  -- a group opened; the innermost one closed; a token kept for its end
+  GroupOpened : GroupKind → Move
+  GroupClosed : Move
+  KeptForGroup : Token → Move
+  -- the token that comes behind the next assignment, or none
+  KeptForAssignment : Option Token → Move
   Written : Place → List ℕ → Move
   -- a reading begun, and with it the lists that it builds; one begun with the token that the one beneath looked at
   Begun : Kind → Move
@@ -74,6 +82,8 @@ pub record State : Type 0 where
   -- what stands at all locations, in all groups that are open, and the lists of all macros so far, in the order of their definitions
   pub groups : Groups
   pub macros : List (List Token)
+  -- the token that `\afterassignment` keeps
+  pub after : Option Token
   -- the token that a reading was fed with last
   pub last : Seen
   -- the open readings, innermost first, and the lists that they hold, the innermost reading's last list first
@@ -135,7 +145,7 @@ with_argument a (ts ∷ held) = list_of_tokens a ++ held
 -- What each move does.
 abbrev pub made : Move → State → State
 made (Handed t) s = record s { pending = after_pull s.pending (pulled s.groups.now.categories s.pending) }
-made (Taken line) s = record s { pending = after_pull s.pending (pulled s.groups.now.categories s.pending) }
+made (Taken line) s = record s { pending = with_end (end_of_line s.groups.now) (after_pull s.pending (pulled s.groups.now.categories s.pending)) }
 made Settled s = record s { pending = settle s.pending }
 made Skipped s = record s { pending = after_pull s.pending (pulled s.groups.now.categories s.pending) }
 made FileClosed s = record s { pending = after_pull s.pending (pulled s.groups.now.categories s.pending) }
@@ -159,6 +169,10 @@ made (Defined global name long outer ts) s = record s {
   work = drop 1 s.work;
   gathered = beneath s.work s.gathered;
 }
+made (GroupOpened kind) s = record s { groups = group_opened s.groups kind }
+made GroupClosed s = record s { groups = group_closed s.groups }
+made (KeptForGroup t) s = record s { groups = with_token s.groups t }
+made (KeptForAssignment after) s = record s { after = after }
 made (Written p bs) s = record s { in_line = column_after p s.in_line bs }
 made (Begun k) s = record s { work = opened k s.work; gathered = lists k [] ++ s.gathered }
 made (BegunWith k) s = record s { work = opened_with k (Tok s.last) s.work; gathered = lists k (Tok s.last ∷ []) ++ s.gathered }

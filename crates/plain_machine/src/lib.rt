@@ -7,7 +7,7 @@ ghost use Rattle.std.specs.Prelude.{codes, true, false, ◌++◌, ◌∷◌, [],
 ghost use Rattle.std.specs.List.{concat};
 ghost use Rattle.tex_syntax.specs.declared.words.Outcome.TheVariants.{Finished, AtFatal};
 ghost use Rattle.tex_defs.specs.declared.Fatal.TheVariants.{NoEnd, HundredErrors};
-ghost use Rattle.tex_defs.specs.declared.Table.TheVariants.{PoolSize, NumberOfStrings, HashSize, MainMemorySize, InputStackSize, ParameterStackSize, BufferSize, ExpansionDepth};
+ghost use Rattle.tex_defs.specs.declared.Table.TheVariants.{PoolSize, NumberOfStrings, HashSize, MainMemorySize, SaveSize, InputStackSize, ParameterStackSize, BufferSize, GroupingLevels, ExpansionDepth};
 ghost use Rattle.tex_defs.specs.Sizes.{default_sizes};
 ghost use Rattle.plain_machine.specs.Rows.{Writes, WritesAs, Counts, Runs as RunsSo, Enters, Begins, RunsWithin, Fills, FillsWithin, Fits, RowsAreRuns, EndedRowsAreWhole, RefusalsAreRuns, first_line_usual};
 ghost use Rattle.plain_machine.specs.Numbers.{NumbersAreFree};
@@ -197,8 +197,8 @@ pub fn worked_calls()
     ensures mismatch { Writes (first_line_usual ++ codes "\\def\\a b#1{}\\a x\\end\n") (codes "! Use of \\a doesn't match its definition.\nl.2\n") Finished }
     ensures mismatch_brace { Writes (first_line_usual ++ codes "\\def\\a b#1{}\\message{x\\a}\\end\n") (codes "! Use of \\a doesn't match its definition.\nl.2\nRunaway text?\nx\\end \n! File ended while scanning text of \\message.\nl.0\nx\\end \n! Emergency stop.\n*** (job aborted, no legal \\end found)\n") (AtFatal NoEnd) }
     ensures category_differs { Writes (first_line_usual ++ codes "\\catcode`\\~=12 \\def\\a#1~{[#1]}\\catcode`\\~=11 \\message{\\a x~y}\\end\n") (codes "! Argument of \\a has an extra }.\nl.2\nRunaway argument?\nx~y\n! Paragraph ended before \\a was complete.\nl.2\n\\par \n") Finished }
-    ensures extra_brace { Writes (first_line_usual ++ codes "\\def\\a#1{}\\a}\\end\n") (codes "! Argument of \\a has an extra }.\nl.2\nRunaway argument?\n! Paragraph ended before \\a was complete.\nl.2\n{\\par}\n{end-group character }}\n") Finished }
-    ensures extra_brace_delimited { Writes (first_line_usual ++ codes "\\def\\a#1.{}\\a x}\\end\n") (codes "! Argument of \\a has an extra }.\nl.2\nRunaway argument?\nx\n! Paragraph ended before \\a was complete.\nl.2\n{\\par}\n{end-group character }}\n") Finished }
+    ensures extra_brace { Writes (first_line_usual ++ codes "\\def\\a#1{}\\a}\\end\n") (codes "! Argument of \\a has an extra }.\nl.2\nRunaway argument?\n! Paragraph ended before \\a was complete.\nl.2\n{\\par}\n! Too many }'s.\nl.2\n") Finished }
+    ensures extra_brace_delimited { Writes (first_line_usual ++ codes "\\def\\a#1.{}\\a x}\\end\n") (codes "! Argument of \\a has an extra }.\nl.2\nRunaway argument?\nx\n! Paragraph ended before \\a was complete.\nl.2\n{\\par}\n! Too many }'s.\nl.2\n") Finished }
     ensures extra_brace_long { Writes (first_line_usual ++ codes "\\long\\def\\a#1{[#1]}\\message{x\\a}\\end\n") (codes "! Argument of \\a has an extra }.\nl.2\nRunaway argument?\n! Paragraph ended before \\a was complete.\nl.2\nx\\par \n") Finished }
     ensures extra_brace_in_a_match { Writes (first_line_usual ++ codes "\\def\\a#1ab{}\\message{\\a xa}\\end\n") (codes "! Argument of \\a has an extra }.\nl.2\nRunaway argument?\nxa\n! Paragraph ended before \\a was complete.\nl.2\n\\par \n") Finished }
     ensures extra_brace_breaks_a_match { Writes (first_line_usual ++ codes "\\def\\a#1a\\par{[#1]}\\message{\\a xa}\\end\n") (codes "! Argument of \\a has an extra }.\nl.2\nRunaway argument?\nxa\n! Paragraph ended before \\a was complete.\nl.2\n\\par \n") Finished }
@@ -212,8 +212,8 @@ pub fn worked_calls()
 pub fn worked_paragraphs()
     ensures paragraph { Writes (first_line_usual ++ codes "\\def\\a#1.{(#1)}\\a xy\\par z\\end\n") (codes "Runaway argument?\nxy\n! Paragraph ended before \\a was complete.\nl.2\n{\\par}\n{the letter z}\n") Finished }
     ensures paragraph_undelimited { Writes (first_line_usual ++ codes "\\def\\a#1{(#1)}\\a \\par z\\end\n") (codes "Runaway argument?\n! Paragraph ended before \\a was complete.\nl.2\n{\\par}\n{the letter z}\n") Finished }
-    ensures paragraph_in_a_group { Writes (first_line_usual ++ codes "\\def\\a#1{[#1]}\\message{\\a{x{\\par}y}}\\end\n") (codes "Runaway argument?\n{x{\n! Paragraph ended before \\a was complete.\nl.2\n\\par \n{the letter y}\n{end-group character }}\n{end-group character }}\n") Finished }
-    ensures paragraph_like_a_delimiter { Writes (first_line_usual ++ codes "\\def\\a#1\\par x{[#1]}\\message{\\a{y\\par x}\\par x}\\end\n") (codes "Runaway argument?\n{y\n! Paragraph ended before \\a was complete.\nl.2\n\\par x\n{\\par}\n{the letter x}\n{end-group character }}\n") Finished }
+    ensures paragraph_in_a_group { Writes (first_line_usual ++ codes "\\def\\a#1{[#1]}\\message{\\a{x{\\par}y}}\\end\n") (codes "Runaway argument?\n{x{\n! Paragraph ended before \\a was complete.\nl.2\n\\par \n{the letter y}\n! Too many }'s.\nl.2\n! Too many }'s.\nl.2\n") Finished }
+    ensures paragraph_like_a_delimiter { Writes (first_line_usual ++ codes "\\def\\a#1\\par x{[#1]}\\message{\\a{y\\par x}\\par x}\\end\n") (codes "Runaway argument?\n{y\n! Paragraph ended before \\a was complete.\nl.2\n\\par x\n{\\par}\n{the letter x}\n! Too many }'s.\nl.2\n") Finished }
     ensures paragraph_in_a_match { Writes (first_line_usual ++ codes "\\def\\a#1ab{}\\a xa\\par\\end\n") (codes "Runaway argument?\nxa\n! Paragraph ended before \\a was complete.\nl.2\n{\\par}\n") Finished }
     ensures cut_at_62 { Writes (first_line_usual ++ codes "\\def\\a#1.{}\\a abcdefghijklmnopqrstuvwxyzabcdefghijklmnopqrstuvwxyzabcdefghij\\par\\end\n") (codes "Runaway argument?\nabcdefghijklmnopqrstuvwxyzabcdefghijklmnopqrstuvwxyzabcdefghij\n! Paragraph ended before \\a was complete.\nl.2\n{\\par}\n") Finished }
     ensures cut_beyond_62 { Writes (first_line_usual ++ codes "\\def\\a#1.{}\\a abcdefghijklmnopqrstuvwxyzabcdefghijklmnopqrstuvwxyzabcdefghijk\\par\\end\n") (codes "Runaway argument?\nabcdefghijklmnopqrstuvwxyzabcdefghijklmnopqrstuvwxyzabcdefghij\\ETC.\n! Paragraph ended before \\a was complete.\nl.2\n{\\par}\n") Finished }
@@ -244,12 +244,12 @@ pub fn worked_outer_names()
     ensures outer_behind_the_first { Writes (first_line_usual ++ codes "\\outer\\def\\o{}\\def\\a b #1.{[#1]}\\a b\\o\\message{x}\\end\n") (codes "Runaway argument?\n! Forbidden control sequence found while scanning use of \\a.\nl.2\nx\n") Finished }
     ensures outer_undelimited { Writes (first_line_usual ++ codes "\\outer\\def\\o{}\\def\\a#1{(#1)}\\a\\o\\message{x}\\end\n") (codes "Runaway argument?\n! Forbidden control sequence found while scanning use of \\a.\nl.2\nx\n") Finished }
     ensures outer_in_a_group { Writes (first_line_usual ++ codes "\\outer\\def\\o{}\\def\\a#1{(#1)}\\a{x\\o\\message{y}\\end\n") (codes "Runaway argument?\n{x\n! Forbidden control sequence found while scanning use of \\a.\nl.2\ny\n") Finished }
-    ensures outer_before_the_first { Writes (first_line_usual ++ codes "\\outer\\def\\o{}\\def\\a b#1{}\\message{\\a\\o}\\end\n") (codes "Runaway argument?\n! Forbidden control sequence found while scanning use of \\a.\nl.2\n! Use of \\a doesn't match its definition.\nl.2\nRunaway text?\n\\par \n! Forbidden control sequence found while scanning text of \\message.\nl.2\n\\par  \n{end-group character }}\n") Finished }
-    ensures outer_then_par { Writes (first_line_usual ++ codes "\\outer\\def\\o{}\\def\\a#1\\par{[#1]}\\message{\\a x\\o y}\\end\n") (codes "Runaway argument?\nx\n! Forbidden control sequence found while scanning use of \\a.\nl.2\nRunaway text?\n[x ]\n! Forbidden control sequence found while scanning text of \\message.\nl.2\n[x ] \n{the letter y}\n{end-group character }}\n") Finished }
+    ensures outer_before_the_first { Writes (first_line_usual ++ codes "\\outer\\def\\o{}\\def\\a b#1{}\\message{\\a\\o}\\end\n") (codes "Runaway argument?\n! Forbidden control sequence found while scanning use of \\a.\nl.2\n! Use of \\a doesn't match its definition.\nl.2\nRunaway text?\n\\par \n! Forbidden control sequence found while scanning text of \\message.\nl.2\n\\par  \n! Too many }'s.\nl.2\n") Finished }
+    ensures outer_then_par { Writes (first_line_usual ++ codes "\\outer\\def\\o{}\\def\\a#1\\par{[#1]}\\message{\\a x\\o y}\\end\n") (codes "Runaway argument?\nx\n! Forbidden control sequence found while scanning use of \\a.\nl.2\nRunaway text?\n[x ]\n! Forbidden control sequence found while scanning text of \\message.\nl.2\n[x ] \n{the letter y}\n! Too many }'s.\nl.2\n") Finished }
     ensures outer_in_a_call_in_a_definition { Writes (first_line_usual ++ codes "\\outer\\def\\o{}\\def\\a#1.{(#1)}\\edef\\b{z\\a x\\o\\message{\\b}\\end\n") (codes "Runaway argument?\nx\n! Forbidden control sequence found while scanning use of \\a.\nl.2\nRunaway definition?\n->z\n! Forbidden control sequence found while scanning definition of \\b.\nl.2\nz \n") Finished }
-    ensures outer_text { Writes (first_line_usual ++ codes "\\outer\\def\\o{}\\message{x\\o y}\\end\n") (codes "Runaway text?\nx\n! Forbidden control sequence found while scanning text of \\message.\nl.2\nx \n{the letter y}\n{end-group character }}\n") Finished }
-    ensures outer_behind_long { Writes (first_line_usual ++ codes "\\long\\outer\\def\\o{}\\message{x\\o y}\\end\n") (codes "Runaway text?\nx\n! Forbidden control sequence found while scanning text of \\message.\nl.2\nx \n{the letter y}\n{end-group character }}\n") Finished }
-    ensures outer_in_a_text_in_a_group { Writes (first_line_usual ++ codes "\\outer\\def\\o{}\\message{x{\\o y}\\end\n") (codes "Runaway text?\nx{\n! Forbidden control sequence found while scanning text of \\message.\nl.2\nRunaway text?\nx{ }\n! Forbidden control sequence found while scanning text of \\message.\nl.2\nx{ } \n{the letter y}\n{end-group character }}\n") Finished }
+    ensures outer_text { Writes (first_line_usual ++ codes "\\outer\\def\\o{}\\message{x\\o y}\\end\n") (codes "Runaway text?\nx\n! Forbidden control sequence found while scanning text of \\message.\nl.2\nx \n{the letter y}\n! Too many }'s.\nl.2\n") Finished }
+    ensures outer_behind_long { Writes (first_line_usual ++ codes "\\long\\outer\\def\\o{}\\message{x\\o y}\\end\n") (codes "Runaway text?\nx\n! Forbidden control sequence found while scanning text of \\message.\nl.2\nx \n{the letter y}\n! Too many }'s.\nl.2\n") Finished }
+    ensures outer_in_a_text_in_a_group { Writes (first_line_usual ++ codes "\\outer\\def\\o{}\\message{x{\\o y}\\end\n") (codes "Runaway text?\nx{\n! Forbidden control sequence found while scanning text of \\message.\nl.2\nRunaway text?\nx{ }\n! Forbidden control sequence found while scanning text of \\message.\nl.2\nx{ } \n{the letter y}\n! Too many }'s.\nl.2\n") Finished }
 {}
 
 /// Macros that call themselves for ever: what comes at which step, and the end at the hundredth report.
@@ -273,7 +273,7 @@ pub fn worked_numbers()
     ensures obeyed { RunsSo (first_line_usual ++ codes "\\number12\\end\n") (codes "{the character 1}\n{the character 2}\n") 37 Finished }
     ensures missing { Writes (first_line_usual ++ codes "\\message{\\number\\relax}\\end\n") (codes "! Missing number, treated as zero.\nl.2\n0\\relax \n") Finished }
     ensures too_big { Writes (first_line_usual ++ codes "\\message{\\number2147483648 }\\end\n") (codes "! Number too big.\nl.2\n2147483647\n") Finished }
-    ensures outer_in_a_definition { Writes (first_line_usual ++ codes "\\outer\\def\\o{}\\edef\\a{x\\number1\\o}\\message{\\a}\\end\n") (codes "Runaway definition?\n->x\n! Forbidden control sequence found while scanning definition of \\a.\nl.2\n{end-group character }}\nx1\n") Finished }
+    ensures outer_in_a_definition { Writes (first_line_usual ++ codes "\\outer\\def\\o{}\\edef\\a{x\\number1\\o}\\message{\\a}\\end\n") (codes "Runaway definition?\n->x\n! Forbidden control sequence found while scanning definition of \\a.\nl.2\n! Too many }'s.\nl.2\nx1\n") Finished }
     ensures outer_elsewhere { Writes (first_line_usual ++ codes "\\outer\\def\\o{y}\\number1\\o\\end\n") (codes "{the character 1}\n{the letter y}\n") Finished }
     ensures file_ended { Writes (first_line_usual ++ codes "\\message{x\\number1%") (codes "Runaway text?\nx\n! File ended while scanning text of \\message.\nl.0\nx1\n! Emergency stop.\n*** (job aborted, no legal \\end found)\n") (AtFatal NoEnd) }
     ensures depth { FillsWithin 400 (record default_sizes { expansion_depth = 8 }) (first_line_usual ++ codes "\\def\\a{\\number\\a}\\a") (record { table = ExpansionDepth; used = 8; size = 8 }) }
@@ -366,7 +366,7 @@ pub fn worked_expansions()
     ensures behind_a_mismatch { Writes (first_line_usual ++ codes "\\def\\a.{}\\expandafter x\\a y\\end\n") (codes "! Use of \\a doesn't match its definition.\nl.2\n{the letter x}\n") Finished }
     ensures behind_at_the_end { Writes (first_line_usual ++ codes "\\expandafter") (codes "! Emergency stop.\n*** (job aborted, no legal \\end found)\n") (AtFatal NoEnd) }
     ensures behind_at_the_end_of_a_text { Writes (first_line_usual ++ codes "\\message{\\expandafter") (codes "Runaway text?\n! File ended while scanning text of \\message.\nl.0\n! Emergency stop.\n*** (job aborted, no legal \\end found)\n") (AtFatal NoEnd) }
-    ensures behind_an_outer_name { Writes (first_line_usual ++ codes "\\outer\\def\\o{y}\\edef\\a{\\expandafter x\\o}\\message{\\meaning\\a}\\end\n") (codes "Runaway definition?\n->\n! Forbidden control sequence found while scanning definition of \\a.\nl.2\n{the letter y}\n{end-group character }}\nmacro:->x \n") Finished }
+    ensures behind_an_outer_name { Writes (first_line_usual ++ codes "\\outer\\def\\o{y}\\edef\\a{\\expandafter x\\o}\\message{\\meaning\\a}\\end\n") (codes "Runaway definition?\n->\n! Forbidden control sequence found while scanning definition of \\a.\nl.2\n{the letter y}\n! Too many }'s.\nl.2\nmacro:->x \n") Finished }
     ensures marked { Writes (first_line_usual ++ codes "\\message{\\noexpand\\zz}\\end\n") (codes "\\zz \n") Finished }
     ensures marked_entered { Enters (first_line_usual ++ codes "\\message{\\noexpand\\zz}\\end\n") (codes "zz" ∷ []) }
     ensures marked_in_the_stomach { RunsSo (first_line_usual ++ codes "\\noexpand\\zz\\noexpand x\\end\n") (codes "{the letter x}\n") 37 Finished }
@@ -409,7 +409,7 @@ pub fn worked_spellings()
     ensures extra_in_a_text { Writes (first_line_usual ++ codes "\\message{\\endcsname}\\end\n") (codes "\\endcsname \n") Finished }
     ensures outer_allowed { Enters (first_line_usual ++ codes "\\outer\\def\\o{x\\endcsname}\\csname b\\o\\end\n") (codes "bx" ∷ []) }
     ensures outer_in_a_definition { RunsWithin 4000 (first_line_usual ++ codes "\\outer\\def\\o{}\\edef\\a{x\\csname b\\o\\endcsname}\\message{\\meaning\\a}\\end\n") (concat (replicate 100 (codes "Runaway definition?\n->x\n! Forbidden control sequence found while scanning definition of \\a.\nl.2\n")) ++ codes "(That makes 100 errors; please try again.)\n") 240 (AtFatal HundredErrors) }
-    ensures outer_spelt_in_a_text { Writes (first_line_usual ++ codes "\\outer\\def\\o{y}\\message{x\\csname o\\endcsname}\\end\n") (codes "Runaway text?\nx\n! Forbidden control sequence found while scanning text of \\message.\nl.2\nx \n{the letter y}\n{end-group character }}\n") Finished }
+    ensures outer_spelt_in_a_text { Writes (first_line_usual ++ codes "\\outer\\def\\o{y}\\message{x\\csname o\\endcsname}\\end\n") (codes "Runaway text?\nx\n! Forbidden control sequence found while scanning text of \\message.\nl.2\nx \n{the letter y}\n! Too many }'s.\nl.2\n") Finished }
     ensures ended_file { Writes (first_line_usual ++ codes "\\message{x\\csname ab") (codes "Runaway text?\nx\n! File ended while scanning text of \\message.\nl.0\n! Emergency stop.\n*** (job aborted, no legal \\end found)\n") (AtFatal NoEnd) }
 {}
 
@@ -424,7 +424,7 @@ pub fn worked_meanings()
     ensures of_a_macro { Writes (first_line_usual ++ codes "\\def\\a{x}\\let\\b=\\a\\def\\a{y}\\message{\\a\\b}\\let\\a\\a\\message{\\a}\\end\n") (codes "yx y\n") Finished }
     ensures undefined { Writes (first_line_usual ++ codes "\\let\\relax\\zz\\relax\\end\n") (codes "! Undefined control sequence.\nl.2\n") Finished }
     ensures undefined_entered { Enters (first_line_usual ++ codes "\\let\\a\\zz\\futurelet\\a\\relax\\yy\\end\n") (codes "zz" ∷ codes "yy" ∷ []) }
-    ensures outer { Writes (first_line_usual ++ codes "\\outer\\def\\o{x}\\let\\p=\\o\\message{\\p}\\end\n") (codes "Runaway text?\n! Forbidden control sequence found while scanning text of \\message.\nl.2\n \n{the letter x}\n{end-group character }}\n") Finished }
+    ensures outer { Writes (first_line_usual ++ codes "\\outer\\def\\o{x}\\let\\p=\\o\\message{\\p}\\end\n") (codes "Runaway text?\n! Forbidden control sequence found while scanning text of \\message.\nl.2\n \n{the letter x}\n! Too many }'s.\nl.2\n") Finished }
     ensures equals_sign { Writes (first_line_usual ++ codes "\\let\\: = =\\message{\\meaning\\:}\\let\\a==\\message{\\meaning\\a}\\end\n") (codes "the character = the character =\n") Finished }
     ensures second_space { Writes (first_line_usual ++ codes "\\def\\d#1{\\let\\z=#1#1x}\\d{ }\\message{[\\meaning\\z]}\\end\n") (codes "{the letter x}\n[blank space  ]\n") Finished }
     ensures implicit_space { Writes (first_line_usual ++ codes "\\def\\:{\\let\\sp= }\\: \\message{\\number7\\sp8[\\meaning\\sp]}\\end\n") (codes "78[blank space  ]\n") Finished }
@@ -493,4 +493,64 @@ pub fn worked_spelling_sizes()
     ensures shared_and_redefined { Fills (record default_sizes { main_memory_size = 10 }) (first_line_usual ++ codes "\\def\\a{abc}\\let\\b=\\a\\def\\a{}\\def\\c{xy}\\end") (record { table = MainMemorySize; used = 10; size = 10 }) }
     ensures shared_and_redefined_fits { Fits (record default_sizes { main_memory_size = 11 }) (first_line_usual ++ codes "\\def\\a{abc}\\let\\b=\\a\\def\\a{}\\def\\c{xy}\\end") }
     ensures let_go { Fits (record default_sizes { main_memory_size = 8 }) (first_line_usual ++ codes "\\def\\a{abcdef}\\let\\a\\relax\\def\\c{xyzuvw}\\end") }
+{}
+
+/// The machine run on small files with groups, and with tokens that come behind groups and assignments.
+pub fn worked_groups()
+    ensures after_group { RunsSo (first_line_usual ++ codes "{\\aftergroup a\\aftergroup b}\\end\n") (codes "{the letter a}\n{the letter b}\n") 39 Finished }
+    ensures after_no_group { Writes (first_line_usual ++ codes "\\aftergroup\\zz\\end\n") (codes "") Finished }
+    ensures after_the_inner_group { Writes (first_line_usual ++ codes "{{\\aftergroup a}b}\\end\n") (codes "{the letter a}\n{the letter b}\n") Finished }
+    ensures local_and_global { Writes (first_line_usual ++ codes "\\def\\a{x}{\\def\\a{y}\\global\\def\\a{z}\\def\\a{w}}\\message{\\meaning\\a}\\end\n") (codes "macro:->z\n") Finished }
+    ensures taken_back { Writes (first_line_usual ++ codes "{\\def\\a{y}\\a}\\message{\\meaning\\a}\\end\n") (codes "{the letter y}\nundefined\n") Finished }
+    ensures category_taken_back { Writes (first_line_usual ++ codes "{\\catcode33=14 !x\n}!\\end\n") (codes "{the character !}\n") Finished }
+    ensures relax_taken_back { Writes (first_line_usual ++ codes "{\\csname ab\\endcsname}\\message{\\meaning\\ab}\\end\n") (codes "undefined\n") Finished }
+    ensures after_assignment { Writes (first_line_usual ++ codes "\\def\\x{\\message{m}}\\afterassignment\\x\\message{n}\\catcode33=13 \\end\n") (codes "n m\n") Finished }
+    ensures after_one_assignment { RunsSo (first_line_usual ++ codes "\\afterassignment a\\catcode33=13 \\catcode33=12 \\end\n") (codes "{the letter a}\n") 50 Finished }
+    ensures last_after_assignment { Writes (first_line_usual ++ codes "\\afterassignment a\\afterassignment b\\let\\x=c\\end\n") (codes "{the letter b}\n") Finished }
+    ensures after_a_definition { Writes (first_line_usual ++ codes "\\afterassignment a\\def\\x{b}\\x\\end\n") (codes "{the letter a}\n{the letter b}\n") Finished }
+    ensures after_the_future { Writes (first_line_usual ++ codes "\\afterassignment a\\futurelet\\x bc\\end\n") (codes "{the letter a}\n{the letter b}\n{the letter c}\n") Finished }
+    ensures semisimple { RunsSo (first_line_usual ++ codes "\\begingroup\\endgroup\\end\n") (codes "") 33 Finished }
+    ensures forgotten { Writes (first_line_usual ++ codes "\\begingroup}\\endgroup\\end\n") (codes "! Extra }, or forgotten \\endgroup.\nl.2\n") Finished }
+    ensures brace_missing { RunsSo (first_line_usual ++ codes "{\\endgroup\\end\n") (codes "! Missing } inserted.\nl.2\n! Extra \\endgroup.\nl.2\n") 35 Finished }
+    ensures extra { RunsSo (first_line_usual ++ codes "\\endgroup\\end\n") (codes "! Extra \\endgroup.\nl.2\n") 32 Finished }
+    ensures too_many { RunsSo (first_line_usual ++ codes "}\\end\n") (codes "! Too many }'s.\nl.2\n") 32 Finished }
+    ensures too_many_counts { Counts (first_line_usual ++ codes "}\\end\n") 1 false }
+    ensures ended_in_a_group { RunsSo (first_line_usual ++ codes "{\\end\n") (codes "(\\end occurred inside a group at level 1)\n") 32 Finished }
+    ensures ended_in_a_group_counts { Counts (first_line_usual ++ codes "{\\end\n") 0 false }
+    ensures ended_in_two_groups { Writes (first_line_usual ++ codes "{\\begingroup\\message{x}\\end\n") (codes "x\n(\\end occurred inside a group at level 2)\n") Finished }
+    ensures implicit { Writes (first_line_usual ++ codes "\\let\\b={\\let\\e=}\\b\\e\\e\\end\n") (codes "! Too many }'s.\nl.2\n") Finished }
+{}
+
+/// The machine run on small files with integer parameters: `\escapechar`, `\newlinechar`, `\endlinechar` and `\globaldefs`.
+pub fn worked_parameters()
+    ensures escape { Writes (first_line_usual ++ codes "\\escapechar=33 \\message{\\relax}{\\end\n") (codes "!relax \n(!end occurred inside a group at level 1)\n") Finished }
+    ensures no_escape { Writes (first_line_usual ++ codes "\\escapechar=-1 \\message{\\string\\ab}\\endgroup\\end\n") (codes "ab\n! Extra endgroup.\nl.2\n") Finished }
+    ensures escape_taken_back { Writes (first_line_usual ++ codes "{\\escapechar=33 \\endcsname}\\endcsname\\end\n") (codes "! Extra !endcsname.\nl.2\n! Extra \\endcsname.\nl.2\n") Finished }
+    ensures newline { Writes (first_line_usual ++ codes "\\newlinechar=120 \\message{axb}\\endgroup\\end\n") (codes "a\nb\n! E\ntra \\endgroup.\nl.2\n") Finished }
+    ensures no_end_character { RunsSo (first_line_usual ++ codes "\\endlinechar=-1\nx\ny\\end\n") (codes "{the letter x}\n{the letter y}\n") 40 Finished }
+    ensures end_character { RunsSo (first_line_usual ++ codes "\\endlinechar=65\nx\n\\end%\n") (codes "{the letter x}\n{the letter A}\n") 40 Finished }
+    ensures end_beyond_the_characters { Writes (first_line_usual ++ codes "\\endlinechar=256\nx\n\\end\n") (codes "{the letter x}\n") Finished }
+    ensures end_character_taken_back { Writes (first_line_usual ++ codes "{\\endlinechar=65\n}x\n\\end\n") (codes "{the letter x}\n{the letter A}\n") Finished }
+    ensures all_global { Writes (first_line_usual ++ codes "\\globaldefs=1 {\\def\\a{x}}\\message{\\meaning\\a}\\end\n") (codes "macro:->x\n") Finished }
+    ensures none_global { Writes (first_line_usual ++ codes "\\def\\a{x}\\globaldefs=-1 {\\gdef\\a{y}}\\message{\\meaning\\a}\\end\n") (codes "macro:->x\n") Finished }
+{}
+
+/// Small files with groups within small sizes: levels, saved values and tokens, and lists that are held.
+pub fn worked_group_sizes()
+    ensures levels { Fills (record default_sizes { grouping_levels = 1 }) (first_line_usual ++ codes "{{") (record { table = GroupingLevels; used = 1; size = 1 }) }
+    ensures levels_fit { Fits (record default_sizes { grouping_levels = 1 }) (first_line_usual ++ codes "{}{}\\end") }
+    ensures saves { Fills (record default_sizes { save_size = 1 }) (first_line_usual ++ codes "{{") (record { table = SaveSize; used = 1; size = 1 }) }
+    ensures saves_first { Fills (record default_sizes { save_size = 1; grouping_levels = 1 }) (first_line_usual ++ codes "{{") (record { table = SaveSize; used = 1; size = 1 }) }
+    ensures saved_token { Fills (record default_sizes { save_size = 1 }) (first_line_usual ++ codes "{\\aftergroup a") (record { table = SaveSize; used = 1; size = 1 }) }
+    ensures saved_token_fits { Fits (record default_sizes { save_size = 2 }) (first_line_usual ++ codes "{\\aftergroup a}\\aftergroup b\\end") }
+    ensures saved_value { Fills (record default_sizes { save_size = 1 }) (first_line_usual ++ codes "{\\catcode33=12 ") (record { table = SaveSize; used = 1; size = 1 }) }
+    ensures saved_once { Fits (record default_sizes { save_size = 2 }) (first_line_usual ++ codes "{\\catcode33=13 \\catcode33=12 }\\end") }
+    ensures global_value { Fits (record default_sizes { save_size = 1 }) (first_line_usual ++ codes "{\\global\\catcode33=12 }\\end") }
+    ensures saved_behind_a_global_value { Fills (record default_sizes { save_size = 2 }) (first_line_usual ++ codes "{\\catcode33=13 \\global\\catcode33=12 \\catcode33=13 ") (record { table = SaveSize; used = 2; size = 2 }) }
+    ensures level_behind_a_group { Fills (record default_sizes { input_stack_size = 2 }) (first_line_usual ++ codes "{\\aftergroup a\\aftergroup b}") (record { table = InputStackSize; used = 2; size = 2 }) }
+    ensures level_behind_a_group_fits { Fits (record default_sizes { input_stack_size = 3 }) (first_line_usual ++ codes "{\\aftergroup a\\aftergroup b}\\end") }
+    ensures words_behind_a_group { Fills (record default_sizes { main_memory_size = 3 }) (first_line_usual ++ codes "{\\aftergroup a\\aftergroup b}") (record { table = MainMemorySize; used = 3; size = 3 }) }
+    ensures list_of_a_saved_value { Fills (record default_sizes { main_memory_size = 8 }) (first_line_usual ++ codes "\\def\\a{x}{\\def\\a{y}\\def\\b{z}") (record { table = MainMemorySize; used = 8; size = 8 }) }
+    ensures list_of_a_saved_value_fits { Fits (record default_sizes { main_memory_size = 9 }) (first_line_usual ++ codes "\\def\\a{x}{\\def\\a{y}\\def\\b{z}\\end") }
+    ensures list_let_go_behind_a_group { Fits (record default_sizes { main_memory_size = 6 }) (first_line_usual ++ codes "\\def\\a{x}{\\def\\a{y}}\\def\\b{z}\\end") }
 {}

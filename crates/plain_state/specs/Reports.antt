@@ -4,17 +4,13 @@ use Rattle.std.specs.Fmt.{signed_decimal}
 use Rattle.tex_syntax.specs.declared.words.Scanned.{Scanned}
 use Rattle.tex_syntax.specs.declared.words.Scanned.TheVariants as scanned
 use Rattle.tex_syntax.specs.declared.words.Report.{Report}
-use Rattle.tex_syntax.specs.declared.words.Report.TheVariants.{UndefinedName, InvalidCharacter, ImproperConstant, MissingNumber, NumberTooBig, BadCharacterCode, InvalidCode, CodeTooGreat, MissingBrace, FileEnded, Forbidden, MissingName, NotConsecutive, AlreadyNine, IllegalNumber, UseMismatch, ExtraBrace, ParagraphEnded, PrefixWith, LongOrOuterWith, MissingEndcsname, ExtraEndcsname}
+use Rattle.tex_syntax.specs.declared.words.Report.TheVariants.{UndefinedName, InvalidCharacter, ImproperConstant, MissingNumber, NumberTooBig, BadCharacterCode, InvalidCode, CodeTooGreat, MissingBrace, FileEnded, Forbidden, MissingName, NotConsecutive, AlreadyNine, IllegalNumber, UseMismatch, ExtraBrace, ParagraphEnded, PrefixWith, LongOrOuterWith, MissingEndcsname, ExtraEndcsname, TooManyBraces, ForgottenEndgroup, ExtraEndgroup, MissingRightBrace}
 use Rattle.tex_defs.specs.declared.Token.{Token}
 use Rattle.tex_defs.specs.declared.Token.TheVariants.{Char, Named, Marked}
 use Rattle.tex_defs.specs.declared.Name.{Name}
 use Rattle.tex_defs.specs.declared.Meaning.{Meaning}
 use Rattle.tex_defs.specs.declared.Meaning.TheVariants as means
-use Rattle.plain_tokens.specs.Printed.{Style, initial_style, printed, printed_all, name_text, escaped, meaning_head, list_text, runaway_list, shown_all}
-
--- the style of a text that depends on no category code, as that of a name or a meaning does
-abbrev pub plain_style : List (List ℕ) → Style
-plain_style names = initial_style [] names
+use Rattle.plain_tokens.specs.Printed.{Style, printed, printed_all, name_text, escaped, meaning_head, list_text, runaway_list, shown_all}
 
 abbrev pub scanned_word : Scanned → List ℕ
 scanned_word scanned.Definition = codes "definition"
@@ -49,6 +45,10 @@ report_text style (LongOrOuterWith m) =
     codes "You can't use `" ++ (escaped style (codes "long") ++ (codes "' or `" ++ (escaped style (codes "outer") ++ (codes "' with `" ++ (meaning_head style m ++ codes "'")))))
 report_text style MissingEndcsname = codes "Missing " ++ (escaped style (codes "endcsname") ++ codes " inserted")
 report_text style ExtraEndcsname = codes "Extra " ++ escaped style (codes "endcsname")
+report_text style TooManyBraces = codes "Too many }'s"
+report_text style ForgottenEndgroup = codes "Extra }, or forgotten " ++ escaped style (codes "endgroup")
+report_text style ExtraEndgroup = codes "Extra " ++ escaped style (codes "endgroup")
+report_text style MissingRightBrace = codes "Missing } inserted"
 
 -- A line feed, where the column isn't 0. It is no printed character, as the line feeds that end lines are none.
 abbrev pub fresh_line : Bool → List ℕ
@@ -76,6 +76,11 @@ missing_file_bytes style in_line line file = reported_line style in_line line (m
 -- behind the hundredth report
 abbrev pub hundred_line : Style → List ℕ
 hundred_line style = printed_line style (codes "(That makes 100 errors; please try again.)")
+
+-- `\end` where so many groups are open
+abbrev pub end_in_group : Style → (depth : ℕ) → List ℕ
+end_in_group style depth =
+    printed_line style (codes "(" ++ (escaped style (codes "end") ++ (codes " occurred inside a group at level " ++ (decimal depth ++ codes ")"))))
 
 -- The lines of a stop: there the `\` of `\end` is always that character.
 abbrev pub emergency : Style → List ℕ

@@ -5,10 +5,6 @@ use Rattle.std.specs.Prelude.{ℕ, ◌==◌, Bool, true, false, List, [], ◌∷
 abbrev pub line_feed : ℕ
 line_feed = 10
 
--- `\endlinechar`, with which each line is taken
-abbrev pub end_char : ℕ
-end_char = 13
-
 -- the bytes before the first line feed
 abbrev pub before_feed : List ℕ → List ℕ
 before_feed [] = []

@@ -1,7 +1,8 @@
 -- What is still to be read: lists put in front, the rest of a line, the rest of a file.
-use Rattle.std.specs.Prelude.{ℕ, ◌+◌, Bool, true, false, List, [], ◌∷◌, ◌++◌, nat_lt, if◌then◌else◌}
+use Rattle.std.specs.Prelude.{ℕ, ◌+◌, ℤ, Bool, true, false, List, [], ◌∷◌, ◌++◌, nat_lt, if◌then◌else◌}
 use Rattle.tex_defs.specs.declared.Token.{Token}
-use Rattle.plain_tokens.specs.Lines.{end_char, first_line, behind_feed}
+use Rattle.plain_tokens.specs.Lines.{first_line, behind_feed}
+use Rattle.plain_tokens.specs.Printed.{character_of}
 use Rattle.plain_tokens.specs.Puts.{Item, Put, settled, passed, with_put, item_token}
 use Rattle.plain_tokens.specs.Lex.{LineState, NewLine, Lexeme, Lexed, Gives, Invalid, UsedUp, lexed}
 
@@ -24,7 +25,7 @@ pub record Pending : Type 0 where
   pub number : ℕ
 
 -- What the next reading from pending gives, and what is pending then: a token of a list, a character or a name of the line,
--- or the next line.
+-- or the next line, as yet without its end character.
 pub data Pulled : Type 0 where
   TokenFrom : Token → Pending → Pulled
   LexemeFrom : Lexeme → Pending → Pulled
@@ -47,9 +48,12 @@ put_front x p = with_puts (with_put x p.puts) p
 
 -- THE LINE AND THE FILE
 
--- the first line of a file's rest, with its end character
-abbrev pub taken_line : List ℕ → List ℕ
-taken_line bytes = first_line bytes ++ end_char ∷ []
+-- A line is taken with its end character: that of the value of `\endlinechar`, if it is a character's code.
+abbrev pub line_ended : ℤ → List ℕ → List ℕ
+line_ended end line = line ++ character_of end
+
+abbrev pub with_end : ℤ → Pending → Pending
+with_end end p = record { puts = p.puts; line = line_ended end p.line; lex = p.lex; rest = p.rest; file = p.file; number = p.number }
 
 -- A line's number stands still at 2^64 - 1. A line is a step, so a run of fewer than 2^64 steps never gets there.
 abbrev pub next_number : ℕ → ℕ
@@ -57,7 +61,7 @@ next_number n = if nat_lt n 18446744073709551615 then n + 1 else n
 
 abbrev pub line_taken : ℕ → List ℕ → Pulled
 line_taken number bytes =
-    LineTaken (taken_line bytes) (record { puts = []; line = taken_line bytes; lex = NewLine; rest = behind_feed bytes; file = Begun; number = next_number number })
+    LineTaken (first_line bytes) (record { puts = []; line = first_line bytes; lex = NewLine; rest = behind_feed bytes; file = Begun; number = next_number number })
 
 -- the file goes
 abbrev pub file_over : Pulled

@@ -26,10 +26,6 @@ pub record Style : Type 0 where
   pub categories : List ℕ
   pub names : List (List ℕ)
 
--- INITEX's style, but for the category codes and the names: `\escapechar` is a backslash, `\newlinechar` 0.
-abbrev pub initial_style : List ℕ → List (List ℕ) → Style
-initial_style categories names = record { escape = pos 92; newline = pos 0; categories = categories; names = names }
-
 -- whether a parameter's value is the code of this character
 abbrev pub is_code : ℤ → ℕ → Bool
 is_code (pos n) c = n == c

@@ -28,6 +28,9 @@ const XDEF: u16 = 29;
 
 const READ: u16 = 53;
 
+/// The first parameter; the parameters are the last primitives.
+const FIRST_PARAMETER: u16 = 85;
+
 /// What is inserted where a name is missing.
 const INACCESSIBLE: Token = Token::Named(Name::Frozen(Frozen::Inaccessible));
 
@@ -189,7 +192,7 @@ fn is_assignment(meaning: Meaning<()>) -> bool
     ensures { result ≡ stages.is_assignment meaning }
 {
     match meaning {
-        Meaning::Prim(n) => DEF <= n && n <= READ && has_row(n),
+        Meaning::Prim(n) => { (DEF <= n && n <= READ || FIRST_PARAMETER <= n) && has_row(n) }
         _ => false,
     }
 }

@@ -1,5 +1,5 @@
 -- The stages: what each asks for at first, and what it makes of a token and of a value.
-use Rattle.std.specs.Prelude.{ℕ, zero, suc, ℤ, pos, ◌&&◌, ◌||◌, Bool, true, false, List, [], ◌∷◌, Option, Some, None, if◌then◌else◌}
+use Rattle.std.specs.Prelude.{ℕ, zero, suc, ℤ, pos, ◌&&◌, ◌||◌, Bool, true, false, List, [], ◌∷◌, Option, Some, None, nat_le, if◌then◌else◌}
 use Rattle.tex_defs.specs.declared.Token.{Token}
 use Rattle.tex_defs.specs.declared.Token.TheVariants as token
 use Rattle.tex_defs.specs.declared.Name.{Name}
@@ -122,9 +122,13 @@ is_definition m = false
 abbrev pub last_assignment : ℕ
 last_assignment = 53
 
+-- the number of the first parameter; the parameters are the last primitives
+abbrev pub first_parameter : ℕ
+first_parameter = 85
+
 -- the assignments that are read by rows
 abbrev pub is_assignment : Meaning Unit → Bool
-is_assignment (means.Prim n) = is_between def_primitive last_assignment n && has_row n
+is_assignment (means.Prim n) = (is_between def_primitive last_assignment n || nat_le first_parameter n) && has_row n
 is_assignment m = false
 
 abbrev pub primitive_in : Meaning Unit → ℕ

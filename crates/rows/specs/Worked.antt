@@ -168,6 +168,18 @@ pub record WorkedCodes : Type 0 where
       steps 40 (number (pos 40) ∷ Tok equals ∷ number (pos 16777216) ∷ Told ∷ []) ≡
       Inner Integer false ∷ More Nonblank ∷ Inner Integer false ∷ Tells (CodeTooGreat (pos 16777216) 16777215) false ∷ Acts (call 40) (effect.SetCode code.Delimiter (pos 40) (pos 0)) ∷ []
 
+-- `\escapechar=33`, `\globaldefs 1`, where the number begins with its first digit, and `\endlinechar=-1`; `\global\newlinechar=10`; `\aftergroup\x`
+-- and `\afterassignment\x`
+pub record WorkedParameters : Type 0 where
+  pub equals_number : steps 130 (Tok equals ∷ number (pos 33) ∷ []) ≡ More Nonblank ∷ Inner Integer false ∷ Acts (call 130) (effect.SetInteger 45 (pos 33)) ∷ []
+  pub begins : steps 128 (Tok digit ∷ number (pos 1) ∷ []) ≡ More Nonblank ∷ Inner Integer true ∷ Acts (call 128) (effect.SetInteger 43 (pos 1)) ∷ []
+  pub negative : steps 133 (Tok equals ∷ number (negsuc 0) ∷ []) ≡ More Nonblank ∷ Inner Integer false ∷ Acts (call 133) (effect.SetInteger 48 (negsuc 0)) ∷ []
+  pub global :
+      steps 25 (Tok (primitive 134) ∷ Tok equals ∷ number (pos 10) ∷ []) ≡
+      More want.Command ∷ More Nonblank ∷ Inner Integer false ∷ Acts (record (call 134) { global = true }) (effect.SetInteger 49 (pos 10)) ∷ []
+  pub aftergroup : steps 15 (Tok x ∷ []) ≡ More Raw ∷ Acts (call 15) (effect.AfterGroup x) ∷ []
+  pub afterassignment : steps 16 (Tok x ∷ []) ≡ More Raw ∷ Acts (call 16) (effect.AfterAssignment x) ∷ []
+
 -- `\expandafter`, `\noexpand`, `\number`, `\romannumeral`, `\string` and `\meaning`, and which of them read under normal status
 pub record WorkedExpansions : Type 0 where
   pub expandafter : steps 54 (Tok x ∷ Tok y ∷ []) ≡ More Raw ∷ More Raw ∷ Acts (call 54) (effect.ExpandBehind x y) ∷ []
@@ -180,12 +192,13 @@ pub record WorkedExpansions : Type 0 where
 
 -- the numbers above, and the names of their primitives
 abbrev pub numbers : List ℕ
-numbers = 8 ∷ 9 ∷ 10 ∷ 11 ∷ 23 ∷ 24 ∷ 25 ∷ 26 ∷ 27 ∷ 28 ∷ 29 ∷ 30 ∷ 31 ∷ 35 ∷ 36 ∷ 37 ∷ 38 ∷ 39 ∷ 40 ∷ 54 ∷ 55 ∷ 57 ∷ 58 ∷ 59 ∷ 60 ∷ []
+numbers = 8 ∷ 9 ∷ 10 ∷ 11 ∷ 15 ∷ 16 ∷ 23 ∷ 24 ∷ 25 ∷ 26 ∷ 27 ∷ 28 ∷ 29 ∷ 30 ∷ 31 ∷ 35 ∷ 36 ∷ 37 ∷ 38 ∷ 39 ∷ 40 ∷ 54 ∷ 55 ∷ 57 ∷ 58 ∷ 59 ∷ 60 ∷ 128 ∷ 130 ∷ 133 ∷ 134 ∷ []
 
 abbrev pub commands : List (List ℕ)
 commands =
-    codes "ignorespaces" ∷ codes "message" ∷ codes "errmessage" ∷ codes "show" ∷ codes "long" ∷ codes "outer" ∷ codes "global" ∷ codes "def" ∷ codes "gdef" ∷ codes "edef" ∷ codes "xdef" ∷
-    codes "let" ∷ codes "futurelet" ∷ codes "catcode" ∷ codes "lccode" ∷ codes "uccode" ∷ codes "sfcode" ∷ codes "mathcode" ∷ codes "delcode" ∷ codes "expandafter" ∷ codes "noexpand" ∷ codes "number" ∷ codes "romannumeral" ∷ codes "string" ∷ codes "meaning" ∷ []
+    codes "ignorespaces" ∷ codes "message" ∷ codes "errmessage" ∷ codes "show" ∷ codes "aftergroup" ∷ codes "afterassignment" ∷ codes "long" ∷ codes "outer" ∷ codes "global" ∷ codes "def" ∷ codes "gdef" ∷ codes "edef" ∷ codes "xdef" ∷
+    codes "let" ∷ codes "futurelet" ∷ codes "catcode" ∷ codes "lccode" ∷ codes "uccode" ∷ codes "sfcode" ∷ codes "mathcode" ∷ codes "delcode" ∷ codes "expandafter" ∷ codes "noexpand" ∷ codes "number" ∷ codes "romannumeral" ∷ codes "string" ∷ codes "meaning" ∷
+    codes "globaldefs" ∷ codes "escapechar" ∷ codes "endlinechar" ∷ codes "newlinechar" ∷ []
 
 pub record WorkedRows : Type 0 where
   pub names : map primitive_name numbers ≡ commands
@@ -195,4 +208,5 @@ pub record WorkedRows : Type 0 where
   pub meanings : WorkedMeanings
   pub categories : WorkedCategories
   pub codes : WorkedCodes
+  pub parameters : WorkedParameters
   pub expansions : WorkedExpansions

@@ -9,8 +9,9 @@ use crate::stage::Stage::{
     NumberUpTo, Prefixes, Space, Text,
 };
 use Action::{
-    Define, DefineGlobally, ErrorMessage, ExpandBehind, FutureLet, Let, MakeMeaning, MakeNumber,
-    MakeRoman, MakeString, Message, Nothing, Obey, PutMarked, SetCode, Show,
+    AfterAssignment, AfterGroup, Define, DefineGlobally, ErrorMessage, ExpandBehind, FutureLet,
+    Let, MakeMeaning, MakeNumber, MakeRoman, MakeString, Message, Nothing, Obey, PutMarked,
+    SetCode, SetInteger, Show,
 };
 use Row::{Four, One, Three, Two};
 use equivalents::CodeKind;
@@ -74,6 +75,10 @@ pub enum Action {
     FutureLet,
     /// A character gets a code of this kind.
     SetCode(CodeKind),
+    /// The integer parameter at this place gets a value.
+    SetInteger(u8),
+    AfterGroup,
+    AfterAssignment,
     ExpandBehind,
     PutMarked,
     MakeNumber,
@@ -100,6 +105,12 @@ pub enum Effect {
     FutureLet(Name, Seen, Seen),
     /// The character, the first number, gets the second as its code of this kind.
     SetCode(CodeKind, i32, i32),
+    /// The integer parameter at this place gets the number as its value.
+    SetInteger(u8, i32),
+    /// The token is kept for the end of the innermost group, if one is open.
+    AfterGroup(Seen),
+    /// The token is kept for the end of the next assignment.
+    AfterAssignment(Seen),
     /// The second token is expanded or put back, while the first waits behind it.
     ExpandBehind(Seen, Seen),
     /// The token is put back.
@@ -137,12 +148,26 @@ const CATEGORY: Stage = NumberTo(15, InvalidCode);
 /// A small or a capital letter of a character, or 0.
 const OTHER_CASE: Stage = NumberTo(255, InvalidCode);
 
+/// The place of `\globaldefs` among the integer parameters, from 0.
+const GLOBAL_DEFINITIONS: u8 = 43;
+
+/// The place of `\escapechar`.
+const ESCAPE_CHARACTER: u8 = 45;
+
+/// The place of `\endlinechar`.
+const END_LINE_CHARACTER: u8 = 48;
+
+/// The place of `\newlinechar`.
+const NEW_LINE_CHARACTER: u8 = 49;
+
 /// What the primitives read, by their numbers, and what they do then.
 pub const SYNTAX: &[(u16, Row, Action)] = &[
     (8, One(NonblankToken), Obey),
     (9, One(Text(true)), Message),
     (10, One(Text(true)), ErrorMessage),
     (11, One(AnyToken), Show),
+    (15, One(AnyToken), AfterGroup),
+    (16, One(AnyToken), AfterAssignment),
     (23, One(Prefixes(Prefix::Long)), Nothing),
     (24, One(Prefixes(Prefix::Outer)), Nothing),
     (25, One(Prefixes(Prefix::Global)), Nothing),
@@ -188,6 +213,10 @@ pub const SYNTAX: &[(u16, Row, Action)] = &[
     (58, One(Number), MakeRoman),
     (59, One(AnyToken), MakeString),
     (60, One(AnyToken), MakeMeaning),
+    (128, Two(Equals, Number), SetInteger(GLOBAL_DEFINITIONS)),
+    (130, Two(Equals, Number), SetInteger(ESCAPE_CHARACTER)),
+    (133, Two(Equals, Number), SetInteger(END_LINE_CHARACTER)),
+    (134, Two(Equals, Number), SetInteger(NEW_LINE_CHARACTER)),
 ];
 
 /// The row of a primitive and what it does, among these.

@@ -1,17 +1,21 @@
 -- What a command does where no token is obeyed and none expanded.
-use Rattle.std.proofs.Common.{◌≡◌, ℕ, ℤ, w32, to_z, of_z, FitsSigned, List, [], ◌∷◌, length, Bool, true, false, Some, None, refl, sym, ap, subst, ⊎_elim}
-use Rattle.std.proofs.lemmas.Int.{to_z-of_z}
+use Rattle.std.proofs.Common.{◌≡◌, ℕ, ℤ, List, [], ◌∷◌, ◌++◌, length, Bool, true, false, Option, Some, None, refl, sym, ap, ◌∙◌, subst, ⊎_elim}
+use Rattle.std.proofs.lemmas.List.{length-set}
 use Rattle.tex_defs.specs.Places.{World}
 use Rattle.tex_defs.specs.declared.Full.{Full}
 use Rattle.tex_defs.specs.declared.Name.{Name}
 use Rattle.tex_defs.specs.declared.Seen.{Seen}
 use Rattle.tex_defs.specs.declared.Sizes.{Sizes}
+use Rattle.tex_defs.specs.declared.Token.{Token}
 use Rattle.plain_tokens.specs.Meanings.{is_listed}
 use Rattle.plain_tokens.specs.Tables.{refused}
 use Rattle.equivalents.specs.declared.values.CodeKind.{CodeKind}
 use Rattle.equivalents.specs.declared.values.CodeKind.TheVariants as code
+use Rattle.tex_defs.specs.declared.RegisterKind.TheVariants as register
+use Rattle.equivalents.specs.declared.values.Loc.{Loc}
 use Rattle.equivalents.specs.declared.values.Loc.TheVariants as loc
 use Rattle.equivalents.specs.declared.values.Val.TheVariants as val
+use Rattle.equivalents.specs.Locations.{meaning_of}
 use Rattle.equivalents.specs.Groups.{Groups, set, set_demands}
 use Rattle.equivalents.specs.Holding.{lists_held}
 use Rattle.equivalents.specs.Tables.{Tables, put}
@@ -19,8 +23,9 @@ use Rattle.rows.specs.declared.command.Call.{Call}
 use Rattle.rows.specs.declared.command.Effect.{Effect}
 use Rattle.rows.specs.declared.command.Effect.TheVariants as effect
 use Rattle.plain_machine.specs.States.{State, Move, Set}
-use Rattle.plain_machine.specs.Plan.{Page}
+use Rattle.plain_machine.specs.Plan.{Page, behind_assignment}
 use Rattle.plain_machine.specs.Does.{Did}
+use Rattle.plain_machine.proofs.Doing.{did_join}
 use Rattle.plain_machine.proofs.GroupNumbers.{set_of, set_demands_of}
 use Rattle.plain_machine.proofs.Holders.{set_cases}
 use Rattle.world_io.specs.Told.{FilesTold, SinkTold, world}
@@ -31,10 +36,12 @@ use Rattle.engine_state.specs.declared.engine.Engine.{Engine}
 use Rattle.engine_state.specs.Book.{Book}
 use Rattle.engine_state.specs.Making.{IsInFront}
 use Rattle.engine_state.specs.Rules.{world_of, Cuts}
-use Rattle.engine_state.specs.Stands.{Stands, state_of}
+use Rattle.engine_state.specs.Stands.{Stands, SameFrames, SameOthers, SameStore, state_of}
+use Rattle.engine_state.proofs.Cutting.{later_cuts}
 use Rattle.gullet.proofs.JobName.{name_stands}
 use Rattle.stomach.specs.Effects.{put_by, done_alone}
-use Rattle.stomach.proofs.Regrouped.{asks_same, regrouped_did, regrouped_stands, unchanged_cuts}
+use Rattle.engine_state.proofs.Grouping.{asks_same, unchanged_cuts}
+use Rattle.stomach.proofs.Regrouped.{regrouped_did, regrouped_stands}
 
 -- THE COLUMN STAYS
 
@@ -44,48 +51,100 @@ did_still sizes s s' e e' f t ms column h = subst (λ (b : Bool). Did sizes s s'
 pub cuts_still : (sizes : Sizes) (s : State) (e e' : Engine) (book : Book) (f : FilesTold) (t : SinkTold) (ms : List Move) (b : Broken) → e'.in_line ≡ e.in_line → Cuts sizes s e' book (world_of f t e) (world_of f t e) ms b → Cuts sizes s e' book (world_of f t e) (world_of f t e') ms b
 cuts_still sizes s e e' book f t ms b column h = subst (λ (c : Bool). Cuts sizes s e' book (world_of f t e) (world f t c) ms b) (sym column) h
 
--- A CODE
+-- A NUMBER AT A LOCATION
 
 -- a number is no list
-code_held : (n : ℕ) (global : Bool) (g : Groups) (kind : CodeKind) (c : ℕ) (z : ℤ) → is_listed (lists_held (set global g (loc.Code kind c) (val.Number z))) n ≡ true → is_listed (lists_held g) n ≡ true
-code_held n global g kind c z held = ⊎_elim (λ none. cc) (λ was. was) (set_cases n global g (loc.Code kind c) (val.Number z) held)
+number_held : (n : ℕ) (global : Bool) (g : Groups) (l : Loc) (z : ℤ) → is_listed (lists_held (set global g l (val.Number z))) n ≡ true → is_listed (lists_held g) n ≡ true
+number_held n global g l z held = ⊎_elim (λ none. cc) (λ was. was) (set_cases n global g l (val.Number z) held)
 
-put_length : (m : Tables) (kind : CodeKind) (c : ℕ) (z : ℤ) → length (put m (loc.Code kind c) (val.Number z)).meanings ≡ length m.meanings
-put_length m code.Category c z = refl
-put_length m code.Lowercase c z = refl
-put_length m code.Uppercase c z = refl
-put_length m code.SpaceFactor c z = refl
-put_length m code.Math c z = refl
-put_length m code.Delimiter c z = refl
+put_length : (m : Tables) (l : Loc) (z : ℤ) → length (put m l (val.Number z)).meanings ≡ length m.meanings
+put_length m (loc.Code code.Category c) z = refl
+put_length m (loc.Code kind c) z = refl
+put_length m (loc.Register register.Count n) z = refl
+put_length m (loc.Register kind n) z = refl
+put_length m (loc.Means n) z = length-set m.meanings n (meaning_of (val.Number z))
+put_length m l z = refl
 
-code_length : (global : Bool) (g : Groups) (kind : CodeKind) (c : ℕ) (z : ℤ) → length (set global g (loc.Code kind c) (val.Number z)).now.meanings ≡ length g.now.meanings
-code_length true g kind c z = put_length g.now kind c z
-code_length false g kind c z = put_length g.now kind c z
+number_length : (global : Bool) (g : Groups) (l : Loc) (z : ℤ) → length (set global g l (val.Number z)).now.meanings ≡ length g.now.meanings
+number_length true g l z = put_length g.now l z
+number_length false g l z = put_length g.now l z
 
-module _ (e : Engine) (i : Stored) (global : Bool) (kind : CodeKind) (c : ℕ) (z : ℤ) (is : i ≡ record e.input { groups = set global e.input.groups (loc.Code kind c) (val.Number z); lists = i.lists }) where
+module _ (e : Engine) (i : Stored) (global : Bool) (l : Loc) (z : ℤ) (is : i ≡ record e.input { groups = set global e.input.groups l (val.Number z); lists = i.lists }) where
   abbrev given : Groups
-  given = set global e.input.groups (loc.Code kind c) (val.Number z)
+  given = set global e.input.groups l (val.Number z)
 
-  pub code_did : (sizes : Sizes) (w : World) (book : Book) → Stands sizes e book → refused e.input.sizes (set_demands global e.input.groups (loc.Code kind c)) ≡ None →
-      Did sizes (state_of e book) (state_of (record e { input = i }) book) w w (Set global (loc.Code kind c) (val.Number z) ∷ [])
-  code_did sizes w book st fits =
-      regrouped_did e given i is sizes w book (Set global (loc.Code kind c) (val.Number z)) tt
-      (asks_same sizes e book None st _ _ (set_demands_of book.number global e.input.groups (loc.Code kind c)) fits)
-      (ap (λ (g : Groups). record (state_of e book) { groups = g }) (set_of book.number global e.input.groups (loc.Code kind c) (val.Number z)))
+  pub number_did : (sizes : Sizes) (w : World) (book : Book) → Stands sizes e book → refused e.input.sizes (set_demands global e.input.groups l) ≡ None →
+      Did sizes (state_of e book) (state_of (record e { input = i }) book) w w (Set global l (val.Number z) ∷ [])
+  number_did sizes w book st fits =
+      regrouped_did e given i is sizes w book (Set global l (val.Number z)) tt
+      (asks_same sizes e book None st.sound _ _ (set_demands_of book.number global e.input.groups l) fits)
+      (ap (λ (g : Groups). record (state_of e book) { groups = g }) (set_of book.number global e.input.groups l (val.Number z)))
 
-  pub code_stands : KeepsMacros e.input i → (sizes : Sizes) (book : Book) → Stands sizes e book → Stands sizes (record e { input = i }) book
-  code_stands kept sizes book st =
-      regrouped_stands e given i is (code_length global e.input.groups kind c z) (λ n held. code_held n global e.input.groups kind c z held) kept sizes book st
+  pub number_stands : KeepsMacros e.input i → (sizes : Sizes) (book : Book) → Stands sizes e book → Stands sizes (record e { input = i }) book
+  number_stands kept sizes book st =
+      regrouped_stands e given i is (number_length global e.input.groups l z) (λ n held. number_held n global e.input.groups l z held) kept sizes book st
 
--- there is no room for the code that the character had
-pub code_cuts : (sizes : Sizes) (e : Engine) (i : Stored) (book : Book) (w : World) (global : Bool) (kind : CodeKind) (c : ℕ) (z : ℤ) (more : List Move) (full : Full) → i ≡ e.input → Stands sizes e book → refused e.input.sizes (set_demands global e.input.groups (loc.Code kind c)) ≡ Some full →
-    Cuts sizes (state_of e book) (record e { input = i }) book w w (Set global (loc.Code kind c) (val.Number z) ∷ more) (broken.Full full)
-code_cuts sizes e i book w global kind c z more full same st refuses =
-    unchanged_cuts sizes e i book w (Set global (loc.Code kind c) (val.Number z)) more full same (asks_same sizes e book (Some full) st _ _ (set_demands_of book.number global e.input.groups (loc.Code kind c)) refuses)
+-- there is no room for the value that it had
+pub number_cuts : (sizes : Sizes) (e : Engine) (i : Stored) (book : Book) (w : World) (global : Bool) (l : Loc) (z : ℤ) (more : List Move) (full : Full) → i ≡ e.input → Stands sizes e book → refused e.input.sizes (set_demands global e.input.groups l) ≡ Some full →
+    Cuts sizes (state_of e book) (record e { input = i }) book w w (Set global l (val.Number z) ∷ more) (broken.Full full)
+number_cuts sizes e i book w global l z more full same st refuses =
+    unchanged_cuts sizes e i book w (Set global l (val.Number z)) more full same (asks_same sizes e book (Some full) st.sound _ _ (set_demands_of book.number global e.input.groups l) refuses)
 
--- numbers as they are passed
-pub as_passed : (P : ℤ → ℤ → Type 0) (a b : ℤ) → FitsSigned w32 a → FitsSigned w32 b → P (to_z w32 (of_z w32 a)) (to_z w32 (of_z w32 b)) → P a b
-as_passed P a b fits fits' h = subst (λ (x : ℤ). P a x) (to_z-of_z w32 b fits') (subst (λ (x : ℤ). P x (to_z w32 (of_z w32 b))) (to_z-of_z w32 a fits) h)
+-- BEHIND AN ASSIGNMENT
+
+-- another token is to come behind the next one
+pub keeping_stands : (sizes : Sizes) (e : Engine) (book : Book) (o : Option Token) → Stands sizes e book → Stands sizes (record e { after = o }) book
+keeping_stands sizes e book o st = let sized = st.sound.sized in record {
+  sound = record {
+    sized = record {
+      few_reports = sized.few_reports;
+      small = sized.small;
+      own = sized.own;
+      readings = sized.readings;
+      input = sized.input;
+      names = sized.names;
+      located = sized.located;
+    };
+    tied = st.sound.tied;
+    bodies = st.sound.bodies;
+  };
+  idle = st.idle;
+  readings = record { frames = st.readings.frames; shallow = st.readings.shallow };
+  uncalled = record { none = st.uncalled.none; input = st.uncalled.input };
+}
+
+-- the token that came behind it was put in front
+pub behind_stands : (sizes : Sizes) (e e' : Engine) (book : Book) → SameFrames e e' → SameOthers (record e { after = None }) e' → SameStore e.input e'.input → e'.input.making ≡ None → Stands sizes e book → Stands sizes e' book
+behind_stands sizes e e' book same others store idle st =
+    name_stands sizes (record e { after = None }) e' book (record { readings = same.readings; lists = same.lists; call = same.call; calling = same.calling }) others store idle (keeping_stands sizes e book None st)
+
+-- It is made by these moves, if it is global or not, and the token that comes behind it is put.
+module _ (sizes : Sizes) (e e1 : Engine) (book : Book) (f : FilesTold) (t : SinkTold) (moves : Bool → List Move) (global asked : Bool) (is : global ≡ asked) (column : e1.in_line ≡ e.in_line) where
+  abbrev here : World
+  here = world_of f t e
+
+  -- it isn't made
+  pub set_cuts : (b : Broken) (more : List Move) → Cuts sizes (state_of e book) e1 book here here (moves global ++ (behind_assignment e.after ++ more)) b →
+      Cuts sizes (state_of e book) e1 book here (world_of f t e1) (moves asked ++ (behind_assignment e.after ++ more)) b
+  set_cuts b more h = cuts_still sizes (state_of e book) e e1 book f t _ b column (subst (λ (g : Bool). Cuts sizes (state_of e book) e1 book here here (moves g ++ (behind_assignment e.after ++ more)) b) is h)
+
+  module _ (e2 : Engine) (others : SameOthers (record e1 { after = None }) e2) (after : e1.after ≡ e.after) (did : Did sizes (state_of e book) (state_of e1 book) here here (moves global)) where
+    made : Did sizes (state_of e book) (state_of e1 book) here here (moves asked)
+    made = subst (λ (g : Bool). Did sizes (state_of e book) (state_of e1 book) here here (moves g)) is did
+
+    pub behind_did : Did sizes (state_of e1 book) (state_of e2 book) here here (behind_assignment e1.after) → Did sizes (state_of e book) (state_of e2 book) here (world_of f t e2) (moves asked ++ behind_assignment e.after)
+    behind_did put =
+        did_still sizes (state_of e book) (state_of e2 book) e e2 f t _ (others.in_line ∙ column)
+        (did_join sizes (state_of e book) (state_of e1 book) (state_of e2 book) here here here (moves asked) (behind_assignment e.after) made
+        (subst (λ (o : Option Token). Did sizes (state_of e1 book) (state_of e2 book) here here (behind_assignment o)) after put))
+
+    -- the token has no room
+    pub behind_cuts : (b : Broken) (more : List Move) → Cuts sizes (state_of e1 book) e2 book here here (behind_assignment e1.after ++ more) b →
+        Cuts sizes (state_of e book) e2 book here (world_of f t e2) (moves asked ++ (behind_assignment e.after ++ more)) b
+    behind_cuts b more h =
+        cuts_still sizes (state_of e book) e e2 book f t _ b (others.in_line ∙ column)
+        (later_cuts sizes (state_of e book) (state_of e1 book) e2 book here here here (moves asked) (behind_assignment e.after ++ more) b made
+        (subst (λ (o : Option Token). Cuts sizes (state_of e1 book) e2 book here here (behind_assignment o ++ more) b) after h))
 
 -- WHAT IS PUT IN FRONT
 
@@ -94,9 +153,13 @@ front_stands sizes e e' book front idle st = name_stands sizes e e' book front.f
 
 -- another effect is what is put in front
 pub put_alone : (page : Page) (c : Call) (x : Effect) → ((s : Seen) → x ≡ effect.Show s → ⊥) → ((n : Name) (s : Seen) → x ≡ effect.Let n s → ⊥) → ((n : Name) (s t : Seen) → x ≡ effect.FutureLet n s t → ⊥) →
-    ((kind : CodeKind) (char value : ℤ) → x ≡ effect.SetCode kind char value → ⊥) → done_alone page c x ≡ put_by page x
-put_alone page c (effect.Show s) shows lets later sets = absurd (shows s refl)
-put_alone page c (effect.Let n s) shows lets later sets = absurd (lets n s refl)
-put_alone page c (effect.FutureLet n s t) shows lets later sets = absurd (later n s t refl)
-put_alone page c (effect.SetCode kind char value) shows lets later sets = absurd (sets kind char value refl)
-put_alone page c x shows lets later sets = refl
+    ((kind : CodeKind) (char value : ℤ) → x ≡ effect.SetCode kind char value → ⊥) → ((i : ℕ) (value : ℤ) → x ≡ effect.SetInteger i value → ⊥) → ((s : Seen) → x ≡ effect.AfterGroup s → ⊥) → ((s : Seen) → x ≡ effect.AfterAssignment s → ⊥) →
+    done_alone page c x ≡ put_by page x
+put_alone page c (effect.Show s) shows lets later codes integers groups behind = absurd (shows s refl)
+put_alone page c (effect.Let n s) shows lets later codes integers groups behind = absurd (lets n s refl)
+put_alone page c (effect.FutureLet n s t) shows lets later codes integers groups behind = absurd (later n s t refl)
+put_alone page c (effect.SetCode kind char value) shows lets later codes integers groups behind = absurd (codes kind char value refl)
+put_alone page c (effect.SetInteger i value) shows lets later codes integers groups behind = absurd (integers i value refl)
+put_alone page c (effect.AfterGroup s) shows lets later codes integers groups behind = absurd (groups s refl)
+put_alone page c (effect.AfterAssignment s) shows lets later codes integers groups behind = absurd (behind s refl)
+put_alone page c x shows lets later codes integers groups behind = refl

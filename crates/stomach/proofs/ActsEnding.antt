@@ -54,7 +54,7 @@ use Rattle.gullet.proofs.Stepping.{free_of}
 use Rattle.engine_state.proofs.Weighing.{acted_lighter}
 use Rattle.stomach.specs.Effects.{done_alone, IsAlone, IsSmall}
 use Rattle.stomach.specs.Halting.{DoesRuleIn}
-use Rattle.stomach.proofs.Codes.{SetsCode, sets_code}
+use Rattle.stomach.proofs.Codes.{SetsSmall, sets_small}
 
 -- WHAT IS DONE ALONE
 
@@ -69,11 +69,6 @@ is_alone (effect.Obey x) obeys expands = obeys x refl
 is_alone (effect.ExpandBehind x y) obeys expands = expands x y refl
 is_alone e obeys expands = tt
 
--- a code that is set is one of its kind, of a character
-small_of : (c : Call) (e : Effect) → SetsCode (Acts c e) → IsSmall e
-small_of c (effect.SetCode kind char z) h = h
-small_of c e h = tt
-
 asks_as : (fs : List Frame) (held : List (List Token)) (r : Reading) (rs : List Reading) (a : Ask) → frames.FramesStand fs held (r ∷ rs) → asks_in fs held ≡ Some a → ask r.kind r.fed ≡ a
 asks_as [] held r rs a st asks = absurd st
 asks_as (f ∷ fs) held r rs a st asks =
@@ -82,7 +77,7 @@ asks_as (f ∷ fs) held r rs a st asks =
 
 pub small_effect : (sizes : Sizes) (e : Engine) (book : Book) (r : Reading) (rs : List Reading) (c : Call) (does : Effect) → Stands sizes e (with_work (r ∷ rs) book) → asked e ≡ Some (Acts c does) → IsSmall does
 small_effect sizes e book r rs c does st asks =
-    small_of c does (subst SetsCode (asks_as e.readings.frames e.input.builds r rs (Acts c does) st.readings.frames asks) (sets_code r.kind r.fed))
+    subst SetsSmall (asks_as e.readings.frames e.input.builds r rs (Acts c does) st.readings.frames asks) (sets_small r.kind r.fed)
 
 -- THE OPEN READINGS
 

@@ -32,7 +32,8 @@ use Rattle.engine_state.specs.Book.{Book}
 use Rattle.engine_state.specs.Rules.{Cuts}
 use Rattle.engine_state.specs.Stands.{Stands, state_of, page_of}
 use Rattle.engine_state.proofs.Cutting.{later_cuts}
-use Rattle.stomach.proofs.Regrouped.{asks_same, regrouped_did, regrouped_stands, unchanged_cuts}
+use Rattle.engine_state.proofs.Grouping.{asks_same, unchanged_cuts}
+use Rattle.stomach.proofs.Regrouped.{regrouped_did, regrouped_stands}
 
 abbrev Cell : Type 0
 Cell = Meaning (Option ℕ)
@@ -78,7 +79,7 @@ module _ (e : Engine) (i : Stored) (global : Bool) (name : Name) (m : Cell) (is 
     pub named_did : refused e.input.sizes (name_demands global e.input.groups name) ≡ None → Did sizes (state_of e book) (state_of (record e { input = i }) book) w w (Assigned global name own ∷ [])
     named_did fits =
         regrouped_did e given i is sizes w book (Assigned global name own) tt
-        (asks_same sizes e book None st _ _ (name_demands_of book.number global e.input.groups name) fits)
+        (asks_same sizes e book None st.sound _ _ (name_demands_of book.number global e.input.groups name) fits)
         (ap (λ (g : Groups). record (state_of e book) { groups = g }) (ap (set_name global (groups_of book.number e.input.groups) name) same ∙ set_name_of book.number global e.input.groups name m))
 
   pub named_stands : ((n : ℕ) → is_listed (lists_held given) n ≡ true → is_listed (lists_held e.input.groups) n ≡ true) → KeepsMacros e.input i → (sizes : Sizes) (book : Book) → Stands sizes e book → Stands sizes (record e { input = i }) book
@@ -88,7 +89,7 @@ module _ (e : Engine) (i : Stored) (global : Bool) (name : Name) (m : Cell) (is 
 pub named_cuts : (sizes : Sizes) (e : Engine) (i : Stored) (book : Book) (w : World) (global : Bool) (name : Name) (m : Cell) (more : List Move) (full : Full) → i ≡ e.input → Stands sizes e book → refused e.input.sizes (name_demands global e.input.groups name) ≡ Some full →
     Cuts sizes (state_of e book) (record e { input = i }) book w w (Assigned global name m ∷ more) (broken.Full full)
 named_cuts sizes e i book w global name m more full same st refuses =
-    unchanged_cuts sizes e i book w (Assigned global name m) more full same (asks_same sizes e book (Some full) st _ _ (name_demands_of book.number global e.input.groups name) refuses)
+    unchanged_cuts sizes e i book w (Assigned global name m) more full same (asks_same sizes e book (Some full) st.sound _ _ (name_demands_of book.number global e.input.groups name) refuses)
 
 -- WHAT A TOKEN MEANS
 

@@ -1,6 +1,6 @@
--- The code that a command sets is one of its kind, of a character: its row has read both in their ranges.
-use Rattle.std.proofs.Common.{◌≡◌, ℕ, ℤ, pos, negsuc, ◌≤◌, Bool, true, false, List, [], ◌∷◌, ◌++◌, refl, subst, arith}
-use Rattle.std.specs.Prelude.{Option, Some, nat_le, ◌==◌, ◌&&◌, if◌then◌else◌}
+-- The code that a command sets is one of its kind, of a character: its row has read both in their ranges. A parameter that is set by its place is one of the 55.
+use Rattle.std.proofs.Common.{◌≡◌, ℕ, ℤ, pos, negsuc, ◌≤◌, Bool, true, false, List, [], ◌∷◌, ◌++◌, refl, arith}
+use Rattle.std.specs.Prelude.{Option, Some, nat_le, nat_lt, ◌==◌, ◌&&◌, if◌then◌else◌}
 use Rattle.std.proofs.lemmas.Bool.Decides.{nat_tests}
 use Rattle.tex_defs.specs.declared.Token.{Token}
 use Rattle.tex_defs.specs.declared.Seen.{Seen}
@@ -10,9 +10,7 @@ use Rattle.plain_state.specs.Definitions as build
 use Rattle.plain_tokens.specs.Arguments as call
 use Rattle.equivalents.specs.declared.values.CodeKind.{CodeKind}
 use Rattle.equivalents.specs.declared.values.CodeKind.TheVariants as code
-use Rattle.equivalents.specs.declared.values.Loc.TheVariants as loc
-use Rattle.equivalents.specs.declared.values.Val.TheVariants as val
-use Rattle.equivalents.specs.Locations.{Suits, IsCategory}
+use Rattle.equivalents.specs.Locations.{IsCategory}
 use Rattle.rows.specs.declared.words.Datum.{Datum}
 use Rattle.rows.specs.declared.words.Datum.TheVariants as datum
 use Rattle.rows.specs.declared.words.Value.{Value}
@@ -34,7 +32,6 @@ use Rattle.rows.specs.declared.stage.Note.TheVariants as note
 use Rattle.rows.specs.declared.command.Action.{Action}
 use Rattle.rows.specs.declared.command.Action.TheVariants as action
 use Rattle.rows.specs.declared.command.Call.{Call}
-use Rattle.rows.specs.declared.command.Effect.TheVariants.{SetCode}
 use Rattle.rows.specs.declared.command.Row.{Row}
 use Rattle.rows.specs.declared.command.TheConstants.{SYNTAX}
 use Rattle.rows.specs.Effects.{comes_to}
@@ -48,15 +45,12 @@ use Rattle.plain_readings.specs.Calls.{call_ask, gathered}
 use Rattle.plain_readings.specs.Lists.{build_ask, text, definition}
 use Rattle.plain_readings.proofs.Steps.{integer_holds, spelling_holds}
 use Rattle.plain_machine.specs.Plan.{natural}
+use Rattle.stomach.specs.Effects.{IsSmall}
 
--- a code of this kind for a character
-abbrev IsCode : CodeKind → (char : ℤ) → ℤ → Type 0
-IsCode kind char z = (natural char ≤ 255) × Suits (loc.Code kind (natural char)) (val.Number z)
-
--- a code that is to be set is one of its kind, of a character
-abbrev pub SetsCode : Ask → Type 0
-SetsCode (Acts c (SetCode kind char z)) = IsCode kind char z
-SetsCode a = Unit {0}
+-- what a command is to do has a code of its kind, of a character, and a parameter one of the 55
+abbrev pub SetsSmall : Ask → Type 0
+SetsSmall (Acts c e) = IsSmall e
+SetsSmall a = Unit {0}
 
 -- STAGES
 
@@ -94,7 +88,7 @@ GotFits s (got.Tells report m) = NextFits s m
 GotFits s g = Unit {0}
 
 abbrev Fits : Stage → Outcome → Type 0
-Fits s (Asks a) = SetsCode a
+Fits s (Asks a) = SetsSmall a
 Fits s (Takes d fed) = IsRead s d
 Fits s (Passes fed) = MayPass s
 Fits s o = Unit {0}
@@ -146,7 +140,7 @@ value_fits : (s : Stage) → MayBegin s → (v : Value) → GotFits s (on_value 
 value_fits s h (value.Plain d) = datum_fits s h d
 value_fits s h value.List = list_fits s
 
-due_sets : (n : Note) → SetsCode (due n)
+due_sets : (n : Note) → SetsSmall (due n)
 due_sets (note.Tells report back) = tt
 due_sets (note.Inserts t report back) = tt
 
@@ -205,18 +199,14 @@ started_fits s c (Begins k) h fed = begins_fits s h k fed
 
 -- ROWS
 
--- behind these stages the two things that were read are a character and its code, where these things were
-abbrev ReadsCode : CodeKind → List Stage → List Datum → Type 0
-ReadsCode kind [] ds = IsCode kind (number 0 ds) (number 1 ds)
-ReadsCode kind (s ∷ ss) ds = ((d : Datum) → IsRead s d → ReadsCode kind ss (ds ++ d ∷ [])) × (MayPass s → ReadsCode kind ss ds)
+-- behind these stages the action has read what it may come to, where these things were
+abbrev ReadsSmall : Action → List Stage → List Datum → Type 0
+ReadsSmall a [] ds = IsSmall (comes_to a ds)
+ReadsSmall a (s ∷ ss) ds = ((d : Datum) → IsRead s d → ReadsSmall a ss (ds ++ d ∷ [])) × (MayPass s → ReadsSmall a ss ds)
 
-effect_sets : (c : Call) (a : Action) (ds : List Datum) → ((kind : CodeKind) → a ≡ action.SetCode kind → IsCode kind (number 0 ds) (number 1 ds)) → SetsCode (Acts c (comes_to a ds))
-effect_sets c (action.SetCode kind) ds h = h kind refl
-effect_sets c a ds h = tt
-
-module _ (turn : Call → List Fed → Ask) (turns : (c : Call) (fed : List Fed) → SetsCode (turn c fed)) where
-  behind_sets : (c : Call) (s : Stage) (ds : List Datum) (onward : List Datum → List Fed → Ask) → ((d : Datum) → IsRead s d → (fed : List Fed) → SetsCode (onward (ds ++ d ∷ []) fed)) → (MayPass s → (fed : List Fed) → SetsCode (onward ds fed)) →
-      (o : Outcome) → Fits s o → SetsCode (behind turn c ds onward o)
+module _ (turn : Call → List Fed → Ask) (turns : (c : Call) (fed : List Fed) → SetsSmall (turn c fed)) where
+  behind_sets : (c : Call) (s : Stage) (ds : List Datum) (onward : List Datum → List Fed → Ask) → ((d : Datum) → IsRead s d → (fed : List Fed) → SetsSmall (onward (ds ++ d ∷ []) fed)) → (MayPass s → (fed : List Fed) → SetsSmall (onward ds fed)) →
+      (o : Outcome) → Fits s o → SetsSmall (behind turn c ds onward o)
   behind_sets c s ds onward h i (Asks a) fits = fits
   behind_sets c s ds onward h i (Takes d fed) fits = h d fits fed
   behind_sets c s ds onward h i (Passes fed) fits = i fits fed
@@ -224,10 +214,10 @@ module _ (turn : Call → List Fed → Ask) (turns : (c : Call) (fed : List Fed)
   behind_sets c s ds onward h i (Makes ts) fits = tt
   behind_sets c s ds onward h i (Turns d fed) fits = turns d fed
 
-  run_sets : (c : Call) (ss : List Stage) (ds : List Datum) → ((kind : CodeKind) → action_of c.primitive ≡ action.SetCode kind → ReadsCode kind ss ds) → (fed : List Fed) → SetsCode (run turn c ss ds fed)
-  run_sets c [] ds h fed = effect_sets c (action_of c.primitive) ds h
+  run_sets : (c : Call) (ss : List Stage) (ds : List Datum) → ReadsSmall (action_of c.primitive) ss ds → (fed : List Fed) → SetsSmall (run turn c ss ds fed)
+  run_sets c [] ds h fed = h
   run_sets c (s ∷ ss) ds h fed =
-      behind_sets c s ds (λ es more. run turn c ss es more) (λ d read more. run_sets c ss (ds ++ d ∷ []) (λ kind e. (h kind e).0 d read) more) (λ pass more. run_sets c ss ds (λ kind e. (h kind e).1 pass) more)
+      behind_sets c s ds (λ es more. run turn c ss es more) (λ d read more. run_sets c ss (ds ++ d ∷ []) (h.0 d read) more) (λ pass more. run_sets c ss ds (h.1 pass) more)
       (started s c (start s c ds) fed) (started_fits s c (start s c ds) (start_fits s c ds) fed)
 
 -- THE TABLE, of which each row is tried
@@ -240,6 +230,7 @@ is_code_row kind ss = false
 
 abbrev reads_if_set : Action → List Stage → Bool
 reads_if_set (action.SetCode kind) ss = is_code_row kind ss
+reads_if_set (action.SetInteger i) ss = nat_lt i 55
 reads_if_set a ss = true
 
 abbrev all_read : List (ℕ × Row × Action) → Bool
@@ -257,21 +248,24 @@ category : (greatest : ℕ) (n : ℤ) → is_at_most greatest n ≡ true → nat
 category greatest (pos n) h i = grind (arith, nat_tests, h, i)
 category greatest (negsuc n) h i = absurd cc
 
-row_reads : (kind : CodeKind) (ss : List Stage) → is_code_row kind ss ≡ true → ReadsCode kind ss []
-row_reads code.Category (NumberTo m first ∷ Equals ∷ NumberTo n second ∷ []) h =
+code_reads : (kind : CodeKind) (ss : List Stage) → is_code_row kind ss ≡ true → ReadsSmall (action.SetCode kind) ss []
+code_reads code.Category (NumberTo m first ∷ Equals ∷ NumberTo n second ∷ []) h =
     let code : nat_le m 255 ≡ true = grind (arith, nat_tests, h) in let least : nat_le n 15 ≡ true = grind (arith, nat_tests, h) in
     (λ a in_a. (λ b no. absurd no, λ pass. (λ d in_d. (most m 255 (number_in a) in_a code, category n (number_in d) in_d least), λ no. absurd no)), λ no. absurd no)
-row_reads code.Category ss h = absurd cc
-row_reads kind (NumberTo m first ∷ Equals ∷ s ∷ []) h =
+code_reads code.Category ss h = absurd cc
+code_reads kind (NumberTo m first ∷ Equals ∷ s ∷ []) h =
     (λ a in_a. (λ b no. absurd no, λ pass. (λ d in_d. (most m 255 (number_in a) in_a h, tt), λ passes. (most m 255 (number_in a) in_a h, tt))), λ no. absurd no)
-row_reads kind ss h = absurd cc
+code_reads kind ss h = absurd cc
 
-kind_same : (j k : CodeKind) → action.SetCode j ≡ action.SetCode k → j ≡ k
-kind_same j k e = cc
+-- whatever is read
+any_reads : (a : Action) → ((ds : List Datum) → IsSmall (comes_to a ds)) → (ss : List Stage) (ds : List Datum) → ReadsSmall a ss ds
+any_reads a h [] ds = h ds
+any_reads a h (s ∷ ss) ds = (λ d read. any_reads a h ss (ds ++ d ∷ []), λ pass. any_reads a h ss ds)
 
-set_reads : (a : Action) (ss : List Stage) → reads_if_set a ss ≡ true → (kind : CodeKind) → a ≡ action.SetCode kind → ReadsCode kind ss []
-set_reads (action.SetCode k) ss h kind e = subst (λ (j : CodeKind). ReadsCode j ss []) (kind_same k kind e) (row_reads k ss h)
-set_reads a ss h kind e = absurd cc
+row_reads : (a : Action) (ss : List Stage) → reads_if_set a ss ≡ true → ReadsSmall a ss []
+row_reads (action.SetCode kind) ss h = code_reads kind ss h
+row_reads (action.SetInteger i) ss h = any_reads (action.SetInteger i) (λ ds. grind (arith, nat_tests, h)) ss []
+row_reads a ss h = any_reads a (λ ds. tt) ss []
 
 abbrev found_reads : Option (Row × Action) → Bool
 found_reads o = reads_if_set (row_or_token o).1 (stages_in (row_or_token o).0)
@@ -284,21 +278,21 @@ among_reads : (n : ℕ) (rows : List (ℕ × Row × Action)) → all_read rows �
 among_reads n [] h = refl
 among_reads n (first ∷ rows) h = found_if (first.0 == n) (all_read rows) (first.1, first.2) (row_among n rows) h (among_reads n rows)
 
-reads_code : (n : ℕ) (kind : CodeKind) → action_of n ≡ action.SetCode kind → ReadsCode kind (stages_of n) []
-reads_code n = set_reads (action_of n) (stages_of n) (among_reads n SYNTAX.now table_reads)
+reads_small : (n : ℕ) → ReadsSmall (action_of n) (stages_of n) []
+reads_small n = row_reads (action_of n) (stages_of n) (among_reads n SYNTAX.now table_reads)
 
-row_sets : (c : Call) (fed : List Fed) → SetsCode (row c fed)
+row_sets : (c : Call) (fed : List Fed) → SetsSmall (row c fed)
 row_sets c fed =
-    run_sets turned (λ d more. run_sets no_turn (λ e rest. tt) d (stages_of d.primitive) [] (reads_code d.primitive) more) c (stages_of c.primitive) [] (reads_code c.primitive) fed
+    run_sets turned (λ d more. run_sets no_turn (λ e rest. tt) d (stages_of d.primitive) [] (reads_small d.primitive) more) c (stages_of c.primitive) [] (reads_small c.primitive) fed
 
 -- ALL READINGS
 
-build_sets : (a : build.Answer) → SetsCode (build_ask a)
+build_sets : (a : build.Answer) → SetsSmall (build_ask a)
 build_sets (build.More want list) = tt
 build_sets (build.Tells report back list) = tt
 build_sets (build.Done list) = tt
 
-call_sets : (name : Name) (a : call.Answer) → SetsCode (call_ask name a)
+call_sets : (name : Name) (a : call.Answer) → SetsSmall (call_ask name a)
 call_sets name (call.More args work) = tt
 call_sets name (call.ExtraBraceFound args work) = tt
 call_sets name (call.Called args) = tt
@@ -306,12 +300,12 @@ call_sets name call.Mismatch = tt
 call_sets name (call.Ended false args work) = tt
 call_sets name (call.Ended true args work) = tt
 
-pub sets_code : (k : Kind) (fed : List Fed) → SetsCode (ask k fed)
-sets_code (Reads (Command c)) fed = row_sets c fed
-sets_code (Reads Integer) fed = integer_holds (λ b a. SetsCode a) (λ b want. tt) (λ report back. tt) (λ b n back. tt) false false fed
-sets_code (Reads (Text name expanded)) fed = build_sets (text name expanded fed)
-sets_code (Reads (Definition name expanded)) fed = build_sets (definition name expanded fed)
-sets_code (Spelling c) fed = spelling_holds (λ b a. SetsCode a) (λ b want. tt) (λ report back. tt) (λ b. tt) (λ b c ts. tt) c [] false fed
-sets_code (Behind c x) fed = tt
-sets_code (Arguments name long number ts) [] = tt
-sets_code (Arguments name long number ts) (y ∷ fed) = call_sets name (gathered long ts (y ∷ fed))
+pub sets_small : (k : Kind) (fed : List Fed) → SetsSmall (ask k fed)
+sets_small (Reads (Command c)) fed = row_sets c fed
+sets_small (Reads Integer) fed = integer_holds (λ b a. SetsSmall a) (λ b want. tt) (λ report back. tt) (λ b n back. tt) false false fed
+sets_small (Reads (Text name expanded)) fed = build_sets (text name expanded fed)
+sets_small (Reads (Definition name expanded)) fed = build_sets (definition name expanded fed)
+sets_small (Spelling c) fed = spelling_holds (λ b a. SetsSmall a) (λ b want. tt) (λ report back. tt) (λ b. tt) (λ b c ts. tt) c [] false fed
+sets_small (Behind c x) fed = tt
+sets_small (Arguments name long number ts) [] = tt
+sets_small (Arguments name long number ts) (y ∷ fed) = call_sets name (gathered long ts (y ∷ fed))

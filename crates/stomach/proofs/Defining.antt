@@ -2,7 +2,7 @@
 use Rattle.std.proofs.Common.{◌≡◌, ℕ, zero, suc, ◌<◌, Bool, true, false, List, [], ◌∷◌, ◌++◌, length, drop, replicate, Option, Some, None, refl, sym, ap, ◌∙◌, subst, arith}
 use Rattle.std.specs.Prelude.{◌≢◌, slice_index_or}
 use Rattle.std.proofs.lemmas.Bool.{or_parts, true≢false}
-use Rattle.std.proofs.lemmas.List.{length-append, get_or_append_left, length-replicate}
+use Rattle.std.proofs.lemmas.List.{append-nil, length-append, get_or_append_left, length-replicate}
 use Rattle.tex_defs.specs.Places.{World}
 use Rattle.tex_defs.specs.declared.Full.{Full}
 use Rattle.tex_defs.specs.declared.Meaning.{Meaning}
@@ -17,7 +17,6 @@ use Rattle.plain_tokens.specs.Tables.{is_put, refused}
 use Rattle.equivalents.specs.Groups.{Groups, set_name, name_demands}
 use Rattle.equivalents.specs.Holding.{lists_held}
 use Rattle.rows.specs.declared.command.Call.{Call}
-use Rattle.rows.specs.Readings.{Defines as DefinesAsk}
 use Rattle.plain_readings.specs.Readings.{Reading}
 use Rattle.reading_frames.specs.Sees.{top_list, kept_list_of}
 use Rattle.reading_frames.specs.Stack.{Stack, innermost_count, lists_beneath}
@@ -26,7 +25,8 @@ use Rattle.reading_frames.specs.Stands.{AreShallow}
 use Rattle.plain_machine.specs.States.{State, Move, Closed, Defined, made, beneath}
 use Rattle.plain_machine.specs.Does.{Did}
 use Rattle.plain_machine.specs.Numbers.{IsHeld, Tied, renumbered, groups_of, puts_of}
-use Rattle.plain_machine.specs.Plan.{Page, is_global, macro_defined}
+use Rattle.plain_machine.specs.Plan.{Page, is_global, macro_defined, behind_assignment}
+use Rattle.plain_machine.specs.Runs.{steps}
 use Rattle.plain_machine.proofs.Doing.{did_one}
 use Rattle.plain_machine.proofs.GroupNumbers.{name_demands_of}
 use Rattle.plain_machine.proofs.Holders.{defined_free}
@@ -35,22 +35,23 @@ use Rattle.meanings.specs.Kept.{IsPlaced}
 use Rattle.input_state.specs.Calls.{Defines}
 use Rattle.input_state.specs.HeldLists as held
 use Rattle.input_state.specs.Stored.{Stored, KeepsMacros, gathered}
+use Rattle.engine_state.specs.declared.broken.Broken.{Broken}
 use Rattle.engine_state.specs.declared.broken.Broken.TheVariants as broken
 use Rattle.engine_state.specs.declared.engine.Engine.{Engine}
 use Rattle.engine_state.specs.Book.{Book, AreBodies, with_work}
 use Rattle.engine_state.specs.CutReadings.{CutsIn}
-use Rattle.engine_state.specs.Rules.{Went}
-use Rattle.engine_state.specs.Stands.{Stands, page_of, state_of}
-use Rattle.engine_state.specs.Steps.{asked}
-use Rattle.engine_state.proofs.Uncalled.{all_of}
+use Rattle.engine_state.specs.Rules.{Cuts, Went}
+use Rattle.engine_state.specs.Stands.{Stands, Counts, SameFrames, SameOthers, SameStore, page_of, state_of}
+use Rattle.engine_state.proofs.Uncalled.{all_of, framed}
+use Rattle.engine_state.proofs.CallKept.{all_still}
+use Rattle.engine_state.proofs.Counting.{counts_of}
 use Rattle.engine_state.proofs.FramesHeld.{gathered_is, held_beneath, stands_gathered}
-use Rattle.engine_state.proofs.CuttingReadings.{in_by, stands_in}
-use Rattle.engine_state.proofs.Joining.{quiet_here, went_by}
-use Rattle.engine_state.proofs.Storing.{inside_by, body_at}
-use Rattle.stomach.specs.Sets.{MayDefine, with_macro}
+use Rattle.engine_state.proofs.CuttingReadings.{in_by, first_in, later_in, stands_in}
+use Rattle.engine_state.proofs.Joining.{quiet_here, went_by, went_on}
+use Rattle.engine_state.proofs.Storing.{inside_by, body_at, sound_still}
+use Rattle.stomach.specs.Sets.{with_macro}
 use Rattle.stomach.proofs.Assigning.{lost_name, lost_refused, named_length}
-use Rattle.stomach.proofs.FrameAsks.{innermost_own}
-use Rattle.stomach.proofs.Regrouped.{asks_same, unchanged_cuts}
+use Rattle.engine_state.proofs.Grouping.{asks_same, unchanged_cuts}
 
 abbrev Cell : Type 0
 Cell = Meaning (Option ℕ)
@@ -61,18 +62,10 @@ first_is : (lists : List (List Token)) → held.first_list lists ≡ top_list li
 first_is [] = refl
 first_is (ts ∷ lists) = refl
 
--- a list that is kept is the one on top
-kept_top : (listed : Bool) (lists : List (List Token)) → listed ≡ true → kept_list_of listed lists ≡ top_list lists
-kept_top true lists is = refl
-kept_top false lists is = cc
-
-kept_none : (listed : Bool) (lists : List (List Token)) → listed ≡ false → kept_list_of listed lists ≡ []
-kept_none false lists is = refl
-kept_none true lists is = cc
-
-kept_some : (listed : Bool) (lists : List (List Token)) → kept_list_of listed lists ≢ [] → (lists ≢ []) × (top_list lists ≢ [])
-kept_some true lists some = (λ none. some (ap top_list none), some)
-kept_some false lists some = absurd (some refl)
+-- a list with a token is the one on top
+pub kept_top : (listed : Bool) (lists : List (List Token)) → kept_list_of listed lists ≢ [] → kept_list_of listed lists ≡ top_list lists
+kept_top true lists some = refl
+kept_top false lists some = absurd (some refl)
 
 -- no list behind others changes what stands where
 nothing_more : (lists : List (List Token)) (n k : ℕ) → slice_index_or (lists ++ replicate n []) k [] ≡ slice_index_or lists k []
@@ -115,26 +108,22 @@ module _ (sizes : Sizes) (e e' : Engine) (book : Book) (w : World) (r : Reading)
   abbrev at : Book
   at = with_work (r ∷ rs) book
 
-  -- the moves that define it
-  abbrev defines : List Token → List Move
-  defines ts = macro_defined (page_of e book) c name ts
-
   -- without a token
-  none_went : Went sizes (state_of e at) e' w w (defines []) 0
-  none_went = record {
+  pub none_went : (ts : List Token) → ts ≡ [] → Went sizes (state_of e at) e' w w (macro_defined (page_of e book) c name ts) 0
+  none_went ts none = subst (λ (us : List Token). Went sizes (state_of e at) e' w w (macro_defined (page_of e book) c name us) 0) (sym none) (record {
     book' = with_work rs book;
     stands = all_of sizes e' (with_work rs book) stands;
     did = did_one sizes Closed (state_of e at) (state_of e' (with_work rs book)) w w refl state (quiet_here Closed w tt);
     count = refl;
-  }
+  })
 
   -- and the list of a name without a location is that of a macro that no name means
-  module _ (t : Token) (ts : List Token) (lost : IsPlaced (location name) (length e.input.groups.now.meanings) → ⊥) (same : e'.input.groups ≡ e.input.groups) where
+  module _ (ts : List Token) (some : ts ≢ []) (lost : IsPlaced (location name) (length e.input.groups.now.meanings) → ⊥) (same : e'.input.groups ≡ e.input.groups) where
     abbrev globally : Bool
     globally = is_global (page_of e book) c
 
     abbrev more : Book
-    more = with_macro book.number (t ∷ ts) at
+    more = with_macro book.number ts at
 
     abbrev meant : Cell
     meant = means.Macro c.long c.outer (Some (length book.macros))
@@ -146,47 +135,29 @@ module _ (sizes : Sizes) (e e' : Engine) (book : Book) (w : World) (r : Reading)
     lost_stands = record {
       sound = record {
         sized = stands.sound.sized;
-        tied = tied_more book.number book.macros (t ∷ ts) (lists_held e'.input.groups) e'.input.pending.puts e'.input.lists stands.sound.tied;
-        bodies = bodies_more book.macros (t ∷ ts) stands.sound.bodies (λ none. cc);
+        tied = tied_more book.number book.macros ts (lists_held e'.input.groups) e'.input.pending.puts e'.input.lists stands.sound.tied;
+        bodies = bodies_more book.macros ts stands.sound.bodies some;
       };
       idle = stands.idle;
       readings = stands.readings;
       uncalled = stands.uncalled;
     }
 
-    lost_state : made (Defined globally name c.long c.outer (t ∷ ts)) (state_of e at) ≡ state_of e' more
+    lost_state : made (Defined globally name c.long c.outer ts) (state_of e at) ≡ state_of e' more
     lost_state =
-        ap (λ (s : State). record s { groups = set_name globally s.groups name (means.Macro c.long c.outer (Some (length s.macros))); macros = s.macros ++ (t ∷ ts) ∷ [] }) state
+        ap (λ (s : State). record s { groups = set_name globally s.groups name (means.Macro c.long c.outer (Some (length s.macros))); macros = s.macros ++ ts ∷ [] }) state
         ∙ ap (λ (g : Groups). record (state_of e' more) { groups = g }) (lost_name book.number e'.input.groups name lost_there globally meant)
 
-    lost_went : Went sizes (state_of e at) e' w w (defines (t ∷ ts)) 0
+    pub lost_went : Went sizes (state_of e at) e' w w (Defined globally name c.long c.outer ts ∷ []) 0
     lost_went = record {
       book' = more;
       stands = all_of sizes e' more lost_stands;
-      did = did_one sizes (Defined globally name c.long c.outer (t ∷ ts)) (state_of e at) (state_of e' more) w w (lost_refused book.number e.input.groups name lost sizes globally) lost_state
-          (quiet_here (Defined globally name c.long c.outer (t ∷ ts)) w tt);
+      did = did_one sizes (Defined globally name c.long c.outer ts) (state_of e at) (state_of e' more) w w (lost_refused book.number e.input.groups name lost sizes globally) lost_state
+          (quiet_here (Defined globally name c.long c.outer ts) w tt);
       count = refl;
     }
 
-  kept_went : (ts : List Token) → (ts ≢ [] → IsPlaced (location name) (length e.input.groups.now.meanings) → ⊥) → e'.input.groups ≡ e.input.groups → Went sizes (state_of e at) e' w w (defines ts) 0
-  kept_went [] lost same = none_went
-  kept_went (t ∷ ts) lost same = lost_went t ts (lost (λ none. cc)) same
-
-  -- a list that isn't listed
-  pub unlisted_went : (listed : Bool) → listed ≡ false → Went sizes (state_of e at) e' w w (macro_defined (page_of e book) c name (kept_list_of listed e.input.builds)) 0
-  unlisted_went listed is = subst (λ (ts : List Token). Went sizes (state_of e at) e' w w (defines ts) 0) (sym (kept_none listed e.input.builds is)) none_went
-
-  -- or that can't become a macro's
-  pub refused_went : (listed : Bool) → (MayDefine e name → ⊥) → e'.input.groups ≡ e.input.groups → Went sizes (state_of e at) e' w w (macro_defined (page_of e book) c name (kept_list_of listed e.input.builds)) 0
-  refused_went listed never same = kept_went (kept_list_of listed e.input.builds)
-      (λ some placed. let so = kept_some listed e.input.builds some in never (record { list = so.0; some = so.1; placed = placed })) same
-
 -- THE READING ENDS, and its list passes to the macro
-
--- a list with a token is a macro's
-moves_are : (page : Page) (c : Call) (name : Name) (global : Bool) (ts : List Token) → global ≡ is_global page c → ts ≢ [] → macro_defined page c name ts ≡ Defined global name c.long c.outer ts ∷ []
-moves_are page c name global [] is some = absurd (some refl)
-moves_are page c name global (t ∷ ts) is some = ap (λ (b : Bool). Defined b name c.long c.outer (t ∷ ts) ∷ []) (sym is)
 
 module _ (sizes : Sizes) (e : Engine) (book : Book) (w : World) (r : Reading) (rs : List Reading) (c : Call) (name : Name) (global : Bool) (is_so : global ≡ is_global (page_of e book) c) (ts : List Token) (some : ts ≢ []) (top : top_list e.input.builds ≡ ts)
     (stack : Stack) (size : stack.size ≡ e.readings.size) (own : innermost_count e.readings.frames ≡ 1)
@@ -194,6 +165,9 @@ module _ (sizes : Sizes) (e : Engine) (book : Book) (w : World) (r : Reading) (r
     (shallow : (lists : List (List Token)) → AreShallow e.readings.frames lists → AreShallow stack.frames (lists_beneath e.readings.frames lists)) (st : Stands sizes e (with_work (r ∷ rs) book)) where
   abbrev here : Book
   here = with_work (r ∷ rs) book
+
+  abbrev passes : List Move
+  passes = Defined (is_global (page_of e book) c) name c.long c.outer ts ∷ []
 
   abbrev after : Groups → List (List Token) → Engine
   after g lists = record e { readings = stack; input = record e.input { builds = drop 1 e.input.builds; groups = g; lists = lists } }
@@ -252,15 +226,15 @@ module _ (sizes : Sizes) (e : Engine) (book : Book) (w : World) (r : Reading) (r
 
     macro_did : Did sizes (state_of e here) (state_of then next) w w (Defined global name c.long c.outer ts ∷ [])
     macro_did = did_one sizes (Defined global name c.long c.outer ts) (state_of e here) (state_of then next) w w
-        (asks_same sizes e here None st _ _ (name_demands_of book.number global e.input.groups name) fits) macro_state (quiet_here (Defined global name c.long c.outer ts) w tt)
+        (asks_same sizes e here None st.sound _ _ (name_demands_of book.number global e.input.groups name) fits) macro_state (quiet_here (Defined global name c.long c.outer ts) w tt)
 
-    macro_went : Went sizes (state_of e here) then w w (macro_defined (page_of e book) c name ts) 0
-    macro_went = went_by sizes (state_of e here) then w w (Defined global name c.long c.outer ts ∷ []) (macro_defined (page_of e book) c name ts) 0 (moves_are (page_of e book) c name global ts is_so some)
+    macro_went : Went sizes (state_of e here) then w w passes 0
+    macro_went = went_by sizes (state_of e here) then w w (Defined global name c.long c.outer ts ∷ []) passes 0 (ap (λ (b : Bool). Defined b name c.long c.outer ts ∷ []) (sym is_so))
         (record { book' = next; stands = all_of sizes then next macro_stands; did = macro_did; count = refl })
 
   -- the name means it
   placed_went : (g : Groups) (lists : List (List Token)) → Defines global e.input.groups g e.input.pending.puts e.input.lists lists ts name c.long c.outer → KeepsMacros e.input (after g lists).input →
-      refused e.input.sizes (name_demands global e.input.groups name) ≡ None → Went sizes (state_of e here) (after g lists) w w (macro_defined (page_of e book) c name ts) 0
+      refused e.input.sizes (name_demands global e.input.groups name) ≡ None → Went sizes (state_of e here) (after g lists) w w passes 0
   placed_went g lists d kept fits =
       let puts = e.input.pending.puts in
       let old = e.input.groups in
@@ -287,38 +261,87 @@ module _ (sizes : Sizes) (e : Engine) (book : Book) (w : World) (r : Reading) (r
   -- by what the input says
   input_went : (i : Stored) → i ≡ record e.input { builds = drop 1 e.input.builds; groups = i.groups; lists = i.lists } →
       Defines global e.input.groups i.groups e.input.pending.puts e.input.lists i.lists (held.first_list e.input.builds) name c.long c.outer → KeepsMacros e.input i →
-      refused e.input.sizes (name_demands global e.input.groups name) ≡ None → Went sizes (state_of e here) (record e { readings = stack; input = i }) w w (macro_defined (page_of e book) c name ts) 0
+      refused e.input.sizes (name_demands global e.input.groups name) ≡ None → Went sizes (state_of e here) (record e { readings = stack; input = i }) w w passes 0
   input_went i is d kept fits =
       let of_top : Defines global e.input.groups i.groups e.input.pending.puts e.input.lists i.lists ts name c.long c.outer =
       subst (λ (us : List Token). Defines global e.input.groups i.groups e.input.pending.puts e.input.lists i.lists us name c.long c.outer) (first_is e.input.builds ∙ top) d in
-      subst (λ (x : Stored). Went sizes (state_of e here) (record e { readings = stack; input = x }) w w (macro_defined (page_of e book) c name ts) 0) (sym is) (placed_went i.groups i.lists of_top (subst (KeepsMacros e.input) is kept) fits)
+      subst (λ (x : Stored). Went sizes (state_of e here) (record e { readings = stack; input = x }) w w passes 0) (sym is) (placed_went i.groups i.lists of_top (subst (KeepsMacros e.input) is kept) fits)
 
--- the list that is listed is that of what asks
-some_listed : (e : Engine) (name : Name) (listed : Bool) → listed ≡ true → MayDefine e name → kept_list_of listed e.input.builds ≢ []
-some_listed e name listed is may none = may.some (sym (kept_top listed e.input.builds is) ∙ none)
-
-pub listed_went : (sizes : Sizes) (e : Engine) (book : Book) (w : World) (r : Reading) (rs : List Reading) (c : Call) (name : Name) (global listed : Bool) (stack : Stack) (i : Stored) → global ≡ is_global (page_of e book) c → listed ≡ true → MayDefine e name →
+-- the list on top
+pub passed_went : (sizes : Sizes) (e : Engine) (book : Book) (w : World) (r : Reading) (rs : List Reading) (c : Call) (name : Name) (global : Bool) (stack : Stack) (i : Stored) → global ≡ is_global (page_of e book) c → top_list e.input.builds ≢ [] →
     stack ≡ record { frames = drop 1 e.readings.frames; size = e.readings.size } →
     ((lists : List (List Token)) (work : List Reading) → frames.FramesStand e.readings.frames lists work → frames.FramesStand stack.frames (lists_beneath e.readings.frames lists) (drop 1 work)) →
     ((lists : List (List Token)) → AreShallow e.readings.frames lists → AreShallow stack.frames (lists_beneath e.readings.frames lists)) →
     i ≡ record e.input { builds = drop 1 e.input.builds; groups = i.groups; lists = i.lists } → Defines global e.input.groups i.groups e.input.pending.puts e.input.lists i.lists (held.first_list e.input.builds) name c.long c.outer → KeepsMacros e.input i →
     refused e.input.sizes (name_demands global e.input.groups name) ≡ None →
-    Stands sizes e (with_work (r ∷ rs) book) → asked e ≡ Some (DefinesAsk c name (kept_list_of listed e.input.builds)) →
-    Went sizes (state_of e (with_work (r ∷ rs) book)) (record e { readings = stack; input = i }) w w (macro_defined (page_of e book) c name (kept_list_of listed e.input.builds)) 0
-listed_went sizes e book w r rs c name global listed stack i is_so is may rest stand shallow after defines kept fits st asks =
-    let ts = kept_list_of listed e.input.builds in
-    let some : ts ≢ [] = some_listed e name listed is may in
-    input_went sizes e book w r rs c name global is_so ts some (sym (kept_top listed e.input.builds is)) stack (ap (λ (s : Stack). s.size) rest) (innermost_own e.readings.frames e.input.builds c name ts asks some) stand shallow st i after defines kept fits
+    Stands sizes e (with_work (r ∷ rs) book) → innermost_count e.readings.frames ≡ 1 →
+    Went sizes (state_of e (with_work (r ∷ rs) book)) (record e { readings = stack; input = i }) w w (Defined (is_global (page_of e book) c) name c.long c.outer (top_list e.input.builds) ∷ []) 0
+passed_went sizes e book w r rs c name global stack i is_so some rest stand shallow after defines kept fits st own =
+    input_went sizes e book w r rs c name global is_so (top_list e.input.builds) some refl stack (ap (λ (s : Stack). s.size) rest) own stand shallow st i after defines kept fits
 
 -- THE SAVE STACK IS FULL: nothing has changed
-pub defined_cut : (sizes : Sizes) (e : Engine) (book : Book) (w : World) (r : Reading) (rs : List Reading) (c : Call) (name : Name) (global listed : Bool) (i : Stored) (full : Full) → global ≡ is_global (page_of e book) c → listed ≡ true → MayDefine e name → i ≡ e.input →
+pub defined_cut : (sizes : Sizes) (e : Engine) (book : Book) (w : World) (r : Reading) (rs : List Reading) (c : Call) (name : Name) (global : Bool) (i : Stored) (full : Full) → global ≡ is_global (page_of e book) c → i ≡ e.input →
     refused e.input.sizes (name_demands global e.input.groups name) ≡ Some full → Stands sizes e (with_work (r ∷ rs) book) →
-    CutsIn sizes (state_of e (with_work (r ∷ rs) book)) (record e { input = i }) w w (macro_defined (page_of e book) c name (kept_list_of listed e.input.builds)) (broken.Full full)
-defined_cut sizes e book w r rs c name global listed i full is_so is may same refuses st =
+    CutsIn sizes (state_of e (with_work (r ∷ rs) book)) (record e { input = i }) w w (Defined (is_global (page_of e book) c) name c.long c.outer (top_list e.input.builds) ∷ []) (broken.Full full)
+defined_cut sizes e book w r rs c name global i full is_so same refuses st =
     let here = with_work (r ∷ rs) book in
-    let ts = kept_list_of listed e.input.builds in
+    let ts = top_list e.input.builds in
     let move : Move = Defined global name c.long c.outer ts in
-    in_by sizes (state_of e here) (record e { input = i }) w w (move ∷ []) (macro_defined (page_of e book) c name ts) (broken.Full full) (moves_are (page_of e book) c name global ts is_so (some_listed e name listed is may))
+    in_by sizes (state_of e here) (record e { input = i }) w w (move ∷ []) (Defined (is_global (page_of e book) c) name c.long c.outer ts ∷ []) (broken.Full full) (ap (λ (b : Bool). Defined b name c.long c.outer ts ∷ []) (sym is_so))
     (stands_in sizes e (record e { input = i }) here w w (move ∷ []) (broken.Full full)
-    (unchanged_cuts sizes e i here w move [] full same (asks_same sizes e here (Some full) st _ _ (name_demands_of book.number global e.input.groups name) refuses))
+    (unchanged_cuts sizes e i here w move [] full same (asks_same sizes e here (Some full) st.sound _ _ (name_demands_of book.number global e.input.groups name) refuses))
     (record { readings = refl; lists = ap (λ (x : Stored). x.builds) same; call = refl; calling = ap (λ (x : Stored). x.call) same }) st)
+
+-- BEHIND IT comes the token that `\afterassignment` kept
+
+-- a list with a token becomes a macro's
+defines_are : (page : Page) (c : Call) (name : Name) (ts us : List Token) → us ≡ ts → ts ≢ [] → macro_defined page c name us ≡ Defined (is_global page c) name c.long c.outer ts ∷ behind_assignment page.after
+defines_are page c name ts [] is some = absurd (some (sym is))
+defines_are page c name ts (t ∷ us) is some = ap (λ (x : List Token). Defined (is_global page c) name c.long c.outer x ∷ behind_assignment page.after) is
+
+-- no step
+behind_silent : (o : Option Token) → steps (behind_assignment o) ≡ 0
+behind_silent None = refl
+behind_silent (Some t) = refl
+
+module _ (sizes : Sizes) (e e1 e2 : Engine) (book : Book) (w : World) (r : Reading) (rs : List Reading) (c : Call) (name : Name) (us : List Token) (is : us ≡ top_list e.input.builds) (some : us ≢ []) where
+  abbrev start : State
+  start = state_of e (with_work (r ∷ rs) book)
+
+  abbrev defines : List Move
+  defines = macro_defined (page_of e book) c name us
+
+  abbrev definition : Move
+  definition = Defined (is_global (page_of e book) c) name c.long c.outer (top_list e.input.builds)
+
+  defines_is : defines ≡ definition ∷ behind_assignment e.after
+  defines_is = defines_are (page_of e book) c name (top_list e.input.builds) us is (λ none. some (is ∙ none))
+
+  -- it isn't one
+  pub unpassed_in : (b : Broken) → CutsIn sizes start e1 w w (definition ∷ []) b → CutsIn sizes start e1 w w defines b
+  unpassed_in b cuts = in_by sizes start e1 w w (definition ∷ behind_assignment e.after) defines b defines_is (first_in sizes start e1 w w (definition ∷ []) (behind_assignment e.after) b cuts)
+
+  module _ (none : e1.call ≡ None) (after : e1.after ≡ e.after) (same : SameFrames e1 e2) (went : Went sizes start e1 w w (definition ∷ []) 0) where
+    passed : Stands sizes e1 went.book'
+    passed = framed sizes e1 went.book' none went.stands
+
+    -- the token has no room
+    pub unput_in : (b : Broken) → ((sizes : Sizes) (w : World) (at : Book) (more : List Move) → Counts sizes e1 at → Cuts sizes (state_of e1 at) e2 at w w (behind_assignment e1.after ++ more) b) → CutsIn sizes start e2 w w defines b
+    unput_in b cuts =
+        let moves : behind_assignment e1.after ++ [] ≡ behind_assignment e.after = append-nil (behind_assignment e1.after) ∙ ap behind_assignment after in
+        in_by sizes start e2 w w (definition ∷ behind_assignment e.after) defines b defines_is
+        (later_in sizes start (state_of e1 went.book') e2 w w w (definition ∷ []) (behind_assignment e.after) b went.did
+        (in_by sizes (state_of e1 went.book') e2 w w (behind_assignment e1.after ++ []) (behind_assignment e.after) b (sym moves)
+        (stands_in sizes e1 e2 went.book' w w (behind_assignment e1.after ++ []) b (cuts sizes w went.book' [] (counts_of sizes e1 went.book' passed)) same passed)))
+
+    -- it is put
+    pub behind_went : SameOthers (record e1 { after = None }) e2 → SameStore e1.input e2.input → e2.input.making ≡ None →
+        ((sizes : Sizes) (w : World) (at : Book) → Counts sizes e1 at → Did sizes (state_of e1 at) (state_of e2 at) w w (behind_assignment e1.after)) → Went sizes start e2 w w defines 0
+    behind_went others store idle did =
+        went_by sizes start e2 w w (definition ∷ behind_assignment e.after) defines 0 defines_is
+        (went_on sizes start (state_of e1 went.book') e2 w w w (definition ∷ []) (behind_assignment e.after) 0 0 went.did refl (record {
+          book' = went.book';
+          stands = all_still sizes e1 e2 went.book' same store (sound_still sizes e1 e2 went.book'.number went.book'.macros others.sizes others.depth others.names others.reports store passed.sound) idle went.stands;
+          did = subst (λ (o : Option Token). Did sizes (state_of e1 went.book') (state_of e2 went.book') w w (behind_assignment o)) after (did sizes w went.book' (counts_of sizes e1 went.book' passed));
+          count = behind_silent e.after;
+        }))

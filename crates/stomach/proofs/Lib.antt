@@ -1,3 +1,4 @@
+pub mod GroupsMet
 pub mod Handing
 pub mod TokensObeyed
 pub mod Regrouped

@@ -6,7 +6,7 @@ use Rattle.tex_syntax.specs.declared.words.Report.{Report}
 use Rattle.tex_defs.specs.declared.Sizes.{Sizes}
 use Rattle.tex_defs.specs.declared.Token.{Token}
 use Rattle.tex_defs.specs.Places.{World, Transcript}
-use Rattle.plain_state.specs.Reports.{plain_style, report_bytes}
+use Rattle.plain_state.specs.Reports.{report_bytes}
 use Rattle.plain_readings.specs.Readings.{Reading}
 use Rattle.reading_frames.specs.Stack.{Stack, asks_in}
 use Rattle.reading_frames.specs.Weights.{innermost_weight, IsReported}
@@ -21,7 +21,7 @@ use Rattle.engine_state.specs.Book.{Book, with_work}
 use Rattle.engine_state.specs.Calls.{FramesOf}
 use Rattle.engine_state.specs.CutReadings.{CutsIn}
 use Rattle.engine_state.specs.Rules.{world_of, Halts, Reports}
-use Rattle.engine_state.specs.Stands.{Stands, SameFrames, state_of, page_of}
+use Rattle.engine_state.specs.Stands.{Stands, SameFrames, state_of, page_of, own_style}
 use Rattle.engine_state.specs.Steps.{weight, pending_weight}
 use Rattle.engine_state.proofs.CallKept.{frames_kept}
 use Rattle.gullet.proofs.CallWeighing.{lighter_by}
@@ -45,7 +45,7 @@ module _ (sizes : Sizes) (e : Engine) (f : FilesTold) (s0 : SinkTold) (book : Bo
   at = with_work (r ∷ rs) book
 
   abbrev written : List Move
-  written = Written Transcript (report_bytes (plain_style e.names.names) e.in_line e.input.pending.number report) ∷ Reported ∷ []
+  written = Written Transcript (report_bytes (own_style e) e.in_line e.input.pending.number report) ∷ Reported ∷ []
 
   on_page : Reports sizes (state_of e1 at) (state_of e2 at) (world_of f s0 e1) (world_of f s2 e2) (page_of e1 book) report (noting r) →
       Reports sizes (state_of e1 at) (state_of e2 at) (world_of f s0 e) (world_of f s2 e2) (page_of e book) report (noting r)

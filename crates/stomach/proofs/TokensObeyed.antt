@@ -2,10 +2,12 @@
 use Rattle.std.proofs.Common.{◌≡◌, ℕ, List, [], ◌∷◌, refl, sym, ap, ◌∙◌, Bool, true, false, arith}
 use Rattle.std.proofs.lemmas.Bool.Decides.{nat_tests}
 use Rattle.std.specs.Prelude.{◌≢◌, Option, Some, None, is_some, if◌then◌else◌, ◌==◌}
+use Rattle.save_stack.specs.declared.GroupKind.TheVariants.{Simple, SemiSimple}
 use Rattle.tex_syntax.specs.declared.words.Report.TheVariants.{ExtraEndcsname}
 use Rattle.tex_defs.specs.declared.Token.{Token}
 use Rattle.tex_defs.specs.declared.Meaning.{Meaning}
 use Rattle.tex_defs.specs.declared.Meaning.TheVariants as means
+use Rattle.plain_tokens.specs.Categories.{begin_group, end_group}
 use Rattle.plain_tokens.specs.Names.{end_primitive, relax_primitive}
 use Rattle.rows.specs.Table.{find_row, has_row, has_row_in}
 use Rattle.rows.specs.declared.command.Action.{Action}
@@ -14,8 +16,8 @@ use Rattle.rows.specs.declared.command.Row.{Row}
 use Rattle.rows.specs.declared.words.Kind.TheVariants.{Command}
 use Rattle.plain_readings.specs.Readings.{Reads}
 use Rattle.plain_readings.specs.Spelling.{endcsname_primitive}
-use Rattle.plain_machine.specs.States.{Move, Begun}
-use Rattle.plain_machine.specs.Plan.{Page, call_of, begun, finish, reported, token_line, primitive, command}
+use Rattle.plain_machine.specs.States.{Move, Begun, GroupOpened}
+use Rattle.plain_machine.specs.Plan.{Page, call_of, begun, finish, reported, token_line, begingroup_primitive, endgroup_primitive, brace_met, endgroup_met, primitive, character, command}
 
 -- PRIMITIVES
 
@@ -33,7 +35,13 @@ unequal n k h = grind (arith, nat_tests, h)
 module _ (page : Page) (t : Token) where
   -- one that has none
   abbrev rowless_moves : ℕ → List Move
-  rowless_moves n = if n == end_primitive then finish page.in_line else if n == relax_primitive then [] else if n == endcsname_primitive then reported page ExtraEndcsname [] else token_line page (means.Prim n)
+  rowless_moves n =
+      if n == end_primitive then finish page
+      else if n == relax_primitive then []
+      else if n == begingroup_primitive then GroupOpened SemiSimple ∷ []
+      else if n == endgroup_primitive then endgroup_met page t page.group
+      else if n == endcsname_primitive then reported page ExtraEndcsname []
+      else token_line page (means.Prim n)
 
   module _ (n : ℕ) where
     pub row_moves : (c : Call) → c ≡ call_of t n → has_row n ≡ true → primitive page t n ≡ Begun (Reads (Command c)) ∷ []
@@ -42,22 +50,44 @@ module _ (page : Page) (t : Token) where
     rowless : has_row n ≡ false → primitive page t n ≡ rowless_moves n
     rowless none = ap (λ (b : Bool). if b then begun t n else rowless_moves n) none
 
-    pub end_moves : has_row n ≡ false → n ≡ end_primitive → primitive page t n ≡ finish page.in_line
+    pub end_moves : has_row n ≡ false → n ≡ end_primitive → primitive page t n ≡ finish page
     end_moves none is = rowless none ∙ ap rowless_moves is
+
+    pub begingroup_moves : has_row n ≡ false → n ≡ begingroup_primitive → primitive page t n ≡ GroupOpened SemiSimple ∷ []
+    begingroup_moves none is = rowless none ∙ ap rowless_moves is
+
+    pub endgroup_moves : has_row n ≡ false → n ≡ endgroup_primitive → primitive page t n ≡ endgroup_met page t page.group
+    endgroup_moves none is = rowless none ∙ ap rowless_moves is
 
     pub endcsname_moves : has_row n ≡ false → n ≡ endcsname_primitive → primitive page t n ≡ reported page ExtraEndcsname []
     endcsname_moves none is = rowless none ∙ ap rowless_moves is
 
-    pub other_moves : has_row n ≡ false → n ≢ end_primitive → n ≢ relax_primitive → n ≢ endcsname_primitive → primitive page t n ≡ token_line page (means.Prim n)
-    other_moves none a b c = rowless none ∙ rw (unequal n end_primitive a, unequal n relax_primitive b, unequal n endcsname_primitive c) refl
+    pub other_moves : has_row n ≡ false → n ≢ end_primitive → n ≢ relax_primitive → n ≢ begingroup_primitive → n ≢ endgroup_primitive → n ≢ endcsname_primitive → primitive page t n ≡ token_line page (means.Prim n)
+    other_moves none a b c d e =
+        rowless none ∙ rw (unequal n end_primitive a, unequal n relax_primitive b, unequal n begingroup_primitive c, unequal n endgroup_primitive d, unequal n endcsname_primitive e) refl
 
--- neither a primitive nor a name behind `\noexpand`
-pub line_moves : (page : Page) (t : Token) (m : Meaning Unit) → ((n : ℕ) → m ≡ means.Prim n → ⊥) → (m ≡ means.RelaxMarked → ⊥) → command page t m ≡ token_line page m
-line_moves page t (means.Prim n) a b = absurd (a n refl)
-line_moves page t means.RelaxMarked a b = absurd (b refl)
-line_moves page t means.Undefined a b = refl
-line_moves page t (means.Macro long outer list) a b = refl
-line_moves page t (means.Char category code) a b = refl
-line_moves page t (means.CharGiven n) a b = refl
-line_moves page t (means.MathGiven n) a b = refl
-line_moves page t (means.Register r n) a b = refl
+-- CHARACTERS
+
+module _ (page : Page) (category code : ℕ) where
+  -- a left brace opens a group
+  pub left_moves : category ≡ begin_group → character page category code ≡ GroupOpened Simple ∷ []
+  left_moves is = ap (λ (n : ℕ). character page n code) is
+
+  -- a right brace closes one
+  pub right_moves : category ≡ end_group → character page category code ≡ brace_met page page.group
+  right_moves is = ap (λ (n : ℕ). character page n code) is
+
+  -- another has its line
+  pub shown_moves : category ≢ begin_group → category ≢ end_group → character page category code ≡ token_line page (means.Char category code)
+  shown_moves a b = rw (unequal category begin_group a, unequal category end_group b) refl
+
+-- neither a primitive nor a name behind `\noexpand`, nor a character
+pub line_moves : (page : Page) (t : Token) (m : Meaning Unit) → ((n : ℕ) → m ≡ means.Prim n → ⊥) → (m ≡ means.RelaxMarked → ⊥) → ((category code : ℕ) → m ≡ means.Char category code → ⊥) → command page t m ≡ token_line page m
+line_moves page t (means.Prim n) a b c = absurd (a n refl)
+line_moves page t means.RelaxMarked a b c = absurd (b refl)
+line_moves page t means.Undefined a b c = refl
+line_moves page t (means.Macro long outer list) a b c = refl
+line_moves page t (means.Char category code) a b c = absurd (c category code refl)
+line_moves page t (means.CharGiven n) a b c = refl
+line_moves page t (means.MathGiven n) a b c = refl
+line_moves page t (means.Register r n) a b c = refl

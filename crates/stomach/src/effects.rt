@@ -24,7 +24,7 @@ ghost use Rattle.stomach.specs.Effects.{put_by, done_alone, IsSmall};
 ghost use Rattle.stomach.specs.Halting.{DoesRuleIn};
 
 use crate::obeying::obey;
-use engine_state::{Broken, Engine, Ruled};
+use engine_state::{Broken, Engine, Made, Ruled};
 use equivalents::{CodeKind, Loc};
 use gullet::{Once, expand_once};
 use reading_frames::Opening;
@@ -53,13 +53,16 @@ fn put_effect(engine: &mut Engine, effect: Effect) -> Result<(), Broken>
     match effect {
         Effect::PutBack(x) => engine.put_one(x.token),
         Effect::PutMarked(x) => engine.put_one(marked(x.token)),
-        Effect::MakeNumber(n) => engine.put_number(n),
-        Effect::MakeRoman(n) => engine.put_roman(n),
-        Effect::MakeString(x) => engine.put_string(x.token),
-        Effect::MakeMeaning(x) => engine.put_meaning(x),
+        Effect::MakeNumber(n) => engine.put_characters(Made::Number(n)),
+        Effect::MakeRoman(n) => engine.put_characters(Made::Roman(n)),
+        Effect::MakeString(x) => engine.put_characters(Made::Spelling(x.token)),
+        Effect::MakeMeaning(x) => engine.put_characters(Made::Meaning(x)),
         _ => Ok(()),
     }
 }
+
+/// How many integer parameters there are.
+const INTEGER_PARAMETERS: u8 = 55;
 
 /// The place of `\globaldefs` among the integer parameters.
 const GLOBAL_DEFINITIONS: u8 = 43;
@@ -109,6 +112,7 @@ fn assign_behind(
     ensures stands { OnOk result ((sizes : Sizes) (book : Book) → Stands sizes engine.old book → Stands sizes engine.new book) }
     ensures frames { SameFrames engine.old engine.new }
     ensures column { engine.new.in_line ≡ engine.old.in_line }
+    ensures after { engine.new.after ≡ engine.old.after }
     ensures light { OnOk result (pending_weight engine.new.input.pending ≡ pending_weight engine.old.input.pending) }
     ensures idle { OnOk result (engine.new.input.making ≡ None) }
 {
@@ -157,6 +161,23 @@ fn set_code(
     Ok(())
 }
 
+/// The integer parameter at this place gets this value, if there is one.
+///
+/// # Errors
+/// The save stack is full; nothing has changed.
+fn set_integer(engine: &mut Engine, i: u8, value: i32, global: bool) -> Result<(), Broken>
+    ensures did { OnOk result (i < 55 → (sizes : Sizes) (w : World) (book : Book) → Stands sizes engine.old book → Did sizes (state_of engine.old book) (state_of engine.new book) w w (Set global (loc.Integer i) (val.Number value) ∷ [])) }
+    ensures err { IfErr result (λ b. (sizes : Sizes) (w : World) (book : Book) (more : List Move) → Stands sizes engine.old book → Cuts sizes (state_of engine.old book) engine.new book w w (Set global (loc.Integer i) (val.Number value) ∷ more) b) }
+    ensures stands { OnOk result ((sizes : Sizes) (book : Book) → Stands sizes engine.old book → Stands sizes engine.new book) }
+    ensures frames { SameFrames engine.old engine.new }
+    ensures only { engine.new ≡ record engine.old { input = record engine.old.input { groups = engine.new.input.groups; lists = engine.new.input.lists } } }
+{
+    if i < INTEGER_PARAMETERS {
+        engine.input.set_number(Loc::Integer(i), value, global)?;
+    }
+    Ok(())
+}
+
 /// Does what a command says, where no token is obeyed and none expanded.
 ///
 /// # Errors
@@ -170,7 +191,7 @@ fn act_alone<S: Sink>(
     requires idle { engine.old.input.making ≡ None }
     ensures did { OnOk result (IsSmall effect → (sizes : Sizes) (f : FilesTold) (book : Book) → Stands sizes engine.old book →
         Did sizes (state_of engine.old book) (state_of engine.new book) (world_of f (S.told out.old) engine.old) (world_of f (S.told out.new) engine.new) (done_alone (page_of engine.old book) call effect)) }
-    ensures err { IfErr result (λ b. (sizes : Sizes) (f : FilesTold) (book : Book) (more : List Move) → Stands sizes engine.old book →
+    ensures err { IfErr result (λ b. IsSmall effect → (sizes : Sizes) (f : FilesTold) (book : Book) (more : List Move) → Stands sizes engine.old book →
         Cuts sizes (state_of engine.old book) engine.new book (world_of f (S.told out.old) engine.old) (world_of f (S.told out.new) engine.new) (done_alone (page_of engine.old book) call effect ++ more) b) }
     ensures stands { OnOk result ((sizes : Sizes) (book : Book) → Stands sizes engine.old book → Stands sizes engine.new book) }
     ensures frames { SameFrames engine.old engine.new }
@@ -181,15 +202,28 @@ fn act_alone<S: Sink>(
         Effect::Show(x) => engine.show(out, x),
         Effect::Let(name, x) => {
             let global = is_global(engine, call);
-            assign(engine, name, x, global)
+            assign(engine, name, x, global)?;
+            engine.put_after()
         }
         Effect::FutureLet(name, x, y) => {
             let global = is_global(engine, call);
-            assign_behind(engine, name, x, y, global)
+            assign_behind(engine, name, x, y, global)?;
+            engine.put_after()
         }
         Effect::SetCode(kind, char, value) => {
             let global = is_global(engine, call);
-            set_code(engine, kind, char, value, global)
+            set_code(engine, kind, char, value, global)?;
+            engine.put_after()
+        }
+        Effect::SetInteger(i, value) => {
+            let global = is_global(engine, call);
+            set_integer(engine, i, value, global)?;
+            engine.put_after()
+        }
+        Effect::AfterGroup(x) => engine.keep_for_group(x.token),
+        Effect::AfterAssignment(x) => {
+            engine.keep_after(x.token);
+            Ok(())
         }
         _ => put_effect(engine, effect),
     }

@@ -1,13 +1,16 @@
 // What the stomach and the readings make of a token that isn't expanded.
-ghost use Rattle.std.specs.Prelude.{◌≡◌, IfOk, IfErr, OnOk, None};
+ghost use Rattle.std.specs.Prelude.{◌≡◌, IfOk, IfErr, OnOk, None, [], ◌∷◌};
 ghost use Rattle.tex_defs.specs.declared.Sizes.{Sizes};
-ghost use Rattle.plain_machine.specs.Plan.{command, primitive};
+ghost use Rattle.tex_defs.specs.Places.{World};
+ghost use Rattle.plain_machine.specs.States.{GroupOpened};
+ghost use Rattle.plain_machine.specs.Plan.{brace_met, endgroup_met, character, command, primitive};
 ghost use Rattle.world_io.specs.Told.{FilesTold};
 ghost use Rattle.engine_state.specs.Book.{Book};
 ghost use Rattle.engine_state.specs.CutReadings.{CutsIn};
 ghost use Rattle.engine_state.specs.Stands.{Stands, SameFrames, state_of, page_of};
 ghost use Rattle.engine_state.specs.Rules.{world_of, onward_of, Takes, DoesOnward};
 ghost use Rattle.engine_state.specs.Steps.{pending_weight, IsFree, IsHalted};
+ghost use Rattle.engine_state.specs.declared.outcome.Ruled.TheVariants.{Step};
 ghost use Rattle.gullet.specs.Stepping.{Stays};
 ghost use Rattle.stomach.specs.Obeying.{Obeys, is_dropped as plain_dropped};
 
@@ -15,6 +18,7 @@ use engine_state::{Broken, Engine, Last, Ruled};
 use gullet::call_of;
 use reading_frames::Opening;
 use rows::{Kind, find_row};
+use save_stack::GroupKind;
 use tex_defs::{Meaning, Seen, Token};
 use tex_syntax::{Report, Want};
 use world_io::Sink;
@@ -22,11 +26,97 @@ use world_io::Sink;
 /// The number of `\relax`.
 const RELAX: u16 = 1;
 
+/// The number of `\begingroup`.
+const BEGINGROUP: u16 = 2;
+
+/// The number of `\endgroup`.
+const ENDGROUP: u16 = 3;
+
 /// The number of `\endcsname`.
 const ENDCSNAME: u16 = 4;
 
 /// The number of `\end`.
 const END: u16 = 6;
+
+/// The category of a character that opens a group, and of one that closes it.
+const BEGIN_GROUP: u8 = 1;
+
+const END_GROUP: u8 = 2;
+
+/// A right brace, which is inserted.
+const RIGHT_BRACE: Token = Token::Char {
+    cat: END_GROUP,
+    code: b'}',
+};
+
+/// A group opens.
+fn open_group(engine: &mut Engine, kind: GroupKind) -> Result<Ruled, Broken>
+    requires idle { engine.old.input.making ≡ None }
+    requires uncalled { engine.old.call ≡ None }
+    ensures rule { IfOk result (λ ruled. (sizes : Sizes) (w : World) (book : Book) → Stands sizes engine.old book →
+        DoesOnward sizes (state_of engine.old book) engine.new book w w (GroupOpened kind ∷ []) ruled) }
+    ensures err { IfErr result (λ b. (sizes : Sizes) (w : World) (book : Book) → Stands sizes engine.old book →
+        CutsIn sizes (state_of engine.old book) engine.new w w (GroupOpened kind ∷ []) b) }
+    ensures step { IfOk result (λ ruled. ruled ≡ Step) }
+    ensures column { engine.new.in_line ≡ engine.old.in_line }
+    ensures frames { SameFrames engine.old engine.new }
+    ensures light { OnOk result (pending_weight engine.new.input.pending ≡ pending_weight engine.old.input.pending) }
+    ensures idle { OnOk result (engine.new.input.making ≡ None) }
+{
+    engine.open_group(kind)?;
+    Ok(Ruled::Step)
+}
+
+/// A right brace in the stomach. *TeX: The Program*, part 47 (`handle_right_brace`, `extra_right_brace`).
+fn meet_brace<S: Sink>(engine: &mut Engine, out: &mut S) -> Result<Ruled, Broken>
+    requires idle { engine.old.input.making ≡ None }
+    requires uncalled { engine.old.call ≡ None }
+    ensures rule { IfOk result (λ ruled. (sizes : Sizes) (f : FilesTold) (book : Book) → Stands sizes engine.old book →
+        DoesOnward sizes (state_of engine.old book) engine.new book (world_of f (S.told out.old) engine.old) (world_of f (S.told out.new) engine.new) (brace_met (page_of engine.old book) (page_of engine.old book).group) ruled) }
+    ensures err { IfErr result (λ b. (sizes : Sizes) (f : FilesTold) (book : Book) → Stands sizes engine.old book →
+        CutsIn sizes (state_of engine.old book) engine.new (world_of f (S.told out.old) engine.old) (world_of f (S.told out.new) engine.new) (brace_met (page_of engine.old book) (page_of engine.old book).group) b) }
+    ensures on { IfOk result (λ ruled. IsFree ruled → ⊥) }
+    ensures frames { SameFrames engine.old engine.new }
+    ensures light { OnOk result (pending_weight engine.new.input.pending ≡ pending_weight engine.old.input.pending) }
+    ensures idle { OnOk result (engine.new.input.making ≡ None) }
+{
+    match engine.input.group_kind() {
+        None => engine.report_only(out, Report::TooManyBraces),
+        Some(GroupKind::Simple) => {
+            engine.end_group()?;
+            Ok(Ruled::Step)
+        }
+        Some(GroupKind::SemiSimple) => engine.report_only(out, Report::ForgottenEndgroup),
+    }
+}
+
+/// `\endgroup`, as this token: in a group that a brace opened, it is put back and a right brace inserted. *TeX: The Program*, part 47
+/// (`off_save`).
+fn meet_endgroup<S: Sink>(engine: &mut Engine, out: &mut S, token: Token) -> Result<Ruled, Broken>
+    requires idle { engine.old.input.making ≡ None }
+    requires uncalled { engine.old.call ≡ None }
+    ensures rule { IfOk result (λ ruled. (sizes : Sizes) (f : FilesTold) (book : Book) → Stands sizes engine.old book →
+        DoesOnward sizes (state_of engine.old book) engine.new book (world_of f (S.told out.old) engine.old) (world_of f (S.told out.new) engine.new) (endgroup_met (page_of engine.old book) token (page_of engine.old book).group) ruled) }
+    ensures err { IfErr result (λ b. (sizes : Sizes) (f : FilesTold) (book : Book) → Stands sizes engine.old book →
+        CutsIn sizes (state_of engine.old book) engine.new (world_of f (S.told out.old) engine.old) (world_of f (S.told out.new) engine.new) (endgroup_met (page_of engine.old book) token (page_of engine.old book).group) b) }
+    ensures on { IfOk result (λ ruled. IsFree ruled → ⊥) }
+    ensures frames { SameFrames engine.old engine.new }
+    ensures light { OnOk result (pending_weight engine.new.input.pending ≡ pending_weight engine.old.input.pending) }
+    ensures idle { OnOk result (engine.new.input.making ≡ None) }
+{
+    match engine.input.group_kind() {
+        None => engine.report_only(out, Report::ExtraEndgroup),
+        Some(GroupKind::SemiSimple) => {
+            engine.end_group()?;
+            Ok(Ruled::Step)
+        }
+        Some(GroupKind::Simple) => {
+            engine.put_one(token)?;
+            engine.put_one(RIGHT_BRACE)?;
+            engine.report_only(out, Report::MissingRightBrace)
+        }
+    }
+}
 
 /// What a primitive in the stomach comes to that isn't expanded.
 fn obey_primitive<S: Sink>(
@@ -55,9 +145,39 @@ fn obey_primitive<S: Sink>(
     match number {
         END => engine.halt(out, Last::End),
         RELAX => Ok(Ruled::Step),
+        BEGINGROUP => open_group(engine, GroupKind::SemiSimple),
+        ENDGROUP => meet_endgroup(engine, out, token),
         ENDCSNAME => engine.report_only(out, Report::ExtraEndcsname),
         _ => {
             engine.token_line(out, Meaning::Prim(number))?;
+            Ok(Ruled::Step)
+        }
+    }
+}
+
+/// A character in the stomach, explicit or implicit: braces open and close groups.
+fn obey_character<S: Sink>(
+    engine: &mut Engine,
+    out: &mut S,
+    cat: u8,
+    code: u8,
+) -> Result<Ruled, Broken>
+    requires idle { engine.old.input.making ≡ None }
+    requires uncalled { engine.old.call ≡ None }
+    ensures rule { IfOk result (λ ruled. (sizes : Sizes) (f : FilesTold) (book : Book) → Stands sizes engine.old book →
+        DoesOnward sizes (state_of engine.old book) engine.new book (world_of f (S.told out.old) engine.old) (world_of f (S.told out.new) engine.new) (character (page_of engine.old book) cat code) ruled) }
+    ensures err { IfErr result (λ b. (sizes : Sizes) (f : FilesTold) (book : Book) → Stands sizes engine.old book →
+        CutsIn sizes (state_of engine.old book) engine.new (world_of f (S.told out.old) engine.old) (world_of f (S.told out.new) engine.new) (character (page_of engine.old book) cat code) b) }
+    ensures on { IfOk result (λ ruled. IsFree ruled → ⊥) }
+    ensures frames { SameFrames engine.old engine.new }
+    ensures light { OnOk result (pending_weight engine.new.input.pending ≡ pending_weight engine.old.input.pending) }
+    ensures idle { OnOk result (engine.new.input.making ≡ None) }
+{
+    match cat {
+        BEGIN_GROUP => open_group(engine, GroupKind::Simple),
+        END_GROUP => meet_brace(engine, out),
+        _ => {
+            engine.token_line(out, Meaning::Char { cat, code })?;
             Ok(Ruled::Step)
         }
     }
@@ -84,6 +204,7 @@ pub(crate) fn obey<S: Sink>(engine: &mut Engine, out: &mut S, x: Seen) -> Result
     match x.meaning {
         Meaning::Prim(number) => obey_primitive(engine, out, x.token, number),
         Meaning::RelaxMarked => Ok(Ruled::Step),
+        Meaning::Char { cat, code } => obey_character(engine, out, cat, code),
         meaning => {
             engine.token_line(out, meaning)?;
             Ok(Ruled::Step)

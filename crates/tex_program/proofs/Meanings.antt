@@ -4,7 +4,7 @@ use Rattle.std.specs.Prelude.{Option, Some, None, ◌||◌, nat_eq, nat_lt, if�
 use Rattle.std.proofs.lemmas.Grind.{common_steps}
 use Rattle.tex_syntax.specs.declared.words.Outcome.{Outcome}
 use Rattle.tex_syntax.specs.declared.words.Outcome.TheVariants.{AtFatal, Finished}
-use Rattle.prim_table.specs.Primitives.{primitive_names}
+use Rattle.plain_tokens.specs.Printed.{Style}
 use Rattle.tex_defs.specs.Places.{World, Rose, Later, File, Untold, NotHeld, Holds, Place, Transcript, OfFile}
 use Rattle.tex_defs.specs.declared.Full.{Full as FullTable}
 use Rattle.tex_defs.specs.declared.Fatal.TheVariants.{NoFile}
@@ -14,6 +14,7 @@ use Rattle.plain_tokens.specs.Pending.{Pending, Closed}
 use Rattle.plain_tokens.specs.Puts.{Put}
 use Rattle.plain_tokens.specs.Tables.{string, refused}
 use Rattle.equivalents.specs.Holding.{lists_held}
+use Rattle.equivalents.specs.Parameters.{style_in}
 use Rattle.plain_machine.specs.States.{State, Move, Kept, made}
 use Rattle.plain_machine.specs.Demands.{refusal}
 use Rattle.plain_machine.specs.Extended.{extended}
@@ -40,13 +41,13 @@ use Rattle.engine_state.specs.declared.broken.Broken.TheVariants as broken
 use Rattle.engine_state.specs.Faults.{why_of}
 use Rattle.engine_state.specs.First.{Begins, IsUnread}
 use Rattle.engine_state.specs.Book.{Book, first_book}
-use Rattle.engine_state.specs.Stands.{Stands, state_of}
+use Rattle.engine_state.specs.Stands.{Stands, state_of, own_style}
 use Rattle.engine_state.specs.Rules.{world_of, Halts, Cuts}
 use Rattle.stomach.specs.declared.early.Early.{Early}
 use Rattle.stomach.specs.declared.early.Early.TheVariants as early
 use Rattle.stomach.specs.Ran.{Came, Ran, CutBy, UnreadBy, StoppedBy, whole_state}
 use Rattle.stomach.specs.Read.{CameOn, MayLeave}
-use Rattle.tex_program.specs.Named.{Named}
+use Rattle.tex_program.specs.Named.{first_style, Named}
 use Rattle.tex_program.specs.Says.{SaysSo, end_status, ReadAlike, HasReadCause}
 use Rattle.engine_state.proofs.Uncalled.{all_of}
 use Rattle.engine_state.proofs.Cutting.{later_cuts}
@@ -189,6 +190,9 @@ module _ (sizes : Sizes) (e e' : Engine) (quiet : Bool) (file name : List ℕ) (
   abbrev first_world : World
   first_world = world f a false
 
+  begins_style : first_style ≡ own_style e
+  begins_style = sym (ap (λ (s : State). style_in s.groups.now s.names) (begins.state file))
+
   pub named : Stands sizes e' first_book → Did sizes (state_of e first_book) (state_of e' first_book) first_world first_world (Kept name ∷ []) → Named sizes e' quiet file (Some [])
   named stands d =
       let kept : Did sizes (state_of e first_book) (state_of e' first_book) first_world first_world (Kept (job_name file) ∷ []) =
@@ -196,8 +200,9 @@ module _ (sizes : Sizes) (e e' : Engine) (quiet : Bool) (file name : List ℕ) (
       record {
         stands = stands;
         room = subst (λ (s : State). refusal sizes (Kept (job_name file)) s ≡ None) (begins.state file) kept.fits.0;
-        state = subst (λ (s : State). made (Kept (job_name file)) s ≡ record (state_of e' first_book) { due = job_due file (Some []) }) (begins.state file)
-            (ap (λ (s : State). record s { due = job_due file (Some []) }) kept.state);
+        state = subst (λ (s : State). made (Kept (job_name file)) s ≡ record (state_of e' first_book) { due = job_due first_style file (Some []) }) (begins.state file)
+            (ap (λ (x : Style). record (made (Kept (job_name file)) (state_of e first_book)) { due = job_due x file (Some []) }) (sym begins_style)
+            ∙ ap (λ (s : State). record s { due = job_due first_style file (Some []) }) kept.state);
       }
 
   -- a name for which a table has no room is refused whatever the file is
@@ -210,10 +215,10 @@ module _ (sizes : Sizes) (e e' : Engine) (quiet : Bool) (file name : List ℕ) (
       subst (λ (x : Bool). CutAt sizes (First quiet file job) n (First quiet file job) first_world (world f a x) (why_of b)) (sym none) (record {
         ms = [];
         m = Kept (job_name file);
-        u = made (Kept (job_name file)) (record (First quiet file job) { due = file_missing file job });
+        u = made (Kept (job_name file)) (record (First quiet file job) { due = file_missing first_style file job });
         count = 0;
         moves = refl;
-        goes = next_due (First quiet file job) (Kept (job_name file)) (file_missing file job) refl;
+        goes = next_due (First quiet file job) (Kept (job_name file)) (file_missing first_style file job) refl;
         room = omega arith;
         refuses = refused_alike sizes (why_of b) (job_name file) s (First quiet file job) (ap (λ (x : State). x.names) (begins.state file)) (ap (λ (x : State). x.strings) (begins.state file))
             (refused_first sizes s (Kept (job_name file)) (why_of b) c.done c.m c.rest cuts.at c.all c.state c.refuses);
@@ -226,8 +231,8 @@ module _ (sizes : Sizes) (e : Engine) (quiet : Bool) (file : List ℕ) (job : Op
   pub named_column : e.in_line ≡ false
   named_column = sym (ap (λ (s : State). s.in_line) h.state)
 
-  pub named_names : e.names.names ≡ primitive_names
-  named_names = sym (ap (λ (s : State). s.names) h.state)
+  pub named_style : first_style ≡ own_style e
+  named_style = ap (λ (s : State). style_in s.groups.now s.names) h.state
 
   pub named_reports : e.reports ≡ 0
   named_reports = sym (ap (λ (s : State). s.reports) h.state)
@@ -267,7 +272,7 @@ named_dropped sizes e quiet file none h =
         bodies = sound.bodies;
       }) h.stands.idle h.stands;
       room = h.room;
-      state = ap (λ (s : State). record s { pending = pending_of first_book.number nothing; due = job_due file None }) h.state;
+      state = ap (λ (s : State). record s { pending = pending_of first_book.number nothing; due = job_due first_style file None }) h.state;
     }
 
 pub dropped_engine : (sizes : Sizes) (e e' : Engine) (quiet : Bool) (file : List ℕ) → e' ≡ dropped e → IsUnread e → Named sizes e quiet file (Some []) → Named sizes e' quiet file None
@@ -281,22 +286,23 @@ module _ (sizes : Sizes) (e e' : Engine) (quiet : Bool) (file : List ℕ) (h : N
   begun : (w : World) → Did sizes (but_due (First quiet file None)) (state_of e first_book) w w (Kept (job_name file) ∷ [])
   begun w = named_did sizes e quiet file None h w
 
-  pub refused_fails : Halts sizes (state_of e first_book) e' first_book (world_of f a e) (world_of f b e') (no_file file) (AtFatal NoFile) 0 → SaysSo sizes (First quiet file None) n before (world_of f b e') 2
+  pub refused_fails : Halts sizes (state_of e first_book) e' first_book (world_of f a e) (world_of f b e') (no_file (own_style e) file) (AtFatal NoFile) 0 → SaysSo sizes (First quiet file None) n before (world_of f b e') 2
   refused_fails halts =
       let s = but_due (First quiet file None) in
-      let x : Halts sizes (state_of e first_book) e' first_book before (world_of f b e') (no_file file) (AtFatal NoFile) 0 =
-      subst (λ (c : Bool). Halts sizes (state_of e first_book) e' first_book (world f a c) (world_of f b e') (no_file file) (AtFatal NoFile) 0) (named_column sizes e quiet file None h) halts in
-      let all : Did sizes s x.t before (world_of f b e') (job_due file None) =
-      did_join sizes s (state_of e first_book) x.t before before (world_of f b e') (Kept (job_name file) ∷ []) (no_file file) (begun before) x.did in
+      let x : Halts sizes (state_of e first_book) e' first_book before (world_of f b e') (no_file first_style file) (AtFatal NoFile) 0 =
+      subst (λ (y : Style). Halts sizes (state_of e first_book) e' first_book before (world_of f b e') (no_file y file) (AtFatal NoFile) 0) (sym (named_style sizes e quiet file None h))
+      (subst (λ (c : Bool). Halts sizes (state_of e first_book) e' first_book (world f a c) (world_of f b e') (no_file (own_style e) file) (AtFatal NoFile) 0) (named_column sizes e quiet file None h) halts) in
+      let all : Did sizes s x.t before (world_of f b e') (job_due first_style file None) =
+      did_join sizes s (state_of e first_book) x.t before before (world_of f b e') (Kept (job_name file) ∷ []) (no_file first_style file) (begun before) x.did in
       record {
         is = IsFatal;
         says = record {
           fatal = NoFile;
           whole = record {
-            ms = job_due file None;
+            ms = job_due first_style file None;
             t = x.t;
             run = record {
-              moves = due_moves sizes s x.t before (world_of f b e') (job_due file None) x.due all;
+              moves = due_moves sizes s x.t before (world_of f b e') (job_due first_style file None) x.due all;
               within = omega arith;
               whole = stopped_ends x.t (AtFatal NoFile) x.due x.stopped;
             };
@@ -306,13 +312,14 @@ module _ (sizes : Sizes) (e e' : Engine) (quiet : Bool) (file : List ℕ) (h : N
         };
       }
 
-  pub refused_cut : (k : Broken) → Cuts sizes (state_of e first_book) e' first_book (world_of f a e) (world_of f b e') (no_file file) k → (t : State) × CutAt sizes (First quiet file None) n t before (world_of f b e') (why_of k)
+  pub refused_cut : (k : Broken) → Cuts sizes (state_of e first_book) e' first_book (world_of f a e) (world_of f b e') (no_file (own_style e) file) k → (t : State) × CutAt sizes (First quiet file None) n t before (world_of f b e') (why_of k)
   refused_cut k cuts =
       let s = but_due (First quiet file None) in
-      let x : Cuts sizes (state_of e first_book) e' first_book before (world_of f b e') (no_file file) k =
-      subst (λ (c : Bool). Cuts sizes (state_of e first_book) e' first_book (world f a c) (world_of f b e') (no_file file) k) (named_column sizes e quiet file None h) cuts in
-      due_cuts sizes s e' first_book before (world_of f b e') (job_due file None) n k (omega arith)
-      (later_cuts sizes s (state_of e first_book) e' first_book before before (world_of f b e') (Kept (job_name file) ∷ []) (no_file file) k (begun before) x)
+      let x : Cuts sizes (state_of e first_book) e' first_book before (world_of f b e') (no_file first_style file) k =
+      subst (λ (y : Style). Cuts sizes (state_of e first_book) e' first_book before (world_of f b e') (no_file y file) k) (sym (named_style sizes e quiet file None h))
+      (subst (λ (c : Bool). Cuts sizes (state_of e first_book) e' first_book (world f a c) (world_of f b e') (no_file (own_style e) file) k) (named_column sizes e quiet file None h) cuts) in
+      due_cuts sizes s e' first_book before (world_of f b e') (job_due first_style file None) n k (omega arith)
+      (later_cuts sizes s (state_of e first_book) e' first_book before before (world_of f b e') (Kept (job_name file) ∷ []) (no_file first_style file) k (begun before) x)
 
 -- AND THEN NOTHING IS WRITTEN
 
@@ -481,8 +488,8 @@ module _ (sizes : Sizes) (quiet : Bool) (name : List ℕ) (file : File) (n : ℕ
   name_kept : (e : Engine) → Named sizes e quiet name (Some []) → (job : Option (List ℕ)) → (t : State) × FitMoves sizes (First quiet name job) (Kept (job_name name) ∷ []) t
   name_kept e named job =
       let s : State = First quiet name job in
-      let t : State = made (Kept (job_name name)) (record s { due = file_missing name job }) in
-      (t, (t, (next_due s (Kept (job_name name)) (file_missing name job) refl, (named.room, refl))))
+      let t : State = made (Kept (job_name name)) (record s { due = file_missing first_style name job }) in
+      (t, (t, (next_due s (Kept (job_name name)) (file_missing first_style name job) refl, (named.room, refl))))
 
   pub means_unopened : (e : Engine) → Named sizes e quiet name (Some []) → (w m w' : World) → Rose w.read_faults m.read_faults → Wrote w m [] → Line m w' read_fault_line → MeansRun sizes quiet name file n w w' 5
   means_unopened e named w m w' failed wrote last =

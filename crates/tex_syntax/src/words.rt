@@ -83,6 +83,14 @@ pub enum Report {
     MissingEndcsname,
     /// "Extra \endcsname": there is no `\csname` that it could end.
     ExtraEndcsname,
+    /// "Too many }'s": no group is open.
+    TooManyBraces,
+    /// "Extra }, or forgotten \endgroup": the innermost group was opened by `\begingroup`.
+    ForgottenEndgroup,
+    /// "Extra \endgroup": no group is open.
+    ExtraEndgroup,
+    /// "Missing } inserted": `\endgroup` where the innermost group was opened by a brace.
+    MissingRightBrace,
 }
 
 /// How a run has ended.

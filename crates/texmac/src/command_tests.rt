@@ -56,7 +56,7 @@ const EXPANSIONS: [Row; 24] = [
     ),
     (
         b"\\outer\\def\\o{y}\\edef\\a{\\expandafter x\\o}\\message{\\meaning\\a}\\end\n",
-        b"Runaway definition?\n->\n! Forbidden control sequence found while scanning definition of \\a.\nl.2\n{the letter y}\n{end-group character }}\nmacro:->x \n",
+        b"Runaway definition?\n->\n! Forbidden control sequence found while scanning definition of \\a.\nl.2\n{the letter y}\n! Too many }'s.\nl.2\nmacro:->x \n",
         1,
     ),
     (b"\\message{\\noexpand\\zz}\\end\n", b"\\zz \n", 0),
@@ -191,7 +191,7 @@ const SPELLINGS: [Row; 19] = [
     (b"\\message{\\endcsname}\\end\n", b"\\endcsname \n", 0),
     (
         b"\\outer\\def\\o{y}\\message{x\\csname o\\endcsname}\\end\n",
-        b"Runaway text?\nx\n! Forbidden control sequence found while scanning text of \\message.\nl.2\nx \n{the letter y}\n{end-group character }}\n",
+        b"Runaway text?\nx\n! Forbidden control sequence found while scanning text of \\message.\nl.2\nx \n{the letter y}\n! Too many }'s.\nl.2\n",
         1,
     ),
     (
@@ -242,7 +242,7 @@ const MEANINGS: [Row; 24] = [
     ),
     (
         b"\\outer\\def\\o{x}\\let\\p=\\o\\message{\\p}\\end\n",
-        b"Runaway text?\n! Forbidden control sequence found while scanning text of \\message.\nl.2\n \n{the letter x}\n{end-group character }}\n",
+        b"Runaway text?\n! Forbidden control sequence found while scanning text of \\message.\nl.2\n \n{the letter x}\n! Too many }'s.\nl.2\n",
         1,
     ),
     (
@@ -487,7 +487,7 @@ struct Counted {
 }
 
 /// Files whose steps are counted.
-const COUNTED: [Counted; 4] = [
+const COUNTED: [Counted; 9] = [
     Counted {
         text: b"\\expandafter\\let\\csname ab\\endcsname\\relax\\end\n",
         under: ("--steps=39", b"! Step limit reached [steps=39].\n"),
@@ -510,6 +510,41 @@ const COUNTED: [Counted; 4] = [
             b"! Undefined control sequence.\nl.2\n! Step limit reached [steps=36].\n",
         ),
         enough: ("--steps=37", b"! Undefined control sequence.\nl.2\n", 1),
+    },
+    Counted {
+        text: b"{\\aftergroup x}\\end\n",
+        under: (
+            "--steps=35",
+            b"{the letter x}\n! Step limit reached [steps=35].\n",
+        ),
+        enough: ("--steps=36", b"{the letter x}\n", 0),
+    },
+    Counted {
+        text: b"{\\endgroup\\end\n",
+        under: (
+            "--steps=34",
+            b"! Missing } inserted.\nl.2\n! Extra \\endgroup.\nl.2\n! Step limit reached [steps=34].\n",
+        ),
+        enough: (
+            "--steps=35",
+            b"! Missing } inserted.\nl.2\n! Extra \\endgroup.\nl.2\n",
+            1,
+        ),
+    },
+    Counted {
+        text: b"\\afterassignment\\relax\\newlinechar=2 \\end\n",
+        under: ("--steps=37", b"! Step limit reached [steps=37].\n"),
+        enough: ("--steps=38", b"", 0),
+    },
+    Counted {
+        text: b"\\afterassignment\\relax\\let\\a\\b\\end\n",
+        under: ("--steps=36", b"! Step limit reached [steps=36].\n"),
+        enough: ("--steps=37", b"", 0),
+    },
+    Counted {
+        text: b"\\endlinechar=-1\n\n\n\\end\n",
+        under: ("--steps=38", b"! Step limit reached [steps=38].\n"),
+        enough: ("--steps=39", b"", 0),
     },
 ];
 

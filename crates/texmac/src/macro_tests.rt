@@ -268,12 +268,12 @@ const CALLS: [Row; 12] = [
     ),
     (
         b"\\def\\a#1{}\\a}\\end\n",
-        b"! Argument of \\a has an extra }.\nl.2\nRunaway argument?\n! Paragraph ended before \\a was complete.\nl.2\n{\\par}\n{end-group character }}\n",
+        b"! Argument of \\a has an extra }.\nl.2\nRunaway argument?\n! Paragraph ended before \\a was complete.\nl.2\n{\\par}\n! Too many }'s.\nl.2\n",
         1,
     ),
     (
         b"\\def\\a#1.{}\\a x}\\end\n",
-        b"! Argument of \\a has an extra }.\nl.2\nRunaway argument?\nx\n! Paragraph ended before \\a was complete.\nl.2\n{\\par}\n{end-group character }}\n",
+        b"! Argument of \\a has an extra }.\nl.2\nRunaway argument?\nx\n! Paragraph ended before \\a was complete.\nl.2\n{\\par}\n! Too many }'s.\nl.2\n",
         1,
     ),
     (
@@ -327,12 +327,12 @@ const PARAGRAPHS: [Row; 8] = [
     ),
     (
         b"\\def\\a#1{[#1]}\\message{\\a{x{\\par}y}}\\end\n",
-        b"Runaway argument?\n{x{\n! Paragraph ended before \\a was complete.\nl.2\n\\par \n{the letter y}\n{end-group character }}\n{end-group character }}\n",
+        b"Runaway argument?\n{x{\n! Paragraph ended before \\a was complete.\nl.2\n\\par \n{the letter y}\n! Too many }'s.\nl.2\n! Too many }'s.\nl.2\n",
         1,
     ),
     (
         b"\\def\\a#1\\par x{[#1]}\\message{\\a{y\\par x}\\par x}\\end\n",
-        b"Runaway argument?\n{y\n! Paragraph ended before \\a was complete.\nl.2\n\\par x\n{\\par}\n{the letter x}\n{end-group character }}\n",
+        b"Runaway argument?\n{y\n! Paragraph ended before \\a was complete.\nl.2\n\\par x\n{\\par}\n{the letter x}\n! Too many }'s.\nl.2\n",
         1,
     ),
     (
@@ -455,12 +455,12 @@ const OUTER_NAMES: [Row; 15] = [
     ),
     (
         b"\\outer\\def\\o{}\\def\\a b#1{}\\message{\\a\\o}\\end\n",
-        b"Runaway argument?\n! Forbidden control sequence found while scanning use of \\a.\nl.2\n! Use of \\a doesn't match its definition.\nl.2\nRunaway text?\n\\par \n! Forbidden control sequence found while scanning text of \\message.\nl.2\n\\par  \n{end-group character }}\n",
+        b"Runaway argument?\n! Forbidden control sequence found while scanning use of \\a.\nl.2\n! Use of \\a doesn't match its definition.\nl.2\nRunaway text?\n\\par \n! Forbidden control sequence found while scanning text of \\message.\nl.2\n\\par  \n! Too many }'s.\nl.2\n",
         1,
     ),
     (
         b"\\outer\\def\\o{}\\def\\a#1\\par{[#1]}\\message{\\a x\\o y}\\end\n",
-        b"Runaway argument?\nx\n! Forbidden control sequence found while scanning use of \\a.\nl.2\nRunaway text?\n[x ]\n! Forbidden control sequence found while scanning text of \\message.\nl.2\n[x ] \n{the letter y}\n{end-group character }}\n",
+        b"Runaway argument?\nx\n! Forbidden control sequence found while scanning use of \\a.\nl.2\nRunaway text?\n[x ]\n! Forbidden control sequence found while scanning text of \\message.\nl.2\n[x ] \n{the letter y}\n! Too many }'s.\nl.2\n",
         1,
     ),
     (
@@ -470,17 +470,17 @@ const OUTER_NAMES: [Row; 15] = [
     ),
     (
         b"\\outer\\def\\o{}\\message{x\\o y}\\end\n",
-        b"Runaway text?\nx\n! Forbidden control sequence found while scanning text of \\message.\nl.2\nx \n{the letter y}\n{end-group character }}\n",
+        b"Runaway text?\nx\n! Forbidden control sequence found while scanning text of \\message.\nl.2\nx \n{the letter y}\n! Too many }'s.\nl.2\n",
         1,
     ),
     (
         b"\\long\\outer\\def\\o{}\\message{x\\o y}\\end\n",
-        b"Runaway text?\nx\n! Forbidden control sequence found while scanning text of \\message.\nl.2\nx \n{the letter y}\n{end-group character }}\n",
+        b"Runaway text?\nx\n! Forbidden control sequence found while scanning text of \\message.\nl.2\nx \n{the letter y}\n! Too many }'s.\nl.2\n",
         1,
     ),
     (
         b"\\outer\\def\\o{}\\message{x{\\o y}\\end\n",
-        b"Runaway text?\nx{\n! Forbidden control sequence found while scanning text of \\message.\nl.2\nRunaway text?\nx{ }\n! Forbidden control sequence found while scanning text of \\message.\nl.2\nx{ } \n{the letter y}\n{end-group character }}\n",
+        b"Runaway text?\nx{\n! Forbidden control sequence found while scanning text of \\message.\nl.2\nRunaway text?\nx{ }\n! Forbidden control sequence found while scanning text of \\message.\nl.2\nx{ } \n{the letter y}\n! Too many }'s.\nl.2\n",
         1,
     ),
 ];

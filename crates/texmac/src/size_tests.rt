@@ -260,3 +260,168 @@ fn levels_and_arguments_are_refused_at_their_least_sizes(rt: HostRuntime) {
         assert!(rt; words_where_full(rt.alloc(), &row.0, row.1, row.2, row.3).is_some());
     }
 }
+
+/// Groups within the least sizes: each with what it writes, and the words that are used in the end.
+const GROUPS: [(&[u8], &[u8], u32); 9] = [
+    (
+        b"\\catcode`\\{=1 \\catcode`\\}=2\n{\\let\\a=x\\let\\a=y\\global\\let\\b=z}\\end\n",
+        b"",
+        0,
+    ),
+    (
+        b"\\catcode`\\{=1 \\catcode`\\}=2\n{\\aftergroup\\relax}{\\let\\a=x}\\begingroup\\let\\a=x\\endgroup\\end\n",
+        b"",
+        0,
+    ),
+    (
+        b"\\catcode`\\{=1 \\catcode`\\}=2\n\\let\\a=x\\let\\b=y\\let\\c=z%\n{\\globaldefs=1 \\let\\a=x\\let\\b=y\\let\\c=z}\\end\n",
+        b"",
+        0,
+    ),
+    (
+        b"\\catcode`\\{=1 \\catcode`\\}=2\n\\def\\a{x}{\\let\\b=\\a\\end\n",
+        IN_GROUP,
+        3,
+    ),
+    (
+        b"\\catcode`\\{=1 \\catcode`\\}=2\n\\def\\a{x}{\\let\\b=\\a}\\end\n",
+        b"",
+        3,
+    ),
+    (
+        b"\\catcode`\\{=1 \\catcode`\\}=2\n\\def\\a{x}{\\def\\a{yy}\\end\n",
+        IN_GROUP,
+        7,
+    ),
+    (
+        b"\\catcode`\\{=1 \\catcode`\\}=2\n\\def\\a{x}{\\def\\a{yy}}\\end\n",
+        b"",
+        3,
+    ),
+    (
+        b"\\catcode`\\{=1 \\catcode`\\}=2\n\\def\\a{x}{\\global\\def\\a{yy}\\end\n",
+        IN_GROUP,
+        4,
+    ),
+    (
+        b"\\catcode`\\{=1 \\catcode`\\}=2\n{\\def\\a{x}\\global\\let\\b=\\a}\\end\n",
+        b"",
+        3,
+    ),
+];
+
+/// What an `\end` in one group writes.
+const IN_GROUP: &[u8] = b"(\\end occurred inside a group at level 1)\n";
+
+#[test]
+fn groups_within_the_least_sizes_hold_what_fits(rt: HostRuntime) {
+    for (k, row) in GROUPS.iter().enumerate() {
+        assert!(rt;
+            words_at(rt.alloc(), &LEAST, (b"job", row.0), row.1, None) == Some(row.2),
+            "row {k}"
+        );
+    }
+}
+
+/// The save stack of the least size is full.
+const SAVED: Full = Full {
+    table: Table::SaveSize,
+    used: 2,
+    size: 2,
+};
+
+/// The same with one more: each with the table that is full.
+const TOO_MUCH: [(&[u8], Full); 8] = [
+    (
+        b"\\begingroup\\begingroup\\end\n",
+        Full {
+            table: Table::GroupingLevels,
+            used: 1,
+            size: 1,
+        },
+    ),
+    (b"\\begingroup\\let\\a=x\\begingroup\\end\n", SAVED),
+    (b"\\begingroup\\let\\a=x\\let\\b=y\\end\n", SAVED),
+    (b"\\begingroup\\let\\a=x\\aftergroup\\relax\\end\n", SAVED),
+    (
+        b"\\begingroup\\aftergroup\\relax\\aftergroup\\relax\\end\n",
+        SAVED,
+    ),
+    (
+        b"\\begingroup\\aftergroup\\relax\\catcode`\\!=9 \\end\n",
+        SAVED,
+    ),
+    (
+        b"\\begingroup\\newlinechar=1 \\escapechar=92 \\end\n",
+        SAVED,
+    ),
+    (
+        b"\\begingroup\\csname aa\\endcsname\\csname ab\\endcsname\\end\n",
+        SAVED,
+    ),
+];
+
+#[test]
+fn one_more_in_a_group_is_refused(rt: HostRuntime) {
+    for (k, row) in TOO_MUCH.iter().enumerate() {
+        assert!(rt;
+            words_at(rt.alloc(), &LEAST, (b"job", row.0), b"", Some(row.1)).is_some(),
+            "row {k}"
+        );
+    }
+}
+
+/// A macro that is defined in a group, globally and in the group again: the old and the global list are saved.
+const SAVED_TWICE: &[u8] =
+    b"\\catcode`\\{=1 \\catcode`\\}=2\n\\def\\a{x}{\\def\\a{y}\\global\\def\\a{z}\\def\\a{w}\\end\n";
+
+#[test]
+fn saved_lists_are_held(rt: HostRuntime) {
+    let alloc = rt.alloc();
+    let sizes = Sizes {
+        save_size: 3,
+        ..LEAST
+    };
+    assert!(rt; words_at(alloc, &sizes, (b"job", SAVED_TWICE), IN_GROUP, None) == Some(9));
+    // the list for which there is no room is still that of the definition
+    assert!(rt; words_where_full(alloc, &LEAST, SAVED_TWICE, Table::SaveSize, 2) == Some(9));
+}
+
+/// The words where a group ends behind which so many tokens come, if the run comes to where this table is full, or else to
+/// its end.
+fn words_behind(alloc: Global, sizes: &Sizes, count: usize, full: Option<Full>) -> Option<u32> {
+    let Ok(text) = repeated(alloc, b"\\aftergroup\\relax\n", count, b"\\endgroup\\end\n") else {
+        return None;
+    };
+    let Ok(text) = repeated(alloc, b"\\begingroup\n", 1, text.as_slice()) else {
+        return None;
+    };
+    words_at(alloc, sizes, (b"job", text.as_slice()), b"", full)
+}
+
+#[test]
+fn tokens_behind_a_group_have_levels_and_words(rt: HostRuntime) {
+    let alloc = rt.alloc();
+    let sizes = Sizes {
+        save_size: 60,
+        ..LEAST
+    };
+    let full = Full {
+        table: Table::InputStackSize,
+        used: 4,
+        size: 4,
+    };
+    assert!(rt; words_behind(alloc, &sizes, 3, None) == Some(0));
+    assert!(rt; words_behind(alloc, &sizes, 4, Some(full)).is_some());
+    let sizes = Sizes {
+        input_stack_size: 100,
+        ..sizes
+    };
+    let full = Full {
+        table: Table::MainMemorySize,
+        used: 100,
+        size: 100,
+    };
+    assert!(rt; words_behind(alloc, &sizes, 50, None) == Some(0));
+    assert!(rt; words_behind(alloc, &sizes, 51, Some(full)) == Some(100));
+}

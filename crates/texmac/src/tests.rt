@@ -301,10 +301,10 @@ const LETTER: &[u8] = b"\\message{hi}x\\end\n";
 const CARRIAGE_RETURNS: &[u8] =
     b"\\catcode`\\{=1 \\catcode`\\}=2 \\catcode`\\#=6 \\catcode`\\^=7\r\n\\message{x}\r\n\\end\r\n";
 
-/// A character of each category that has a line.
+/// A character of each category that has a line; braces open and close groups.
 const TYPESET: [Row; 1] = [(
     b"{}#^1\\catcode`$=3 \\catcode`&=4 \\catcode`_=8 $&_\\par\\end\n",
-    b"{begin-group character {}\n{end-group character }}\n{macro parameter character #}\n{superscript character ^}\n{the character 1}\n{math shift character $}\n{alignment tab character &}\n{subscript character _}\n{\\par}\n",
+    b"{macro parameter character #}\n{superscript character ^}\n{the character 1}\n{math shift character $}\n{alignment tab character &}\n{subscript character _}\n{\\par}\n",
     0,
 )];
 

@@ -5,7 +5,7 @@ use Rattle.std.specs.Fmt.{decimal}
 use Rattle.std.proofs.lemmas.List.{append-nil}
 use Rattle.std.proofs.lemmas.Grind.{flat_map-append}
 use Rattle.tex_syntax.specs.declared.words.Report.{Report}
-use Rattle.tex_syntax.specs.declared.words.Report.TheVariants.{UndefinedName, InvalidCharacter, ImproperConstant, MissingNumber, NumberTooBig, BadCharacterCode, InvalidCode, CodeTooGreat, MissingBrace, FileEnded, Forbidden, MissingName, NotConsecutive, AlreadyNine, IllegalNumber, UseMismatch, ExtraBrace, ParagraphEnded, PrefixWith, LongOrOuterWith, MissingEndcsname, ExtraEndcsname}
+use Rattle.tex_syntax.specs.declared.words.Report.TheVariants.{UndefinedName, InvalidCharacter, ImproperConstant, MissingNumber, NumberTooBig, BadCharacterCode, InvalidCode, CodeTooGreat, MissingBrace, FileEnded, Forbidden, MissingName, NotConsecutive, AlreadyNine, IllegalNumber, UseMismatch, ExtraBrace, ParagraphEnded, PrefixWith, LongOrOuterWith, MissingEndcsname, ExtraEndcsname, TooManyBraces, ForgottenEndgroup, ExtraEndgroup, MissingRightBrace}
 use Rattle.tex_syntax.specs.declared.words.Scanned.{Scanned}
 use Rattle.tex_syntax.specs.declared.words.Scanned.TheVariants as scanned
 use Rattle.tex_defs.specs.declared.Name.{Name}
@@ -36,6 +36,12 @@ module _ (f : ℕ → List ℕ) where
   pub prefix : (a p s l m o n x y z v w : List ℕ) → x ≡ a ++ flat_map f p → y ≡ x ++ flat_map f s → z ≡ y ++ flat_map f (l ++ m) → v ≡ z ++ flat_map f s → w ≡ v ++ flat_map f (o ++ n) →
       w ≡ a ++ flat_map f (p ++ ((s ++ l) ++ (m ++ ((s ++ o) ++ n))))
   prefix a p s l m o n x y z v w h i j k q = rw (q, k, j, i, h) (simp (flat_map-append, append_assoc))
+
+  -- a line with a word behind the escape character and a number
+  pub numbered : (a p s l m n q x y z v w line : List ℕ) → x ≡ a ++ flat_map f p → y ≡ x ++ flat_map f s → z ≡ y ++ flat_map f (l ++ m) → v ≡ z ++ flat_map f n →
+      w ≡ v ++ flat_map f q → line ≡ w ++ 10 ∷ [] →
+      line ≡ a ++ (flat_map f (p ++ ((s ++ l) ++ (m ++ (n ++ q)))) ++ 10 ∷ [])
+  numbered a p s l m n q x y z v w line h i j k e o = rw (o, e, k, j, i, h) (simp (flat_map-append, append_assoc))
 
   -- a report's text between what stands around it
   report_around : (fresh mark opening subject closing dot line number : List ℕ) →
@@ -109,6 +115,10 @@ report_is style (PrefixWith m) = refl
 report_is style (LongOrOuterWith m) = around_prefix (codes "You can't use `") (escaped style (codes "long")) (codes "' or `") (escaped style (codes "outer")) (codes "' with `") (subject style (LongOrOuterWith m) ++ closing (LongOrOuterWith m))
 report_is style MissingEndcsname = append-nil (opening style MissingEndcsname)
 report_is style ExtraEndcsname = append-nil (opening style ExtraEndcsname)
+report_is style TooManyBraces = refl
+report_is style ForgottenEndgroup = append-nil (opening style ForgottenEndgroup)
+report_is style ExtraEndgroup = append-nil (opening style ExtraEndgroup)
+report_is style MissingRightBrace = refl
 
 pub report_parts : (style : Style) (b : Bool) (line : ℕ) (r : Report) (start before shown close behind : List ℕ) →
     start ≡ fresh_line b ++ printed_all style (codes "! ") → before ≡ start ++ printed_all style (opening style r) → shown ≡ printed_all style (subject style r) → close ≡ closing r →

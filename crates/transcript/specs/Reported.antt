@@ -1,7 +1,7 @@
 -- What the engine's reports stand for, and the parts in which their texts and those of `\show` are written.
 use Rattle.std.specs.Prelude.{ℕ, List, [], ◌++◌, codes}
 use Rattle.tex_syntax.specs.declared.words.Report.{Report}
-use Rattle.tex_syntax.specs.declared.words.Report.TheVariants.{BadCharacterCode, InvalidCode, CodeTooGreat, FileEnded, Forbidden, IllegalNumber, UseMismatch, ExtraBrace, ParagraphEnded, PrefixWith, LongOrOuterWith, MissingEndcsname, ExtraEndcsname}
+use Rattle.tex_syntax.specs.declared.words.Report.TheVariants.{BadCharacterCode, InvalidCode, CodeTooGreat, FileEnded, Forbidden, IllegalNumber, UseMismatch, ExtraBrace, ParagraphEnded, PrefixWith, LongOrOuterWith, MissingEndcsname, ExtraEndcsname, ForgottenEndgroup, ExtraEndgroup}
 use Rattle.tex_syntax.specs.declared.words.Scanned.{Scanned}
 use Rattle.tex_defs.specs.declared.Token.{Token}
 use Rattle.tex_defs.specs.declared.Token.TheVariants.{Named, Marked}
@@ -39,6 +39,8 @@ IsFixed (CodeTooGreat n greatest) = ⊥
 IsFixed (LongOrOuterWith m) = ⊥
 IsFixed MissingEndcsname = ⊥
 IsFixed ExtraEndcsname = ⊥
+IsFixed ForgottenEndgroup = ⊥
+IsFixed ExtraEndgroup = ⊥
 IsFixed r = Unit {0}
 
 -- the name or meaning in a report's text, if there is one

@@ -8,16 +8,14 @@
 
 mod ends;
 mod fixed;
-mod initial;
 mod message;
 mod report;
 mod said;
 mod show;
 mod writing;
 
-pub use ends::{hundred_line, no_end_lines, no_file_lines};
-pub use initial::{initial_names, initial_view};
-pub use message::{write_message, write_runaway, write_token_line};
+pub use ends::{end_lines, hundred_line, no_end_lines, no_file_lines};
+pub use message::{empty_runaway, write_message, write_runaway, write_token_line};
 pub use report::{write_error_message, write_missing_file, write_report};
 pub use show::write_shown_meaning;
 pub use writing::put;

@@ -106,6 +106,13 @@ fn runaway_head(what: Scanned, newline: i32, in_line: bool) -> Text
     head
 }
 
+/// What is shown of a definition, an argument or a text that runs away without a token.
+pub fn empty_runaway(what: Scanned, view: View<'_>, in_line: bool) -> Text
+    ensures { result ≡ runaway_bytes what (style_of view.entry) in_line [] }
+{
+    runaway_head(what, view.names.newline, in_line)
+}
+
 /// Writes what was built of a list whose definition, argument or text runs away, on a fresh line.
 ///
 /// *TeX: The Program*, part 22 (`runaway`).

@@ -1,10 +1,10 @@
 // Reports.
-ghost use Rattle.std.specs.Prelude.{◌≡◌, ◌≤◌, ◌∷◌, ◌++◌, [], codes, length, OnOk, IfErr, IfSome, IsTrue};
+ghost use Rattle.std.specs.Prelude.{◌≡◌, ◌≤◌, ◌+◌, ◌∷◌, ◌++◌, [], codes, length, OnOk, IfErr, IfSome, IsTrue};
 ghost use Rattle.std.specs.Fmt.{decimal};
 ghost use Rattle.plain_state.specs.Reports.{fresh_line, report_bytes, error_message_bytes, missing_file_bytes};
 ghost use Rattle.token_lists.specs.Table.{IsHeld};
 ghost use Rattle.token_lists.specs.Ids.{build_id};
-ghost use Rattle.plain_tokens.specs.Printed.{Style, printed_all};
+ghost use Rattle.plain_tokens.specs.Printed.{Style, escaped, printed_all};
 ghost use Rattle.token_show.specs.Bytes.{all_printed};
 ghost use Rattle.token_show.specs.Views.{style_of, build_tokens, IsView};
 ghost use Rattle.transcript.specs.Given.{tokens_given};
@@ -76,26 +76,17 @@ fn put_prefix(text: &mut Text, view: View<'_>)
     put_fixed(text, view.names.newline, b"outer' with `");
 }
 
-// Puts the report of a missing `\endcsname`.
-fn put_missing_endcsname(text: &mut Text, view: View<'_>)
+// Puts these characters, and a word behind the escape character.
+fn put_word(text: &mut Text, view: View<'_>, before: &[u8], word: &[u8])
     requires names { IsView view }
-    requires short { length text.old ≤ 3 }
-    ensures { text.new ≡ text.old ++ all_printed view.entry.names.newline (opening (style_of view.entry) Report.MissingEndcsname) }
+    requires plain { IsTrue (is_plain before.now) }
+    requires plain_word { IsTrue (is_plain word.now) }
+    requires room { length text.old + length before.now + length word.now ≤ 70 }
+    ensures { text.new ≡ text.old ++ all_printed view.entry.names.newline (before.now ++ escaped (style_of view.entry) word.now) }
 {
-    put_fixed(text, view.names.newline, b"Missing ");
+    put_fixed(text, view.names.newline, before);
     put_escape(text, view);
-    put_fixed(text, view.names.newline, b"endcsname inserted");
-}
-
-// Puts the report of an extra `\endcsname`.
-fn put_extra_endcsname(text: &mut Text, view: View<'_>)
-    requires names { IsView view }
-    requires short { length text.old ≤ 3 }
-    ensures { text.new ≡ text.old ++ all_printed view.entry.names.newline (opening (style_of view.entry) Report.ExtraEndcsname) }
-{
-    put_fixed(text, view.names.newline, b"Extra ");
-    put_escape(text, view);
-    put_fixed(text, view.names.newline, b"endcsname");
+    put_fixed(text, view.names.newline, word);
 }
 
 // What stands before the name where a file ended.
@@ -148,12 +139,16 @@ fn fixed_opening(report: Report) -> &'static [u8]
         Report::ExtraBrace(_) => b"Argument of ",
         Report::ParagraphEnded(_) => b"Paragraph ended before ",
         Report::PrefixWith(_) => b"You can't use a prefix with `",
+        Report::TooManyBraces => b"Too many }'s",
+        Report::MissingRightBrace => b"Missing } inserted",
         Report::BadCharacterCode(_)
         | Report::InvalidCode(_, _)
         | Report::CodeTooGreat(_, _)
         | Report::LongOrOuterWith(_)
         | Report::MissingEndcsname
-        | Report::ExtraEndcsname => b"",
+        | Report::ExtraEndcsname
+        | Report::ForgottenEndgroup
+        | Report::ExtraEndgroup => b"",
     }
 }
 
@@ -168,8 +163,12 @@ fn put_opening(text: &mut Text, view: View<'_>, report: Report)
         Report::InvalidCode(n, greatest) => put_invalid_code(text, view.names.newline, n, greatest),
         Report::CodeTooGreat(n, greatest) => put_great_code(text, view.names.newline, n, greatest),
         Report::LongOrOuterWith(_) => put_prefix(text, view),
-        Report::MissingEndcsname => put_missing_endcsname(text, view),
-        Report::ExtraEndcsname => put_extra_endcsname(text, view),
+        Report::MissingEndcsname => put_word(text, view, b"Missing ", b"endcsname inserted"),
+        Report::ExtraEndcsname => put_word(text, view, b"Extra ", b"endcsname"),
+        Report::ForgottenEndgroup => {
+            put_word(text, view, b"Extra }, or forgotten ", b"endgroup");
+        }
+        Report::ExtraEndgroup => put_word(text, view, b"Extra ", b"endgroup"),
         other => put_fixed(text, view.names.newline, fixed_opening(other)),
     }
 }

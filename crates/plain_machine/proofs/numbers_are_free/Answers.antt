@@ -1,5 +1,5 @@
 use Rattle.plain_machine.proofs.Renumbering.{pulled_same, put_front_of, seen_of, met_of, meaning_to_let_of}
-use Rattle.plain_machine.proofs.GroupNumbers.{set_of, set_name_of, entered_of, opened_of, closed_of, set_demands_of, name_demands_of}
+use Rattle.plain_machine.proofs.GroupNumbers.{set_of, set_name_of, entered_of, opened_of, closed_of, with_token_of, depth_of, kind_same, tokens_after_of, saves_of, set_demands_of, name_demands_of, group_demands_of, token_demands_of}
 use Rattle.plain_machine.proofs.MacroWords.{words_tied}
 use Rattle.plain_machine.proofs.Ties.{text_let, tokens_let}
 use Rattle.plain_machine.proofs.numbers_are_free.Goals as goal
@@ -19,6 +19,13 @@ returns c = record {
   enters = entered_of;
   opens = opened_of;
   closes = closed_of;
+  keeps = with_token_of;
+  depth = depth_of;
+  kind_of = kind_same;
+  tokens_after = tokens_after_of;
+  saves = saves_of;
   demands = set_demands_of;
   name_demands = name_demands_of;
+  group_demands = group_demands_of;
+  token_demands = token_demands_of;
 }

@@ -29,7 +29,7 @@ pub loop-at-preserved : goal.loop-at-preserved
 loop-at-preserved c = record {
   going = going_on c.args.lists.now c.loop-at.lists c.self.inside.groups c.loop-at.self-inside.groups c.take_back.new.self c.loop-at.self-inside.categories c.in-Some.value
       (λ h. omega (arith, c.requires.covered h, held_is c.self.inside.groups c.args.self.now.groups (ap (λ (t : Table). t.groups) c.self.view_is) c.self.invariant.whole h)) c.loop-at.invariant.going (λ h. c.in-Some.ensures.account (weight h))
-      c.release.new.lists c.note.new.categories c.in-Some.at c.in-Some.ensures.after c.in-Some.ensures.back c.release.ensures.account c.release.ensures.kept c.release.ensures.lasting c.note.ensures;
+      c.release.new.lists c.note.new.categories c.in-Some.at c.in-Some.ensures.after c.in-Some.ensures.back c.release.ensures.account c.release.ensures.kept c.release.ensures.lasting c.release.ensures.after c.note.ensures;
   sizes = c.loop-at.invariant.sizes;
   room = c.loop-at.invariant.room;
 }

@@ -4,9 +4,6 @@ use Rattle.save_stack.specs.declared.GroupKind.{GroupKind}
 use Rattle.eqtb_save.specs.Table.{Table, GivesNext, closing_from}
 use Rattle.eqtb_save.proofs.Eqtb.close_step.Goals as goal
 
-pub close_group-requires-clause-idle : goal.close_group-requires-clause-idle
-close_group-requires-clause-idle c = ap (λ (t : Table). t.ending) (sym c.self.view_is) ∙ c.in-None.is
-
 pub close_group-requires-clause-open : goal.close_group-requires-clause-open
 close_group-requires-clause-open c = elim c.requires.open [
   | inl some ↦ some

@@ -1,13 +1,16 @@
-use Rattle.std.proofs.Common.{ap, length, ◌+◌, arith}
+use Rattle.std.proofs.Common.{ap, subst, map, length, ◌+◌, arith}
+use Rattle.std.proofs.lemmas.List.{length-map}
 use Rattle.plain_tokens.specs.Meanings.{fixed_locations}
-use Rattle.save_stack.specs.Mapped.{mapped}
+use Rattle.save_stack.specs.Mapped.{mapped, saved_as}
 use Rattle.save_stack.proofs.Mapped.{used_as}
-use Rattle.equivalents.specs.Groups.{saves}
+use Rattle.equivalents.specs.Groups.{saves, depth}
+use Rattle.equivalents.specs.Laws.{AreAlike}
+use Rattle.equivalents.proofs.Names.{alike}
 use Rattle.eqtb_save.specs.Table.{Table}
 use Rattle.eqtb_save.specs.Values.{numbered}
 use Rattle.eqtb_save.proofs.Places.{names_last}
 use Rattle.eqtb_save.proofs.Bounds.{held_few}
-use Rattle.eqtb_save.proofs.Outside.{outside_held}
+use Rattle.eqtb_save.proofs.Outside.{outer_count, outside_held}
 use Rattle.eqtb_save.proofs.Eqtb.recall.Goals as goal
 
 pub returns-clause-few : goal.returns-clause-few
@@ -40,3 +43,29 @@ returns-clause-bounded c h =
 
 pub returns-clause-outside : goal.returns-clause-outside
 returns-clause-outside c id is = outside_held id c.self.inside.groups c.args.self.now.groups (ap (λ (t : Table). t.groups) c.self.view_is) c.self.invariant.whole c.recall.ensures.held is
+
+pub returns-clause-maps : goal.returns-clause-maps
+returns-clause-maps c = omega (arith, outer_count (mapped numbered c.self.inside.groups) c.self.invariant.whole, ap (λ (t : Table). length t.groups.outer) c.self.view_is, ap (λ (t : Table). depth t.groups) c.self.view_is)
+
+pub returns-clause-entries : goal.returns-clause-entries
+returns-clause-entries c = omega (
+  arith,
+  length-map c.self.inside.groups.entries (λ g. map (saved_as numbered) g),
+  c.recall.ensures.entries,
+  ap (λ (t : Table). length t.groups.entries) c.self.view_is,
+  ap (λ (t : Table). depth t.groups) c.self.view_is,
+)
+
+pub returns-clause-tokens : goal.returns-clause-tokens
+returns-clause-tokens c = omega (arith, c.recall.ensures.tokens, ap (λ (t : Table). length t.groups.tokens) c.self.view_is, ap (λ (t : Table). depth t.groups) c.self.view_is)
+
+pub returns-clause-levels : goal.returns-clause-levels
+returns-clause-levels c = omega (
+  arith,
+  names_last (mapped numbered c.self.inside.groups) c.self.invariant.whole,
+  ap (λ (t : Table). length t.groups.levels) c.self.view_is,
+  ap (λ (t : Table). length t.groups.now.meanings) c.self.view_is,
+)
+
+pub returns-clause-alike : goal.returns-clause-alike
+returns-clause-alike c = subst (λ (t : Table). AreAlike t.groups) c.self.view_is (alike (mapped numbered c.self.inside.groups) c.self.invariant.whole)

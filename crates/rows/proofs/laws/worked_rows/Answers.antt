@@ -1,11 +1,11 @@
 -- Each is computed.
 use Rattle.std.proofs.Common.{◌≡◌, map, refl}
-use Rattle.prim_table.specs.Primitives.{primitive_name, primitive_names, command_names, assignment_names, expandable_names}
+use Rattle.prim_table.specs.Primitives.{primitive_name, primitive_names, command_names, assignment_names, expandable_names, conditional_names, integer_names}
 use Rattle.rows.specs.Worked.{numbers, commands}
 use Rattle.rows.proofs.laws.worked_rows.Goals as goal
 
 names : map primitive_name numbers ≡ commands
-unfolding primitive_name primitive_names command_names assignment_names expandable_names
+unfolding primitive_name primitive_names command_names assignment_names expandable_names conditional_names integer_names
 names = refl
 
 pub returns : goal.returns
@@ -17,5 +17,6 @@ returns c = record {
   meanings = record { let_token = refl; let_equals = refl; let_space = refl; let_second = refl; futurelet = refl };
   categories = record { sets = refl; begins = refl; too_great = refl; negative = refl; greatest = refl };
   codes = record { lowercase = refl; uppercase = refl; space_factor = refl; math = refl; math_too_great = refl; delimiter = refl; delimiter_too_great = refl };
+  parameters = record { equals_number = refl; begins = refl; negative = refl; global = refl; aftergroup = refl; afterassignment = refl };
   expansions = record { expandafter = refl; noexpand = refl; number_made = refl; romannumeral = refl; string = refl; meaning = refl; statuses = refl };
 }

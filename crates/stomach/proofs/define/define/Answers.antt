@@ -1,23 +1,33 @@
+use Rattle.std.proofs.Common.{◌≡◌, ◌∙◌}
+use Rattle.reading_frames.specs.Sees.{kept_list_of}
+use Rattle.reading_frames.specs.Stack.{innermost_count}
 use Rattle.engine_state.specs.declared.broken.Broken.TheVariants as broken
-use Rattle.engine_state.proofs.Joining.{same_err}
-use Rattle.stomach.proofs.Defining.{listed_went, unlisted_went, refused_went, defined_cut}
+use Rattle.engine_state.proofs.Joining.{same_err, err_to, on_both}
+use Rattle.stomach.proofs.Defining.{kept_top, none_went, unpassed_in, unput_in, behind_went}
+use Rattle.stomach.proofs.FrameAsks.{innermost_own}
 use Rattle.stomach.proofs.define.define.Goals as goal
-use Rattle.stomach.proofs.define.define.Goals.{else-listed-via-then-listed+then-not-is_calling+else-may_define, else-listed-via-then-listed+else-not-is_calling, else-listed-via-else-listed}
 
-pub returns-in_err-define-clause-err : goal.returns-in_err-define-clause-err
-returns-in_err-define-clause-err c = let i = c.in_err-define in
+pub returns-in_err-pass_list-clause-err : goal.returns-in_err-pass_list-clause-err
+returns-in_err-pass_list-clause-err c = let e = c.args.engine.now in let e1 = c.pass_list.new.engine in let i = c.in_err-pass_list in let ts = kept_list_of c.args.listed e.input.builds in
     same_err c.from_residual.result (broken.Full i.field-0.0) _ c.from_residual.ensures.1
-    (λ sizes w book r rs st asks. defined_cut sizes c.args.engine.now book w r rs c.args.call c.args.name c.is_global-global.result c.args.listed c.define.new.self i.field-0.0 (c.is_global-global.ensures book) c.if-listed.true c.if-may_define.ensures i.ensures.err i.ensures.refused st)
+    (λ sizes w book r rs st asks.
+    unpassed_in sizes e e1 e1 book w r rs c.args.call c.args.name ts (kept_top c.args.listed e.input.builds c.if-has_token.ensures) c.if-has_token.ensures (broken.Full i.field-0.0) (i.ensures.err sizes w book r rs st))
 
-pub returns-in_ok-define-clause-rule : goal.returns-in_ok-define-clause-rule
-returns-in_ok-define-clause-rule c = let i = c.in_ok-define.ensures in let n = c.end.ensures in
+pub returns-in_ok-pass_list-clause-rule : goal.returns-in_ok-pass_list-clause-rule
+returns-in_ok-pass_list-clause-rule c = let e = c.args.engine.now in let e1 = c.pass_list.new.engine in let e2 = c.put_after.new.self in let n = c.put_after.ensures in let p = c.in_ok-pass_list.ensures in let ts = kept_list_of c.args.listed e.input.builds in
+    on_both c.put_after.result (λ did idle sizes w book r rs st asks.
+    let own : innermost_count e.readings.frames ≡ 1 = innermost_own e.readings.frames e.input.builds c.args.call c.args.name ts asks c.if-has_token.ensures in
+    behind_went sizes e e1 e2 book w r rs c.args.call c.args.name ts (kept_top c.args.listed e.input.builds c.if-has_token.ensures) c.if-has_token.ensures (p.call ∙ st.uncalled.none) p.after n.frames (p.rule sizes w book r rs st own) n.others n.store idle did) n.did n.idle
+
+pub returns-in_ok-pass_list-clause-err : goal.returns-in_ok-pass_list-clause-err
+returns-in_ok-pass_list-clause-err c = let e = c.args.engine.now in let e1 = c.pass_list.new.engine in let e2 = c.put_after.new.self in let n = c.put_after.ensures in let p = c.in_ok-pass_list.ensures in let ts = kept_list_of c.args.listed e.input.builds in
+    err_to c.put_after.result (λ b cuts sizes w book r rs st asks.
+    let own : innermost_count e.readings.frames ≡ 1 = innermost_own e.readings.frames e.input.builds c.args.call c.args.name ts asks c.if-has_token.ensures in
+    unput_in sizes e e1 e2 book w r rs c.args.call c.args.name ts (kept_top c.args.listed e.input.builds c.if-has_token.ensures) c.if-has_token.ensures (p.call ∙ st.uncalled.none) p.after n.frames (p.rule sizes w book r rs st own) b cuts) n.err
+
+-- NO TOKEN
+
+pub returns-else-has_token-clause-rule : goal.returns-else-has_token-clause-rule
+returns-else-has_token-clause-rule c = let e = c.args.engine.now in let e1 = c.close_reading.new.self in let l = c.close_reading.ensures in
     λ sizes w book r rs st asks.
-    listed_went sizes c.args.engine.now book w r rs c.args.call c.args.name c.is_global-global.result c.args.listed c.end.new.self c.define.new.self (c.is_global-global.ensures book) c.if-listed.true c.if-may_define.ensures n.rest n.stands n.shallow i.ok i.defines i.macros i.refused st asks
-
-pub returns-else-listed-clause-rule : goal.returns-else-listed-clause-rule
-returns-else-listed-clause-rule c = let e = c.args.engine.now in let e1 = c.close_reading.new.self in let l = c.close_reading.ensures in
-    λ sizes w book r rs st asks. elim c.else-listed.branch [
-      | else-listed-via-then-listed+then-not-is_calling+else-may_define b ↦ refused_went sizes e e1 book w r rs c.args.call c.args.name (l.stands sizes book r rs st) (l.state sizes book r rs st) c.args.listed b.if-may_define.ensures l.same.store.groups
-      | else-listed-via-then-listed+else-not-is_calling b ↦ absurd (b.if-not-is_calling.ensures st.uncalled.input)
-      | else-listed-via-else-listed b ↦ unlisted_went sizes e e1 book w r rs c.args.call c.args.name (l.stands sizes book r rs st) (l.state sizes book r rs st) c.args.listed b.if-listed.false
-    ]
+    none_went sizes e e1 book w r rs c.args.call c.args.name (l.stands sizes book r rs st) (l.state sizes book r rs st) (kept_list_of c.args.listed e.input.builds) c.if-has_token.ensures

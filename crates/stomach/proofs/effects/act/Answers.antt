@@ -44,7 +44,7 @@ returns-in_err-act_alone-in_default-clause-err g c = let e = c.args.engine.now i
     same_err c.from_residual.result n.field-0.0 _ c.from_residual.ensures.1
     (λ sizes f book r rs st asks.
     alone_cut sizes e c.act_alone.new.engine book r rs f (g.S.Sink.told c.args.out.now) (g.S.Sink.told c.act_alone.new.out) c.args.call c.args.effect n.field-0.0 (is_alone c.args.effect c.in_default.not-Obey c.in_default.not-ExpandBehind) n.ensures.frames st
-    (n.ensures.err sizes f _ (Closed ∷ []) st))
+    (n.ensures.err (small_effect sizes e book r rs c.args.call c.args.effect st asks) sizes f _ (Closed ∷ []) st))
 
 pub returns-in_ok-act_alone-in_default-clause-rule : goal.returns-in_ok-act_alone-in_default-clause-rule
 returns-in_ok-act_alone-in_default-clause-rule g c = let e = c.args.engine.now in let n = c.in_ok-act_alone-in_default.ensures in let l = c.close_reading.ensures in

@@ -1,96 +1,223 @@
-use Rattle.std.proofs.Common.{◌≡◌, ◌≤◌, ℤ, List, [], ◌∷◌, ◌++◌, Bool, ap, sym, subst, rules, w32, FitsSigned}
-use Rattle.tex_defs.specs.Places.{World}
-use Rattle.tex_defs.specs.declared.Sizes.{Sizes}
+use Rattle.std.proofs.Common.{◌≡◌, List, [], ◌∷◌, ◌++◌, Bool, ap, sym, subst, rules, w32, FitsSigned}
+use Rattle.std.proofs.lemmas.Int.{to_z-of_z}
 use Rattle.plain_tokens.specs.Meanings.{meaning_to_let}
 use Rattle.equivalents.specs.declared.values.Loc.TheVariants as loc
 use Rattle.equivalents.specs.declared.values.Val.TheVariants as val
-use Rattle.equivalents.specs.Locations.{Suits}
 use Rattle.plain_machine.specs.States.{Move, Set, Assigned}
-use Rattle.plain_machine.specs.Plan.{natural, put_one}
+use Rattle.plain_machine.specs.Plan.{natural, is_global, put_one, behind_assignment}
 use Rattle.plain_machine.specs.Does.{Did}
-use Rattle.engine_state.specs.Book.{Book}
-use Rattle.engine_state.specs.Rules.{world_of, Cuts}
-use Rattle.engine_state.specs.Stands.{Stands, state_of, page_of}
+use Rattle.engine_state.specs.Rules.{world_of}
+use Rattle.engine_state.specs.Stands.{state_of, page_of}
 use Rattle.engine_state.proofs.Counting.{counts_of}
 use Rattle.engine_state.proofs.Cutting.{cuts_by}
-use Rattle.engine_state.proofs.Joining.{on_ok, err_to}
+use Rattle.engine_state.proofs.Joining.{on_ok, err_to, same_err}
 use Rattle.stomach.specs.Effects.{put_by, done_alone}
-use Rattle.stomach.proofs.ActingAlone.{did_still, cuts_still, front_stands, put_alone, as_passed}
+use Rattle.stomach.proofs.ActingAlone.{did_still, cuts_still, set_cuts, behind_did, behind_cuts, behind_stands, front_stands, put_alone}
 use Rattle.stomach.proofs.effects.act_alone.Goals as goal
 
 pub returns-in-Show-clause-did : goal.returns-in-Show-clause-did
 returns-in-Show-clause-did g c = rw c.in-Show.is (on_ok c.show.result (λ h small sizes f book st. h sizes f book st.sound) c.show.ensures.did)
 
 pub returns-in-Show-clause-err : goal.returns-in-Show-clause-err
-returns-in-Show-clause-err g c = rw c.in-Show.is (err_to c.show.result (λ b h sizes f book more st. h sizes f book more st.sound) c.show.ensures.err)
+returns-in-Show-clause-err g c = rw c.in-Show.is (err_to c.show.result (λ b h small sizes f book more st. h sizes f book more st.sound) c.show.ensures.err)
 
-pub returns-in-Let-clause-did : goal.returns-in-Let-clause-did
-returns-in-Let-clause-did g c = let e = c.args.engine.now in let e1 = c.assign.new.engine in let t = g.S.Sink.told c.args.out.now in
+pub returns-in_err-assign-in-Let-clause-err : goal.returns-in_err-assign-in-Let-clause-err
+returns-in_err-assign-in-Let-clause-err g c =
+    let e = c.args.engine.now in let e1 = c.assign.new.engine in let t = g.S.Sink.told c.args.out.now in let d = c.in-Let in let is = c.is_global-global in
+    let n = c.in_err-assign-in-Let in let r = c.from_residual in
     let column : e1.in_line ≡ e.in_line = search (rules, c.assign.ensures.only) in
-    rw c.in-Let.is
-    (on_ok c.assign.result (λ h small sizes f book st.
-    subst (λ (b : Bool). Did sizes (state_of e book) (state_of e1 book) (world_of f t e) (world_of f t e1) (Assigned b c.in-Let.name (meaning_to_let (page_of e book).now.meanings c.in-Let.x) ∷ [])) (c.is_global-global.ensures book)
-    (did_still sizes (state_of e book) (state_of e1 book) e e1 f t _ column (h sizes (world_of f t e) book st))) c.assign.ensures.did)
+    rw d.is
+    (same_err r.result n.field-0.0 _ r.ensures.1 (λ small sizes f book more st.
+    set_cuts sizes e e1 book f t (λ (b : Bool). Assigned b d.name (meaning_to_let (page_of e book).now.meanings d.x) ∷ [])
+    is.result (is_global (page_of e book) c.args.call) (is.ensures book) column
+    n.field-0.0 more (n.ensures.err sizes (world_of f t e) book (behind_assignment e.after ++ more) st)))
 
-pub returns-in-Let-clause-err : goal.returns-in-Let-clause-err
-returns-in-Let-clause-err g c = let e = c.args.engine.now in let e1 = c.assign.new.engine in let t = g.S.Sink.told c.args.out.now in
+pub returns-in_ok-assign-in-Let-clause-did : goal.returns-in_ok-assign-in-Let-clause-did
+returns-in_ok-assign-in-Let-clause-did g c =
+    let e = c.args.engine.now in let e1 = c.assign.new.engine in let t = g.S.Sink.told c.args.out.now in let d = c.in-Let in let is = c.is_global-global in
+    let n = c.in_ok-assign-in-Let.ensures in let p = c.put_after in
     let column : e1.in_line ≡ e.in_line = search (rules, c.assign.ensures.only) in
-    rw c.in-Let.is
-    (err_to c.assign.result (λ b h sizes f book more st.
-    subst (λ (y : Bool). Cuts sizes (state_of e book) e1 book (world_of f t e) (world_of f t e1) (Assigned y c.in-Let.name (meaning_to_let (page_of e book).now.meanings c.in-Let.x) ∷ more) b) (c.is_global-global.ensures book)
-    (cuts_still sizes (state_of e book) e e1 book f t _ b column (h sizes (world_of f t e) book more st))) c.assign.ensures.err)
+    let after : e1.after ≡ e.after = search (rules, c.assign.ensures.only) in
+    rw d.is
+    (on_ok p.result (λ h small sizes f book st.
+    behind_did sizes e e1 book f t (λ (b : Bool). Assigned b d.name (meaning_to_let (page_of e book).now.meanings d.x) ∷ [])
+    is.result (is_global (page_of e book) c.args.call) (is.ensures book) column
+    p.new.self p.ensures.others after (n.did sizes (world_of f t e) book st)
+    (h sizes (world_of f t e) book (counts_of sizes e1 book (n.stands sizes book st)))) p.ensures.did)
 
-pub returns-in-FutureLet-clause-did : goal.returns-in-FutureLet-clause-did
-returns-in-FutureLet-clause-did g c = let e = c.args.engine.now in let e1 = c.assign_behind.new.engine in let t = g.S.Sink.told c.args.out.now in
-    rw c.in-FutureLet.is
-    (on_ok c.assign_behind.result (λ h small sizes f book st.
-    subst (λ (b : Bool). Did sizes (state_of e book) (state_of e1 book) (world_of f t e) (world_of f t e1) (put_one c.in-FutureLet.y.token ++ (put_one c.in-FutureLet.x.token ++ Assigned b c.in-FutureLet.name (meaning_to_let (page_of e book).now.meanings c.in-FutureLet.y) ∷ []))) (c.is_global-global-in-FutureLet.ensures book)
-    (did_still sizes (state_of e book) (state_of e1 book) e e1 f t _ c.assign_behind.ensures.column (h sizes (world_of f t e) book st))) c.assign_behind.ensures.did)
+pub returns-in_ok-assign-in-Let-clause-err : goal.returns-in_ok-assign-in-Let-clause-err
+returns-in_ok-assign-in-Let-clause-err g c =
+    let e = c.args.engine.now in let e1 = c.assign.new.engine in let t = g.S.Sink.told c.args.out.now in let d = c.in-Let in let is = c.is_global-global in
+    let n = c.in_ok-assign-in-Let.ensures in let p = c.put_after in
+    let column : e1.in_line ≡ e.in_line = search (rules, c.assign.ensures.only) in
+    let after : e1.after ≡ e.after = search (rules, c.assign.ensures.only) in
+    rw d.is
+    (err_to p.result (λ b h small sizes f book more st.
+    behind_cuts sizes e e1 book f t (λ (b : Bool). Assigned b d.name (meaning_to_let (page_of e book).now.meanings d.x) ∷ [])
+    is.result (is_global (page_of e book) c.args.call) (is.ensures book) column
+    p.new.self p.ensures.others after (n.did sizes (world_of f t e) book st) b more
+    (h sizes (world_of f t e) book more (counts_of sizes e1 book (n.stands sizes book st)))) p.ensures.err)
 
-pub returns-in-FutureLet-clause-err : goal.returns-in-FutureLet-clause-err
-returns-in-FutureLet-clause-err g c = let e = c.args.engine.now in let e1 = c.assign_behind.new.engine in let t = g.S.Sink.told c.args.out.now in
-    rw c.in-FutureLet.is
-    (err_to c.assign_behind.result (λ b h sizes f book more st.
-    subst (λ (z : Bool). Cuts sizes (state_of e book) e1 book (world_of f t e) (world_of f t e1) ((put_one c.in-FutureLet.y.token ++ (put_one c.in-FutureLet.x.token ++ Assigned z c.in-FutureLet.name (meaning_to_let (page_of e book).now.meanings c.in-FutureLet.y) ∷ [])) ++ more) b) (c.is_global-global-in-FutureLet.ensures book)
-    (cuts_still sizes (state_of e book) e e1 book f t _ b c.assign_behind.ensures.column (h sizes (world_of f t e) book more st))) c.assign_behind.ensures.err)
+pub returns-in_ok-assign-in-Let-clause-stands : goal.returns-in_ok-assign-in-Let-clause-stands
+returns-in_ok-assign-in-Let-clause-stands g c = let n = c.in_ok-assign-in-Let.ensures in let p = c.put_after in let s = p.ensures in
+    on_ok p.result (λ idle sizes book st. behind_stands sizes c.assign.new.engine p.new.self book s.frames s.others s.store idle (n.stands sizes book st)) s.idle
 
-pub returns-in-SetCode-clause-did : goal.returns-in-SetCode-clause-did
-returns-in-SetCode-clause-did g c = let e = c.args.engine.now in let e1 = c.set_code.new.engine in let t = g.S.Sink.told c.args.out.now in
-    let char : FitsSigned w32 c.in-SetCode.char = search rules in
-    let value : FitsSigned w32 c.in-SetCode.value = search rules in
+pub returns-in_err-assign_behind-in-FutureLet-clause-err : goal.returns-in_err-assign_behind-in-FutureLet-clause-err
+returns-in_err-assign_behind-in-FutureLet-clause-err g c =
+    let e = c.args.engine.now in let e1 = c.assign_behind.new.engine in let t = g.S.Sink.told c.args.out.now in let d = c.in-FutureLet in let is = c.is_global-global-in-FutureLet in
+    let n = c.in_err-assign_behind-in-FutureLet in let r = c.from_residual-in_err-assign_behind-in-FutureLet in
+    let column = c.assign_behind.ensures.column in
+    rw d.is
+    (same_err r.result n.field-0.0 _ r.ensures.1 (λ small sizes f book more st.
+    set_cuts sizes e e1 book f t (λ (b : Bool). put_one d.y.token ++ (put_one d.x.token ++ Assigned b d.name (meaning_to_let (page_of e book).now.meanings d.y) ∷ []))
+    is.result (is_global (page_of e book) c.args.call) (is.ensures book) column
+    n.field-0.0 more (n.ensures.err sizes (world_of f t e) book (behind_assignment e.after ++ more) st)))
+
+pub returns-in_ok-assign_behind-in-FutureLet-clause-did : goal.returns-in_ok-assign_behind-in-FutureLet-clause-did
+returns-in_ok-assign_behind-in-FutureLet-clause-did g c =
+    let e = c.args.engine.now in let e1 = c.assign_behind.new.engine in let t = g.S.Sink.told c.args.out.now in let d = c.in-FutureLet in let is = c.is_global-global-in-FutureLet in
+    let n = c.in_ok-assign_behind-in-FutureLet.ensures in let p = c.put_after-in-FutureLet in
+    let column = c.assign_behind.ensures.column in
+    let after = c.assign_behind.ensures.after in
+    rw d.is
+    (on_ok p.result (λ h small sizes f book st.
+    behind_did sizes e e1 book f t (λ (b : Bool). put_one d.y.token ++ (put_one d.x.token ++ Assigned b d.name (meaning_to_let (page_of e book).now.meanings d.y) ∷ []))
+    is.result (is_global (page_of e book) c.args.call) (is.ensures book) column
+    p.new.self p.ensures.others after (n.did sizes (world_of f t e) book st)
+    (h sizes (world_of f t e) book (counts_of sizes e1 book (n.stands sizes book st)))) p.ensures.did)
+
+pub returns-in_ok-assign_behind-in-FutureLet-clause-err : goal.returns-in_ok-assign_behind-in-FutureLet-clause-err
+returns-in_ok-assign_behind-in-FutureLet-clause-err g c =
+    let e = c.args.engine.now in let e1 = c.assign_behind.new.engine in let t = g.S.Sink.told c.args.out.now in let d = c.in-FutureLet in let is = c.is_global-global-in-FutureLet in
+    let n = c.in_ok-assign_behind-in-FutureLet.ensures in let p = c.put_after-in-FutureLet in
+    let column = c.assign_behind.ensures.column in
+    let after = c.assign_behind.ensures.after in
+    rw d.is
+    (err_to p.result (λ b h small sizes f book more st.
+    behind_cuts sizes e e1 book f t (λ (b : Bool). put_one d.y.token ++ (put_one d.x.token ++ Assigned b d.name (meaning_to_let (page_of e book).now.meanings d.y) ∷ []))
+    is.result (is_global (page_of e book) c.args.call) (is.ensures book) column
+    p.new.self p.ensures.others after (n.did sizes (world_of f t e) book st) b more
+    (h sizes (world_of f t e) book more (counts_of sizes e1 book (n.stands sizes book st)))) p.ensures.err)
+
+pub returns-in_ok-assign_behind-in-FutureLet-clause-stands : goal.returns-in_ok-assign_behind-in-FutureLet-clause-stands
+returns-in_ok-assign_behind-in-FutureLet-clause-stands g c = let n = c.in_ok-assign_behind-in-FutureLet.ensures in let p = c.put_after-in-FutureLet in let s = p.ensures in
+    on_ok p.result (λ idle sizes book st. behind_stands sizes c.assign_behind.new.engine p.new.self book s.frames s.others s.store idle (n.stands sizes book st)) s.idle
+
+pub returns-in_err-set_code-in-SetCode-clause-err : goal.returns-in_err-set_code-in-SetCode-clause-err
+returns-in_err-set_code-in-SetCode-clause-err g c =
+    let e = c.args.engine.now in let e1 = c.set_code.new.engine in let t = g.S.Sink.told c.args.out.now in let d = c.in-SetCode in let is = c.is_global-global-in-SetCode in
+    let n = c.in_err-set_code-in-SetCode in let r = c.from_residual-in_err-set_code-in-SetCode in
+    let char : FitsSigned w32 d.char = search rules in let value : FitsSigned w32 d.value = search rules in
     let column : e1.in_line ≡ e.in_line = search (rules, c.set_code.ensures.only) in
-    rw c.in-SetCode.is
-    (on_ok c.set_code.result (λ h small sizes f book st.
-    subst (λ (b : Bool). Did sizes (state_of e book) (state_of e1 book) (world_of f t e) (world_of f t e1) (Set b (loc.Code c.in-SetCode.kind (natural c.in-SetCode.char)) (val.Number c.in-SetCode.value) ∷ [])) (c.is_global-global-in-SetCode.ensures book)
-    (did_still sizes (state_of e book) (state_of e1 book) e e1 f t _ column
-    (as_passed (λ (x y : ℤ). natural x ≤ 255 → Suits (loc.Code c.in-SetCode.kind (natural x)) (val.Number y) → (sizes : Sizes) (w : World) (book : Book) → Stands sizes e book → Did sizes (state_of e book) (state_of e1 book) w w (Set c.is_global-global-in-SetCode.result (loc.Code c.in-SetCode.kind (natural x)) (val.Number y) ∷ []))
-    c.in-SetCode.char c.in-SetCode.value char value h small.0 small.1 sizes (world_of f t e) book st))) c.set_code.ensures.did)
+    rw d.is
+    (same_err r.result n.field-0.0 _ r.ensures.1 (λ small sizes f book more st.
+    set_cuts sizes e e1 book f t (λ (b : Bool). Set b (loc.Code d.kind (natural d.char)) (val.Number d.value) ∷ [])
+    is.result (is_global (page_of e book) c.args.call) (is.ensures book) column
+    n.field-0.0 more ((rw (to_z-of_z w32 d.char char, to_z-of_z w32 d.value value) at n.ensures.err) sizes (world_of f t e) book (behind_assignment e.after ++ more) st)))
 
-pub returns-in-SetCode-clause-err : goal.returns-in-SetCode-clause-err
-returns-in-SetCode-clause-err g c = let e = c.args.engine.now in let e1 = c.set_code.new.engine in let t = g.S.Sink.told c.args.out.now in
-    let char : FitsSigned w32 c.in-SetCode.char = search rules in
-    let value : FitsSigned w32 c.in-SetCode.value = search rules in
+pub returns-in_ok-set_code-in-SetCode-clause-did : goal.returns-in_ok-set_code-in-SetCode-clause-did
+returns-in_ok-set_code-in-SetCode-clause-did g c =
+    let e = c.args.engine.now in let e1 = c.set_code.new.engine in let t = g.S.Sink.told c.args.out.now in let d = c.in-SetCode in let is = c.is_global-global-in-SetCode in
+    let n = c.in_ok-set_code-in-SetCode.ensures in let p = c.put_after-in-SetCode in
+    let char : FitsSigned w32 d.char = search rules in let value : FitsSigned w32 d.value = search rules in
     let column : e1.in_line ≡ e.in_line = search (rules, c.set_code.ensures.only) in
-    rw c.in-SetCode.is
-    (err_to c.set_code.result (λ b h sizes f book more st.
-    subst (λ (z : Bool). Cuts sizes (state_of e book) e1 book (world_of f t e) (world_of f t e1) (Set z (loc.Code c.in-SetCode.kind (natural c.in-SetCode.char)) (val.Number c.in-SetCode.value) ∷ more) b) (c.is_global-global-in-SetCode.ensures book)
-    (cuts_still sizes (state_of e book) e e1 book f t _ b column
-    (as_passed (λ (x y : ℤ). (sizes : Sizes) (w : World) (book : Book) (more : List Move) → Stands sizes e book → Cuts sizes (state_of e book) e1 book w w (Set c.is_global-global-in-SetCode.result (loc.Code c.in-SetCode.kind (natural x)) (val.Number y) ∷ more) b)
-    c.in-SetCode.char c.in-SetCode.value char value h sizes (world_of f t e) book more st))) c.set_code.ensures.err)
+    let after : e1.after ≡ e.after = search (rules, c.set_code.ensures.only) in
+    rw d.is
+    (on_ok p.result (λ h small sizes f book st.
+    behind_did sizes e e1 book f t (λ (b : Bool). Set b (loc.Code d.kind (natural d.char)) (val.Number d.value) ∷ [])
+    is.result (is_global (page_of e book) c.args.call) (is.ensures book) column
+    p.new.self p.ensures.others after ((rw (to_z-of_z w32 d.char char, to_z-of_z w32 d.value value) at n.did) small.0 small.1 sizes (world_of f t e) book st)
+    (h sizes (world_of f t e) book (counts_of sizes e1 book (n.stands sizes book st)))) p.ensures.did)
+
+pub returns-in_ok-set_code-in-SetCode-clause-err : goal.returns-in_ok-set_code-in-SetCode-clause-err
+returns-in_ok-set_code-in-SetCode-clause-err g c =
+    let e = c.args.engine.now in let e1 = c.set_code.new.engine in let t = g.S.Sink.told c.args.out.now in let d = c.in-SetCode in let is = c.is_global-global-in-SetCode in
+    let n = c.in_ok-set_code-in-SetCode.ensures in let p = c.put_after-in-SetCode in
+    let char : FitsSigned w32 d.char = search rules in let value : FitsSigned w32 d.value = search rules in
+    let column : e1.in_line ≡ e.in_line = search (rules, c.set_code.ensures.only) in
+    let after : e1.after ≡ e.after = search (rules, c.set_code.ensures.only) in
+    rw d.is
+    (err_to p.result (λ b h small sizes f book more st.
+    behind_cuts sizes e e1 book f t (λ (b : Bool). Set b (loc.Code d.kind (natural d.char)) (val.Number d.value) ∷ [])
+    is.result (is_global (page_of e book) c.args.call) (is.ensures book) column
+    p.new.self p.ensures.others after ((rw (to_z-of_z w32 d.char char, to_z-of_z w32 d.value value) at n.did) small.0 small.1 sizes (world_of f t e) book st) b more
+    (h sizes (world_of f t e) book more (counts_of sizes e1 book (n.stands sizes book st)))) p.ensures.err)
+
+pub returns-in_ok-set_code-in-SetCode-clause-stands : goal.returns-in_ok-set_code-in-SetCode-clause-stands
+returns-in_ok-set_code-in-SetCode-clause-stands g c = let n = c.in_ok-set_code-in-SetCode.ensures in let p = c.put_after-in-SetCode in let s = p.ensures in
+    on_ok p.result (λ idle sizes book st. behind_stands sizes c.set_code.new.engine p.new.self book s.frames s.others s.store idle (n.stands sizes book st)) s.idle
+
+pub returns-in_err-set_integer-in-SetInteger-clause-err : goal.returns-in_err-set_integer-in-SetInteger-clause-err
+returns-in_err-set_integer-in-SetInteger-clause-err g c =
+    let e = c.args.engine.now in let e1 = c.set_integer.new.engine in let t = g.S.Sink.told c.args.out.now in let d = c.in-SetInteger in let is = c.is_global-global-in-SetInteger in
+    let n = c.in_err-set_integer-in-SetInteger in let r = c.from_residual-in_err-set_integer-in-SetInteger in
+    let value : FitsSigned w32 d.value = search rules in
+    let column : e1.in_line ≡ e.in_line = search (rules, c.set_integer.ensures.only) in
+    rw d.is
+    (same_err r.result n.field-0.0 _ r.ensures.1 (λ small sizes f book more st.
+    set_cuts sizes e e1 book f t (λ (b : Bool). Set b (loc.Integer d.i) (val.Number d.value) ∷ [])
+    is.result (is_global (page_of e book) c.args.call) (is.ensures book) column
+    n.field-0.0 more ((rw (to_z-of_z w32 d.value value) at n.ensures.err) sizes (world_of f t e) book (behind_assignment e.after ++ more) st)))
+
+pub returns-in_ok-set_integer-in-SetInteger-clause-did : goal.returns-in_ok-set_integer-in-SetInteger-clause-did
+returns-in_ok-set_integer-in-SetInteger-clause-did g c =
+    let e = c.args.engine.now in let e1 = c.set_integer.new.engine in let t = g.S.Sink.told c.args.out.now in let d = c.in-SetInteger in let is = c.is_global-global-in-SetInteger in
+    let n = c.in_ok-set_integer-in-SetInteger.ensures in let p = c.put_after-in-SetInteger in
+    let value : FitsSigned w32 d.value = search rules in
+    let column : e1.in_line ≡ e.in_line = search (rules, c.set_integer.ensures.only) in
+    let after : e1.after ≡ e.after = search (rules, c.set_integer.ensures.only) in
+    rw d.is
+    (on_ok p.result (λ h small sizes f book st.
+    behind_did sizes e e1 book f t (λ (b : Bool). Set b (loc.Integer d.i) (val.Number d.value) ∷ [])
+    is.result (is_global (page_of e book) c.args.call) (is.ensures book) column
+    p.new.self p.ensures.others after ((rw (to_z-of_z w32 d.value value) at n.did) small sizes (world_of f t e) book st)
+    (h sizes (world_of f t e) book (counts_of sizes e1 book (n.stands sizes book st)))) p.ensures.did)
+
+pub returns-in_ok-set_integer-in-SetInteger-clause-err : goal.returns-in_ok-set_integer-in-SetInteger-clause-err
+returns-in_ok-set_integer-in-SetInteger-clause-err g c =
+    let e = c.args.engine.now in let e1 = c.set_integer.new.engine in let t = g.S.Sink.told c.args.out.now in let d = c.in-SetInteger in let is = c.is_global-global-in-SetInteger in
+    let n = c.in_ok-set_integer-in-SetInteger.ensures in let p = c.put_after-in-SetInteger in
+    let value : FitsSigned w32 d.value = search rules in
+    let column : e1.in_line ≡ e.in_line = search (rules, c.set_integer.ensures.only) in
+    let after : e1.after ≡ e.after = search (rules, c.set_integer.ensures.only) in
+    rw d.is
+    (err_to p.result (λ b h small sizes f book more st.
+    behind_cuts sizes e e1 book f t (λ (b : Bool). Set b (loc.Integer d.i) (val.Number d.value) ∷ [])
+    is.result (is_global (page_of e book) c.args.call) (is.ensures book) column
+    p.new.self p.ensures.others after ((rw (to_z-of_z w32 d.value value) at n.did) small sizes (world_of f t e) book st) b more
+    (h sizes (world_of f t e) book more (counts_of sizes e1 book (n.stands sizes book st)))) p.ensures.err)
+
+pub returns-in_ok-set_integer-in-SetInteger-clause-stands : goal.returns-in_ok-set_integer-in-SetInteger-clause-stands
+returns-in_ok-set_integer-in-SetInteger-clause-stands g c = let n = c.in_ok-set_integer-in-SetInteger.ensures in let p = c.put_after-in-SetInteger in let s = p.ensures in
+    on_ok p.result (λ idle sizes book st. behind_stands sizes c.set_integer.new.engine p.new.self book s.frames s.others s.store idle (n.stands sizes book st)) s.idle
+
+pub returns-in-AfterGroup-clause-did : goal.returns-in-AfterGroup-clause-did
+returns-in-AfterGroup-clause-did g c = let e = c.args.engine.now in let k = c.keep_for_group in let t = g.S.Sink.told c.args.out.now in
+    let column : k.new.self.in_line ≡ e.in_line = search (rules, k.ensures.only) in
+    rw c.in-AfterGroup.is
+    (on_ok k.result (λ h small sizes f book st. did_still sizes (state_of e book) (state_of k.new.self book) e k.new.self f t _ column (h sizes (world_of f t e) book st.sound)) k.ensures.did)
+
+pub returns-in-AfterGroup-clause-err : goal.returns-in-AfterGroup-clause-err
+returns-in-AfterGroup-clause-err g c = let e = c.args.engine.now in let k = c.keep_for_group in let t = g.S.Sink.told c.args.out.now in
+    let column : k.new.self.in_line ≡ e.in_line = search (rules, k.ensures.only) in
+    rw c.in-AfterGroup.is
+    (err_to k.result (λ b h small sizes f book more st. cuts_still sizes (state_of e book) e k.new.self book f t _ b column (h sizes (world_of f t e) book more st.sound)) k.ensures.err)
 
 pub returns-in_default-clause-did : goal.returns-in_default-clause-did
 returns-in_default-clause-did g c = let e = c.args.engine.now in let e1 = c.put_effect.new.engine in let t = g.S.Sink.told c.args.out.now in let o = c.in_default in
     on_ok c.put_effect.result (λ h small sizes f book st.
     did_still sizes (state_of e book) (state_of e1 book) e e1 f t (done_alone (page_of e book) c.args.call c.args.effect) c.put_effect.ensures.front.others.in_line
-    (subst (λ (ms : List Move). Did sizes (state_of e book) (state_of e1 book) (world_of f t e) (world_of f t e) ms) (sym (put_alone (page_of e book) c.args.call c.args.effect o.not-Show o.not-Let o.not-FutureLet o.not-SetCode))
+    (subst (λ (ms : List Move). Did sizes (state_of e book) (state_of e1 book) (world_of f t e) (world_of f t e) ms) (sym (put_alone (page_of e book) c.args.call c.args.effect o.not-Show o.not-Let o.not-FutureLet o.not-SetCode
+    o.not-SetInteger o.not-AfterGroup o.not-AfterAssignment))
     (h sizes (world_of f t e) book (counts_of sizes e book st)))) c.put_effect.ensures.did
 
 pub returns-in_default-clause-err : goal.returns-in_default-clause-err
 returns-in_default-clause-err g c = let e = c.args.engine.now in let e1 = c.put_effect.new.engine in let t = g.S.Sink.told c.args.out.now in let o = c.in_default in
-    err_to c.put_effect.result (λ b h sizes f book more st.
+    err_to c.put_effect.result (λ b h small sizes f book more st.
     cuts_still sizes (state_of e book) e e1 book f t (done_alone (page_of e book) c.args.call c.args.effect ++ more) b c.put_effect.ensures.front.others.in_line
     (cuts_by sizes (state_of e book) e1 book (world_of f t e) (world_of f t e) (put_by (page_of e book) c.args.effect ++ more) (done_alone (page_of e book) c.args.call c.args.effect ++ more) b
-    (ap (λ (ms : List Move). ms ++ more) (put_alone (page_of e book) c.args.call c.args.effect o.not-Show o.not-Let o.not-FutureLet o.not-SetCode))
+    (ap (λ (ms : List Move). ms ++ more) (put_alone (page_of e book) c.args.call c.args.effect o.not-Show o.not-Let o.not-FutureLet o.not-SetCode
+    o.not-SetInteger o.not-AfterGroup o.not-AfterAssignment))
     (h sizes (world_of f t e) book more (counts_of sizes e book st)))) c.put_effect.ensures.err
 
 pub returns-in_default-clause-stands : goal.returns-in_default-clause-stands

@@ -16,31 +16,31 @@ returns-in-PutMarked-clause-err c =
     rw (c.in-PutMarked.is, sym c.marked.ensures) (err_to c.put_one-in-PutMarked.result (λ b h sizes w book more counts. h sizes w book more counts c.requires.idle) c.put_one-in-PutMarked.ensures.err)
 
 pub returns-in-MakeNumber-clause-err : goal.returns-in-MakeNumber-clause-err
-returns-in-MakeNumber-clause-err c = let e = c.args.engine.now in let e1 = c.put_number.new.self in let n = c.in-MakeNumber.n in
+returns-in-MakeNumber-clause-err c = let e = c.args.engine.now in let e1 = c.put_characters.new.self in let n = c.in-MakeNumber.n in
     let fits : FitsSigned w32 n = search rules in
     rw c.in-MakeNumber.is
-    (err_to c.put_number.result (λ b h sizes w book more counts.
-    subst (λ (x : ℤ). Cuts sizes (state_of e book) e1 book w w (put_characters (whole_number x) ++ more) b) (to_z-of_z w32 n fits) (h sizes w book more counts c.requires.idle)) c.put_number.ensures.err)
+    (err_to c.put_characters.result (λ b h sizes w book more counts.
+    subst (λ (x : ℤ). Cuts sizes (state_of e book) e1 book w w (put_characters (whole_number x) ++ more) b) (to_z-of_z w32 n fits) (h sizes w book more counts c.requires.idle)) c.put_characters.ensures.err)
 
 pub returns-in-MakeRoman-clause-did : goal.returns-in-MakeRoman-clause-did
-returns-in-MakeRoman-clause-did c = let e = c.args.engine.now in let e1 = c.put_roman.new.self in let n = c.in-MakeRoman.n in
+returns-in-MakeRoman-clause-did c = let e = c.args.engine.now in let e1 = c.put_characters-in-MakeRoman.new.self in let n = c.in-MakeRoman.n in
     let fits : FitsSigned w32 n = search rules in
     rw c.in-MakeRoman.is
-    (on_ok c.put_roman.result (λ h sizes w book counts.
-    subst (λ (x : ℤ). Did sizes (state_of e book) (state_of e1 book) w w (put_characters (roman x))) (to_z-of_z w32 n fits) (h sizes w book counts c.requires.idle)) c.put_roman.ensures.did)
+    (on_ok c.put_characters-in-MakeRoman.result (λ h sizes w book counts.
+    subst (λ (x : ℤ). Did sizes (state_of e book) (state_of e1 book) w w (put_characters (roman x))) (to_z-of_z w32 n fits) (h sizes w book counts c.requires.idle)) c.put_characters-in-MakeRoman.ensures.did)
 
 pub returns-in-MakeRoman-clause-err : goal.returns-in-MakeRoman-clause-err
-returns-in-MakeRoman-clause-err c = let e = c.args.engine.now in let e1 = c.put_roman.new.self in let n = c.in-MakeRoman.n in
+returns-in-MakeRoman-clause-err c = let e = c.args.engine.now in let e1 = c.put_characters-in-MakeRoman.new.self in let n = c.in-MakeRoman.n in
     let fits : FitsSigned w32 n = search rules in
     rw c.in-MakeRoman.is
-    (err_to c.put_roman.result (λ b h sizes w book more counts.
-    subst (λ (x : ℤ). Cuts sizes (state_of e book) e1 book w w (put_characters (roman x) ++ more) b) (to_z-of_z w32 n fits) (h sizes w book more counts c.requires.idle)) c.put_roman.ensures.err)
+    (err_to c.put_characters-in-MakeRoman.result (λ b h sizes w book more counts.
+    subst (λ (x : ℤ). Cuts sizes (state_of e book) e1 book w w (put_characters (roman x) ++ more) b) (to_z-of_z w32 n fits) (h sizes w book more counts c.requires.idle)) c.put_characters-in-MakeRoman.ensures.err)
 
 pub returns-in-MakeString-clause-err : goal.returns-in-MakeString-clause-err
-returns-in-MakeString-clause-err c = rw c.in-MakeString.is (err_to c.put_string.result (λ b h sizes w book more counts. h sizes w book more counts c.requires.idle) c.put_string.ensures.err)
+returns-in-MakeString-clause-err c = rw c.in-MakeString.is (err_to c.put_characters-in-MakeString.result (λ b h sizes w book more counts. h sizes w book more counts c.requires.idle) c.put_characters-in-MakeString.ensures.err)
 
 pub returns-in-MakeMeaning-clause-did : goal.returns-in-MakeMeaning-clause-did
-returns-in-MakeMeaning-clause-did c = rw c.in-MakeMeaning.is (on_ok c.put_meaning.result (λ h sizes w book counts. h sizes w book counts c.requires.idle) c.put_meaning.ensures.did)
+returns-in-MakeMeaning-clause-did c = rw c.in-MakeMeaning.is (on_ok c.put_characters-in-MakeMeaning.result (λ h sizes w book counts. h sizes w book counts c.requires.idle) c.put_characters-in-MakeMeaning.ensures.did)
 
 pub returns-in-MakeMeaning-clause-err : goal.returns-in-MakeMeaning-clause-err
-returns-in-MakeMeaning-clause-err c = rw c.in-MakeMeaning.is (err_to c.put_meaning.result (λ b h sizes w book more counts. h sizes w book more counts c.requires.idle) c.put_meaning.ensures.err)
+returns-in-MakeMeaning-clause-err c = rw c.in-MakeMeaning.is (err_to c.put_characters-in-MakeMeaning.result (λ b h sizes w book more counts. h sizes w book more counts c.requires.idle) c.put_characters-in-MakeMeaning.ensures.err)

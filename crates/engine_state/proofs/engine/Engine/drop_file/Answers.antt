@@ -4,6 +4,7 @@ use Rattle.tex_defs.specs.declared.Sizes.{Sizes}
 use Rattle.plain_tokens.specs.Pending.{Pending}
 use Rattle.plain_tokens.specs.Puts.{Put}
 use Rattle.equivalents.specs.Holding.{lists_held}
+use Rattle.equivalents.specs.Parameters.{style_in}
 use Rattle.plain_machine.specs.States.{State}
 use Rattle.plain_machine.specs.Numbers.{Tied, pending_of}
 use Rattle.plain_machine.specs.Plan.{job_due}
@@ -31,7 +32,7 @@ begins_dropped e sizes quiet b =
         readings = record { frames = b.stands.readings.frames; shallow = b.stands.readings.shallow };
         uncalled = record { none = b.stands.uncalled.none; input = b.stands.uncalled.input };
       };
-      state = λ file. ap (λ (s : State). record s { pending = pending_of first_book.number (unread None); due = job_due file None }) (b.state file);
+      state = λ file. ap (λ (s : State). record s { pending = pending_of first_book.number (unread None); due = job_due (style_in s.groups.now s.names) file None }) (b.state file);
       column = b.column;
       reports = b.reports;
       flawed = b.flawed;

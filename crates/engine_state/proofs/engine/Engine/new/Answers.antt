@@ -1,10 +1,12 @@
 use Rattle.std.proofs.Common.{◌≡◌, ℕ, List, [], refl, sym, ap, subst, ◌∙◌, arith, Bool, false}
 use Rattle.std.specs.Prelude.{Option, Some, None}
+use Rattle.plain_tokens.specs.Printed.{Style}
 use Rattle.plain_tokens.specs.Lex.{NewLine}
 use Rattle.plain_tokens.specs.Puts.{Put}
 use Rattle.plain_tokens.specs.Pending.{Pending}
 use Rattle.equivalents.specs.Groups.{Groups, first_groups}
 use Rattle.equivalents.specs.Holding.{lists_held}
+use Rattle.equivalents.specs.Parameters.{style_in}
 use Rattle.plain_machine.specs.Numbers.{Tied, pending_of, groups_of}
 use Rattle.plain_machine.proofs.GroupNumbers.{first_groups_of}
 use Rattle.plain_machine.proofs.Ties.{tied_at_first}
@@ -35,11 +37,11 @@ first_tied i g p =
     (subst (λ (ps : List Put). Tied first_book.number [] (lists_held (first_groups is_known)) ps i.lists) (sym p) (tied_at_first first_book.number [] is_known i.lists))
 
 -- the first state, by its parts
-first_at : (pending : Pending) (groups : Groups) (names strings : List (List ℕ)) (gathered : List (List Token)) (making : Option (List Token)) (quiet : Bool) (file : List ℕ) (job : Option (List ℕ)) →
-    pending ≡ record { puts = []; line = []; lex = NewLine; rest = file_opened job; file = job_progress job; number = 0 } → groups ≡ first_groups is_known → names ≡ primitive_names → strings ≡ [] → gathered ≡ [] → making ≡ None →
-    record { pending = pending; groups = groups; names = names; strings = strings; macros = []; last = no_token; work = []; gathered = gathered; making = making; in_line = false; reports = 0; flawed = false; quiet = quiet; stopped = None; due = job_due file job }
+first_at : (pending : Pending) (groups : Groups) (names strings : List (List ℕ)) (gathered : List (List Token)) (making : Option (List Token)) (style : Style) (quiet : Bool) (file : List ℕ) (job : Option (List ℕ)) →
+    pending ≡ record { puts = []; line = []; lex = NewLine; rest = file_opened job; file = job_progress job; number = 0 } → groups ≡ first_groups is_known → names ≡ primitive_names → strings ≡ [] → gathered ≡ [] → making ≡ None → style ≡ style_in (first_groups is_known).now primitive_names →
+    record { pending = pending; groups = groups; names = names; strings = strings; macros = []; after = None; last = no_token; work = []; gathered = gathered; making = making; in_line = false; reports = 0; flawed = false; quiet = quiet; stopped = None; due = job_due style file job }
     ≡ first_state (first_groups is_known) quiet file job
-first_at pending groups names strings gathered making quiet file job a b c d e f = rw (a, b, c, d, e, f) refl
+first_at pending groups names strings gathered making style quiet file job a b c d e f g = rw (a, b, c, d, e, f, g) refl
 
 pub returns : goal.returns
 returns c = let i = c.in_ok-input.ensures in let n = c.in-Ok.ensures in let o = c.in-Ok-new.ensures in
@@ -49,6 +51,7 @@ returns c = let i = c.in_ok-input.ensures in let n = c.in-Ok.ensures in let o = 
     let groups = ap (λ (x : Stored). x.groups) i ∙ first_known in
     let numbered = ap (groups_of first_book.number) groups ∙ first_groups_of first_book.number is_known in
     let names = ap (λ (x : Strings). x.names) n in
+    let style = ap (λ (x : Groups). style_in x.now c.in-Ok.names.names) groups ∙ ap (λ (ns : List (List ℕ)). style_in (first_groups is_known).now ns) names in
     let others = ap (λ (x : Strings). x.others) n in
     record {
       stands = record {
@@ -72,7 +75,7 @@ returns c = let i = c.in_ok-input.ensures in let n = c.in-Ok.ensures in let o = 
         };
         uncalled = record { none = refl; input = ap (λ (x : Stored). x.call) i };
       };
-      state = λ file. first_at _ _ _ _ _ _ c.args.quiet file (Some []) here numbered names others (ap gathered i) making;
+      state = λ file. first_at _ _ _ _ _ _ _ c.args.quiet file (Some []) here numbered names others (ap gathered i) making style;
       column = refl;
       reports = refl;
       flawed = refl;

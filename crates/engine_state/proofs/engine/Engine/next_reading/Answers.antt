@@ -3,13 +3,15 @@ use Rattle.tex_syntax.specs.declared.words.Report.TheVariants.{InvalidCharacter}
 use Rattle.plain_machine.specs.Plan.{Page, reported}
 use Rattle.input_state.specs.Reads.{gives_step}
 use Rattle.engine_state.specs.declared.broken.Broken.TheVariants as broken
+use Rattle.engine_state.specs.declared.outcome.Last.TheVariants.{NoEnd}
+use Rattle.engine_state.specs.Begins.{last_moves}
 use Rattle.engine_state.specs.Stands.{page_of}
 use Rattle.engine_state.specs.Rules.{onward_of, scanning_of}
 use Rattle.engine_state.specs.Steps.{next_met, next_free}
 use Rattle.engine_state.proofs.Coming.{meets_by, next_as}
 use Rattle.engine_state.proofs.Joining.{same_err, onward_by}
 use Rattle.engine_state.proofs.CuttingReadings.{cuts_in, in_by}
-use Rattle.engine_state.proofs.Pulling.{token_nexts, token_cuts, token_fits, token_moves_still, name_moves_still, checked_still, lexeme_nexts, lexeme_cuts, taken_rule, pull_cuts, skipped_nexts, skipped_cuts, closed_nexts, closed_cuts, no_end_nexts, no_end_cuts, token_at, lexeme_at, taken_at, invalid_at, over_at, nothing_left, pull_store, frames_now, stands_now, takes_still, token_page, lexeme_page, invalid_page, file_gone, lighter_skip, lighter_close, lighter_after, skipped_light, steps_met, steps_free, not_met, not_over, nothing_steps}
+use Rattle.engine_state.proofs.Pulling.{token_nexts, token_cuts, token_fits, token_moves_still, name_moves_still, checked_still, lexeme_nexts, lexeme_cuts, taken_rule, pull_cuts, skipped_nexts, skipped_cuts, closed_nexts, closed_cuts, no_end_nexts, no_end_cuts, token_at, lexeme_at, taken_at, invalid_at, over_at, nothing_left, pull_store, frames_now, stands_now, takes_still, token_page, lexeme_page, invalid_page, settled_page, file_gone, lighter_skip, lighter_close, lighter_after, skipped_light, steps_met, steps_free, not_met, not_over, nothing_steps}
 use Rattle.engine_state.proofs.engine.Engine.next_reading.Goals as goal
 
 pub returns-in_err-token-clause-err : goal.returns-in_err-token-clause-err
@@ -56,11 +58,11 @@ returns-in_ok-met-in-Lexeme-clause-light g c = λ skipped. absurd (not_met c.in_
 
 pub returns-in-Taken-clause-rule : goal.returns-in-Taken-clause-rule
 returns-in-Taken-clause-rule g c = let e = c.args.self.now in let i = c.pull.new.self in let o = c.pull.ensures.others in let p = taken_at _ _ c.args.self.now.input c.pull.new.self c.in_ok-token.ensures.ok c.in-Taken.is in
-    λ sizes f book want enters takes. taken_rule sizes e i o book _ (page_of e book) want (scanning_of e book.work) (onward_of (page_of e book) want book.work) _ p.0 p.1 takes.1.sound.sized.input
+    λ sizes f book want enters takes. taken_rule sizes e i o book _ (page_of e book) want (scanning_of e book.work) (onward_of (page_of e book) want book.work) p.0 p.1 takes.1.sound.sized.input
     (stands_now sizes e i o book (pull_store sizes e i o _ c.in_ok-token.ensures.ok c.pull.ensures.macros) takes.1)
 
 pub returns-in-Taken-clause-step : goal.returns-in-Taken-clause-step
-returns-in-Taken-clause-step g c = ap gives_step (taken_at _ _ c.args.self.now.input c.pull.new.self c.in_ok-token.ensures.ok c.in-Taken.is).0
+returns-in-Taken-clause-step g c = ap gives_step (taken_at _ _ c.args.self.now.input c.pull.new.self c.in_ok-token.ensures.ok c.in-Taken.is).0.is
 
 pub returns-in_err-ruled-in-Invalid-clause-err : goal.returns-in_err-ruled-in-Invalid-clause-err
 returns-in_err-ruled-in-Invalid-clause-err g c = let e = c.args.self.now in let i = c.pull.new.self in let o = c.pull.ensures.others in let p = invalid_at _ _ c.args.self.now.input c.pull.new.self c.in_ok-token.ensures.ok c.in-Invalid.is in let n = c.in_err-ruled-in-Invalid in
@@ -103,11 +105,13 @@ returns-in_ok-ruled-in-FileOver-clause-light g c = λ skipped. let e = c.args.se
 pub returns-in_err-ruled-in-Nothing-clause-err : goal.returns-in_err-ruled-in-Nothing-clause-err
 returns-in_err-ruled-in-Nothing-clause-err g c = let e = c.args.self.now in let i = c.pull.new.self in let o = c.pull.ensures.others in let p = nothing_left _ _ c.args.self.now.input c.pull.new.self c.in_ok-token.ensures.ok c.in-Nothing.is in let n = c.in_err-ruled-in-Nothing in
     same_err c.from_residual-in_err-ruled-in-Nothing.result n.field-0.0 _ c.from_residual-in_err-ruled-in-Nothing.ensures.1
-    (λ sizes f book want enters takes. no_end_cuts sizes e i o book _ (page_of e book) want (scanning_of e book.work) (onward_of (page_of e book) want book.work) p.0 p.1 _ c.halt.new.self n.field-0.0 (cuts_in sizes _ c.halt.new.self book _ _ _ n.field-0.0 (n.ensures.err sizes f book) c.halt.ensures.frames (stands_now sizes e i o book (pull_store sizes e i o _ c.in_ok-token.ensures.ok c.pull.ensures.macros) takes.1)))
+    (λ sizes f book want enters takes. no_end_cuts sizes e i o book _ (page_of e book) want (scanning_of e book.work) (onward_of (page_of e book) want book.work) p.0 p.1 _ c.halt.new.self n.field-0.0
+    (in_by sizes _ c.halt.new.self _ _ _ _ n.field-0.0 (ap (λ (x : Page). last_moves x NoEnd) (sym (settled_page sizes e i o book p.1))) (cuts_in sizes _ c.halt.new.self book _ _ _ n.field-0.0 (n.ensures.err sizes f book) c.halt.ensures.frames (stands_now sizes e i o book (pull_store sizes e i o _ c.in_ok-token.ensures.ok c.pull.ensures.macros) takes.1))))
 
 pub returns-in_ok-ruled-in-Nothing-clause-rule : goal.returns-in_ok-ruled-in-Nothing-clause-rule
 returns-in_ok-ruled-in-Nothing-clause-rule g c = let e = c.args.self.now in let i = c.pull.new.self in let o = c.pull.ensures.others in let p = nothing_left _ _ c.args.self.now.input c.pull.new.self c.in_ok-token.ensures.ok c.in-Nothing.is in let n = c.in_ok-ruled-in-Nothing in
-    λ sizes f book want enters takes. next_as sizes want _ c.halt.new.self book _ _ _ (next_free n.ruled) _ c.skipping-in-Nothing.ensures (no_end_nexts sizes e i o book _ (page_of e book) want (scanning_of e book.work) (onward_of (page_of e book) want book.work) p.0 p.1 _ c.halt.new.self n.ruled (n.ensures.rule sizes f book))
+    λ sizes f book want enters takes. next_as sizes want _ c.halt.new.self book _ _ _ (next_free n.ruled) _ c.skipping-in-Nothing.ensures (no_end_nexts sizes e i o book _ (page_of e book) want (scanning_of e book.work) (onward_of (page_of e book) want book.work) p.0 p.1 _ c.halt.new.self n.ruled
+    (onward_by sizes _ c.halt.new.self book _ _ _ _ n.ruled (ap (λ (x : Page). last_moves x NoEnd) (sym (settled_page sizes e i o book p.1))) (n.ensures.rule sizes f book)))
 
 pub returns-in_ok-ruled-in-Nothing-clause-step : goal.returns-in_ok-ruled-in-Nothing-clause-step
 returns-in_ok-ruled-in-Nothing-clause-step g c = nothing_steps c.in_ok-ruled-in-Nothing.ruled _ _ _ c.skipping-in-Nothing.ensures c.in_ok-ruled-in-Nothing.ensures.ends

@@ -1,26 +1,26 @@
 use Rattle.std.proofs.Common.{◌≡◌, [], true}
 use Rattle.plain_state.specs.Reports.{message_bytes}
 use Rattle.token_lists.specs.Ids.{build_id}
-use Rattle.plain_tokens.specs.Printed.{initial_style}
 use Rattle.token_show.specs.Views.{style_of}
-use Rattle.engine_state.proofs.Reporting.{style_is, shown_is, listed_is, unlisted_is, err_out}
+use Rattle.engine_state.proofs.Reporting.{shown_is, listed_is, unlisted_is, err_out}
 use Rattle.engine_state.proofs.engine.Engine.write_message.Goals as goal
+use Rattle.engine_state.specs.Stands.{own_style}
 use Rattle.engine_state.proofs.engine.Engine.write_message.Goals.{else-listed-via-then-listed+else-has_list, else-listed-via-else-listed}
 
 pub returns-in_err-write_message-clause-err : goal.returns-in_err-write_message-clause-err
 returns-in_err-write_message-clause-err g c =
-    let e = c.args.self.now in let view = c.initial_view-view in
-    let style : style_of view.result ≡ initial_style e.input.groups.now.categories e.names.names = style_is _ _ e.input.groups.now.categories _ _ view.ensures.style c.categories.ensures c.parts.ensures.names in
-    err_out _ _ e c.write_message.new.in_line _ _ (shown_is (λ style ts. message_bytes style e.in_line ts) (style_of view.result) (initial_style e.input.groups.now.categories e.names.names) _ _ style
+    let e = c.args.self.now in let view = c.view_of-view in
+    let style : style_of view.result ≡ own_style e = view.ensures.style in
+    err_out _ _ e c.write_message.new.in_line _ _ (shown_is (λ style ts. message_bytes style e.in_line ts) (style_of view.result) (own_style e) _ _ style
     (listed_is c.args.listed _ _ (build_id c.list.result.1.now) e.input.builds c.if-listed.true view.ensures.same_lists c.list.ensures.tokens)) c.from_residual.result c.in_err-write_message.field-0.0 c.from_residual.ensures.1 c.in_err-write_message.ensures.err
 
 pub returns-in_err-write_message-2-clause-err : goal.returns-in_err-write_message-2-clause-err
 returns-in_err-write_message-2-clause-err g c =
-    let e = c.args.self.now in let view = c.initial_view-view-else-listed in let i = c.from_residual-in_err-write_message-2 in
-    let style : style_of view.result ≡ initial_style e.input.groups.now.categories e.names.names = style_is _ _ e.input.groups.now.categories _ _ view.ensures.style c.categories-else-listed.ensures c.parts.ensures.names in
+    let e = c.args.self.now in let view = c.view_of-view-else-listed in let i = c.from_residual-in_err-write_message-2 in
+    let style : style_of view.result ≡ own_style e = view.ensures.style in
     let none : c.args.listed ≡ true → e.input.builds ≡ [] = elim c.else-listed.branch [
       | else-listed-via-then-listed+else-has_list w ↦ λ yes. w.if-has_list.ensures
       | else-listed-via-else-listed w ↦ λ yes. cc (w.if-listed.false, yes)
     ] in
-    err_out _ _ e c.write_message-else-listed.new.in_line _ _ (shown_is (λ style ts. message_bytes style e.in_line ts) (style_of view.result) (initial_style e.input.groups.now.categories e.names.names) [] _ style
+    err_out _ _ e c.write_message-else-listed.new.in_line _ _ (shown_is (λ style ts. message_bytes style e.in_line ts) (style_of view.result) (own_style e) [] _ style
     (unlisted_is c.args.listed e.input.builds none)) i.result c.in_err-write_message-2.field-0.0 i.ensures.1 c.in_err-write_message-2.ensures.err

@@ -1,30 +1,30 @@
 use Rattle.std.proofs.Common.{◌≡◌, List, sym, ap, ◌∙◌, subst, Option}
 use Rattle.std.specs.Prelude.{IfSome}
-use Rattle.plain_tokens.specs.Printed.{initial_style}
 use Rattle.token_lists.specs.Ids.{id_of}
 use Rattle.token_lists.specs.Table.{Entry, tokens_at, IsHeld}
 use Rattle.token_show.specs.Views.{style_of}
 use Rattle.transcript.specs.Given.{tokens_given}
-use Rattle.engine_state.proofs.Reporting.{style_is, took_out, err_out}
+use Rattle.engine_state.proofs.Reporting.{took_out, err_out}
 use Rattle.engine_state.proofs.Showing.{text_by}
+use Rattle.engine_state.specs.Stands.{own_style}
 use Rattle.engine_state.proofs.engine.Engine.write_shown_meaning.Goals as goal
 
 pub write_shown_meaning-requires-clause-held : goal.write_shown_meaning-requires-clause-held
 write_shown_meaning-requires-clause-held g c =
-    subst (λ (table : List (Option Entry)). IfSome c.given_list.result.1 (λ r. IsHeld table (id_of r.now))) (sym c.initial_view-view.ensures.same_lists) c.given_list.ensures.held
+    subst (λ (table : List (Option Entry)). IfSome c.given_list.result.1 (λ r. IsHeld table (id_of r.now))) (sym c.view_of-view.ensures.same_lists) c.given_list.ensures.held
 
 pub returns-in_err-write_shown_meaning-clause-err : goal.returns-in_err-write_shown_meaning-clause-err
 returns-in_err-write_shown_meaning-clause-err g c =
-    let e = c.args.self.now in let view = c.initial_view-view in
-    let style : style_of view.result ≡ initial_style e.input.groups.now.categories e.names.names = style_is _ _ e.input.groups.now.categories _ _ view.ensures.style c.categories.ensures c.parts.ensures.names in
+    let e = c.args.self.now in let view = c.view_of-view in
+    let style : style_of view.result ≡ own_style e = view.ensures.style in
     let tokens = ap (λ (table : List (Option Entry)). tokens_given (λ r. tokens_at table (id_of r.now)) c.given_list.result.1) view.ensures.same_lists ∙ c.given_list.ensures.tokens in
     err_out _ _ e c.write_shown_meaning.new.in_line _ _ (text_by (style_of view.result) _ e.in_line c.line_number-line.result _ c.args.x.token c.args.x.meaning _ _ style c.line_number-line.ensures tokens)
     c.from_residual.result c.in_err-write_shown_meaning.field-0.0 c.from_residual.ensures.1 c.in_err-write_shown_meaning.ensures.err
 
 pub returns-clause-did : goal.returns-clause-did
 returns-clause-did g c =
-    let e = c.args.self.now in let view = c.initial_view-view in
-    let style : style_of view.result ≡ initial_style e.input.groups.now.categories e.names.names = style_is _ _ e.input.groups.now.categories _ _ view.ensures.style c.categories.ensures c.parts.ensures.names in
+    let e = c.args.self.now in let view = c.view_of-view in
+    let style : style_of view.result ≡ own_style e = view.ensures.style in
     let tokens = ap (λ (table : List (Option Entry)). tokens_given (λ r. tokens_at table (id_of r.now)) c.given_list.result.1) view.ensures.same_lists ∙ c.given_list.ensures.tokens in
     took_out _ _ e c.write_shown_meaning.new.in_line _ _ (text_by (style_of view.result) _ e.in_line c.line_number-line.result _ c.args.x.token c.args.x.meaning _ _ style c.line_number-line.ensures tokens)
     c.in_ok-write_shown_meaning.ensures.ok

@@ -1,13 +1,7 @@
-use Rattle.std.proofs.Common.{◌≡◌, ◌∙◌, ◌⊎◌, inl, inr, sym}
-use Rattle.line_lexer.specs.declared.Ahead.{Ahead}
-use Rattle.line_lexer.specs.declared.Ahead.TheVariants as ahead
+use Rattle.std.proofs.Common.{◌∙◌, sym}
 use Rattle.input_state.specs.NextBytes.{InFront}
-use Rattle.input_state.proofs.Readies.{in_front, knows_next, needs_bytes}
+use Rattle.input_state.proofs.Readies.{no_end, in_front, knows_next, needs_bytes}
 use Rattle.input_state.proofs.state.Input.needs_bytes.Goals as goal
-
-no_end : (a : Ahead) → (a ≡ ahead.Token) ⊎ (a ≡ ahead.Invalid) → a ≡ ahead.End → ⊥
-no_end a (inl token) h = let k = sym token ∙ h in cc
-no_end a (inr invalid) h = let k = sym invalid ∙ h in cc
 
 pub returns-in-Token : goal.returns-in-Token
 returns-in-Token c = record {

@@ -2,8 +2,13 @@ use Rattle.std.proofs.Common.{◌∙◌, ap, sym}
 use Rattle.plain_tokens.specs.Pending.{settle}
 use Rattle.input_state.specs.Stored.{Stored}
 use Rattle.input_state.specs.HeldLists.{ahead_of}
-use Rattle.input_state.proofs.Files.{keeps_twice, settled_twice, ahead_settled, pull_ok, pull_refused, pull_err}
+use Rattle.input_state.proofs.Readies.{no_end}
+use Rattle.input_state.proofs.Files.{keeps_twice, settled_twice, ahead_settled, front_ok, pull_ok, pull_refused, pull_err}
 use Rattle.input_state.proofs.state.Input.pull.Goals as goal
+
+pub returns-in-Token-clause-ok : goal.returns-in-Token-clause-ok
+returns-in-Token-clause-ok c =
+    front_ok c.args.self.now c.read_front.new.self c.read_front.result (λ h. no_end c.looks.result c.in-Token.is (c.looks.ensures.ahead ∙ h)) c.read_front.ensures.gives c.read_front.ensures.refused
 
 pub returns-in-End-clause-ok : goal.returns-in-End-clause-ok
 returns-in-End-clause-ok c = pull_ok c.settle.new.self.lists c.args.self.now c.pull_file.new.self (sym c.looks.ensures.ahead ∙ c.in-End.is) c.settle.new.self c.pull_file.result c.settle.ensures.after c.pull_file.ensures.ok

@@ -1,0 +1,123 @@
+// Groups opened and closed, and the tokens that come behind them and behind assignments.
+ghost use Rattle.std.specs.Prelude.{◌≡◌, [], ◌∷◌, ◌++◌, List, IfErr, OnOk, Some, None};
+ghost use Rattle.tex_defs.specs.Places.{World};
+ghost use Rattle.tex_defs.specs.declared.Sizes.{Sizes};
+ghost use Rattle.equivalents.specs.Groups.{kind_of};
+ghost use Rattle.plain_machine.specs.States.{Move, GroupOpened, KeptForAssignment};
+ghost use Rattle.plain_machine.specs.Plan.{put_each, group_ended, kept_for_group, behind_assignment};
+ghost use Rattle.plain_machine.specs.Does.{Did};
+ghost use Rattle.engine_state.specs.Book.{Book};
+ghost use Rattle.engine_state.specs.Stands.{Stands, Counts, IsSound, SameStore, SameOthers, SameFrames, state_of, page_of};
+ghost use Rattle.engine_state.specs.Rules.{Cuts};
+ghost use Rattle.engine_state.specs.Steps.{pending_weight};
+
+use crate::broken::Broken;
+use crate::engine::Engine;
+use save_stack::GroupKind;
+use tex_defs::{Sizes, Token};
+
+impl Engine {
+    /// Opens a group. *The TeXbook*, chapter 24; *TeX: The Program*, part 19 (`new_save_level`).
+    ///
+    /// # Errors
+    /// The save stack is full, or else as many groups are open as may be; nothing has changed.
+    pub fn open_group(&mut self, kind: GroupKind) -> Result<(), Broken>
+        ensures did { OnOk result ((sizes : Sizes) (w : World) (book : Book) → IsSound sizes self.old book.number book.macros → Did sizes (state_of self.old book) (state_of self.new book) w w (GroupOpened kind ∷ [])) }
+        ensures err { IfErr result (λ b. (sizes : Sizes) (w : World) (book : Book) → IsSound sizes self.old book.number book.macros → Cuts sizes (state_of self.old book) self.new book w w (GroupOpened kind ∷ []) b) }
+        ensures stands { OnOk result ((sizes : Sizes) (book : Book) → Stands sizes self.old book → Stands sizes self.new book) }
+        ensures frames { SameFrames self.old self.new }
+        ensures only { self.new ≡ record self.old { input = record self.old.input { groups = self.new.input.groups } } }
+    {
+        self.input.open_group(kind)?;
+        Ok(())
+    }
+
+    /// Keeps a token for the end of the innermost group; where no group is open, it is dropped. *The TeXbook*, chapter 24 (`\aftergroup`);
+    /// *TeX: The Program*, part 19 (`save_for_after`).
+    ///
+    /// # Errors
+    /// The save stack is full; nothing has changed.
+    pub fn keep_for_group(&mut self, token: Token) -> Result<(), Broken>
+        ensures did { OnOk result ((sizes : Sizes) (w : World) (book : Book) → IsSound sizes self.old book.number book.macros → Did sizes (state_of self.old book) (state_of self.new book) w w (kept_for_group (kind_of self.old.input.groups) token)) }
+        ensures err { IfErr result (λ b. (sizes : Sizes) (w : World) (book : Book) (more : List Move) → IsSound sizes self.old book.number book.macros → Cuts sizes (state_of self.old book) self.new book w w (kept_for_group (kind_of self.old.input.groups) token ++ more) b) }
+        ensures stands { OnOk result ((sizes : Sizes) (book : Book) → Stands sizes self.old book → Stands sizes self.new book) }
+        ensures frames { SameFrames self.old self.new }
+        ensures only { self.new ≡ record self.old { input = record self.old.input { groups = self.new.input.groups } } }
+    {
+        if self.input.group_depth() > 0 {
+            self.input.after_group(token)?;
+        }
+        Ok(())
+    }
+
+    /// The tokens that come after the group that was closed are put in front, the last first.
+    fn put_closing(&mut self) -> Result<(), Broken>
+        requires idle { self.old.input.making ≡ None }
+        requires closing { self.old.input.ending ≡ None → ⊥ }
+        ensures did { OnOk result ((sizes : Sizes) (w : World) (book : Book) → Counts sizes self.old book → Did sizes (state_of self.old book) (state_of self.new book) w w (put_each self.old.input.closing)) }
+        ensures err { IfErr result (λ b. (sizes : Sizes) (w : World) (book : Book) → Counts sizes self.old book → Cuts sizes (state_of self.old book) self.new book w w (put_each self.old.input.closing) b) }
+        ensures frames { SameFrames self.old self.new }
+        ensures others { SameOthers self.old self.new }
+        ensures sound { (sizes : Sizes) (book : Book) → IsSound sizes self.old book.number book.macros → IsSound sizes self.new book.number book.macros }
+        ensures light { pending_weight self.new.input.pending ≡ pending_weight self.old.input.pending }
+        ensures idle { OnOk result (self.new.input.making ≡ None) }
+    {
+        while let Some(token) = self.input.next_after() {
+            self.put_one(token)?;
+        }
+        Ok(())
+    }
+
+    /// The innermost group ends: what was saved in it holds again, and the tokens that come after it are put in front, the last first. A group is
+    /// open, and no call gathers its arguments. *The TeXbook*, chapter 24; *TeX: The Program*, part 19 (`unsave`).
+    ///
+    /// # Errors
+    /// The main memory or the input stack is full: the group has gone, and of the tokens there are those that had room.
+    pub fn end_group(&mut self) -> Result<(), Broken>
+        requires idle { self.old.input.making ≡ None }
+        requires open { kind_of self.old.input.groups ≡ None → ⊥ }
+        ensures did { OnOk result ((sizes : Sizes) (w : World) (book : Book) → Stands sizes self.old book → Did sizes (state_of self.old book) (state_of self.new book) w w (group_ended (page_of self.old book))) }
+        ensures err { IfErr result (λ b. (sizes : Sizes) (w : World) (book : Book) → Stands sizes self.old book → Cuts sizes (state_of self.old book) self.new book w w (group_ended (page_of self.old book)) b) }
+        ensures stands { OnOk result ((sizes : Sizes) (book : Book) → Stands sizes self.old book → Stands sizes self.new book) }
+        ensures frames { SameFrames self.old self.new }
+        ensures others { SameOthers self.old self.new }
+        ensures light { pending_weight self.new.input.pending ≡ pending_weight self.old.input.pending }
+        ensures idle { OnOk result (self.new.input.making ≡ None) }
+    {
+        if self.input.is_calling() {
+            return Ok(());
+        }
+        self.input.recall_groups();
+        self.input.close_group();
+        self.put_closing()
+    }
+
+    /// Keeps the token that comes behind the next assignment. *The TeXbook*, chapter 24 (`\afterassignment`); *TeX: The Program*, part 49
+    /// (`after_token`).
+    pub fn keep_after(&mut self, token: Token)
+        ensures did { (sizes : Sizes) (w : World) (book : Book) → Did sizes (state_of self.old book) (state_of self.new book) w w (KeptForAssignment (Some token) ∷ []) }
+        ensures after { self.new ≡ record self.old { after = Some token } }
+    {
+        self.after = Some(token);
+    }
+
+    /// Behind an assignment the token is put in front that `\afterassignment` kept, if it kept one.
+    ///
+    /// # Errors
+    /// The main memory or the input stack is full: of the list there is what had room.
+    pub fn put_after(&mut self) -> Result<(), Broken>
+        requires idle { self.old.input.making ≡ None }
+        ensures did { OnOk result ((sizes : Sizes) (w : World) (book : Book) → Counts sizes self.old book → Did sizes (state_of self.old book) (state_of self.new book) w w (behind_assignment self.old.after)) }
+        ensures err { IfErr result (λ b. (sizes : Sizes) (w : World) (book : Book) (more : List Move) → Counts sizes self.old book → Cuts sizes (state_of self.old book) self.new book w w (behind_assignment self.old.after ++ more) b) }
+        ensures frames { SameFrames self.old self.new }
+        ensures others { SameOthers (record self.old { after = None }) self.new }
+        ensures store { SameStore self.old.input self.new.input }
+        ensures light { pending_weight self.new.input.pending ≡ pending_weight self.old.input.pending }
+        ensures idle { OnOk result (self.new.input.making ≡ None) }
+    {
+        match self.after.take() {
+            Some(token) => self.put_one(token),
+            None => Ok(()),
+        }
+    }
+}

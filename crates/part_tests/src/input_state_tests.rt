@@ -1,0 +1,145 @@
+//! Groups in the state of a run: their opening and end, and the tokens that come behind them.
+
+ghost use Rattle.std.specs.Prelude.{◌≡◌, None};
+ghost use Rattle.input_state.specs.Callings.{NotCalling};
+
+use eqtb_save::GroupKind;
+use input_state::Input;
+use std::alloc::Global;
+use tex_defs::{Full, Meaning, Name, Seen, Sizes, Token};
+
+const A: Name = Name::Single(97);
+
+const B: Name = Name::Single(98);
+
+const LETTER: Token = Token::Char { cat: 11, code: 120 };
+
+const FIRST: Token = Token::Char { cat: 12, code: 49 };
+
+const SECOND: Token = Token::Named(Name::Empty);
+
+// `\def\a{x}`
+fn define_a(input: &mut Input) -> Result<(), Full>
+    requires { input.old.call ≡ NotCalling }
+    ensures { input.new.call ≡ NotCalling }
+{
+    input.begin_list()?;
+    input.grow_list(Token::EndPlaces)?;
+    input.grow_list(LETTER)?;
+    if input.is_placed(A) {
+        return input.define(A, false, false, false);
+    }
+    Ok(())
+}
+
+// `\let\b=\a`
+fn let_b(input: &mut Input) -> Result<(), Full>
+    requires { input.old.call ≡ NotCalling }
+    ensures { input.new.call ≡ NotCalling }
+{
+    let seen = input.seen(Token::Named(A));
+    if input.is_placed(B) {
+        return input.let_name(B, seen, false);
+    }
+    Ok(())
+}
+
+// What `\b` means, the words that are used, the groups that are open and the kind of the innermost.
+type Told = (Meaning<()>, u32, u32, Option<GroupKind>);
+
+fn told(input: &Input) -> Told {
+    let Seen { token: _, meaning } = input.seen(Token::Named(B));
+    (
+        meaning,
+        input.words(),
+        input.group_depth(),
+        input.group_kind(),
+    )
+}
+
+// `\begingroup\aftergroup 1\aftergroup\csname\endcsname\let\b=\a`: what is told in the group.
+fn in_group(input: &mut Input) -> Result<Told, Full>
+    requires { input.old.call ≡ NotCalling }
+    ensures { input.new.call ≡ NotCalling }
+{
+    input.open_group(GroupKind::SemiSimple)?;
+    if input.group_depth() > 0 {
+        input.after_group(FIRST)?;
+    }
+    if input.group_depth() > 0 {
+        input.after_group(SECOND)?;
+    }
+    let_b(input)?;
+    Ok(told(input))
+}
+
+// The innermost group ends, if one is open. Whether its tokens are the two, the last first.
+fn end_group(input: &mut Input) -> bool
+    requires { input.old.call ≡ NotCalling }
+    ensures { input.new.call ≡ NotCalling }
+{
+    let Some(_) = input.group_kind() else {
+        return false;
+    };
+    if input.group_depth() == 0 {
+        return false;
+    }
+    input.close_group();
+    are_next(input)
+}
+
+// Whether the tokens that come behind the group are the two.
+fn are_next(input: &mut Input) -> bool
+    requires { input.old.ending ≡ None → ⊥ }
+    ensures { input.new.call ≡ input.old.call }
+{
+    let Some(last) = input.next_after() else {
+        return false;
+    };
+    let Some(first) = input.next_after() else {
+        return false;
+    };
+    let end = input.next_after();
+    last == SECOND && first == FIRST && end.is_none()
+}
+
+const OUTSIDE: Told = (Meaning::Undefined, 3, 0, None);
+
+const INSIDE: Told = (
+    Meaning::Macro {
+        long: false,
+        outer: false,
+        list: (),
+    },
+    3,
+    1,
+    Some(GroupKind::SemiSimple),
+);
+
+// Whether `\b` shares the list of `\a` in the group alone, no word is taken, and the tokens come behind it.
+fn gives_back(input: &mut Input) -> Result<bool, Full>
+    requires { input.old.call ≡ NotCalling }
+{
+    define_a(input)?;
+    let before = told(input) == OUTSIDE;
+    let inside = in_group(input)? == INSIDE;
+    let tokens = end_group(input);
+    Ok(before && inside && tokens && told(input) == OUTSIDE)
+}
+
+fn is_given_back(alloc: Global) -> bool {
+    let Ok(mut input) = Input::new(alloc, &Sizes::DEFAULT, false, &[]) else {
+        return false;
+    };
+    let given = gives_back(&mut input);
+    input.close();
+    match given {
+        Ok(given) => given,
+        Err(_) => false,
+    }
+}
+
+#[test]
+fn a_group_gives_back_what_held(rt: HostRuntime) {
+    assert!(rt; is_given_back(rt.alloc()));
+}
