@@ -138,7 +138,7 @@ pub fn job_name(file: &[u8]) -> &[u8]
 
 /// Whether a `.` stands behind the area of a name.
 #[tactic(auto, using(crate::proofs::Areas::has_any))]
-fn has_extension(name: &[u8]) -> bool
+pub fn has_extension(name: &[u8]) -> bool
     ensures { result ≡ spec.has 46 (spec.behind_area name.now) }
 {
     behind_area(name).contains(&b'.')

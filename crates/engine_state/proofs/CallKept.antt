@@ -9,6 +9,7 @@ use Rattle.tex_defs.specs.declared.Meaning.{Meaning}
 use Rattle.tex_defs.specs.declared.Meaning.TheVariants as means
 use Rattle.plain_tokens.specs.Arguments.{has_parameters}
 use Rattle.plain_tokens.specs.Meanings.{name_meaning, is_listed}
+use Rattle.plain_tokens.specs.Pending.{all_puts}
 use Rattle.plain_readings.specs.Readings.{Reading, Arguments}
 use Rattle.plain_tokens.specs.Tables.{is_put}
 use Rattle.equivalents.specs.Groups.{Groups}
@@ -50,8 +51,8 @@ meant_by g n long outer id is = name_held id g (named_meant id g.now.meanings n 
 -- its list stays
 pub list_still : (i j : Stored) (n : Name) (long outer : Bool) (id : ℕ) → SameStore i j → name_meaning i.groups.now.meanings n ≡ means.Macro long outer (Some id) → list_at j.lists id ≡ list_at i.lists id
 list_still i j n long outer id store is = store.lists.tokens id held where
-  held : is_shared id (lists_held j.groups) j.pending.puts ≡ true
-  held = or_left (is_listed (lists_held j.groups) id) (is_put id j.pending.puts) (ap (λ (g : Groups). is_listed (lists_held g) id) store.groups ∙ meant_by i.groups n long outer id is)
+  held : is_shared id (lists_held j.groups) (all_puts j.pending) ≡ true
+  held = or_left (is_listed (lists_held j.groups) id) (is_put id (all_puts j.pending)) (ap (λ (g : Groups). is_listed (lists_held g) id) store.groups ∙ meant_by i.groups n long outer id is)
 
 -- THE CALL
 

@@ -54,6 +54,7 @@ frame_built (frame.Command scan p) n o h = command_passes (reads_under_normal p)
 frame_built (frame.Integer scan) n o h = h
 frame_built (frame.Build scan) n o h = built_other scan.defines
 frame_built (frame.Spelling scan) n o h = h
+frame_built (frame.FileName scan) n o h = h
 frame_built (frame.Behind c x) n o h = h
 
 all_built : (fs : List Frame) (n : ℕ) → IfSome (innermost_found fs n) IsBuilt
@@ -78,6 +79,7 @@ frame_held (frame.Command scan p) n m o le h = command_passes (reads_under_norma
 frame_held (frame.Integer scan) n m o le h = h
 frame_held (frame.Build scan) n m o le h = omega (arith, le)
 frame_held (frame.Spelling scan) n m o le h = h
+frame_held (frame.FileName scan) n m o le h = h
 frame_held (frame.Behind c x) n m o le h = h
 
 all_held : (fs : List Frame) (n : ℕ) (held : Lists) (work : List Reading) → n ≤ length held → frames.FramesStand fs (drop n held) work → IfSome (innermost_found fs n) (IsBelow (length held))

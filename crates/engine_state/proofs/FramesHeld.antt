@@ -75,7 +75,7 @@ stands_new sizes e e' book work fs held same fs_are held_are st stand shallow = 
 }
 
 pub state_new : (e e' : Engine) (book : Book) (work : List Reading) (held : List (List Token)) → SameBut e e' → e'.last ≡ e.last → gathered e'.input ≡ held → record (state_of e book) { work = work; gathered = held } ≡ state_of e' (with_work work book)
-state_new e e' book work held same last lists = cc (same.pending, same.others.names, same.store.groups, same.making, same.others.in_line, same.others.reports, same.others.flawed, same.others.quiet, last, lists)
+state_new e e' book work held same last lists = cc (same.pending, same.others.names, same.others.naming, same.store.groups, same.making, same.others.in_line, same.others.reports, same.others.flawed, same.others.quiet, last, lists)
 
 -- the engine with these frames, over these lists
 abbrev pub framed_with : Engine → Stack → (held lists : List (List Token)) → Engine
@@ -88,6 +88,7 @@ same_with e e' stack held is size kept = record {
     call = ap (λ (x : Engine). x.call) is;
     names = ap (λ (x : Engine). x.names) is;
     after = ap (λ (x : Engine). x.after) is;
+    naming = ap (λ (x : Engine). x.naming) is;
     in_line = ap (λ (x : Engine). x.in_line) is;
     reports = ap (λ (x : Engine). x.reports) is;
     flawed = ap (λ (x : Engine). x.flawed) is;

@@ -6,6 +6,7 @@ use Rattle.tex_defs.specs.declared.Full.{Full}
 use Rattle.tex_defs.specs.declared.Sizes.{Sizes}
 use Rattle.tex_defs.specs.declared.Token.{Token}
 use Rattle.plain_tokens.specs.Meanings.{is_listed}
+use Rattle.plain_tokens.specs.Pending.{all_puts}
 use Rattle.plain_tokens.specs.Tables.{Demand, refused}
 use Rattle.save_stack.specs.declared.GroupKind.{GroupKind}
 use Rattle.save_stack.specs.Closing.{kind_last}
@@ -61,9 +62,9 @@ module _ (e : Engine) (g : Groups) (closing : List Token) (ending : Option Group
         names = h.sized.names;
         located = same ∙ h.sized.located;
       };
-      tied = tied_stayed number macros (lists_held g) e.input.pending.puts e.input.lists
-          (tied_fewer number macros (lists_held e.input.groups) e.input.pending.puts e.input.lists h.tied (lists_held g) e.input.pending.puts
-          (λ n held. held_more n (lists_held g) (lists_held e.input.groups) e.input.pending.puts e.input.pending.puts (fewer n) (λ put. put) held)) lists
+      tied = tied_stayed number macros (lists_held g) (all_puts e.input.pending) e.input.lists
+          (tied_fewer number macros (lists_held e.input.groups) (all_puts e.input.pending) e.input.lists h.tied (lists_held g) (all_puts e.input.pending)
+          (λ n held. held_more n (lists_held g) (lists_held e.input.groups) (all_puts e.input.pending) (all_puts e.input.pending) (fewer n) (λ put. put) held)) lists
           (λ k below none. body_at macros k h.bodies below none) kept_after.tokens;
       bodies = h.bodies;
     }

@@ -17,6 +17,7 @@ pub mod MadeTexts
 pub mod MeaningTexts
 pub mod CuttingReadings
 pub mod Pulling
+pub mod FirstLines
 pub mod Putting
 pub mod ReadingEnds
 pub mod ReadingsFed

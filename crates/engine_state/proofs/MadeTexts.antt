@@ -10,6 +10,7 @@ use Rattle.tex_defs.specs.declared.Meaning.{Meaning}
 use Rattle.tex_defs.specs.declared.Meaning.TheVariants as means
 use Rattle.plain_tokens.specs.Tokens.{made_token, made_text}
 use Rattle.plain_tokens.specs.Meanings.{seen_as, token_meaning, whole_meaning}
+use Rattle.plain_tokens.specs.Pending.{all_puts}
 use Rattle.plain_tokens.specs.Printed.{Style, meaning_head, token_text, list_from, places_after, last_after}
 use Rattle.plain_machine.specs.Plan.{Page}
 use Rattle.plain_machine.proofs.Ties.{text_let}
@@ -125,7 +126,7 @@ characters_are sizes e book sound make.JobName = refl
 characters_are sizes e book sound (make.Number n) = refl
 characters_are sizes e book sound (make.Roman n) = refl
 characters_are sizes e book sound (make.Spelling t) = refl
-characters_are sizes e book sound (make.Meaning x) = text_let book.number book.macros e.input.groups e.input.pending.puts e.input.lists sound.tied (own_style e) x
+characters_are sizes e book sound (make.Meaning x) = text_let book.number book.macros e.input.groups (all_puts e.input.pending) e.input.lists sound.tied (own_style e) x
 
 -- before and behind what begins a text
 pub characters_behind : (sizes : Sizes) (e e1 : Engine) (book : Book) → IsInFront e e1 → IsSound sizes e book.number book.macros → (m : Made) → characters_of (page_of e book) m ≡ characters_in e1 m

@@ -2,7 +2,7 @@
 use Rattle.std.proofs.Common.{◌≡◌, ℕ, ◌+◌, ◌*◌, ◌<◌, List, [], ◌∷◌, ◌++◌, length, refl, sym, ap, ◌∙◌, subst, Bool, true, false, arith}
 use Rattle.std.specs.Prelude.{Option, Some, None, codes}
 use Rattle.std.proofs.lemmas.List.{append-nil, length-append}
-use Rattle.std.proofs.lemmas.List.Sums.{sum_by-cons}
+use Rattle.std.proofs.lemmas.List.Sums.{sum_by-cons, sum_by-append}
 use Rattle.tex_syntax.specs.declared.words.Want.{Want}
 use Rattle.tex_syntax.specs.declared.words.Outcome.{Outcome}
 use Rattle.tex_syntax.specs.declared.words.Report.TheVariants as reports
@@ -15,7 +15,7 @@ use Rattle.tex_defs.specs.declared.Table.TheVariants.{InputStackSize}
 use Rattle.tex_defs.specs.Places.{World}
 use Rattle.plain_tokens.specs.Puts.{Item, Text, First, Later, Gap, Put as PutList, settled, settled_top, passed, next_item, top_item, first_item, put_levels, levels_of}
 use Rattle.plain_tokens.specs.Lines.{first_line}
-use Rattle.plain_tokens.specs.Pending.{Pending, Progress, NotBegun, Begun as BegunFile, Closed, Pulled, TokenFrom, LexemeFrom, LineTaken, InvalidMet, FileOver, NothingLeft, settle, pulled, after_pull, with_end, from_front, from_list, from_line, from_file}
+use Rattle.plain_tokens.specs.Pending.{Pending, Source, Progress, Begun as BegunFile, Closed, Pulled, TokenFrom, LexemeFrom, LineTaken, InvalidMet, FileOver, NothingLeft, settle, pulled, after_pull, with_end, from_front, from_list, from_line, from_file, from_begun, all_puts, outer_puts}
 use Rattle.plain_tokens.specs.Lex.{Lexeme, Character, ActiveName, SingleName, EmptyName, WordName, ParName, Lexed, Gives, Invalid, UsedUp, lexed}
 use Rattle.plain_tokens.specs.Lookup.{number_of, token_of, joins, new_among, new_name}
 use Rattle.tex_defs.specs.declared.Meaning.{Meaning}
@@ -24,9 +24,9 @@ use Rattle.plain_tokens.specs.Meanings.{seen, met as met_token}
 use Rattle.plain_readings.specs.Readings.{Reading}
 use Rattle.plain_readings.specs.Scanning.{Scanning, scanning}
 use Rattle.plain_machine.specs.States.{State, Move, Handed, Taken, Settled, Skipped, FileClosed, Entered, made}
-use Rattle.plain_tokens.specs.Tables.{is_put, Demand, level, opened_level, file_levels, file_level, buffer, next_line, refused, full, new_name as name_demands}
+use Rattle.plain_tokens.specs.Tables.{is_put, Demand, level, opened_level, begun_files, next_line, refused, full, new_name as name_demands}
 use Rattle.plain_machine.specs.Demands.{refusal}
-use Rattle.plain_machine.specs.Plan.{Page, handed, met, entered, without_file, checked, reported}
+use Rattle.plain_machine.specs.Plan.{Page, handed, met, entered, at_line, checked, reported}
 use Rattle.equivalents.specs.Groups.{Groups}
 use Rattle.equivalents.specs.Parameters.{end_of_line}
 use Rattle.plain_machine.specs.Numbers.{Tied, pending_of, pulled_of}
@@ -35,9 +35,9 @@ use Rattle.plain_machine.specs.Does.{Did}
 use Rattle.plain_machine.proofs.Doing.{did_join, did_one, wrote_none}
 use Rattle.plain_machine.proofs.Renumbering.{settle_of, next_item_of, opened_level_of, next_line_of, pulled_same, met_of}
 use Rattle.plain_machine.proofs.GroupNumbers.{entered_of}
-use Rattle.plain_machine.proofs.Ties.{put_settled, put_pulled}
+use Rattle.plain_machine.proofs.Ties.{put_settle, put_pulled}
 use Rattle.plain_machine.proofs.Settling.{pulled_settled, passed_settled}
-use Rattle.plain_machine.proofs.Silent.{Lighter, lighter}
+use Rattle.plain_machine.proofs.Silent.{Lighter, lighter, outer_weight as outer_lightness, pending_weight as lightness}
 use Rattle.world_io.specs.Told.{FilesTold, SinkTold, world}
 use Rattle.input_state.specs.Stored.{Stored, KeepsMacros, gathered}
 use Rattle.input_state.specs.Reads.{Pulls, ReadsLexeme, TakesLine, step_demands, pull_refusal}
@@ -55,7 +55,7 @@ use Rattle.engine_state.specs.declared.outcome.Ruled.{Ruled}
 use Rattle.engine_state.specs.declared.outcome.Ruled.TheVariants.{Step, Free, Halted}
 use Rattle.engine_state.specs.declared.outcome.Last.TheVariants as last
 use Rattle.engine_state.specs.Begins.{last_moves}
-use Rattle.engine_state.specs.Steps.{IsHalted, IsSkipped, IsOver, NextStepsIf, next_met, next_free, pending_weight, readings_weight, call_weight, weight, asked}
+use Rattle.engine_state.specs.Steps.{IsHalted, IsSkipped, IsOver, NextStepsIf, next_met, next_free, file_weight, outer_weight, pending_weight, readings_weight, call_weight, weight, asked}
 use Rattle.engine_state.specs.declared.outcome.Next.{Next}
 use Rattle.engine_state.specs.Book.{Book}
 use Rattle.engine_state.specs.Calls.{AllStand, ReadingsStand, CallStands}
@@ -164,7 +164,7 @@ module _ (sizes : Sizes) (e : Engine) (book : Book) where
   pub sound_names : (new : List (List ℕ)) → IsSound sizes e book.number book.macros → IsSound sizes (with_names new e) book.number book.macros
   sound_names new h = record {
     sized = sized_names new h.sized;
-    tied = subst (λ (held : List ℕ). Tied book.number book.macros held e.input.pending.puts e.input.lists) (sym (lists_entered new e.input.groups)) h.tied;
+    tied = subst (λ (held : List ℕ). Tied book.number book.macros held (all_puts e.input.pending) e.input.lists) (sym (lists_entered new e.input.groups)) h.tied;
     bodies = h.bodies;
   }
 
@@ -282,8 +282,12 @@ levels_settled : (ps : List PutList) → put_levels (settled ps) ≡ put_levels 
 levels_settled [] = refl
 levels_settled (p ∷ ps) = level_top p p.items ps refl (levels_settled ps)
 
+all_settled : (p : Pending) → put_levels (all_puts (settle p)) ≡ put_levels (all_puts p)
+all_settled p =
+    omega (arith, levels_settled p.puts, sum_by-append (λ (q : PutList). levels_of q.items) (settled p.puts) (outer_puts p.outer), sum_by-append (λ (q : PutList). levels_of q.items) p.puts (outer_puts p.outer))
+
 same_level : (p : Pending) → level (settle p) ≡ level p
-same_level p = ap (λ (n : ℕ). record { table = InputStackSize; used = n + file_levels p.file; need = 1 }) (levels_settled p.puts)
+same_level p = ap (λ (n : ℕ). record { table = InputStackSize; used = n + begun_files p; need = 1 }) (all_settled p)
 
 -- and the next item is the same
 opened_same : (p : Pending) (o : Option Item) → opened_level o (settle p) ≡ opened_level o p
@@ -308,14 +312,6 @@ front_done categories p (y ∷ ys) x q h = list_done categories p y ys y.items x
 lexeme_opens : (categories : List ℕ) (p : Pending) (x : Lexeme) (q : Pending) → pulled categories p ≡ LexemeFrom x q → opened_level (next_item (settled p.puts)) (settle p) ≡ []
 lexeme_opens categories p x q h = opened_settled p ∙ ap (λ (o : Option Item). opened_level o p) (front_done categories p (passed p.puts) x q h)
 
-level_settled : (p : Pending) (f : Progress) → file_level f (settle p) ≡ file_level f p
-level_settled p NotBegun = ap (λ (d : Demand). d ∷ []) (same_level p)
-level_settled p BegunFile = refl
-level_settled p Closed = refl
-
-line_settled : (p : Pending) → next_line (settle p) ≡ next_line p
-line_settled p = ap (λ (ds : List Demand). buffer p.rest ∷ ds) (level_settled p p.file)
-
 -- a token, a character or name, or an invalid character leaves the line's number
 abbrev KeepsNumber : Pending → Pulled → Type 0
 KeepsNumber p (TokenFrom t q) = q.number ≡ p.number
@@ -323,16 +319,19 @@ KeepsNumber p (LexemeFrom x q) = q.number ≡ p.number
 KeepsNumber p (InvalidMet q) = q.number ≡ p.number
 KeepsNumber p r = Unit {0}
 
-number_file : (p : Pending) (f : Progress) (bytes : List ℕ) → KeepsNumber p (from_file f p.number bytes)
-number_file p NotBegun bytes = tt
-number_file p BegunFile [] = tt
-number_file p BegunFile (c ∷ cs) = tt
-number_file p Closed bytes = tt
+number_begun : (p : Pending) (ends : Bool) (rest : List ℕ) → KeepsNumber p (from_begun p ends rest)
+number_begun p true rest = tt
+number_begun p false [] = tt
+number_begun p false (c ∷ cs) = tt
+
+number_file : (p : Pending) (f : Progress) → KeepsNumber p (from_file p f)
+number_file p BegunFile = number_begun p p.ends p.rest
+number_file p Closed = tt
 
 number_line : (p : Pending) (l : Lexed) → KeepsNumber p (from_line p l)
 number_line p (Gives x state line) = refl
 number_line p (Invalid state line) = refl
-number_line p UsedUp = number_file p p.file p.rest
+number_line p UsedUp = number_file p p.file
 
 number_list : (categories : List ℕ) (p : Pending) (x : PutList) (ps : List PutList) (is : List Item) → KeepsNumber p (from_list categories p x ps is)
 number_list categories p x ps [] = number_line p (lexed categories p.lex p.line)
@@ -342,30 +341,6 @@ number_kept : (categories : List ℕ) (p : Pending) (ps : List PutList) → Keep
 number_kept categories p [] = number_line p (lexed categories p.lex p.line)
 number_kept categories p (x ∷ ps) = number_list categories p x ps x.items
 
--- a file that has ended has no line
-abbrev HasNoLine : Pulled → Type 0
-HasNoLine (FileOver q) = q.number ≡ 0
-HasNoLine r = Unit {0}
-
-over_file : (number : ℕ) (f : Progress) (bytes : List ℕ) → HasNoLine (from_file f number bytes)
-over_file number NotBegun bytes = tt
-over_file number BegunFile [] = refl
-over_file number BegunFile (c ∷ cs) = tt
-over_file number Closed bytes = tt
-
-over_line : (p : Pending) (l : Lexed) → HasNoLine (from_line p l)
-over_line p (Gives x state line) = tt
-over_line p (Invalid state line) = tt
-over_line p UsedUp = over_file p.number p.file p.rest
-
-over_list : (categories : List ℕ) (p : Pending) (x : PutList) (ps : List PutList) (is : List Item) → HasNoLine (from_list categories p x ps is)
-over_list categories p x ps [] = over_line p (lexed categories p.lex p.line)
-over_list categories p x ps (i ∷ is) = tt
-
-over_front : (categories : List ℕ) (p : Pending) (ps : List PutList) → HasNoLine (from_front categories p ps)
-over_front categories p [] = over_line p (lexed categories p.lex p.line)
-over_front categories p (x ∷ ps) = over_list categories p x ps x.items
-
 -- under other numbers of the macros
 module _ (number : ℕ → ℕ) (p : Pending) where
   opened_same_of : opened_level (next_item (settled (pending_of number p).puts)) (settle (pending_of number p)) ≡ opened_level (next_item p.puts) p
@@ -373,7 +348,7 @@ module _ (number : ℕ → ℕ) (p : Pending) where
       opened_settled (pending_of number p) ∙ ap (λ (x : Option Item). opened_level x (pending_of number p)) (next_item_of number p.puts) ∙ opened_level_of number (next_item p.puts) p
 
   line_same_of : next_line (settle (pending_of number p)) ≡ next_line p
-  line_same_of = line_settled (pending_of number p) ∙ next_line_of number p
+  line_same_of = next_line_of number p
 
   pulled_as : (categories : List ℕ) (r : Pulled) → pulled categories p ≡ r → pulled categories (pending_of number p) ≡ pulled_of number r
   pulled_as categories r is = pulled_same number categories p ∙ ap (pulled_of number) is
@@ -389,17 +364,28 @@ pub token_fits : (sizes : Sizes) (e : Engine) (book : Book) (t : Token) → refu
 token_fits sizes e book t fits sized = token_demands sizes e book t None fits sized
 
 -- no body is put
-fewer_by : (categories : List ℕ) (p q : Pending) (r : Pulled) → pulled categories p ≡ r → after_pull p r ≡ q → (n : ℕ) → is_put n q.puts ≡ true → is_put n p.puts ≡ true
-fewer_by categories p q r is after n h = put_pulled n p categories (subst (λ (x : Pending). is_put n x.puts ≡ true) (sym (ap (after_pull p) is ∙ after)) h)
+fewer_by : (categories : List ℕ) (p q : Pending) (r : Pulled) → pulled categories p ≡ r → after_pull p r ≡ q → (n : ℕ) → is_put n (all_puts q) ≡ true → is_put n (all_puts p) ≡ true
+fewer_by categories p q r is after n h = put_pulled n p categories (subst (λ (x : Pending). is_put n (all_puts x) ≡ true) (sym (ap (after_pull p) is ∙ after)) h)
+
+-- what is pending weighs as much as to the machine
+outer_same : (outer : List Source) → outer_weight outer ≡ outer_lightness outer
+outer_same [] = refl
+outer_same (s ∷ outer) = omega (arith, sum_by-cons (λ (x : Source). length x.line + file_weight x.file) s outer, outer_same outer)
+
+pending_same : (p : Pending) → pending_weight p ≡ lightness p
+pending_same p = ap (λ (n : ℕ). (length p.line + file_weight p.file) + n) (outer_same p.outer)
+
+less_pending : (q p : Pending) → lightness q < lightness p → pending_weight q < pending_weight p
+less_pending q p less = omega (arith, less, pending_same q, pending_same p)
 
 -- The engine behind a reading from what is pending.
 module _ (e : Engine) (i : Stored) where
   -- less is pending
   pub lighter_skip : pulled e.input.groups.now.categories e.input.pending ≡ InvalidMet i.pending → pending_weight i.pending < pending_weight e.input.pending
-  lighter_skip is = subst (Lighter e.input.pending) is (lighter e.input.groups.now.categories e.input.pending)
+  lighter_skip is = less_pending i.pending e.input.pending (subst (Lighter e.input.pending) is (lighter e.input.groups.now.categories e.input.pending))
 
   pub lighter_close : pulled e.input.groups.now.categories e.input.pending ≡ FileOver i.pending → pending_weight i.pending < pending_weight e.input.pending
-  lighter_close is = subst (Lighter e.input.pending) is (lighter e.input.groups.now.categories e.input.pending)
+  lighter_close is = less_pending i.pending e.input.pending (subst (Lighter e.input.pending) is (lighter e.input.groups.now.categories e.input.pending))
 
 pub frames_now : (e : Engine) (i : Stored) → i ≡ record e.input { pending = i.pending; buffer = i.buffer; lists = i.lists } → SameFrames e (record e { input = i })
 frames_now e i others = record { readings = refl; lists = ap (λ (x : Stored). x.builds) others; call = refl; calling = ap (λ (x : Stored). x.call) others }
@@ -411,15 +397,15 @@ module _ (sizes : Sizes) (e : Engine) (i : Stored) (others : i ≡ record e.inpu
   -- the input keeps its macros
   pub pull_store : (a : answers.Pulled) → Pulls (pulled e.input.groups.now.categories e.input.pending) a e.input i → KeepsMacros e.input i → SameStore e.input i
   pull_store a h macros = store_with e.input i i.pending e.input.making e.input.builds i.buffer others (fewer a h) macros where
-    fewer : (a : answers.Pulled) → Pulls (pulled e.input.groups.now.categories e.input.pending) a e.input i → (n : ℕ) → is_put n i.pending.puts ≡ true → is_put n e.input.pending.puts ≡ true
+    fewer : (a : answers.Pulled) → Pulls (pulled e.input.groups.now.categories e.input.pending) a e.input i → (n : ℕ) → is_put n (all_puts i.pending) ≡ true → is_put n (all_puts e.input.pending) ≡ true
     fewer (answer.Token t) h = fewer_by e.input.groups.now.categories e.input.pending i.pending (TokenFrom t i.pending) h.0 refl
     fewer (answer.Lexeme l) h = fewer_by e.input.groups.now.categories e.input.pending i.pending (LexemeFrom h.lexeme i.pending) h.pulls refl
     fewer answer.Taken h = λ n put.
         fewer_by e.input.groups.now.categories e.input.pending h.0.next (LineTaken (first_line e.input.pending.rest) h.0.next) h.0.is refl n
-        (subst (λ (x : Pending). is_put n x.puts ≡ true) h.0.ended put)
+        (subst (λ (x : Pending). is_put n (all_puts x) ≡ true) h.0.ended put)
     fewer answer.Invalid h = fewer_by e.input.groups.now.categories e.input.pending i.pending (InvalidMet i.pending) h refl
     fewer answer.FileOver h = fewer_by e.input.groups.now.categories e.input.pending i.pending (FileOver i.pending) h refl
-    fewer answer.Nothing h = λ n put. put_settled n e.input.pending.puts (subst (λ (x : Pending). is_put n x.puts ≡ true) h.1 put)
+    fewer answer.Nothing h = λ n put. put_settle n e.input.pending (subst (λ (x : Pending). is_put n (all_puts x) ≡ true) h.1 put)
 
   pub stands_now : (book : Book) → SameStore e.input i → AllStand sizes e book → AllStand sizes now book
   stands_now book store st = all_still sizes e now book (frames_now e i others) store (sound_still sizes e now book.number book.macros refl refl refl refl store st.sound) (ap (λ (x : Stored). x.making) others ∙ st.idle) st
@@ -446,10 +432,9 @@ module _ (sizes : Sizes) (e : Engine) (i : Stored) (others : i ≡ record e.inpu
   pub settled_page : (book : Book) → i.pending ≡ settle e.input.pending → page_of now book ≡ page_of e book
   settled_page book is = page_at book (ap (λ (p : Pending). p.number) is)
 
-  pub file_gone : (book : Book) → pulled e.input.groups.now.categories e.input.pending ≡ FileOver i.pending → page_of now book ≡ without_file (page_of e book)
-  file_gone book is =
-      let number : i.pending.number ≡ 0 = subst HasNoLine is (over_front e.input.groups.now.categories e.input.pending (passed e.input.pending.puts)) in
-      ap (λ (x : Stored). page_of (record e { input = x }) book) others ∙ ap (λ (n : ℕ). record (page_of e book) { line = n }) number
+  -- a file has gone: the line is that of the file beneath
+  pub file_gone : (book : Book) → page_of now book ≡ at_line i.pending.number (page_of e book)
+  file_gone book = ap (λ (x : Stored). page_of (record e { input = x }) book) others
 
   -- what becomes of what was pulled
   pub token_moves_still : (book : Book) (want : Option Want) (t : Token) → page_of now book ≡ page_of e book →
@@ -463,7 +448,7 @@ module _ (sizes : Sizes) (e : Engine) (i : Stored) (others : i ≡ record e.inpu
       ap (λ (p : Page). name_moves p (scanning_of e book.work) (enters_of want) (onward_of p want book.work) x) (sym page)
       ∙ ap (λ (o : Option Scanning). name_moves (page_of now book) o (enters_of want) (onward_of (page_of now book) want book.work) x) (sym (scanning_still book.work))
 
-  pub checked_still : (book : Book) → page_of now book ≡ without_file (page_of e book) → checked (without_file (page_of e book)) (scanning_of e book.work) ≡ checked (page_of now book) (scanning_of now book.work)
+  pub checked_still : (book : Book) → page_of now book ≡ at_line i.pending.number (page_of e book) → checked (at_line i.pending.number (page_of e book)) (scanning_of e book.work) ≡ checked (page_of now book) (scanning_of now book.work)
   checked_still book page = ap (λ (p : Page). checked p (scanning_of e book.work)) (sym page) ∙ ap (λ (o : Option Scanning). checked (page_of now book) o) (sym (scanning_still book.work))
 
   module _ (book : Book) (w : World) where
@@ -474,13 +459,13 @@ module _ (sizes : Sizes) (e : Engine) (i : Stored) (others : i ≡ record e.inpu
     abbrev next : Pending
     next = pending_of book.number i.pending
 
-    abbrev at_settled : State
+    abbrev pub at_settled : State
     at_settled = record (state_of e book) { pending = settle here }
 
-    at_behind : (q : Pending) → next ≡ q → record (state_of e book) { pending = q } ≡ state_of now book
+    pub at_behind : (q : Pending) → next ≡ q → record (state_of e book) { pending = q } ≡ state_of now book
     at_behind q is = ap (λ (x : Pending). record (state_of e book) { pending = x }) (sym is) ∙ ap (λ (x : Stored). state_of (record e { input = x }) book) (sym others)
 
-    did_settled : Did sizes (state_of e book) at_settled w w (Settled ∷ [])
+    pub did_settled : Did sizes (state_of e book) at_settled w w (Settled ∷ [])
     did_settled = did_one sizes Settled _ _ w w refl refl (quiet_here Settled w tt)
 
     -- and then the move that takes what was pulled, so much changed
@@ -608,18 +593,18 @@ module _ (sizes : Sizes) (e : Engine) (i : Stored) (others : i ≡ record e.inpu
         closed_is : pulled e.input.groups.now.categories here ≡ FileOver next
         closed_is = pulled_as book.number e.input.pending e.input.groups.now.categories (FileOver i.pending) is
 
-        closed_plan : plan ≡ Settled ∷ FileClosed ∷ checked (without_file page) scanned
+        closed_plan : plan ≡ Settled ∷ FileClosed ∷ checked (at_line i.pending.number page) scanned
         closed_plan = rw closed_is refl
 
         closed_did : Did sizes (state_of e book) (state_of now book) w w (Settled ∷ FileClosed ∷ [])
         closed_did = did_pull FileClosed (FileOver next) closed_is refl tt refl refl
 
-        pub closed_nexts : (w' : World) (e2 : Engine) (ruled : Ruled) → DoesOnward sizes (state_of now book) e2 book w w' (checked (without_file page) scanned) ruled → Nexts sizes want (state_of e book) e2 book w w' plan (next_free ruled)
+        pub closed_nexts : (w' : World) (e2 : Engine) (ruled : Ruled) → DoesOnward sizes (state_of now book) e2 book w w' (checked (at_line i.pending.number page) scanned) ruled → Nexts sizes want (state_of e book) e2 book w w' plan (next_free ruled)
         closed_nexts w' e2 ruled h =
-            next_by sizes want _ e2 book w w' _ _ (next_free ruled) closed_plan (next_freely sizes want _ e2 book w w' _ ruled (onward_join sizes (state_of e book) (state_of now book) e2 book w w w' (Settled ∷ FileClosed ∷ []) (checked (without_file page) scanned) ruled refl closed_did refl h))
+            next_by sizes want _ e2 book w w' _ _ (next_free ruled) closed_plan (next_freely sizes want _ e2 book w w' _ ruled (onward_join sizes (state_of e book) (state_of now book) e2 book w w w' (Settled ∷ FileClosed ∷ []) (checked (at_line i.pending.number page) scanned) ruled refl closed_did refl h))
 
-        pub closed_cuts : (w' : World) (e2 : Engine) (b : Broken) → CutsIn sizes (state_of now book) e2 w w' (checked (without_file page) scanned) b → CutsIn sizes (state_of e book) e2 w w' plan b
-        closed_cuts w' e2 b h = in_by sizes _ e2 w w' _ _ b closed_plan (later_in sizes _ (state_of now book) e2 w w w' (Settled ∷ FileClosed ∷ []) (checked (without_file page) scanned) b closed_did h)
+        pub closed_cuts : (w' : World) (e2 : Engine) (b : Broken) → CutsIn sizes (state_of now book) e2 w w' (checked (at_line i.pending.number page) scanned) b → CutsIn sizes (state_of e book) e2 w w' plan b
+        closed_cuts w' e2 b h = in_by sizes _ e2 w w' _ _ b closed_plan (later_in sizes _ (state_of now book) e2 w w w' (Settled ∷ FileClosed ∷ []) (checked (at_line i.pending.number page) scanned) b closed_did h)
 
       -- nothing is left
       module _ (is : pulled e.input.groups.now.categories e.input.pending ≡ NothingLeft) (stays : i.pending ≡ settle e.input.pending) where

@@ -13,7 +13,7 @@ use Rattle.plain_tokens.specs.Pending.{Pending, settle, put_front}
 use Rattle.plain_tokens.specs.Tables.{Demand, refused, memory, level, string}
 use Rattle.plain_state.specs.Reports.{report_bytes}
 use Rattle.rows.specs.Readings.{Fed, Told}
-use Rattle.plain_readings.specs.Readings.{Kind, Reads, Spelling, Arguments, Behind, Reading, fed_with, lists}
+use Rattle.plain_readings.specs.Readings.{Kind, Reads, Spelling, FileName, Arguments, Behind, Reading, fed_with, lists}
 use Rattle.plain_machine.specs.States.{State, Move, Settled, Kept, Grows, Feeds, ListBegun, ListGrown, Put, Written, Reported, made}
 use Rattle.plain_machine.specs.Demands.{refusal}
 use Rattle.plain_machine.specs.Plan.{Page, put_one, put_inserted, given_back, reported, told, noting, noting_kind, grown_and_fed, first_list}
@@ -188,6 +188,7 @@ noting_kind_none : (k : Kind) (fed : List Fed) → steps (noting_kind k fed) ≡
 noting_kind_none (Arguments name long number ts) fed = refl
 noting_kind_none (Reads k) fed = grown_none (Reads k) fed
 noting_kind_none (Spelling c) fed = grown_none (Spelling c) fed
+noting_kind_none (FileName c) fed = grown_none (FileName c) fed
 noting_kind_none (Behind c x) fed = grown_none (Behind c x) fed
 
 noting_none : (r : Reading) → steps (noting r) ≡ 0

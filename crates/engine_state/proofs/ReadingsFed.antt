@@ -12,7 +12,7 @@ use Rattle.tex_defs.specs.declared.Seen.{Seen}
 use Rattle.tex_defs.specs.declared.Token.{Token}
 use Rattle.tex_defs.specs.Places.{World}
 use Rattle.rows.specs.Readings.{Fed, Tok, Told}
-use Rattle.plain_readings.specs.Readings.{Kind, Reads, Spelling, Behind, Arguments, Reading, lists, fed_with}
+use Rattle.plain_readings.specs.Readings.{Kind, Reads, Spelling, FileName, Behind, Arguments, Reading, lists, fed_with}
 use Rattle.plain_machine.specs.States.{State, Move, Grows, Feeds, last_with}
 use Rattle.plain_machine.specs.Plan.{feeding, feeding_kind, noting, noting_kind, grown_and_fed, grown_to, first_list}
 use Rattle.plain_machine.specs.Does.{Did}
@@ -45,12 +45,14 @@ use Rattle.engine_state.proofs.TokensTaken.{listed, on_top_same, all_did, tokens
 feeding_is : (k : Kind) (fed : List Fed) (x : Seen) → frames.IsFramed k → feeding_kind k fed x ≡ grown_and_fed k fed (Tok x)
 feeding_is (Reads k) fed x h = refl
 feeding_is (Spelling c) fed x h = refl
+feeding_is (FileName c) fed x h = refl
 feeding_is (Behind c y) fed x h = refl
 feeding_is (Arguments name long number text) fed x h = absurd h
 
 noting_is : (k : Kind) (fed : List Fed) → frames.IsFramed k → noting_kind k fed ≡ grown_and_fed k fed Told
 noting_is (Reads k) fed h = refl
 noting_is (Spelling c) fed h = refl
+noting_is (FileName c) fed h = refl
 noting_is (Behind c y) fed h = refl
 noting_is (Arguments name long number text) fed h = absurd h
 

@@ -18,7 +18,7 @@ use Rattle.reading_frames.specs.Resumes.{token_count}
 use Rattle.reading_frames.specs.Stands.{opened_lists}
 use Rattle.reading_frames.specs.declared.ask.Grown.{Grown}
 use Rattle.reading_frames.specs.declared.ask.Opening.{Opening}
-use Rattle.reading_frames.specs.declared.ask.Opening.TheVariants.{Reads, Spelling, Behind}
+use Rattle.reading_frames.specs.declared.ask.Opening.TheVariants.{Reads, Spelling, FileName, Behind}
 use Rattle.engine_state.specs.declared.engine.Engine.{Engine}
 use Rattle.engine_state.specs.Book.{Book, with_work}
 use Rattle.engine_state.specs.Feeding.{HasTop, TokensCut, with_tokens}
@@ -42,6 +42,7 @@ opened_words (Behind c x) = refl
 opened_words (Reads (Text name expanded)) = refl
 opened_words (Reads (Definition name expanded)) = refl
 opened_words (Spelling c) = refl
+opened_words (FileName c) = refl
 
 words_over : (o : Opening) (held : List (List Token)) → lists_words (opened_lists o held) ≡ lists_words held + length (opened_lists o [])
 words_over (Reads (Command c)) held = omega arith
@@ -50,6 +51,7 @@ words_over (Behind c x) held = omega arith
 words_over (Reads (Text name expanded)) held = omega (arith, sum_by-cons list_words [] held)
 words_over (Reads (Definition name expanded)) held = omega (arith, sum_by-cons list_words [] held)
 words_over (Spelling c) held = omega (arith, sum_by-cons list_words [] held)
+words_over (FileName c) held = omega (arith, sum_by-cons list_words [] held)
 
 words_put : (a b : Option Token) (l : List (List Token)) → lists_words l ≡ length l → (1 ≤ cell_count a + cell_count b → l ≡ [] ∷ []) → lists_words (put b (put a l)) ≡ length l + (cell_count a + cell_count b)
 words_put None None l w h = omega (arith, w)

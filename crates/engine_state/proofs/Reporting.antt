@@ -13,10 +13,10 @@ use Rattle.tex_defs.specs.declared.Fatal.TheVariants as fatal
 use Rattle.tex_defs.specs.Places.{World, Transcript}
 use Rattle.plain_tokens.specs.Printed.{Style}
 use Rattle.plain_state.specs.Reports as reports
-use Rattle.plain_state.specs.Reports.{hundred_line, token_line_bytes, missing_file_bytes}
+use Rattle.plain_state.specs.Reports.{hundred_line, token_line_bytes}
 use Rattle.plain_machine.specs.States.{State, Move, Written, Reported, Stopped, made}
 use Rattle.plain_machine.specs.Demands.{refusal}
-use Rattle.plain_machine.specs.Plan.{Page, style_of, reported, reports_room, token_line, no_file}
+use Rattle.plain_machine.specs.Plan.{Page, style_of, reported, reports_room, token_line}
 use Rattle.plain_machine.specs.Runs.{Wrote, steps}
 use Rattle.plain_machine.specs.Does.{Did}
 use Rattle.plain_machine.proofs.Doing.{did_join, did_one, wrote_join}
@@ -26,6 +26,8 @@ use Rattle.transcript.specs.Taken.{Took, TookFront}
 use Rattle.token_lists.specs.Table.{Entry, tokens_at}
 use Rattle.input_state.specs.HeldLists.{first_list as first_held}
 use Rattle.input_state.specs.Macros.{list_at}
+use Rattle.input_state.specs.Stored.{Stored}
+use Rattle.equivalents.specs.Parameters.{style_in}
 use Rattle.reading_frames.specs.Sees.{kept_list_of}
 use Rattle.engine_state.specs.declared.broken.Broken.{Broken}
 use Rattle.engine_state.specs.declared.engine.Engine.{Engine}
@@ -33,7 +35,7 @@ use Rattle.engine_state.specs.declared.broken.Broken.TheVariants as broken
 use Rattle.engine_state.specs.declared.outcome.Last.{Last}
 use Rattle.engine_state.specs.declared.outcome.Last.TheVariants as last
 use Rattle.engine_state.specs.Faults.{broken_by}
-use Rattle.engine_state.specs.Begins.{outcome_of_last, last_moves, last_bytes}
+use Rattle.engine_state.specs.Begins.{outcome_of_last, last_moves, last_bytes, no_file_end}
 use Rattle.engine_state.specs.Book.{Book}
 use Rattle.engine_state.specs.Calls.{AllStand, work_or_none}
 use Rattle.engine_state.specs.Stands.{Stands, IsSized, IsSound, IsUncalled, SameFrames, SameStore, SameOthers, OnlyColumn, state_of, page_of, own_style}
@@ -120,9 +122,6 @@ loud_cuts (Err b) s s' e e' m q h = λ sizes f book. cuts_by sizes _ e' book _ _
 
 -- REPORTS
 
-abbrev no_file_lines : Style → List ℕ
-no_file_lines style = reports.emergency style ++ reports.no_file_line style
-
 counted_on : (page : Page) (rest : List Move) → nat_lt page.reports reports_room ≡ true → counted page rest ≡ Reported ∷ rest
 counted_on page rest e = rw e refl
 
@@ -169,32 +168,6 @@ pub last_cut : (sizes : Sizes) (s : State) (e' : Engine) (book : Book) (w w' : W
     ((more : List Move) → Cuts sizes s e' book w w' (Written Transcript (last_bytes page l) ∷ more) k) → Cuts sizes s e' book w w' (last_moves page l) k
 last_cut sizes s e' book w w' page last.End k h = h _
 last_cut sizes s e' book w w' page last.NoEnd k h = h _
-
--- a report that is counted
-module _ (sizes : Sizes) (s u : State) (w w1 : World) (text : List ℕ) (first : Did sizes s u w w1 (Written Transcript text ∷ [])) where
-  counted_first : Did sizes s (made Reported u) w w1 (Written Transcript text ∷ Reported ∷ [])
-  counted_first = did_join sizes s u (made Reported u) w w1 w1 (Written Transcript text ∷ []) (Reported ∷ []) first (did_one sizes Reported u (made Reported u) w1 w1 refl refl (quiet_here Reported w1 tt))
-
-  -- and behind which the run ends
-  module _ (w2 : World) (line : List ℕ) (f : Fatal) where
-    ends_behind : (v : State) (e' : Engine) (book : Book) → u.due ≡ [] → Did sizes v (state_of e' book) w1 w2 (Written Transcript line ∷ []) → (s.reports ≤ reports_room → made Reported u ≡ v) →
-        Halts sizes s e' book w w2 (Written Transcript text ∷ Reported ∷ Written Transcript line ∷ Stopped (AtFatal f) ∷ []) (AtFatal f) 0
-    ends_behind v e' book due second is = record {
-      t = made (Stopped (AtFatal f)) (made (Written Transcript line) (made Reported u));
-      did = did_join sizes s (made Reported u) _ w w1 w2 (Written Transcript text ∷ Reported ∷ []) (Written Transcript line ∷ Stopped (AtFatal f) ∷ []) counted_first (stops_did sizes (made Reported u) w1 w2 line (AtFatal f) second.written);
-      stopped = refl;
-      due = due;
-      reports = tt;
-      same = λ few. ap (λ (x : State). record (made (Stopped (AtFatal f)) (made (Written Transcript line) x)) { stopped = None }) (is few) ∙ stops_at sizes v e' book w1 w2 line (AtFatal f) second;
-      count = omega arith;
-    }
-
-    -- and its last line is cut off
-    cuts_behind : (v : State) (e' : Engine) (book : Book) (b : Broken) → made Reported u ≡ v → ((more : List Move) → Cuts sizes v e' book w1 w2 (Written Transcript line ∷ more) b) →
-        Cuts sizes s e' book w w2 (Written Transcript text ∷ Reported ∷ Written Transcript line ∷ Stopped (AtFatal f) ∷ []) b
-    cuts_behind v e' book b is h =
-        later_cuts sizes s v e' book w w1 w2 (Written Transcript text ∷ Reported ∷ []) (Written Transcript line ∷ Stopped (AtFatal f) ∷ []) b
-        (subst (λ (x : State). Did sizes s x w w1 (Written Transcript text ∷ Reported ∷ [])) is counted_first) (h (Stopped (AtFatal f) ∷ []))
 
 -- A REPORT IS COUNTED
 
@@ -261,28 +234,53 @@ module _ (sizes : Sizes) (e e1 e' : Engine) (book : Book) (only : OnlyColumn e e
       subst (λ (ms : List Move). Cuts sizes (state_of e book) e' book w w' (Written Transcript text ∷ ms) b) (sym same_counted)
       (later_cuts sizes _ _ e' book w w1 w' (Written Transcript text ∷ []) (counted (page_of e1 book) rest) b first h)
 
--- a job whose file isn't held
-no_file_is : (style : Style) (file : List ℕ) (b : Bool) → b ≡ false →
-    no_file style file ≡ Written Transcript (missing_file_bytes style b 0 file) ∷ Reported ∷ Written Transcript (no_file_lines style) ∷ Stopped (AtFatal fatal.NoFile) ∷ []
-no_file_is style file b c =
-    ap (λ (x : Bool). Written Transcript (missing_file_bytes style x 0 file) ∷ Reported ∷ Written Transcript (no_file_lines style) ∷ Stopped (AtFatal fatal.NoFile) ∷ []) (sym c)
+-- A FILE THAT ISN'T HELD
 
-module _ (sizes : Sizes) (style : Style) (file : List ℕ) (b : Bool) (column : b ≡ false) (s : State) where
-  -- the first text is cut off
-  pub missing_cuts : (e' : Engine) (book : Book) (w w' : World) (k : Broken) → ((more : List Move) → Cuts sizes s e' book w w' (Written Transcript (missing_file_bytes style b 0 file) ∷ more) k) →
-      Cuts sizes s e' book w w' (no_file style file) k
-  missing_cuts e' book w w' k h = cuts_by sizes s e' book w w' _ _ k (no_file_is style file b column) (h (Reported ∷ Written Transcript (no_file_lines style) ∷ Stopped (AtFatal fatal.NoFile) ∷ []))
+-- the report's text, in other words
+pub missing_is : (style style' : Style) (b : Bool) (line line' : ℕ) (name name' : List ℕ) → style ≡ style' → line ≡ line' → name ≡ name' → reports.missing_file_bytes style b line name ≡ reports.missing_file_bytes style' b line' name'
+missing_is style style' b line line' name name' s l n =
+    ap (λ (x : Style). reports.missing_file_bytes x b line name) s
+    ∙ (ap (λ (k : ℕ). reports.missing_file_bytes style' b k name) l ∙ ap (λ (bs : List ℕ). reports.missing_file_bytes style' b line' bs) n)
 
-  module _ (u : State) (w w1 w2 : World) (first : Did sizes s u w w1 (Written Transcript (missing_file_bytes style b 0 file) ∷ [])) where
-    pub job_halts : (v : State) (e' : Engine) (book : Book) → u.due ≡ [] → Did sizes v (state_of e' book) w1 w2 (Written Transcript (no_file_lines style) ∷ []) → (s.reports ≤ reports_room → made Reported u ≡ v) →
-        Halts sizes s e' book w w2 (no_file style file) (AtFatal fatal.NoFile) 0
-    job_halts v e' book due second is =
-        subst (λ (ms : List Move). Halts sizes s e' book w w2 ms (AtFatal fatal.NoFile) 0) (sym (no_file_is style file b column))
-        (ends_behind sizes s u w w1 (missing_file_bytes style b 0 file) first w2 (no_file_lines style) fatal.NoFile v e' book due second is)
+-- it is written, and counted behind that
+module _ (s s' : SinkTold) (e e' : Engine) (b' : Bool) (text shown : List ℕ) (is : shown ≡ text) (took : Took s s' e.in_line b' shown) (sizes : Sizes) (f : FilesTold) (book : Book) (w' : World) (rest : List Move) where
+  pub missing_halts : (o : Outcome) → Halts sizes (state_of (record e { in_line = b' }) book) e' book (world f s' b') w' (counted (page_of (record e { in_line = b' }) book) rest) o 0 →
+      Halts sizes (state_of e book) e' book (world_of f s e) w' (Written Transcript text ∷ counted (page_of e book) rest) o 0
+  missing_halts o h = text_halts sizes e (record e { in_line = b' }) e' book (record { same = refl }) _ _ w' text rest (took_out s s' e b' text shown is took sizes f book) o h
 
-    pub job_cuts : (v : State) (e' : Engine) (book : Book) (k : Broken) → made Reported u ≡ v → ((more : List Move) → Cuts sizes v e' book w1 w2 (Written Transcript (no_file_lines style) ∷ more) k) → Cuts sizes s e' book w w2 (no_file style file) k
-    job_cuts v e' book k is h = cuts_by sizes s e' book w w2 _ _ k (no_file_is style file b column)
-        (cuts_behind sizes s u w w1 (missing_file_bytes style b 0 file) first w2 (no_file_lines style) fatal.NoFile v e' book k is h)
+  pub missing_cut : (b : Broken) → Cuts sizes (state_of (record e { in_line = b' }) book) e' book (world f s' b') w' (counted (page_of (record e { in_line = b' }) book) rest) b →
+      Cuts sizes (state_of e book) e' book (world_of f s e) w' (Written Transcript text ∷ counted (page_of e book) rest) b
+  missing_cut b h = text_cut sizes e (record e { in_line = b' }) e' book (record { same = refl }) _ _ w' text rest (took_out s s' e b' text shown is took sizes f book) b h
+
+-- the report is counted, and the run ends
+module _ (sizes : Sizes) (e e1 : Engine) (book : Book) (w w1 : World) (on : CountsOn sizes (state_of e book) (state_of e1 book) w w1 (page_of e book) (no_file_end (page_of e book))) where
+  abbrev no_file_bytes : List ℕ
+  no_file_bytes = reports.emergency (own_style e) ++ reports.no_file_line (own_style e)
+
+  -- texts are printed as before it was counted
+  pub counted_style : e1.input ≡ e.input → own_style e1 ≡ own_style e
+  counted_style same = ap (λ (i : Stored). style_in i.groups.now e1.names.names) same ∙ ap (λ (s : State). style_in e.input.groups.now s.names) (sym on.did.state)
+
+  module _ (e' : Engine) (w2 : World) where
+    pub refused_halts : Did sizes (state_of e1 book) (state_of e' book) w1 w2 (Written Transcript no_file_bytes ∷ []) →
+        Halts sizes (state_of e book) e' book w w2 (counted (page_of e book) (no_file_end (page_of e book))) (AtFatal fatal.NoFile) 0
+    refused_halts second =
+        subst (λ (ms : List Move). Halts sizes (state_of e book) e' book w w2 ms (AtFatal fatal.NoFile) 0) (sym on.moves)
+        (record {
+          t = made (Stopped (AtFatal fatal.NoFile)) (made (Written Transcript no_file_bytes) (state_of e1 book));
+          did = did_join sizes _ (state_of e1 book) _ w w1 w2 (Reported ∷ []) (no_file_end (page_of e book)) on.did (stops_did sizes (state_of e1 book) w1 w2 no_file_bytes (AtFatal fatal.NoFile) second.written);
+          stopped = refl;
+          due = refl;
+          reports = tt;
+          same = λ few. stops_at sizes (state_of e1 book) e' book w1 w2 no_file_bytes (AtFatal fatal.NoFile) second;
+          count = omega arith;
+        })
+
+    pub refused_cuts : (b : Broken) → ((more : List Move) → Cuts sizes (state_of e1 book) e' book w1 w2 (Written Transcript no_file_bytes ∷ more) b) →
+        Cuts sizes (state_of e book) e' book w w2 (counted (page_of e book) (no_file_end (page_of e book))) b
+    refused_cuts b h =
+        cuts_by sizes _ e' book w w2 _ _ b on.moves
+        (later_cuts sizes (state_of e book) (state_of e1 book) e' book w w1 w2 (Reported ∷ []) (no_file_end (page_of e book)) b on.did (h (Stopped (AtFatal fatal.NoFile) ∷ [])))
 
 -- WHAT STAYS
 

@@ -7,6 +7,7 @@ use Rattle.tex_defs.specs.declared.Meaning.{Meaning}
 use Rattle.tex_defs.specs.declared.Seen.{Seen}
 use Rattle.tex_defs.specs.Places.{World, Transcript}
 use Rattle.plain_tokens.specs.Meanings.{meaning_to_let}
+use Rattle.plain_tokens.specs.Pending.{all_puts}
 use Rattle.plain_tokens.specs.Printed.{Style, meaning_tokens}
 use Rattle.plain_state.specs.Reports.{shown_meaning_bytes}
 use Rattle.plain_machine.specs.States.{Move, Written, Flawed}
@@ -42,7 +43,7 @@ module _ (sizes : Sizes) (e : Engine) (book : Book) (sound : IsSound sizes e boo
   text = bytes (meaning_tokens (macro_tokens e.input.lists) (meaning_to_let e.input.groups.now.meanings x))
 
   moves_are : shown (page_of e book) x ≡ Written Transcript text ∷ Flawed ∷ []
-  moves_are = ap (λ (ts : List Token). Written Transcript (bytes ts) ∷ Flawed ∷ []) (tokens_let book.number book.macros e.input.groups e.input.pending.puts e.input.lists sound.tied x)
+  moves_are = ap (λ (ts : List Token). Written Transcript (bytes ts) ∷ Flawed ∷ []) (tokens_let book.number book.macros e.input.groups (all_puts e.input.pending) e.input.lists sound.tied x)
 
   -- it is written, and the status is to be 1
   pub shown_did : (e1 : Engine) (w w' : World) → Did sizes (state_of e book) (state_of e1 book) w w' (Written Transcript text ∷ []) →

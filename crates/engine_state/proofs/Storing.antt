@@ -6,17 +6,18 @@ use Rattle.std.proofs.lemmas.List.{get_or_past}
 use Rattle.tex_defs.specs.declared.Token.{Token}
 use Rattle.tex_defs.specs.declared.Full.{Full}
 use Rattle.tex_defs.specs.declared.Sizes.{Sizes}
-use Rattle.plain_tokens.specs.Puts.{token_put}
-use Rattle.plain_tokens.specs.Pending.{Pending, settle, put_front}
+use Rattle.plain_tokens.specs.Puts.{Put, token_put}
+use Rattle.plain_tokens.specs.Pending.{Pending, settle, put_front, all_puts}
 use Rattle.plain_tokens.specs.Meanings.{is_listed}
-use Rattle.plain_tokens.specs.Tables.{is_put, memory, refused}
+use Rattle.plain_tokens.specs.Tables.{is_put, held_words, memory, refused}
 use Rattle.equivalents.specs.Groups.{Groups}
-use Rattle.equivalents.specs.Holding.{lists_held}
+use Rattle.equivalents.specs.Holding.{lists_held, shared_words}
 use Rattle.plain_machine.specs.Demands.{words}
-use Rattle.plain_machine.specs.Numbers.{IsHeld, Tied}
+use Rattle.plain_machine.specs.Numbers.{IsHeld, Tied, groups_of}
 use Rattle.plain_machine.specs.Plan.{reports_room}
 use Rattle.plain_machine.proofs.MacroWords.{all_words_tied}
-use Rattle.plain_machine.proofs.Ties.{put_settled, put_with_put, held_more}
+use Rattle.plain_machine.proofs.Renumbering.{all_puts_of}
+use Rattle.plain_machine.proofs.Ties.{put_settle, put_put_front, held_more}
 use Rattle.name_table.specs.Strings.{Strings}
 use Rattle.input_state.specs.Callings.{Calling}
 use Rattle.input_state.specs.Stored.{Stored, KeepsMacros, gathered, words as stored_words}
@@ -33,8 +34,8 @@ pub store_is : (i j : Stored) → j ≡ i → SameStore i j
 store_is i j is = subst (λ (x : Stored). SameStore i x) (sym is) (store_same i)
 
 -- what is held then was held
-pub held_back : (i j : Stored) → SameStore i j → (n : ℕ) → IsHeld n (lists_held j.groups) j.pending.puts → IsHeld n (lists_held i.groups) i.pending.puts
-held_back i j s n h = held_more n (lists_held j.groups) (lists_held i.groups) j.pending.puts i.pending.puts (λ a. subst (λ (g : Groups). is_listed (lists_held g) n ≡ true) s.groups a) (s.puts n) h
+pub held_back : (i j : Stored) → SameStore i j → (n : ℕ) → IsHeld n (lists_held j.groups) (all_puts j.pending) → IsHeld n (lists_held i.groups) (all_puts i.pending)
+held_back i j s n h = held_more n (lists_held j.groups) (lists_held i.groups) (all_puts j.pending) (all_puts i.pending) (λ a. subst (λ (g : Groups). is_listed (lists_held g) n ≡ true) s.groups a) (s.puts n) h
 
 pub store_join : (i j k : Stored) → SameStore i j → SameStore j k → SameStore i k
 store_join i j k a b = record {
@@ -48,13 +49,13 @@ store_join i j k a b = record {
 
 -- no macro's body is put
 pub store_with : (i j : Stored) (p : Pending) (making : Option (List Token)) (gathered : List (List Token)) (buffer : List ℕ) →
-    j ≡ record i { pending = p; making = making; builds = gathered; buffer = buffer; lists = j.lists } → ((n : ℕ) → is_put n p.puts ≡ true → is_put n i.pending.puts ≡ true) → KeepsMacros i j → SameStore i j
+    j ≡ record i { pending = p; making = making; builds = gathered; buffer = buffer; lists = j.lists } → ((n : ℕ) → is_put n (all_puts p) ≡ true → is_put n (all_puts i.pending) ≡ true) → KeepsMacros i j → SameStore i j
 store_with i j p making gathered buffer is fewer macros = record {
   sizes = ap (λ (x : Stored). x.sizes) is;
   groups = ap (λ (x : Stored). x.groups) is;
   closing = ap (λ (x : Stored). x.closing) is;
   ending = ap (λ (x : Stored). x.ending) is;
-  puts = λ n h. fewer n (subst (λ (x : Stored). is_put n x.pending.puts ≡ true) is h);
+  puts = λ n h. fewer n (subst (λ (x : Stored). is_put n (all_puts x.pending) ≡ true) is h);
   lists = macros;
 }
 
@@ -68,7 +69,7 @@ store_call i j k is macros = record {
   groups = ap (λ (x : Stored). x.groups) is;
   closing = ap (λ (x : Stored). x.closing) is;
   ending = ap (λ (x : Stored). x.ending) is;
-  puts = λ n h. subst (λ (x : Stored). is_put n x.pending.puts ≡ true) is h;
+  puts = λ n h. subst (λ (x : Stored). is_put n (all_puts x.pending) ≡ true) is h;
   lists = macros;
 }
 
@@ -80,10 +81,10 @@ pub store_making : (i j : Stored) (making : Option (List Token)) → j ≡ recor
 store_making i j making is macros = store_with i j i.pending making i.builds i.buffer is (λ n h. h) macros
 
 pub store_settled : (i j : Stored) → j ≡ record i { pending = settle i.pending; lists = j.lists } → KeepsMacros i j → SameStore i j
-store_settled i j is macros = store_with i j (settle i.pending) i.making i.builds i.buffer is (λ n h. put_settled n i.pending.puts h) macros
+store_settled i j is macros = store_with i j (settle i.pending) i.making i.builds i.buffer is (λ n h. put_settle n i.pending h) macros
 
-own_put : (n : ℕ) (ts : List Token) (p : Pending) → is_put n (put_front (token_put ts) p).puts ≡ true → is_put n p.puts ≡ true
-own_put n ts p h = elim (put_with_put n (token_put ts) p.puts h) [
+own_put : (n : ℕ) (ts : List Token) (p : Pending) → is_put n (all_puts (put_front (token_put ts) p)) ≡ true → is_put n (all_puts p) ≡ true
+own_put n ts p h = elim (put_put_front n (token_put ts) p h) [
   | inl a ↦ cc
   | inr a ↦ a
 ]
@@ -106,14 +107,14 @@ inside_by lists n some = elim (cases_lt n (length lists)) [
 ]
 
 module _ (number : ℕ → ℕ) (macros : List (List Token)) where
-  pub tied_store : (i j : Stored) → AreBodies macros → SameStore i j → Tied number macros (lists_held i.groups) i.pending.puts i.lists → Tied number macros (lists_held j.groups) j.pending.puts j.lists
+  pub tied_store : (i j : Stored) → AreBodies macros → SameStore i j → Tied number macros (lists_held i.groups) (all_puts i.pending) i.lists → Tied number macros (lists_held j.groups) (all_puts j.pending) j.lists
   tied_store i j bodies s t = record {
     inside = λ n h. inside_by j.lists n (λ none. body_at macros (number n) bodies (t.within n (held_back i j s n h)) (tokens n h ∙ none));
     within = λ n h. t.within n (held_back i j s n h);
     tokens = tokens;
     apart = λ n m h k e. t.apart n m (held_back i j s n h) (held_back i j s m k) e;
   } where
-    tokens : (n : ℕ) → IsHeld n (lists_held j.groups) j.pending.puts → slice_index_or macros (number n) [] ≡ slice_index_or j.lists n []
+    tokens : (n : ℕ) → IsHeld n (lists_held j.groups) (all_puts j.pending) → slice_index_or macros (number n) [] ≡ slice_index_or j.lists n []
     tokens n h = t.tokens n (held_back i j s n h) ∙ sym (s.lists.tokens n h)
 
 -- WHAT STAYS OF THE ENGINE
@@ -169,6 +170,7 @@ same_join e e1 e2 a b = record {
     call = b.others.call ∙ a.others.call;
     names = b.others.names ∙ a.others.names;
     after = b.others.after ∙ a.others.after;
+    naming = b.others.naming ∙ a.others.naming;
     in_line = b.others.in_line ∙ a.others.in_line;
     reports = b.others.reports ∙ a.others.reports;
     flawed = b.others.flawed ∙ a.others.flawed;
@@ -183,7 +185,9 @@ same_join e e1 e2 a b = record {
 
 -- the words that are used are the machine's
 pub words_are : (sizes : Sizes) (e : Engine) (book : Book) → IsSound sizes e book.number book.macros → words (state_of e book) ≡ stored_words e.input
-words_are sizes e book h = all_words_tied book.number book.macros e.input.groups e.input.pending.puts e.input.lists e.input.making (gathered e.input) h.tied
+words_are sizes e book h =
+    ap (λ (ps : List Put). shared_words 0 (lists_held (groups_of book.number e.input.groups)) ps book.macros + held_words ps e.input.making (gathered e.input)) (all_puts_of book.number e.input.pending)
+    ∙ all_words_tied book.number book.macros e.input.groups (all_puts e.input.pending) e.input.lists e.input.making (gathered e.input) h.tied
 
 -- so many words more, by the machine and by the input
 pub words_more : (sizes : Sizes) (e : Engine) (book : Book) (need : ℕ) (o : Option Full) → IsSound sizes e book.number book.macros →

@@ -7,8 +7,8 @@ use Rattle.tex_defs.specs.declared.Token.{Token}
 use Rattle.tex_defs.specs.declared.Sizes.{Sizes}
 use Rattle.tex_defs.specs.declared.Full.{Full}
 use Rattle.tex_defs.specs.Places.{World}
-use Rattle.plain_tokens.specs.Puts.{Put as PutList, grown_by, settled}
-use Rattle.plain_tokens.specs.Pending.{Pending, settle, with_puts}
+use Rattle.plain_tokens.specs.Puts.{Put as PutList, grown_by, settled, token_put}
+use Rattle.plain_tokens.specs.Pending.{Pending, settle, with_puts, put_front}
 use Rattle.plain_tokens.specs.Tokens.{made_token, made_text}
 use Rattle.plain_tokens.specs.Tables.{Demand, refused, memory, level}
 use Rattle.plain_machine.specs.States.{State, Move, Settled, ListBegun, ListGrown, Put, made}
@@ -17,7 +17,7 @@ use Rattle.plain_machine.specs.Plan.{put_text, put_made}
 use Rattle.plain_machine.specs.Numbers.{pending_of}
 use Rattle.plain_machine.specs.Does.{Did}
 use Rattle.plain_machine.proofs.Doing.{did_join, did_one, did_none}
-use Rattle.plain_machine.proofs.Renumbering.{settle_of, level_of}
+use Rattle.plain_machine.proofs.Renumbering.{settle_of, level_of, put_front_of}
 use Rattle.input_state.specs.Stored.{Stored, KeepsMacros, words as stored_words}
 use Rattle.input_state.specs.HeldLists.{made as made_list}
 use Rattle.engine_state.specs.Steps.{pending_weight}
@@ -202,6 +202,14 @@ module _ (sizes : Sizes) (e : Engine) (w : World) (book : Book) (sound : IsSound
       cuts_by sizes _ (with_input e j) book w w (Put ts ∷ more) (put_made ts ++ more) (broken.Full full) (ap (λ (ms : List Move). ms ++ more) (made_of ts some))
       (full_cuts sizes (state_of e book) (with_input e j) book w (Put ts) more full (broken.Full full) refl (level_at (Some full) r) (ap (at sizes e w book) (sym same)))
 
+  -- it is put
+  pub made_done : (ts ≡ [] → ⊥) → j ≡ record e.input { pending = put_front (token_put ts) e.input.pending; making = None; lists = j.lists } → refused e.input.sizes (level e.input.pending ∷ []) ≡ None →
+      Did sizes (state_of e book) (state_of (with_input e j) book) w w (put_made ts)
+  made_done some same r =
+      subst (λ (ms : List Move). Did sizes (state_of e book) (state_of (with_input e j) book) w w ms) (sym (made_of ts some))
+      (did_one sizes (Put ts) _ _ w w (level_at None r)
+      (ap (λ (p : Pending). record (state_of e book) { pending = p; making = None }) (put_front_of book.number (token_put ts) e.input.pending) ∙ ap (at sizes e w book) (sym same)) (quiet_here (Put ts) w tt))
+
 -- ALL TOGETHER
 
 -- a text of these tokens, put in front
@@ -225,7 +233,7 @@ module _ (sizes : Sizes) (s s1 : State) (e' : Engine) (book : Book) (w : World) 
 pub in_front : (e : Engine) (j : Stored) (puts : List PutList) (making : Option (List Token)) → j ≡ record e.input { pending = with_puts puts e.input.pending; making = making; lists = j.lists } → SameStore e.input j → IsInFront e (with_input e j)
 in_front e j puts making is store = record {
   frames = record { readings = refl; lists = ap (λ (x : Stored). x.builds) is; call = refl; calling = ap (λ (x : Stored). x.call) is };
-  others = record { depth = refl; call = refl; names = refl; after = refl; last = refl; in_line = refl; reports = refl; flawed = refl; quiet = refl; sizes = refl };
+  others = record { depth = refl; call = refl; names = refl; after = refl; last = refl; naming = refl; in_line = refl; reports = refl; flawed = refl; quiet = refl; sizes = refl };
   store = store;
   light = ap (λ (x : Stored). pending_weight x.pending) is;
   page = λ book. ap (λ (x : Stored). page_of (with_input e x) book) is;
@@ -240,6 +248,7 @@ front_join e e1 e2 a b = record {
     names = b.others.names ∙ a.others.names;
     after = b.others.after ∙ a.others.after;
     last = b.others.last ∙ a.others.last;
+    naming = b.others.naming ∙ a.others.naming;
     in_line = b.others.in_line ∙ a.others.in_line;
     reports = b.others.reports ∙ a.others.reports;
     flawed = b.others.flawed ∙ a.others.flawed;

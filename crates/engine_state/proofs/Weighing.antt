@@ -10,7 +10,7 @@ use Rattle.rows.specs.declared.words.Value.{Value}
 use Rattle.rows.specs.declared.command.Call.{Call}
 use Rattle.rows.specs.declared.command.Effect.TheVariants.{ExpandBehind}
 use Rattle.rows.specs.Readings.{Ask, Inner, Done, Acts}
-use Rattle.plain_readings.specs.Readings.{Kind, Reads, Spelling, Behind, Arguments, Reading, ask}
+use Rattle.plain_readings.specs.Readings.{Kind, Reads, Spelling, FileName, Behind, Arguments, Reading, ask}
 use Rattle.plain_readings.specs.Laws.{BeginsLower, rank}
 use Rattle.plain_readings.specs.Weights.{frame_weight, value_weight, act_weight}
 use Rattle.plain_readings.proofs.Lower.{lower}
@@ -38,6 +38,7 @@ low_rank (Reads Integer) = omega arith
 low_rank (Reads (Text name expanded)) = omega arith
 low_rank (Reads (Definition name expanded)) = omega arith
 low_rank (Spelling c) = omega arith
+low_rank (FileName c) = omega arith
 low_rank (Behind c x) = omega arith
 low_rank (Arguments name long number text) = omega arith
 

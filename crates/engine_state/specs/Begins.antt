@@ -1,13 +1,13 @@
 -- What the engine comes to.
-use Rattle.std.specs.Prelude.{ℕ, List, ◌∷◌, ◌++◌}
+use Rattle.std.specs.Prelude.{ℕ, List, [], ◌∷◌, ◌++◌}
 use Rattle.tex_syntax.specs.declared.words.Outcome.{Outcome}
 use Rattle.tex_syntax.specs.declared.words.Outcome.TheVariants.{Finished, AtFatal}
 use Rattle.tex_syntax.specs.declared.words.Scanned.{Scanned}
 use Rattle.tex_syntax.specs.declared.words.Report.{Report}
 use Rattle.tex_defs.specs.Places.{Transcript}
-use Rattle.tex_defs.specs.declared.Fatal.TheVariants.{NoEnd as FatalNoEnd}
-use Rattle.plain_state.specs.Reports.{fresh_line, emergency, no_end_line}
-use Rattle.plain_machine.specs.States.{Move, Written}
+use Rattle.tex_defs.specs.declared.Fatal.TheVariants.{NoEnd as FatalNoEnd, NoFile}
+use Rattle.plain_state.specs.Reports.{fresh_line, emergency, no_end_line, no_file_line}
+use Rattle.plain_machine.specs.States.{Move, Written, Stopped}
 use Rattle.plain_machine.specs.Plan.{Page, style_of, groups_left, reported, finish, no_end, page_behind, put_one, inserted_at, check_noted}
 use Rattle.engine_state.specs.declared.outcome.Last.{Last}
 use Rattle.engine_state.specs.declared.outcome.Last.TheVariants.{End, NoEnd}
@@ -28,3 +28,9 @@ last_bytes page NoEnd = fresh_line page.in_line ++ (emergency (style_of page) ++
 -- what is scanned runs away, and this is shown of it: `}` or `\par` is inserted, the report comes, and a call notes the check
 abbrev pub away_moves : Page → Scanned → List ℕ → Report → (rest : List Move) → List Move
 away_moves page what text report rest = Written Transcript text ∷ (put_one (inserted_at what) ++ reported (page_behind page text) report (check_noted what rest))
+
+-- FILES THAT AREN'T HELD
+
+-- what comes behind the report that a file isn't held: the end of the run
+abbrev pub no_file_end : Page → List Move
+no_file_end page = Written Transcript (emergency (style_of page) ++ no_file_line (style_of page)) ∷ Stopped (AtFatal NoFile) ∷ []

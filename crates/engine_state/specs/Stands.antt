@@ -5,6 +5,7 @@ use Rattle.tex_defs.specs.declared.Sizes.{Sizes}
 use Rattle.tex_defs.specs.declared.Full.{Full}
 use Rattle.tex_defs.specs.declared.Table.TheVariants.{ExpansionDepth}
 use Rattle.plain_tokens.specs.Meanings.{fixed_locations}
+use Rattle.plain_tokens.specs.Pending.{all_puts}
 use Rattle.plain_tokens.specs.Tables.{is_put}
 use Rattle.plain_readings.specs.Readings.{Reading}
 use Rattle.reading_frames.specs.Stands as frames
@@ -13,7 +14,7 @@ use Rattle.plain_tokens.specs.Printed.{Style}
 use Rattle.equivalents.specs.Groups.{depth as groups_depth, kind_of, tokens_after}
 use Rattle.equivalents.specs.Holding.{lists_held}
 use Rattle.equivalents.specs.Parameters.{style_in}
-use Rattle.plain_machine.specs.States.{State}
+use Rattle.plain_machine.specs.States.{State, no_files}
 use Rattle.plain_machine.specs.Plan.{Page, reports_room}
 use Rattle.plain_machine.specs.Numbers.{Tied, pending_of, groups_of, tables_of}
 use Rattle.input_state.specs.Stored.{Stored, KeepsMacros, gathered}
@@ -22,10 +23,12 @@ use Rattle.engine_state.specs.declared.engine.Engine.{Engine}
 use Rattle.engine_state.specs.declared.call.Call.{Call}
 use Rattle.engine_state.specs.Book.{Book, AreBodies}
 
--- The state that it stands for: the machine has its own numbers for the macros.
+-- The state that it stands for, but for what the files hold: the machine has its own numbers for the macros.
 abbrev pub state_of : Engine → Book → State
 state_of e book = record {
   pending = pending_of book.number e.input.pending;
+  files = no_files;
+  naming = e.naming;
   groups = groups_of book.number e.input.groups;
   names = e.names.names;
   strings = e.names.others;
@@ -55,6 +58,7 @@ page_of e book = record {
   strings = e.names.others;
   macros = book.macros;
   last = e.last;
+  naming = e.naming;
   in_line = e.in_line;
   line = e.input.pending.number;
   reports = e.reports;
@@ -81,7 +85,7 @@ pub record IsSized (sizes : Sizes) (e : Engine) : Type 0 where
 -- The macros that the input holds are these, under these numbers.
 pub record IsSound (sizes : Sizes) (e : Engine) (number : ℕ → ℕ) (macros : List (List Token)) : Type 0 where
   pub sized : IsSized sizes e
-  pub tied : Tied number macros (lists_held e.input.groups) e.input.pending.puts e.input.lists
+  pub tied : Tied number macros (lists_held e.input.groups) (all_puts e.input.pending) e.input.lists
   pub bodies : AreBodies macros
 
 -- THE OPEN READINGS
@@ -142,6 +146,7 @@ pub record SameOthers (e e' : Engine) : Type 0 where
   pub names : e'.names ≡ e.names
   pub after : e'.after ≡ e.after
   pub last : e'.last ≡ e.last
+  pub naming : e'.naming ≡ e.naming
   pub in_line : e'.in_line ≡ e.in_line
   pub reports : e'.reports ≡ e.reports
   pub flawed : e'.flawed ≡ e.flawed
@@ -154,6 +159,7 @@ pub record SameElse (e e' : Engine) : Type 0 where
   pub call : e'.call ≡ e.call
   pub names : e'.names ≡ e.names
   pub after : e'.after ≡ e.after
+  pub naming : e'.naming ≡ e.naming
   pub in_line : e'.in_line ≡ e.in_line
   pub reports : e'.reports ≡ e.reports
   pub flawed : e'.flawed ≡ e.flawed
@@ -166,7 +172,7 @@ pub record SameStore (old new : Stored) : Type 0 where
   pub groups : new.groups ≡ old.groups
   pub closing : new.closing ≡ old.closing
   pub ending : new.ending ≡ old.ending
-  pub puts : (n : ℕ) → is_put n new.pending.puts ≡ true → is_put n old.pending.puts ≡ true
+  pub puts : (n : ℕ) → is_put n (all_puts new.pending) ≡ true → is_put n (all_puts old.pending) ≡ true
   pub lists : KeepsMacros old new
 
 -- all but the frames and the lists that they hold is as it was, but that a reading may have been fed

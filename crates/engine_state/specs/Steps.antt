@@ -1,9 +1,10 @@
 -- Whether the next rule needs a step, and how many rules without a step may follow.
-use Rattle.std.specs.Prelude.{◌≡◌, ℕ, ◌+◌, ◌*◌, length, Bool, true, false, ◌&&◌, Option, Some, None}
+use Rattle.std.specs.Prelude.{◌≡◌, ℕ, ◌+◌, ◌*◌, length, sum_by, List, Bool, true, false, ◌&&◌, Option, Some, None}
 use Rattle.tex_syntax.specs.declared.words.Outcome.TheVariants.{AtFatal}
 use Rattle.tex_defs.specs.declared.Fatal.TheVariants.{HundredErrors}
 use Rattle.tex_defs.specs.declared.Seen.{Seen}
-use Rattle.plain_tokens.specs.Pending.{Pending, Progress, Closed, pulled}
+use Rattle.plain_tokens.specs.Pending.{Pending, Source, Progress, Begun, Closed, pulled}
+use Rattle.plain_machine.specs.Extended.{starts}
 use Rattle.rows.specs.Readings as reading
 use Rattle.plain_readings.specs.Weights.{frame_weight}
 use Rattle.reading_frames.specs.Stack.{asks_in}
@@ -42,19 +43,33 @@ abbrev pub all_want : Option Call → Option reading.Ask → Bool
 all_want None a = frames_want a
 all_want (Some c) a = call_asks_more c.ask
 
+-- WHETHER A FILE IS TO BE OPENED
+
+abbrev pub asks_start : Option reading.Ask → Bool
+asks_start None = false
+asks_start (Some a) = starts a
+
+-- `\input` has read its file's name, and no call gathers its arguments
+abbrev pub all_start : Option Call → Option reading.Ask → Bool
+all_start None a = asks_start a
+all_start (Some c) a = false
+
 -- the next rule has a step
 abbrev pub stepping : Engine → Bool
 stepping e = all_want e.call (asked e) && gives_step (pulled e.input.groups.now.categories e.input.pending)
 
 -- WEIGHTS
 
--- an invalid character may still be skipped, and the file may still end
+-- an invalid character may still be skipped, and a file may still end
 abbrev pub file_weight : Progress → ℕ
+file_weight Begun = 1
 file_weight Closed = 0
-file_weight p = 1
+
+abbrev pub outer_weight : List Source → ℕ
+outer_weight outer = sum_by (λ s. length s.line + file_weight s.file) outer
 
 abbrev pub pending_weight : Pending → ℕ
-pending_weight p = length p.line + file_weight p.file
+pending_weight p = (length p.line + file_weight p.file) + outer_weight p.outer
 
 -- a call: as much as a reading, and what it asks for
 abbrev pub call_weight : CallAsk → ℕ

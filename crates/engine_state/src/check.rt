@@ -197,7 +197,7 @@ impl Engine {
         }
     }
 
-    /// The check where the file has ended.
+    /// The check where a file has ended.
     pub(crate) fn check<S: Sink>(&mut self, out: &mut S) -> Result<Ruled, Broken>
         requires idle { self.old.input.making ≡ None }
         ensures rule { IfOk result (λ ruled. (sizes : Sizes) (f : FilesTold) (book : Book) → Wants sizes self.old book →

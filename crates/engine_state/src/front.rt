@@ -28,6 +28,8 @@ impl Engine {
         ensures others { SameOthers self.old self.new }
         ensures store { SameStore self.old.input self.new.input }
         ensures light { pending_weight self.new.input.pending ≡ pending_weight self.old.input.pending }
+        ensures next { self.new.input.pending.next ≡ self.old.input.pending.next }
+        ensures stopped { self.new.stopped ≡ self.old.stopped }
         ensures page { (book : Book) → page_of self.new book ≡ page_of self.old book }
         ensures idle { OnOk result (self.new.input.making ≡ None) }
     {
@@ -50,6 +52,8 @@ impl Engine {
         ensures others { SameOthers self.old self.new }
         ensures store { SameStore self.old.input self.new.input }
         ensures light { pending_weight self.new.input.pending ≡ pending_weight self.old.input.pending }
+        ensures next { self.new.input.pending.next ≡ self.old.input.pending.next }
+        ensures stopped { self.new.stopped ≡ self.old.stopped }
         ensures page { (book : Book) → page_of self.new book ≡ page_of self.old book }
         ensures idle { OnOk result (self.new.input.making ≡ None) }
     {

@@ -8,6 +8,7 @@ mod broken;
 mod call;
 mod check;
 mod engine;
+mod files;
 mod front;
 mod groups;
 mod meaning;

@@ -35,7 +35,9 @@ fn list_need(opening: Opening) -> u32
     ensures { result ≡ length (opened_lists opening []) }
 {
     match opening {
-        Opening::Reads(Kind::Text(..) | Kind::Definition(..)) | Opening::Spelling(_) => 1,
+        Opening::Reads(Kind::Text(..) | Kind::Definition(..))
+        | Opening::Spelling(_)
+        | Opening::FileName(_) => 1,
         _ => 0,
     }
 }
@@ -208,6 +210,8 @@ impl Engine {
         ensures weight { innermost_weight self.new.readings.frames < reading_weight + act_weight }
         ensures frames { length self.new.readings.frames ≡ length self.old.readings.frames - 1 }
         ensures beneath { self.new.readings.frames ≡ drop 1 self.old.readings.frames }
+        ensures buffer { self.new.input.buffer ≡ self.old.input.buffer }
+        ensures stopped { self.new.stopped ≡ self.old.stopped }
     {
         if self.readings.end() {
             self.drop_top();
@@ -223,9 +227,9 @@ impl Engine {
         ensures err { OnErr result (self.new ≡ self.old) }
     {
         match opening {
-            Opening::Reads(Kind::Text(..) | Kind::Definition(..)) | Opening::Spelling(_) => {
-                self.input.begin_list()
-            }
+            Opening::Reads(Kind::Text(..) | Kind::Definition(..))
+            | Opening::Spelling(_)
+            | Opening::FileName(_) => self.input.begin_list(),
             _ => {
                 // What is used of the main memory is at most its size.
                 let _used = self.input.words();

@@ -193,7 +193,7 @@ impl Engine {
     }
 
     /// Counts a report, and writes the last line behind the hundredth. Answers whether the run goes on.
-    fn count_report<S: Sink>(&mut self, out: &mut S) -> Result<bool, Broken>
+    pub(crate) fn count_report<S: Sink>(&mut self, out: &mut S) -> Result<bool, Broken>
         ensures on { IfOk result (λ on. on ≡ true → (sizes : Sizes) (f : FilesTold) (book : Book) (rest : List Move) →
             CountsOn sizes (state_of self.old book) (state_of self.new book) (world_of f (S.told out.old) self.old) (world_of f (S.told out.new) self.new) (page_of self.old book) rest) }
         ensures last { IfOk result (λ on. on ≡ false → (sizes : Sizes) (f : FilesTold) (book : Book) (rest : List Move) →
@@ -203,6 +203,7 @@ impl Engine {
         ensures frames { SameFrames self.old self.new }
         ensures input { self.new.input ≡ self.old.input }
         ensures sized { IfOk result (λ on. on ≡ true → (sizes : Sizes) → IsSized sizes self.old → IsSized sizes self.new) }
+        ensures stopped { self.new.stopped ≡ self.old.stopped }
     {
         if self.reports < REPORTS_ROOM {
             self.reports += 1;

@@ -12,7 +12,7 @@ use Rattle.plain_tokens.specs.Arguments.{ParMode, arguments_in, work_in, call, s
 use Rattle.plain_tokens.specs.Meanings.{is_listed, name_meaning}
 use Rattle.equivalents.specs.Holding.{lists_held}
 use Rattle.plain_tokens.specs.Names.{name_of}
-use Rattle.plain_tokens.specs.Pending.{Pending, put_front, settle, with_puts}
+use Rattle.plain_tokens.specs.Pending.{Pending, put_front, settle, with_puts, all_puts}
 use Rattle.plain_tokens.specs.Puts.{Item, Put, call_put, put_top, settled}
 use Rattle.plain_readings.specs.Readings as reading
 use Rattle.plain_readings.specs.Calls.{call_fed, mode_of as reading_mode}
@@ -170,8 +170,8 @@ module _ (sizes : Sizes) (e : Engine) (book : Book) (t : Token) (name : Name) (i
   meant : is_listed (lists_held e.input.groups) h.id ≡ true
   meant = meant_by e.input.groups name h.long h.outer h.id h.meaning
 
-  held : IsHeld h.id (lists_held e.input.groups) e.input.pending.puts
-  held = ap (λ (b : Bool). b || is_put h.id e.input.pending.puts) meant
+  held : IsHeld h.id (lists_held e.input.groups) (all_puts e.input.pending)
+  held = ap (λ (b : Bool). b || is_put h.id (all_puts e.input.pending)) meant
 
   called_list : called (page_of e book) t ≡ called_by name h.long (book.number h.id) ts
   called_list =
@@ -247,7 +247,7 @@ module _ (sizes : Sizes) (e : Engine) (book : Book) (t : Token) (name : Name) (i
       groups = ap (λ (y : Engine). y.input.groups) now;
       closing = ap (λ (y : Engine). y.input.closing) now;
       ending = ap (λ (y : Engine). y.input.ending) now;
-      puts = λ n g. subst (λ (y : Engine). is_put n y.input.pending.puts ≡ true) now g;
+      puts = λ n g. subst (λ (y : Engine). is_put n (all_puts y.input.pending) ≡ true) now g;
       lists = record { tokens = macros.tokens };
     }
 
@@ -343,7 +343,7 @@ module _ (sizes : Sizes) (e : Engine) (book : Book) (t : Token) (name : Name) (i
   putting_sound : IsSound sizes putting book.number book.macros
   putting_sound = record {
     sized = record { few_reports = st.sound.sized.few_reports; small = st.sound.sized.small; own = st.sound.sized.own; readings = st.sound.sized.readings; input = st.sound.sized.input; names = st.sound.sized.names; located = st.sound.sized.located };
-    tied = tied_put book.number book.macros (lists_held e.input.groups) (settled e.input.pending.puts) e.input.lists (tied_settled book.number book.macros (lists_held e.input.groups) e.input.pending.puts e.input.lists st.sound.tied) h.id p refl (ap (λ (b : Bool). b || is_put h.id (settled e.input.pending.puts)) meant);
+    tied = tied_put book.number book.macros (lists_held e.input.groups) (settle e.input.pending) e.input.lists (tied_settled book.number book.macros (lists_held e.input.groups) e.input.pending e.input.lists st.sound.tied) h.id p refl (ap (λ (b : Bool). b || is_put h.id (all_puts (settle e.input.pending))) meant);
     bodies = st.sound.bodies;
   }
 
@@ -358,7 +358,7 @@ module _ (sizes : Sizes) (e : Engine) (book : Book) (t : Token) (name : Name) (i
       groups = ap (λ (y : Engine). y.input.groups) now;
       closing = ap (λ (y : Engine). y.input.closing) now;
       ending = ap (λ (y : Engine). y.input.ending) now;
-      puts = λ n g. subst (λ (y : Engine). is_put n y.input.pending.puts ≡ true) now g;
+      puts = λ n g. subst (λ (y : Engine). is_put n (all_puts y.input.pending) ≡ true) now g;
       lists = macros;
     }
 

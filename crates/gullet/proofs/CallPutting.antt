@@ -9,7 +9,7 @@ use Rattle.tex_defs.specs.declared.Token.{Token}
 use Rattle.tex_defs.specs.Places.{World}
 use Rattle.plain_tokens.specs.Meanings.{is_listed, name_meaning}
 use Rattle.equivalents.specs.Holding.{lists_held}
-use Rattle.plain_tokens.specs.Pending.{Pending, put_front, settle, with_puts}
+use Rattle.plain_tokens.specs.Pending.{Pending, put_front, settle, with_puts, all_puts}
 use Rattle.plain_tokens.specs.Puts.{Item, Put, call_put, put_top, settled}
 use Rattle.plain_readings.specs.Readings as reading
 use Rattle.plain_readings.specs.Readings.{Reading, lists}
@@ -112,7 +112,7 @@ module _ (sizes : Sizes) (e : Engine) (book : Book) (r : Reading) (rs : List Rea
     middle_sound : IsSound sizes (record e { input = middle }) book.number book.macros
     middle_sound = record {
       sized = record { few_reports = st.sound.sized.few_reports; small = st.sound.sized.small; own = st.sound.sized.own; readings = st.sound.sized.readings; input = st.sound.sized.input; names = st.sound.sized.names; located = st.sound.sized.located };
-      tied = tied_put book.number book.macros (lists_held e.input.groups) (settled e.input.pending.puts) e.input.lists (tied_settled book.number book.macros (lists_held e.input.groups) e.input.pending.puts e.input.lists st.sound.tied) id p refl (ap (λ (b : Bool). b || is_put id (settled e.input.pending.puts)) meant);
+      tied = tied_put book.number book.macros (lists_held e.input.groups) (settle e.input.pending) e.input.lists (tied_settled book.number book.macros (lists_held e.input.groups) e.input.pending e.input.lists st.sound.tied) id p refl (ap (λ (b : Bool). b || is_put id (all_puts (settle e.input.pending))) meant);
       bodies = st.sound.bodies;
     }
 
@@ -126,7 +126,7 @@ module _ (sizes : Sizes) (e : Engine) (book : Book) (r : Reading) (rs : List Rea
         groups = ap (λ (y : Engine). y.input.groups) now;
         closing = ap (λ (y : Engine). y.input.closing) now;
         ending = ap (λ (y : Engine). y.input.ending) now;
-        puts = λ n h. subst (λ (y : Engine). is_put n y.input.pending.puts ≡ true) now h;
+        puts = λ n h. subst (λ (y : Engine). is_put n (all_puts y.input.pending) ≡ true) now h;
         lists = record { tokens = macros.tokens };
       }
 

@@ -60,6 +60,13 @@ closed_light e i c is none left =
     let had : readings_weight e.call e ≡ readings_weight (Some c) e = ap (λ (c : Option Call). readings_weight c e) is in
     omega (arith, had, left, heavy c.ask none, weights_small e.readings.frames)
 
+-- the same, where other lists may stand in front
+pub closed_within : (e x : Engine) (c : Call) → x.readings ≡ e.readings → pending_weight x.input.pending ≡ pending_weight e.input.pending → e.call ≡ Some c → call_asks_more c.ask ≡ false → weight (record x { call = None }) < weight e
+closed_within e x c same left is none =
+    let had : readings_weight e.call e ≡ readings_weight (Some c) e = ap (λ (c : Option Call). readings_weight c e) is in
+    let now : stack_weight x.readings ≡ stack_weight e.readings = ap stack_weight same in
+    omega (arith, had, now, left, heavy c.ask none, weights_small e.readings.frames)
+
 -- its call ends
 pub closed_lighter : (e e1 e2 : Engine) (i : Stored) (c : Call) → SameFrames e e1 → pending_weight e1.input.pending ≡ pending_weight e.input.pending → pending_weight i.pending ≡ pending_weight e1.input.pending → e2 ≡ record e1 { call = None; input = i } → e.call ≡ Some c → call_asks_more c.ask ≡ false → weight e2 < weight e
 closed_lighter e e1 e2 i c same before left after is none =

@@ -14,6 +14,7 @@ pub mod CallWeighing
 pub mod Ending
 pub mod Expanding
 pub mod ExpandingWeighs
+pub mod InputMet
 pub mod JobName
 pub mod StepHanding
 pub mod Stepping

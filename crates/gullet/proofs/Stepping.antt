@@ -7,6 +7,9 @@ use Rattle.tex_defs.specs.declared.Seen.{Seen}
 use Rattle.tex_defs.specs.declared.Sizes.{Sizes}
 use Rattle.tex_defs.specs.declared.Token.{Token}
 use Rattle.plain_tokens.specs.Meanings.{met as met_token}
+use Rattle.rows.specs.declared.command.Call.{Call}
+use Rattle.rows.specs.declared.command.Effect.{Effect}
+use Rattle.rows.specs.declared.command.Effect.TheVariants as effect
 use Rattle.plain_tokens.specs.Lookup.{token_of, new_name}
 use Rattle.plain_tokens.specs.Pending.{Pending, Pulled, TokenFrom, LexemeFrom, LineTaken, InvalidMet, FileOver, NothingLeft, pulled}
 use Rattle.rows.specs.Readings.{Ask, More, Inner, Done, Acts, ActsOn, Defines, Ends, Calls, Fails, RunsAway, Tells, Inserts}
@@ -17,11 +20,11 @@ use Rattle.reading_frames.specs.Sees.{Lists}
 use Rattle.reading_frames.specs.Stack.{asks_in, asked_in}
 use Rattle.reading_frames.specs.Stands as frames
 use Rattle.plain_machine.specs.States.{State, Move, Handed, Taken}
-use Rattle.plain_machine.specs.Plan.{Page, page_of, plan, answered, handed, met, entered, enters_names, checked, without_file, reported, stomach, wanted, feeding}
+use Rattle.plain_machine.specs.Plan.{Page, page_of, plan, ruled, answered, input_begun, handed, met, entered, enters_names, checked, at_line, reported, stomach, wanted, feeding}
 use Rattle.plain_machine.specs.Numbers.{pending_of, pulled_of}
 use Rattle.plain_machine.specs.Runs.{steps}
 use Rattle.plain_machine.proofs.Joins.{StepComes, plan_needs}
-use Rattle.plain_machine.proofs.Pulls.{pulls, steps_pull, pulls_join, kind_none, stomach_none, wanted_none, met_none, entered_none, reported_none, checked_none, answered_none, WantsNone}
+use Rattle.plain_machine.proofs.Pulls.{pulls, steps_pull, steps_read, begun_reads, pulls_join, kind_none, stomach_none, wanted_none, met_none, entered_none, reported_none, checked_none, answered_none, WantsNone}
 use Rattle.plain_machine.proofs.Renumbering.{pulled_same}
 use Rattle.input_state.specs.Reads.{gives_step}
 use Rattle.input_state.specs.Stored.{gathered}
@@ -56,7 +59,7 @@ handed_steps page enters o onward (LexemeFrom x q) h =
     omega (arith, free_of (names ++ moves) none)
 handed_steps page enters o onward (LineTaken l q) h = refl
 handed_steps page enters o onward (InvalidMet q) h = omega (arith, free_of (reported page reports.InvalidCharacter []) (reported_none page reports.InvalidCharacter [] refl))
-handed_steps page enters o onward (FileOver q) h = omega (arith, free_of (checked (without_file page) o) (checked_none (without_file page) o))
+handed_steps page enters o onward (FileOver q) h = omega (arith, free_of (checked (at_line q.number page) o) (checked_none (at_line q.number page) o))
 handed_steps page enters o onward NothingLeft h = refl
 
 -- it gives a step under other numbers too
@@ -88,6 +91,14 @@ asked_stands e work h = asked_same e.readings.frames e.input.builds work h.frame
 answer_free : (s : State) (work : List Reading) (r : Reading) (a : Ask) → WantsNone a → steps (answered s work r a) ≡ 0
 answer_free s work r a none = free_of (answered s work r a) (answered_none s work r a none)
 
+-- where a file is opened there is no step yet
+input_free : (s : State) (back : Bool) (name : List ℕ) → steps (input_begun s.files (page_of s) back name) ≡ 0
+input_free s back name = omega (arith, steps_read (input_begun s.files (page_of s) back name), begun_reads s.files (page_of s) back name)
+
+acts_on_free : (s : State) (work : List Reading) (r : Reading) (c : Call) (ef : Effect) (ts : List Token) → steps (answered s work r (ActsOn c ef ts)) ≡ 0
+acts_on_free s work r c (effect.StartInput back) ts = input_free s back _
+acts_on_free s work r c ef ts = answer_free s work r (ActsOn c ef ts) tt
+
 answer_steps : (e : Engine) (book : Book) (work : List Reading) (r : Reading) (a : Ask) → steps (answered (state_of e book) work r a) ≡ one_if (asks_more a && gives_step (pulled e.input.groups.now.categories e.input.pending))
 answer_steps e book work r (More w) =
     let page : Page = page_of (state_of e book) in
@@ -95,7 +106,7 @@ answer_steps e book work r (More w) =
 answer_steps e book work r (Inner k begins) = answer_free (state_of e book) work r (Inner k begins) tt
 answer_steps e book work r (Done v back) = answer_free (state_of e book) work r (Done v back) tt
 answer_steps e book work r (Acts c ef) = answer_free (state_of e book) work r (Acts c ef) tt
-answer_steps e book work r (ActsOn c ef ts) = answer_free (state_of e book) work r (ActsOn c ef ts) tt
+answer_steps e book work r (ActsOn c ef ts) = acts_on_free (state_of e book) work r c ef ts
 answer_steps e book work r (Defines c n ts) = answer_free (state_of e book) work r (Defines c n ts) tt
 answer_steps e book work r Ends = answer_free (state_of e book) work r Ends tt
 answer_steps e book work r (Calls args) = answer_free (state_of e book) work r (Calls args) tt
@@ -111,7 +122,7 @@ steps_of e book (r ∷ rs) = answer_steps e (with_work (r ∷ rs) book) (r ∷ r
 pub frame_steps : (e : Engine) (book : Book) → FramesStand e book.work → steps (plan_of e book) ≡ one_if (frames_want (asked e) && gives_step (pulled e.input.groups.now.categories e.input.pending))
 frame_steps e book h = steps_of e book book.work ∙ ap (λ (o : Option Ask). one_if (frames_want o && gives_step (pulled e.input.groups.now.categories e.input.pending))) (asked_stands e book.work h)
 
--- A STEP COMES
+-- A STEP COMES, where no file was opened
 
 -- where none does (`cc` would go through the whole plan)
 pub no : {A : Type 0} → false ≡ true → A
@@ -126,32 +137,32 @@ module _ (sizes : Sizes) where
   needs_of s page enters o onward (FileOver q) e f g = no g
   needs_of s page enters o onward NothingLeft e f g = no g
 
-  pub pulled_needs : (e : Engine) (book : Book) (page : Page) (enters : Bool) (o : Option Scanning) (onward : Seen → List Move) → plan_of e book ≡ handed page enters o onward (pulled e.input.groups.now.categories (pending_of book.number e.input.pending)) →
+  pub pulled_needs : (e : Engine) (book : Book) (page : Page) (enters : Bool) (o : Option Scanning) (onward : Seen → List Move) → e.input.pending.next ≡ None → plan_of e book ≡ handed page enters o onward (pulled e.input.groups.now.categories (pending_of book.number e.input.pending)) →
       gives_step (pulled e.input.groups.now.categories e.input.pending) ≡ true → StepComes sizes (state_of e book)
-  pulled_needs e book page enters o onward h g =
-      needs_of (state_of e book) page enters o onward (pulled e.input.groups.now.categories (pending_of book.number e.input.pending)) refl h (gives_same book.number e.input.groups.now.categories e.input.pending ∙ g)
+  pulled_needs e book page enters o onward unopened h g =
+      needs_of (state_of e book) page enters o onward (pulled e.input.groups.now.categories (pending_of book.number e.input.pending)) refl (ap (ruled (state_of e book)) unopened ∙ h) (gives_same book.number e.input.groups.now.categories e.input.pending ∙ g)
 
-  answer_needs : (e : Engine) (book : Book) (work : List Reading) (r : Reading) (a : Ask) → plan_of e book ≡ answered (state_of e book) work r a →
+  answer_needs : (e : Engine) (book : Book) (work : List Reading) (r : Reading) (a : Ask) → e.input.pending.next ≡ None → plan_of e book ≡ answered (state_of e book) work r a →
       (asks_more a && gives_step (pulled e.input.groups.now.categories e.input.pending)) ≡ true → StepComes sizes (state_of e book)
-  answer_needs e book work r (More w) h g =
+  answer_needs e book work r (More w) unopened h g =
       let page : Page = page_of (state_of e book) in
-      pulled_needs e book page (enters_names w) (scanning work (gathered e.input)) (λ x. wanted page w (feeding r x) x) h g
-  answer_needs e book work r (Inner k begins) h g = no g
-  answer_needs e book work r (Done v back) h g = no g
-  answer_needs e book work r (Acts c ef) h g = no g
-  answer_needs e book work r (ActsOn c ef ts) h g = no g
-  answer_needs e book work r (Defines c n ts) h g = no g
-  answer_needs e book work r Ends h g = no g
-  answer_needs e book work r (Calls args) h g = no g
-  answer_needs e book work r (Fails report) h g = no g
-  answer_needs e book work r (RunsAway report) h g = no g
-  answer_needs e book work r (Tells report back) h g = no g
-  answer_needs e book work r (Inserts t report back) h g = no g
+      pulled_needs e book page (enters_names w) (scanning work (gathered e.input)) (λ x. wanted page w (feeding r x) x) unopened h g
+  answer_needs e book work r (Inner k begins) unopened h g = no g
+  answer_needs e book work r (Done v back) unopened h g = no g
+  answer_needs e book work r (Acts c ef) unopened h g = no g
+  answer_needs e book work r (ActsOn c ef ts) unopened h g = no g
+  answer_needs e book work r (Defines c n ts) unopened h g = no g
+  answer_needs e book work r Ends unopened h g = no g
+  answer_needs e book work r (Calls args) unopened h g = no g
+  answer_needs e book work r (Fails report) unopened h g = no g
+  answer_needs e book work r (RunsAway report) unopened h g = no g
+  answer_needs e book work r (Tells report back) unopened h g = no g
+  answer_needs e book work r (Inserts t report back) unopened h g = no g
 
-  needs_in : (e : Engine) (book : Book) (work : List Reading) → (frames_want (asked_in work) && gives_step (pulled e.input.groups.now.categories e.input.pending)) ≡ true → StepComes sizes (state_of e (with_work work book))
-  needs_in e book [] g = let page : Page = page_of (state_of e (with_work [] book)) in pulled_needs e (with_work [] book) page false None (stomach page) refl g
-  needs_in e book (r ∷ rs) g = answer_needs e (with_work (r ∷ rs) book) (r ∷ rs) r (ask r.kind r.fed) refl g
+  needs_in : (e : Engine) (book : Book) (work : List Reading) → e.input.pending.next ≡ None → (frames_want (asked_in work) && gives_step (pulled e.input.groups.now.categories e.input.pending)) ≡ true → StepComes sizes (state_of e (with_work work book))
+  needs_in e book [] unopened g = let page : Page = page_of (state_of e (with_work [] book)) in pulled_needs e (with_work [] book) page false None (stomach page) unopened refl g
+  needs_in e book (r ∷ rs) unopened g = answer_needs e (with_work (r ∷ rs) book) (r ∷ rs) r (ask r.kind r.fed) unopened refl g
 
-  pub frame_needs : (e : Engine) (book : Book) → FramesStand e book.work → (frames_want (asked e) && gives_step (pulled e.input.groups.now.categories e.input.pending)) ≡ true → StepComes sizes (state_of e book)
-  frame_needs e book h g =
-      needs_in e book book.work (ap (λ (o : Option Ask). frames_want o && gives_step (pulled e.input.groups.now.categories e.input.pending)) (asked_stands e book.work h) ∙ g)
+  pub frame_needs : (e : Engine) (book : Book) → e.input.pending.next ≡ None → FramesStand e book.work → (frames_want (asked e) && gives_step (pulled e.input.groups.now.categories e.input.pending)) ≡ true → StepComes sizes (state_of e book)
+  frame_needs e book unopened h g =
+      needs_in e book book.work unopened (ap (λ (o : Option Ask). frames_want o && gives_step (pulled e.input.groups.now.categories e.input.pending)) (asked_stands e book.work h) ∙ g)

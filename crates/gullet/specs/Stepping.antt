@@ -11,8 +11,8 @@ use Rattle.tex_defs.specs.declared.Sizes.{Sizes}
 use Rattle.plain_readings.specs.Readings.{Kind}
 use Rattle.reading_frames.specs.Sees.{kind_of}
 use Rattle.reading_frames.specs.Weights.{begun_weight}
-use Rattle.plain_machine.specs.States.{State, Move, Begun, Closed}
-use Rattle.plain_machine.specs.Plan.{Page, reported, called, is_expandable_primitive, job_in, put_characters}
+use Rattle.plain_machine.specs.States.{State, Move, Begun, Closed, FileEnds}
+use Rattle.plain_machine.specs.Plan.{Page, reported, called, input_met, is_expandable_primitive, job_in, put_characters}
 use Rattle.engine_state.specs.declared.engine.Engine.{Engine}
 use Rattle.engine_state.specs.declared.outcome.Ruled.{Ruled}
 use Rattle.engine_state.specs.declared.outcome.Ruled.TheVariants as ruled
@@ -51,6 +51,8 @@ ExpandsTo by.Unexpandable page others moves = moves ≡ others
 ExpandsTo (by.Call t) page others moves = moves ≡ called page t
 ExpandsTo (by.Begin o) page others moves = moves ≡ Begun (kind_of o) ∷ []
 ExpandsTo (by.JobName o) page others moves = moves ≡ job_moves page (kind_of o)
+ExpandsTo (by.Input t c) page others moves = moves ≡ input_met page t c
+ExpandsTo by.EndInput page others moves = moves ≡ FileEnds ∷ []
 
 -- what begins weighs little
 abbrev pub IsLight : Expansion → Type 0

@@ -8,7 +8,7 @@ ghost use Rattle.plain_readings.specs.Weights.{frame_weight, act_weight};
 ghost use Rattle.reading_frames.specs.Sees.{kind_of};
 ghost use Rattle.reading_frames.specs.Weights.{innermost_weight, begun_weight};
 ghost use Rattle.plain_machine.specs.States.{Move};
-ghost use Rattle.plain_machine.specs.Plan.{Page, call_of as plain_call, expanded, expansion as plain_expansion, is_expandable_primitive};
+ghost use Rattle.plain_machine.specs.Plan.{Page, call_of as plain_call, expanded, expansion as plain_expansion, input_met, is_expandable_primitive};
 ghost use Rattle.world_io.specs.Told.{FilesTold};
 ghost use Rattle.input_state.specs.Reads.{gives_step};
 ghost use Rattle.engine_state.specs.Book.{Book};
@@ -22,7 +22,7 @@ use crate::call_name::call_name;
 use engine_state::{Broken, Engine, Made, Next, Ruled, name_of};
 use reading_frames::Opening;
 use rows::{Call, Kind};
-use tex_defs::{Meaning, Seen, Token};
+use tex_defs::{Frozen, Meaning, Name, Seen, Token};
 use tex_syntax::{Outcome, Report, Want};
 use world_io::Sink;
 
@@ -61,6 +61,10 @@ enum Expansion {
     Begin(Opening),
     /// This reading begins, the job's name is put, and the reading ends.
     JobName(Opening),
+    /// The reading of a file's name begins, by this token; or where one is being read, it is put back behind a `\relax`.
+    Input(Token, Call),
+    /// The innermost file is to end.
+    EndInput,
     /// It stays.
     Unexpandable,
 }
@@ -70,6 +74,15 @@ const CSNAME: u16 = 56;
 
 /// The number of `\jobname`.
 const JOBNAME: u16 = 61;
+
+/// The number of `\input`.
+const INPUT: u16 = 63;
+
+/// The number of `\endinput`.
+const ENDINPUT: u16 = 64;
+
+/// A `\relax` that no assignment changes.
+const FROZEN_RELAX: Token = Token::Named(Name::Frozen(Frozen::Relax));
 
 /// Whether the reading that wants a token enters names: a raw one.
 fn enters_names(want: Option<Want>) -> bool
@@ -108,6 +121,8 @@ fn primitive_expansion(token: Token, number: u16) -> Expansion
     match number {
         CSNAME => Expansion::Begin(Opening::Spelling(call)),
         JOBNAME => Expansion::JobName(Opening::Reads(Kind::Command(call))),
+        INPUT => Expansion::Input(token, call),
+        ENDINPUT => Expansion::EndInput,
         _ => Expansion::Begin(Opening::Reads(Kind::Command(call))),
     }
 }
@@ -148,6 +163,32 @@ fn put_job(engine: &mut Engine, opening: Opening) -> Result<(), Broken>
     Ok(())
 }
 
+/// The reading of a file's name begins; where one is being read, the token of `\input` is put back, behind a `\relax`.
+/// *TeX: The Program*, parts 25 (`insert_relax`) and 29 (`start_input`).
+///
+/// # Errors
+/// There is no room for the reading, or for what is put back: the engine stands for the moment before.
+fn begin_input(engine: &mut Engine, token: Token, call: Call) -> Result<(), Broken>
+    requires idle { engine.old.input.making ≡ None }
+    ensures rule { OnOk result ((sizes : Sizes) (w : World) (book : Book) → Stands sizes engine.old book →
+        Went sizes (state_of engine.old book) engine.new w w (input_met (page_of engine.old book) token call) 0) }
+    ensures err { IfErr result (λ b. (sizes : Sizes) (w : World) (book : Book) → Stands sizes engine.old book →
+        CutsIn sizes (state_of engine.old book) engine.new w w (input_met (page_of engine.old book) token call) b) }
+    ensures light { OnOk result (engine.old.call ≡ None → innermost_weight engine.old.readings.frames ≤ act_weight → weight engine.new ≤ frame_weight * length engine.old.readings.frames + act_weight + pending_weight engine.old.input.pending) }
+    ensures call { OnOk result (engine.new.call ≡ engine.old.call) }
+    ensures column { engine.new.in_line ≡ engine.old.in_line }
+    ensures idle { OnOk result (engine.new.input.making ≡ None) }
+{
+    if engine.naming {
+        engine.put_one(token)?;
+        engine.put_one(FROZEN_RELAX)?;
+        return Ok(());
+    }
+    engine.begin(Opening::FileName(call))?;
+    engine.naming = true;
+    Ok(())
+}
+
 /// A token is expanded once, if it can be; no call gathers its arguments.
 ///
 /// # Errors
@@ -181,6 +222,14 @@ pub fn expand_once<S: Sink>(engine: &mut Engine, out: &mut S, seen: Seen) -> Res
         }
         Expansion::JobName(opening) => {
             put_job(engine, opening)?;
+            Ok(Once::Expanded)
+        }
+        Expansion::Input(token, call) => {
+            begin_input(engine, token, call)?;
+            Ok(Once::Expanded)
+        }
+        Expansion::EndInput => {
+            engine.end_input();
             Ok(Once::Expanded)
         }
         Expansion::Unexpandable => Ok(Once::Stays),

@@ -1,5 +1,5 @@
 -- The holders of all lists, by their numbers.
-use Rattle.std.proofs.Common.{◌≡◌, ℕ, ◌+◌, ◌<◌, ◌≤◌, List, [], ◌∷◌, ◌++◌, length, map, reverse, drop, Option, None, Some, refl, sym, ap, ap₂, ◌∙◌, arith}
+use Rattle.std.proofs.Common.{◌≡◌, ℕ, ◌+◌, ◌<◌, ◌≤◌, List, [], ◌∷◌, ◌++◌, length, map, reverse, drop, Option, None, Some, refl, sym, ap, ap₂, ◌∙◌, subst, arith}
 use Rattle.std.specs.Prelude.{Bool, true, false, option_to_list, IfSome}
 use Rattle.std.specs.List.{AllZip, filter_map, flat_map, cons_option}
 use Rattle.std.proofs.lemmas.List.{map-append}
@@ -26,13 +26,14 @@ use Rattle.input_stack.proofs.CallPulled.{body_closed}
 use Rattle.input_stack.proofs.Kept.{holds_itself}
 use Rattle.input_state.specs.Callings.{call_lists}
 use Rattle.input_state.specs.Counted.{own_list, macro_of, Numbers, AreListsOf, HasNoMoreLevels, shared_numbers, own_numbers, reading_numbers, HaveHolders}
-use Rattle.input_state.specs.HeldViews.{Named, call_holds, calling_of, whole_of, argument_text, front, fronts, text, made_text, IsOf, IsFront, AreFronts, cells_of, own_of, owns, body_of, bodies, opens, all_builds, built, IsShared, IsCall}
+use Rattle.input_state.specs.HeldViews.{Named, call_holds, calling_of, whole_of, argument_text, front, fronts, text, made_text, IsOf, IsFront, AreFronts, cells_of, own_of, owns, body_of, bodies, opens, puts_in, all_builds, built, IsShared, IsCall}
 use Rattle.input_state.proofs.Counting.{times_cons, times_append}
 use Rattle.input_state.proofs.Fronts.{used_items}
 use Rattle.input_state.proofs.Shares.{held_parts}
 use Rattle.input_state.proofs.Sharing.{built_append}
 use Rattle.input_state.proofs.CallNumbers.{one_list, call_numbers, call_times, call_shown}
 use Rattle.input_state.proofs.Words.{build_times}
+use Rattle.input_state.proofs.Sources.{all_fronts, fronts_in}
 
 -- A LIST IN FRONT
 
@@ -96,22 +97,22 @@ settled_used reading [] is = absurd is
 settled_used reading (x ∷ xs) is = omega (arith, ap count_of is)
 
 module _ (table : List (Option Entry)) where
-  -- the lists in front of a line, where these levels stand
-  abbrev puts_in : List Level → List Put
-  puts_in ls = (pending_in table ls).puts
+  -- all lists in front, where these levels stand
+  abbrev puts_of : List Level → List Put
+  puts_of ls = puts_in (pending_in table ls)
 
-  shown : (ls : List Level) → AreFronts (puts_in ls) → ((h : ℕ) → 0 < times h (cells_of (puts_in ls)) → 0 < length (tokens_at table h)) → AllZip (AreListsOf table) (fronts table (puts_in ls)) (map numbers_of (puts_in ls))
+  shown : (ls : List Level) → AreFronts (puts_of ls) → ((h : ℕ) → 0 < times h (cells_of (puts_of ls)) → 0 < length (tokens_at table h)) → AllZip (AreListsOf table) (fronts table (puts_of ls)) (map numbers_of (puts_of ls))
   shown [] is listed = tt
   shown (level.List r ∷ ls) is listed = (put_shown table (put_of table r) is.0 (λ h some. listed h (omega (arith, some))) (text_used (rest table r)), shown ls is.1 listed)
   shown (level.Call c ∷ ls) is listed =
       let p = put_of_call table c in
-      let parts = λ (h : ℕ). times_append h (numbers p.arguments) (cells_of (puts_in ls)) in (
+      let parts = λ (h : ℕ). times_append h (numbers p.arguments) (cells_of (puts_of ls)) in (
         put_shown table p is.0 (λ h some. listed h (omega (arith, some, parts h))) (call_used table (arguments_in table c.args) (rest table c.body) c.argument),
         shown ls is.1 (λ h some. listed h (omega (arith, some, parts h))),
       )
-  shown (level.Source s ∷ ls) is listed = tt
+  shown (level.Source s ∷ ls) is listed = shown ls is listed
 
-  unfinished : (ls : List Level) → AreUnfinished table ls → AllZip HasNoMoreLevels (fronts table (puts_in ls)) (map numbers_of (puts_in ls))
+  unfinished : (ls : List Level) → AreUnfinished table ls → AllZip HasNoMoreLevels (fronts table (puts_of ls)) (map numbers_of (puts_of ls))
   unfinished [] all = tt
   unfinished (level.List r ∷ ls) all =
       let some : 0 < length (rest table r) = All-head (IsUnfinished table) (level.List r) ls all in
@@ -119,13 +120,19 @@ module _ (table : List (Option Entry)) where
   unfinished (level.Call c ∷ ls) all =
       let p = put_of_call table c in
       (omega (arith, used_items p.items, settled_used p.reading p.items (All-head (IsUnfinished table) (level.Call c) ls all)), unfinished ls (All-tail (IsUnfinished table) (level.Call c) ls all))
-  unfinished (level.Source s ∷ ls) all = tt
+  unfinished (level.Source s ∷ ls) all = unfinished ls (All-tail (IsUnfinished table) (level.Source s) ls all)
 
-  beneath : (ls : List Level) → AreUnfinishedBelow table ls → AllZip HasNoMoreLevels (drop 1 (fronts table (puts_in ls))) (drop 1 (map numbers_of (puts_in ls)))
+  behind_first : (ps : List plain.Put) (ns : List Numbers) → AllZip HasNoMoreLevels ps ns → AllZip HasNoMoreLevels (drop 1 ps) (drop 1 ns)
+  behind_first [] [] all = tt
+  behind_first (p ∷ ps) (n ∷ ns) all = all.1
+  behind_first [] (n ∷ ns) all = absurd all
+  behind_first (p ∷ ps) [] all = absurd all
+
+  beneath : (ls : List Level) → AreUnfinishedBelow table ls → AllZip HasNoMoreLevels (drop 1 (fronts table (puts_of ls))) (drop 1 (map numbers_of (puts_of ls)))
   beneath [] below = tt
   beneath (level.List r ∷ ls) below = unfinished ls below
   beneath (level.Call c ∷ ls) below = unfinished ls below
-  beneath (level.Source s ∷ ls) below = tt
+  beneath (level.Source s ∷ ls) below = behind_first (fronts table (puts_of ls)) (map numbers_of (puts_of ls)) (unfinished ls below)
 
 -- NUMBERS
 
@@ -169,9 +176,9 @@ made_shown table None = refl
 made_shown table (Some b) = refl
 
 pub holders_are : (table : List (Option Entry)) (stack : InputStack) (making : Option Build) (gathered : List Build) (m : Named) → IsShared table stack (all_builds making gathered) m → IsCall table m.table m.call →
-    HaveHolders table (lists_held m.table.groups) (fronts table (pending table stack).puts) (option_to_list (made_text table making) ++ (call_lists (calling_of table m.call) ++ map (text table) (reverse gathered)))
+    HaveHolders table (lists_held m.table.groups) (all_fronts table (pending table stack)) (option_to_list (made_text table making) ++ (call_lists (calling_of table m.call) ++ map (text table) (reverse gathered)))
 holders_are table stack making gathered m shared is =
-    let ps = (pending table stack).puts in
+    let ps = puts_in (pending table stack) in
     let ls = innermost stack in
     let made = map build_id (option_to_list making) in
     let built_up = map build_id (reverse gathered) in
@@ -183,19 +190,21 @@ holders_are table stack making gathered m shared is =
     let own_are : (h : ℕ) → times h (own_numbers ns others) ≡ times h (owns ps) + (built (all_builds making gathered) h + call_holds m.call h) =
     λ h. omega (arith, times_append h (flat_map (λ (n : Numbers). n.own ++ n.arguments) ns) others, ap (times h) (owns_are ps), rest_are h) in
     let macros = shared_numbers (lists_held m.table.groups) (fronts table ps) in
-    record {
+    let others_are = option_to_list (made_text table making) ++ (call_lists (calling_of table m.call) ++ map (text table) (reverse gathered)) in
+    subst (λ (qs : List plain.Put). HaveHolders table (lists_held m.table.groups) qs others_are) (fronts_in table (pending table stack))
+    (record {
       fronts = ns;
       rest = others;
-      in_front = shown table ls shared.simple.fronts shared.listed;
+      in_front = shown table ls shared.fronts shared.listed;
       beneath = beneath table ls shared.stands.read.below;
       elsewhere =
           map-append (tokens_at table) made (call_numbers m.call ++ built_up)
           ∙ ap₂ (λ (us vs : List (List Token)). us ++ vs) (made_shown table making)
           (map-append (tokens_at table) (call_numbers m.call) built_up ∙ ap₂ (λ (us vs : List (List Token)). us ++ vs) (call_shown table m.table m.call is) (builds_shown table (reverse gathered)));
       counts = λ h.
-          omega (arith, shared.counted h, held_parts table stack shared.simple.single h, times_append h macros (own_numbers ns others ++ reading_numbers ns), times_append h (own_numbers ns others) (reading_numbers ns), shared_are table (lists_held m.table.groups) ps h, own_are h, ap (times h) (opens_are ps));
+          omega (arith, shared.counted h, held_parts table stack h, times_append h macros (own_numbers ns others ++ reading_numbers ns), times_append h (own_numbers ns others) (reading_numbers ns), shared_are table (lists_held m.table.groups) ps h, own_are h, ap (times h) (opens_are ps));
       sole = λ h some.
           let all = own_are h in
           let none = shared.apart.apart h (omega (arith, some, all)) in
           omega (arith, times_append h macros (own_numbers ns others), shared_are table (lists_held m.table.groups) ps h, all, some, none, shared.apart.sole h);
-    }
+    })

@@ -33,20 +33,21 @@ use Rattle.input_stack.specs.declared.stack.InputStack.{InputStack}
 use Rattle.input_stack.proofs.Helds.{others}
 use Rattle.input_stack.proofs.Bounds.{held_few}
 use Rattle.input_stack.proofs.Kept.{holds_itself}
-use Rattle.input_state.specs.HeldLists.{HeldLists, call_refusal, level_held, line_levels}
+use Rattle.input_state.specs.HeldLists.{HeldLists, covered_puts, call_refusal, level_held}
 use Rattle.input_state.specs.Macros.{KeepsLists}
 use Rattle.input_state.specs.Calls.{called_put, called, when_called}
-use Rattle.input_state.specs.HeldViews.{Named, calling_of, text, made_text, texts, front, fronts, plain_item, line_of, lists_of, all_builds, bodies, cells_of, IsSimple, IsApart, IsDefined, IsShared, IsSound}
+use Rattle.input_state.specs.HeldViews.{Named, calling_of, text, made_text, texts, front, fronts, plain_item, covers, lists_of, all_builds, bodies, cells_of, puts_in, AreFronts, IsApart, IsDefined, IsShared, IsSound}
 use Rattle.input_state.proofs.Counting.{times_cons, holds_other}
 use Rattle.input_state.proofs.Ranges.{hash_greatest, save_greatest, input_greatest, parameters_greatest}
-use Rattle.input_state.proofs.Shares.{apart_fewer, fewer_put}
+use Rattle.input_state.proofs.Shares.{apart_fewer, fewer_put_in}
 use Rattle.input_state.proofs.Levels.{flat_put, flat_is, simple_put, levels_used}
 use Rattle.input_state.proofs.CallStays.{call_stays}
 use Rattle.input_state.proofs.Sharing.{Moved, moved, text_at}
 use Rattle.input_state.proofs.ListViews.{held_lists, moved_view, macros_moved}
 use Rattle.input_state.proofs.Sounds.{sized_now, settled_sound, settled_view, settled_macros}
 use Rattle.input_state.proofs.Refusing.{le_test, levels_refused}
-use Rattle.input_state.proofs.Files.{settled_levels}
+use Rattle.input_state.proofs.Sources.{all_fronts}
+use Rattle.input_state.proofs.Settling.{settled_levels_in}
 use Rattle.input_state.proofs.Calling.{stack_texts, flat_call, plain_call, put_of_name, fronts_called}
 
 -- the holders of a list can be counted
@@ -111,7 +112,7 @@ module _ (old mid : List (Option Entry)) (s : InputStack) (making : Option Build
 
   level_refused : room s.size (used_levels (pending old s)) ≡ refused sizes (level_held (record was { puts = plain.settled was.puts }) ∷ [])
   unfolding was
-  level_refused = levels_refused sizes (used_levels (pending old s)) _ s.size (levels_used old (pending old s) sound.shared.simple.single ∙ sym (ap (λ (n : ℕ). n + line_levels (line_of (pending old s).sources)) (settled_levels (fronts old (pending old s).puts)))) sound.sized.levels
+  level_refused = levels_refused sizes (used_levels (pending old s)) _ s.size (levels_used old (pending old s) ∙ sym (ap (λ (n : ℕ). n + length (covers old (pending old s).sources)) (settled_levels_in (fronts old (pending old s).puts) (covered_puts (covers old (pending old s).sources))))) sound.sized.levels
 
   by_items : (ts : List Token) → stack.call_refusal s.size s.parameter_size 0 (map Text ts) (pending old s) ≡ refused sizes (when_called (map plain_item (map Text ts)) (level_held (record was { puts = plain.settled was.puts })))
   by_items [] = refl
@@ -153,7 +154,7 @@ module _ (old mid new : List (Option Entry)) (s t : InputStack) (making : Option
   pushed h = omega (arith, free h)
 
   -- the macro's body is read once more
-  apart_first : IsApart (x ∷ (pending old s).puts) bs m
+  apart_first : IsApart (x ∷ puts_in (pending old s)) bs m
   unfolding x k bs
   apart_first = record {
     sole = λ h. sound.shared.apart.sole h;
@@ -161,16 +162,16 @@ module _ (old mid new : List (Option Entry)) (s t : InputStack) (making : Option
       | inl is ↦
           let none = sound.shared.apart.apart h more in
           absurd (omega (arith, none, ap (eqtb.held m.table) is, is_meant))
-      | inr other ↦ omega (arith, sound.shared.apart.apart h more, times_cons h (id_of body) (bodies (pending old s).puts), holds_other (id_of body) h (λ e. other (sym e)))
+      | inr other ↦ omega (arith, sound.shared.apart.apart h more, times_cons h (id_of body) (bodies (puts_in (pending old s))), holds_other (id_of body) h (λ e. other (sym e)))
     ];
   }
 
-  apart_now : IsApart (pending new t).puts bs m
-  apart_now = subst (λ (p : Pending). IsApart p.puts bs m) (sym now) (apart_fewer (put x (pending old s)).puts (x ∷ (pending old s).puts) bs m (fewer_put x (pending old s).puts) apart_first)
+  apart_now : IsApart (puts_in (pending new t)) bs m
+  apart_now = subst (λ (p : Pending). IsApart (puts_in p) bs m) (sym now) (apart_fewer (puts_in (put x (pending old s))) (x ∷ puts_in (pending old s)) bs m (fewer_put_in x (pending old s)) apart_first)
 
-  simple_now : IsSimple (pending new t)
+  simple_now : AreFronts (puts_in (pending new t))
   unfolding x
-  simple_now = subst IsSimple (sym now) (simple_put (flat_put true (id_of body) (body_of (tokens_at old (id_of body)))) (pending old s) (flat_is true (id_of body) (body_of (tokens_at old (id_of body)))) sound.shared.simple)
+  simple_now = subst (λ (p : Pending). AreFronts (puts_in p)) (sym now) (simple_put (flat_put true (id_of body) (body_of (tokens_at old (id_of body)))) (pending old s) (flat_is true (id_of body) (body_of (tokens_at old (id_of body)))) sound.shared.fronts)
 
   macros_now : (h : ℕ) → 0 < eqtb.held m.table h → IsDefined (tokens_at new h)
   unfolding k
@@ -182,7 +183,7 @@ module _ (old mid new : List (Option Entry)) (s t : InputStack) (making : Option
   unfolding bs k x
   moved_now =
       moved old new s t m m [] (all_builds making gathered) sound.shared stands simple_now apart_now
-      (λ h some. sound.shared.listed h (omega (arith, (fewer_put (flat_put true (id_of body) (body_of (tokens_at old (id_of body)))) (pending old s).puts).cells h, subst (λ (p : Pending). 0 < times h (cells_of p.puts)) now some)))
+      (λ h some. sound.shared.listed h (omega (arith, (fewer_put_in (flat_put true (id_of body) (body_of (tokens_at old (id_of body)))) (pending old s)).cells h, subst (λ (p : Pending). 0 < times h (cells_of (puts_in p))) now some)))
       (λ h. omega (arith, moves h, pushed h, shares.holders h))
       (record {
         tokens = λ h l. keeps.tokens h (omega (arith, l, pushed h, shares.holders h)) ∙ shares.tokens h;
@@ -203,7 +204,7 @@ module _ (old mid new : List (Option Entry)) (s t : InputStack) (making : Option
   }
 
   module _ (v : HeldLists) (is : lists_of old (pending old s) making gathered m sizes ≡ v) where
-    pub call_macros : KeepsLists (lists_held m.table.groups) (fronts new (pending new t).puts) v.lists (texts new)
+    pub call_macros : KeepsLists (lists_held m.table.groups) (all_fronts new (pending new t)) v.lists (texts new)
     call_macros = macros_moved old new t m sizes bs v.lists moved_now (ap (λ (w : HeldLists). w.lists) is)
 
     pub call_view : (name : Name) → list_of (name_meaning m.table.groups.now.meanings name) ≡ Some (id_of body) → lists_of new (pending new t) making gathered m sizes ≡ record v { puts = called (called_put v.lists (name_meaning v.groups.now.meanings name)) v.puts; lists = texts new }
@@ -213,7 +214,7 @@ module _ (old mid new : List (Option Entry)) (s t : InputStack) (making : Option
         let what = put_is old mid s making gathered m sizes capacity sound body shares args few v is name list_is in
         moved_view old new t m sizes making gathered moved_now
         ∙ ap (λ (p : Pending). record (lists_of old p making gathered m sizes) { lists = texts new }) now
-        ∙ ap (λ (qs : List plain.Put). held_lists qs (made_text old making) (calling_of old m.call) (map (text old) (reverse gathered)) (line_of (pending old s).sources) m.table sizes (texts new)) (fronts_called old (id_of body) (body_of (tokens_at old (id_of body))) ps ∙ ap (λ (p : plain.Put). called p (fronts old ps)) what)
+        ∙ ap (λ (qs : List plain.Put). held_lists qs (made_text old making) (calling_of old m.call) (map (text old) (reverse gathered)) (covers old (pending old s).sources) m.table sizes (texts new)) (fronts_called old (id_of body) (body_of (tokens_at old (id_of body))) ps ∙ ap (λ (p : plain.Put). called p (fronts old ps)) what)
         ∙ ap (λ (w : HeldLists). record w { puts = called (called_put v.lists (name_meaning v.groups.now.meanings name)) w.puts; lists = texts new }) is
 
 -- THE LIST IS GIVEN BACK
@@ -257,5 +258,5 @@ module _ (old mid new last : List (Option Entry)) (s t : InputStack) (making : O
   pub refused_view : (v : HeldLists) → lists_of old (pending old s) making gathered m sizes ≡ v → lists_of last (pending last t) making gathered m sizes ≡ record v { puts = plain.settled v.puts; lists = texts last }
   refused_view v is = settled_view old last s t making gathered m sizes capacity sound last_stands.0 moves_now keeps_now lasts_now size parameters after_now v is
 
-  pub refused_macros : (v : HeldLists) → lists_of old (pending old s) making gathered m sizes ≡ v → KeepsLists (lists_held m.table.groups) (fronts last (pending last t).puts) v.lists (texts last)
+  pub refused_macros : (v : HeldLists) → lists_of old (pending old s) making gathered m sizes ≡ v → KeepsLists (lists_held m.table.groups) (all_fronts last (pending last t)) v.lists (texts last)
   refused_macros v is = settled_macros old last s t making gathered m sizes capacity sound last_stands.0 moves_now keeps_now lasts_now size parameters after_now v is

@@ -24,12 +24,13 @@ use Rattle.input_stack.specs.declared.stack.InputStack.{InputStack}
 use Rattle.input_stack.proofs.Helds.{others}
 use Rattle.input_state.specs.HeldLists.{HeldLists}
 use Rattle.input_state.specs.Macros.{KeepsLists}
-use Rattle.input_state.specs.HeldViews.{named, IsCall, texts, fronts, lists_of, all_builds, cells_of, IsSimple, IsApart, IsDefined, IsSound}
+use Rattle.input_state.specs.HeldViews.{named, IsCall, texts, lists_of, all_builds, cells_of, puts_in, AreFronts, IsApart, IsDefined, IsSound}
 use Rattle.input_state.specs.Callings.{NotCalling}
 use Rattle.input_state.specs.declared.gathering.Gathering as code
 use Rattle.input_state.proofs.Counting.{some, some_one, one_some, is_one, times_append}
 use Rattle.input_state.proofs.Shares.{listed_once}
 use Rattle.input_state.proofs.Sharing.{Moved, moved}
+use Rattle.input_state.proofs.Sources.{all_fronts}
 use Rattle.input_state.proofs.ListViews.{moved_view, macros_moved}
 use Rattle.input_state.proofs.Letting.{no_call}
 
@@ -106,7 +107,7 @@ module _ (old new : List (Option Entry)) (s : InputStack) (making : Option Build
   stand : Stands new s × (pending new s ≡ pending old s)
   stand = others s old new (eqtb.held m) (eqtb.held n) sound.shared.stands (λ h. omega (arith, sound.shared.counted h)) moves keeps
 
-  apart_now : IsApart (pending old s).puts (all_builds making items) (named n k)
+  apart_now : IsApart (puts_in (pending old s)) (all_builds making items) (named n k)
   apart_now = record {
     sole = λ h. sound.shared.apart.sole h;
     apart = λ h more. omega (arith, sound.shared.apart.apart h more, still_none h);
@@ -119,9 +120,9 @@ module _ (old new : List (Option Entry)) (s : InputStack) (making : Option Build
   moved_now : Moved old new s (named n k) (all_builds making items)
   moved_now =
       moved old new s s (named m k) (named n k) [] (all_builds making items) sound.shared stand.0
-      (subst (λ (p : Pending). IsSimple p) (sym stand.1) sound.shared.simple)
-      (subst (λ (p : Pending). IsApart p.puts (all_builds making items) (named n k)) (sym stand.1) apart_now)
-      (λ h more. sound.shared.listed h (subst (λ (p : Pending). 0 < times h (cells_of p.puts)) stand.1 more))
+      (subst (λ (p : Pending). AreFronts (puts_in p)) (sym stand.1) sound.shared.fronts)
+      (subst (λ (p : Pending). IsApart (puts_in p) (all_builds making items) (named n k)) (sym stand.1) apart_now)
+      (λ h more. sound.shared.listed h (subst (λ (p : Pending). 0 < times h (cells_of (puts_in p))) stand.1 more))
       (λ h. omega (arith, moves h))
       (record { tokens = λ h l. keeps.tokens h (omega (arith, l)); places = λ h l. keeps.places h (omega (arith, l)) })
       lasting.tokens macros_now (λ h. refl)
@@ -149,5 +150,5 @@ module _ (old new : List (Option Entry)) (s : InputStack) (making : Option Build
       ∙ ap (λ (t : Table). record (lists_of old p making items (named t k) sizes) { lists = texts new }) gone
       ∙ ap (λ (w : HeldLists). record w { groups = closed w.groups; closing = tokens_after w.groups; ending = kind_of w.groups; lists = texts new }) is
 
-  pub closed_macros : KeepsLists (lists_held n.groups) (fronts new (pending new s).puts) v.lists (texts new)
+  pub closed_macros : KeepsLists (lists_held n.groups) (all_fronts new (pending new s)) v.lists (texts new)
   closed_macros = macros_moved old new s (named n k) sizes (all_builds making items) v.lists moved_now (ap (λ (w : HeldLists). w.lists) is)

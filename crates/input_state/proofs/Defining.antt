@@ -1,12 +1,13 @@
 -- A list that was gathered becomes a macro's.
 use Rattle.std.proofs.Common.{◌≡◌, ℕ, ◌+◌, ◌<◌, ◌≤◌, List, [], ◌∷◌, ◌++◌, map, reverse, drop, Bool, true, false, length, Option, Some, inl, inr, sym, ap, ap₂, ◌∙◌, subst, arith}
-use Rattle.std.specs.Prelude.{option_to_list, ◌||◌}
+use Rattle.std.specs.Prelude.{cond, option_to_list, ◌||◌}
 use Rattle.std.proofs.lemmas.Bool.{cases_eq, false_from_ne_true}
 use Rattle.std.proofs.lemmas.List.Elements.{All-head, All-tail, All-cons, All-append}
 use Rattle.tex_defs.specs.declared.Name.{Name}
 use Rattle.tex_defs.specs.declared.Meaning.TheVariants as means
 use Rattle.tex_defs.specs.declared.Sizes.{Sizes}
 use Rattle.plain_tokens.specs.Meanings.{location, is_listed}
+use Rattle.plain_tokens.specs.Puts as plain
 use Rattle.plain_tokens.specs.Tables.{is_put}
 use Rattle.token_lists.specs.declared.Build.{Build}
 use Rattle.token_lists.specs.Ids.{build_id, IsBuilding}
@@ -27,16 +28,17 @@ use Rattle.input_stack.specs.Standing.{Stands}
 use Rattle.input_stack.specs.declared.stack.InputStack.{InputStack}
 use Rattle.input_stack.proofs.Helds.{others}
 use Rattle.input_stack.proofs.Kept.{holds_itself}
-use Rattle.input_state.specs.HeldLists.{HeldLists, first_list}
+use Rattle.input_state.specs.HeldLists.{HeldLists, puts_held, first_list}
 use Rattle.input_state.specs.Macros.{is_shared, KeepsLists}
 use Rattle.input_state.specs.Calls.{Defines}
-use Rattle.input_state.specs.HeldViews.{Named, named, call_holds, calling_of, IsCall, text, made_text, texts, fronts, line_of, lists_of, all_builds, built, bodies, cells_of, IsSimple, IsApart, IsDefined, IsShared, IsSound}
+use Rattle.input_state.specs.HeldViews.{Named, named, call_holds, calling_of, IsCall, text, made_text, texts, fronts, covers, lists_of, all_builds, built, bodies, cells_of, puts_in, AreFronts, IsApart, IsDefined, IsShared, IsSound}
 use Rattle.input_state.specs.Callings.{NotCalling}
 use Rattle.input_state.specs.declared.gathering.Gathering as code
 use Rattle.input_state.specs.declared.gathering.Gathering.TheVariants as call
 use Rattle.input_state.proofs.Counting.{some_none, is_none, holds_other}
 use Rattle.input_state.proofs.Shares.{held_parts, macro_once}
 use Rattle.input_state.proofs.Sharing.{Moved, moved, own_alone, text_at, built_cons, built_append, all_left, all_right}
+use Rattle.input_state.proofs.Sources.{all_fronts, fronts_in}
 use Rattle.input_state.proofs.ListViews.{held_lists, moved_view, macros_moved, reverse_push}
 use Rattle.input_state.proofs.Sounds.{push_builds}
 use Rattle.input_state.proofs.Assigning.{Assigned}
@@ -50,7 +52,7 @@ front_shared table stack xs ys b m s =
     let others = All-append (IsBuilding table) xs ys (all_left table xs (b ∷ ys) s.building) (All-tail (IsBuilding table) b ys right) in
     record {
       stands = s.stands;
-      simple = s.simple;
+      fronts = s.fronts;
       building = All-cons (IsBuilding table) b (xs ++ ys) (All-head (IsBuilding table) b ys right) others;
       counted = λ h. omega (arith, s.counted h, same h);
       apart = record {
@@ -76,7 +78,7 @@ module _ (old new : List (Option Entry)) (s : InputStack) (m n : Named) (b : Bui
 
   alone : (built (b ∷ bs) (build_id b) ≡ 1) × (held s (build_id b) ≡ 0) × (eqtb.held m.table (build_id b) ≡ 0)
   alone =
-      let k = own_alone old s (b ∷ bs) m shared.simple shared.apart (build_id b) (omega (arith, own)) in
+      let k = own_alone old s (b ∷ bs) m shared.fronts shared.apart (build_id b) (omega (arith, own)) in
       (omega (arith, k.0, own), k.1, k.2)
 
   has_it : 0 < eqtb.held n.table (build_id b)
@@ -85,7 +87,7 @@ module _ (old new : List (Option Entry)) (s : InputStack) (m n : Named) (b : Bui
   stand : Stands new s × (pending new s ≡ pending old s)
   stand = others s old new (λ h. val_holds value h + eqtb.held m.table h) (eqtb.held n.table) shared.stands (λ h. omega (arith, shared.counted h, value_holds h, built_cons b bs h)) assigned.moves assigned.keeps
 
-  apart_now : IsApart (pending old s).puts bs n
+  apart_now : IsApart (puts_in (pending old s)) bs n
   apart_now = record {
     sole = λ h. omega (arith, shared.apart.sole h, built_cons b bs h, same_call h);
     apart = λ h more. omega (arith, more, shared.apart.sole h, built_cons b bs h, held_now h, same_call h, shared.apart.apart h (omega (arith, more, built_cons b bs h, same_call h)));
@@ -108,9 +110,9 @@ module _ (old new : List (Option Entry)) (s : InputStack) (m n : Named) (b : Bui
   pub defined_moved : Moved old new s n bs
   defined_moved =
       moved old new s s m n (b ∷ []) bs shared stand.0
-      (subst (λ (p : Pending). IsSimple p) (sym stand.1) shared.simple)
-      (subst (λ (p : Pending). IsApart p.puts bs n) (sym stand.1) apart_now)
-      (λ h some. shared.listed h (subst (λ (p : Pending). 0 < times h (cells_of p.puts)) stand.1 some))
+      (subst (λ (p : Pending). AreFronts (puts_in p)) (sym stand.1) shared.fronts)
+      (subst (λ (p : Pending). IsApart (puts_in p) bs n) (sym stand.1) apart_now)
+      (λ h some. shared.listed h (subst (λ (p : Pending). 0 < times h (cells_of (puts_in p))) stand.1 some))
       (λ h. omega (arith, assigned.moves h, value_holds h, own_holds h))
       (record { tokens = λ h l. assigned.keeps.tokens h (omega (arith, l, value_holds h, own_holds h)); places = λ h l. assigned.keeps.places h (omega (arith, l, value_holds h, own_holds h)) })
       assigned.lasting.tokens macros_now same_call
@@ -119,11 +121,11 @@ module _ (old new : List (Option Entry)) (s : InputStack) (m n : Named) (b : Bui
   defined_still = stand.1
 
   -- this list wasn't shared
-  pub defined_free : (t : List (Option Entry)) → is_shared (build_id b) (lists_held m.table.groups) (fronts t (pending old s).puts) ≡ false
+  pub defined_free : (t : List (Option Entry)) → is_shared (build_id b) (lists_held m.table.groups) (all_fronts t (pending old s)) ≡ false
   defined_free t =
-      let ps = (pending old s).puts in
-      let none : eqtb.held m.table (build_id b) + times (build_id b) (bodies ps) ≡ 0 = omega (arith, alone.2, alone.1, held_parts old s shared.simple.single (build_id b)) in
-      is_none _ (macro_once t m.table ps (build_id b) ∙ some_none _ none)
+      let ps = puts_in (pending old s) in
+      let none : eqtb.held m.table (build_id b) + times (build_id b) (bodies ps) ≡ 0 = omega (arith, alone.2, alone.1, held_parts old s (build_id b)) in
+      is_none _ (ap (λ (qs : List plain.Put). cond (is_shared (build_id b) (lists_held m.table.groups) qs) 1 0) (sym (fronts_in t (pending old s))) ∙ macro_once t m.table ps (build_id b) ∙ some_none _ none)
 
   pub defined_text : tokens_at new (build_id b) ≡ tokens_at old (build_id b)
   defined_text = assigned.lasting.tokens (build_id b) (still_held (build_id b) has_it)
@@ -190,25 +192,25 @@ module _ (old new : List (Option Entry)) (s : InputStack) (m n : Named) (making 
   unfolding bs
   define_view =
       let p = pending old s in
-      let was : lists_of old p making items m sizes ≡ held_lists (fronts old p.puts) (made_text old making) (calling_of old m.call) (text old b ∷ map (text old) (reverse rest)) (line_of p.sources) m.table sizes (texts old) = ap (λ (us : List Build). held_lists (fronts old p.puts) (made_text old making) (calling_of old m.call) (map (text old) us) (line_of p.sources) m.table sizes (texts old)) (reverse_push items rest b pops) in
+      let was : lists_of old p making items m sizes ≡ held_lists (fronts old p.puts) (made_text old making) (calling_of old m.call) (text old b ∷ map (text old) (reverse rest)) (covers old p.sources) m.table sizes (texts old) = ap (λ (us : List Build). held_lists (fronts old p.puts) (made_text old making) (calling_of old m.call) (map (text old) us) (covers old p.sources) m.table sizes (texts old)) (reverse_push items rest b pops) in
       moved_view old new s n sizes making rest moved_now
       ∙ ap (λ (q : Pending). record (lists_of old q making rest n sizes) { lists = texts new }) still
       ∙ ap₂ (λ (t : Table) (g : code.Gathering). record (lists_of old p making rest (named t g) sizes) { groups = n.table.groups; lists = texts new }) after same_gathering
       ∙ ap (λ (w : HeldLists). record w { builds = drop 1 w.builds; groups = n.table.groups; lists = texts new }) (sym was ∙ is)
 
-  pub define_macros : KeepsLists (lists_held n.table.groups) (fronts new (pending new s).puts) v.lists (texts new)
+  pub define_macros : KeepsLists (lists_held n.table.groups) (all_fronts new (pending new s)) v.lists (texts new)
   define_macros = macros_moved old new s n sizes bs v.lists moved_now (ap (λ (w : HeldLists). w.lists) is)
 
-  pub define_defines : k < length v.groups.now.meanings → ((h : ℕ) → is_listed (lists_outside v.groups.outer) h ≡ true → is_listed (lists_held v.groups) h ≡ true) → Defines global v.groups n.table.groups v.puts v.lists (texts new) (first_list v.builds) name long outer
+  pub define_defines : k < length v.groups.now.meanings → ((h : ℕ) → is_listed (lists_outside v.groups.outer) h ≡ true → is_listed (lists_held v.groups) h ≡ true) → Defines global v.groups n.table.groups (puts_held v) v.lists (texts new) (first_list v.builds) name long outer
   unfolding value
   define_defines within outer_held =
       let free = defined_free old new s m n b bs shared value list_is same_call assigned stored text_is old in
       let kept = defined_text old new s m n b bs shared value list_is same_call assigned stored text_is in
-      let none : is_shared id (lists_held v.groups) v.puts ≡ false = ap (λ (w : HeldLists). is_shared id (lists_held w.groups) w.puts) (sym is) ∙ ap (λ (h : ℕ). is_shared h (lists_held m.table.groups) (fronts old (pending old s).puts)) id_is ∙ free in
+      let none : is_shared id (lists_held v.groups) (puts_held v) ≡ false = ap (λ (w : HeldLists). is_shared id (lists_held w.groups) (puts_held w)) (sym is) ∙ ap (λ (h : ℕ). is_shared h (lists_held m.table.groups) (all_fronts old (pending old s))) id_is ∙ free in
       record {
         id = id;
         free = none;
-        outside = false_from_ne_true (is_listed (lists_outside v.groups.outer) id) (λ a. (let e : is_shared id (lists_held v.groups) v.puts ≡ true = ap (λ (x : Bool). x || is_put id v.puts) (outer_held id a) in cc));
+        outside = false_from_ne_true (is_listed (lists_outside v.groups.outer) id) (λ a. (let e : is_shared id (lists_held v.groups) (puts_held v) ≡ true = ap (λ (x : Bool). x || is_put id (puts_held v)) (outer_held id a) in cc));
         means = ap (λ (t : Table). t.groups) after
             ∙ ap (λ (w : HeldLists). set global w.groups (loc.Means k) (val.Meant (means.Macro long outer (Some id)))) is
             ∙ ap (λ (o : Option ℕ). set_placed global v.groups o (means.Macro long outer (Some id))) (sym (place_found v.groups name k placed within));

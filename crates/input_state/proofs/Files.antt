@@ -1,16 +1,14 @@
 -- Where only the file is left, what it gives is what is next pending.
-use Rattle.std.proofs.Common.{◌≡◌, ℕ, ◌+◌, ℤ, List, [], ◌∷◌, Result, Ok, Err, refl, sym, ap, ◌∙◌, subst, arith}
+use Rattle.std.proofs.Common.{◌≡◌, ℕ, ℤ, List, [], ◌∷◌, length, Option, Result, Ok, Err, refl, sym, ap, ◌∙◌, subst}
 use Rattle.std.specs.Prelude.{IfOk, IfErr, OnErr, MatchResult, None, Some, Bool, true, false, ◌||◌}
-use Rattle.std.proofs.lemmas.List.Sums.{sum_by-cons}
 use Rattle.tex_defs.specs.declared.Token.{Token}
 use Rattle.tex_defs.specs.declared.Full.{Full}
 use Rattle.tex_defs.specs.declared.Sizes.{Sizes}
-use Rattle.tex_defs.specs.declared.Table.TheVariants.{InputStackSize}
-use Rattle.plain_tokens.specs.Puts.{Item, Put, settled, settled_top, passed, passed_top, without_gaps, top_item, put_levels, levels_of}
-use Rattle.plain_tokens.specs.Pending.{Pending, Progress, NotBegun, Begun, Closed, settle, with_puts, pulled, from_file, takes_file}
+use Rattle.plain_tokens.specs.Puts.{Item, Put, settled, settled_top, passed, passed_top, without_gaps, top_item}
+use Rattle.plain_tokens.specs.Pending.{Pending, Progress, Begun, Closed, settle, with_puts, all_puts, pulled, from_file, from_begun, takes_file}
 use Rattle.plain_tokens.specs.Pending as plain
 use Rattle.plain_tokens.specs.Meanings.{is_listed}
-use Rattle.plain_tokens.specs.Tables.{is_put, Demand, file_levels, file_level, next_line, opened_level, buffer, refused}
+use Rattle.plain_tokens.specs.Tables.{is_put, next_line, opened_level, refused}
 use Rattle.equivalents.specs.Groups.{Groups}
 use Rattle.equivalents.specs.Parameters.{end_of_line}
 use Rattle.equivalents.specs.Holding.{lists_held}
@@ -20,31 +18,24 @@ use Rattle.input_state.specs.declared.answer.Pulled.TheVariants as answer
 use Rattle.input_state.specs.Stored.{Stored, KeepsMacros}
 use Rattle.input_state.specs.Macros.{KeepsLists}
 use Rattle.input_state.specs.Reads.{Reads, Gives, GivesTo, Pulls, step_demands, pull_refusal, RefusesLine}
-use Rattle.input_state.specs.HeldLists.{HeldLists, pending_of, line_levels, ahead_of, front_ahead}
-use Rattle.input_state.specs.FileLeft.{FileLeft}
+use Rattle.input_state.specs.HeldLists.{HeldLists, pending_of, ahead_of, front_ahead}
+use Rattle.input_state.specs.FileLeft.{FileLeft, FilesLeft}
 use Rattle.input_state.specs.InputViews.{stored_of}
 use Rattle.input_state.proofs.Readies.{used_up, in_front}
 
-top_levels : (p : Put) (xs : List Item) (below rest : List Put) → p.items ≡ xs → put_levels below ≡ put_levels rest → put_levels (settled_top p xs below rest) ≡ levels_of xs + put_levels rest
-top_levels p [] below rest is same = omega (arith, same)
-top_levels p (x ∷ xs) below rest is same = omega (arith, sum_by-cons (λ (q : Put). levels_of q.items) p rest, ap levels_of is)
+begun_settled : (p : Pending) (ends : Bool) (rest : List ℕ) → from_begun (settle p) ends rest ≡ from_begun p ends rest
+begun_settled p true rest = refl
+begun_settled p false [] = refl
+begun_settled p false (c ∷ cs) = refl
 
--- finished lists have no level
-pub settled_levels : (ps : List Put) → put_levels (settled ps) ≡ put_levels ps
-settled_levels [] = refl
-settled_levels (p ∷ ps) = top_levels p p.items (settled ps) ps refl (settled_levels ps) ∙ sym (sum_by-cons (λ (q : Put). levels_of q.items) p ps)
+-- the file gives the same behind finished lists
+file_settled : (p : Pending) (f : Progress) → from_file (settle p) f ≡ from_file p f
+file_settled p Begun = begun_settled p p.ends p.rest
+file_settled p Closed = refl
 
-level_at : ℕ → Demand
-level_at n = record { table = InputStackSize; used = n; need = 1 }
-
-settled_demands : (p : Pending) (f : Progress) → file_level f (settle p) ≡ file_level f p
-unfolding level_at
-settled_demands p NotBegun = ap (λ (n : ℕ). level_at (n + file_levels p.file) ∷ []) (settled_levels p.puts)
-settled_demands p Begun = refl
-settled_demands p Closed = refl
-
-pub settled_line : (p : Pending) → next_line (settle p) ≡ next_line p
-settled_line p = ap (λ (ds : List Demand). buffer p.rest ∷ ds) (settled_demands p p.file)
+-- finished lists ask for nothing
+settled_line : (p : Pending) → next_line (settle p) ≡ next_line p
+settled_line p = refl
 
 top_twice : (p : Put) (xs : List Item) (below rest : List Put) → p.items ≡ xs → settled below ≡ below → settled (settled_top p xs below rest) ≡ settled_top p xs below rest
 top_twice p [] below rest is same = same
@@ -99,20 +90,20 @@ abbrev settled_store : List (List Token) → Stored → Stored
 settled_store lists s = record s { pending = settle s.pending; lists = lists }
 
 module _ (ls : List (List Token)) (old new : Stored) (used : ahead_of (codes_of old) old.pending ≡ ahead.End) where
-  pulls_now : (x : Pulled) → Pulls (from_file old.pending.file old.pending.number old.pending.rest) x (settled_store ls old) new → Pulls (pulled (codes_of old) old.pending) x old new
+  pulls_now : (x : Pulled) → Pulls (from_file (settle old.pending) old.pending.file) x (settled_store ls old) new → Pulls (pulled (codes_of old) old.pending) x old new
   pulls_now x h =
       let k = used_up (codes_of old) old.pending used in
-      subst (λ (q : plain.Pulled). Reads q x old.sizes (end_of_line old.groups.now) old.pending new.pending new.buffer) (sym k.1)
+      subst (λ (q : plain.Pulled). Reads q x old.sizes (end_of_line old.groups.now) old.pending new.pending new.buffer) (sym (k.1 ∙ sym (file_settled old.pending old.pending.file)))
       (settled_reads _ x old.sizes (end_of_line old.groups.now) old.pending new.pending new.buffer k.0 h)
 
   refuses_now : (full : Full) → RefusesLine full (settled_store ls old) new → pull_refusal old ≡ Some full
   refuses_now full h =
       let k = used_up (codes_of old) old.pending used in
-      ap (λ (q : plain.Pulled). refused old.sizes (step_demands q old.pending)) (k.1 ∙ h.takes)
+      ap (λ (q : plain.Pulled). refused old.sizes (step_demands q old.pending)) (k.1 ∙ sym (file_settled old.pending old.pending.file) ∙ h.takes)
       ∙ sym (ap (refused old.sizes) (settled_line old.pending))
       ∙ h.refused
 
-  by_ok : (r : Result Pulled Full) → IfOk r (λ x. Pulls (from_file old.pending.file old.pending.number old.pending.rest) x (settled_store ls old) new) → IfOk r (λ x. Pulls (pulled (codes_of old) old.pending) x old new)
+  by_ok : (r : Result Pulled Full) → IfOk r (λ x. Pulls (from_file (settle old.pending) old.pending.file) x (settled_store ls old) new) → IfOk r (λ x. Pulls (pulled (codes_of old) old.pending) x old new)
   by_ok (Ok x) h = pulls_now x h
   by_ok (Err f) h = tt
 
@@ -125,20 +116,20 @@ module _ (ls : List (List Token)) (old new : Stored) (used : ahead_of (codes_of 
   by_err (Err f) h = h.stays ∙ settled_twice old.pending
 
   module _ (mid : Stored) (r : Result Pulled Full) (is : mid ≡ settled_store ls old) where
-    pub pull_ok : IfOk r (λ x. Pulls (from_file mid.pending.file mid.pending.number mid.pending.rest) x mid new) → IfOk r (λ x. Pulls (pulled (codes_of old) old.pending) x old new)
-    pull_ok h = by_ok r (subst (λ (m : Stored). IfOk r (λ x. Pulls (from_file m.pending.file m.pending.number m.pending.rest) x m new)) is h)
+    pub pull_ok : IfOk r (λ x. Pulls (from_file mid.pending mid.pending.file) x mid new) → IfOk r (λ x. Pulls (pulled (codes_of old) old.pending) x old new)
+    pull_ok h = by_ok r (subst (λ (m : Stored). IfOk r (λ x. Pulls (from_file m.pending m.pending.file) x m new)) is h)
 
-    pub pull_refused : IfOk r (λ x. Pulls (from_file mid.pending.file mid.pending.number mid.pending.rest) x mid new) → IfErr r (λ full. RefusesLine full mid new) → MatchResult r (λ _. pull_refusal old ≡ None) (λ full. pull_refusal old ≡ Some full)
+    pub pull_refused : IfOk r (λ x. Pulls (from_file mid.pending mid.pending.file) x mid new) → IfErr r (λ full. RefusesLine full mid new) → MatchResult r (λ _. pull_refusal old ≡ None) (λ full. pull_refusal old ≡ Some full)
     pull_refused h g = by_refused r (pull_ok h) (subst (λ (m : Stored). IfErr r (λ full. RefusesLine full m new)) is g)
 
     pub pull_err : IfErr r (λ full. RefusesLine full mid new) → OnErr r (new.pending ≡ settle old.pending)
     pull_err h = by_err r (subst (λ (m : Stored). IfErr r (λ full. RefusesLine full m new)) is h)
 
 -- what the levels refuse is refused of all that is pending
-pub front_refused : (h : HeldLists) (b : List ℕ) (file : FileLeft) (old : Stored) → stored_of h b file ≡ old → line_levels h.line ≡ file_levels file.file → (r : Result Pulled Full) →
-    ((rest : List ℕ) (f : Progress) (number : ℕ) → line_levels h.line ≡ file_levels f → MatchResult r (λ _. refused h.sizes (step_demands (pulled h.groups.now.categories (pending_of h b rest f number)) (pending_of h b rest f number)) ≡ None) (λ full. refused h.sizes (step_demands (pulled h.groups.now.categories (pending_of h b rest f number)) (pending_of h b rest f number)) ≡ Some full)) →
+pub front_refused : (h : HeldLists) (b : List ℕ) (file : FilesLeft) (old : Stored) → stored_of h b file ≡ old → length file.files ≡ length h.below → (r : Result Pulled Full) →
+    ((files : List FileLeft) (next : Option (List ℕ)) → length files ≡ length h.below → MatchResult r (λ _. refused h.sizes (step_demands (pulled h.groups.now.categories (pending_of h b files next)) (pending_of h b files next)) ≡ None) (λ full. refused h.sizes (step_demands (pulled h.groups.now.categories (pending_of h b files next)) (pending_of h b files next)) ≡ Some full)) →
     MatchResult r (λ _. pull_refusal old ≡ None) (λ full. pull_refusal old ≡ Some full)
-front_refused h b file old is tied r why = subst (λ (v : Stored). MatchResult r (λ _. pull_refusal v ≡ None) (λ full. pull_refusal v ≡ Some full)) is (why file.rest file.file file.number tied)
+front_refused h b file old is tied r why = subst (λ (v : Stored). MatchResult r (λ _. pull_refusal v ≡ None) (λ full. pull_refusal v ≡ Some full)) is (why file.files file.next tied)
 
 -- what is given and has room is read; no line is taken where something is left in front of the file
 reads_of : (q : plain.Pulled) (x : Pulled) (sizes : Sizes) (end : ℤ) (p new : Pending) (bytes : List ℕ) → takes_file q ≡ false →
@@ -158,9 +149,9 @@ front_ok old new (Ok x) left gives room =
 front_ok old new (Err f) left gives room = tt
 
 -- what keeps the lists of macros twice keeps them
-pub keeps_twice : (old mid new : Stored) → KeepsMacros old mid → KeepsMacros mid new → new.groups ≡ mid.groups → ((id : ℕ) → is_put id new.pending.puts ≡ true → is_put id mid.pending.puts ≡ true) → KeepsLists (lists_held new.groups) new.pending.puts old.lists new.lists
+pub keeps_twice : (old mid new : Stored) → KeepsMacros old mid → KeepsMacros mid new → new.groups ≡ mid.groups → ((id : ℕ) → is_put id (all_puts new.pending) ≡ true → is_put id (all_puts mid.pending) ≡ true) → KeepsLists (lists_held new.groups) (all_puts new.pending) old.lists new.lists
 keeps_twice old mid new first second groups fewer = record {
-  tokens = λ id is. second.tokens id is ∙ first.tokens id (either (is_listed (lists_held new.groups) id) (is_listed (lists_held mid.groups) id) (is_put id new.pending.puts) (is_put id mid.pending.puts) (ap (λ (g : Groups). is_listed (lists_held g) id) groups) (fewer id) is);
+  tokens = λ id is. second.tokens id is ∙ first.tokens id (either (is_listed (lists_held new.groups) id) (is_listed (lists_held mid.groups) id) (is_put id (all_puts new.pending)) (is_put id (all_puts mid.pending)) (ap (λ (g : Groups). is_listed (lists_held g) id) groups) (fewer id) is);
 }
   where
     either : (a b c d : Bool) → a ≡ b → (c ≡ true → d ≡ true) → (a || c) ≡ true → (b || d) ≡ true

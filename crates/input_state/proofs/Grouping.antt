@@ -48,7 +48,7 @@ module _ (table : List (Option Entry)) (s : InputStack) (making : Option Build) 
   still_sound = record {
     shared = record {
       stands = sound.shared.stands;
-      simple = sound.shared.simple;
+      fronts = sound.shared.fronts;
       building = sound.shared.building;
       counted = λ h. omega (arith, sound.shared.counted h, same h);
       apart = record {

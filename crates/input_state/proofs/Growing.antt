@@ -14,7 +14,7 @@ use Rattle.macro_call.specs.Stages.{Stage, kept_in, read_in}
 use Rattle.macro_call.specs.Growths.{target_by}
 use Rattle.macro_call.specs.PlainScans.{Scan, scan_work, resume_scan, resume_at, places_behind, first_scan, first_by}
 use Rattle.macro_call.proofs.ArgumentRuns.{search_at, found_after}
-use Rattle.input_state.specs.HeldLists.{HeldLists, words_held}
+use Rattle.input_state.specs.HeldLists.{HeldLists, puts_held, words_held}
 use Rattle.input_state.specs.Macros.{list_at, is_shared, KeepsLists}
 use Rattle.input_state.specs.Calls.{begun_lists}
 use Rattle.input_state.specs.Callings.{Calling, NotCalling, Gathering, Stopped, Gathered, last_first, scan_lists, call_lists}
@@ -41,11 +41,11 @@ macros_same n ms ps (t ∷ ts) (u ∷ us) l same =
     omega (arith, here, rest)
 
 -- another call, and its lists
-pub words_recalled : (v : HeldLists) (c : Calling) (lists : List (List Token)) → KeepsLists (lists_held v.groups) v.puts v.lists lists → length lists ≡ length v.lists →
+pub words_recalled : (v : HeldLists) (c : Calling) (lists : List (List Token)) → KeepsLists (lists_held v.groups) (puts_held v) v.lists lists → length lists ≡ length v.lists →
     words_held (record v { call = c; lists = lists }) + lists_words (call_lists v.call) ≡ words_held v + lists_words (call_lists c)
 words_recalled v c lists keeps l =
     let start : (h : ℕ) → 0 + h ≡ h = λ h. omega arith in
-    let macros = macros_same 0 (lists_held v.groups) v.puts lists v.lists l (λ h is. keeps.tokens h (sym (ap (λ (k : ℕ). is_shared k (lists_held v.groups) v.puts) (start h)) ∙ is)) in
+    let macros = macros_same 0 (lists_held v.groups) (puts_held v) lists v.lists l (λ h is. keeps.tokens h (sym (ap (λ (k : ℕ). is_shared k (lists_held v.groups) (puts_held v)) (start h)) ∙ is)) in
     omega (arith, macros, sum_by-append list_words (call_lists c) v.builds, sum_by-append list_words (call_lists v.call) v.builds)
 
 -- ARGUMENTS

@@ -26,12 +26,13 @@ use Rattle.input_stack.specs.declared.stack.InputStack.{InputStack}
 use Rattle.input_stack.proofs.Helds.{others}
 use Rattle.input_state.specs.HeldLists.{HeldLists}
 use Rattle.input_state.specs.Macros.{KeepsLists, IsPlaceOf}
-use Rattle.input_state.specs.HeldViews.{Named, named, call_holds, calling_of, IsCall, texts, fronts, lists_of, all_builds, cells_of, IsSimple, IsApart, IsDefined, IsSound}
+use Rattle.input_state.specs.HeldViews.{Named, named, call_holds, calling_of, IsCall, texts, lists_of, all_builds, cells_of, puts_in, AreFronts, IsApart, IsDefined, IsSound}
 use Rattle.input_state.specs.Callings.{NotCalling}
 use Rattle.input_state.specs.declared.gathering.Gathering as code
 use Rattle.input_state.specs.declared.gathering.Gathering.TheVariants as call
 use Rattle.input_state.proofs.Sharing.{Moved, Stay, moved}
 use Rattle.input_state.proofs.CallStays.{call_stays}
+use Rattle.input_state.proofs.Sources.{all_fronts}
 use Rattle.input_state.proofs.ListViews.{moved_view, macros_moved}
 use Rattle.input_state.proofs.Assigning.{Assigned}
 
@@ -91,7 +92,7 @@ module _ (old mid new : List (Option Entry)) (s : InputStack) (m n : Named) (mak
   stand : Stands new s × (pending new s ≡ pending old s)
   stand = others s old new (eqtb.held m.table) (eqtb.held n.table) sound.shared.stands (λ h. omega (arith, sound.shared.counted h)) moves_all keeps_all
 
-  apart_now : IsApart (pending old s).puts bs n
+  apart_now : IsApart (puts_in (pending old s)) bs n
   unfolding bs
   apart_now = record {
     sole = λ h. omega (arith, sound.shared.apart.sole h, same_call h);
@@ -106,9 +107,9 @@ module _ (old mid new : List (Option Entry)) (s : InputStack) (m n : Named) (mak
   unfolding bs
   moved_now =
       moved old new s s m n [] (all_builds making items) sound.shared stand.0
-      (subst (λ (p : Pending). IsSimple p) (sym stand.1) sound.shared.simple)
-      (subst (λ (p : Pending). IsApart p.puts (all_builds making items) n) (sym stand.1) apart_now)
-      (λ h some. sound.shared.listed h (subst (λ (p : Pending). 0 < times h (cells_of p.puts)) stand.1 some))
+      (subst (λ (p : Pending). AreFronts (puts_in p)) (sym stand.1) sound.shared.fronts)
+      (subst (λ (p : Pending). IsApart (puts_in p) (all_builds making items) n) (sym stand.1) apart_now)
+      (λ h some. sound.shared.listed h (subst (λ (p : Pending). 0 < times h (cells_of (puts_in p))) stand.1 some))
       (λ h. omega (arith, moves_all h))
       (record { tokens = λ h l. keeps_all.tokens h (omega (arith, l)); places = λ h l. keeps_all.places h (omega (arith, l)) })
       lasts_all macros_now same_call
@@ -160,7 +161,7 @@ module _ (old mid new : List (Option Entry)) (s : InputStack) (m n : Named) (mak
       ∙ ap₂ (λ (k : Table) (g : code.Gathering). record (lists_of old p making items (named k g) sizes) { lists = texts new }) after same_gathering
       ∙ ap (λ (w : HeldLists). record w { groups = set global w.groups place value; lists = texts new }) is
 
-  pub let_macros : KeepsLists (lists_held n.table.groups) (fronts new (pending new s).puts) v.lists (texts new)
+  pub let_macros : KeepsLists (lists_held n.table.groups) (all_fronts new (pending new s)) v.lists (texts new)
   unfolding bs
   let_macros = macros_moved old new s n sizes (all_builds making items) v.lists moved_now (ap (λ (w : HeldLists). w.lists) is)
 

@@ -1,5 +1,5 @@
 -- Levels as lists in front.
-use Rattle.std.proofs.Common.{◌≡◌, ℕ, ◌+◌, ◌<◌, ◌≤◌, List, [], ◌∷◌, map, length, Option, None, Some, inl, inr, refl, ap, ap₂, subst, arith}
+use Rattle.std.proofs.Common.{◌≡◌, ℕ, ◌+◌, ◌<◌, ◌≤◌, List, [], ◌∷◌, ◌++◌, map, length, Option, None, Some, inl, inr, refl, ap, ap₂, subst, arith}
 use Rattle.std.specs.Prelude.{sum_by, Bool, true, false}
 use Rattle.std.proofs.lemmas.Bool.{cases_eq, cases_lt}
 use Rattle.std.proofs.lemmas.List.Sums.{sum_by-cons, sum_by-append}
@@ -9,13 +9,15 @@ use Rattle.token_lists.specs.Accounts.{holds}
 use Rattle.plain_tokens.specs.Puts.{list_of_tokens}
 use Rattle.plain_tokens.specs.Tables.{put_words, whole_words, argument_words, list_words, lists_words}
 use Rattle.token_lists.specs.Table.{Entry, tokens_at}
-use Rattle.input_stack.specs.Puts.{Put, Item, Text, First, Later, Gap, argument_of, later_of, numbers, used, settled, settled_top, put_top, without_gaps, pulled, pulled_top}
+use Rattle.input_stack.specs.Puts.{Put, Item, Text, First, Later, Gap, argument_of, later_of, numbers, used_of, settled, settled_top, put_top, put_in_front, without_gaps, pulled, pulled_top}
 use Rattle.input_stack.specs.Pending.{Pending, Below, settle, put, used_levels, times}
 use Rattle.input_stack.proofs.Kept.{holds_itself}
-use Rattle.input_state.specs.HeldLists.{line_levels}
-use Rattle.input_state.specs.HeldViews.{plain_item, whole_of, argument_text, front, fronts, own_of, owns, opens, cells_of, line_of, IsSingle, IsOf, AreOf, IsFront, AreFronts, IsSimple}
+use Rattle.input_state.specs.HeldLists.{Covered}
+use Rattle.input_state.specs.HeldViews.{plain_item, whole_of, argument_text, front, fronts, own_of, owns, opens, cells_of, covers, puts_below, puts_in, IsOf, AreOf, IsFront, AreFronts}
 use Rattle.input_state.proofs.Counting.{words_at, times_cons, times_append, holds_other}
 use Rattle.input_state.proofs.Fronts.{front_levels}
+use Rattle.input_state.proofs.Shares.{owns_append}
+use Rattle.input_state.proofs.Sources.{all_fronts, fronts_in, levels_in, covers_length}
 
 -- these tokens of a list, a macro's or its own
 abbrev pub flat_put : Bool → ℕ → List Token → Put
@@ -44,15 +46,31 @@ pub fronts_settle : (ps : List Put) → AreFronts ps → AreFronts (settled ps)
 fronts_settle [] a = tt
 fronts_settle (p ∷ ps) a = settled_is p p.items (settled ps) ps a.0.items (fronts_settle ps a.1) a.1
 
-pub simple_settled : (p : Pending) → IsSimple p → IsSimple (settle p)
-simple_settled p a = record { single = a.single; fronts = fronts_settle p.puts a.fronts }
+fronts_first : (ps qs : List Put) → AreFronts (ps ++ qs) → AreFronts ps
+fronts_first [] qs a = tt
+fronts_first (p ∷ ps) qs a = (a.0, fronts_first ps qs a.1)
+
+fronts_rest : (ps qs : List Put) → AreFronts (ps ++ qs) → AreFronts qs
+fronts_rest [] qs a = a
+fronts_rest (p ∷ ps) qs a = fronts_rest ps qs a.1
+
+fronts_both : (ps qs : List Put) → AreFronts ps → AreFronts qs → AreFronts (ps ++ qs)
+fronts_both [] qs a b = b
+fronts_both (p ∷ ps) qs a b = (a.0, fronts_both ps qs a.1 b)
+
+-- the first of them changed
+pub fronts_behind : (ps qs rs : List Put) → (AreFronts ps → AreFronts qs) → AreFronts (ps ++ rs) → AreFronts (qs ++ rs)
+fronts_behind ps qs rs f a = fronts_both qs rs (f (fronts_first ps rs a)) (fronts_rest ps rs a)
+
+pub simple_settled : (p : Pending) → AreFronts (puts_in p) → AreFronts (puts_in (settle p))
+simple_settled p a = fronts_behind p.puts (settled p.puts) (puts_below p.sources) (fronts_settle p.puts) a
 
 put_is : (p : Put) (xs : List Item) (ps : List Put) → IsFront p → AreFronts ps → AreFronts (put_top p xs ps)
 put_is p [] ps a b = b
 put_is p (x ∷ xs) ps a b = (a, fronts_settle ps b)
 
-pub simple_put : (p : Put) (q : Pending) → IsFront p → IsSimple q → IsSimple (put p q)
-simple_put p q a b = record { single = b.single; fronts = put_is p p.items q.puts a b.fronts }
+pub simple_put : (p : Put) (q : Pending) → IsFront p → AreFronts (puts_in q) → AreFronts (puts_in (put p q))
+simple_put p q a b = fronts_behind q.puts (put_in_front p q.puts) (puts_below q.sources) (put_is p p.items q.puts a) b
 
 without_is : (cells : List (Option ℕ)) (xs : List Item) → AreOf cells xs → AreOf cells (without_gaps xs)
 without_is cells [] a = tt
@@ -127,13 +145,8 @@ front_words table (p ∷ ps) listed =
 
 -- LEVELS
 
-below_levels : (bs : List Below) → IsSingle bs → sum_by (λ (b : Below). 1 + used b.puts) bs ≡ line_levels (line_of bs)
-below_levels [] single = refl
-below_levels (b ∷ []) single = omega (arith, ap used single)
-below_levels (b ∷ c ∷ bs) single = absurd single
-
-pub levels_used : (table : List (Option Entry)) (q : Pending) → IsSingle q.sources → used_levels q ≡ plain.put_levels (fronts table q.puts) + line_levels (line_of q.sources)
-levels_used table q single = omega (arith, front_levels table q.puts, below_levels q.sources single)
+pub levels_used : (table : List (Option Entry)) (q : Pending) → used_levels q ≡ plain.put_levels (all_fronts table q) + length (covers table q.sources)
+levels_used table q = omega (arith, levels_in (λ (p : Put). used_of p.items) q, front_levels table (puts_in q), ap plain.put_levels (fronts_in table q), covers_length table q.sources)
 
 -- LISTS THAT STAY
 
@@ -162,3 +175,17 @@ fronts_stay old new (p ∷ ps) same =
     let first : front new p ≡ front old p =
     ap₂ (λ (w : plain.Whole) (ts : List (List Token)). record { list = w; arguments = ts; items = map plain_item p.items }) (whole_stays old new p.body p.list ns here) (cells_stay old new p.arguments (λ h some. here h (omega (arith, some, inner_cells h p.body p.list ns)))) in
     ap₂ (λ (x : plain.Put) (xs : List plain.Put). x ∷ xs) first more
+
+-- so are those beneath
+below_stay : (old new : List (Option Entry)) (bs : List Below) → ((h : ℕ) → 0 < times h (owns (puts_below bs)) → tokens_at new h ≡ tokens_at old h) → covers new bs ≡ covers old bs
+below_stay old new [] same = refl
+below_stay old new (b ∷ bs) same =
+    let here = fronts_stay old new b.puts (λ h some. same h (omega (arith, some, owns_append h b.puts (puts_below bs)))) in
+    let more = below_stay old new bs (λ h some. same h (omega (arith, some, owns_append h b.puts (puts_below bs)))) in
+    ap₂ (λ (ps : List plain.Put) (cs : List Covered). record { line = b.source.line; puts = ps } ∷ cs) here more
+
+pub all_stay : (old new : List (Option Entry)) (p : Pending) → ((h : ℕ) → 0 < times h (owns (puts_in p)) → tokens_at new h ≡ tokens_at old h) → (fronts new p.puts ≡ fronts old p.puts) × (covers new p.sources ≡ covers old p.sources)
+all_stay old new p same = (
+  fronts_stay old new p.puts (λ h some. same h (omega (arith, some, owns_append h p.puts (puts_below p.sources)))),
+  below_stay old new p.sources (λ h some. same h (omega (arith, some, owns_append h p.puts (puts_below p.sources)))),
+)

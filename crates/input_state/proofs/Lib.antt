@@ -2,6 +2,9 @@ pub mod LineEnds
 pub mod LineRests
 pub mod Counting
 pub mod Ranges
+pub mod Sources
+pub mod Settling
+pub mod Rooms
 pub mod Shares
 pub mod Fronts
 pub mod Levels
@@ -31,6 +34,10 @@ pub mod PullKept
 pub mod Readies
 pub mod Files
 pub mod TakenLines
+pub mod Joined
+pub mod Demands
+pub mod Behind
+pub mod Spares
 pub mod Letting
 pub mod Grouping
 pub mod Closing

@@ -1,7 +1,6 @@
--- The file gets its level, where nothing is pending.
-use Rattle.std.proofs.Common.{◌≡◌, ℕ, List, [], ◌∷◌, length, Option, None, Some, Result, Ok, Err, refl, sym, ap, ◌∙◌, subst, arith}
+-- A file gets its level, above all that is pending.
+use Rattle.std.proofs.Common.{◌≡◌, ℕ, List, [], ◌∷◌, Option, Result, Ok, Err, sym, ap, ◌∙◌, subst}
 use Rattle.std.specs.Prelude.{OnOk, OnErr}
-use Rattle.std.proofs.lemmas.Option.{none-some}
 use Rattle.tex_defs.specs.declared.Full.{Full}
 use Rattle.tex_defs.specs.declared.Sizes.{Sizes}
 use Rattle.plain_tokens.specs.Puts as plain
@@ -12,97 +11,78 @@ use Rattle.line_lexer.specs.declared.Line.{Line}
 use Rattle.world_io.specs.declared.traits.InId.{InId}
 use Rattle.equivalents.specs.Holding.{lists_held}
 use Rattle.input_stack.specs.Puts.{Put, settled}
-use Rattle.input_stack.specs.Pending.{Pending, Below, settle, open_over}
+use Rattle.input_stack.specs.Pending.{Pending, settle, open_over}
 use Rattle.input_stack.specs.View.{pending, held}
 use Rattle.input_stack.specs.Standing.{Stands}
 use Rattle.input_stack.specs.Lasting.{Lasts}
 use Rattle.input_stack.specs.declared.stack.InputStack.{InputStack}
-use Rattle.input_state.specs.HeldLists.{HeldLists}
+use Rattle.input_state.specs.HeldLists.{HeldLists, Covered, opened_over}
 use Rattle.input_state.specs.Macros.{KeepsLists}
-use Rattle.input_state.specs.HeldViews.{Named, fronts, line_of, texts, lists_of, all_builds, IsSimple, IsSound}
-use Rattle.input_state.proofs.Shares.{Fewer, fewer_none, fewer_settled}
+use Rattle.input_state.specs.HeldViews.{Named, fronts, covers, puts_in, texts, lists_of, all_builds, AreFronts, IsSound}
+use Rattle.input_state.proofs.Sources.{all_fronts}
+use Rattle.input_state.proofs.Fronts.{fronts_settled}
+use Rattle.input_state.proofs.Shares.{Fewer, fewer_settle}
 use Rattle.input_state.proofs.Levels.{simple_settled}
 use Rattle.input_state.proofs.Sharing.{Moved}
 use Rattle.input_state.proofs.ListViews.{moved_view, macros_moved}
 use Rattle.input_state.proofs.Sounds.{levels_moved, levels_sound, lasts_none}
 
-no_puts : (table : List (Option Entry)) (ps : List Put) → fronts table ps ≡ [] → ps ≡ []
-no_puts table [] e = refl
-no_puts table (p ∷ ps) e = absurd (omega (arith, ap length e))
+module _ (old new : List (Option Entry)) (s t : InputStack) (making : Option Build) (gathered : List Build) (m : Named) (sizes : Sizes) (capacity : ℕ) (sound : IsSound old s making gathered m sizes capacity) (stands : Stands new t) (moves : Moves old new (held s) (held t)) (keeps : Keeps old new (held s)) (lasts : Lasts old new) (size : t.size ≡ s.size) (parameters : t.parameter_size ≡ s.parameter_size) (v : HeldLists) (is : lists_of old (pending old s) making gathered m sizes ≡ v) (settled_already : plain.settled v.puts ≡ v.puts) (id : Option InId) (line : Line) (r : Result Unit Full) (ok : OnOk r (pending new t ≡ open_over id line (settle (pending old s)))) (err : OnErr r (pending new t ≡ settle (pending old s))) where
+  -- the lists in front of all lines are those that were
+  same_puts : (x : Result Unit Full) → OnOk x (pending new t ≡ open_over id line (settle (pending old s))) → OnErr x (pending new t ≡ settle (pending old s)) → puts_in (pending new t) ≡ puts_in (settle (pending old s))
+  same_puts (Ok u) after refused = ap puts_in after
+  same_puts (Err f) after refused = ap puts_in refused
 
-no_sources : (bs : List Below) → line_of bs ≡ None → bs ≡ []
-no_sources [] e = refl
-no_sources (b ∷ bs) e = absurd (none-some b.source.line (sym e))
+  open_simple : AreFronts (puts_in (pending new t))
+  open_simple = subst AreFronts (sym (same_puts r ok err)) (simple_settled (pending old s) sound.shared.fronts)
 
-module _ (old new : List (Option Entry)) (s t : InputStack) (making : Option Build) (gathered : List Build) (m : Named) (sizes : Sizes) (capacity : ℕ) (sound : IsSound old s making gathered m sizes capacity) (stands : Stands new t) (moves : Moves old new (held s) (held t)) (keeps : Keeps old new (held s)) (lasts : Lasts old new) (size : t.size ≡ s.size) (parameters : t.parameter_size ≡ s.parameter_size) (v : HeldLists) (is : lists_of old (pending old s) making gathered m sizes ≡ v) (front : v.puts ≡ []) (closed : v.line ≡ None) (id : Option InId) (line : Line) where
-  no_lists : (pending old s).puts ≡ []
-  no_lists = no_puts old (pending old s).puts (ap (λ (w : HeldLists). w.puts) is ∙ front)
+  open_fewer : Fewer (puts_in (pending new t)) (puts_in (pending old s))
+  open_fewer = subst (λ (ps : List Put). Fewer ps (puts_in (pending old s))) (sym (same_puts r ok err)) (fewer_settle (pending old s))
 
-  no_lines : (pending old s).sources ≡ []
-  no_lines = no_sources (pending old s).sources (ap (λ (w : HeldLists). w.line) is ∙ closed)
+  moved_now : Moved old new t m (all_builds making gathered)
+  moved_now = levels_moved old new s t making gathered m sizes capacity none sound stands moves keeps (lasts_none old new lasts) size parameters open_simple open_fewer
 
-  none_settled : settled (pending old s).puts ≡ []
-  none_settled = ap settled no_lists
+  pub open_sound : IsSound new t making gathered m sizes capacity
+  open_sound = levels_sound old new s t making gathered m sizes capacity none sound stands moves keeps (lasts_none old new lasts) size parameters open_simple open_fewer
 
-  opened : Pending
-  opened = record { puts = []; sources = record { source = record { id = id; line = line }; puts = [] } ∷ [] }
+  pub open_macros : KeepsLists (lists_held m.table.groups) (all_fronts new (pending new t)) v.lists (texts new)
+  open_macros = macros_moved old new t m sizes (all_builds making gathered) v.lists moved_now (ap (λ (w : HeldLists). w.lists) is)
 
-  opened_now : open_over id line (settle (pending old s)) ≡ opened
-  unfolding opened
-  opened_now =
-      ap (λ (ps : List Put). open_over id line (record { puts = ps; sources = (pending old s).sources })) none_settled
-      ∙ ap (λ (bs : List Below). open_over id line (record { puts = []; sources = bs })) no_lines
+  -- the finished lists are gone already
+  quiet : fronts old (settled (pending old s).puts) ≡ v.puts
+  quiet = fronts_settled old (pending old s).puts ∙ ap (λ (w : HeldLists). plain.settled w.puts) is ∙ settled_already
 
-  opened_simple : IsSimple opened
-  unfolding opened
-  opened_simple = record { single = refl; fronts = tt }
+  -- the lists are as they were, in front of what is pending then
+  open_view : lists_of new (pending new t) making gathered m sizes ≡ record v { puts = fronts old (pending new t).puts; below = covers old (pending new t).sources; lists = texts new }
+  open_view =
+      moved_view old new t m sizes making gathered moved_now
+      ∙ ap (λ (w : HeldLists). record w { puts = fronts old (pending new t).puts; below = covers old (pending new t).sources; lists = texts new }) is
 
-  after_simple : (r : Result Unit Full) → OnOk r (pending new t ≡ open_over id line (settle (pending old s))) → OnErr r (pending new t ≡ settle (pending old s)) → IsSimple (pending new t)
-  after_simple (Ok u) ok err = subst IsSimple (sym (ok ∙ opened_now)) opened_simple
-  after_simple (Err f) ok err = subst IsSimple (sym err) (simple_settled (pending old s) sound.shared.simple)
+  below_is : covers old (pending old s).sources ≡ v.below
+  below_is = ap (λ (w : HeldLists). w.below) is
 
-  opened_fewer : Fewer opened.puts (pending old s).puts
-  unfolding opened
-  opened_fewer = fewer_none (pending old s).puts
+  opened_view : pending new t ≡ open_over id line (settle (pending old s)) → ◌≡◌ {A = HeldLists} (record v { puts = fronts old (pending new t).puts; below = covers old (pending new t).sources; lists = texts new }) (record (opened_over line v) { lists = texts new })
+  opened_view after =
+      ap (λ (p : Pending). let w : HeldLists = record v { puts = fronts old p.puts; below = covers old p.sources; lists = texts new } in w) after
+      ∙ ap (λ (ps : List plain.Put). let w : HeldLists = record v { puts = []; below = record { line = line; puts = ps } ∷ covers old (pending old s).sources; lists = texts new } in w) quiet
+      ∙ ap (λ (bs : List Covered). let w : HeldLists = record v { puts = []; below = record { line = line; puts = v.puts } ∷ bs; lists = texts new } in w) below_is
 
-  after_fewer : (r : Result Unit Full) → OnOk r (pending new t ≡ open_over id line (settle (pending old s))) → OnErr r (pending new t ≡ settle (pending old s)) → Fewer (pending new t).puts (pending old s).puts
-  after_fewer (Ok u) ok err = subst (λ (p : Pending). Fewer p.puts (pending old s).puts) (sym (ok ∙ opened_now)) opened_fewer
-  after_fewer (Err f) ok err = subst (λ (p : Pending). Fewer p.puts (pending old s).puts) (sym err) (fewer_settled (pending old s).puts)
+  closed_view : pending new t ≡ settle (pending old s) → ◌≡◌ {A = HeldLists} (record v { puts = fronts old (pending new t).puts; below = covers old (pending new t).sources; lists = texts new }) (record v { lists = texts new })
+  closed_view after =
+      ap (λ (p : Pending). let w : HeldLists = record v { puts = fronts old p.puts; below = covers old p.sources; lists = texts new } in w) after
+      ∙ ap (λ (ps : List plain.Put). let w : HeldLists = record v { puts = ps; below = covers old (pending old s).sources; lists = texts new } in w) quiet
+      ∙ ap (λ (bs : List Covered). let w : HeldLists = record v { below = bs; lists = texts new } in w) below_is
 
-  module _ (r : Result Unit Full) (ok : OnOk r (pending new t ≡ open_over id line (settle (pending old s)))) (err : OnErr r (pending new t ≡ settle (pending old s))) where
-    moved_now : Moved old new t m (all_builds making gathered)
-    moved_now = levels_moved old new s t making gathered m sizes capacity none sound stands moves keeps (lasts_none old new lasts) size parameters (after_simple r ok err) (after_fewer r ok err)
+  ok_by : (x : Result Unit Full) → OnOk x (pending new t ≡ open_over id line (settle (pending old s))) → OnOk x (lists_of new (pending new t) making gathered m sizes ≡ record (opened_over line v) { lists = texts new })
+  ok_by (Ok u) after = open_view ∙ opened_view after
+  ok_by (Err f) after = tt
 
-    pub open_sound : IsSound new t making gathered m sizes capacity
-    open_sound = levels_sound old new s t making gathered m sizes capacity none sound stands moves keeps (lasts_none old new lasts) size parameters (after_simple r ok err) (after_fewer r ok err)
+  err_by : (x : Result Unit Full) → OnErr x (pending new t ≡ settle (pending old s)) → OnErr x (lists_of new (pending new t) making gathered m sizes ≡ record v { lists = texts new })
+  err_by (Ok u) after = tt
+  err_by (Err f) after = open_view ∙ closed_view after
 
-    pub open_macros : KeepsLists (lists_held m.table.groups) (fronts new (pending new t).puts) v.lists (texts new)
-    open_macros = macros_moved old new t m sizes (all_builds making gathered) v.lists moved_now (ap (λ (w : HeldLists). w.lists) is)
+  pub open_ok : OnOk r (lists_of new (pending new t) making gathered m sizes ≡ record (opened_over line v) { lists = texts new })
+  open_ok = ok_by r ok
 
-    -- the lists are as they were, in front of what is pending then
-    pub open_view : lists_of new (pending new t) making gathered m sizes ≡ record v { puts = fronts old (pending new t).puts; line = line_of (pending new t).sources; lists = texts new }
-    open_view =
-        moved_view old new t m sizes making gathered moved_now
-        ∙ ap (λ (w : HeldLists). record w { puts = fronts old (pending new t).puts; line = line_of (pending new t).sources; lists = texts new }) is
-
-  opened_view : pending new t ≡ open_over id line (settle (pending old s)) → ◌≡◌ {A = HeldLists} (record v { puts = fronts old (pending new t).puts; line = line_of (pending new t).sources; lists = texts new }) (record v { line = Some line; lists = texts new })
-  unfolding opened
-  opened_view ok =
-      ap (λ (p : Pending). let w : HeldLists = record v { puts = fronts old p.puts; line = line_of p.sources; lists = texts new } in w) (ok ∙ opened_now)
-      ∙ ap (λ (ps : List plain.Put). let w : HeldLists = record v { puts = ps; line = Some line; lists = texts new } in w) (sym front)
-
-  closed_view : pending new t ≡ settle (pending old s) → ◌≡◌ {A = HeldLists} (record v { puts = fronts old (pending new t).puts; line = line_of (pending new t).sources; lists = texts new }) (record v { lists = texts new })
-  closed_view err =
-      ap (λ (p : Pending). let w : HeldLists = record v { puts = fronts old p.puts; line = line_of p.sources; lists = texts new } in w) err
-      ∙ ap (λ (ps : List Put). let w : HeldLists = record v { puts = fronts old ps; line = line_of (pending old s).sources; lists = texts new } in w) none_settled
-      ∙ ap (λ (bs : List Below). let w : HeldLists = record v { puts = []; line = line_of bs; lists = texts new } in w) no_lines
-      ∙ ap (λ (ps : List plain.Put). let w : HeldLists = record v { puts = ps; line = None; lists = texts new } in w) (sym front)
-      ∙ ap (λ (o : Option Line). let w : HeldLists = record v { line = o; lists = texts new } in w) (sym closed)
-
-  pub open_ok : (r : Result Unit Full) → OnOk r (pending new t ≡ open_over id line (settle (pending old s))) → OnErr r (pending new t ≡ settle (pending old s)) → OnOk r (lists_of new (pending new t) making gathered m sizes ≡ record v { line = Some line; lists = texts new })
-  open_ok (Ok u) ok err = open_view (Ok u) ok err ∙ opened_view ok
-  open_ok (Err f) ok err = tt
-
-  pub open_err : (r : Result Unit Full) → OnOk r (pending new t ≡ open_over id line (settle (pending old s))) → OnErr r (pending new t ≡ settle (pending old s)) → OnErr r (lists_of new (pending new t) making gathered m sizes ≡ record v { lists = texts new })
-  open_err (Ok u) ok err = tt
-  open_err (Err f) ok err = open_view (Err f) ok err ∙ closed_view err
+  pub open_err : OnErr r (lists_of new (pending new t) making gathered m sizes ≡ record v { lists = texts new })
+  open_err = err_by r err

@@ -1,6 +1,6 @@
 -- A call whose arguments are there is put.
-use Rattle.std.proofs.Common.{◌≡◌, ℕ, ◌+◌, ◌<◌, List, [], ◌∷◌, map, take, reverse, length, Option, None, Some, Bool, true, false, cond, inl, inr, refl, sym, ap, ap₂, ◌∙◌, subst, arith}
-use Rattle.std.specs.Prelude.{sum_by, nat_le, if◌then◌else◌}
+use Rattle.std.proofs.Common.{◌≡◌, ℕ, ◌+◌, ◌<◌, List, [], ◌∷◌, ◌++◌, map, take, reverse, length, Option, None, Some, Bool, true, false, cond, inl, inr, refl, sym, ap, ap₂, ◌∙◌, subst, arith}
+use Rattle.std.specs.Prelude.{nat_le, if◌then◌else◌}
 use Rattle.std.proofs.lemmas.Bool.{cases_eq, cases_lt}
 use Rattle.std.proofs.lemmas.List.Sums.{sum_by-cons}
 use Rattle.tex_defs.specs.declared.Token.{Token}
@@ -31,20 +31,21 @@ use Rattle.input_stack.specs.View.{pending, held}
 use Rattle.input_stack.specs.Standing.{Stands}
 use Rattle.input_stack.specs.Lasting.{Lasts}
 use Rattle.input_stack.specs.declared.stack.InputStack.{InputStack}
-use Rattle.input_state.specs.HeldLists.{HeldLists, put_refusal, parameters_held, level_held, line_levels}
+use Rattle.input_state.specs.HeldLists.{HeldLists, covered_puts, put_refusal, parameters_held, level_held}
 use Rattle.input_state.specs.Macros.{KeepsLists}
 use Rattle.input_state.specs.Calls.{put_of, called, when_put}
 use Rattle.input_state.specs.Callings.{NotCalling, Gathered}
 use Rattle.input_state.specs.declared.gathering.Gathering as code
 use Rattle.input_state.specs.declared.gathering.Gathering.TheVariants as call
-use Rattle.input_state.specs.HeldViews.{named, call_holds, names_hold, calling_of, IsCall, text, made_text, texts, front, fronts, plain_item, line_of, lists_of, all_builds, built, owns, bodies, cells_of, IsSingle, IsSimple, IsApart, IsDefined, IsSound}
+use Rattle.input_state.specs.HeldViews.{named, call_holds, names_hold, calling_of, IsCall, text, made_text, texts, front, fronts, plain_item, covers, lists_of, all_builds, built, owns, bodies, cells_of, puts_in, AreFronts, IsApart, IsDefined, IsSound}
 use Rattle.input_state.proofs.Counting.{times_cons, times_append, holds_other}
-use Rattle.input_state.proofs.Shares.{apart_fewer, fewer_put}
+use Rattle.input_state.proofs.Shares.{apart_fewer, fewer_put_in}
 use Rattle.input_state.proofs.Levels.{simple_put, levels_used}
 use Rattle.input_state.proofs.Sharing.{Reheld, reheld, keeps_lists, text_at}
 use Rattle.input_state.proofs.ListViews.{held_lists, same_held}
 use Rattle.input_state.proofs.Refusing.{levels_refused}
-use Rattle.input_state.proofs.Files.{settled_levels}
+use Rattle.input_state.proofs.Settling.{settled_levels_in, settled_parameters_in}
+use Rattle.input_state.proofs.Sources.{all_fronts, fronts_in, sum_in}
 use Rattle.input_state.proofs.CallNumbers.{have_tokens, token_at}
 use Rattle.input_state.proofs.CallKept.{shared_stands}
 use Rattle.input_state.proofs.PutItems.{args_numbers, args_length, call_is, call_front, front_called, macro_put_is}
@@ -65,20 +66,6 @@ front_parameters table (p ∷ ps) =
     let here : when_some p.items (length p.arguments) ≡ plain.when_some (front table p).items (length (front table p).arguments) =
     when_plain p.items (length p.arguments) ∙ ap (plain.when_some (map plain_item p.items)) (sym (map_length _ p.arguments)) in
     omega (arith, front_parameters table ps, here, sum_by-cons (λ (x : Put). when_some x.items (length x.arguments)) p ps, sum_by-cons (λ (x : plain.Put). plain.when_some x.items (length x.arguments)) (front table p) (fronts table ps))
-
-below_none : (bs : List Below) → IsSingle bs → sum_by (λ (b : Below). used_arguments b.puts) bs ≡ 0
-below_none [] single = refl
-below_none (b ∷ []) single = omega (arith, ap used_arguments single)
-below_none (b ∷ c ∷ bs) single = absurd single
-
-top_parameters : (p : plain.Put) (xs : List plain.Item) (below rest : List plain.Put) → p.items ≡ xs → plain.put_parameters below ≡ plain.put_parameters rest → plain.put_parameters (plain.settled_top p xs below rest) ≡ plain.when_some xs (length p.arguments) + plain.put_parameters rest
-top_parameters p [] below rest is same = omega (arith, same)
-top_parameters p (x ∷ xs) below rest is same = omega (arith, sum_by-cons (λ (q : plain.Put). plain.when_some q.items (length q.arguments)) p rest, ap (λ (ys : List plain.Item). plain.when_some ys (length p.arguments)) is)
-
--- finished lists have none
-settled_parameters : (ps : List plain.Put) → plain.put_parameters (plain.settled ps) ≡ plain.put_parameters ps
-settled_parameters [] = refl
-settled_parameters (p ∷ ps) = top_parameters p p.items (plain.settled ps) ps refl (settled_parameters ps) ∙ sym (sum_by-cons (λ (q : plain.Put). plain.when_some q.items (length q.arguments)) p ps)
 
 -- WHAT IS REFUSED
 
@@ -115,18 +102,26 @@ module _ (old mid : List (Option Entry)) (s : InputStack) (making : Option Build
 
   level_refused : room s.size (used_levels (pending old s)) ≡ refused sizes (level_held settled_was ∷ [])
   unfolding settled_was
-  level_refused = levels_refused sizes (used_levels (pending old s)) _ s.size (levels_used old (pending old s) sound.shared.simple.single ∙ sym (ap (λ (n : ℕ). n + line_levels (line_of (pending old s).sources)) (settled_levels (fronts old (pending old s).puts)))) sound.sized.levels
+  level_refused = levels_refused sizes (used_levels (pending old s)) _ s.size (levels_used old (pending old s) ∙ sym (ap (λ (n : ℕ). n + length (covers old (pending old s).sources)) (settled_levels_in (fronts old (pending old s).puts) (covered_puts (covers old (pending old s).sources))))) sound.sized.levels
 
-  used_is : used_parameters (pending old s) ≡ plain.put_parameters (plain.settled (fronts old (pending old s).puts))
-  used_is = omega (arith, front_parameters old (pending old s).puts, below_none (pending old s).sources sound.shared.simple.single, settled_parameters (fronts old (pending old s).puts))
+  used_now : ℕ
+  used_now = plain.put_parameters (plain.settled (fronts old (pending old s).puts) ++ covered_puts (covers old (pending old s).sources))
+
+  used_is : used_parameters (pending old s) ≡ used_now
+  unfolding used_now
+  used_is =
+      sum_in (λ (p : Put). when_some p.items (length p.arguments)) (pending old s)
+      ∙ front_parameters old (puts_in (pending old s))
+      ∙ ap plain.put_parameters (fronts_in old (pending old s))
+      ∙ sym (settled_parameters_in (fronts old (pending old s).puts) (covered_puts (covers old (pending old s).sources)))
 
   both_refused : either (parameter_room s.parameter_size (used_parameters (pending old s)) args.count) (room s.size (used_levels (pending old s))) ≡ refused sizes (parameters_held (plain.call_put (id_of body) (tokens_at old (id_of body)) (args_in old args)) settled_was ∷ level_held settled_was ∷ [])
-  unfolding settled_was
+  unfolding settled_was used_now
   both_refused =
       ap (either (parameter_room s.parameter_size (used_parameters (pending old s)) args.count)) level_refused
       ∙ ap₂ (λ (u z : ℕ). either (parameter_room z u args.count) (refused sizes (level_held settled_was ∷ []))) used_is sound.sized.parameters
-      ∙ ap (λ (n : ℕ). either (parameter_room sizes.parameter_stack_size (plain.put_parameters (plain.settled (fronts old (pending old s).puts))) n) (refused sizes (level_held settled_was ∷ []))) (sym (args_length old args filled))
-      ∙ refused_by sizes (nat_le (plain.put_parameters (plain.settled (fronts old (pending old s).puts)) + length (args_in old args)) sizes.parameter_stack_size) (parameters_full (plain.put_parameters (plain.settled (fronts old (pending old s).puts))) sizes.parameter_stack_size) (refused sizes (level_held settled_was ∷ []))
+      ∙ ap (λ (n : ℕ). either (parameter_room sizes.parameter_stack_size used_now n) (refused sizes (level_held settled_was ∷ []))) (sym (args_length old args filled))
+      ∙ refused_by sizes (nat_le (used_now + length (args_in old args)) sizes.parameter_stack_size) (parameters_full used_now sizes.parameter_stack_size) (refused sizes (level_held settled_was ∷ []))
 
   by_items : (xs : List Item) → stack.call_refusal s.size s.parameter_size args.count xs (pending old s) ≡ refused sizes (when_put (map plain_item xs) (parameters_held (plain.call_put (id_of body) (tokens_at old (id_of body)) (args_in old args)) settled_was ∷ level_held settled_was ∷ []))
   by_items [] = refl
@@ -156,38 +151,38 @@ module _ (old mid new : List (Option Entry)) (s t : InputStack) (making : Option
   its_cells : (h : ℕ) → times h (numbers (map number_of (arguments_in old args))) ≡ args_hold args h
   its_cells h = args_numbers old args h its_call.filled
 
-  own_now : (h : ℕ) → times h (owns (call_put (id_of body) (tokens_at old (id_of body)) (arguments_in old args) ∷ (pending old s).puts)) ≡ args_hold args h + times h (owns (pending old s).puts)
-  own_now h = omega (arith, its_cells h, times_append h (numbers (map number_of (arguments_in old args))) (owns (pending old s).puts))
+  own_now : (h : ℕ) → times h (owns (call_put (id_of body) (tokens_at old (id_of body)) (arguments_in old args) ∷ puts_in (pending old s))) ≡ args_hold args h + times h (owns (puts_in (pending old s)))
+  own_now h = omega (arith, its_cells h, times_append h (numbers (map number_of (arguments_in old args))) (owns (puts_in (pending old s))))
 
   -- the arguments are the level's, and the macro's body is read once more
-  apart_first : IsApart (call_put (id_of body) (tokens_at old (id_of body)) (arguments_in old args) ∷ (pending old s).puts) (all_builds making gathered) (named m call.None)
+  apart_first : IsApart (call_put (id_of body) (tokens_at old (id_of body)) (arguments_in old args) ∷ puts_in (pending old s)) (all_builds making gathered) (named m call.None)
   apart_first = record {
     sole = λ h. omega (arith, sound.shared.apart.sole h, own_now h, its_holds h);
     apart = λ h more. elim (cases_eq h (id_of body)) [
       | inl here ↦
           let free = sound.shared.apart.apart h (omega (arith, more, own_now h, its_holds h)) in
           absurd (omega (arith, free, ap (eqtb.held m) here, is_meant))
-      | inr other ↦ omega (arith, sound.shared.apart.apart h (omega (arith, more, own_now h, its_holds h)), times_cons h (id_of body) (bodies (pending old s).puts), holds_other (id_of body) h (λ e. other (sym e)))
+      | inr other ↦ omega (arith, sound.shared.apart.apart h (omega (arith, more, own_now h, its_holds h)), times_cons h (id_of body) (bodies (puts_in (pending old s))), holds_other (id_of body) h (λ e. other (sym e)))
     ];
   }
 
-  apart_now : IsApart (pending new t).puts (all_builds making gathered) (named m call.None)
+  apart_now : IsApart (puts_in (pending new t)) (all_builds making gathered) (named m call.None)
   apart_now =
-      subst (λ (p : Pending). IsApart p.puts (all_builds making gathered) (named m call.None)) (sym now)
-      (apart_fewer (put (call_put (id_of body) (tokens_at old (id_of body)) (arguments_in old args)) (pending old s)).puts (call_put (id_of body) (tokens_at old (id_of body)) (arguments_in old args) ∷ (pending old s).puts) (all_builds making gathered) (named m call.None)
-      (fewer_put (call_put (id_of body) (tokens_at old (id_of body)) (arguments_in old args)) (pending old s).puts) apart_first)
+      subst (λ (p : Pending). IsApart (puts_in p) (all_builds making gathered) (named m call.None)) (sym now)
+      (apart_fewer (puts_in (put (call_put (id_of body) (tokens_at old (id_of body)) (arguments_in old args)) (pending old s))) (call_put (id_of body) (tokens_at old (id_of body)) (arguments_in old args) ∷ puts_in (pending old s)) (all_builds making gathered) (named m call.None)
+      (fewer_put_in (call_put (id_of body) (tokens_at old (id_of body)) (arguments_in old args)) (pending old s)) apart_first)
 
-  simple_now : IsSimple (pending new t)
-  simple_now = subst IsSimple (sym now) (simple_put (call_put (id_of body) (tokens_at old (id_of body)) (arguments_in old args)) (pending old s) (call_is (id_of body) (tokens_at old (id_of body)) (arguments_in old args)) sound.shared.simple)
+  simple_now : AreFronts (puts_in (pending new t))
+  simple_now = subst (λ (p : Pending). AreFronts (puts_in p)) (sym now) (simple_put (call_put (id_of body) (tokens_at old (id_of body)) (arguments_in old args)) (pending old s) (call_is (id_of body) (tokens_at old (id_of body)) (arguments_in old args)) sound.shared.fronts)
 
   listed_one : (h : ℕ) → 0 < args_hold args h → 0 < length (tokens_at old h)
   listed_one h some = token_at old args.lists (have_tokens old args.lists its_call.listed.tokens) h some
 
-  listed_now : (h : ℕ) → 0 < times h (cells_of (pending new t).puts) → 0 < length (tokens_at old h)
+  listed_now : (h : ℕ) → 0 < times h (cells_of (puts_in (pending new t))) → 0 < length (tokens_at old h)
   listed_now h some =
-      let there : 0 < times h (cells_of (put (call_put (id_of body) (tokens_at old (id_of body)) (arguments_in old args)) (pending old s)).puts) = subst (λ (p : Pending). 0 < times h (cells_of p.puts)) now some in
-      let few = (fewer_put (call_put (id_of body) (tokens_at old (id_of body)) (arguments_in old args)) (pending old s).puts).cells h in
-      let all = times_append h (numbers (map number_of (arguments_in old args))) (cells_of (pending old s).puts) in
+      let there : 0 < times h (cells_of (puts_in (put (call_put (id_of body) (tokens_at old (id_of body)) (arguments_in old args)) (pending old s)))) = subst (λ (p : Pending). 0 < times h (cells_of (puts_in p))) now some in
+      let few = (fewer_put_in (call_put (id_of body) (tokens_at old (id_of body)) (arguments_in old args)) (pending old s)).cells h in
+      let all = times_append h (numbers (map number_of (arguments_in old args))) (cells_of (puts_in (pending old s))) in
       elim (cases_lt 0 (args_hold args h)) [
         | inl own ↦ listed_one h own
         | inr free ↦ sound.shared.listed h (omega (arith, there, few, all, its_cells h, free))
@@ -229,8 +224,8 @@ module _ (old mid new : List (Option Entry)) (s t : InputStack) (making : Option
   pub put_sound : IsSound new t making gathered (named m l) sizes capacity
   put_sound = subst (λ (g : code.Gathering). IsSound new t making gathered (named m g) sizes capacity) (sym is_none) none_sound
 
-  pub put_macros : KeepsLists (lists_held m.groups) (fronts new (pending new t).puts) v.lists (texts new)
-  put_macros = subst (λ (w : HeldLists). KeepsLists (lists_held m.groups) (fronts new (pending new t).puts) w.lists (texts new)) is (keeps_lists old new new new t m reheld_now.shared.simple.single reheld_now.kept)
+  pub put_macros : KeepsLists (lists_held m.groups) (all_fronts new (pending new t)) v.lists (texts new)
+  put_macros = subst (λ (w : HeldLists). KeepsLists (lists_held m.groups) (all_fronts new (pending new t)) w.lists (texts new)) is (keeps_lists old new new new t m reheld_now.kept)
 
   put_fronts : fronts old (pending new t).puts ≡ called (put_of v.lists v.groups.now.meanings v.call) (fronts old (pending old s).puts)
   put_fronts =
@@ -241,9 +236,9 @@ module _ (old mid new : List (Option Entry)) (s t : InputStack) (making : Option
   pub put_view : lists_of new (pending new t) making gathered (named m l) sizes ≡ record v { puts = called (put_of v.lists v.groups.now.meanings v.call) v.puts; call = NotCalling; lists = texts new }
   put_view =
       ap (λ (g : code.Gathering). lists_of new (pending new t) making gathered (named m g) sizes) is_none
-      ∙ same_held old new making gathered (fronts new (pending new t).puts) (fronts old (pending new t).puts) NotCalling (line_of (pending new t).sources) m sizes (texts new) reheld_now.in_front reheld_now.texts
-      ∙ ap (λ (ps : List plain.Put). held_lists ps (made_text old making) NotCalling (map (text old) (reverse gathered)) (line_of (pending new t).sources) m sizes (texts new)) put_fronts
-      ∙ ap (λ (p : Pending). held_lists (called (put_of v.lists v.groups.now.meanings v.call) (fronts old (pending old s).puts)) (made_text old making) NotCalling (map (text old) (reverse gathered)) (line_of p.sources) m sizes (texts new)) now
+      ∙ same_held old new making gathered (fronts new (pending new t).puts) (fronts old (pending new t).puts) NotCalling (covers new (pending new t).sources) (covers old (pending new t).sources) m sizes (texts new) reheld_now.in_front reheld_now.beneath reheld_now.texts
+      ∙ ap (λ (ps : List plain.Put). held_lists ps (made_text old making) NotCalling (map (text old) (reverse gathered)) (covers old (pending new t).sources) m sizes (texts new)) put_fronts
+      ∙ ap (λ (p : Pending). held_lists (called (put_of v.lists v.groups.now.meanings v.call) (fronts old (pending old s).puts)) (made_text old making) NotCalling (map (text old) (reverse gathered)) (covers old p.sources) m sizes (texts new)) now
       ∙ ap (λ (w : HeldLists). record w { puts = called (put_of v.lists v.groups.now.meanings v.call) w.puts; call = NotCalling; lists = texts new }) is
 
 -- what is given to the level is counted

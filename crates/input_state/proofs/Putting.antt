@@ -20,9 +20,10 @@ use Rattle.input_stack.specs.Lasting.{Lasts}
 use Rattle.input_stack.specs.declared.stack.InputStack.{InputStack}
 use Rattle.input_state.specs.HeldLists.{HeldLists, made, level_held}
 use Rattle.input_state.specs.Macros.{KeepsLists}
-use Rattle.input_state.specs.HeldViews.{Named, calling_of, fronts, text, texts, line_of, lists_of, all_builds, built, owns, cells_of, IsSimple, IsApart, IsDefined, IsShared, IsSound}
+use Rattle.input_state.specs.HeldViews.{Named, calling_of, fronts, text, texts, covers, lists_of, all_builds, built, owns, cells_of, puts_in, AreFronts, IsApart, IsDefined, IsShared, IsSound}
 use Rattle.input_state.proofs.Counting.{times_cons}
-use Rattle.input_state.proofs.Shares.{apart_fewer, fewer_put}
+use Rattle.input_state.proofs.Shares.{apart_fewer, fewer_put_in}
+use Rattle.input_state.proofs.Sources.{all_fronts}
 use Rattle.input_state.proofs.Sounds.{sized_now}
 use Rattle.input_state.proofs.Fronts.{token_front, fronts_put}
 use Rattle.input_state.proofs.Levels.{levels_used, simple_put, flat_is}
@@ -44,14 +45,14 @@ module _ (old new : List (Option Entry)) (s t : InputStack) (a : Build) (gathere
     own_now h = omega (arith, built_cons a [] h, ap (λ (k : ℕ). holds k h) same)
 
     -- the list that was built is the level's
-    apart_first : IsApart (plain_put n (tokens_at old n) ∷ (pending old s).puts) (reverse gathered) m
+    apart_first : IsApart (plain_put n (tokens_at old n) ∷ puts_in (pending old s)) (reverse gathered) m
     apart_first = record {
-      sole = λ h. omega (arith, shared_now.apart.sole h, built_cons a (reverse gathered) h, ap (λ (k : ℕ). holds k h) same, times_cons h n (owns (pending old s).puts));
-      apart = λ h more. shared_now.apart.apart h (omega (arith, more, built_cons a (reverse gathered) h, ap (λ (k : ℕ). holds k h) same, times_cons h n (owns (pending old s).puts)));
+      sole = λ h. omega (arith, shared_now.apart.sole h, built_cons a (reverse gathered) h, ap (λ (k : ℕ). holds k h) same, times_cons h n (owns (puts_in (pending old s))));
+      apart = λ h more. shared_now.apart.apart h (omega (arith, more, built_cons a (reverse gathered) h, ap (λ (k : ℕ). holds k h) same, times_cons h n (owns (puts_in (pending old s)))));
     }
 
-    apart_now : IsApart (pending new t).puts (reverse gathered) m
-    apart_now = subst (λ (p : Pending). IsApart p.puts (reverse gathered) m) (sym after) (apart_fewer _ _ (reverse gathered) m (fewer_put (plain_put n (tokens_at old n)) (pending old s).puts) apart_first)
+    apart_now : IsApart (puts_in (pending new t)) (reverse gathered) m
+    apart_now = subst (λ (p : Pending). IsApart (puts_in p) (reverse gathered) m) (sym after) (apart_fewer _ _ (reverse gathered) m (fewer_put_in (plain_put n (tokens_at old n)) (pending old s)) apart_first)
 
     macros_now : (h : ℕ) → 0 < eqtb.held m.table h → IsDefined (tokens_at new h)
     macros_now h more = subst IsDefined (sym (lasts.tokens h (omega (arith, more, moves h, shared_now.counted h, built_cons a (reverse gathered) h, ap (λ (k : ℕ). holds k h) same)))) (shared_now.macros h more)
@@ -59,9 +60,9 @@ module _ (old new : List (Option Entry)) (s t : InputStack) (a : Build) (gathere
     moved_now : Moved old new t m (reverse gathered)
     moved_now =
         moved old new s t m m (a ∷ []) (reverse gathered) shared_now stands
-        (subst (λ (p : Pending). IsSimple p) (sym after) (simple_put (plain_put n (tokens_at old n)) (pending old s) (flat_is false n (tokens_at old n)) sound.shared.simple))
+        (subst (λ (p : Pending). AreFronts (puts_in p)) (sym after) (simple_put (plain_put n (tokens_at old n)) (pending old s) (flat_is false n (tokens_at old n)) sound.shared.fronts))
         apart_now
-        (λ h some. sound.shared.listed h (omega (arith, (fewer_put (plain_put n (tokens_at old n)) (pending old s).puts).cells h, subst (λ (p : Pending). 0 < times h (cells_of p.puts)) after some)))
+        (λ h some. sound.shared.listed h (omega (arith, (fewer_put_in (plain_put n (tokens_at old n)) (pending old s)).cells h, subst (λ (p : Pending). 0 < times h (cells_of (puts_in p))) after some)))
         (λ h. omega (arith, moves h, own_now h))
         (record { tokens = λ h l. keeps.tokens h (omega (arith, l, own_now h)); places = λ h l. keeps.places h (omega (arith, l, own_now h)) })
         lasts.tokens macros_now (λ h. refl)
@@ -87,10 +88,10 @@ module _ (old new : List (Option Entry)) (s t : InputStack) (a : Build) (gathere
         ap (λ (x : Option Build). lists_of new (pending new t) x gathered m sizes) none
         ∙ moved_view old new t m sizes None gathered moved_now
         ∙ ap (λ (p : Pending). record (lists_of old p None gathered m sizes) { lists = texts new }) after
-        ∙ ap (λ (qs : List plain.Put). held_lists qs None (calling_of old m.call) (map (text old) (reverse gathered)) (line_of (pending old s).sources) m.table sizes (texts new)) (fronts_put old (plain_put n (tokens_at old n)) ps quiet ∙ ap (λ (x : plain.Put). plain.with_put x (fronts old ps)) (token_front old n (tokens_at old n) refl ∙ ap plain.token_put tokens))
+        ∙ ap (λ (qs : List plain.Put). held_lists qs None (calling_of old m.call) (map (text old) (reverse gathered)) (covers old (pending old s).sources) m.table sizes (texts new)) (fronts_put old (plain_put n (tokens_at old n)) ps quiet ∙ ap (λ (x : plain.Put). plain.with_put x (fronts old ps)) (token_front old n (tokens_at old n) refl ∙ ap plain.token_put tokens))
         ∙ ap (λ (w : HeldLists). record w { puts = plain.with_put (plain.token_put (made w.making)) w.puts; making = None; lists = texts new }) was
 
-    pub put_macros : (v : HeldLists) → lists_of old (pending old s) making gathered m sizes ≡ v → KeepsLists (lists_held m.table.groups) (fronts new (pending new t).puts) v.lists (texts new)
+    pub put_macros : (v : HeldLists) → lists_of old (pending old s) making gathered m sizes ≡ v → KeepsLists (lists_held m.table.groups) (all_fronts new (pending new t)) v.lists (texts new)
     put_macros v is = macros_moved old new t m sizes (reverse gathered) v.lists moved_now (ap (λ (w : HeldLists). w.lists) is)
 
   refusal_none : (ts : List Token) (p : Pending) (size : ℕ) → room size (used_levels p) ≡ None → refusal size (map Text ts) p ≡ None
@@ -100,5 +101,5 @@ module _ (old new : List (Option Entry)) (s t : InputStack) (a : Build) (gathere
   -- the levels have room
   pub put_fits : (v : HeldLists) (f : Full) → lists_of old (pending old s) making gathered m sizes ≡ v → refused v.sizes (level_held v ∷ []) ≡ None → refusal s.size (map Text (tokens_at old n)) (pending old s) ≡ Some f → ⊥
   put_fits v f is fits refuses =
-      let none = levels_refused sizes (used_levels (pending old s)) _ s.size (levels_used old (pending old s) sound.shared.simple.single) sound.sized.levels ∙ ap (λ (w : HeldLists). refused w.sizes (level_held w ∷ [])) is ∙ fits in
+      let none = levels_refused sizes (used_levels (pending old s)) _ s.size (levels_used old (pending old s)) sound.sized.levels ∙ ap (λ (w : HeldLists). refused w.sizes (level_held w ∷ [])) is ∙ fits in
       none-some f (sym (refusal_none (tokens_at old n) (pending old s) s.size none) ∙ refuses)

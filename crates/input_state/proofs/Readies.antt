@@ -1,36 +1,23 @@
 -- Whether a token or a line comes next.
-use Rattle.std.proofs.Common.{◌≡◌, ℕ, ◌<◌, ◌≤◌, ◌⊎◌, List, [], ◌∷◌, refl, sym, ap, subst, ◌∙◌, inl, inr, drop, length, Bool, true, false, arith}
-use Rattle.std.specs.Prelude.{nat_lt, nat_le, ◌&&◌, not}
-use Rattle.std.proofs.lemmas.Bool.{cases_lt}
+use Rattle.std.proofs.Common.{◌≡◌, ℕ, ◌<◌, ◌≤◌, ◌⊎◌, List, [], ◌∷◌, Option, None, Some, refl, sym, ap, ap₂, subst, ◌∙◌, inl, inr, length, Bool, true, false, arith}
+use Rattle.std.specs.Prelude.{nat_le, ◌&&◌, not}
 use Rattle.std.proofs.lemmas.Bool.Decides.{nat_tests}
 use Rattle.plain_tokens.specs.Lex as lex
 use Rattle.plain_tokens.specs.Lex.{lexed}
 use Rattle.plain_tokens.specs.Puts.{Item, Put, passed, passed_top, without_gaps}
 use Rattle.plain_tokens.specs.Lines.{has_feed}
-use Rattle.plain_tokens.specs.Pending.{Pending, Progress, NotBegun, Begun, Closed, pulled, takes_file, from_front, from_list, from_line, from_file}
+use Rattle.plain_tokens.specs.Pending.{Pending, Progress, Begun, Closed, NothingLeft, pulled, takes_file, from_front, from_list, from_line, from_file, from_begun, file_over, line_taken}
 use Rattle.line_lexer.specs.declared.Ahead.{Ahead}
 use Rattle.line_lexer.specs.declared.Ahead.TheVariants as ahead
 use Rattle.line_lexer.specs.Answers.{looks_of}
 use Rattle.input_state.specs.Reads.{gives_step}
-use Rattle.input_state.specs.HeldLists.{HeldLists, ahead_of, front_ahead}
+use Rattle.input_state.specs.HeldLists.{HeldLists, pending_of, ahead_of, front_ahead}
 use Rattle.input_state.specs.Stored.{Stored}
 use Rattle.input_state.specs.InputViews.{stored_of}
-use Rattle.input_state.specs.FileLeft.{FileLeft, is_open, lacks_line}
-use Rattle.input_state.specs.NextBytes.{KnowsNext, NoFile, HasLine, TooLong, NeedsBytes}
-use Rattle.input_state.proofs.LineRests.{drop_at, drop_end}
-
-is_below : (a b : ℕ) → a < b → nat_lt a b ≡ true
-is_below a b h = grind (arith, nat_tests)
-
-not_below : (a b : ℕ) → b ≤ a → nat_lt a b ≡ false
-not_below a b h = grind (arith, nat_tests)
-
-pub file_left : (n : ℕ) (bytes : List ℕ) (at : ℕ) → nat_lt at (length bytes) ≡ gives_step (from_file Begun n (drop at bytes))
-file_left n bytes at =
-    elim (cases_lt at (length bytes)) [
-      | inl lt ↦ rw (drop_at bytes at lt) (is_below at (length bytes) lt)
-      | inr ge ↦ rw (drop_end bytes at ge) (not_below at (length bytes) ge)
-    ]
+use Rattle.input_state.specs.declared.file.Step.{Step}
+use Rattle.input_state.specs.declared.file.Step.TheVariants as step
+use Rattle.input_state.specs.FileLeft.{FileLeft, FilesLeft, file_step, step_of, is_line, lacks_next, lacks_first}
+use Rattle.input_state.specs.NextBytes.{KnowsNext, NoFile, Ends, HasLine, TooLong, NeedsBytes, KnowsFirst, NoNext, HasFirstLine, FirstTooLong, NeedsFirst}
 
 -- WHAT COMES
 
@@ -66,7 +53,7 @@ front_token c p (x ∷ ps) e is = list_token c p x ps x.items (head_left p.puts 
 pub token_comes : (c : List ℕ) (p : Pending) → ahead_of c p ≡ ahead.Token → gives_step (pulled c p) ≡ true
 token_comes c p is = front_token c p (passed p.puts) refl is
 
-front_used : (c : List ℕ) (p : Pending) (ps : List Put) → front_ahead c p ps ≡ ahead.End → (ps ≡ []) × (from_front c p ps ≡ from_file p.file p.number p.rest)
+front_used : (c : List ℕ) (p : Pending) (ps : List Put) → front_ahead c p ps ≡ ahead.End → (ps ≡ []) × (from_front c p ps ≡ from_file p p.file)
 front_used c p [] is = (refl, ap (from_line p) (line_used (lexed c p.lex p.line) is))
 front_used c p (x ∷ ps) is = cc
 
@@ -76,7 +63,7 @@ no_end a (inl token) h = let k = sym token ∙ h in cc
 no_end a (inr invalid) h = let k = sym invalid ∙ h in cc
 
 -- nothing is left but the file
-pub used_up : (c : List ℕ) (p : Pending) → ahead_of c p ≡ ahead.End → (passed p.puts ≡ []) × (pulled c p ≡ from_file p.file p.number p.rest)
+pub used_up : (c : List ℕ) (p : Pending) → ahead_of c p ≡ ahead.End → (passed p.puts ≡ []) × (pulled c p ≡ from_file p p.file)
 used_up c p is = front_used c p (passed p.puts) is
 
 -- WHETHER THE FILE MUST GIVE MORE
@@ -98,14 +85,17 @@ lists_in_front c p (x ∷ ps) e fact = list_in_front c p x ps x.items (head_left
 pub in_front : (c : List ℕ) (p : Pending) → (ahead_of c p ≡ ahead.End → ⊥) → takes_file (pulled c p) ≡ false
 in_front c p fact = lists_in_front c p (passed p.puts) refl fact
 
-file_takes : (f : Progress) (n : ℕ) (bytes : List ℕ) → takes_file (from_file f n bytes) ≡ true
-file_takes NotBegun n bytes = refl
-file_takes Begun n [] = refl
-file_takes Begun n (c ∷ cs) = refl
-file_takes Closed n bytes = refl
+begun_takes : (p : Pending) (ends : Bool) (rest : List ℕ) → takes_file (from_begun p ends rest) ≡ true
+begun_takes p true rest = refl
+begun_takes p false [] = refl
+begun_takes p false (c ∷ cs) = refl
+
+file_takes : (p : Pending) (f : Progress) → takes_file (from_file p f) ≡ true
+file_takes p Begun = begun_takes p p.ends p.rest
+file_takes p Closed = refl
 
 at_file : (c : List ℕ) (p : Pending) → ahead_of c p ≡ ahead.End → takes_file (pulled c p) ≡ true
-at_file c p is = ap takes_file (used_up c p is).1 ∙ file_takes p.file p.number p.rest
+at_file c p is = ap takes_file (used_up c p is).1 ∙ file_takes p p.file
 
 is_few : (n size : ℕ) → nat_le n size ≡ true → n ≤ size
 is_few n size is = grind (arith, nat_tests)
@@ -113,28 +103,84 @@ is_few n size is = grind (arith, nat_tests)
 is_many : (n size : ℕ) → nat_le n size ≡ false → size < n
 is_many n size is = grind (arith, nat_tests)
 
-knows : (s : Stored) (f : Progress) (feed : Bool) → s.pending.file ≡ f → has_feed s.pending.rest ≡ feed → (is_open f && (not feed && nat_le (length s.pending.rest) s.sizes.buffer_size)) ≡ false → KnowsNext s
-knows s Closed feed file line fact = NoFile file
-knows s NotBegun true file line fact = HasLine line
-knows s NotBegun false file line fact = TooLong (is_many _ _ fact)
-knows s Begun true file line fact = HasLine line
-knows s Begun false file line fact = TooLong (is_many _ _ fact)
+knows_by : (s : Stored) (ends feed : Bool) → s.pending.ends ≡ ends → has_feed s.pending.rest ≡ feed → (not ends && (not feed && nat_le (length s.pending.rest) s.sizes.buffer_size)) ≡ false → KnowsNext s
+knows_by s true feed over line fact = Ends over
+knows_by s false true over line fact = HasLine line
+knows_by s false false over line fact = TooLong (is_many _ _ fact)
 
-needs : (s : Stored) (f : Progress) (feed : Bool) → ahead_of s.groups.now.categories s.pending ≡ ahead.End → s.pending.file ≡ f → has_feed s.pending.rest ≡ feed → (is_open f && (not feed && nat_le (length s.pending.rest) s.sizes.buffer_size)) ≡ true → NeedsBytes s
-needs s Closed feed end file line fact = cc
-needs s NotBegun true end file line fact = cc
-needs s NotBegun false end file line fact = record { at_file = at_file s.groups.now.categories s.pending end; not_closed = λ e. cc; no_line = line; few = is_few _ _ fact }
-needs s Begun true end file line fact = cc
-needs s Begun false end file line fact = record { at_file = at_file s.groups.now.categories s.pending end; not_closed = λ e. cc; no_line = line; few = is_few _ _ fact }
+needs_by : (s : Stored) (ends feed : Bool) → ahead_of s.groups.now.categories s.pending ≡ ahead.End → s.pending.file ≡ Begun → s.pending.ends ≡ ends → has_feed s.pending.rest ≡ feed → (not ends && (not feed && nat_le (length s.pending.rest) s.sizes.buffer_size)) ≡ true → NeedsBytes s
+needs_by s true feed end file over line fact = cc
+needs_by s false true end file over line fact = cc
+needs_by s false false end file over line fact = record { at_file = at_file s.groups.now.categories s.pending end; not_closed = λ e. cc; goes_on = over; no_line = line; few = is_few _ _ fact }
 
-module _ (h : HeldLists) (b : List ℕ) (f : FileLeft) (s : Stored) (is : stored_of h b f ≡ s) (size : f.buffer_size ≡ h.sizes.buffer_size) where
-  sized : (x : Bool) → lacks_line f ≡ x → (is_open f.file && (not (has_feed f.rest) && nat_le (length f.rest) h.sizes.buffer_size)) ≡ x
-  sized x e = subst (λ (n : ℕ). (is_open f.file && (not (has_feed f.rest) && nat_le (length f.rest) n)) ≡ x) size e
+knows_first_by : (s : Stored) (bytes : List ℕ) (feed : Bool) → s.pending.next ≡ Some bytes → has_feed bytes ≡ feed → (not feed && nat_le (length bytes) s.sizes.buffer_size) ≡ false → KnowsFirst s
+knows_first_by s bytes true is line fact = HasFirstLine bytes is line
+knows_first_by s bytes false is line fact = FirstTooLong bytes is (is_many _ _ fact)
 
+needs_first_by : (s : Stored) (bytes : List ℕ) (feed : Bool) → s.pending.next ≡ Some bytes → has_feed bytes ≡ feed → (not feed && nat_le (length bytes) s.sizes.buffer_size) ≡ true → NeedsFirst s
+needs_first_by s bytes true is line fact = cc
+needs_first_by s bytes false is line fact = record { bytes = bytes; is = is; no_line = line; few = is_few _ _ fact }
+
+-- what is stored, with these files
+abbrev with_files : HeldLists → List ℕ → List FileLeft → Option (List ℕ) → Stored
+with_files h b fs next = stored_of h b (record { files = fs; next = next; buffer_size = 0; levels = 0 })
+
+module _ (h : HeldLists) (b : List ℕ) where
+  knows : (fs : List FileLeft) (next : Option (List ℕ)) → lacks_next fs h.sizes.buffer_size ≡ false → KnowsNext (with_files h b fs next)
+  knows [] next fact = NoFile refl
+  knows (f ∷ fs) next fact = knows_by (with_files h b (f ∷ fs) next) f.ends (has_feed f.rest) refl refl fact
+
+  needs : (fs : List FileLeft) (next : Option (List ℕ)) → ahead_of h.groups.now.categories (pending_of h b fs next) ≡ ahead.End → lacks_next fs h.sizes.buffer_size ≡ true → NeedsBytes (with_files h b fs next)
+  needs [] next end fact = cc
+  needs (f ∷ fs) next end fact = needs_by (with_files h b (f ∷ fs) next) f.ends (has_feed f.rest) end refl refl refl fact
+
+  knows_opened : (fs : List FileLeft) (next : Option (List ℕ)) → lacks_first next h.sizes.buffer_size ≡ false → KnowsFirst (with_files h b fs next)
+  knows_opened fs None fact = NoNext refl
+  knows_opened fs (Some bytes) fact = knows_first_by (with_files h b fs (Some bytes)) bytes (has_feed bytes) refl refl fact
+
+  needs_opened : (fs : List FileLeft) (next : Option (List ℕ)) → lacks_first next h.sizes.buffer_size ≡ true → NeedsFirst (with_files h b fs next)
+  needs_opened fs None fact = cc
+  needs_opened fs (Some bytes) fact = needs_first_by (with_files h b fs (Some bytes)) bytes (has_feed bytes) refl refl fact
+
+module _ (h : HeldLists) (b : List ℕ) (f : FilesLeft) (s : Stored) (is : stored_of h b f ≡ s) (size : f.buffer_size ≡ h.sizes.buffer_size) where
   -- the next line is known, or won't be taken
-  pub knows_next : lacks_line f ≡ false → KnowsNext s
-  knows_next fact = subst KnowsNext is (knows (stored_of h b f) f.file (has_feed f.rest) refl refl (sized false fact))
+  pub knows_next : lacks_next f.files f.buffer_size ≡ false → KnowsNext s
+  knows_next fact = subst KnowsNext is (knows h b f.files f.next (ap (lacks_next f.files) (sym size) ∙ fact))
 
-  pub needs_bytes : ahead_of s.groups.now.categories s.pending ≡ ahead.End → lacks_line f ≡ true → NeedsBytes s
+  pub needs_bytes : ahead_of s.groups.now.categories s.pending ≡ ahead.End → lacks_next f.files f.buffer_size ≡ true → NeedsBytes s
   needs_bytes end fact =
-      subst (λ (v : Stored). ahead_of v.groups.now.categories v.pending ≡ ahead.End → NeedsBytes v) is (λ e. needs (stored_of h b f) f.file (has_feed f.rest) e refl refl (sized true fact)) end
+      subst (λ (v : Stored). ahead_of v.groups.now.categories v.pending ≡ ahead.End → NeedsBytes v) is (λ e. needs h b f.files f.next e (ap (lacks_next f.files) (sym size) ∙ fact)) end
+
+  pub knows_first : lacks_first f.next f.buffer_size ≡ false → KnowsFirst s
+  knows_first fact = subst KnowsFirst is (knows_opened h b f.files f.next (ap (lacks_first f.next) (sym size) ∙ fact))
+
+  pub needs_first : lacks_first f.next f.buffer_size ≡ true → NeedsFirst s
+  needs_first fact = subst NeedsFirst is (needs_opened h b f.files f.next (ap (lacks_first f.next) (sym size) ∙ fact))
+
+-- WHAT THE FILE GIVES
+
+-- a step, of which the file gives this
+abbrev pub GivesStep : Step → Pending → Type 0
+GivesStep step.Nothing p = from_file p p.file ≡ NothingLeft
+GivesStep step.Over p = (from_file p p.file ≡ file_over p) × (p.file ≡ Begun)
+GivesStep step.Line p = (from_file p p.file ≡ line_taken p p.rest) × (p.file ≡ Begun)
+
+begun_step : (p : Pending) (ends : Bool) (rest : List ℕ) → p.file ≡ Begun → p.ends ≡ ends → p.rest ≡ rest → GivesStep (file_step ends rest) p
+begun_step p true rest file over is = (ap (from_file p) file ∙ ap₂ (from_begun p) over is, file)
+begun_step p false [] file over is = (ap (from_file p) file ∙ ap₂ (from_begun p) over is, file)
+begun_step p false (c ∷ cs) file over is = (ap (from_file p) file ∙ ap₂ (from_begun p) over is ∙ ap (line_taken p) (sym is), file)
+
+files_step : (h : HeldLists) (b : List ℕ) (fs : List FileLeft) (next : Option (List ℕ)) → GivesStep (step_of fs) (pending_of h b fs next)
+files_step h b [] next = refl
+files_step h b (f ∷ fs) next = begun_step (pending_of h b (f ∷ fs) next) f.ends f.rest refl refl refl
+
+pub step_gives : (h : HeldLists) (b : List ℕ) (f : FilesLeft) (s : Stored) (x : Step) → stored_of h b f ≡ s → x ≡ step_of f.files → GivesStep x s.pending
+step_gives h b f s x is same = subst (λ (y : Step). GivesStep y s.pending) (sym same) (subst (λ (v : Stored). GivesStep (step_of f.files) v.pending) is (files_step h b f.files f.next))
+
+step_ready : (p : Pending) (x : Step) → GivesStep x p → is_line x ≡ gives_step (from_file p p.file)
+step_ready p step.Nothing gives = sym (ap gives_step gives)
+step_ready p step.Over gives = sym (ap gives_step gives.0)
+step_ready p step.Line gives = sym (ap gives_step gives.0)
+
+pub ready_is : (h : HeldLists) (b : List ℕ) (f : FilesLeft) (s : Stored) → stored_of h b f ≡ s → is_line (step_of f.files) ≡ gives_step (from_file s.pending s.pending.file)
+ready_is h b f s is = step_ready s.pending (step_of f.files) (step_gives h b f s (step_of f.files) is refl)

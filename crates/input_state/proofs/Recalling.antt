@@ -30,12 +30,13 @@ use Rattle.input_state.specs.Recalls.{Recalls}
 use Rattle.input_state.specs.Callings.{call_lists}
 use Rattle.input_state.proofs.Words.{words_are}
 use Rattle.input_state.proofs.Growing.{words_recalled}
-use Rattle.input_state.specs.HeldLists.{HeldLists, words_held}
+use Rattle.input_state.specs.HeldLists.{HeldLists, puts_held, words_held}
+use Rattle.input_state.proofs.Sources.{all_fronts}
 use Rattle.input_state.specs.Macros.{KeepsLists}
 use Rattle.input_state.specs.Callings.{NotCalling}
 use Rattle.input_state.specs.declared.gathering.Gathering as code
 use Rattle.input_state.specs.declared.gathering.Gathering.TheVariants as call
-use Rattle.input_state.specs.HeldViews.{named, call_holds, calling_of, IsCall, texts, fronts, line_of, lists_of, all_builds, built, owns, bodies, cells_of, IsSimple, IsApart, IsDefined, IsShared, IsSound}
+use Rattle.input_state.specs.HeldViews.{named, call_holds, calling_of, IsCall, texts, fronts, covers, lists_of, all_builds, built, owns, bodies, cells_of, puts_in, AreFronts, IsApart, IsDefined, IsShared, IsSound}
 use Rattle.input_state.proofs.Shares.{held_parts}
 use Rattle.input_state.proofs.Sharing.{Reheld, reheld, keeps_lists}
 use Rattle.input_state.proofs.ListViews.{same_held}
@@ -51,10 +52,10 @@ module _ (old new : List (Option Entry)) (s : InputStack) (making : Option Build
   recalled_stand = others s old new (call_holds k) (call_holds l) sound.shared.stands (λ h. omega (arith, sound.shared.counted h)) moves keeps
 
   -- no other part holds a list that is new
-  unheld : (h : ℕ) → holders_at old h ≤ 0 → (built (all_builds making gathered) h + (times h (owns (pending old s).puts) + times h (bodies (pending old s).puts)) ≡ 0) × (eqtb.held m h ≡ 0)
-  unheld h free = (omega (arith, free, sound.shared.counted h, held_parts old s sound.shared.simple.single h), omega (arith, free, sound.shared.counted h))
+  unheld : (h : ℕ) → holders_at old h ≤ 0 → (built (all_builds making gathered) h + (times h (owns (puts_in (pending old s))) + times h (bodies (puts_in (pending old s)))) ≡ 0) × (eqtb.held m h ≡ 0)
+  unheld h free = (omega (arith, free, sound.shared.counted h, held_parts old s h), omega (arith, free, sound.shared.counted h))
 
-  apart_now : IsApart (pending old s).puts (all_builds making gathered) (named m l)
+  apart_now : IsApart (puts_in (pending old s)) (all_builds making gathered) (named m l)
   apart_now = record {
     sole = λ h. elim (cases_lt 0 (holders_at old h)) [
       | inl some ↦ omega (arith, sound.shared.apart.sole h, gains.others h some)
@@ -72,9 +73,9 @@ module _ (old new : List (Option Entry)) (s : InputStack) (making : Option Build
   pub reheld_now : Reheld old new s (named m l) (all_builds making gathered)
   reheld_now =
       reheld old new s s (named m k) (named m l) [] (all_builds making gathered) sound.shared (λ h. omega (arith, moves h)) recalled_stand.0
-      (subst (λ (p : Pending). IsSimple p) (sym recalled_stand.1) sound.shared.simple)
-      (subst (λ (p : Pending). IsApart p.puts (all_builds making gathered) (named m l)) (sym recalled_stand.1) apart_now)
-      (λ h some. sound.shared.listed h (subst (λ (p : Pending). 0 < times h (cells_of p.puts)) recalled_stand.1 some))
+      (subst (λ (p : Pending). AreFronts (puts_in p)) (sym recalled_stand.1) sound.shared.fronts)
+      (subst (λ (p : Pending). IsApart (puts_in p) (all_builds making gathered) (named m l)) (sym recalled_stand.1) apart_now)
+      (λ h some. sound.shared.listed h (subst (λ (p : Pending). 0 < times h (cells_of (puts_in p))) recalled_stand.1 some))
       (record { tokens = λ h l. keeps.tokens h (omega (arith, l)); places = λ h l. keeps.places h (omega (arith, l)) })
       (λ h some. keeps.tokens h (shared_more h some))
       (λ h some. subst IsDefined (sym (keeps.tokens h (shared_more h (omega (arith, some))))) (sound.shared.macros h some))
@@ -94,12 +95,12 @@ module _ (old new : List (Option Entry)) (s : InputStack) (making : Option Build
   }
 
   module _ (v : HeldLists) (is : lists_of old (pending old s) making gathered (named m k) sizes ≡ v) where
-    pub recalled_macros : KeepsLists (lists_held m.groups) (fronts new (pending new s).puts) v.lists (texts new)
-    recalled_macros = subst (λ (w : HeldLists). KeepsLists (lists_held m.groups) (fronts new (pending new s).puts) w.lists (texts new)) is (keeps_lists old new new new s m reheld_now.shared.simple.single reheld_now.kept)
+    pub recalled_macros : KeepsLists (lists_held m.groups) (all_fronts new (pending new s)) v.lists (texts new)
+    recalled_macros = subst (λ (w : HeldLists). KeepsLists (lists_held m.groups) (all_fronts new (pending new s)) w.lists (texts new)) is (keeps_lists old new new new s m reheld_now.kept)
 
     pub recalled_view : lists_of new (pending new s) making gathered (named m l) sizes ≡ record v { call = calling_of new l; lists = texts new }
     recalled_view =
-        same_held old new making gathered (fronts new (pending new s).puts) (fronts old (pending new s).puts) (calling_of new l) (line_of (pending new s).sources) m sizes (texts new) reheld_now.in_front reheld_now.texts
+        same_held old new making gathered (fronts new (pending new s).puts) (fronts old (pending new s).puts) (calling_of new l) (covers new (pending new s).sources) (covers old (pending new s).sources) m sizes (texts new) reheld_now.in_front reheld_now.beneath reheld_now.texts
         ∙ ap (λ (p : Pending). record (lists_of old p making gathered (named m k) sizes) { call = calling_of new l; lists = texts new }) recalled_stand.1
         ∙ ap (λ (w : HeldLists). record w { call = calling_of new l; lists = texts new }) is
 
@@ -121,15 +122,15 @@ module _ (old new : List (Option Entry)) (s : InputStack) (making : Option Build
     pub recalls_others : lists_of new (pending new s) making gathered (named m n) sizes ≡ record v { call = calling_of new n; lists = texts new }
     recalls_others = recalled_view old new s making gathered m k n sizes capacity sound both.moves both.keeps both.gains both.size v is
 
-    pub recalls_macros : KeepsLists (lists_held m.groups) (fronts new (pending new s).puts) v.lists (texts new)
+    pub recalls_macros : KeepsLists (lists_held m.groups) (all_fronts new (pending new s)) v.lists (texts new)
     recalls_macros = recalled_macros old new s making gathered m k n sizes capacity sound both.moves both.keeps both.gains both.size v is
 
     -- what was used, and what the call takes now
     pub recalls_words : words new + lists_words (call_lists v.call) ≡ words_held v + lists_words (call_lists (calling_of new l))
     recalls_words =
-        let puts : fronts new (pending new s).puts ≡ v.puts = ap (λ (w : HeldLists). w.puts) recalls_view in
+        let puts : all_fronts new (pending new s) ≡ puts_held v = ap puts_held recalls_view in
         let groups : m.groups ≡ v.groups = ap (λ (w : HeldLists). w.groups) is in
-        let keeps : KeepsLists (lists_held v.groups) v.puts v.lists (texts new) = subst (λ (ps : List plain.Put). KeepsLists (lists_held v.groups) ps v.lists (texts new)) puts (subst (λ (g : Groups). KeepsLists (lists_held g) (fronts new (pending new s).puts) v.lists (texts new)) groups recalls_macros) in
+        let keeps : KeepsLists (lists_held v.groups) (puts_held v) v.lists (texts new) = subst (λ (ps : List plain.Put). KeepsLists (lists_held v.groups) ps v.lists (texts new)) puts (subst (λ (g : Groups). KeepsLists (lists_held g) (all_fronts new (pending new s)) v.lists (texts new)) groups recalls_macros) in
         let lists : texts old ≡ v.lists = ap (λ (w : HeldLists). w.lists) is in
         let count : length (texts new) ≡ length v.lists = length-map new tokens_of ∙ both.size ∙ sym (length-map old tokens_of) ∙ ap length lists in
         let all = words_recalled v (calling_of new l) (texts new) keeps count in
@@ -149,7 +150,7 @@ module _ (old new : List (Option Entry)) (s : InputStack) (making : Option Build
     pub dropped_view : lists_of new (pending new s) making gathered (named m l) sizes ≡ record v { call = NotCalling; lists = texts new }
     dropped_view = ap (λ (j : code.Gathering). lists_of new (pending new s) making gathered (named m j) sizes) dropped ∙ recalled_view old new s making gathered m k call.None sizes capacity sound moves keeps none_gained size v is
 
-    pub dropped_macros : KeepsLists (lists_held m.groups) (fronts new (pending new s).puts) v.lists (texts new)
+    pub dropped_macros : KeepsLists (lists_held m.groups) (all_fronts new (pending new s)) v.lists (texts new)
     dropped_macros = recalled_macros old new s making gathered m k call.None sizes capacity sound moves keeps none_gained size v is
 
 -- A SCANNER'S LISTS MAY GO
@@ -175,7 +176,7 @@ pub enter_sound : (table : List (Option Entry)) (s : InputStack) (making : Optio
 enter_sound table s making gathered m n k sizes capacity sound after same = record {
   shared = record {
     stands = sound.shared.stands;
-    simple = sound.shared.simple;
+    fronts = sound.shared.fronts;
     building = sound.shared.building;
     counted = λ h. omega (arith, sound.shared.counted h, same h);
     apart = record {

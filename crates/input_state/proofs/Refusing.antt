@@ -1,12 +1,14 @@
 -- Where a table has no room.
-use Rattle.std.proofs.Common.{◌≡◌, ℕ, ◌+◌, ◌<◌, ◌≤◌, List, [], ◌∷◌, length, Option, None, Some, Bool, true, false, cond, refl, sym, ap, ◌∙◌, arith}
+use Rattle.std.proofs.Common.{◌≡◌, ℕ, ◌+◌, ◌<◌, ◌≤◌, List, [], ◌∷◌, length, Option, None, Some, Bool, true, false, cond, refl, sym, ap, ap₂, ◌∙◌, arith}
 use Rattle.std.specs.Prelude.{nat_le, nat_lt, if◌then◌else◌}
 use Rattle.std.proofs.lemmas.Bool.Decides.{nat_tests}
+use Rattle.std.proofs.lemmas.Option.{none-some}
 use Rattle.tex_defs.specs.declared.Table.{Table}
-use Rattle.tex_defs.specs.declared.Table.TheVariants.{MainMemorySize, InputStackSize}
+use Rattle.tex_defs.specs.declared.Table.TheVariants.{MainMemorySize, InputStackSize, BufferSize, TextInputLevels}
 use Rattle.tex_defs.specs.declared.Full.{Full}
 use Rattle.tex_defs.specs.declared.Sizes.{Sizes}
-use Rattle.plain_tokens.specs.Tables.{memory, refused, full}
+use Rattle.plain_tokens.specs.Pending.{Pending}
+use Rattle.plain_tokens.specs.Tables.{Demand, memory, buffer, open_files, text_level, refused, full}
 use Rattle.token_lists.specs.Table.{Entry, words}
 use Rattle.token_lists.specs.Refusals.{IsFull}
 use Rattle.input_stack.specs.Pending.{room, levels_full}
@@ -46,3 +48,43 @@ levels_refused sizes used n size same is =
     ∙ ap (λ (k : ℕ). room sizes.input_stack_size k) same
     ∙ ap (λ (b : Bool). cond b None (Some (levels_full n sizes.input_stack_size))) (less_test n sizes.input_stack_size)
     ∙ room_by (nat_le (n + 1) sizes.input_stack_size) n sizes.input_stack_size
+
+-- BUFFER
+
+module _ (sizes : Sizes) (used need : ℕ) (ds : List Demand) where
+  by_room : (b : Bool) → nat_le (used + need) sizes.buffer_size ≡ b → refused sizes (buffer need used ∷ ds) ≡ (if b then refused sizes ds else Some (full sizes (buffer need used)))
+  by_room b is = ap (λ (c : Bool). if c then refused sizes ds else Some (full sizes (buffer need used))) is
+
+  pub buffer_fits : used + need ≤ sizes.buffer_size → refused sizes (buffer need used ∷ ds) ≡ refused sizes ds
+  buffer_fits fits = by_room true (le_test (used + need) sizes.buffer_size fits)
+
+  pub buffer_full : sizes.buffer_size < used + need → refused sizes (buffer need used ∷ ds) ≡ Some (record { table = BufferSize; used = used; size = sizes.buffer_size })
+  buffer_full over = by_room false (gt_test (used + need) sizes.buffer_size over)
+
+-- FILES
+
+is_few : (m n : ℕ) → nat_le m n ≡ true → m ≤ n
+is_few m n is = grind (arith, nat_tests)
+
+abbrev files_full : Sizes → ℕ → Full
+files_full sizes used = record { table = TextInputLevels; used = used; size = sizes.text_input_levels }
+
+by_levels : (sizes : Sizes) (p : Pending) (b : Bool) → nat_le (open_files p + 1) sizes.text_input_levels ≡ b → refused sizes (text_level p ∷ []) ≡ (if b then None else Some (files_full sizes (open_files p)))
+by_levels sizes p b is = ap (λ (c : Bool). if c then None else Some (files_full sizes (open_files p))) is
+
+pub file_fits : (sizes : Sizes) (p : Pending) → open_files p < sizes.text_input_levels → None ≡ refused sizes (text_level p ∷ [])
+file_fits sizes p below = sym (by_levels sizes p true (le_test (open_files p + 1) sizes.text_input_levels (omega (arith, below))))
+
+pub file_full : (sizes : Sizes) (p : Pending) (used size : ℕ) → used ≡ open_files p → size ≡ sizes.text_input_levels → size ≤ used → Some (record { table = TextInputLevels; used = used; size = size }) ≡ refused sizes (text_level p ∷ [])
+file_full sizes p used size is same over =
+    ap₂ (λ (m n : ℕ). let f : Full = record { table = TextInputLevels; used = m; size = n } in Some f) is same
+    ∙ sym (by_levels sizes p false (gt_test (open_files p + 1) sizes.text_input_levels (omega (arith, over, is, same))))
+
+fits_by : (b : Bool) (m n : ℕ) (f : Full) → nat_le m n ≡ b → ◌≡◌ {A = Option Full} (if b then None else Some f) None → m ≤ n
+fits_by true m n f is none = is_few m n is
+fits_by false m n f is none = absurd (none-some f (sym none))
+
+pub file_below : (sizes : Sizes) (p : Pending) → refused sizes (text_level p ∷ []) ≡ None → open_files p < sizes.text_input_levels
+file_below sizes p none =
+    let within : open_files p + 1 ≤ sizes.text_input_levels = fits_by (nat_le (open_files p + 1) sizes.text_input_levels) (open_files p + 1) sizes.text_input_levels (files_full sizes (open_files p)) refl none in
+    omega (arith, within)

@@ -10,14 +10,15 @@ use Rattle.equivalents.specs.Holding.{lists_held}
 use Rattle.eqtb_save.specs.Table.{Table}
 use Rattle.eqtb_save.specs.Holding as eqtb
 use Rattle.input_stack.specs.Puts.{Put, Item, numbers, lists_of, settled, settled_top, pulled, pulled_top, without_gaps, put_in_front, put_top}
-use Rattle.input_stack.specs.Pending.{Below, times, lists_in, lists_below}
+use Rattle.input_stack.specs.Pending.{Pending, times, lists_in, settle, put}
 use Rattle.input_stack.specs.View.{pending, held, innermost}
 use Rattle.input_stack.specs.declared.stack.InputStack.{InputStack}
 use Rattle.input_stack.proofs.Helds.{held_puts}
 use Rattle.token_lists.specs.declared.Build.{Build}
 use Rattle.input_state.specs.Macros.{is_shared}
-use Rattle.input_state.specs.HeldViews.{Named, front, fronts, whole_of, own_of, owns, body_of, bodies, cells_of, opens, IsSingle, IsApart}
+use Rattle.input_state.specs.HeldViews.{Named, front, fronts, whole_of, own_of, owns, body_of, bodies, cells_of, opens, puts_below, puts_in, IsApart}
 use Rattle.input_state.proofs.Counting.{some, bit, or_some, times_cons, times_append}
+use Rattle.input_state.proofs.Sources.{held_in_all}
 
 -- PARTS
 
@@ -37,16 +38,24 @@ parts_in [] h = refl
 parts_in (p ∷ ps) h =
     omega (arith, parts_in ps h, parts_of p h, times_append h (lists_of p) (lists_in ps), times_append h (own_of p.body p.list (numbers p.arguments)) (owns ps), times_append h (body_of p.body p.list) (bodies ps), times_append h (numbers (p.reading ∷ [])) (opens ps))
 
-pub none_below : (bs : List Below) → IsSingle bs → lists_below bs ≡ []
-none_below [] single = refl
-none_below (b ∷ []) single = ap (λ (ps : List Put). lists_in ps ++ []) single
-none_below (b ∷ c ∷ bs) single = absurd single
+pub held_parts : (table : List (Option Entry)) (stack : InputStack) (h : ℕ) → held stack h ≡ times h (owns (puts_in (pending table stack))) + (times h (bodies (puts_in (pending table stack))) + times h (opens (puts_in (pending table stack))))
+held_parts table stack h = omega (arith, held_puts table (innermost stack) h, held_in_all h (pending table stack), parts_in (puts_in (pending table stack)) h)
 
-pub held_parts : (table : List (Option Entry)) (stack : InputStack) → IsSingle (pending table stack).sources → (h : ℕ) → held stack h ≡ times h (owns (pending table stack).puts) + (times h (bodies (pending table stack).puts) + times h (opens (pending table stack).puts))
-held_parts table stack single h =
-    let q = pending table stack in
-    let none : times h (lists_below q.sources) ≡ 0 = ap (times h) (none_below q.sources single) in
-    omega (arith, held_puts table (innermost stack) h, times_append h (lists_in q.puts) (lists_below q.sources), none, parts_in q.puts h)
+-- SOME LISTS BEFORE OTHERS
+
+pub owns_append : (h : ℕ) (ps qs : List Put) → times h (owns (ps ++ qs)) ≡ times h (owns ps) + times h (owns qs)
+owns_append h [] qs = omega arith
+owns_append h (p ∷ ps) qs =
+    let here = own_of p.body p.list (numbers p.arguments) in
+    omega (arith, owns_append h ps qs, times_append h here (owns (ps ++ qs)), times_append h here (owns ps))
+
+pub bodies_append : (h : ℕ) (ps qs : List Put) → times h (bodies (ps ++ qs)) ≡ times h (bodies ps) + times h (bodies qs)
+bodies_append h [] qs = omega arith
+bodies_append h (p ∷ ps) qs = omega (arith, bodies_append h ps qs, times_append h (body_of p.body p.list) (bodies (ps ++ qs)), times_append h (body_of p.body p.list) (bodies ps))
+
+pub cells_append : (h : ℕ) (ps qs : List Put) → times h (cells_of (ps ++ qs)) ≡ times h (cells_of ps) + times h (cells_of qs)
+cells_append h [] qs = omega arith
+cells_append h (p ∷ ps) qs = omega (arith, cells_append h ps qs, times_append h (numbers p.arguments) (cells_of (ps ++ qs)), times_append h (numbers p.arguments) (cells_of ps))
 
 -- FEWER LISTS IN FRONT
 
@@ -103,6 +112,20 @@ put_fewer p (x ∷ xs) ps =
 
 pub fewer_put : (p : Put) (ps : List Put) → Fewer (put_in_front p ps) (p ∷ ps)
 fewer_put p ps = put_fewer p p.items ps
+
+pub fewer_behind : (ps qs rs : List Put) → Fewer ps qs → Fewer (ps ++ rs) (qs ++ rs)
+fewer_behind ps qs rs f = record {
+  owns = λ h. omega (arith, f.owns h, owns_append h ps rs, owns_append h qs rs);
+  bodies = λ h. omega (arith, f.bodies h, bodies_append h ps rs, bodies_append h qs rs);
+  cells = λ h. omega (arith, f.cells h, cells_append h ps rs, cells_append h qs rs);
+}
+
+-- in front of all lines
+pub fewer_settle : (p : Pending) → Fewer (puts_in (settle p)) (puts_in p)
+fewer_settle p = fewer_behind (settled p.puts) p.puts (puts_below p.sources) (fewer_settled p.puts)
+
+pub fewer_put_in : (x : Put) (p : Pending) → Fewer (puts_in (put x p)) (x ∷ puts_in p)
+fewer_put_in x p = fewer_behind (put_in_front x p.puts) (x ∷ p.puts) (puts_below p.sources) (fewer_put x p.puts)
 
 -- MACROS
 

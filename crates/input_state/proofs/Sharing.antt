@@ -7,6 +7,7 @@ use Rattle.std.proofs.lemmas.List.Elements.{All-append, All-head, All-tail, All-
 use Rattle.std.proofs.lemmas.List.Sums.{sum_by-cons, sum_by-append}
 use Rattle.tex_defs.specs.declared.Token.{Token}
 use Rattle.plain_tokens.specs.Meanings.{is_listed}
+use Rattle.plain_tokens.specs.Puts as plain
 use Rattle.token_lists.specs.declared.Build.{Build}
 use Rattle.token_lists.specs.Ids.{build_id, IsBuilding}
 use Rattle.token_lists.specs.Table.{Entry, entry_at, tokens_at, tokens_of, places_at, places_of, holders_at, holders_of, last_or}
@@ -22,10 +23,11 @@ use Rattle.input_stack.proofs.Helds.{others}
 use Rattle.input_stack.proofs.Kept.{holds_itself}
 use Rattle.input_state.specs.Changes.{IsOnly}
 use Rattle.input_state.specs.Macros.{list_at, is_shared, KeepsLists}
-use Rattle.input_state.specs.HeldViews.{Named, call_holds, names_hold, fronts, text, texts, built, owns, bodies, cells_of, IsSingle, IsSimple, IsApart, IsDefined, IsShared}
+use Rattle.input_state.specs.HeldViews.{Named, call_holds, names_hold, fronts, text, texts, built, owns, bodies, cells_of, covers, puts_in, AreFronts, IsApart, IsDefined, IsShared}
 use Rattle.input_state.proofs.Counting.{some, one_some}
 use Rattle.input_state.proofs.Shares.{held_parts, listed_once, macro_once}
-use Rattle.input_state.proofs.Levels.{no_opens, cells_owned, fronts_stay}
+use Rattle.input_state.proofs.Levels.{no_opens, cells_owned, all_stay}
+use Rattle.input_state.proofs.Sources.{all_fronts, fronts_in}
 
 -- the lists that are held so often are as they were
 pub record Stay (old new : List (Option Entry)) (f : ℕ → ℕ) : Type 0 where
@@ -101,20 +103,20 @@ only_keeps old new id f only mine =
 -- WHAT IS HELD
 
 -- nothing but the levels and the builds holds a list that one of these has for itself
-pub own_alone : (table : List (Option Entry)) (stack : InputStack) (bs : List Build) (m : Named) → IsSimple (pending table stack) → IsApart (pending table stack).puts bs m → (h : ℕ) → 0 < built bs h + call_holds m.call h →
+pub own_alone : (table : List (Option Entry)) (stack : InputStack) (bs : List Build) (m : Named) → AreFronts (puts_in (pending table stack)) → IsApart (puts_in (pending table stack)) bs m → (h : ℕ) → 0 < built bs h + call_holds m.call h →
     (built bs h + call_holds m.call h ≡ 1) × (held stack h ≡ 0) × (eqtb.held m.table h ≡ 0)
 own_alone table stack bs m simple a h some =
-    let ps = (pending table stack).puts in
+    let ps = puts_in (pending table stack) in
     let none = a.apart h (omega (arith, some)) in
-    (omega (arith, a.sole h, some), omega (arith, held_parts table stack simple.single h, no_opens ps simple.fronts h (omega (arith, a.sole h, some)), a.sole h, some, none), omega (arith, none))
+    (omega (arith, a.sole h, some), omega (arith, held_parts table stack h, no_opens ps simple h (omega (arith, a.sole h, some)), a.sole h, some, none), omega (arith, none))
 
 -- a list that is shared is held
-pub macro_held : (table t : List (Option Entry)) (stack : InputStack) (m : Table) → IsSingle (pending table stack).sources → (id : ℕ) → is_shared id (lists_held m.groups) (fronts t (pending table stack).puts) ≡ true → 0 < held stack id + eqtb.held m id
-macro_held table t stack m single id is =
-    let ps = (pending table stack).puts in
+pub macro_held : (table t : List (Option Entry)) (stack : InputStack) (m : Table) → (id : ℕ) → is_shared id (lists_held m.groups) (all_fronts t (pending table stack)) ≡ true → 0 < held stack id + eqtb.held m id
+macro_held table t stack m id is =
+    let ps = puts_in (pending table stack) in
     let here = macro_once t m ps id in
-    let one : some (eqtb.held m id + times id (bodies ps)) ≡ 1 = sym here ∙ ap (λ (b : Bool). cond b 1 0) is in
-    omega (arith, one_some _ one, held_parts table stack single id)
+    let one : some (eqtb.held m id + times id (bodies ps)) ≡ 1 = sym here ∙ ap (λ (qs : List plain.Put). cond (is_shared id (lists_held m.groups) qs) 1 0) (fronts_in t (pending table stack)) ∙ ap (λ (b : Bool). cond b 1 0) is in
+    omega (arith, one_some _ one, held_parts table stack id)
 
 -- a list by its number
 pub text_at : (table : List (Option Entry)) (id : ℕ) → list_at (texts table) id ≡ tokens_at table id
@@ -122,8 +124,8 @@ text_at [] id = refl
 text_at (o ∷ os) zero = refl
 text_at (o ∷ os) (suc id) = text_at os id
 
-pub keeps_lists : (old new table t : List (Option Entry)) (stack : InputStack) (m : Table) → IsSingle (pending table stack).sources → ((h : ℕ) → 0 < held stack h + eqtb.held m h → tokens_at new h ≡ tokens_at old h) → KeepsLists (lists_held m.groups) (fronts t (pending table stack).puts) (texts old) (texts new)
-keeps_lists old new table t stack m single same = record { tokens = λ id is. text_at new id ∙ same id (macro_held table t stack m single id is) ∙ sym (text_at old id) }
+pub keeps_lists : (old new table t : List (Option Entry)) (stack : InputStack) (m : Table) → ((h : ℕ) → 0 < held stack h + eqtb.held m h → tokens_at new h ≡ tokens_at old h) → KeepsLists (lists_held m.groups) (all_fronts t (pending table stack)) (texts old) (texts new)
+keeps_lists old new table t stack m same = record { tokens = λ id is. text_at new id ∙ same id (macro_held table t stack m id is) ∙ sym (text_at old id) }
 
 -- each macro's list is one
 pub macros_defined : (table : List (Option Entry)) (stack : InputStack) (bs : List Build) (m : Named) → IsShared table stack bs m → (id : ℕ) → is_listed (lists_held m.table.groups) id ≡ true → IsDefined (list_at (texts table) id)
@@ -138,6 +140,7 @@ pub record Changed (old new : List (Option Entry)) (stack : InputStack) (m : Nam
   pub shared : IsShared new stack (xs ++ (zs ++ ys)) m
   pub still : pending new stack ≡ pending old stack
   pub in_front : fronts new (pending old stack).puts ≡ fronts old (pending old stack).puts
+  pub beneath : covers new (pending old stack).sources ≡ covers old (pending old stack).sources
   pub before : map (text new) xs ≡ map (text old) xs
   pub behind : map (text new) ys ≡ map (text old) ys
   pub stays : Stay old new (λ h. held stack h + names_hold m h)
@@ -181,39 +184,43 @@ module _ (old new : List (Option Entry)) (stack : InputStack) (m : Named) (xs zs
   same_builds : (h : ℕ) → (h ≡ id → ⊥) → built us h ≡ built zs h
   same_builds h ne = omega (arith, moves h, ap holders_of (only.apart h ne))
 
-  one_place : (h : ℕ) → times h (owns (pending old stack).puts) + (built (xs ++ (us ++ ys)) h + call_holds m.call h) ≤ 1
+  one_place : (h : ℕ) → times h (owns (puts_in (pending old stack))) + (built (xs ++ (us ++ ys)) h + call_holds m.call h) ≤ 1
   unfolding rest
   one_place h = elim (cases_eq h id) [
     | inl is ↦
-        let here : times id (owns (pending old stack).puts) + (built (xs ++ (us ++ ys)) id + call_holds m.call id) ≤ 1 = omega (arith, apart, sole, moves id, mine, parts us id, held_parts old stack shared.simple.single id) in
-        subst (λ (k : ℕ). times k (owns (pending old stack).puts) + (built (xs ++ (us ++ ys)) k + call_holds m.call k) ≤ 1) (sym is) here
+        let here : times id (owns (puts_in (pending old stack))) + (built (xs ++ (us ++ ys)) id + call_holds m.call id) ≤ 1 = omega (arith, apart, sole, moves id, mine, parts us id, held_parts old stack id) in
+        subst (λ (k : ℕ). times k (owns (puts_in (pending old stack))) + (built (xs ++ (us ++ ys)) k + call_holds m.call k) ≤ 1) (sym is) here
     | inr other ↦ omega (arith, shared.apart.sole h, same_builds h other, parts us h, parts zs h)
   ]
 
-  no_macro : (h : ℕ) → 0 < times h (owns (pending old stack).puts) + (built (xs ++ (us ++ ys)) h + call_holds m.call h) → times h (bodies (pending old stack).puts) + eqtb.held m.table h ≡ 0
+  no_macro : (h : ℕ) → 0 < times h (owns (puts_in (pending old stack))) + (built (xs ++ (us ++ ys)) h + call_holds m.call h) → times h (bodies (puts_in (pending old stack))) + eqtb.held m.table h ≡ 0
   unfolding rest
   no_macro h more = elim (cases_eq h id) [
     | inl is ↦
-        let here : times id (bodies (pending old stack).puts) + eqtb.held m.table id ≡ 0 = omega (arith, apart, held_parts old stack shared.simple.single id) in
-        subst (λ (k : ℕ). times k (bodies (pending old stack).puts) + eqtb.held m.table k ≡ 0) (sym is) here
+        let here : times id (bodies (puts_in (pending old stack))) + eqtb.held m.table id ≡ 0 = omega (arith, apart, held_parts old stack id) in
+        subst (λ (k : ℕ). times k (bodies (puts_in (pending old stack))) + eqtb.held m.table k ≡ 0) (sym is) here
     | inr other ↦ shared.apart.apart h (omega (arith, more, same_builds h other, parts us h, parts zs h))
   ]
+
+  still_front : (fronts new (pending old stack).puts ≡ fronts old (pending old stack).puts) × (covers new (pending old stack).sources ≡ covers old (pending old stack).sources)
+  still_front = all_stay old new (pending old stack) (λ h some. held_stays.tokens h (omega (arith, some, held_parts old stack h)))
 
   pub changed : Changed old new stack m xs us ys
   changed = record {
     shared = record {
       stands = stand.0;
-      simple = subst (λ (p : Pending). IsSimple p) (sym stand.1) shared.simple;
+      fronts = subst (λ (p : Pending). AreFronts (puts_in p)) (sym stand.1) shared.fronts;
       building = now_building;
       counted = λ h. omega (arith, shared.counted h, moves h, parts zs h, parts us h);
-      apart = subst (λ (p : Pending). IsApart p.puts (xs ++ (us ++ ys)) m) (sym stand.1) (record { sole = one_place; apart = no_macro });
+      apart = subst (λ (p : Pending). IsApart (puts_in p) (xs ++ (us ++ ys)) m) (sym stand.1) (record { sole = one_place; apart = no_macro });
       macros = λ h some. subst IsDefined (sym (held_stays.tokens h (omega (arith, some)))) (shared.macros h some);
       listed = λ h some.
-          let here : 0 < times h (cells_of (pending old stack).puts) = subst (λ (p : Pending). 0 < times h (cells_of p.puts)) stand.1 some in
-          subst (λ (ts : List Token). 0 < length ts) (sym (held_stays.tokens h (omega (arith, here, cells_owned (pending old stack).puts h, held_parts old stack shared.simple.single h)))) (shared.listed h here);
+          let here : 0 < times h (cells_of (puts_in (pending old stack))) = subst (λ (p : Pending). 0 < times h (cells_of (puts_in p))) stand.1 some in
+          subst (λ (ts : List Token). 0 < length ts) (sym (held_stays.tokens h (omega (arith, here, cells_owned (puts_in (pending old stack)) h, held_parts old stack h)))) (shared.listed h here);
     };
     still = stand.1;
-    in_front = fronts_stay old new (pending old stack).puts (λ h some. held_stays.tokens h (omega (arith, some, held_parts old stack shared.simple.single h)));
+    in_front = still_front.0;
+    beneath = still_front.1;
     before = texts_stay old new xs before_stays;
     behind = texts_stay old new ys behind_stays;
     stays = held_stays;
@@ -225,6 +232,7 @@ module _ (old new : List (Option Entry)) (stack : InputStack) (m : Named) (xs zs
 pub record Reheld (old new : List (Option Entry)) (t : InputStack) (m : Named) (bs : List Build) : Type 0 where
   pub shared : IsShared new t bs m
   pub in_front : fronts new (pending new t).puts ≡ fronts old (pending new t).puts
+  pub beneath : covers new (pending new t).sources ≡ covers old (pending new t).sources
   pub texts : map (text new) bs ≡ map (text old) bs
   pub kept : (h : ℕ) → 0 < held t h + eqtb.held m.table h → tokens_at new h ≡ tokens_at old h
 
@@ -237,22 +245,22 @@ module _ (old new : List (Option Entry)) (s t : InputStack) (m n : Named) (zs bs
   pub counted_now : (h : ℕ) → holders_at new h ≡ held t h + (built bs h + names_hold n h)
   counted_now h = omega (arith, shared.counted h, moves h, built_append zs bs h)
 
-  module _ (stands : Stands new t) (simple : IsSimple (pending new t)) (apart : IsApart (pending new t).puts bs n) where
+  module _ (stands : Stands new t) (simple : AreFronts (puts_in (pending new t))) (apart : IsApart (puts_in (pending new t)) bs n) where
     -- a list that is being built has that one holder, before and now
     alone : (h : ℕ) → 0 < built bs h → (holders_at old h ≡ 1) × (holders_at new h ≡ 1) × (built zs h + (held s h + names_hold m h) ≡ 0)
     alone h some =
-        let was = own_alone old s (zs ++ bs) m shared.simple shared.apart h (omega (arith, some, built_append zs bs h)) in
+        let was = own_alone old s (zs ++ bs) m shared.fronts shared.apart h (omega (arith, some, built_append zs bs h)) in
         let now = own_alone new t bs n simple apart h (omega (arith, some)) in
         (omega (arith, was.0, was.1, was.2, shared.counted h), omega (arith, now.0, now.1, now.2, counted_now h), omega (arith, was.0, was.1, was.2, some, built_append zs bs h))
 
     -- so has a list of the call, if that is as it was
     pub call_alone : (h : ℕ) → call_holds n.call h ≡ call_holds m.call h → 0 < call_holds n.call h → (holders_at old h ≡ 1) × (holders_at new h ≡ 1) × (built zs h + (held s h + eqtb.held m.table h) ≡ 0)
     call_alone h same some =
-        let was = own_alone old s (zs ++ bs) m shared.simple shared.apart h (omega (arith, some, same)) in
+        let was = own_alone old s (zs ++ bs) m shared.fronts shared.apart h (omega (arith, some, same)) in
         let now = own_alone new t bs n simple apart h (omega (arith, some)) in
         (omega (arith, was.0, was.1, was.2, shared.counted h), omega (arith, now.0, now.1, now.2, counted_now h), omega (arith, was.0, was.1, was.2, some, same, built_append zs bs h))
 
-    module _ (listed : (h : ℕ) → 0 < times h (cells_of (pending new t).puts) → 0 < length (tokens_at old h)) (keeps : Keeps old new (λ h. built zs h + (held s h + names_hold m h))) (lasts : (h : ℕ) → 0 < held t h + eqtb.held n.table h → tokens_at new h ≡ tokens_at old h) (macros : (h : ℕ) → 0 < eqtb.held n.table h → IsDefined (tokens_at new h)) where
+    module _ (listed : (h : ℕ) → 0 < times h (cells_of (puts_in (pending new t))) → 0 < length (tokens_at old h)) (keeps : Keeps old new (λ h. built zs h + (held s h + names_hold m h))) (lasts : (h : ℕ) → 0 < held t h + eqtb.held n.table h → tokens_at new h ≡ tokens_at old h) (macros : (h : ℕ) → 0 < eqtb.held n.table h → IsDefined (tokens_at new h)) where
       built_stay : Stay old new (built bs)
       built_stay = record {
         tokens = λ h some. keeps.tokens h (omega (arith, (alone h some).0, (alone h some).2));
@@ -264,19 +272,20 @@ module _ (old new : List (Option Entry)) (s t : InputStack) (m n : Named) (zs bs
       reheld = record {
         shared = record {
           stands = stands;
-          simple = simple;
+          fronts = simple;
           building = building_stays old new bs built_stay (all_right old zs bs shared.building);
           counted = counted_now;
           apart = apart;
           macros = macros;
-          listed = λ h some. subst (λ (ts : List Token). 0 < length ts) (sym (lasts h (omega (arith, some, cells_owned (pending new t).puts h, held_parts new t simple.single h)))) (listed h some);
+          listed = λ h some. subst (λ (ts : List Token). 0 < length ts) (sym (lasts h (omega (arith, some, cells_owned (puts_in (pending new t)) h, held_parts new t h)))) (listed h some);
         };
-        in_front = fronts_stay old new (pending new t).puts (λ h some. lasts h (omega (arith, some, held_parts new t simple.single h)));
+        in_front = (all_stay old new (pending new t) (λ h some. lasts h (omega (arith, some, held_parts new t h)))).0;
+        beneath = (all_stay old new (pending new t) (λ h some. lasts h (omega (arith, some, held_parts new t h)))).1;
         texts = texts_stay old new bs built_stay;
         kept = lasts;
       }
 
-module _ (old new : List (Option Entry)) (s t : InputStack) (m n : Named) (zs bs : List Build) (shared : IsShared old s (zs ++ bs) m) (stands : Stands new t) (simple : IsSimple (pending new t)) (apart : IsApart (pending new t).puts bs n) (listed : (h : ℕ) → 0 < times h (cells_of (pending new t).puts) → 0 < length (tokens_at old h)) (moves : (h : ℕ) → holders_at new h + (built zs h + (held s h + eqtb.held m.table h)) ≡ holders_at old h + (held t h + eqtb.held n.table h)) (keeps : Keeps old new (λ h. built zs h + (held s h + eqtb.held m.table h))) (lasts : (h : ℕ) → 0 < holders_at new h → tokens_at new h ≡ tokens_at old h) (macros : (h : ℕ) → 0 < eqtb.held n.table h → IsDefined (tokens_at new h)) (same : (h : ℕ) → call_holds n.call h ≡ call_holds m.call h) where
+module _ (old new : List (Option Entry)) (s t : InputStack) (m n : Named) (zs bs : List Build) (shared : IsShared old s (zs ++ bs) m) (stands : Stands new t) (simple : AreFronts (puts_in (pending new t))) (apart : IsApart (puts_in (pending new t)) bs n) (listed : (h : ℕ) → 0 < times h (cells_of (puts_in (pending new t))) → 0 < length (tokens_at old h)) (moves : (h : ℕ) → holders_at new h + (built zs h + (held s h + eqtb.held m.table h)) ≡ holders_at old h + (held t h + eqtb.held n.table h)) (keeps : Keeps old new (λ h. built zs h + (held s h + eqtb.held m.table h))) (lasts : (h : ℕ) → 0 < holders_at new h → tokens_at new h ≡ tokens_at old h) (macros : (h : ℕ) → 0 < eqtb.held n.table h → IsDefined (tokens_at new h)) (same : (h : ℕ) → call_holds n.call h ≡ call_holds m.call h) where
   moves_all : (h : ℕ) → holders_at new h + (built zs h + (held s h + names_hold m h)) ≡ holders_at old h + (held t h + names_hold n h)
   moves_all h = omega (arith, moves h, same h)
 

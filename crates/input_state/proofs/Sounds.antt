@@ -31,8 +31,9 @@ use Rattle.input_stack.proofs.Kept.{holds_itself}
 use Rattle.input_state.specs.Changes.{IsOnly}
 use Rattle.input_state.specs.HeldLists.{HeldLists, words_held}
 use Rattle.input_state.specs.Macros.{KeepsLists}
-use Rattle.input_state.specs.HeldViews.{Named, named, names_hold, call_holds, calling_of, text, made_text, fronts, line_of, texts, lists_of, all_builds, built, IsSingle, IsSimple, AreFronts, cells_of, IsApart, IsDefined, IsShared, IsSized, IsSound}
-use Rattle.input_state.proofs.Shares.{Fewer, apart_fewer, fewer_none, fewer_settled}
+use Rattle.input_state.specs.HeldViews.{Named, named, names_hold, call_holds, calling_of, text, made_text, covers, puts_below, puts_in, texts, lists_of, all_builds, built, AreFronts, cells_of, IsApart, IsDefined, IsShared, IsSized, IsSound}
+use Rattle.input_state.proofs.Shares.{Fewer, apart_fewer, fewer_settle}
+use Rattle.input_state.proofs.Sources.{all_fronts}
 use Rattle.input_state.proofs.Fronts.{fronts_settled}
 use Rattle.input_state.proofs.Levels.{simple_settled}
 use Rattle.input_state.specs.Callings.{NotCalling, call_lists}
@@ -124,7 +125,7 @@ err_of (Err e) A P a f = f a
 
 -- THE LEVELS
 
-module _ (old new : List (Option Entry)) (s t : InputStack) (making : Option Build) (gathered : List Build) (m : Named) (sizes : Sizes) (capacity : ℕ) (more : ℕ → ℕ) (sound : IsSound old s making gathered m sizes capacity) (stands : Stands new t) (moves : Moves old new (held s) (held t)) (keeps : Keeps old new (held s)) (lasts : LastsBut old new more) (size : t.size ≡ s.size) (parameters : t.parameter_size ≡ s.parameter_size) (simple : IsSimple (pending new t)) (fewer : Fewer (pending new t).puts (pending old s).puts) where
+module _ (old new : List (Option Entry)) (s t : InputStack) (making : Option Build) (gathered : List Build) (m : Named) (sizes : Sizes) (capacity : ℕ) (more : ℕ → ℕ) (sound : IsSound old s making gathered m sizes capacity) (stands : Stands new t) (moves : Moves old new (held s) (held t)) (keeps : Keeps old new (held s)) (lasts : LastsBut old new more) (size : t.size ≡ s.size) (parameters : t.parameter_size ≡ s.parameter_size) (simple : AreFronts (puts_in (pending new t))) (fewer : Fewer (puts_in (pending new t)) (puts_in (pending old s))) where
   keeps_none : Keeps old new (λ h. built [] h + (held s h + eqtb.held m.table h))
   keeps_none = record { tokens = λ h l. keeps.tokens h (omega (arith, l)); places = λ h l. keeps.places h (omega (arith, l)) }
 
@@ -135,7 +136,7 @@ module _ (old new : List (Option Entry)) (s t : InputStack) (making : Option Bui
   pub levels_moved : Moved old new t m (all_builds making gathered)
   levels_moved =
       moved old new s t m m [] (all_builds making gathered) sound.shared stands simple
-      (apart_fewer (pending new t).puts (pending old s).puts (all_builds making gathered) m fewer sound.shared.apart)
+      (apart_fewer (puts_in (pending new t)) (puts_in (pending old s)) (all_builds making gathered) m fewer sound.shared.apart)
       (λ h some. sound.shared.listed h (omega (arith, some, fewer.cells h)))
       (λ h. omega (arith, moves h)) keeps_none lasts.tokens macros_stay (λ h. refl)
 
@@ -156,11 +157,11 @@ lasts_none old new lasts = record { size = lasts.size; fewer = λ h. omega (arit
 
 module _ (old new : List (Option Entry)) (s t : InputStack) (making : Option Build) (gathered : List Build) (m : Named) (sizes : Sizes) (capacity : ℕ) (sound : IsSound old s making gathered m sizes capacity) (stands : Stands new t) (moves : Moves old new (held s) (held t)) (keeps : Keeps old new (held s)) (lasts : Lasts old new) (size : t.size ≡ s.size) (parameters : t.parameter_size ≡ s.parameter_size) where
   module _ (after : pending new t ≡ settle (pending old s)) where
-    settled_simple : IsSimple (pending new t)
-    settled_simple = subst (λ (p : Pending). IsSimple p) (sym after) (simple_settled (pending old s) sound.shared.simple)
+    settled_simple : AreFronts (puts_in (pending new t))
+    settled_simple = subst (λ (p : Pending). AreFronts (puts_in p)) (sym after) (simple_settled (pending old s) sound.shared.fronts)
 
-    settled_few : Fewer (pending new t).puts (pending old s).puts
-    settled_few = subst (λ (p : Pending). Fewer p.puts (pending old s).puts) (sym after) (fewer_settled (pending old s).puts)
+    settled_few : Fewer (puts_in (pending new t)) (puts_in (pending old s))
+    settled_few = subst (λ (p : Pending). Fewer (puts_in p) (puts_in (pending old s))) (sym after) (fewer_settle (pending old s))
 
     settled_moved : Moved old new t m (all_builds making gathered)
     settled_moved = levels_moved old new s t making gathered m sizes capacity none sound stands moves keeps (lasts_none old new lasts) size parameters settled_simple settled_few
@@ -172,56 +173,45 @@ module _ (old new : List (Option Entry)) (s t : InputStack) (making : Option Bui
     settled_view v is =
         moved_view old new t m sizes making gathered settled_moved
         ∙ ap (λ (p : Pending). record (lists_of old p making gathered m sizes) { lists = texts new }) after
-        ∙ ap (λ (ps : List plain.Put). held_lists ps (made_text old making) (calling_of old m.call) (map (text old) (reverse gathered)) (line_of (pending old s).sources) m.table sizes (texts new)) (fronts_settled old (pending old s).puts)
+        ∙ ap (λ (ps : List plain.Put). held_lists ps (made_text old making) (calling_of old m.call) (map (text old) (reverse gathered)) (covers old (pending old s).sources) m.table sizes (texts new)) (fronts_settled old (pending old s).puts)
         ∙ ap (λ (w : HeldLists). record w { puts = plain.settled w.puts; lists = texts new }) is
 
-    pub settled_macros : (v : HeldLists) → lists_of old (pending old s) making gathered m sizes ≡ v → KeepsLists (lists_held m.table.groups) (fronts new (pending new t).puts) v.lists (texts new)
+    pub settled_macros : (v : HeldLists) → lists_of old (pending old s) making gathered m sizes ≡ v → KeepsLists (lists_held m.table.groups) (all_fronts new (pending new t)) v.lists (texts new)
     settled_macros v is = macros_moved old new t m sizes (all_builds making gathered) v.lists settled_moved (ap (λ (w : HeldLists). w.lists) is)
 
 -- THE LEVELS ALONE
 
 module _ (table : List (Option Entry)) (s t : InputStack) (making : Option Build) (gathered : List Build) (m : Named) (sizes : Sizes) (capacity : ℕ) (sound : IsSound table s making gathered m sizes capacity) (stands : Stands table t) (held_same : (h : ℕ) → held t h ≡ held s h) (size : t.size ≡ s.size) (parameters : t.parameter_size ≡ s.parameter_size) where
-  pub line_sound : IsSimple (pending table t) → Fewer (pending table t).puts (pending table s).puts → IsSound table t making gathered m sizes capacity
-  line_sound simple fewer = record {
+  pub line_sound : puts_in (pending table t) ≡ puts_in (pending table s) → IsSound table t making gathered m sizes capacity
+  line_sound same = record {
     shared = record {
       stands = stands;
-      simple = simple;
+      fronts = subst AreFronts (sym same) sound.shared.fronts;
       building = sound.shared.building;
       counted = λ h. omega (arith, sound.shared.counted h, held_same h);
-      apart = apart_fewer (pending table t).puts (pending table s).puts (all_builds making gathered) m fewer sound.shared.apart;
+      apart = subst (λ (ps : List Put). IsApart ps (all_builds making gathered) m) (sym same) sound.shared.apart;
       macros = sound.shared.macros;
-      listed = λ h some. sound.shared.listed h (omega (arith, some, fewer.cells h));
+      listed = λ h some. sound.shared.listed h (subst (λ (ps : List Put). 0 < times h (cells_of ps)) same some);
     };
     sized = sized_now table table s t m sizes capacity capacity sound.sized refl size parameters refl;
     call = sound.call;
   }
 
-single_at : (line : Line) (bs : List Below) → IsSingle bs → IsSingle (sources_at line bs)
-single_at line [] single = tt
-single_at line (b ∷ []) single = single
-single_at line (b ∷ c ∷ bs) single = absurd single
+line_puts : (line : Line) (bs : List Below) → puts_below (sources_at line bs) ≡ puts_below bs
+line_puts line [] = refl
+line_puts line (b ∷ bs) = refl
 
-pub line_simple : (p q : Pending) (line : Line) → IsSimple p → q ≡ at_line line p → IsSimple q
-line_simple p q line simple is = subst (λ (r : Pending). IsSimple r) (sym is) (record { single = single_at line p.sources simple.single; fronts = simple.fronts })
+-- a file goes on at a line, and the lists in front are as they were
+pub at_line_puts : (p q : Pending) (line : Line) → q ≡ at_line line p → puts_in q ≡ puts_in p
+at_line_puts p q line is = ap puts_in is ∙ ap (λ (ps : List Put). p.puts ++ ps) (line_puts line p.sources)
 
-ends_single : (bs : List Below) (q : Pending) (id : Option InId) → IsSingle bs → EndsIn bs q id → IsSimple q
-ends_single [] q id single ends = absurd ends
-ends_single (b ∷ []) q id single ends = subst (λ (r : Pending). IsSimple r) (sym ends.1) (record { single = tt; fronts = subst AreFronts (sym single) tt })
-ends_single (b ∷ c ∷ bs) q id single ends = absurd single
+-- a file goes, in front of which nothing is left
+ended_puts : (bs : List Below) (q : Pending) (id : Option InId) → EndsIn bs q id → puts_in q ≡ puts_below bs
+ended_puts [] q id ends = absurd ends
+ended_puts (b ∷ bs) q id ends = ap puts_in ends.1
 
-pub end_simple : (p q : Pending) (id : Option InId) → IsSimple p → Ends p q id → IsSimple q
-end_simple p q id simple ends = ends_single p.sources q id simple.single ends
-
-pub line_fewer : (p q : Pending) (line : Line) → q ≡ at_line line p → Fewer q.puts p.puts
-line_fewer p q line is = subst (λ (r : Pending). Fewer r.puts p.puts) (sym is) (record { owns = λ h. omega arith; bodies = λ h. omega arith; cells = λ h. omega arith })
-
-ends_fewer : (bs : List Below) (q : Pending) (id : Option InId) (ps : List Put) → IsSingle bs → EndsIn bs q id → Fewer q.puts ps
-ends_fewer [] q id ps single ends = absurd ends
-ends_fewer (b ∷ []) q id ps single ends = subst (λ (r : Pending). Fewer r.puts ps) (sym ends.1) (subst (λ (rs : List Put). Fewer rs ps) (sym single) (fewer_none ps))
-ends_fewer (b ∷ c ∷ bs) q id ps single ends = absurd single
-
-pub end_fewer : (p q : Pending) (id : Option InId) → IsSimple p → Ends p q id → Fewer q.puts p.puts
-end_fewer p q id simple ends = ends_fewer p.sources q id p.puts simple.single ends
+pub end_puts : (p q : Pending) (id : Option InId) → p.puts ≡ [] → Ends p q id → puts_in q ≡ puts_in p
+end_puts p q id none ends = ended_puts p.sources q id ends ∙ sym (ap (λ (ps : List Put). ps ++ puts_below p.sources) none)
 
 -- NO LISTS
 
@@ -243,13 +233,13 @@ new_sound knows table stack items m sizes capacity is empty stands size paramete
     let zero_at : (h : ℕ) → holders_at table h ≡ 0 = λ h. ap (λ (t : List (Option Entry)). holders_at t h) is ∙ ap holders_of (none_at sizes.main_memory_size h) in
     let s : IsShared table stack [] (named m call.None) = record {
       stands = stands;
-      simple = subst (λ (ls : List Level). IsSimple (pending_in table ls)) (sym empty) (record { single = tt; fronts = tt });
+      fronts = subst (λ (ls : List Level). AreFronts (puts_in (pending_in table ls))) (sym empty) tt;
       building = All-nil (IsBuilding table);
       counted = λ h. omega (arith, zero_at h, ap (λ (ls : List Level). held_in ls h) empty, free h);
-      apart = subst (λ (ls : List Level). IsApart (pending_in table ls).puts [] (named m call.None)) (sym empty) (record { sole = λ h. omega arith; apart = λ h some. omega (arith, some) });
+      apart = subst (λ (ls : List Level). IsApart (puts_in (pending_in table ls)) [] (named m call.None)) (sym empty) (record { sole = λ h. omega arith; apart = λ h some. omega (arith, some) });
       macros = λ h some. absurd (omega (arith, some, free h));
       listed = λ h some.
-          let here : 0 < times h (cells_of (pending_in table []).puts) = subst (λ (ls : List Level). 0 < times h (cells_of (pending_in table ls).puts)) empty some in
+          let here : 0 < times h (cells_of (puts_in (pending_in table []))) = subst (λ (ls : List Level). 0 < times h (cells_of (puts_in (pending_in table ls)))) empty some in
           absurd (omega (arith, here));
     } in
     record {
@@ -267,11 +257,11 @@ new_sound knows table stack items m sizes capacity is empty stands size paramete
 
 -- nothing is held, and all stands as INITEX has it, where these primitives mean something
 abbrev pub first_lists : (ℕ → Bool) → Sizes → HeldLists
-first_lists knows sizes = record { puts = []; making = None; call = NotCalling; builds = []; line = None; sizes = sizes; groups = first_groups knows; closing = []; ending = None; lists = replicate sizes.main_memory_size [] }
+first_lists knows sizes = record { puts = []; making = None; call = NotCalling; builds = []; below = []; sizes = sizes; groups = first_groups knows; closing = []; ending = None; lists = replicate sizes.main_memory_size [] }
 
 pub new_view : (knows : ℕ → Bool) (table : List (Option Entry)) (stack : InputStack) (items : List Build) (m : Table) (sizes : Sizes) → table ≡ replicate sizes.main_memory_size None → innermost stack ≡ [] → items ≡ [] → m ≡ first_table knows sizes → lists_of table (pending table stack) None items (named m call.None) sizes ≡ first_lists knows sizes
 new_view knows table stack items m sizes is empty none first =
     ap (λ (ls : List Level). lists_of table (pending_in table ls) None items (named m call.None) sizes) empty
-    ∙ ap (λ (bs : List Build). held_lists [] None NotCalling (map (text table) (reverse bs)) None m sizes (texts table)) none
-    ∙ ap (λ (k : Table). held_lists [] None NotCalling [] None k sizes (texts table)) first
-    ∙ ap (λ (ts : List (List Token)). held_lists [] None NotCalling [] None (first_table knows sizes) sizes ts) (ap texts is ∙ texts_none sizes.main_memory_size)
+    ∙ ap (λ (bs : List Build). held_lists [] None NotCalling (map (text table) (reverse bs)) [] m sizes (texts table)) none
+    ∙ ap (λ (k : Table). held_lists [] None NotCalling [] [] k sizes (texts table)) first
+    ∙ ap (λ (ts : List (List Token)). held_lists [] None NotCalling [] [] (first_table knows sizes) sizes ts) (ap texts is ∙ texts_none sizes.main_memory_size)

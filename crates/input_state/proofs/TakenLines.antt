@@ -1,41 +1,26 @@
--- A line of the file is taken.
-use Rattle.std.proofs.Common.{◌≡◌, ℕ, zero, suc, ◌+◌, ◌-◌, ◌<◌, ◌≤◌, ℤ, pos, negsuc, List, [], ◌∷◌, ◌++◌, length, take, drop, Some, Result, Ok, Err, Bool, true, false, true≢false, refl, sym, ap, ap₂, ◌∙◌, subst, length-take, length-append, arith}
-use Rattle.std.specs.Prelude.{◌==◌, IsErrAnd, IfErr, nat_lt, if◌then◌else◌}
-use Rattle.tex_defs.specs.declared.Full.{Full}
+-- A line of a file is taken.
+use Rattle.std.proofs.Common.{◌≡◌, ℕ, ◌+◌, ◌-◌, ◌<◌, ◌≤◌, ℤ, pos, negsuc, List, [], ◌∷◌, length, take, drop, Option, None, Bool, true, false, refl, sym, ap, ap₂, ◌∙◌, subst, length-take, length-append, arith}
+use Rattle.std.specs.Prelude.{nat_lt, if◌then◌else◌}
 use Rattle.plain_tokens.specs.Lines.{first_line, behind_feed}
 use Rattle.plain_tokens.specs.Printed.{character_of}
 use Rattle.plain_tokens.specs.Lex as plain
 use Rattle.plain_tokens.specs.Puts.{Put}
-use Rattle.plain_tokens.specs.Pending.{Pending, Begun, line_taken, line_ended, next_number, from_file, settle}
-use Rattle.plain_tokens.specs.Tables.{refused, next_line}
+use Rattle.plain_tokens.specs.Pending.{Pending, Progress, Source, Begun, line_taken, on_next_line, on_first_line, with_end, line_ended, next_number}
 use Rattle.line_lexer.specs.declared.Line.{Line}
 use Rattle.line_lexer.specs.declared.LineState.TheVariants.{NewLine}
 use Rattle.line_lexer.specs.Answers.{rest_of}
-use Rattle.input_state.specs.FileLeft.{FileLeft}
-use Rattle.input_state.specs.HeldLists.{HeldLists, pending_of, line_levels, IsLineIn}
-use Rattle.input_state.specs.InputViews.{stored_of, IsTied}
+use Rattle.input_state.specs.FileLeft.{FileLeft, FilesLeft, innermost, progress_of, rooms_end, go_on, begun_file}
+use Rattle.input_state.specs.HeldLists.{HeldLists, Covered, pending_of, outer_in, at_line, opened_over, puts_beneath, AreInBuffer, GoFurther}
+use Rattle.input_state.specs.InputViews.{stored_of, AreInRooms, IsTied}
 use Rattle.input_state.specs.Stored.{Stored}
-use Rattle.input_state.specs.Reads.{RefusesLine, TakesLine}
-use Rattle.equivalents.specs.Parameters.{end_of_line}
-use Rattle.input_state.specs.FileViews.{progress_of}
-use Rattle.input_state.specs.declared.file.Progress.{Progress}
-use Rattle.input_state.specs.declared.file.Progress.TheVariants as code
+use Rattle.input_state.specs.Reads.{TakesLine}
+use Rattle.input_state.proofs.Rooms.{beneath_same, rooms_in, rooms_further}
 
--- a line of this length, at the front of the buffer
-abbrev pub line_of_length : ℕ → Line
-line_of_length n = record { at = 0; end = n; state = NewLine }
-
--- the file behind a line
-abbrev pub file_behind : FileLeft → (used : ℕ) → FileLeft
-file_behind f used = record { rest = drop used f.rest; file = Begun; number = next_number f.number; buffer_size = f.buffer_size }
+-- a line of this length, whose room begins here
+abbrev pub line_at : (start count : ℕ) → Line
+line_at start count = record { at = start; end = start + count; state = NewLine }
 
 -- THE LINE IN THE BUFFER
-
-front_kept : (b c : List ℕ) (k n : ℕ) → k ≤ n → k ≤ length b → take k (take n (b ++ c)) ≡ take k b
-front_kept b c zero n within below = refl
-front_kept [] c (suc k) n within below = absurd (omega arith)
-front_kept (x ∷ b) c (suc k) zero within below = absurd (omega arith)
-front_kept (x ∷ b) c (suc k) (suc n) within below = ap (λ (xs : List ℕ). x ∷ xs) (front_kept b c k n (omega arith) (omega arith))
 
 -- a line gets one character at most
 by_code : (b : Bool) (n : ℕ) → length (if b then n ∷ [] else []) ≤ 1
@@ -49,102 +34,125 @@ one_at_most (negsuc n) = omega arith
 pub ended_length : (end : ℤ) (line : List ℕ) → length (line_ended end line) ≤ length line + 1
 ended_length end line = omega (arith, one_at_most end, length-append line (character_of end))
 
-line_stands : (line b c : List ℕ) (n count : ℕ) → count ≡ length line → take count b ≡ line → count ≤ n → rest_of (take n (b ++ c)) (line_of_length count) ≡ line
-line_stands line b c n count same is within =
-    let whole : count - 0 ≡ count = omega arith in
-    ap (λ (i : ℕ). take i (take n (b ++ c))) whole
-    ∙ front_kept b c count n within (omega (arith, same, ap length is, length-take count b)) ∙ is
+pub line_stands : (bytes line : List ℕ) (start count : ℕ) → take count (drop start bytes) ≡ line → rest_of bytes (line_at start count) ≡ line
+line_stands bytes line start count is =
+    let whole : start + count - start ≡ count = omega arith in
+    ap (λ (n : ℕ). take n (drop start bytes)) whole ∙ is
 
-pub below_length : (whole count n size : ℕ) → whole < count → count ≡ n → n ≡ size → whole < size
-below_length whole count n size below is same = omega arith
+-- the length of what is kept is that of the line
+pub kept_length : (bytes : List ℕ) (kept whole : ℕ) → kept ≤ whole → whole ≤ length bytes → take kept bytes ≡ first_line bytes → kept ≡ length (first_line bytes)
+kept_length bytes kept whole fewer within is = omega (arith, ap length is, length-take kept bytes)
 
--- so many bytes stand in front
-pub front_length : (bytes first again : List ℕ) (kept whole : ℕ) → first ≡ bytes → again ≡ bytes → kept ≤ whole → whole ≤ length first → kept ≡ length (take kept again)
-front_length bytes first again kept whole is same fewer within = omega (arith, length-take kept again, ap length is, ap length same)
+-- PARTS
 
--- THE LISTS
+pub went_on : (whole used : ℕ) (fs : List FileLeft) → 0 < length fs → go_on whole used fs ≡ record { whole = whole; rest = drop used (innermost fs).rest; number = next_number (innermost fs).number; ends = (innermost fs).ends } ∷ drop 1 fs
+went_on whole used [] some = absurd (omega (arith, some))
+went_on whole used (f ∷ fs) some = refl
 
-module _ (h room front now : HeldLists) (line : Line) (count : ℕ) (room_is : room ≡ record h { lists = room.lists }) (front_is : front ≡ record room { puts = []; line = front.line; lists = front.lists }) (now_is : now ≡ record front { line = Some line; lists = now.lists }) (line_is : line ≡ line_of_length count) where
-  opened : now ≡ record h { puts = []; line = Some (line_of_length count); lists = now.lists }
-  opened =
+begun_at : (line : Line) (bs : List Covered) → 0 < length bs → at_line line bs ≡ record { line = line; puts = puts_beneath bs } ∷ drop 1 bs
+begun_at line [] some = absurd (omega (arith, some))
+begun_at line (b ∷ bs) some = refl
+
+pub rooms_tail : (bs : List Covered) (fs : List FileLeft) → AreInRooms bs fs → AreInRooms (drop 1 bs) (drop 1 fs)
+rooms_tail [] [] rooms = tt
+rooms_tail [] (f ∷ fs) rooms = absurd rooms
+rooms_tail (b ∷ bs) [] rooms = absurd rooms
+rooms_tail (b ∷ bs) (f ∷ fs) rooms = rooms.3
+
+-- what is beneath a line stays where another line begins
+beneath_stays : (m d : List ℕ) (line : Line) (bs : List Covered) (fs : List FileLeft) (n : ℕ) → 0 < length bs → AreInBuffer (drop 1 bs) n → take n d ≡ take n m → outer_in d (record { line = line; puts = puts_beneath bs } ∷ drop 1 bs) fs ≡ outer_in m bs fs
+beneath_stays m d line [] fs n some inside e = absurd (omega (arith, some))
+beneath_stays m d line (b ∷ bs) fs n some inside e = beneath_same m d (record { line = line; puts = b.puts }) b bs fs n refl inside e
+
+same_pending : (puts : List Put) (lex : plain.LineState) (number : ℕ) (ends : Bool) (next : Option (List ℕ)) (l k : List ℕ) (w v : ℕ) (r s : List ℕ) (f g : Progress) (o p : List Source) → l ≡ k → w ≡ v → r ≡ s → f ≡ g → o ≡ p →
+    ◌≡◌ {A = Pending} (record { puts = puts; line = l; lex = lex; whole = w; rest = r; file = f; number = number; ends = ends; outer = o; next = next }) (record { puts = puts; line = k; lex = lex; whole = v; rest = s; file = g; number = number; ends = ends; outer = p; next = next })
+same_pending puts lex number ends next l k w v r s f g o p a b c d e = rw (a, b, c, d, e) refl
+
+-- THE NEXT LINE OF THE FILE
+
+module _ (h front now : HeldLists) (b m d : List ℕ) (count kept used : ℕ) (f g : FilesLeft) (front_is : front ≡ record h { puts = []; below = front.below; lists = front.lists }) (now_is : now ≡ record front { below = at_line (line_at (rooms_end (drop 1 f.files)) count) front.below }) (file_is : g ≡ record f { files = go_on kept used f.files }) (further : GoFurther h.below front.below) (tied : IsTied h b f) (lines : 0 < length front.below) (files : 0 < length f.files) where
+  start : ℕ
+  start = rooms_end (drop 1 f.files)
+
+  -- the file is at the line
+  after_lists : HeldLists
+  after_lists = record h { puts = []; below = record { line = line_at (rooms_end (drop 1 f.files)) count; puts = puts_beneath front.below } ∷ drop 1 front.below; lists = front.lists }
+
+  now_at : now ≡ after_lists
+  unfolding after_lists
+  now_at =
       now_is
-      ∙ ap (λ (w : HeldLists). record w { line = Some line; lists = now.lists }) front_is
-      ∙ ap (λ (w : HeldLists). record w { puts = []; line = Some line; lists = now.lists }) room_is
-      ∙ ap (λ (l : Line). record h { puts = []; line = Some l; lists = now.lists }) line_is
+      ∙ ap (λ (bs : List Covered). record front { below = bs }) (begun_at (line_at (rooms_end (drop 1 f.files)) count) front.below lines)
+      ∙ ap (λ (w : HeldLists). record w { below = record { line = line_at (rooms_end (drop 1 f.files)) count; puts = puts_beneath front.below } ∷ drop 1 front.below }) front_is
 
-  module _ (b c : List ℕ) (f g : FileLeft) (used : ℕ) (file_is : g ≡ file_behind f used) where
-    pub taken_tied : (kept whole : ℕ) → IsTied h b f → length c ≡ length b → count ≤ kept + 1 → kept ≤ whole → whole < length b → IsTied now c g
-    taken_tied kept whole t same ended fewer within =
-        let there : IsTied (record h { puts = []; line = Some (line_of_length count); lists = now.lists }) c (file_behind f used) = record {
-          tied = refl;
-          in_buffer = (omega arith, omega (arith, same, ended, fewer, within));
-          size = same ∙ t.size;
-          file_size = t.file_size;
-        } in
-        subst (λ (w : HeldLists). IsTied w c g) (sym opened) (subst (λ (k : FileLeft). IsTied (record h { puts = []; line = Some (line_of_length count); lists = now.lists }) c k) (sym file_is) there)
+  after_files : List FileLeft
+  after_files = record { whole = kept; rest = drop used (innermost f.files).rest; number = next_number (innermost f.files).number; ends = (innermost f.files).ends } ∷ drop 1 f.files
 
-    pub taken_others : (v : Stored) → stored_of h b f ≡ v → stored_of now c g ≡ record v { pending = pending_of now c g.rest g.file g.number; buffer = c; lists = now.lists }
-    taken_others v is =
-        let p = pending_of now c g.rest g.file g.number in
-        let lists = now.lists in
-        ap (λ (w : HeldLists). record (stored_of w c g) { pending = p; buffer = c; lists = lists }) opened
-        ∙ ap (λ (w : Stored). record w { pending = p; buffer = c; lists = lists }) is
+  file_at : g ≡ record f { files = after_files }
+  unfolding after_files
+  file_at = file_is ∙ ap (λ (fs : List FileLeft). record f { files = fs }) (went_on kept used f.files files)
 
-    pub taken_pending : (v : Stored) → stored_of h b f ≡ v → rest_of c (line_of_length count) ≡ line_ended (end_of_line h.groups.now) (first_line f.rest) → drop used f.rest ≡ behind_feed f.rest →
-        TakesLine (line_taken v.pending.number v.pending.rest) (end_of_line v.groups.now) v.pending (pending_of now c g.rest g.file g.number)
-    taken_pending v is line behind =
-        let p = pending_of now c g.rest g.file g.number in
-        let end = end_of_line h.groups.now in
-        let there : p ≡ record { puts = []; line = line_ended end (first_line f.rest); lex = plain.NewLine; rest = behind_feed f.rest; file = Begun; number = next_number f.number } =
-        ap (λ (w : HeldLists). pending_of w c g.rest g.file g.number) opened
-        ∙ ap (λ (k : FileLeft). pending_of (record h { puts = []; line = Some (line_of_length count); lists = now.lists }) c k.rest k.file k.number) file_is
-        ∙ ap₂ (λ (l rest : List ℕ). let q : Pending = record { puts = []; line = l; lex = plain.NewLine; rest = rest; file = Begun; number = next_number f.number } in q) line behind in
-        subst (λ (w : Stored). TakesLine (line_taken w.pending.number w.pending.rest) (end_of_line w.groups.now) w.pending p) is
-        (record {
-          next = record { puts = []; line = first_line f.rest; lex = plain.NewLine; rest = behind_feed f.rest; file = Begun; number = next_number f.number };
-          is = refl;
-          ended = there;
-        })
+  rooms_now : AreInRooms (drop 1 front.below) (drop 1 f.files)
+  rooms_now = rooms_tail front.below f.files (rooms_further h.below front.below f.files further tied.lines)
 
--- The lists alone are others.
-pub lists_tied : (h now : HeldLists) (b : List ℕ) (f : FileLeft) → now ≡ record h { lists = now.lists } → IsTied h b f → IsTied now b f
-lists_tied h now b f is t = subst (λ (w : HeldLists). IsTied w b f) (sym is) (record { tied = t.tied; in_buffer = t.in_buffer; size = t.size; file_size = t.file_size })
+  pub taken_tied : count ≤ kept + 1 → length d ≡ length b → rooms_end (drop 1 f.files) + (1 + kept) ≤ length b → IsTied now d g
+  unfolding after_lists after_files
+  taken_tied few same fits =
+      let there : IsTied after_lists d (record f { files = after_files }) = record {
+        lines = (omega arith, omega arith, omega (arith, few), rooms_now);
+        room = omega (arith, same, fits);
+        size = same ∙ tied.size;
+        file_size = tied.file_size;
+        file_levels = tied.file_levels;
+      } in
+      subst (λ (w : HeldLists). IsTied w d g) (sym now_at) (subst (λ (k : FilesLeft). IsTied after_lists d k) (sym file_at) there)
+
+  pub taken_pending : (end : ℤ) (v : Stored) → stored_of h b f ≡ v → v.pending.file ≡ Begun → rest_of d (line_at (rooms_end (drop 1 f.files)) count) ≡ line_ended end (first_line (innermost f.files).rest) → kept ≡ length (first_line (innermost f.files).rest) → drop used (innermost f.files).rest ≡ behind_feed (innermost f.files).rest →
+      take (rooms_end (drop 1 f.files)) d ≡ take (rooms_end (drop 1 f.files)) m → outer_in m front.below (drop 1 f.files) ≡ outer_in b h.below (drop 1 f.files) →
+      TakesLine (line_taken v.pending v.pending.rest) end v.pending (pending_of now d g.files g.next)
+  unfolding after_lists after_files
+  taken_pending end v is begun line whole behind before beneath =
+      let p = pending_of h b f.files f.next in
+      let outer : outer_in d (record { line = line_at (rooms_end (drop 1 f.files)) count; puts = puts_beneath front.below } ∷ drop 1 front.below) (drop 1 f.files) ≡ outer_in b h.below (drop 1 f.files) =
+      beneath_stays m d (line_at (rooms_end (drop 1 f.files)) count) front.below (drop 1 f.files) (rooms_end (drop 1 f.files)) lines (rooms_in (drop 1 front.below) (drop 1 f.files) (rooms_end (drop 1 f.files)) rooms_now (omega arith)) before ∙ beneath in
+      let file : Begun ≡ progress_of f.files = sym (ap (λ (w : Stored). w.pending.file) is ∙ begun) in
+      let there : pending_of now d g.files g.next ≡ with_end end (on_next_line (innermost f.files).rest p) =
+      ap₂ (λ (w : HeldLists) (k : FilesLeft). pending_of w d k.files k.next) now_at file_at
+      ∙ same_pending [] plain.NewLine (next_number (innermost f.files).number) (innermost f.files).ends f.next _ _ _ _ _ _ _ _ _ _ line whole behind file outer in
+      subst (λ (w : Stored). TakesLine (line_taken w.pending w.pending.rest) end w.pending (pending_of now d g.files g.next)) is
+      (record {
+        next = on_next_line (innermost f.files).rest p;
+        is = refl;
+        ended = there;
+      })
+
+-- THE FIRST LINE OF A FILE
+
+module _ (h front now : HeldLists) (b d : List ℕ) (count kept used : ℕ) (bytes : List ℕ) (f g : FilesLeft) (front_is : front ≡ record h { lists = front.lists }) (now_is : now ≡ record (opened_over (line_at (rooms_end f.files) count) front) { lists = now.lists }) (file_is : g ≡ record f { files = begun_file kept used bytes ∷ f.files; next = None }) (tied : IsTied h b f) where
+  begun_lists : HeldLists
+  begun_lists = record h { puts = []; below = record { line = line_at (rooms_end f.files) count; puts = h.puts } ∷ h.below; lists = now.lists }
+
+  over_at : now ≡ begun_lists
+  unfolding begun_lists
+  over_at =
+      let ls = now.lists in
+      now_is ∙ ap (λ (w : HeldLists). record (opened_over (line_at (rooms_end f.files) count) w) { lists = ls }) front_is
+
+  pub begun_pending : (end : ℤ) → rest_of d (line_at (rooms_end f.files) count) ≡ line_ended end (first_line bytes) → kept ≡ length (first_line bytes) → drop used bytes ≡ behind_feed bytes → take (rooms_end f.files) d ≡ take (rooms_end f.files) b →
+      pending_of now d g.files g.next ≡ with_end end (on_first_line bytes (pending_of h b f.files f.next))
+  unfolding begun_lists
+  begun_pending end line whole behind before =
+      let c : Covered = record { line = line_at (rooms_end f.files) count; puts = h.puts } in
+      let outer : outer_in d (c ∷ h.below) f.files ≡ outer_in b (c ∷ h.below) f.files = beneath_same b d c c h.below f.files (rooms_end f.files) refl (rooms_in h.below f.files (rooms_end f.files) tied.lines (omega arith)) before in
+      ap₂ (λ (w : HeldLists) (k : FilesLeft). pending_of w d k.files k.next) over_at file_is
+      ∙ same_pending [] plain.NewLine 1 false None _ _ _ _ _ _ _ _ _ _ line whole behind refl outer
 
 -- The lists in front and the line were read.
-pub read_tied : (h now : HeldLists) (b c : List ℕ) (f : FileLeft) (n : ℕ) (puts : List Put) → now ≡ record h { puts = puts; line = now.line; lists = now.lists } → line_levels now.line ≡ line_levels h.line → IsLineIn now.line n → n ≡ length b → length c ≡ length b → IsTied h b f → IsTied now c f
-read_tied h now b c f n puts is levels inside count same t = record {
-  tied = levels ∙ t.tied;
-  in_buffer = subst (IsLineIn now.line) (count ∙ sym same) inside;
+pub read_tied : (h now : HeldLists) (b c : List ℕ) (f : FilesLeft) (puts : List Put) → now ≡ record h { puts = puts; below = now.below; lists = now.lists } → GoFurther h.below now.below → length c ≡ length b → IsTied h b f → IsTied now c f
+read_tied h now b c f puts is further same t = record {
+  lines = rooms_further h.below now.below f.files further t.lines;
+  room = omega (arith, t.room, same);
   size = same ∙ t.size ∙ sym (ap (λ (w : HeldLists). w.sizes.buffer_size) is);
   file_size = t.file_size ∙ sym (ap (λ (w : HeldLists). w.sizes.buffer_size) is);
-}
-
--- the bytes that were copied are the line's, with its end character
-pub line_copied : (end : ℤ) (bytes first again b c : List ℕ) (n kept whole count : ℕ) → first ≡ bytes → again ≡ bytes → kept ≤ whole → whole ≤ length first → whole < n → take kept first ≡ first_line first →
-    take count b ≡ line_ended end (take kept again) → count ≡ length (line_ended end (take kept again)) → rest_of (take n (b ++ c)) (line_of_length count) ≡ line_ended end (first_line bytes)
-line_copied end bytes first again b c n kept whole count is same fewer within below line copied length_is =
-    line_stands (line_ended end (take kept again)) b c n count length_is copied
-    (omega (arith, length_is, ended_length end (take kept again), front_length bytes first again kept whole is same fewer within))
-    ∙ ap (line_ended end) (ap (take kept) (same ∙ sym is) ∙ line ∙ ap first_line is)
-
--- THE FILE GIVES A LINE
-
-pub begun_gives : (number : ℕ) (bytes : List ℕ) → (length bytes == 0) ≡ false → from_file Begun number bytes ≡ line_taken number bytes
-begun_gives number [] some = absurd (true≢false some)
-begun_gives number (c ∷ cs) some = refl
-
-pub first_gives : (number : ℕ) (bytes : List ℕ) (f : Progress) → (f ≡ code.Begun → ⊥) → (f ≡ code.Closed → ⊥) → from_file (progress_of f) number bytes ≡ line_taken number bytes
-first_gives number bytes code.NotBegun begun closed = refl
-first_gives number bytes code.Begun begun closed = absurd (begun refl)
-first_gives number bytes code.Closed begun closed = absurd (closed refl)
-
--- and it is refused
-pub line_refused : {T : Type 0} (r : Result T Full) (full : Full) (old new : Stored) → IsErrAnd r (λ f. f ≡ full) → from_file old.pending.file old.pending.number old.pending.rest ≡ line_taken old.pending.number old.pending.rest → refused old.sizes (next_line old.pending) ≡ Some full → new.pending ≡ old.pending → settle old.pending ≡ old.pending → IfErr r (λ f. RefusesLine f old new)
-line_refused (Ok x) full old new is gives refuses same settled = tt
-line_refused (Err f) full old new is gives refuses same settled = record {
-  line = first_line old.pending.rest;
-  next = record { puts = []; line = first_line old.pending.rest; lex = plain.NewLine; rest = behind_feed old.pending.rest; file = Begun; number = next_number old.pending.number };
-  takes = gives;
-  refused = refuses ∙ ap (λ (e : Full). Some e) (sym is);
-  stays = same ∙ sym settled;
+  file_levels = t.file_levels ∙ sym (ap (λ (w : HeldLists). w.sizes.text_input_levels) is);
 }

@@ -8,6 +8,7 @@ use Rattle.tex_defs.specs.declared.Meaning.{Meaning}
 use Rattle.tex_defs.specs.declared.Meaning.TheVariants as means
 use Rattle.plain_tokens.specs.Meanings.{is_listed, name_meaning}
 use Rattle.plain_tokens.specs.Puts.{Put}
+use Rattle.plain_tokens.specs.Pending.{all_puts}
 use Rattle.plain_tokens.specs.Tables.{is_put}
 use Rattle.equivalents.specs.Groups.{Groups}
 use Rattle.equivalents.specs.Holding.{list_of, lists_held}
@@ -56,5 +57,5 @@ meant_stays g puts old new name keeps (Some id) is =
 
 pub stay : WalksStay
 stay old new keeps same walk =
-    let there = meant_stays new.groups new.pending.puts old.lists new.lists walk.name keeps (list_of (name_meaning new.groups.now.meanings walk.name)) refl in
+    let there = meant_stays new.groups (all_puts new.pending) old.lists new.lists walk.name keeps (list_of (name_meaning new.groups.now.meanings walk.name)) refl in
     ap (λ (ts : List Token). drop walk.index ts) (there ∙ ap (λ (cells : List (Meaning (Option ℕ))). text_of old.lists cells walk.name) same)

@@ -6,11 +6,12 @@ use Rattle.std.proofs.lemmas.List.{length-reverse}
 use Rattle.std.proofs.lemmas.List.Sums.{sum_by-cons, sum_by-append}
 use Rattle.tex_defs.specs.declared.Token.{Token}
 use Rattle.tex_defs.specs.declared.Sizes.{Sizes}
-use Rattle.plain_tokens.specs.Tables.{list_words, lists_words, made_words}
+use Rattle.plain_tokens.specs.Puts.{Put}
+use Rattle.plain_tokens.specs.Tables.{list_words, lists_words, made_words, put_words}
 use Rattle.token_lists.specs.declared.Build.{Build}
 use Rattle.token_lists.specs.Ids.{build_id}
 use Rattle.token_lists.specs.Table.{Entry, words, tokens_at, holders_at}
-use Rattle.equivalents.specs.Holding.{lists_held}
+use Rattle.equivalents.specs.Holding.{lists_held, shared_words}
 use Rattle.eqtb_save.specs.Table.{Table}
 use Rattle.eqtb_save.specs.Holding as eqtb
 use Rattle.input_state.specs.Callings.{call_lists}
@@ -19,12 +20,13 @@ use Rattle.input_stack.specs.Pending.{times}
 use Rattle.input_stack.specs.View.{pending}
 use Rattle.input_stack.specs.declared.stack.InputStack.{InputStack}
 use Rattle.input_state.specs.HeldLists.{words_held}
-use Rattle.input_state.specs.HeldViews.{Named, call_holds, calling_of, IsCall, text, made_text, fronts, lists_of, all_builds, built, owns, bodies, opens, IsShared}
+use Rattle.input_state.specs.HeldViews.{Named, call_holds, calling_of, IsCall, text, made_text, fronts, texts, lists_of, all_builds, built, owns, bodies, opens, puts_in, IsShared}
 use Rattle.input_state.proofs.Counting.{some, some_one, some_none, mark, words_at, times_cons, times_append, words_counted}
 use Rattle.input_state.proofs.Shares.{held_parts, macro_once}
 use Rattle.input_state.proofs.CallNumbers.{call_numbers, call_times, call_shown}
 use Rattle.input_state.proofs.Levels.{no_opens, front_words}
 use Rattle.input_state.proofs.Sharing.{built_cons}
+use Rattle.input_state.proofs.Sources.{fronts_in}
 
 pub build_times : (bs : List Build) (h : ℕ) → times h (map build_id bs) ≡ built bs h
 build_times [] h = refl
@@ -59,7 +61,7 @@ held_once a b o c d sole apart opens = elim (cases_lt 0 (a + d)) [
 pub words_are : (table : List (Option Entry)) (stack : InputStack) (making : Option Build) (gathered : List Build) (m : Named) (sizes : Sizes) → IsShared table stack (all_builds making gathered) m → IsCall table m.table m.call → words table ≡ words_held (lists_of table (pending table stack) making gathered m sizes)
 words_are table stack making gathered m sizes shared is =
     let bs = all_builds making gathered in
-    let ps = (pending table stack).puts in
+    let ps = puts_in (pending table stack) in
     let ns = owns ps in
     let ks = call_numbers m.call ++ map build_id bs in
     let others : (h : ℕ) → times h ks ≡ built bs h + call_holds m.call h =
@@ -67,12 +69,14 @@ words_are table stack making gathered m sizes shared is =
     let counted : (h : ℕ) → some (holders_at table h) ≡ mark (lists_held m.table.groups) (fronts table ps) h + times h (ns ++ ks) =
     λ h.
     let d = built bs h + call_holds m.call h in
-    let all : holders_at table h ≡ times h ns + (times h (bodies ps) + times h (opens ps)) + (d + eqtb.held m.table h) = omega (arith, shared.counted h, held_parts table stack shared.simple.single h) in
-    let once = held_once (times h ns) (times h (bodies ps)) (times h (opens ps)) (eqtb.held m.table h) d (shared.apart.sole h) (shared.apart.apart h) (no_opens ps shared.simple.fronts h) in
+    let all : holders_at table h ≡ times h ns + (times h (bodies ps) + times h (opens ps)) + (d + eqtb.held m.table h) = omega (arith, shared.counted h, held_parts table stack h) in
+    let once = held_once (times h ns) (times h (bodies ps)) (times h (opens ps)) (eqtb.held m.table h) d (shared.apart.sole h) (shared.apart.apart h) (no_opens ps shared.fronts h) in
     omega (arith, ap some all, once, macro_once table m.table ps h, others h, times_append h ns ks) in
     let words = words_counted (lists_held m.table.groups) (fronts table ps) table (ns ++ ks) counted in
     let calls = sum_by-append list_words (call_lists (calling_of table m.call)) (map (text table) (reverse gathered)) in
-    omega (arith, words, sum_by-append (words_at table) ns ks, sum_by-append (words_at table) (call_numbers m.call) (map build_id bs), front_words table ps shared.listed, build_words table bs, all_words table making (reverse gathered), call_words table m.table m.call is, calls)
+    let all = fronts_in table (pending table stack) in
+    let macros = ap (λ (qs : List Put). shared_words 0 (lists_held m.table.groups) qs (texts table)) all in
+    omega (arith, words, macros, ap put_words all, sum_by-append (words_at table) ns ks, sum_by-append (words_at table) (call_numbers m.call) (map build_id bs), front_words table ps shared.listed, build_words table bs, all_words table making (reverse gathered), call_words table m.table m.call is, calls)
 
 -- a list takes a word
 few : (us : List (List Token)) → length us ≤ lists_words us

@@ -4,6 +4,7 @@ use Rattle.std.specs.Prelude.{◌≡◌, ℕ, ◌+◌, ◌<◌, ◌≤◌, List,
 use Rattle.std.specs.List.{AllZip, filter_map, flat_map}
 use Rattle.tex_defs.specs.declared.Token.{Token}
 use Rattle.plain_tokens.specs.Puts.{Put, Whole, Own, Macro, levels_of, list_of_tokens}
+use Rattle.plain_tokens.specs.Pending.{all_puts}
 use Rattle.token_lists.specs.Table.{Entry, tokens_at}
 use Rattle.token_lists.specs.Holders.{times, AreHolders}
 use Rattle.equivalents.specs.Holding.{lists_held}
@@ -69,4 +70,4 @@ pub record HaveHolders (table : List (Option Entry)) (held : List ℕ) (puts : L
 
 -- The others are the list that is made, the call's, and those that are gathered.
 abbrev pub AreCounted : List (Option Entry) → Stored → Type 0
-AreCounted table s = HaveHolders table (lists_held s.groups) s.pending.puts (option_to_list s.making ++ gathered s)
+AreCounted table s = HaveHolders table (lists_held s.groups) (all_puts s.pending) (option_to_list s.making ++ gathered s)

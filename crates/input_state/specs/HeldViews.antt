@@ -7,7 +7,6 @@ use Rattle.plain_tokens.specs.Puts as plain
 use Rattle.equivalents.specs.Holding.{list_of}
 use Rattle.eqtb_save.specs.Table.{Table}
 use Rattle.eqtb_save.specs.Holding as eqtb
-use Rattle.line_lexer.specs.declared.Line.{Line}
 use Rattle.token_lists.specs.declared.Build.{Build}
 use Rattle.token_lists.specs.Ids.{build_id, IsBuilding}
 use Rattle.token_lists.specs.Table.{Entry, tokens_at, tokens_of, holders_at}
@@ -24,7 +23,7 @@ use Rattle.macro_call.specs.declared.scan.ArgScan.{ArgScan}
 use Rattle.macro_args.specs.declared.args.Args.{Args}
 use Rattle.tex_defs.specs.declared.Name.{Name}
 use Rattle.plain_tokens.specs.Meanings.{name_meaning}
-use Rattle.input_state.specs.HeldLists.{HeldLists}
+use Rattle.input_state.specs.HeldLists.{HeldLists, Covered}
 use Rattle.input_state.specs.Callings.{Calling, NotCalling, Gathering, Stopped, Gathered}
 use Rattle.input_state.specs.declared.gathering.Gathering as code
 use Rattle.input_state.specs.declared.gathering.Gathering.TheVariants as call
@@ -60,9 +59,20 @@ abbrev pub made_text : List (Option Entry) → Option Build → Option (List Tok
 made_text table None = None
 made_text table (Some b) = Some (text table b)
 
-abbrev pub line_of : List Below → Option Line
-line_of [] = None
-line_of (b ∷ bs) = Some b.source.line
+-- the files, by their lines and the lists in front of what is beneath them
+abbrev pub covered : List (Option Entry) → Below → Covered
+covered table b = record { line = b.source.line; puts = fronts table b.puts }
+
+abbrev pub covers : List (Option Entry) → List Below → List Covered
+covers table bs = map (covered table) bs
+
+-- all lists in front, the innermost line's first
+abbrev pub puts_below : List Below → List Put
+puts_below [] = []
+puts_below (b ∷ bs) = b.puts ++ puts_below bs
+
+abbrev pub puts_in : Pending → List Put
+puts_in p = p.puts ++ puts_below p.sources
 
 -- all lists, by their numbers
 abbrev pub texts : List (Option Entry) → List (List Token)
@@ -88,19 +98,13 @@ lists_of table p making gathered m sizes = record {
   making = made_text table making;
   call = calling_of table m.call;
   builds = map (text table) (reverse gathered);
-  line = line_of p.sources;
+  below = covers table p.sources;
   sizes = sizes;
   groups = m.table.groups;
   closing = m.table.closing;
   ending = m.table.ending;
   lists = texts table;
 }
-
--- one file at most, and no lists beneath it
-abbrev pub IsSingle : List Below → Type 0
-IsSingle [] = Unit {0}
-IsSingle (b ∷ []) = b.puts ≡ []
-IsSingle (b ∷ c ∷ bs) = ⊥
 
 -- an argument of a call, by the number of its list
 abbrev pub IsOf : List (Option ℕ) → Option ℕ → Type 0
@@ -124,11 +128,6 @@ AreFronts (p ∷ ps) = IsFront p × AreFronts ps
 abbrev pub cells_of : List Put → List ℕ
 cells_of [] = []
 cells_of (p ∷ ps) = numbers p.arguments ++ cells_of ps
-
--- lists in front of one file at most
-pub record IsSimple (p : Pending) : Type 0 where
-  pub single : IsSingle p.sources
-  pub fronts : AreFronts p.puts
 
 -- all lists that are being built
 abbrev pub all_builds : Option Build → List Build → List Build
@@ -200,13 +199,13 @@ pub record IsDefined (ts : List Token) : Type 0 where
 -- Each list is held by levels, builds, locations, saved values and the call.
 pub record IsShared (table : List (Option Entry)) (stack : InputStack) (bs : List Build) (m : Named) : Type 0 where
   pub stands : Stands table stack
-  pub simple : IsSimple (pending table stack)
+  pub fronts : AreFronts (puts_in (pending table stack))
   pub building : All (IsBuilding table) bs
   pub counted : (h : ℕ) → holders_at table h ≡ held stack h + (built bs h + names_hold m h)
-  pub apart : IsApart (pending table stack).puts bs m
+  pub apart : IsApart (puts_in (pending table stack)) bs m
   pub macros : (h : ℕ) → 0 < eqtb.held m.table h → IsDefined (tokens_at table h)
   -- an argument without tokens has no list
-  pub listed : (h : ℕ) → 0 < times h (cells_of (pending table stack).puts) → 0 < length (tokens_at table h)
+  pub listed : (h : ℕ) → 0 < times h (cells_of (puts_in (pending table stack))) → 0 < length (tokens_at table h)
 
 -- THE CALL
 

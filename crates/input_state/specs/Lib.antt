@@ -4,6 +4,7 @@ pub mod NextBytes
 pub mod Reads
 pub mod HeldLists
 pub mod HeldViews
+pub mod BytesLeft
 pub mod FileLeft
 pub mod FileViews
 pub mod InputViews

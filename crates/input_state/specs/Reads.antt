@@ -83,7 +83,7 @@ pub record RefusesTaken (q : Pulled) (full : Full) (old new : Stored) : Type 0 w
 
 -- it would be the file's
 abbrev pub RefusesLine : Full → Stored → Stored → Type 0
-RefusesLine full old new = RefusesTaken (from_file old.pending.file old.pending.number old.pending.rest) full old new
+RefusesLine full old new = RefusesTaken (from_file old.pending old.pending.file) full old new
 
 -- a token, a character, a name or a line
 abbrev pub gives_step : Pulled → Bool

@@ -1,12 +1,11 @@
 -- All lists of a run, and all that is still to be read.
-use Rattle.std.specs.Prelude.{ℕ, ◌+◌, Bool, true, false, List, [], ◌∷◌, ◌++◌, Option, None, Some}
+use Rattle.std.specs.Prelude.{ℕ, ◌+◌, List, [], ◌∷◌, ◌++◌, take, drop, Option}
 use Rattle.tex_defs.specs.declared.Token.{Token}
 use Rattle.tex_defs.specs.declared.Full.{Full}
 use Rattle.tex_defs.specs.declared.Sizes.{Sizes}
 use Rattle.plain_tokens.specs.Puts.{Put}
-use Rattle.plain_tokens.specs.Lex.{NewLine}
-use Rattle.plain_tokens.specs.Pending.{Pending, NotBegun, Closed, settle}
-use Rattle.plain_tokens.specs.Tables.{held_words, level, parameters, refused}
+use Rattle.plain_tokens.specs.Pending.{Pending, settle, all_puts}
+use Rattle.plain_tokens.specs.Tables.{held_words, level, open_lines, parameters, refused}
 use Rattle.save_stack.specs.declared.GroupKind.{GroupKind}
 use Rattle.equivalents.specs.Groups.{Groups}
 use Rattle.equivalents.specs.Holding.{lists_held, shared_words}
@@ -39,11 +38,11 @@ gathered s = call_lists s.call ++ s.builds
 
 -- the words of main memory that are used
 abbrev pub words : Stored → ℕ
-words s = shared_words 0 (lists_held s.groups) s.pending.puts s.lists + held_words s.pending.puts s.making (gathered s)
+words s = shared_words 0 (lists_held s.groups) (all_puts s.pending) s.lists + held_words (all_puts s.pending) s.making (gathered s)
 
 -- each macro whose list is held then keeps its tokens
 abbrev pub KeepsMacros : Stored → Stored → Type 0
-KeepsMacros old new = KeepsLists (lists_held new.groups) new.pending.puts old.lists new.lists
+KeepsMacros old new = KeepsLists (lists_held new.groups) (all_puts new.pending) old.lists new.lists
 
 -- why the body of a macro isn't put, once the finished lists in front have gone
 abbrev pub call_refusal : Put → Stored → Option Full
@@ -53,16 +52,6 @@ call_refusal p s = refused s.sizes (when_called p.items (level (settle s.pending
 abbrev pub put_refusal : Put → Stored → Option Full
 put_refusal p s = refused s.sizes (when_put p.items (parameters p (settle s.pending) ∷ level (settle s.pending) ∷ []))
 
--- no file, and nothing in front
-abbrev pub closed : Pending
-closed = record { puts = []; line = []; lex = NewLine; rest = []; file = Closed; number = 0 }
-
--- the job's file, where it has these bytes, none of them read
-abbrev pub unread : Option (List ℕ) → Pending
-unread None = closed
-unread (Some bytes) = record { puts = []; line = []; lex = NewLine; rest = bytes; file = NotBegun; number = 0 }
-
--- a file of which no byte has come, where one is held
-abbrev pub no_bytes : Bool → Option (List ℕ)
-no_bytes true = Some []
-no_bytes false = None
+-- the bytes of a name of this length, which is spelt behind the open lines
+abbrev pub spelt : Stored → ℕ → List ℕ
+spelt s n = take n (drop (open_lines s.pending) s.buffer)

@@ -73,17 +73,25 @@ pub fn first_line(bytes: &[u8]) -> Cut
     }
 }
 
-/// Copies a line to the front of the buffer, and its end character behind it, where this is the code of a character. Answers the
-/// line's length then.
-pub fn put_line(buffer: &mut [u8], line: &[u8], end: i32) -> usize
-    requires { length line.now < length buffer.old }
-    ensures line { take result buffer.new ≡ line_ended end line.now }
+/// Copies bytes into the buffer, from this place on.
+pub fn put_bytes(buffer: &mut [u8], from: usize, bytes: &[u8])
+    requires { from + length bytes.now ≤ length buffer.old }
+    ensures { take (from + length bytes.now) buffer.new ≡ take from buffer.old ++ bytes.now }
+{
+    buffer[from..from + bytes.len()].copy_from_slice(bytes);
+}
+
+/// Copies a line into the buffer, from this place on, and its end character behind it, where this is the code of a character.
+/// Answers the line's length then.
+pub fn put_line(buffer: &mut [u8], from: usize, line: &[u8], end: i32) -> usize
+    requires { from + length line.now < length buffer.old }
+    ensures line { take (from + result) buffer.new ≡ take from buffer.old ++ line_ended end line.now }
     ensures length { result ≡ length (line_ended end line.now) }
 {
     let count = line.len();
-    buffer[..count].copy_from_slice(line);
+    put_bytes(buffer, from, line);
     if (0..256).contains(&end) {
-        buffer[count] = end as u8;
+        buffer[from + count] = end as u8;
         return count + 1;
     }
     count

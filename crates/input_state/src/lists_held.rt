@@ -1,4 +1,4 @@
-// The lists in front, those that are being made and gathered, the line of the file beneath them, and what stands at all locations.
+// The lists in front, those that are being made and gathered, the lines of the files beneath them, and what stands at all locations.
 ghost use Rattle.std.specs.Prelude.{◌≡◌, ◌≢◌, ℕ, ◌≤◌, ◌<◌, ◌+◌, ◌++◌, ◌↔◌, true, List, [], ◌∷◌, Option, None, Some, Ok, IsSome, IfSome, IsTrue, IfOk, OnOk, OnErr, IfErr, MatchResult, MatchBool, MatchOption, length, drop, replicate, option_to_list, vec_capacity, slice_index_or, pos};
 ghost use Rattle.tex_defs.specs.Sizes.{first_out_of_range};
 ghost use Rattle.tex_defs.specs.declared.Meaning.TheVariants as means;
@@ -14,15 +14,16 @@ ghost use Rattle.eqtb_save.specs.Values.{numbered};
 ghost use Rattle.eqtb_save.specs.Holding.{val_holds, held};
 ghost use Rattle.meanings.specs.Holding.{Lasts};
 ghost use Rattle.plain_tokens.specs.Puts.{settled, passed, with_put, token_put, grow_first, grown_by};
-ghost use Rattle.plain_tokens.specs.Pending.{Progress, pulled};
-ghost use Rattle.plain_tokens.specs.Tables.{lists_words, memory, refused, file_levels};
+ghost use Rattle.plain_tokens.specs.Pending.{pulled};
+ghost use Rattle.plain_tokens.specs.Tables.{lists_words, memory, refused};
 ghost use Rattle.line_lexer.specs.declared.Ahead.TheVariants as ahead;
 ghost use Rattle.token_lists.specs.Table.{words, tokens_at, holders_at, IsHeld};
 ghost use Rattle.token_lists.specs.Ids.{build_id, id_of, IsBuilding};
 ghost use Rattle.token_lists.specs.Accounts.{Moves, Keeps, Covers, none, holds};
 ghost use Rattle.token_lists.specs.Refusals.{IsFull};
 ghost use Rattle.input_state.specs.Counted.{HaveHolders};
-ghost use Rattle.input_state.specs.HeldLists.{HeldLists, KeepsHeld, call_refusal, put_refusal, first_list, is_empty, made, words_held, gathered_held, level_held, pending_of, ahead_of, line_levels, IsLineIn};
+ghost use Rattle.input_state.specs.HeldLists.{HeldLists, KeepsHeld, call_refusal, put_refusal, first_list, is_empty, made, words_held, gathered_held, level_held, puts_held, settle_held, pending_of, outer_in, ahead_of, AreInBuffer, GoFurther, over_held, at_line, opened_over};
+ghost use Rattle.input_state.specs.FileLeft.{FileLeft};
 ghost use Rattle.meanings.specs.Kept.{IsPlaced};
 ghost use Rattle.input_state.specs.HeldViews.{IsDefined};
 ghost use Rattle.input_state.specs.Macros.{HasNameRoom, IsPlaceOf, list_at};
@@ -53,8 +54,8 @@ use tex_defs::{Full, Meaning, Name, Seen, Sizes, Token};
 use token_lists::{Build, ListRef, Lists};
 use world_io::InId;
 
-/// The number of the job's file.
-const JOB: InId = InId { number: 0 };
+/// The number of every file: the levels tell them apart.
+const FILE: InId = InId { number: 0 };
 
 /// The lists of a run, what stands at all locations, and the levels of input. A list that a location or a saved value has may have many
 /// holders, each other list is held in one place.
@@ -195,7 +196,7 @@ impl Held {
     /// There is no room for them. No other call takes memory.
     pub fn new(alloc: Global, sizes: &Sizes, known: &[u16]) -> Result<Held, AllocError>
         requires { first_out_of_range sizes.now ≡ None }
-        ensures { IfOk result (λ h. h ≡ record { puts = []; making = None; call = NotCalling; builds = []; line = None; sizes = sizes.now; groups = first_groups (is_listed known.now); closing = []; ending = None; lists = replicate sizes.now.main_memory_size [] }) }
+        ensures { IfOk result (λ h. h ≡ record { puts = []; making = None; call = NotCalling; builds = []; below = []; sizes = sizes.now; groups = first_groups (is_listed known.now); closing = []; ending = None; lists = replicate sizes.now.main_memory_size [] }) }
     {
         let mut lists = Lists::new(alloc, sizes.main_memory_size)?;
         let builds = Vec::with_capacity(alloc, sizes.main_memory_size as usize)?;
@@ -324,7 +325,7 @@ impl Held {
     pub fn lists(&self) -> &Lists
         ensures words { words result.now ≡ words_held self.now }
         ensures tokens { (id : ℕ) → tokens_at result.now id ≡ list_at self.now.lists id }
-        ensures counts { HaveHolders result.now (lists_held self.now.groups) self.now.puts (option_to_list self.now.making ++ gathered_held self.now) }
+        ensures counts { HaveHolders result.now (lists_held self.now.groups) (puts_held self.now) (option_to_list self.now.making ++ gathered_held self.now) }
     {
         &self.lists
     }
@@ -419,8 +420,8 @@ impl Held {
 
     /// What the next pull gives. Nothing changes.
     pub fn looks(&self, bytes: &[u8]) -> Ahead
-        requires { IsLineIn self.now.line (length bytes.now) }
-        ensures ahead { (rest : List ℕ) (file : Progress) (number : ℕ) → result ≡ ahead_of self.now.groups.now.categories (pending_of self.now bytes.now rest file number) }
+        requires { AreInBuffer self.now.below (length bytes.now) }
+        ensures ahead { (files : List FileLeft) (next : Option (List ℕ)) → result ≡ ahead_of self.now.groups.now.categories (pending_of self.now bytes.now files next) }
         ensures passed { result ≡ ahead.End → passed self.now.puts ≡ [] }
     {
         self.stack
@@ -433,65 +434,63 @@ impl Held {
     /// The level of an argument passes the size of the input stack. Nothing has changed but that the finished lists in
     /// front have gone.
     pub fn pull(&mut self, bytes: &mut [u8]) -> Result<Pulled, Full>
-        requires in_buffer { IsLineIn self.old.line (length bytes.old) }
-        requires more { (rest : List ℕ) (file : Progress) (number : ℕ) → ahead_of self.old.groups.now.categories (pending_of self.old bytes.old rest file number) ≢ ahead.End }
-        ensures in_buffer { IsLineIn self.new.line (length bytes.new) }
-        ensures gives { (rest : List ℕ) (file : Progress) (number : ℕ) → GivesTo (pulled self.old.groups.now.categories (pending_of self.old bytes.old rest file number)) result (pending_of self.old bytes.old rest file number) (pending_of self.new bytes.new rest file number) bytes.new }
-        ensures refused { (rest : List ℕ) (file : Progress) (number : ℕ) → line_levels self.old.line ≡ file_levels file → MatchResult result (λ _. refused self.old.sizes (step_demands (pulled self.old.groups.now.categories (pending_of self.old bytes.old rest file number)) (pending_of self.old bytes.old rest file number)) ≡ None) (λ full. refused self.old.sizes (step_demands (pulled self.old.groups.now.categories (pending_of self.old bytes.old rest file number)) (pending_of self.old bytes.old rest file number)) ≡ Some full) }
+        requires in_buffer { AreInBuffer self.old.below (length bytes.old) }
+        requires more { (files : List FileLeft) (next : Option (List ℕ)) → ahead_of self.old.groups.now.categories (pending_of self.old bytes.old files next) ≢ ahead.End }
+        ensures further { GoFurther self.old.below self.new.below }
+        ensures gives { (files : List FileLeft) (next : Option (List ℕ)) → GivesTo (pulled self.old.groups.now.categories (pending_of self.old bytes.old files next)) result (pending_of self.old bytes.old files next) (pending_of self.new bytes.new files next) bytes.new }
+        ensures refused { (files : List FileLeft) (next : Option (List ℕ)) → length files ≡ length self.old.below → MatchResult result (λ _. refused self.old.sizes (step_demands (pulled self.old.groups.now.categories (pending_of self.old bytes.old files next)) (pending_of self.old bytes.old files next)) ≡ None) (λ full. refused self.old.sizes (step_demands (pulled self.old.groups.now.categories (pending_of self.old bytes.old files next)) (pending_of self.old bytes.old files next)) ≡ Some full) }
         ensures err { OnErr result (self.new ≡ record self.old { puts = settled self.old.puts; lists = self.new.lists }) }
         ensures bytes { OnErr result (bytes.new ≡ bytes.old) }
-        ensures others { self.new ≡ record self.old { puts = self.new.puts; line = self.new.line; lists = self.new.lists } }
+        ensures others { self.new ≡ record self.old { puts = self.new.puts; below = self.new.below; lists = self.new.lists } }
         ensures macros { KeepsHeld self.old self.new }
-        ensures levels { line_levels self.new.line ≡ line_levels self.old.line }
     {
         self.table.recall();
         let categories = self.table.categories();
         answered(self.stack.pull(&mut self.lists, bytes, categories))
     }
 
-    /// Where nothing is left but gaps and a line that is used up, all lists in front go.
+    /// Where nothing is left but gaps and a line that is used up, all lists in front of it go.
     pub fn drop_front(&mut self, bytes: &mut [u8])
-        requires in_buffer { IsLineIn self.old.line (length bytes.old) }
-        requires end { (rest : List ℕ) (file : Progress) (number : ℕ) → ahead_of self.old.groups.now.categories (pending_of self.old bytes.old rest file number) ≡ ahead.End }
-        ensures in_buffer { IsLineIn self.new.line (length bytes.new) }
-        ensures after { self.new ≡ record self.old { puts = []; line = self.new.line; lists = self.new.lists } }
+        requires in_buffer { AreInBuffer self.old.below (length bytes.old) }
+        requires end { (files : List FileLeft) (next : Option (List ℕ)) → ahead_of self.old.groups.now.categories (pending_of self.old bytes.old files next) ≡ ahead.End }
+        ensures further { GoFurther self.old.below self.new.below }
+        ensures beneath { (files : List FileLeft) → outer_in bytes.new self.new.below files ≡ outer_in bytes.old self.old.below files }
+        ensures after { self.new ≡ record self.old { puts = []; below = self.new.below; lists = self.new.lists } }
         ensures macros { KeepsHeld self.old self.new }
-        ensures levels { line_levels self.new.line ≡ line_levels self.old.line }
     {
         self.table.recall();
         let categories = self.table.categories();
         let _given = self.stack.pull(&mut self.lists, bytes, categories);
     }
 
-    /// The file gets a level, at this line.
+    /// A file gets a level, at this line, above all that is pending.
     ///
     /// # Errors
     /// The levels are at the size of the input stack; nothing has changed.
     pub fn open_file(&mut self, line: Line) -> Result<(), Full>
-        requires front { self.old.puts ≡ [] }
-        requires closed { self.old.line ≡ None }
+        requires settled { settled self.old.puts ≡ self.old.puts }
         ensures refused { MatchResult result (λ _. refused self.old.sizes (level_held self.old ∷ []) ≡ None) (λ full. refused self.old.sizes (level_held self.old ∷ []) ≡ Some full) }
-        ensures ok { OnOk result (self.new ≡ record self.old { line = Some line; lists = self.new.lists }) }
+        ensures ok { OnOk result (self.new ≡ record (opened_over line self.old) { lists = self.new.lists }) }
         ensures err { OnErr result (self.new ≡ record self.old { lists = self.new.lists }) }
         ensures macros { KeepsHeld self.old self.new }
     {
-        self.stack.push_file(&mut self.lists, Some(JOB), line)
+        self.stack.push_file(&mut self.lists, Some(FILE), line)
     }
 
-    /// The file goes on at this line.
+    /// The innermost file goes on at this line.
     pub fn begin_line(&mut self, line: Line)
         requires front { self.old.puts ≡ [] }
-        requires open { IsSome self.old.line }
-        ensures { self.new ≡ record self.old { line = Some line } }
+        requires open { 0 < length self.old.below }
+        ensures { self.new ≡ record self.old { below = at_line line self.old.below } }
     {
         self.stack.begin_line(line);
     }
 
-    /// The file's level goes.
+    /// The innermost file's level goes.
     pub fn end_file(&mut self)
         requires front { self.old.puts ≡ [] }
-        requires open { IsSome self.old.line }
-        ensures { self.new ≡ record self.old { line = None } }
+        requires open { 0 < length self.old.below }
+        ensures { self.new ≡ over_held self.old }
     {
         let _id = self.stack.end_file();
     }
@@ -640,7 +639,7 @@ impl Held {
         requires assignable { IsPlaced (location name) (length self.old.groups.now.meanings) }
         ensures refused { MatchResult result (λ _. refused self.old.sizes (name_demands global self.old.groups name) ≡ None) (λ full. refused self.old.sizes (name_demands global self.old.groups name) ≡ Some full) }
         ensures ok { OnOk result (self.new ≡ record self.old { builds = drop 1 self.old.builds; groups = self.new.groups; lists = self.new.lists }) }
-        ensures defines { OnOk result (Defines global self.old.groups self.new.groups self.old.puts self.old.lists self.new.lists (first_list self.old.builds) name long outer) }
+        ensures defines { OnOk result (Defines global self.old.groups self.new.groups (puts_held self.old) self.old.lists self.new.lists (first_list self.old.builds) name long outer) }
         ensures err { OnErr result (self.new ≡ self.old) }
         ensures macros { KeepsHeld self.old self.new }
     {

@@ -1,6 +1,5 @@
 // Places in a list of tokens, and the characters from one on.
-ghost use Rattle.std.specs.Prelude.{◌≡◌, ◌+◌, ◌<◌, ◌≤◌, ◌++◌, true, length, drop, vec_len, vec_capacity, MatchBool};
-ghost use Rattle.std.specs.Bool.{OnTrue};
+ghost use Rattle.std.specs.Prelude.{◌≡◌, ◌+◌, ◌<◌, ◌≤◌, ◌++◌, length, take, drop, IfSome, MatchOption};
 ghost use Rattle.token_lists.specs.Table.{tokens_at, IsHeld};
 ghost use Rattle.token_lists.specs.Ids.{id_of, build_id};
 ghost use Rattle.macro_call.specs.Cursors.{IsOn, rest_at};
@@ -26,36 +25,59 @@ pub fn behind(lists: &Lists, list: &ListRef, count: usize) -> Cursor
     from
 }
 
-// The code of a character goes to the end of a text, if it has room; no other token has one.
-fn put_code(text: &mut Vec<u8>, token: Token) -> bool
-    ensures fits { MatchBool result (vec_len text.old + length (code_of token) ≤ vec_capacity text.old) (vec_capacity text.old < vec_len text.old + length (code_of token)) }
-    ensures items { OnTrue result (text.new.items ≡ text.old.items ++ code_of token) }
-    ensures capacity { vec_capacity text.new ≡ vec_capacity text.old }
+// How many codes a token has: a character has one, no other token has.
+fn code_count(token: Token) -> usize
+    ensures { result ≡ length (code_of token) }
 {
-    let Token::Char { cat: _, code } = token else {
-        return true;
-    };
-    if text.len() == text.capacity() {
-        return false;
+    match token {
+        Token::Char { cat: _, code: _ } => 1,
+        _ => 0,
     }
-    text.push_reserved(code);
-    true
 }
 
-/// The codes of the characters of a list go to a text in place of what it had, if they have room. No memory is taken.
-pub fn spell(lists: &Lists, build: &Build, text: &mut Vec<u8>) -> bool
+/// How many codes the characters of a list have, if these are no more than `room`.
+pub fn spelt_length(lists: &Lists, build: &Build, room: usize) -> Option<usize>
     requires { IsHeld lists.now (build_id build.now) }
-    ensures fits { MatchBool result (length (character_codes (tokens_at lists.now (build_id build.now))) ≤ vec_capacity text.old) (vec_capacity text.old < length (character_codes (tokens_at lists.now (build_id build.now)))) }
-    ensures codes { OnTrue result (text.new.items ≡ character_codes (tokens_at lists.now (build_id build.now))) }
-    ensures capacity { vec_capacity text.new ≡ vec_capacity text.old }
+    ensures count { IfSome result (λ n. n ≡ length (character_codes (tokens_at lists.now (build_id build.now)))) }
+    ensures fits { MatchOption result (room < length (character_codes (tokens_at lists.now (build_id build.now)))) (λ n. n ≤ room) }
 {
-    text.clear();
+    let mut count = 0;
     let mut from = at_first_built(lists, build);
     while let Some((token, next)) = from.next(lists) {
-        if !put_code(text, token) {
-            return false;
+        let more = code_count(token);
+        if more > room - count {
+            return None;
         }
+        count += more;
         from = next;
     }
-    true
+    Some(count)
+}
+
+// The code of a character goes into the buffer, at this place; no other token has one. Answers the place behind it.
+fn put_code(buffer: &mut [u8], place: usize, token: Token) -> usize
+    requires { place + length (code_of token) ≤ length buffer.old }
+    ensures behind { result ≡ place + length (code_of token) }
+    ensures front { take (place + length (code_of token)) buffer.new ≡ take place buffer.old ++ code_of token }
+    ensures length { length buffer.new ≡ length buffer.old }
+{
+    let Token::Char { cat: _, code } = token else {
+        return place;
+    };
+    buffer[place] = code;
+    place + 1
+}
+
+/// The codes of the characters of a list go into the buffer, from this place on. They have room.
+pub fn spell(lists: &Lists, build: &Build, buffer: &mut [u8], from: usize)
+    requires held { IsHeld lists.now (build_id build.now) }
+    requires room { from + length (character_codes (tokens_at lists.now (build_id build.now))) ≤ length buffer.old }
+    ensures front { take (from + length (character_codes (tokens_at lists.now (build_id build.now)))) buffer.new ≡ take from buffer.old ++ character_codes (tokens_at lists.now (build_id build.now)) }
+{
+    let mut place = from;
+    let mut at = at_first_built(lists, build);
+    while let Some((token, next)) = at.next(lists) {
+        place = put_code(buffer, place, token);
+        at = next;
+    }
 }

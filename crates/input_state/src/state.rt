@@ -1,5 +1,5 @@
 // The input of a run.
-ghost use Rattle.std.specs.Prelude.{◌≡◌, ◌≢◌, ℕ, true, false, ◌≤◌, ◌<◌, ◌+◌, ◌++◌, [], ◌∷◌, None, Some, IsSome, IfSome, IfOk, IfErr, OnOk, OnErr, MatchResult, MatchBool, MatchOption, length, drop, replicate, vec_capacity, slice_index_or, pos};
+ghost use Rattle.std.specs.Prelude.{◌≡◌, ◌≢◌, ℕ, true, false, ◌≤◌, ◌<◌, ◌+◌, ◌^◌, ◌++◌, [], ◌∷◌, None, Some, IsSome, IfSome, IfOk, IfErr, OnOk, OnErr, MatchResult, MatchBool, MatchOption, length, drop, replicate, vec_capacity, slice_index_or, pos};
 ghost use Rattle.std.specs.Bool.{OnTrue};
 ghost use Rattle.std.specs.Option.{option_map};
 ghost use Rattle.tex_defs.specs.Sizes.{first_out_of_range};
@@ -12,15 +12,15 @@ ghost use Rattle.equivalents.specs.Groups.{first_groups, entered, set, set_name,
 ghost use Rattle.equivalents.specs.Holding.{lists_held, lists_outside};
 ghost use Rattle.equivalents.specs.Laws.{AreAlike};
 ghost use Rattle.plain_tokens.specs.Puts.{settled, passed, token_put, grow_first, grown_by};
-ghost use Rattle.plain_tokens.specs.Pending.{NotBegun, Begun, Closed, pulled, settle, put_front, line_taken, from_file};
-ghost use Rattle.plain_tokens.specs.Tables.{is_put, lists_words, memory, level, file_levels, next_line, refused};
+ghost use Rattle.plain_tokens.specs.Pending.{Begun, Closed, bottom, beneath, ending, pulled, settle, all_puts, put_front, line_taken, from_file, with_begun, with_end, with_next};
+ghost use Rattle.plain_tokens.specs.Tables.{is_put, lists_words, memory, level, buffer, open_files, open_lines, lines_beneath, next_line, next_file, text_level, spelt_name, refused};
 ghost use Rattle.line_lexer.specs.declared.Ahead.TheVariants as ahead;
 ghost use Rattle.line_lexer.specs.declared.LineState.TheVariants.{NewLine};
 ghost use Rattle.tex_defs.specs.declared.Table.TheVariants.{BufferSize};
 ghost use Rattle.token_lists.specs.Table.{tokens_at, IsHeld};
 ghost use Rattle.token_lists.specs.Table as table;
 ghost use Rattle.token_lists.specs.Ids.{build_id, id_of};
-ghost use Rattle.input_state.specs.HeldLists.{KeepsHeld, first_list, is_empty, made, ahead_of, line_levels, file_demands};
+ghost use Rattle.input_state.specs.HeldLists.{KeepsHeld, first_list, is_empty, made, ahead_of};
 ghost use Rattle.meanings.specs.Kept.{IsPlaced};
 ghost use Rattle.input_state.specs.declared.answer.CallKind.TheVariants.{AtOnce, Gathers};
 ghost use Rattle.input_state.specs.HeldViews.{IsDefined};
@@ -31,18 +31,17 @@ ghost use Rattle.input_state.specs.Callings as calls;
 ghost use Rattle.input_state.specs.CallFeeds.{IsTaking, Feeds, CutShort, growth, with_scan, call_work};
 ghost use Rattle.macro_call.specs.PlainScans.{first_scan, cut_scan, settled_scan};
 ghost use Rattle.macro_call.specs.Modes.{mode_of};
-ghost use Rattle.input_state.specs.FileViews.{progress_of};
-ghost use Rattle.input_state.specs.NextBytes.{KnowsNext, NeedsBytes, with_bytes};
+ghost use Rattle.input_state.specs.NextBytes.{KnowsNext, NeedsBytes, KnowsFirst, NeedsFirst, with_bytes, with_first_bytes};
 ghost use Rattle.input_state.specs.Counted.{AreCounted};
-ghost use Rattle.input_state.specs.Stored.{KeepsMacros, call_refusal, put_refusal, words, unread, no_bytes, closed};
+ghost use Rattle.input_state.specs.Stored.{KeepsMacros, call_refusal, put_refusal, words, spelt};
 ghost use Rattle.input_state.specs.Walks.{to_come};
 ghost use Rattle.equivalents.specs.Parameters.{integer_in, end_of_line};
 ghost use Rattle.input_state.specs.Reads.{GivesTo, TakesLine, Pulls, pull_refusal, RefusesLine, gives_step};
 
-use crate::file::{JobFile, Progress};
-use crate::lines::{first_line, put_line};
+use crate::file::{Files, Step};
+use crate::lines::{first_line, put_bytes, put_line};
 use crate::lists_held::Held;
-use crate::places::spell;
+use crate::places::{spell, spelt_length};
 use crate::{CallKind, CallTold, Pulled, Walk};
 use eqtb_save::{GroupKind, Loc};
 use line_lexer::{Ahead, Line, LineState};
@@ -51,16 +50,16 @@ use std::marker::Model;
 use tex_defs::{Full, Name, Seen, Sizes, Table, Token};
 use token_lists::{Build, ListRef, Lists};
 
-/// All lists of a run, and all that is still to be read: lists in front, the rest of a line, the rest of the job's
-/// file.
+/// All lists of a run, and all that is still to be read: files beneath files, each with the rest of its line and the lists in
+/// front of it.
 ///
 /// It must be closed. *TeX: The Program*, parts 22 and 24.
 #[must_use]
 pub struct Input {
     held: Held,
-    /// The line that is being read stands at the front.
+    /// The lines of the files stand in it, the outermost at the front.
     buffer: Vec<u8>,
-    file: JobFile,
+    files: Files,
 }
 
 // Clauses see plain lists.
@@ -71,96 +70,54 @@ impl Model for Input {
 
     ghost use Rattle.input_state.specs.InputViews.{stored_of, IsTied};
 
-    ghost view = { λ i. stored_of i.held i.buffer.items i.file };
+    ghost view = { λ i. stored_of i.held i.buffer.items i.files };
 
-    ghost invariant = { λ i. IsTied i.held i.buffer.items i.file };
+    ghost invariant = { λ i. IsTied i.held i.buffer.items i.files };
 }
 
 /// The place of `\endlinechar` among the integer parameters.
 const END_LINE_CHARACTER: u8 = 48;
 
-// A line of this length, none of it read.
-fn line_start(end: usize) -> Line
-    ensures { result ≡ record { at = 0; end = end; state = NewLine } }
+// A line between these places, none of it read.
+fn line_start(at: usize, end: usize) -> Line
+    ensures { result ≡ record { at = at; end = end; state = NewLine } }
 {
     Line {
-        at: 0,
+        at,
         end,
         state: LineState::NewLine,
     }
 }
 
-// The refusal of a line that is too long for the buffer.
-fn buffer_full(sizes: &Sizes) -> Full
-    ensures { result ≡ record { table = BufferSize; used = 0; size = sizes.now.buffer_size } }
+// The refusal of bytes that have no room in the buffer, of which so much is used.
+fn buffer_full(sizes: &Sizes, used: usize) -> Full
+    requires { used < 2 ^ 32 }
+    ensures { result ≡ record { table = BufferSize; used = used; size = sizes.now.buffer_size } }
 {
     Full {
         table: Table::BufferSize,
-        used: 0,
+        used: used as u32,
         size: sizes.buffer_size,
     }
 }
 
-// Whether the level of the first line has room.
-fn line_room(held: &mut Held, progress: Progress) -> Result<(), Full>
-    requires { settled held.old.puts ≡ held.old.puts }
-    ensures refused { MatchResult result (λ _. refused held.old.sizes (file_demands (progress_of progress) held.old) ≡ None) (λ full. refused held.old.sizes (file_demands (progress_of progress) held.old) ≡ Some full) }
-    ensures after { held.new ≡ record held.old { lists = held.new.lists } }
-    ensures macros { KeepsHeld held.old held.new }
-{
-    if progress == Progress::NotBegun {
-        return match held.room() {
-            Some(full) => Err(full),
-            None => Ok(()),
-        };
-    }
-    Ok(())
-}
-
-// The file goes on at this line, and gets its level with the first.
-fn open_line(held: &mut Held, progress: Progress, line: Line)
-    requires front { held.old.puts ≡ [] }
-    requires tied { line_levels held.old.line ≡ file_levels (progress_of progress) }
-    requires open { progress_of progress ≢ Closed }
-    requires room { refused held.old.sizes (file_demands (progress_of progress) held.old) ≡ None }
-    ensures after { held.new ≡ record held.old { line = Some line; lists = held.new.lists } }
-    ensures macros { KeepsHeld held.old held.new }
-{
-    if progress == Progress::NotBegun {
-        match held.open_file(line) {
-            Ok(()) => return,
-            Err(_full) => unreachable!(),
-        }
-    }
-    held.begin_line(line);
-}
-
 impl Input {
-    /// The job's file, where one is held, of which no byte has come, and room for all that these sizes admit. The primitives
-    /// of these numbers mean something.
+    /// No file is open, and there is room for all that these sizes admit. The primitives of these numbers mean something.
     ///
     /// # Errors
     /// There is no room for them. No other call takes memory.
-    pub fn new(alloc: Global, sizes: &Sizes, held: bool, known: &[u16]) -> Result<Input, AllocError>
+    pub fn new(alloc: Global, sizes: &Sizes, known: &[u16]) -> Result<Input, AllocError>
         requires { first_out_of_range sizes.now ≡ None }
-        ensures { IfOk result (λ i. i ≡ record { pending = unread (no_bytes held); making = None; call = NotCalling; builds = []; buffer = i.buffer; sizes = sizes.now; groups = first_groups (is_listed known.now); closing = []; ending = None; lists = replicate sizes.now.main_memory_size [] }) }
+        ensures { IfOk result (λ i. i ≡ record { pending = bottom; making = None; call = NotCalling; builds = []; buffer = i.buffer; sizes = sizes.now; groups = first_groups (is_listed known.now); closing = []; ending = None; lists = replicate sizes.now.main_memory_size [] }) }
     {
         let buffer = vec![in alloc; 0; sizes.buffer_size as usize]?;
-        let file = JobFile::new(alloc, sizes.buffer_size, held)?;
-        let lists = Held::new(alloc, sizes, known)?;
+        let files = Files::new(alloc, sizes.buffer_size, sizes.text_input_levels)?;
+        let held = Held::new(alloc, sizes, known)?;
         Ok(Input {
-            held: lists,
+            held,
             buffer,
-            file,
+            files,
         })
-    }
-
-    /// The job's file isn't held: none of its bytes has come, and none will.
-    pub fn drop_file(&mut self)
-        requires { self.old.pending ≡ unread (Some []) }
-        ensures { self.new ≡ record self.old { pending = unread None } }
-    {
-        self.file.close();
     }
 
     /// The bytes of the line buffer.
@@ -174,7 +131,7 @@ impl Input {
     pub fn line_number(&self) -> u64
         ensures { result ≡ self.now.pending.number }
     {
-        self.file.number()
+        self.files.number()
     }
 
     /// How many words of main memory are used: for each list that is held, 1 and its length.
@@ -270,16 +227,55 @@ impl Input {
         self.held.list_number(k as usize)
     }
 
-    /// The codes of the characters of the innermost gathered list go to a text, in place of what it had, if they have room
-    /// in its capacity. No memory is taken. *The TeXbook*, chapter 7 (`\csname`).
-    pub fn spell(&self, text: &mut Vec<u8>) -> bool
-        requires { self.now.builds ≢ [] }
-        ensures fits { MatchBool result (length (character_codes (first_list self.now.builds)) ≤ vec_capacity text.old) (vec_capacity text.old < length (character_codes (first_list self.now.builds))) }
-        ensures codes { OnTrue result (text.new.items ≡ character_codes (first_list self.now.builds)) }
-        ensures capacity { vec_capacity text.new ≡ vec_capacity text.old }
+    /// The codes of the characters of the innermost gathered list go behind the open lines, and it is told how many they are.
+    /// *The TeXbook*, chapter 7 (`\csname`); *TeX: The Program*, part 25.
+    ///
+    /// # Errors
+    /// They pass the buffer; nothing has changed.
+    pub fn spell(&mut self) -> Result<usize, Full>
+        requires { self.old.builds ≢ [] }
+        ensures refused { MatchResult result (λ _. refused self.old.sizes (spelt_name (character_codes (first_list self.old.builds)) self.old.pending ∷ []) ≡ None) (λ full. refused self.old.sizes (spelt_name (character_codes (first_list self.old.builds)) self.old.pending ∷ []) ≡ Some full) }
+        ensures ok { IfOk result (λ n. (n ≡ length (character_codes (first_list self.old.builds))) × (spelt self.new n ≡ character_codes (first_list self.old.builds))) }
+        ensures room { IfOk result (λ n. open_lines self.old.pending + n ≤ self.old.sizes.buffer_size) }
+        ensures others { self.new ≡ record self.old { buffer = self.new.buffer } }
+        ensures err { OnErr result (self.new ≡ self.old) }
     {
+        let lines = self.files.open_lines();
         let (lists, build) = self.held.list();
-        spell(lists, build, text)
+        let Some(count) = spelt_length(lists, build, self.buffer.len() - lines) else {
+            return Err(buffer_full(self.held.sizes(), lines));
+        };
+        spell(lists, build, &mut self.buffer, lines);
+        Ok(count)
+    }
+
+    /// Further bytes go behind a name of `n` bytes that was spelt, and it is told how many they are together.
+    ///
+    /// # Errors
+    /// They pass the buffer; nothing has changed.
+    pub fn spell_on(&mut self, n: usize, bytes: &[u8]) -> Result<usize, Full>
+        requires { open_lines self.old.pending + n ≤ self.old.sizes.buffer_size }
+        ensures refused { MatchResult result (λ _. refused self.old.sizes (buffer (n + length bytes.now) (open_lines self.old.pending) ∷ []) ≡ None) (λ full. refused self.old.sizes (buffer (n + length bytes.now) (open_lines self.old.pending) ∷ []) ≡ Some full) }
+        ensures ok { IfOk result (λ k. (k ≡ n + length bytes.now) × (spelt self.new k ≡ spelt self.old n ++ bytes.now)) }
+        ensures room { IfOk result (λ k. open_lines self.old.pending + k ≤ self.old.sizes.buffer_size) }
+        ensures others { self.new ≡ record self.old { buffer = self.new.buffer } }
+        ensures err { OnErr result (self.new ≡ self.old) }
+    {
+        let lines = self.files.open_lines();
+        if bytes.len() > self.buffer.len() - lines - n {
+            return Err(buffer_full(self.held.sizes(), lines));
+        }
+        put_bytes(&mut self.buffer, lines + n, bytes);
+        Ok(n + bytes.len())
+    }
+
+    /// The first `n` bytes behind the open lines: a name that was spelt.
+    pub fn spelt(&self, n: usize) -> &[u8]
+        requires { open_lines self.now.pending + n ≤ self.now.sizes.buffer_size }
+        ensures { result.now ≡ spelt self.now n }
+    {
+        let lines = self.files.open_lines();
+        &self.buffer[lines..lines + n]
     }
 
     /// The memory of all lists. Each list is counted once for each of its holders, and for nothing else.
@@ -367,13 +363,12 @@ impl Input {
         self.held.pull(&mut self.buffer)
     }
 
-    // Where nothing is left in front of the file but gaps, all lists in front go.
+    // Where nothing is left in front of the file but gaps, all lists in front of its line go.
     fn drop_front(&mut self)
         requires { ahead_of self.old.groups.now.categories self.old.pending ≡ ahead.End }
         ensures front { self.new.pending.puts ≡ [] }
         ensures file { self.new.pending.file ≡ self.old.pending.file }
-        ensures rest { self.new.pending.rest ≡ self.old.pending.rest }
-        ensures number { self.new.pending.number ≡ self.old.pending.number }
+        ensures outer { self.new.pending.outer ≡ self.old.pending.outer }
         ensures others { self.new ≡ record self.old { pending = self.new.pending; buffer = self.new.buffer; lists = self.new.lists } }
         ensures macros { KeepsMacros self.old self.new }
     {
@@ -384,55 +379,54 @@ impl Input {
     fn take_line(&mut self) -> Result<(), Full>
         requires end { ahead_of self.old.groups.now.categories self.old.pending ≡ ahead.End }
         requires settled { settle self.old.pending ≡ self.old.pending }
-        requires open { self.old.pending.file ≢ Closed }
-        ensures ok { OnOk result (TakesLine (line_taken self.old.pending.number self.old.pending.rest) (end_of_line self.old.groups.now) self.old.pending self.new.pending) }
+        requires open { self.old.pending.file ≡ Begun }
+        ensures ok { OnOk result (TakesLine (line_taken self.old.pending self.old.pending.rest) (end_of_line self.old.groups.now) self.old.pending self.new.pending) }
         ensures refused { MatchResult result (λ _. refused self.old.sizes (next_line self.old.pending) ≡ None) (λ full. refused self.old.sizes (next_line self.old.pending) ≡ Some full) }
         ensures err { OnErr result (self.new.pending ≡ self.old.pending) }
         ensures others { self.new ≡ record self.old { pending = self.new.pending; buffer = self.new.buffer; lists = self.new.lists } }
         ensures macros { KeepsMacros self.old self.new }
     {
-        let cut = first_line(self.file.rest());
-        if cut.whole >= self.buffer.len() {
-            return Err(buffer_full(self.held.sizes()));
+        let cut = first_line(self.files.rest());
+        let lines = self.files.lines_beneath();
+        if cut.whole >= self.buffer.len() - lines {
+            return Err(buffer_full(self.held.sizes(), lines));
         }
-        let progress = self.file.progress();
-        line_room(&mut self.held, progress)?;
         self.held.drop_front(&mut self.buffer);
         let end = self.held.integer(END_LINE_CHARACTER);
-        let length = put_line(&mut self.buffer, &self.file.rest()[..cut.kept], end);
-        open_line(&mut self.held, progress, line_start(length));
-        self.file.go_on(cut.used);
+        let length = put_line(&mut self.buffer, lines, &self.files.rest()[..cut.kept], end);
+        self.held.begin_line(line_start(lines, lines + length));
+        self.files.go_on(cut.kept, cut.used);
         Ok(())
     }
 
-    // The file goes.
+    // The innermost file goes.
     fn end_file(&mut self)
         requires front { self.old.pending.puts ≡ [] }
         requires open { self.old.pending.file ≡ Begun }
-        ensures { self.new ≡ record self.old { pending = closed } }
+        ensures { self.new ≡ record self.old { pending = beneath self.old.pending.outer } }
     {
         self.held.end_file();
-        self.file.close();
+        self.files.end_file();
     }
 
     // The next line of the file, or its end, where nothing is left of a line.
     fn pull_file(&mut self) -> Result<Pulled, Full>
         requires end { ahead_of self.old.groups.now.categories self.old.pending ≡ ahead.End }
         requires settled { settle self.old.pending ≡ self.old.pending }
-        ensures ok { IfOk result (λ r. Pulls (from_file self.old.pending.file self.old.pending.number self.old.pending.rest) r self.old self.new) }
+        ensures ok { IfOk result (λ r. Pulls (from_file self.old.pending self.old.pending.file) r self.old self.new) }
         ensures others { self.new ≡ record self.old { pending = self.new.pending; buffer = self.new.buffer; lists = self.new.lists } }
         ensures macros { KeepsMacros self.old self.new }
-        ensures puts { (id : ℕ) → is_put id self.new.pending.puts ≡ true → is_put id self.old.pending.puts ≡ true }
+        ensures puts { (id : ℕ) → is_put id (all_puts self.new.pending) ≡ true → is_put id (all_puts self.old.pending) ≡ true }
         ensures err { IfErr result (λ full. RefusesLine full self.old self.new) }
     {
-        match self.file.progress() {
-            Progress::Closed => Ok(Pulled::Nothing),
-            Progress::Begun if self.file.rest().is_empty() => {
+        match self.files.step() {
+            Step::Nothing => Ok(Pulled::Nothing),
+            Step::Over => {
                 self.drop_front();
                 self.end_file();
                 Ok(Pulled::FileOver)
             }
-            _ => {
+            Step::Line => {
                 self.take_line()?;
                 Ok(Pulled::Taken)
             }
@@ -443,8 +437,8 @@ impl Input {
     /// *The TeXbook*, chapters 7 and 8; *TeX: The Program*, part 24 (`get_next`).
     ///
     /// # Errors
-    /// The next line is too long for the buffer, or the file's level or that of an argument passes the size of the input
-    /// stack. Nothing has changed but that the finished lists in front have gone.
+    /// The next line is too long for the buffer, or the level of an argument passes the size of the input stack. Nothing has
+    /// changed but that the finished lists in front have gone.
     pub fn pull(&mut self) -> Result<Pulled, Full>
         ensures ok { IfOk result (λ r. Pulls (pulled self.old.groups.now.categories self.old.pending) r self.old self.new) }
         ensures others { self.new ≡ record self.old { pending = self.new.pending; buffer = self.new.buffer; lists = self.new.lists } }
@@ -468,7 +462,7 @@ impl Input {
         match self.looks() {
             Ahead::Token => true,
             Ahead::Invalid => false,
-            Ahead::End => self.file.has_line(),
+            Ahead::End => self.files.has_line(),
         }
     }
 
@@ -480,17 +474,119 @@ impl Input {
     {
         match self.looks() {
             Ahead::Token | Ahead::Invalid => false,
-            Ahead::End => self.file.lacks_line(),
+            Ahead::End => self.files.lacks_next(),
         }
     }
 
     /// The next bytes of the file came, behind those that are left of it.
     pub fn add_bytes(&mut self, bytes: &[u8])
+        requires begun { self.old.pending.next ≡ None }
+        requires open { self.old.pending.file ≡ Begun }
         requires room { length self.old.pending.rest ≤ self.old.sizes.buffer_size }
         requires window { length bytes.now ≤ 256 }
         ensures { self.new ≡ record self.old { pending = with_bytes bytes.now self.old.pending } }
     {
-        self.file.add(bytes);
+        self.files.add(bytes);
+    }
+
+    /// Whether a file was opened that isn't begun: its first line is the next step.
+    pub fn has_next(&self) -> bool
+        ensures { MatchBool result (IsSome self.now.pending.next) (self.now.pending.next ≡ None) }
+    {
+        self.files.has_next()
+    }
+
+    /// Whether the file that was opened must give more before its first line is known.
+    pub fn needs_first_bytes(&self) -> bool
+        ensures { MatchBool result (NeedsFirst self.now) (KnowsFirst self.now) }
+    {
+        self.files.lacks_first()
+    }
+
+    /// The next bytes of the file that was opened came, behind those that it has.
+    pub fn add_first_bytes(&mut self, bytes: &[u8])
+        requires needs { NeedsFirst self.old }
+        requires window { length bytes.now ≤ 256 }
+        ensures { self.new ≡ record self.old { pending = with_first_bytes bytes.now self.old.pending } }
+    {
+        self.files.add_first(bytes);
+    }
+
+    /// The file that was opened is begun with its first line, above all that is pending. *TeX: The Program*, part 29
+    /// (`start_input`).
+    ///
+    /// # Errors
+    /// The line is too long for the buffer behind the open lines, or else the input stack is full; nothing has changed.
+    pub fn begin_file(&mut self) -> Result<(), Full>
+        requires opened { IsSome self.old.pending.next }
+        requires settled { settle self.old.pending ≡ self.old.pending }
+        ensures refused { MatchResult result (λ _. refused self.old.sizes (next_file self.old.pending) ≡ None) (λ full. refused self.old.sizes (next_file self.old.pending) ≡ Some full) }
+        ensures ok { OnOk result (self.new.pending ≡ with_end (end_of_line self.old.groups.now) (with_begun self.old.pending)) }
+        ensures err { OnErr result (self.new.pending ≡ self.old.pending) }
+        ensures others { self.new ≡ record self.old { pending = self.new.pending; buffer = self.new.buffer; lists = self.new.lists } }
+        ensures macros { KeepsMacros self.old self.new }
+    {
+        let cut = first_line(self.files.first_bytes());
+        let lines = self.files.open_lines();
+        if cut.whole >= self.buffer.len() - lines {
+            return Err(buffer_full(self.held.sizes(), lines));
+        }
+        if let Some(full) = self.held.room() {
+            return Err(full);
+        }
+        let end = self.held.integer(END_LINE_CHARACTER);
+        let length = put_line(
+            &mut self.buffer,
+            lines,
+            &self.files.first_bytes()[..cut.kept],
+            end,
+        );
+        match self.held.open_file(line_start(lines, lines + length)) {
+            Ok(()) => {}
+            Err(_full) => unreachable!(),
+        }
+        self.files.begin(cut.kept, cut.used);
+        Ok(())
+    }
+
+    /// Why no file more may be open.
+    pub fn file_room(&self) -> Option<Full>
+        ensures { result ≡ refused self.now.sizes (text_level self.now.pending ∷ []) }
+    {
+        let sizes = self.held.sizes();
+        let used = self.files.count();
+        if used < sizes.text_input_levels {
+            return None;
+        }
+        Some(Full {
+            table: Table::TextInputLevels,
+            used,
+            size: sizes.text_input_levels,
+        })
+    }
+
+    /// A file is opened, of which no byte has come. It is begun with its first line.
+    pub fn open_file(&mut self)
+        requires none { self.old.pending.next ≡ None }
+        requires room { refused self.old.sizes (text_level self.old.pending ∷ []) ≡ None }
+        ensures { self.new ≡ record self.old { pending = with_next (Some []) self.old.pending } }
+    {
+        self.files.open();
+    }
+
+    /// The innermost file ends behind its present line: `\endinput`. *TeX: The Program*, parts 24 and 25 (`force_eof`).
+    pub fn end_input(&mut self)
+        ensures { self.new ≡ record self.old { pending = ending self.old.pending } }
+    {
+        self.files.end_input();
+    }
+
+    /// How many files are open, also one that isn't begun.
+    pub fn open_files(&self) -> u32
+        ensures is { result ≡ open_files self.now.pending }
+        ensures lines { open_lines self.now.pending ≤ self.now.sizes.buffer_size }
+    {
+        self.files.count()
     }
 
     /// A token with what it means now: a character means itself.
@@ -543,7 +639,7 @@ impl Input {
         requires assignable { IsPlaced (location name) (length self.old.groups.now.meanings) }
         ensures refused { MatchResult result (λ _. refused self.old.sizes (name_demands global self.old.groups name) ≡ None) (λ full. refused self.old.sizes (name_demands global self.old.groups name) ≡ Some full) }
         ensures ok { OnOk result (self.new ≡ record self.old { builds = drop 1 self.old.builds; groups = self.new.groups; lists = self.new.lists }) }
-        ensures defines { OnOk result (Defines global self.old.groups self.new.groups self.old.pending.puts self.old.lists self.new.lists (first_list self.old.builds) name long outer) }
+        ensures defines { OnOk result (Defines global self.old.groups self.new.groups (all_puts self.old.pending) self.old.lists self.new.lists (first_list self.old.builds) name long outer) }
         ensures err { OnErr result (self.new ≡ self.old) }
         ensures macros { KeepsMacros self.old self.new }
     {
@@ -850,7 +946,7 @@ impl Input {
         let Input {
             held,
             buffer: _,
-            file: _,
+            files: _,
         } = self;
         held.close();
     }

@@ -8,3 +8,4 @@ pub mod Going
 pub mod Exits
 pub mod Knowing
 pub mod Looking
+pub mod OpenFiles

@@ -1,6 +1,6 @@
 // An open reader that is read piece by piece.
 ghost use Rattle.std.specs.Prelude.{◌≡◌, ◌≤◌, take, true, false, Ok, IfOk, OnErr};
-ghost use Rattle.world_io.specs.Told.{HasCause, SameFiles, IsAtEnd};
+ghost use Rattle.world_io.specs.Told.{HasCause, SameFiles, SameCounts, ClosesReader, IsAtEnd};
 ghost use Rattle.line_reader.specs.Reading.{CameIn};
 ghost use Rattle.line_reader.specs.Readers.{came_of, KnowsEnd};
 
@@ -64,5 +64,14 @@ impl Reader {
             }
             Err(fault) => Err(fault),
         }
+    }
+
+    /// Closes it.
+    pub(crate) fn close<F: Files>(self, files: &mut F)
+        requires open { (F.told files.old).reading self.id ≡ true }
+        ensures closed { ClosesReader self.id (F.told files.old) (F.told files.new) }
+        ensures counts { SameCounts (F.told files.old) (F.told files.new) }
+    {
+        files.close_in(self.id);
     }
 }

@@ -128,7 +128,7 @@ fn gives_back(input: &mut Input) -> Result<bool, Full>
 }
 
 fn is_given_back(alloc: Global) -> bool {
-    let Ok(mut input) = Input::new(alloc, &Sizes::DEFAULT, false, &[]) else {
+    let Ok(mut input) = Input::new(alloc, &Sizes::DEFAULT, &[]) else {
         return false;
     };
     let given = gives_back(&mut input);

@@ -3,8 +3,9 @@ ghost use Rattle.std.specs.Borrow.{MutBor};
 ghost use Rattle.world_io.specs.Memory.{files_told};
 ghost use Rattle.line_reader.specs.Ahead.{with_ahead};
 ghost use Rattle.line_reader.specs.OpenLines.{most_readers};
+ghost use Rattle.line_reader.specs.Readers.{AreOpen};
 
-use line_reader::{Buffer, Edit, Reader, at_end, next_line};
+use line_reader::{Buffer, Edit, Reader, Readers, at_end, next_line};
 use std::alloc::Global;
 use tex_defs::{Full, Sizes, Stop, Table};
 use world_io::{Files, InId, MemFiles};
@@ -198,4 +199,69 @@ fn changes(files: &mut MemFiles, id: InId, buffer: &mut Buffer) -> bool
 #[test]
 fn a_line_is_changed(rt: HostRuntime) {
     assert!(rt; holds(rt.alloc(), b"xy", usize::MAX, &Sizes::DEFAULT, changes));
+}
+
+/// Whether the next byte of the innermost file is this one.
+fn gives(readers: &mut Readers, files: &mut MemFiles, byte: u8) -> bool
+    requires some { readers.old.readers ≢ [] }
+    requires open { AreOpen readers.old.readers (files_told files.old) }
+    ensures most { readers.new.most ≡ readers.old.most }
+    ensures count { length readers.new.readers ≡ length readers.old.readers }
+    ensures open { AreOpen readers.new.readers (files_told files.new) }
+{
+    let mut window = [b'z'; 256];
+    readers.read(files, &mut window) == Ok(1) && window[0] == byte
+}
+
+/// Whether `b`, which holds `z`, is read beneath another file, and then closed.
+fn comes_beneath(readers: &mut Readers, files: &mut MemFiles) -> bool
+    requires room { length readers.old.readers < readers.old.most }
+    requires open { AreOpen readers.old.readers (files_told files.old) }
+    ensures count { result ≡ true → length readers.new.readers ≡ length readers.old.readers }
+    ensures open { AreOpen readers.new.readers (files_told files.new) }
+{
+    let Ok(true) = readers.open(files, b"b") else {
+        return false;
+    };
+    let come = gives(readers, files, b'z') && !readers.is_ended() && readers.count() == 2;
+    readers.close(files);
+    come
+}
+
+/// Whether `a`, which holds `xy`, is read to its end, with `b` beneath its first byte.
+fn come_innermost_first(readers: &mut Readers, files: &mut MemFiles) -> bool
+    requires none { readers.old.readers ≡ [] }
+    requires room { 1 < readers.old.most }
+    ensures { AreOpen readers.new.readers (files_told files.new) }
+{
+    let mut window = [b'z'; 256];
+    let Ok(true) = readers.open(files, b"a") else {
+        return false;
+    };
+    gives(readers, files, b'x')
+        && comes_beneath(readers, files)
+        && gives(readers, files, b'y')
+        && readers.read(files, &mut window) == Ok(0)
+        && readers.is_ended()
+}
+
+/// Whether files in memory come innermost first; a name that isn't held gives none, and all are closed.
+fn are_read(alloc: Global) -> bool {
+    let Ok(mut readers) = Readers::new(alloc, 2) else {
+        return false;
+    };
+    let mut files = MemFiles::new(alloc);
+    let added = files.add(b"a", b"xy").is_ok() && files.add(b"b", b"z").is_ok();
+    files.limit_reads(1);
+    let Ok(false) = readers.open(&mut files, b"c") else {
+        return false;
+    };
+    let come = come_innermost_first(&mut readers, &mut files);
+    readers.close_all(&mut files);
+    added && come && readers.count() == 0
+}
+
+#[test]
+fn files_come_innermost_first(rt: HostRuntime) {
+    assert!(rt; are_read(rt.alloc()));
 }

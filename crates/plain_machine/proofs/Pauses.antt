@@ -1,6 +1,6 @@
 -- Each state and bound has a run, since from each state silent moves come to an end or to a step.
 use Rattle.std.proofs.Common.{◌≡◌, ◌⊎◌, ℕ, ◌+◌, ◌≤◌, List, [], ◌∷◌, ◌++◌, refl, ◌∙◌, inl, inr, arith, zero, suc}
-use Rattle.plain_machine.specs.States.{State, Move, Handed, Taken, Settled, made}
+use Rattle.plain_machine.specs.States.{State, Move, Handed, Taken, FirstTaken, Settled, made}
 use Rattle.plain_machine.specs.Plan.{Ends, Goes, next, plan}
 use Rattle.plain_machine.specs.Runs.{step_of, steps, Moves, NeedsStep, HasRun, all_made}
 use Rattle.plain_machine.proofs.Joins.{moves_join, steps_join, due_kept, next_due, next_plan}
@@ -18,6 +18,7 @@ record Pauses (s : State) : Type 0 where
 kind_of_step : (m : Move) → (step_of m ≡ 0) ⊎ (step_of m ≡ 1)
 kind_of_step (Handed t) = inr refl
 kind_of_step (Taken l) = inr refl
+kind_of_step (FirstTaken l) = inr refl
 kind_of_step m = inl refl
 
 goes : (s u : State) (m : Move) → next s ≡ Goes m u → (step_of m ≡ 0) ⊎ (step_of m ≡ 1) → Pauses u → Pauses s

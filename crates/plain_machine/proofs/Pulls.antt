@@ -1,5 +1,5 @@
 -- The next token, character or line is pulled by a rule's second move, once the finished lists in front have gone, or not at all.
-use Rattle.std.proofs.Common.{◌≡◌, ℕ, ◌+◌, ◌≤◌, List, [], ◌∷◌, ◌++◌, length, drop, map, slice_index_or, refl, arith, Bool, true, false}
+use Rattle.std.proofs.Common.{◌≡◌, ℕ, ◌+◌, ◌≤◌, ◌<◌, List, [], ◌∷◌, ◌++◌, length, drop, map, slice_index_or, refl, arith, Bool, true, false}
 use Rattle.std.specs.Prelude.{Option, Some, None, if◌then◌else◌, ◌||◌, nat_eq, nat_lt}
 use Rattle.tex_syntax.specs.declared.words.Want.{Want}
 use Rattle.tex_syntax.specs.declared.words.Want.TheVariants.{Raw, Expanded, Copied, Nonblank, Command}
@@ -13,7 +13,7 @@ use Rattle.tex_defs.specs.declared.Meaning.{Meaning}
 use Rattle.tex_defs.specs.declared.Meaning.TheVariants as means
 use Rattle.tex_defs.specs.declared.Token.{Token}
 use Rattle.tex_defs.specs.declared.Token.TheVariants as token
-use Rattle.tex_defs.specs.declared.Fatal.TheVariants.{HundredErrors}
+use Rattle.tex_defs.specs.declared.Fatal.TheVariants.{NoFile, HundredErrors}
 use Rattle.tex_defs.specs.Places.{Transcript}
 use Rattle.tex_defs.specs.declared.Name.{Name}
 use Rattle.plain_tokens.specs.Categories.{begin_group, end_group}
@@ -29,7 +29,7 @@ use Rattle.save_stack.specs.declared.GroupKind.{GroupKind}
 use Rattle.save_stack.specs.declared.GroupKind.TheVariants.{Simple, SemiSimple}
 use Rattle.equivalents.specs.declared.values.Loc.TheVariants as loc
 use Rattle.equivalents.specs.declared.values.Val.TheVariants as val
-use Rattle.plain_state.specs.Reports.{string_text, hundred_line, token_line_bytes}
+use Rattle.plain_state.specs.Reports.{string_text, hundred_line, emergency, no_file_line, token_line_bytes}
 use Rattle.rows.specs.declared.command.Call.{Call}
 use Rattle.rows.specs.declared.command.Effect.{Effect}
 use Rattle.rows.specs.declared.command.Effect.TheVariants as effect
@@ -38,18 +38,20 @@ use Rattle.rows.specs.Table.{has_row}
 use Rattle.rows.specs.Readings.{Fed, Tok, Told, Ask, More, Inner, Done, Acts, ActsOn, Defines, Ends as Closes, Calls, Fails, RunsAway, Tells, Inserts}
 use Rattle.plain_readings.specs.Calls.{gathered}
 use Rattle.plain_readings.specs.Spelling.{endcsname_primitive}
-use Rattle.plain_readings.specs.Readings.{Kind, Reads, Spelling, Arguments, Reading, lists}
+use Rattle.plain_readings.specs.Readings.{Kind, Reads, Spelling, FileName, Arguments, Reading, lists}
 use Rattle.plain_readings.specs.Scanning.{Scanning, scanning}
-use Rattle.plain_machine.specs.States.{State, Move, Handed, Taken, Skipped, FileClosed, Grows, Feeds, Completed, ListGrown, Set, Assigned, Defined, GroupOpened, Begun, Ended, Closed, Written, Stopped}
-use Rattle.plain_machine.specs.Plan.{Page, page_of, style_of, met, met_outer, entered, checked, check_noted, ran_away, away_text, page_behind, reported, reported_as, behind_report, reports_room, told, put_inserted, put_one, put_made, put_text, put_characters, noting, noting_kind, token_line, finish, command, primitive, call_of, begun, csname_primitive, jobname_primitive, is_expandable_primitive, job_in, expansion, begingroup_primitive, endgroup_primitive, put_each, group_ended, brace_met, endgroup_met, character, unless_expanded, called, called_meaning, called_list, put_body, body_put, stomach, wanted, expanded, expanded_as, feeding_kind, grown_and_fed, first_list, grown_to, opened, in_place, argument_fed, call_fed, inner_begun, given_back, value_tokens, done, arguments_put, called_with, failed, failed_away, is_global, natural, behind_assignment, assigned, kept_for_group, acts, acts_on, and_closed, meaning_characters, macro_defined, name_made, relax_if_undefined, spelt, newly_spelt, answered}
+use Rattle.plain_machine.specs.States.{State, Files, Move, Handed, Taken, FirstTaken, Settled, Skipped, FileClosed, FileEnds, FileOpened, Spelt, NameInProgress, Grows, Feeds, Completed, ListGrown, Set, Assigned, Defined, GroupOpened, Begun, Ended, Closed, Written, Stopped}
+use Rattle.plain_machine.specs.Plan.{Page, page_of, style_of, met, met_outer, entered, checked, check_noted, ran_away, away_text, page_behind, reported, reported_as, behind_report, reports_room, told, put_inserted, put_one, put_made, put_text, put_characters, noting, noting_kind, token_line, finish, command, primitive, call_of, begun, csname_primitive, jobname_primitive, input_primitive, endinput_primitive, input_met, frozen_relax, is_expandable_primitive, job_in, expansion, begingroup_primitive, endgroup_primitive, put_each, group_ended, brace_met, endgroup_met, character, unless_expanded, called, called_meaning, called_list, put_body, body_put, stomach, wanted, expanded, expanded_as, feeding_kind, grown_and_fed, first_list, grown_to, opened, in_place, argument_fed, call_fed, inner_begun, given_back, value_tokens, done, arguments_put, called_with, failed, failed_away, is_global, natural, behind_assignment, assigned, kept_for_group, acts, acts_on, acts_in, and_closed, meaning_characters, macro_defined, name_made, unless_found, input_begun, relax_if_undefined, spelt, newly_spelt, answered}
 use Rattle.plain_machine.specs.Runs.{step_of, steps}
 
--- the moves that pull
+-- The moves that pull: they read what is pending, or open a file.
 abbrev pub pull_of : Move → ℕ
 pull_of (Handed t) = 1
 pull_of (Taken line) = 1
+pull_of (FirstTaken line) = 1
 pull_of Skipped = 1
 pull_of FileClosed = 1
+pull_of (FileOpened name) = 1
 pull_of m = 0
 
 abbrev pub pulls : List Move → ℕ
@@ -60,10 +62,44 @@ pub pulls_join : (ms ns : List Move) → pulls (ms ++ ns) ≡ pulls ms + pulls n
 pulls_join [] ns = omega arith
 pulls_join (m ∷ ms) ns = omega (arith, pulls_join ms ns)
 
+-- the moves that read what is pending
+abbrev pub read_of : Move → ℕ
+read_of (FileOpened name) = 0
+read_of m = pull_of m
+
+abbrev pub reads : List Move → ℕ
+reads [] = 0
+reads (m ∷ ms) = read_of m + reads ms
+
+pub reads_join : (ms ns : List Move) → reads (ms ++ ns) ≡ reads ms + reads ns
+reads_join [] ns = omega arith
+reads_join (m ∷ ms) ns = omega (arith, reads_join ms ns)
+
+read_pulls : (m : Move) → read_of m ≤ pull_of m
+read_pulls (FileOpened name) = omega arith
+read_pulls (Handed t) = omega arith
+read_pulls m = omega arith
+
+pub reads_pull : (ms : List Move) → reads ms ≤ pulls ms
+reads_pull [] = omega arith
+reads_pull (m ∷ ms) = omega (arith, read_pulls m, reads_pull ms)
+
+step_reads : (m : Move) → step_of m ≤ read_of m
+step_reads (Handed t) = omega arith
+step_reads (Taken line) = omega arith
+step_reads (FirstTaken line) = omega arith
+step_reads m = omega arith
+
+-- each step reads
+pub steps_read : (ms : List Move) → steps ms ≤ reads ms
+steps_read [] = omega arith
+steps_read (m ∷ ms) = omega (arith, step_reads m, steps_read ms)
+
 -- each step is a pull
 pub step_pulls : (m : Move) → step_of m ≤ pull_of m
 step_pulls (Handed t) = omega arith
 step_pulls (Taken line) = omega arith
+step_pulls (FirstTaken line) = omega arith
 step_pulls m = omega arith
 
 pub steps_pull : (ms : List Move) → steps ms ≤ pulls ms
@@ -213,13 +249,19 @@ primitive_none page t n =
     (none_if (nat_eq n endgroup_primitive) (endgroup_met page t page.group) extra (endgroup_none page t page.group)
     (none_if (nat_eq n endcsname_primitive) (reported page reports.ExtraEndcsname []) line (reported_none page reports.ExtraEndcsname [] refl) (line_none page (means.Prim n)))))))
 
+input_none : (page : Page) (t : Token) (c : Call) → pulls (input_met page t c) ≡ 0
+input_none page t c = none_if page.naming (put_one t ++ put_one frozen_relax) (Begun (FileName c) ∷ NameInProgress true ∷ []) refl refl
+
 expansion_none : (page : Page) (t : Token) (n : ℕ) → pulls (expansion page t n) ≡ 0
 expansion_none page t n =
     let name : List Move = put_characters (job_in page.strings) in
     let job : List Move = begun t n ++ (name ++ Closed ∷ []) in
-    let others : List Move = if nat_eq n jobname_primitive then job else begun t n in
+    let ending : List Move = if nat_eq n endinput_primitive then FileEnds ∷ [] else begun t n in
+    let beginning : List Move = if nat_eq n input_primitive then input_met page t (call_of t n) else ending in
+    let others : List Move = if nat_eq n jobname_primitive then job else beginning in
     none_if (nat_eq n csname_primitive) (Begun (Spelling (call_of t n)) ∷ []) others refl
-    (none_if (nat_eq n jobname_primitive) job (begun t n) (omega (arith, joined_none name (Closed ∷ []) (characters_none (job_in page.strings)) refl)) refl)
+    (none_if (nat_eq n jobname_primitive) job beginning (omega (arith, joined_none name (Closed ∷ []) (characters_none (job_in page.strings)) refl))
+    (none_if (nat_eq n input_primitive) (input_met page t (call_of t n)) ending (input_none page t (call_of t n)) (none_if (nat_eq n endinput_primitive) (FileEnds ∷ []) (begun t n) refl refl)))
 
 unless_none : (page : Page) (t : Token) (n : ℕ) (moves : List Move) → pulls moves ≡ 0 → pulls (unless_expanded page t n moves) ≡ 0
 unless_none page t n moves h = none_if (is_expandable_primitive n) (expansion page t n) moves (expansion_none page t n) h
@@ -352,7 +394,7 @@ made_name_none : (page : Page) (characters : List ℕ) → pulls (name_made page
 made_name_none page characters =
     let n : Name = spelt page.names characters in
     let front : List Move = put_one (token.Named n) in
-    joined_none (entered (newly_spelt page.names characters)) (relax_if_undefined page.now.meanings n ++ front) (entered_none (newly_spelt page.names characters))
+    joined_none (Spelt characters ∷ entered (newly_spelt page.names characters)) (relax_if_undefined page.now.meanings n ++ front) (omega (arith, entered_none (newly_spelt page.names characters)))
     (joined_none (relax_if_undefined page.now.meanings n) front (relax_none page.now.meanings n) refl)
 
 pub acts_on_none : (page : Page) (c : Call) (e : Effect) (ts : List Token) → pulls (acts_on page c e ts) ≡ 0
@@ -364,17 +406,23 @@ pub macro_none : (page : Page) (c : Call) (n : Name) (ts : List Token) → pulls
 macro_none page c n [] = refl
 macro_none page c n (t ∷ ts) = assigned_none page (Defined (is_global page c) n c.long c.outer (t ∷ ts)) refl
 
--- an answer by which no token is wanted
+-- an answer by which no token is wanted and no file begun
 abbrev pub WantsNone : Ask → Type 0
 WantsNone (More want) = ⊥
+WantsNone (ActsOn c (effect.StartInput back) ts) = ⊥
 WantsNone a = Unit {0}
+
+-- no act with a list but `\input` opens a file
+acts_in_none : (s : State) (page : Page) (c : Call) (e : Effect) (ts : List Token) → WantsNone (ActsOn c e ts) → pulls (acts_in s.files page c e ts) ≡ 0
+acts_in_none s page c (effect.StartInput back) ts h = absurd h
+acts_in_none s page c e ts h = acts_on_none page c e ts
 
 pub answered_none : (s : State) (work : List Reading) (r : Reading) (a : Ask) → WantsNone a → pulls (answered s work r a) ≡ 0
 answered_none s work r (More want) h = absurd h
 answered_none s work r (Inner k begins) h = inner_none (Reads k) begins
 answered_none s work r (Done v back) h = done_none (page_of s) r v back
 answered_none s work r (Acts c e) h = acts_none (page_of s) c e
-answered_none s work r (ActsOn c e ts) h = acts_on_none (page_of s) c e ts
+answered_none s work r (ActsOn c e ts) h = acts_in_none s (page_of s) c e ts h
 answered_none s work r (Defines c n ts) h = macro_none (page_of s) c n ts
 answered_none s work r Closes h = refl
 answered_none s work r (Calls args) h = called_with_none r.kind args
@@ -382,3 +430,27 @@ answered_none s work r (Fails report) h = failed_none (page_of s) report
 answered_none s work r (RunsAway report) h = failed_away_none (page_of s) report (scanning work s.gathered)
 answered_none s work r (Tells report back) h = told_none (page_of s) report None back r
 answered_none s work r (Inserts t report back) h = told_none (page_of s) report (Some t) back r
+
+-- A FILE THAT IS BEGUN BY ITS NAME opens it, and reads nothing.
+
+given_reads : (back : Bool) (last : Seen) → reads (given_back back last) ≡ 0
+given_reads back last = omega (arith, reads_pull (given_back back last), back_none back last)
+
+hundred_reads : (b : Bool) (style : Style) (rest : List Move) → reads rest ≡ 0 → reads (if b then rest else Written Transcript (hundred_line style) ∷ Stopped (AtFatal HundredErrors) ∷ []) ≡ 0
+hundred_reads true style rest h = h
+hundred_reads false style rest h = refl
+
+unless_reads : (page : Page) (name : List ℕ) (o : Option (List ℕ)) → reads (unless_found page name o) ≡ 0
+unless_reads page name (Some bytes) = refl
+unless_reads page name None =
+    omega (arith, hundred_reads (nat_lt page.reports reports_room) (style_of page) (Written Transcript (emergency (style_of page) ++ no_file_line (style_of page)) ∷ Stopped (AtFatal NoFile) ∷ []) refl)
+
+pub begun_reads : (files : Files) (page : Page) (back : Bool) (name : List ℕ) → reads (input_begun files page back name) ≡ 0
+begun_reads files page back name =
+    let rest : List Move = Spelt name ∷ Closed ∷ NameInProgress false ∷ Settled ∷ FileOpened name ∷ unless_found page name (files 0 name) in
+    omega (arith, reads_join (given_back back page.last) rest, given_reads back page.last, unless_reads page name (files 0 name))
+
+pub begun_pulls : (files : Files) (page : Page) (back : Bool) (name : List ℕ) → 0 < pulls (input_begun files page back name)
+begun_pulls files page back name =
+    let rest : List Move = Spelt name ∷ Closed ∷ NameInProgress false ∷ Settled ∷ FileOpened name ∷ unless_found page name (files 0 name) in
+    omega (arith, pulls_join (given_back back page.last) rest)

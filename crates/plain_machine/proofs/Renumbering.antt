@@ -1,6 +1,6 @@
 -- Each rule does the same under other numbers of the macros.
-use Rattle.std.proofs.Common.{◌≡◌, ℕ, ◌+◌, List, [], ◌∷◌, length, Option, Some, None, refl, ap, ◌∙◌}
-use Rattle.std.specs.Prelude.{fold}
+use Rattle.std.proofs.Common.{◌≡◌, ℕ, ◌+◌, List, [], ◌∷◌, length, Option, Some, None, refl, ap, ap₂, ◌++◌, map, ◌∙◌}
+use Rattle.std.specs.Prelude.{fold, Bool, true, false}
 use Rattle.std.proofs.Math.ListN.{get_or-map}
 use Rattle.tex_defs.specs.declared.Token.{Token}
 use Rattle.tex_defs.specs.declared.Token.TheVariants as token
@@ -11,12 +11,13 @@ use Rattle.tex_defs.specs.declared.Name.TheVariants as name
 use Rattle.tex_defs.specs.declared.Meaning.{Meaning}
 use Rattle.tex_defs.specs.declared.Meaning.TheVariants as means
 use Rattle.tex_defs.specs.declared.Seen.{Seen}
+use Rattle.tex_defs.specs.declared.Table.TheVariants.{InputStackSize, ParameterStackSize, TextInputLevels}
 use Rattle.plain_tokens.specs.Lex.{Lexed, Gives, Invalid, UsedUp, lexed}
 use Rattle.plain_tokens.specs.Puts.{Item, First, Whole, Own, Macro, Put, put_top, with_put, settled_top, settled, without_gaps, passed_top, passed, top_item, next_item, put_levels, put_parameters, levels_of, when_some, token_put, call_put}
-use Rattle.plain_tokens.specs.Pending.{Pending, Progress, NotBegun, Begun, Closed, Pulled, TokenFrom, LexemeFrom, LineTaken, InvalidMet, FileOver, NothingLeft, with_puts, settle, put_front, from_file, from_line, from_list, from_front, pulled, after_pull}
+use Rattle.plain_tokens.specs.Pending.{Pending, Source, Progress, Begun, Closed, Pulled, TokenFrom, LexemeFrom, LineTaken, InvalidMet, FileOver, NothingLeft, with_puts, settle, put_front, beneath, from_begun, from_file, from_line, from_list, from_front, pulled, after_pull, with_next, begun_by, with_begun, ending, outer_puts, all_puts}
 use Rattle.plain_tokens.specs.Meanings.{location, fixed_meaning, frozen_meaning, looked_up, name_meaning, seen_as, token_meaning, seen, met, whole_meaning, let_meaning, meaning_to_let}
-use Rattle.plain_tokens.specs.Tables.{whole_words, lists_words, argument_words, put_words, made_words, held_words, levels, file_levels, level, opened_level, parameters, file_level, next_line}
-use Rattle.plain_machine.specs.Numbers.{meaning_of, meanings_of, whole_of, put_of, puts_of, pending_of, pulled_of}
+use Rattle.plain_tokens.specs.Tables.{Demand, whole_words, lists_words, argument_words, put_words, made_words, held_words, file_levels, begun_files, levels, opened_files, level, opened_level, parameters, line_room, lines_beneath, open_lines, buffer, line_need, next_line, first_line_of, next_file, text_level, spelt_name}
+use Rattle.plain_machine.specs.Numbers.{meaning_of, meanings_of, whole_of, put_of, puts_of, source_of, pending_of, pulled_of}
 
 module _ (number : ℕ → ℕ) where
   -- THE LISTS IN FRONT
@@ -81,21 +82,28 @@ module _ (number : ℕ → ℕ) where
   -- WHAT IS PENDING
 
   pub settle_of : (p : Pending) → settle (pending_of number p) ≡ pending_of number (settle p)
-  settle_of p = ap (λ (ps : List Put). with_puts ps p) (settled_of p.puts)
+  settle_of p = ap (λ (ps : List Put). with_puts ps (pending_of number p)) (settled_of p.puts)
 
   pub put_front_of : (x : Put) (p : Pending) → put_front (put_of number x) (pending_of number p) ≡ pending_of number (put_front x p)
-  put_front_of x p = ap (λ (ps : List Put). with_puts ps p) (with_put_of x p.puts)
+  put_front_of x p = ap (λ (ps : List Put). with_puts ps (pending_of number p)) (with_put_of x p.puts)
 
-  file_of : (file : Progress) (n : ℕ) (bytes : List ℕ) → from_file file n bytes ≡ pulled_of number (from_file file n bytes)
-  file_of NotBegun n bytes = refl
-  file_of Begun n [] = refl
-  file_of Begun n (c ∷ cs) = refl
-  file_of Closed n bytes = refl
+  beneath_of : (outer : List Source) → beneath (map (source_of number) outer) ≡ pending_of number (beneath outer)
+  beneath_of [] = refl
+  beneath_of (s ∷ outer) = refl
+
+  begun_of : (p : Pending) (ends : Bool) (bytes : List ℕ) → from_begun (pending_of number p) ends bytes ≡ pulled_of number (from_begun p ends bytes)
+  begun_of p true bytes = ap FileOver (beneath_of p.outer)
+  begun_of p false [] = ap FileOver (beneath_of p.outer)
+  begun_of p false (c ∷ cs) = refl
+
+  file_of : (p : Pending) (file : Progress) → from_file (pending_of number p) file ≡ pulled_of number (from_file p file)
+  file_of p Begun = begun_of p p.ends p.rest
+  file_of p Closed = refl
 
   line_of : (p : Pending) (l : Lexed) → from_line (pending_of number p) l ≡ pulled_of number (from_line p l)
   line_of p (Gives x state line) = refl
   line_of p (Invalid state line) = refl
-  line_of p UsedUp = file_of p.file p.number p.rest
+  line_of p UsedUp = file_of p p.file
 
   list_of : (categories : List ℕ) (p : Pending) (x : Put) (ps : List Put) (is : List Item) → from_list categories (pending_of number p) (put_of number x) (puts_of number ps) is ≡ pulled_of number (from_list categories p x ps is)
   list_of categories p x ps [] = line_of p (lexed categories p.lex p.line)
@@ -119,28 +127,76 @@ module _ (number : ℕ → ℕ) where
   pub after_pulled_of : (categories : List ℕ) (p : Pending) → after_pull (pending_of number p) (pulled categories (pending_of number p)) ≡ pending_of number (after_pull p (pulled categories p))
   after_pulled_of categories p = ap (after_pull (pending_of number p)) (pulled_same categories p) ∙ after_pull_of p (pulled categories p)
 
+  -- a file that was opened, is begun, or is to end
+  begun_by_of : (p : Pending) (o : Option (List ℕ)) → begun_by o (pending_of number p) ≡ pending_of number (begun_by o p)
+  begun_by_of p None = refl
+  begun_by_of p (Some bytes) = refl
+
+  pub with_begun_of : (p : Pending) → with_begun (pending_of number p) ≡ pending_of number (with_begun p)
+  with_begun_of p = begun_by_of p p.next
+
+  pub with_next_of : (bytes : Option (List ℕ)) (p : Pending) → with_next bytes (pending_of number p) ≡ pending_of number (with_next bytes p)
+  with_next_of bytes p = refl
+
+  pub ending_of : (p : Pending) → ending (pending_of number p) ≡ pending_of number (ending p)
+  ending_of p = refl
+
   -- WHAT COUNTS
 
+  puts_join : (ps qs : List Put) → puts_of number ps ++ puts_of number qs ≡ puts_of number (ps ++ qs)
+  puts_join [] qs = refl
+  puts_join (p ∷ ps) qs = ap (λ (rest : List Put). put_of number p ∷ rest) (puts_join ps qs)
+
+  outer_puts_of : (outer : List Source) → outer_puts (map (source_of number) outer) ≡ puts_of number (outer_puts outer)
+  outer_puts_of [] = refl
+  outer_puts_of (s ∷ outer) = ap (λ (ps : List Put). puts_of number s.puts ++ ps) (outer_puts_of outer) ∙ puts_join s.puts (outer_puts outer)
+
+  pub all_puts_of : (p : Pending) → all_puts (pending_of number p) ≡ puts_of number (all_puts p)
+  all_puts_of p = ap (λ (ps : List Put). puts_of number p.puts ++ ps) (outer_puts_of p.outer) ∙ puts_join p.puts (outer_puts p.outer)
+
+  -- a sum over the sources beneath that sees no number
+  outer_sums_of : (f : Source → ℕ) → ((s : Source) → f (source_of number s) ≡ f s) → (n : ℕ) (outer : List Source) → fold (λ a s. a + f s) n (map (source_of number) outer) ≡ fold (λ a s. a + f s) n outer
+  outer_sums_of f same n [] = refl
+  outer_sums_of f same n (s ∷ outer) = ap (λ (k : ℕ). fold (λ (a : ℕ) (x : Source). a + f x) (n + k) (map (source_of number) outer)) (same s) ∙ outer_sums_of f same (n + f s) outer
+
+  begun_files_of : (p : Pending) → begun_files (pending_of number p) ≡ begun_files p
+  begun_files_of p = ap (λ (n : ℕ). file_levels p.file + n) (outer_sums_of (λ s. file_levels s.file) (λ s. refl) 0 p.outer)
+
+  pub lines_beneath_of : (p : Pending) → lines_beneath (pending_of number p).outer ≡ lines_beneath p.outer
+  lines_beneath_of p = outer_sums_of (λ s. line_room s.file s.whole) (λ s. refl) 0 p.outer
+
+  pub open_lines_of : (p : Pending) → open_lines (pending_of number p) ≡ open_lines p
+  open_lines_of p = ap (λ (n : ℕ). line_room p.file p.whole + n) (lines_beneath_of p)
+
   pub levels_same : (p : Pending) → levels (pending_of number p) ≡ levels p
-  levels_same p = ap (λ (n : ℕ). n + file_levels p.file) (put_levels_of p.puts)
+  levels_same p = ap₂ (λ (m n : ℕ). m + n) (ap put_levels (all_puts_of p) ∙ put_levels_of (all_puts p)) (begun_files_of p)
 
   pub level_of : (p : Pending) → level (pending_of number p) ≡ level p
-  level_of p = rw (put_levels_of p.puts)
+  level_of p = ap (λ (n : ℕ). record { table = InputStackSize; used = n; need = 1 }) (levels_same p)
 
   pub opened_level_of : (x : Option Item) (p : Pending) → opened_level x (pending_of number p) ≡ opened_level x p
   opened_level_of None p = refl
-  opened_level_of (Some (First t)) p = rw (put_levels_of p.puts)
+  opened_level_of (Some (First t)) p = ap (λ (d : Demand). d ∷ []) (level_of p)
   opened_level_of (Some x) p = refl
 
   pub parameters_of : (x : Put) (p : Pending) → parameters (put_of number x) (pending_of number p) ≡ parameters x p
-  parameters_of x p = rw (put_parameters_of p.puts)
-
-  pub file_level_of : (file : Progress) (p : Pending) → file_level file (pending_of number p) ≡ file_level file p
-  file_level_of NotBegun p = rw (put_levels_of p.puts)
-  file_level_of file p = refl
+  parameters_of x p = ap (λ (n : ℕ). record { table = ParameterStackSize; used = n; need = length x.arguments }) (ap put_parameters (all_puts_of p) ∙ put_parameters_of (all_puts p))
 
   pub next_line_of : (p : Pending) → next_line (pending_of number p) ≡ next_line p
-  next_line_of p = rw (file_level_of p.file p)
+  next_line_of p = ap (λ (n : ℕ). buffer (line_need p.rest) n ∷ []) (lines_beneath_of p)
+
+  first_line_of_of : (p : Pending) (o : Option (List ℕ)) → first_line_of o (pending_of number p) ≡ first_line_of o p
+  first_line_of_of p None = refl
+  first_line_of_of p (Some bytes) = ap₂ (λ (n : ℕ) (d : Demand). buffer (line_need bytes) n ∷ d ∷ []) (open_lines_of p) (level_of p)
+
+  pub next_file_of : (p : Pending) → next_file (pending_of number p) ≡ next_file p
+  next_file_of p = first_line_of_of p p.next
+
+  pub text_level_of : (p : Pending) → text_level (pending_of number p) ≡ text_level p
+  text_level_of p = ap (λ (n : ℕ). record { table = TextInputLevels; used = opened_files p.next + n; need = 1 }) (begun_files_of p)
+
+  pub spelt_name_of : (name : List ℕ) (p : Pending) → spelt_name name (pending_of number p) ≡ spelt_name name p
+  spelt_name_of name p = ap (buffer (length name)) (open_lines_of p)
 
   -- WHAT NAMES MEAN
 

@@ -1,8 +1,8 @@
 -- The finished lists in front go at once: what comes next doesn't hang on whether they have gone.
-use Rattle.std.proofs.Common.{◌≡◌, ℕ, List, [], ◌∷◌, refl, ap, ◌∙◌}
+use Rattle.std.proofs.Common.{◌≡◌, ℕ, Bool, true, false, List, [], ◌∷◌, refl, ap, ◌∙◌}
 use Rattle.plain_tokens.specs.Lex.{Lexed, Gives, Invalid, UsedUp, lexed}
 use Rattle.plain_tokens.specs.Puts.{Item, Put, settled, settled_top, passed}
-use Rattle.plain_tokens.specs.Pending.{Pending, settle, with_puts, pulled, from_front, from_list, from_line}
+use Rattle.plain_tokens.specs.Pending.{Pending, Progress, Begun, Closed, settle, with_puts, pulled, from_front, from_list, from_line, from_begun, from_file}
 
 passed_top_settled : (p : Put) (xs : List Item) (ps : List Put) → p.items ≡ xs → passed (settled ps) ≡ passed ps → passed (settled_top p xs (settled ps) ps) ≡ passed (p ∷ ps)
 passed_top_settled p [] ps e h = rw e h
@@ -20,10 +20,19 @@ pub settled_twice : (ps : List Put) → settled (settled ps) ≡ settled ps
 settled_twice [] = refl
 settled_twice (p ∷ ps) = settled_top_twice p p.items ps refl (settled_twice ps)
 
+begun_with : (ps : List Put) (p : Pending) (ends : Bool) (bytes : List ℕ) → from_begun (with_puts ps p) ends bytes ≡ from_begun p ends bytes
+begun_with ps p true bytes = refl
+begun_with ps p false [] = refl
+begun_with ps p false (c ∷ cs) = refl
+
+file_with : (ps : List Put) (p : Pending) (file : Progress) → from_file (with_puts ps p) file ≡ from_file p file
+file_with ps p Begun = begun_with ps p p.ends p.rest
+file_with ps p Closed = refl
+
 line_with : (ps : List Put) (p : Pending) (l : Lexed) → from_line (with_puts ps p) l ≡ from_line p l
 line_with ps p (Gives x state line) = refl
 line_with ps p (Invalid state line) = refl
-line_with ps p UsedUp = refl
+line_with ps p UsedUp = file_with ps p p.file
 
 list_with : (categories : List ℕ) (ps : List Put) (p : Pending) (x : Put) (qs : List Put) (is : List Item) → from_list categories (with_puts ps p) x qs is ≡ from_list categories p x qs is
 list_with categories ps p x qs [] = line_with ps p (lexed categories p.lex p.line)

@@ -14,7 +14,7 @@ use Rattle.tex_defs.specs.declared.Name.{Name}
 use Rattle.tex_defs.specs.declared.Meaning.{Meaning}
 use Rattle.tex_defs.specs.declared.Meaning.TheVariants as means
 use Rattle.tex_defs.specs.Places.{Transcript}
-use Rattle.tex_defs.specs.declared.Fatal.TheVariants.{HundredErrors}
+use Rattle.tex_defs.specs.declared.Fatal.TheVariants.{NoFile, HundredErrors}
 use Rattle.plain_tokens.specs.Categories.{begin_group, end_group}
 use Rattle.plain_tokens.specs.Names.{name_of, relax_primitive, end_primitive}
 use Rattle.plain_tokens.specs.Tokens.{character_codes, is_undefined, made_text}
@@ -24,13 +24,14 @@ use Rattle.plain_tokens.specs.Lex.{Lexed, Gives, Invalid, UsedUp, lexed}
 use Rattle.plain_tokens.specs.LexLaws.{LeavesLess}
 use Rattle.plain_tokens.proofs.LexRests.{less}
 use Rattle.plain_tokens.specs.Puts.{Item, Put as PutList, passed, call_put}
-use Rattle.plain_tokens.specs.Pending.{Pending, Progress, NotBegun, Begun as BegunFile, Closed as ClosedFile, Pulled, TokenFrom, LexemeFrom, LineTaken, InvalidMet, FileOver, NothingLeft, settle, pulled, from_front, from_list, from_line, from_file}
+use Rattle.plain_tokens.specs.Pending.{Pending, Source, Progress, Begun as BegunFile, Closed as ClosedFile, beneath, from_begun, Pulled, TokenFrom, LexemeFrom, LineTaken, InvalidMet, FileOver, NothingLeft, settle, pulled, from_front, from_list, from_line, from_file}
 use Rattle.plain_tokens.specs.Arguments.{has_parameters}
 use Rattle.save_stack.specs.declared.GroupKind.{GroupKind}
 use Rattle.save_stack.specs.declared.GroupKind.TheVariants.{Simple, SemiSimple}
 use Rattle.equivalents.specs.declared.values.Loc.TheVariants as loc
 use Rattle.equivalents.specs.declared.values.Val.TheVariants as val
-use Rattle.plain_state.specs.Reports.{report_bytes, error_message_bytes, fresh_line, string_text, message_bytes, hundred_line, token_line_bytes}
+use Rattle.command_words.specs.Words.{file_name}
+use Rattle.plain_state.specs.Reports.{missing_file_bytes, emergency, no_file_line, report_bytes, error_message_bytes, fresh_line, string_text, message_bytes, hundred_line, token_line_bytes}
 use Rattle.rows.specs.declared.words.Value.{Value}
 use Rattle.rows.specs.declared.words.Kind.{Kind as Begins}
 use Rattle.rows.specs.declared.words.Kind.TheVariants.{Command as Row}
@@ -39,13 +40,13 @@ use Rattle.rows.specs.declared.command.Effect.{Effect}
 use Rattle.rows.specs.declared.command.Effect.TheVariants as effect
 use Rattle.rows.specs.Table.{has_row}
 use Rattle.rows.specs.Readings.{Fed, Val, Told, Cut, Ask, More, Inner, Done, Acts, ActsOn, Defines, Ends as Closes, Calls, Fails, RunsAway, Tells, Inserts}
-use Rattle.plain_readings.specs.Readings.{Kind, Reads, Spelling, Arguments, Behind, Reading, ask, lists, fed_with}
+use Rattle.plain_readings.specs.Readings.{Kind, Reads, Spelling, FileName, Arguments, Behind, Reading, ask, lists, fed_with}
 use Rattle.plain_readings.specs.Spelling.{endcsname_primitive}
 use Rattle.plain_readings.specs.Scanning.{Scanning, scanning}
 use Rattle.plain_readings.specs.Laws.{IsRead}
 use Rattle.plain_readings.specs.Weights.{frame_weight, value_weight, act_weight, end_weight, ask_weight, weight, IsReport, WeightsFall}
-use Rattle.plain_machine.specs.States.{State, Move, Settled, Skipped, FileClosed, Entered, Kept as KeptBytes, Grows, Feeds, Completed, Opened, ListBegun, ListGrown, Put, ListDropped, Called, Set, Assigned, Defined, GroupOpened, GroupClosed, KeptForGroup, KeptForAssignment, Written, Begun, Ended, Closed, Reported, Flawed, Stopped, Handed, made}
-use Rattle.plain_machine.specs.Plan.{Page, page_of, style_of, plan, planned, answered, handed, checked, check_noted, inserted_at, away_text, without_file, ran_away, page_behind, reported, behind_report, reports_room, finish, groups_left, stomach, command, primitive, begingroup_primitive, endgroup_primitive, right_brace, put_each, group_ended, brace_met, endgroup_met, character, expansion, expanded, expanded_as, csname_primitive, jobname_primitive, is_expandable_primitive, job_in, begun, call_of, called_meaning, put_body, body_put, token_line, wanted, enters_names, feeding, given_back, grown_to, first_list, noting, noting_kind, put_one, put_text, put_made, put_characters, put_inserted, arguments_put, called_with, failed, failed_away, inner_begun, done, value_tokens, told, and_closed, expanded_behind, marked, meaning_characters, shown, is_global, natural, behind_assignment, assigned, kept_for_group, acts, macro_defined, newly_spelt, spelt, relax_if_undefined, name_made, entered, acts_on}
+use Rattle.plain_machine.specs.States.{State, Files, Move, Settled, Skipped, FileClosed, FileEnds, FileOpened, Spelt, NameInProgress, Entered, Kept as KeptBytes, Grows, Feeds, Completed, Opened, ListBegun, ListGrown, Put, ListDropped, Called, Set, Assigned, Defined, GroupOpened, GroupClosed, KeptForGroup, KeptForAssignment, Written, Begun, Ended, Closed, Reported, Flawed, Stopped, Handed, made}
+use Rattle.plain_machine.specs.Plan.{Page, page_of, style_of, plan, ruled, planned, answered, handed, checked, at_line, check_noted, inserted_at, away_text, ran_away, page_behind, reported, behind_report, reports_room, finish, groups_left, stomach, command, primitive, begingroup_primitive, endgroup_primitive, right_brace, put_each, group_ended, brace_met, endgroup_met, character, expansion, expanded, expanded_as, csname_primitive, jobname_primitive, input_primitive, endinput_primitive, input_met, frozen_relax, unless_found, input_begun, is_expandable_primitive, job_in, begun, call_of, called_meaning, put_body, body_put, token_line, wanted, enters_names, feeding, given_back, grown_to, first_list, noting, noting_kind, put_one, put_text, put_made, put_characters, put_inserted, arguments_put, called_with, failed, failed_away, inner_begun, done, value_tokens, told, and_closed, expanded_behind, marked, meaning_characters, shown, is_global, natural, behind_assignment, assigned, kept_for_group, acts, macro_defined, newly_spelt, spelt, relax_if_undefined, name_made, entered, acts_on, acts_in}
 use Rattle.plain_machine.specs.Runs.{step_of, all_made}
 use Rattle.plain_machine.proofs.Settling.{pulled_settled}
 
@@ -62,13 +63,17 @@ asked (r ∷ rs) = weight r.kind r.fed
 abbrev pub work_weight : List Reading → ℕ
 work_weight work = asked work + frames work
 
--- an invalid character may still be skipped, and the file may still end
+-- an invalid character may still be skipped, and each file may still end
 abbrev pub file_weight : Progress → ℕ
 file_weight ClosedFile = 0
-file_weight p = 1
+file_weight BegunFile = 1
+
+abbrev pub outer_weight : List Source → ℕ
+outer_weight [] = 0
+outer_weight (s ∷ outer) = length s.line + file_weight s.file + outer_weight outer
 
 abbrev pub pending_weight : Pending → ℕ
-pending_weight p = length p.line + file_weight p.file
+pending_weight p = length p.line + file_weight p.file + outer_weight p.outer
 
 -- where the file ends a call may be fed with the note of a check
 abbrev pub check_weight : ℕ
@@ -96,12 +101,20 @@ Lighter p (InvalidMet q) = pending_weight q < pending_weight p
 Lighter p (FileOver q) = pending_weight q < pending_weight p
 Lighter p r = Unit {0}
 
-lighter_file : (p : Pending) (f : Progress) → p.file ≡ f → Lighter p (from_file f p.number p.rest)
-lighter_file p NotBegun e = tt
-lighter_file p BegunFile e = by_rest p.rest where
-  by_rest : (bytes : List ℕ) → Lighter p (from_file BegunFile p.number bytes)
-  by_rest [] = rw e (omega arith)
-  by_rest (c ∷ cs) = tt
+beneath_weight : (outer : List Source) → pending_weight (beneath outer) ≡ outer_weight outer
+beneath_weight [] = refl
+beneath_weight (s ∷ outer) = refl
+
+lighter_over : (p : Pending) → p.file ≡ BegunFile → pending_weight (beneath p.outer) < pending_weight p
+lighter_over p e = omega (arith, beneath_weight p.outer, ap file_weight e)
+
+lighter_begun : (p : Pending) → p.file ≡ BegunFile → (ends : Bool) (bytes : List ℕ) → Lighter p (from_begun p ends bytes)
+lighter_begun p e true bytes = lighter_over p e
+lighter_begun p e false [] = lighter_over p e
+lighter_begun p e false (c ∷ cs) = tt
+
+lighter_file : (p : Pending) (f : Progress) → p.file ≡ f → Lighter p (from_file p f)
+lighter_file p BegunFile e = lighter_begun p e p.ends p.rest
 lighter_file p ClosedFile e = tt
 
 lighter_line : (categories : List ℕ) (p : Pending) (l : Lexed) → LeavesLess categories l p.line → Lighter p (from_line p l)
@@ -120,9 +133,13 @@ lighter_front categories p [] = lighter_line categories p (lexed categories p.le
 pub lighter : (categories : List ℕ) (p : Pending) → Lighter p (pulled categories p)
 lighter categories p = lighter_front categories p (passed p.puts)
 
--- moves that leave the readings and the file, and go on
+-- moves that leave the readings and the open files, and go on
 abbrev is_plain : Move → Bool
 is_plain Settled = true
+is_plain FileEnds = true
+is_plain (FileOpened name) = true
+is_plain (Spelt name) = true
+is_plain (NameInProgress naming) = true
 is_plain (Entered name) = true
 is_plain (KeptBytes bytes) = true
 is_plain (Grows t) = true
@@ -168,6 +185,10 @@ kept_on s u v a b = record { work = b.work ∙ a.work; stopped = b.stopped ∙ a
 
 kept : (m : Move) (s : State) → is_plain m ≡ true → Kept s (made m s)
 kept Settled s h = record { work = refl; stopped = refl; pending = refl }
+kept FileEnds s h = record { work = refl; stopped = refl; pending = refl }
+kept (FileOpened name) s h = record { work = refl; stopped = refl; pending = refl }
+kept (Spelt name) s h = record { work = refl; stopped = refl; pending = refl }
+kept (NameInProgress naming) s h = record { work = refl; stopped = refl; pending = refl }
 kept (Entered name) s h = record { work = refl; stopped = refl; pending = refl }
 kept (KeptBytes bytes) s h = record { work = refl; stopped = refl; pending = refl }
 kept (Grows t) s h = record { work = refl; stopped = refl; pending = refl }
@@ -217,6 +238,9 @@ drops_report n s page report rest h f = drops_told n s page (report_bytes (style
 
 some_weight : (s : State) → s.stopped ≡ None → 0 < state_weight s
 some_weight s e = rw e (omega arith)
+
+kept_weight : (s u : State) → s.stopped ≡ None → Kept s u → state_weight s ≡ state_weight u
+kept_weight s u e k = rw (k.stopped, k.work, e) (omega (arith, k.pending))
 
 -- MOVES THAT ARE PLAIN
 
@@ -271,8 +295,8 @@ plain_relax meanings n = by (is_undefined (seen_as (name_meaning meanings n))) w
 
 plain_name : (page : Page) (characters : List ℕ) → AllPlain (name_made page characters)
 plain_name page characters =
-    all_plain (entered (newly_spelt page.names characters)) (relax_if_undefined page.now.meanings (spelt page.names characters) ++ put_one (token.Named (spelt page.names characters)))
-    (plain_entered (newly_spelt page.names characters))
+    all_plain (Spelt characters ∷ entered (newly_spelt page.names characters)) (relax_if_undefined page.now.meanings (spelt page.names characters) ++ put_one (token.Named (spelt page.names characters)))
+    (refl, plain_entered (newly_spelt page.names characters))
     (all_plain (relax_if_undefined page.now.meanings (spelt page.names characters)) (put_one (token.Named (spelt page.names characters)))
     (plain_relax page.now.meanings (spelt page.names characters)) (plain_one (token.Named (spelt page.names characters))))
 
@@ -365,8 +389,9 @@ module _ (falls : WeightsFall) (s : State) (enters : Bool) (o : Option Scanning)
       let rest : List Move = reported (page_of s) InvalidCharacter [] in
       Falls (report_below falls s q e l (made Skipped (record (settled_first (Skipped ∷ rest)) { due = rest })) e refl (rw (pulled_then (InvalidMet q) is) refl) (page_of s) InvalidCharacter)
   rule_pulled (FileOver q) is l =
-      let rest : List Move = checked (without_file (page_of s)) o in
-      Falls (check_below falls s q e l (made FileClosed (record (settled_first (FileClosed ∷ rest)) { due = rest })) e refl (rw (pulled_then (FileOver q) is) refl) (without_file (page_of s)) o)
+      let page : Page = at_line q.number (page_of s) in
+      let rest : List Move = checked page o in
+      Falls (check_below falls s q e l (made FileClosed (record (settled_first (FileClosed ∷ rest)) { due = rest })) e refl (rw (pulled_then (FileOver q) is) refl) page o)
   rule_pulled NothingLeft is l = Falls (rw e (omega arith))
 
 rule_handed : WeightsFall → (s : State) (enters : Bool) (o : Option Scanning) (onward : Seen → List Move) → s.stopped ≡ None → Rule s (handed (page_of s) enters o onward (pulled s.groups.now.categories s.pending))
@@ -405,12 +430,25 @@ module _ (n : ℕ) (v : State) (e : v.stopped ≡ None) (less : state_weight v <
       drops_called_by u (has_parameters (slice_index_or page.macros number [])) name long number (slice_index_or page.macros number []) k
   drops_called_meaning u page name m k = stays u k
 
+  drops_input : (u : State) (naming : Bool) (t : Token) (c : Call) → Kept v u → Drops n (if naming then put_one t ++ put_one frozen_relax else Begun (FileName c) ∷ NameInProgress true ∷ []) u
+  drops_input u true t c k = drops_stays u (put_one t ++ put_one frozen_relax) k (all_plain (put_one t) (put_one frozen_relax) (plain_one t) (plain_one frozen_relax))
+  drops_input u false t c k = rw (k.stopped, k.work, e) (omega (arith, k.pending, more (FileName c) tt))
+
   drops_expansion : (u : State) (page : Page) (t : Token) (number : ℕ) → Kept v u → Drops n (expansion page t number) u
-  drops_expansion u page t number k = by (number == csname_primitive) (number == jobname_primitive) where
-    by : (b c : Bool) → Drops n (if b then Begun (Spelling (call_of t number)) ∷ [] else if c then begun t number ++ (put_characters (job_in page.strings) ++ Closed ∷ []) else begun t number) u
-    by true c = drops_begun u (Spelling (call_of t number)) k tt
-    by false true = drops_ended u (Reads (Row (call_of t number))) (put_characters (job_in page.strings)) k (plain_text (made_text (job_in page.strings)))
-    by false false = drops_begun u (Reads (Row (call_of t number))) k tt
+  drops_expansion u page t number k = by (number == csname_primitive) (number == jobname_primitive) (number == input_primitive) (number == endinput_primitive) where
+    by : (b c d f : Bool) →
+        Drops n (
+        if b then Begun (Spelling (call_of t number)) ∷ []
+        else if c then begun t number ++ (put_characters (job_in page.strings) ++ Closed ∷ [])
+        else if d then input_met page t (call_of t number)
+        else if f then FileEnds ∷ []
+        else begun t number
+        ) u
+    by true c d f = drops_begun u (Spelling (call_of t number)) k tt
+    by false true d f = drops_ended u (Reads (Row (call_of t number))) (put_characters (job_in page.strings)) k (plain_text (made_text (job_in page.strings)))
+    by false false true f = drops_input u page.naming t (call_of t number) k
+    by false false false true = drops_stays u (FileEnds ∷ []) k (refl, tt)
+    by false false false false = drops_begun u (Reads (Row (call_of t number))) k tt
 
   drops_unless : (u : State) (b : Bool) (page : Page) (t : Token) (number : ℕ) (ms : List Move) → Kept v u → Drops n ms u → Drops n (if b then expansion page t number else ms) u
   drops_unless u true page t number ms k d = drops_expansion u page t number k
@@ -528,6 +566,31 @@ module _ (falls : WeightsFall) (s : State) (k : Kind) (fed : List Fed) (rs : Lis
     rule_acts_on page c effect.MakeName ts = rule_closed (name_made page (character_codes ts)) (plain_name page (character_codes ts))
     rule_acts_on page c f ts = rule_closed [] tt
 
+    -- `\input`: the reading of the name ends, and the file is opened or the run ends
+    found_falls : (page : Page) (name : List ℕ) (o : Option (List ℕ)) (v : State) → v.stopped ≡ None → state_weight v < state_weight s → Drops (state_weight s) (unless_found page name o) v
+    found_falls page name (Some bytes) v f less = less
+    found_falls page name None v f less =
+        drops_told (state_weight s) v page (missing_file_bytes (style_of page) page.in_line page.line name) (Written Transcript (emergency (style_of page) ++ no_file_line (style_of page)) ∷ Stopped (AtFatal NoFile) ∷ []) (some_weight s e)
+        (λ u k. halted_none (state_weight s) u (emergency (style_of page) ++ no_file_line (style_of page)) (AtFatal NoFile) (some_weight s e))
+
+    named_falls : (page : Page) (name : List ℕ) (o : Option (List ℕ)) (u : State) → Kept s u → Drops (state_weight s) (Closed ∷ NameInProgress false ∷ Settled ∷ FileOpened name ∷ unless_found page name o) u
+    named_falls page name o u h =
+        let rest : List Move = NameInProgress false ∷ Settled ∷ FileOpened name ∷ unless_found page name o in
+        let v : State = made Closed (record u { due = rest }) in
+        let less : state_weight v < state_weight s = rw (h.stopped, h.work, e, w) (omega (arith, h.pending, asked_least falls rs, heavy)) in
+        drops_plain (state_weight s) v (NameInProgress false ∷ Settled ∷ FileOpened name ∷ []) (unless_found page name o) (refl, (refl, (refl, tt)))
+        (λ x k. found_falls page name o x (k.stopped ∙ h.stopped ∙ e) (subst (λ (n : ℕ). n < state_weight s) (kept_weight v x (h.stopped ∙ e) k) less))
+
+    rule_input : (files : Files) (page : Page) (back : Bool) (name : List ℕ) → Rule s (input_begun files page back name)
+    rule_input files page back name =
+        let rest : List Move = Closed ∷ NameInProgress false ∷ Settled ∷ FileOpened name ∷ unless_found page name (files 0 name) in
+        Falls (drops_plain (state_weight s) s (given_back back page.last) (Spelt name ∷ rest) (plain_back back page.last)
+        (λ u h. drops_plain (state_weight s) u (Spelt name ∷ []) rest (refl, tt) (λ x k. named_falls page name (files 0 name) x (kept_on s u x h k))))
+
+    rule_acts_in : (files : Files) (page : Page) (c : Call) (f : Effect) (ts : List Token) → Rule s (acts_in files page c f ts)
+    rule_acts_in files page c (effect.StartInput back) ts = rule_input files page back (file_name (character_codes ts))
+    rule_acts_in files page c f ts = rule_acts_on page c f ts
+
   -- `\expandafter`: its token waits, and what stands behind it is expanded above that
   rule_behind : (page : Page) (c : Call) (x y : Seen) → ask k fed ≡ Acts c (effect.ExpandBehind x y) → Rule s (expanded_behind page c x y)
   rule_behind page c x y is =
@@ -601,7 +664,7 @@ module _ (falls : WeightsFall) (s : State) (k : Kind) (fed : List Fed) (rs : Lis
   rule_asked (Inner j b) is = rule_inner j b is
   rule_asked (Done v back) is = rule_done (page_of s) v back (ap (ask_weight (end_weight k)) is)
   rule_asked (Acts c f) is = rule_acts c (page_of s) f is
-  rule_asked (ActsOn c f ts) is = rule_acts_on (heavy_as _ is (omega arith)) (page_of s) c f ts
+  rule_asked (ActsOn c f ts) is = rule_acts_in (heavy_as _ is (omega arith)) s.files (page_of s) c f ts
   rule_asked (Defines c n ts) is = rule_defined (heavy_as _ is (omega arith)) (page_of s) c n ts
   rule_asked Closes is = rule_closed (heavy_as _ is (omega arith)) [] tt
   rule_asked (Calls args) is = rule_called (heavy_as _ is (omega arith)) k args
@@ -614,9 +677,14 @@ rule_work : WeightsFall → (s : State) (work : List Reading) → s.stopped ≡ 
 rule_work falls s [] e w = rule_handed falls s false None (stomach (page_of s)) e
 rule_work falls s (r ∷ rs) e w = rule_asked falls s r.kind r.fed rs e w (ask r.kind r.fed) refl
 
+-- a file that was opened is begun by a step
+rule_next : WeightsFall → (s : State) (o : Option (List ℕ)) → s.stopped ≡ None → Rule s (ruled s o)
+rule_next falls s (Some bytes) e = Step _ _ refl refl
+rule_next falls s None e = rule_work falls s s.work e refl
+
 rule_stopped : WeightsFall → (s : State) (o : Option Outcome) → s.stopped ≡ o → Rule s (plan s o)
 rule_stopped falls s (Some o) e = Over refl
-rule_stopped falls s None e = rule_work falls s s.work e refl
+rule_stopped falls s None e = rule_next falls s s.pending.next e
 
 pub rule : WeightsFall → (s : State) → Rule s (plan s s.stopped)
 rule falls s = rule_stopped falls s s.stopped refl

@@ -1,6 +1,7 @@
 -- Lists stay under their other numbers: they are put and read, a macro is defined, a location gets a value, and a group ends.
 use Rattle.std.proofs.Common.{◌≡◌, ℕ, suc, ◌<◌, ◌≤◌, Bool, true, false, ◌||◌, ◌⊎◌, List, [], ◌∷◌, ◌++◌, length, ℤ, Option, Some, None, refl, sym, ap, ◌∙◌, subst, ⊎_elim, inl, inr, arith}
 use Rattle.std.specs.Prelude.{slice_index_or}
+use Rattle.std.proofs.Math.Bool.{or_assoc}
 use Rattle.std.proofs.lemmas.Bool.{eqb-true, eq-eqb, or_cases, or_parts, or_left, or_right, cases_eq, cases_lt, false_from_ne_true}
 use Rattle.std.proofs.lemmas.List.{get_or_at, get_or_append_left, get_or_past, length-append}
 use Rattle.tex_defs.specs.declared.Token.{Token}
@@ -11,7 +12,7 @@ use Rattle.tex_defs.specs.declared.Meaning.{Meaning}
 use Rattle.tex_defs.specs.declared.Meaning.TheVariants as means
 use Rattle.plain_tokens.specs.Lex.{Lexed, Gives, Invalid, UsedUp, lexed}
 use Rattle.plain_tokens.specs.Puts.{Item, Whole, Own, Macro, Put, put_top, with_put, settled_top, settled, without_gaps, passed_top, passed}
-use Rattle.plain_tokens.specs.Pending.{Pending, Progress, NotBegun, Begun, Closed, from_file, from_line, from_list, from_front, pulled, after_pull}
+use Rattle.plain_tokens.specs.Pending.{Pending, Source, Progress, Begun, Closed, settle, put_front, beneath, from_begun, from_file, from_line, from_list, from_front, pulled, after_pull, begun_by, with_begun, outer_puts, all_puts}
 use Rattle.plain_tokens.specs.Meanings.{location, is_listed, fixed_meaning, looked_up, name_meaning, whole_meaning, let_meaning, meaning_to_let}
 use Rattle.plain_tokens.specs.Tables.{is_whole, is_put}
 use Rattle.plain_tokens.specs.Printed.{Style, meaning_head, meaning_text, meaning_tokens, list_text}
@@ -47,29 +48,65 @@ module _ (n : ℕ) where
   put_passed [] h = h
   put_passed (p ∷ ps) h = put_passed_top p (without_gaps p.items) (passed ps) ps (put_passed ps) h
 
+  -- beside the lists beneath
+  put_join : (ps qs : List Put) → is_put n (ps ++ qs) ≡ (is_put n ps || is_put n qs)
+  put_join [] qs = refl
+  put_join (p ∷ ps) qs = ap (λ (b : Bool). is_whole n p.list || b) (put_join ps qs) ∙ sym (or_assoc (is_whole n p.list) (is_put n ps) (is_put n qs))
+
+  put_in_front : (ps ps' qs : List Put) → (is_put n ps ≡ true → is_put n ps' ≡ true) → is_put n (ps ++ qs) ≡ true → is_put n (ps' ++ qs) ≡ true
+  put_in_front ps ps' qs f h = put_join ps' qs ∙ either (is_put n ps) (is_put n qs) (is_put n ps') (is_put n qs) f (λ a. a) (sym (put_join ps qs) ∙ h)
+
+  put_beneath : (ps qs : List Put) → is_put n qs ≡ true → is_put n (ps ++ qs) ≡ true
+  put_beneath ps qs h = put_join ps qs ∙ or_right (is_put n ps) (is_put n qs) h
+
   module _ (p : Pending) where
-    put_file : (file : Progress) (k : ℕ) (bytes : List ℕ) → is_put n (after_pull p (from_file file k bytes)).puts ≡ true → is_put n p.puts ≡ true
-    put_file NotBegun k bytes h = cc
-    put_file Begun k [] h = cc
-    put_file Begun k (c ∷ cs) h = cc
-    put_file Closed k bytes h = h
+    -- the lists of all sources
+    abbrev IsPut : Pending → Type 0
+    IsPut q = is_put n (all_puts q) ≡ true
 
-    put_line : (l : Lexed) → is_put n (after_pull p (from_line p l)).puts ≡ true → is_put n p.puts ≡ true
-    put_line (Gives x state line) h = cc
-    put_line (Invalid state line) h = cc
-    put_line UsedUp h = put_file p.file p.number p.rest h
+    all_beneath : (outer : List Source) → IsPut (beneath outer) → is_put n (outer_puts outer) ≡ true
+    all_beneath [] h = h
+    all_beneath (s ∷ outer) h = h
 
-    put_list : (categories : List ℕ) (x : Put) (ps : List Put) (is : List Item) → (is_put n (x ∷ ps) ≡ true → is_put n p.puts ≡ true) → is_put n (after_pull p (from_list categories p x ps is)).puts ≡ true → is_put n p.puts ≡ true
+    put_over : IsPut (beneath p.outer) → IsPut p
+    put_over h = put_beneath p.puts (outer_puts p.outer) (all_beneath p.outer h)
+
+    put_begun : (ends : Bool) (bytes : List ℕ) → IsPut (after_pull p (from_begun p ends bytes)) → IsPut p
+    put_begun true bytes h = put_over h
+    put_begun false [] h = put_over h
+    put_begun false (c ∷ cs) h = put_beneath p.puts (outer_puts p.outer) h
+
+    put_file : (file : Progress) → IsPut (after_pull p (from_file p file)) → IsPut p
+    put_file Begun h = put_begun p.ends p.rest h
+    put_file Closed h = h
+
+    put_line : (l : Lexed) → IsPut (after_pull p (from_line p l)) → IsPut p
+    put_line (Gives x state line) h = put_beneath p.puts (outer_puts p.outer) h
+    put_line (Invalid state line) h = put_beneath p.puts (outer_puts p.outer) h
+    put_line UsedUp h = put_file p.file h
+
+    put_list : (categories : List ℕ) (x : Put) (ps : List Put) (is : List Item) → (is_put n (x ∷ ps) ≡ true → is_put n p.puts ≡ true) → IsPut (after_pull p (from_list categories p x ps is)) → IsPut p
     put_list categories x ps [] f h = put_line (lexed categories p.lex p.line) h
-    put_list categories x ps (i ∷ is) f h = f h
+    put_list categories x ps (i ∷ is) f h = put_in_front (x ∷ ps) p.puts (outer_puts p.outer) f h
 
-    put_from_front : (categories : List ℕ) (ps : List Put) → (is_put n ps ≡ true → is_put n p.puts ≡ true) → is_put n (after_pull p (from_front categories p ps)).puts ≡ true → is_put n p.puts ≡ true
+    put_from_front : (categories : List ℕ) (ps : List Put) → (is_put n ps ≡ true → is_put n p.puts ≡ true) → IsPut (after_pull p (from_front categories p ps)) → IsPut p
     put_from_front categories [] f h = put_line (lexed categories p.lex p.line) h
     put_from_front categories (x ∷ ps) f h = put_list categories x ps x.items f h
 
     -- a reading leaves no list in front that wasn't there
-    pub put_pulled : (categories : List ℕ) → is_put n (after_pull p (pulled categories p)).puts ≡ true → is_put n p.puts ≡ true
+    pub put_pulled : (categories : List ℕ) → IsPut (after_pull p (pulled categories p)) → IsPut p
     put_pulled categories h = put_from_front categories (passed p.puts) (put_passed p.puts) h
+
+    -- nor is one there where the finished lists have gone, and where a file is begun
+    pub put_settle : IsPut (settle p) → IsPut p
+    put_settle h = put_in_front (settled p.puts) p.puts (outer_puts p.outer) (put_settled p.puts) h
+
+    put_begun_by : (o : Option (List ℕ)) → IsPut (begun_by o p) → IsPut p
+    put_begun_by None h = h
+    put_begun_by (Some bytes) h = h
+
+    pub put_with_begun : IsPut (with_begun p) → IsPut p
+    put_with_begun h = put_begun_by p.next h
 
   put_put_top : (x : Put) (xs : List Item) (ps : List Put) → is_put n (put_top x xs ps) ≡ true → (is_whole n x.list ≡ true) ⊎ (is_put n ps ≡ true)
   put_put_top x [] ps h = inr h
@@ -77,6 +114,11 @@ module _ (n : ℕ) where
 
   pub put_with_put : (x : Put) (ps : List Put) → is_put n (with_put x ps) ≡ true → (is_whole n x.list ≡ true) ⊎ (is_put n ps ≡ true)
   put_with_put x ps h = put_put_top x x.items ps h
+
+  pub put_put_front : (x : Put) (p : Pending) → is_put n (all_puts (put_front x p)) ≡ true → (is_whole n x.list ≡ true) ⊎ (is_put n (all_puts p) ≡ true)
+  put_put_front x p h =
+      ⊎_elim (λ a. ⊎_elim (λ b. inl b) (λ b. inr (put_join p.puts (outer_puts p.outer) ∙ or_left (is_put n p.puts) (is_put n (outer_puts p.outer)) b)) (put_with_put x p.puts a)) (λ a. inr (put_beneath p.puts (outer_puts p.outer) a))
+      (or_cases (is_put n (with_put x p.puts)) (is_put n (outer_puts p.outer)) (sym (put_join (with_put x p.puts) (outer_puts p.outer)) ∙ h))
 
   -- what is held is held by a location, by a saved value or by a list in front
   pub held_more : (held held' : List ℕ) (puts puts' : List Put) → (is_listed held n ≡ true → is_listed held' n ≡ true) → (is_put n puts ≡ true → is_put n puts' ≡ true) → IsHeld n held puts → IsHeld n held' puts'
@@ -110,13 +152,11 @@ module _ (number : ℕ → ℕ) (macros : List (List Token)) where
     pub tied_puts : (puts' : List Put) → ((n : ℕ) → is_put n puts' ≡ true → is_put n puts ≡ true) → Tied number macros held puts' lists
     tied_puts puts' fewer = tied_fewer held puts' (λ n h. held_more n held held puts' puts (λ a. a) (fewer n) h)
 
-    pub tied_settled : Tied number macros held (settled puts) lists
-    tied_settled = tied_puts (settled puts) (λ n h. put_settled n puts h)
-
-    put_held : (x : Put) → ((n : ℕ) → is_whole n x.list ≡ true → IsHeld n held puts) → Tied number macros held (with_put x puts) lists
-    put_held x own = tied_fewer held (with_put x puts) (λ n h.
+    put_held : (x : Put) (puts' : List Put) → ((n : ℕ) → is_put n puts' ≡ true → (is_whole n x.list ≡ true) ⊎ (is_put n puts ≡ true)) → ((n : ℕ) → is_whole n x.list ≡ true → IsHeld n held puts) →
+        Tied number macros held puts' lists
+    put_held x puts' more own = tied_fewer held puts' (λ n h.
         ⊎_elim (λ a. or_left (is_listed held n) (is_put n puts) a)
-        (λ a. ⊎_elim (λ b. own n b) (λ b. or_right (is_listed held n) (is_put n puts) b) (put_with_put n x puts a)) (or_cases (is_listed held n) (is_put n (with_put x puts)) h))
+        (λ a. ⊎_elim (λ b. own n b) (λ b. or_right (is_listed held n) (is_put n puts) b) (more n a)) (or_cases (is_listed held n) (is_put n puts') h))
 
     macro_held : (id : ℕ) (w : Whole) → w ≡ Macro id → IsHeld id held puts → (n : ℕ) → is_whole n w ≡ true → IsHeld n held puts
     macro_held id w e own n h =
@@ -128,15 +168,30 @@ module _ (number : ℕ → ℕ) (macros : List (List Token)) where
     own_held ts w e n h = let here : is_whole n (Own ts) ≡ true = rw e at h in cc
 
     -- the list of a macro that is held is put once more
-    pub tied_put : (id : ℕ) (x : Put) → x.list ≡ Macro id → IsHeld id held puts → Tied number macros held (with_put x puts) lists
-    tied_put id x e own = put_held x (macro_held id x.list e own)
+    macro_put : (id : ℕ) (x : Put) (puts' : List Put) → ((n : ℕ) → is_put n puts' ≡ true → (is_whole n x.list ≡ true) ⊎ (is_put n puts ≡ true)) → x.list ≡ Macro id → IsHeld id held puts → Tied number macros held puts' lists
+    macro_put id x puts' more e own = put_held x puts' more (macro_held id x.list e own)
 
     -- a list of its own
-    pub tied_own : (ts : List Token) (x : Put) → x.list ≡ Own ts → Tied number macros held (with_put x puts) lists
-    tied_own ts x e = put_held x (own_held ts x.list e)
+    own_put : (ts : List Token) (x : Put) (puts' : List Put) → ((n : ℕ) → is_put n puts' ≡ true → (is_whole n x.list ≡ true) ⊎ (is_put n puts ≡ true)) → x.list ≡ Own ts → Tied number macros held puts' lists
+    own_put ts x puts' more e = put_held x puts' more (own_held ts x.list e)
 
-  pub tied_pulled : (held : List ℕ) (p : Pending) (lists : List (List Token)) (categories : List ℕ) → Tied number macros held p.puts lists → Tied number macros held (after_pull p (pulled categories p)).puts lists
-  tied_pulled held p lists categories t = tied_puts held p.puts lists t (after_pull p (pulled categories p)).puts (λ n h. put_pulled n p categories h)
+  -- over all that is pending
+  module _ (held : List ℕ) (p : Pending) (lists : List (List Token)) (t : Tied number macros held (all_puts p) lists) where
+    pub tied_settled : Tied number macros held (all_puts (settle p)) lists
+    tied_settled = tied_puts held (all_puts p) lists t (all_puts (settle p)) (λ n h. put_settle n p h)
+
+    pub tied_put : (id : ℕ) (x : Put) → x.list ≡ Macro id → IsHeld id held (all_puts p) → Tied number macros held (all_puts (put_front x p)) lists
+    tied_put id x e own = macro_put held (all_puts p) lists t id x (all_puts (put_front x p)) (λ n h. put_put_front n x p h) e own
+
+    pub tied_own : (ts : List Token) (x : Put) → x.list ≡ Own ts → Tied number macros held (all_puts (put_front x p)) lists
+    tied_own ts x e = own_put held (all_puts p) lists t ts x (all_puts (put_front x p)) (λ n h. put_put_front n x p h) e
+
+    pub tied_pulled : (categories : List ℕ) → Tied number macros held (all_puts (after_pull p (pulled categories p))) lists
+    tied_pulled categories = tied_puts held (all_puts p) lists t (all_puts (after_pull p (pulled categories p))) (λ n h. put_pulled n p categories h)
+
+    -- a file that was opened is begun
+    pub tied_begun : Tied number macros held (all_puts (with_begun p)) lists
+    tied_begun = tied_puts held (all_puts p) lists t (all_puts (with_begun p)) (λ n h. put_with_begun n p h)
 
 -- A MACRO IS DEFINED
 

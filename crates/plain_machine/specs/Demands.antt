@@ -4,16 +4,17 @@ use Rattle.tex_defs.specs.declared.Table.TheVariants.{ExpansionDepth}
 use Rattle.tex_defs.specs.declared.Full.{Full}
 use Rattle.tex_defs.specs.declared.Sizes.{Sizes}
 use Rattle.plain_tokens.specs.Puts.{next_item}
-use Rattle.plain_tokens.specs.Tables.{Demand, held_words, lists_words, memory, level, opened_level, parameters, string, new_name, next_line, refused}
+use Rattle.plain_tokens.specs.Pending.{all_puts}
+use Rattle.plain_tokens.specs.Tables.{Demand, held_words, lists_words, memory, level, opened_level, parameters, string, new_name, next_line, next_file, text_level, spelt_name, refused}
 use Rattle.equivalents.specs.Groups.{set_demands, name_demands, group_demands, token_demands}
 use Rattle.equivalents.specs.Holding.{lists_held, shared_words}
 use Rattle.rows.specs.Readings.{Tok}
 use Rattle.plain_readings.specs.Readings.{Reading, lists}
-use Rattle.plain_machine.specs.States.{Move, Handed, Taken, Entered, Kept, Grows, Opened, ListBegun, ListGrown, Put, Called, CalledWith, Set, Assigned, Defined, GroupOpened, KeptForGroup, Begun, BegunWith, State}
+use Rattle.plain_machine.specs.States.{Move, Handed, Taken, FirstTaken, FileOpened, Spelt, Entered, Kept, Grows, Opened, ListBegun, ListGrown, Put, Called, CalledWith, Set, Assigned, Defined, GroupOpened, KeptForGroup, Begun, BegunWith, State}
 
 -- the words of main memory that are used
 abbrev pub words : State → ℕ
-words s = shared_words 0 (lists_held s.groups) s.pending.puts s.macros + held_words s.pending.puts s.making s.gathered
+words s = shared_words 0 (lists_held s.groups) (all_puts s.pending) s.macros + held_words (all_puts s.pending) s.making s.gathered
 
 -- one reading more
 abbrev pub depth : List Reading → Demand
@@ -22,6 +23,9 @@ depth work = record { table = ExpansionDepth; used = length work; need = 1 }
 -- What a move needs, in the order in which the tables are asked.
 abbrev pub demands : Move → State → List Demand
 demands (Taken line) s = next_line s.pending
+demands (FirstTaken line) s = next_file s.pending
+demands (FileOpened name) s = text_level s.pending ∷ []
+demands (Spelt name) s = spelt_name name s.pending ∷ []
 demands (Entered name) s = new_name name s.names s.strings
 demands (Kept bytes) s = string bytes s.names s.strings
 demands (Handed t) s = opened_level (next_item s.pending.puts) s.pending

@@ -1,9 +1,9 @@
 -- Some moves done, all of them or those before one that was cut off.
-use Rattle.std.specs.Prelude.{◌≡◌, ℕ, ◌+◌, ◌≤◌, List, [], ◌∷◌, ◌++◌, take, Some, ◌⊎◌}
+use Rattle.std.specs.Prelude.{◌≡◌, ℕ, ◌+◌, ◌≤◌, List, [], ◌∷◌, ◌++◌, take, None, Some, ◌⊎◌}
 use Rattle.tex_defs.specs.Places.{World, Rose}
 use Rattle.tex_defs.specs.declared.Full.{Full}
 use Rattle.tex_defs.specs.declared.Sizes.{Sizes}
-use Rattle.plain_machine.specs.States.{State, Move, Written, Settled, Taken, FileClosed}
+use Rattle.plain_machine.specs.States.{State, Move, Written, Settled, Taken, FirstTaken, FileClosed, FileOpened}
 use Rattle.plain_machine.specs.Demands.{refusal}
 use Rattle.plain_machine.specs.Plan.{Goes, next, plan}
 use Rattle.plain_machine.specs.Runs.{Wrote, made_all, steps, step_of}
@@ -73,25 +73,30 @@ pub record CutAt (sizes : Sizes) (s : State) (k : ℕ) (t : State) (w w' : World
   pub cause : IsCause why w w'
   pub written : Wrote w w' (ms ++ front_of count m)
 
--- by this move the machine reads on in its file: a line is taken, or the file goes behind its last line
+-- by this move the machine reads on in a file: a line is taken, or the file goes behind its last line
 abbrev pub IsOfFile : Move → Type 0
 IsOfFile (Taken line) = Unit {0}
+IsOfFile (FirstTaken line) = Unit {0}
 IsOfFile FileClosed = Unit {0}
 IsOfFile m = ⊥
 
--- the moves of a rule that begins with the file's next reading
+-- the moves of a rule that begins with the file's next reading, or with the first line of a file that was opened
 abbrev pub ReadsFile : List Move → Type 0
 ReadsFile (Settled ∷ m ∷ ms) = IsOfFile m
 ReadsFile ms = ⊥
 
--- A moment t of the run from s within k steps, at which the file's next bytes are needed: nothing is due, and the next rule begins with
--- the file's next reading. So the run hasn't stopped, a token is wanted, nothing is left in front of the file, and the file is open. It may
--- be behind the last of the k steps, as the bytes mostly tell whether that reading is a step (of a file that isn't begun it always is: there
--- this says less than could be said). All before the moment is written.
+-- Something of the files is needed at a moment t. It is a file's next bytes: nothing is due, and the next rule begins with the file's next
+-- reading. So the run hasn't stopped, and a file was opened, or a token is wanted, nothing is left in front of the file, and it is open. Such
+-- a moment may be behind the last of the steps of a run, as the bytes mostly tell whether that reading is a step (of a file that isn't begun it
+-- always is: there this says less than could be said). Or a file is to be opened next, for which there is room.
+pub data NeedsFiles (sizes : Sizes) (t : State) : Type 0 where
+  ForBytes : t.due ≡ [] → ReadsFile (plan t t.stopped) → NeedsFiles sizes t
+  ToOpen : (name : List ℕ) → (u : State) → next t ≡ Goes (FileOpened name) u → refusal sizes (FileOpened name) t ≡ None → NeedsFiles sizes t
+
+-- A moment t of the run from s within k steps at which something of the files is needed. All before it is written.
 pub record ReadAt (sizes : Sizes) (s : State) (k : ℕ) (t : State) (w w' : World) : Type 0 where
   pub ms : List Move
   pub moves : FitMoves sizes s ms t
   pub within : steps ms ≤ k
-  pub due : t.due ≡ []
-  pub needs : ReadsFile (plan t t.stopped)
+  pub needs : NeedsFiles sizes t
   pub written : Wrote w w' ms

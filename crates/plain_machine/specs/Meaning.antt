@@ -8,7 +8,7 @@ use Rattle.tex_defs.specs.declared.Sizes.{Sizes}
 use Rattle.tex_defs.specs.Sizes.{table_name, default_sizes}
 use Rattle.tex_defs.specs.Places.{World, Rose, Transcript, File, Untold, NotHeld, Holds}
 use Rattle.equivalents.specs.Groups.{first_groups}
-use Rattle.plain_machine.specs.States.{State, Move, Kept, Written}
+use Rattle.plain_machine.specs.States.{State, Files, Move, Kept, Written}
 use Rattle.plain_state.specs.Reports.{fresh_line}
 use Rattle.plain_machine.specs.Plan.{first_state, is_known}
 use Rattle.plain_machine.specs.Runs.{Wrote}
@@ -45,8 +45,8 @@ full_line full = codes "! TeX capacity exceeded, sorry [" ++ (table_name full.ta
 -- THE RUN
 
 -- INITEX's first state, with the job's file opened where it is held; token lines may be left out
-abbrev pub First : (quiet : Bool) → (file : List ℕ) → (job : Option (List ℕ)) → State
-First quiet file job = first_state (first_groups is_known) quiet file job
+abbrev pub First : (quiet : Bool) → (file : List ℕ) → (job : Option (List ℕ)) → Files → State
+First quiet file job files = first_state (first_groups is_known) quiet file job files
 
 -- The machine's whole run ended so within the sizes, and all that it writes is written.
 pub record Whole (sizes : Sizes) (s : State) (n : ℕ) (w w' : World) (o : Outcome) : Type 0 where
@@ -91,14 +91,14 @@ pub record CutShort (sizes : Sizes) (s : State) (n : ℕ) (w w' : World) (why : 
   pub cut : CutAt sizes s n t w between why
   pub last : Line between w' line
 
--- The file's next bytes don't come only where the count of failed reads, or of wants, rose.
+-- Bytes of a file don't come, and it can't be opened, only where the count of failed reads, or of wants, rose.
 abbrev pub IsReadCause : Why → World → World → Type 0
 IsReadCause (IsFull full) w w' = ⊥
 IsReadCause IsFault w w' = Rose w.read_faults w'.read_faults
 IsReadCause IsWant w w' = Rose w.file_wants w'.file_wants
 
--- A moment of the run is written at which its file's next bytes are needed and don't come, for a cause, and then a stop line. How much of
--- the file came isn't told, so neither is which of these moments it is.
+-- A moment of the run is written at which a file's next bytes are needed and don't come, or a file can't be opened, for a cause, and then a
+-- stop line. How much of a file came isn't told, so neither is which of these moments it is.
 pub record Unread (sizes : Sizes) (s : State) (n : ℕ) (w w' : World) (why : Why) (line : List ℕ) : Type 0 where
   pub t : State
   pub between : World
@@ -145,23 +145,29 @@ Says sizes s n w w' _ IsReadFault = Unread sizes s n w w' IsFault read_fault_lin
 Says sizes s n w w' _ IsWriteFault = CutShort sizes s n w w' IsFault write_fault_line
 Says sizes s n w w' _ IsNoMemory = CutShort sizes s n w w' IsWant no_memory_line ⊎ (Unread sizes s n w w' IsWant no_memory_line ⊎ NotBegun w w')
 
--- what is told of the job's file may be this
-abbrev pub IsJob : File → Option (List ℕ) → Type 0
-IsJob Untold job = Unit {0}
-IsJob NotHeld job = job ≡ None
-IsJob (Holds bytes) job = job ≡ Some bytes
+-- what is told of a file may be this
+abbrev pub IsHeldAs : File → Option (List ℕ) → Type 0
+IsHeldAs Untold found = Unit {0}
+IsHeldAs NotHeld found = found ≡ None
+IsHeldAs (Holds bytes) found = found ≡ Some bytes
+
+-- so may what is told of all files, at each opening
+abbrev pub AreHeldAs : (List ℕ → File) → Files → Type 0
+AreHeldAs held files = (k : ℕ) → (name : List ℕ) → IsHeldAs (held name) (files k name)
 
 -- the tables' sizes: those of a run whose words give none, but for the main memory
 abbrev pub sizes_of : Options → Sizes
 sizes_of options = record default_sizes { main_memory_size = options.main_memory_size }
 
--- The run of a job's file: of a file that is told the machine's run, of another the machine's run over some
--- content, or as of a file that isn't held.
-pub record MeansRun (sizes : Sizes) (quiet : Bool) (name : List ℕ) (file : File) (n : ℕ) (w w' : World) (status : ℕ) : Type 0 where
+-- The run of a job's file: over files that are told the machine's run, over others the machine's run where each file that is opened has some
+-- content, or isn't held.
+pub record MeansRun (sizes : Sizes) (quiet : Bool) (name : List ℕ) (held : List ℕ → File) (n : ℕ) (w w' : World) (status : ℕ) : Type 0 where
   pub job : Option (List ℕ)
-  pub is_job : IsJob file job
+  pub files : Files
+  pub is_job : IsHeldAs (held name) job
+  pub are_files : AreHeldAs held files
   pub is : Status status
-  pub says : Says sizes (First quiet name job) n w w' status is
+  pub says : Says sizes (First quiet name job files) n w w' status is
 
 -- Words that are no command: the usage line alone.
 pub record MeansUsage (w w' : World) (status : ℕ) : Type 0 where
@@ -175,5 +181,5 @@ pub record MeansNoMemory (w w' : World) (status : ℕ) : Type 0 where
 
 -- What the program writes and answers for its words.
 abbrev pub Means : Command → (List ℕ → File) → World → World → ℕ → Type 0
-Means (Init name options) file w w' status = MeansRun (sizes_of options) options.quiet name (file name) options.steps w w' status
-Means NoCommand file w w' status = MeansUsage w w' status ⊎ MeansNoMemory w w' status
+Means (Init name options) held w w' status = MeansRun (sizes_of options) options.quiet name held options.steps w w' status
+Means NoCommand held w w' status = MeansUsage w w' status ⊎ MeansNoMemory w w' status

@@ -5,7 +5,7 @@ use Rattle.tex_defs.specs.declared.Meaning.{Meaning}
 use Rattle.tex_defs.specs.declared.Meaning.TheVariants as means
 use Rattle.tex_defs.specs.declared.Seen.{Seen}
 use Rattle.plain_tokens.specs.Puts.{Put, Whole, Own, Macro}
-use Rattle.plain_tokens.specs.Pending.{Pending, with_puts, put_front, pulled, Pulled, TokenFrom, LexemeFrom, LineTaken, InvalidMet, FileOver, NothingLeft}
+use Rattle.plain_tokens.specs.Pending.{Pending, Source, put_front, pulled, with_begun, all_puts, Pulled, TokenFrom, LexemeFrom, LineTaken, InvalidMet, FileOver, NothingLeft}
 use Rattle.plain_tokens.specs.Tables.{is_put}
 use Rattle.tex_defs.specs.declared.Name.{Name}
 use Rattle.plain_tokens.specs.Meanings.{seen, met, meaning_to_let, is_listed}
@@ -55,8 +55,11 @@ put_of number p = record { list = whole_of number p.list; arguments = p.argument
 abbrev pub puts_of : (ℕ → ℕ) → List Put → List Put
 puts_of number puts = map (put_of number) puts
 
+abbrev pub source_of : (ℕ → ℕ) → Source → Source
+source_of number s = record s { puts = puts_of number s.puts }
+
 abbrev pub pending_of : (ℕ → ℕ) → Pending → Pending
-pending_of number p = with_puts (puts_of number p.puts) p
+pending_of number p = record p { puts = puts_of number p.puts; outer = map (source_of number) p.outer }
 
 abbrev pub pulled_of : (ℕ → ℕ) → Pulled → Pulled
 pulled_of number (TokenFrom t next) = TokenFrom t (pending_of number next)
@@ -86,6 +89,8 @@ pub record Tied (number : ℕ → ℕ) (macros : List (List Token)) (held : List
 pub record NumbersAreFree : Type 0 where
   pub reads : (number : ℕ → ℕ) (categories : List ℕ) (p : Pending) → pulled categories (pending_of number p) ≡ pulled_of number (pulled categories p)
   pub puts : (number : ℕ → ℕ) (x : Put) (p : Pending) → put_front (put_of number x) (pending_of number p) ≡ pending_of number (put_front x p)
+  pub begins : (number : ℕ → ℕ) (p : Pending) → with_begun (pending_of number p) ≡ pending_of number (with_begun p)
+  pub all : (number : ℕ → ℕ) (p : Pending) → all_puts (pending_of number p) ≡ puts_of number (all_puts p)
   pub means : (number : ℕ → ℕ) (cells : List (Meaning (Option ℕ))) (t : Token) → seen (meanings_of number cells) t ≡ seen cells t
   pub meets : (number : ℕ → ℕ) (cells : List (Meaning (Option ℕ))) (t : Token) → met (meanings_of number cells) t ≡ met cells t
   pub lets : (number : ℕ → ℕ) (cells : List (Meaning (Option ℕ))) (x : Seen) → meaning_to_let (meanings_of number cells) x ≡ meaning_of number (meaning_to_let cells x)

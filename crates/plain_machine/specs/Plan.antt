@@ -12,6 +12,7 @@ use Rattle.tex_defs.specs.declared.Token.{Token}
 use Rattle.tex_defs.specs.declared.Token.TheVariants as token
 use Rattle.tex_defs.specs.declared.Name.{Name}
 use Rattle.tex_defs.specs.declared.Name.TheVariants as name
+use Rattle.tex_defs.specs.declared.Frozen.TheVariants as frozen
 use Rattle.tex_defs.specs.declared.Meaning.{Meaning}
 use Rattle.tex_defs.specs.declared.Meaning.TheVariants as means
 use Rattle.tex_defs.specs.declared.Seen.{Seen}
@@ -33,12 +34,12 @@ use Rattle.plain_tokens.specs.Puts.{Item, Put as PutList, call_put}
 use Rattle.plain_tokens.specs.Lookup.{token_of, new_name, name_among, new_among}
 use Rattle.plain_tokens.specs.Printed.{Style, meaning_text, meaning_tokens}
 use Rattle.plain_tokens.specs.Numerals.{whole_number, roman}
-use Rattle.plain_tokens.specs.Lex.{NewLine}
-use Rattle.plain_tokens.specs.Pending.{Pulled, TokenFrom, LexemeFrom, LineTaken, InvalidMet, FileOver, NothingLeft, Progress, NotBegun, Closed as ClosedFile, pulled}
+use Rattle.plain_tokens.specs.Lines.{first_line}
+use Rattle.plain_tokens.specs.Pending.{Pulled, TokenFrom, LexemeFrom, LineTaken, InvalidMet, FileOver, NothingLeft, bottom, pulled}
 use Rattle.plain_tokens.specs.Arguments.{has_parameters, arguments_in, work_in}
 use Rattle.plain_tokens.specs.Arguments as call
 use Rattle.plain_state.specs.Reports.{in_line_after, missing_file_bytes, fresh_line, end_in_group, report_bytes, error_message_bytes, shown_meaning_bytes, string_text, hundred_line, emergency, no_end_line, no_file_line, token_line_bytes, runaway_bytes, message_bytes}
-use Rattle.command_words.specs.Words.{job_name}
+use Rattle.command_words.specs.Words.{job_name, file_name}
 use Rattle.rows.specs.declared.words.Value.{Value}
 use Rattle.rows.specs.declared.words.Value.TheVariants as value
 use Rattle.rows.specs.declared.words.Kind.TheVariants.{Command as Row}
@@ -49,14 +50,14 @@ use Rattle.rows.specs.Table.{has_row}
 use Rattle.rows.specs.Readings.{Fed, Tok, Told, Cut, Ask, More, Inner, Done, Acts, ActsOn, Defines, Ends as Closes, Calls, Fails, RunsAway, Tells, Inserts}
 use Rattle.plain_readings.specs.Calls.{gathered, par_token}
 use Rattle.plain_readings.specs.Spelling.{endcsname_primitive}
-use Rattle.plain_readings.specs.Readings.{Kind, Reads, Spelling, Arguments, Behind, Reading, ask, lists}
+use Rattle.plain_readings.specs.Readings.{Kind, Reads, Spelling, FileName, Arguments, Behind, Reading, ask, lists}
 use Rattle.plain_readings.specs.Scanning.{Scanning, scanning}
 use Rattle.equivalents.specs.Parameters.{integer_in, style_in}
-use Rattle.plain_machine.specs.States.{Move, Handed, Taken, Settled, Skipped, FileClosed, Entered, Kept, Grows, Feeds, Completed, Opened, ListBegun, ListGrown, Put, ListDropped, Called, CalledWith, Set, Assigned, Defined, GroupOpened, GroupClosed, KeptForGroup, KeptForAssignment, Written, Begun, BegunWith, Ended, Closed, Reported, Flawed, Stopped, State, no_token, made}
+use Rattle.plain_machine.specs.States.{Move, Handed, Taken, FirstTaken, Settled, Skipped, FileClosed, FileEnds, FileOpened, Spelt, NameInProgress, Files, Entered, Kept, Grows, Feeds, Completed, Opened, ListBegun, ListGrown, Put, ListDropped, Called, CalledWith, Set, Assigned, Defined, GroupOpened, GroupClosed, KeptForGroup, KeptForAssignment, Written, Begun, BegunWith, Ended, Closed, Reported, Flawed, Stopped, State, no_token, made}
 
 -- What the moves of a rule depend on: what stands at all locations, how many groups are open, the kind of the innermost and the tokens that come after it
 -- (the last first), the token that comes behind the next assignment, the names entered, the job's name, the macros' lists, the token
--- that a reading was fed with last, whether the transcript's column isn't 0, the number of the line that is read, the reports so far, and
+-- that a reading was fed with last, whether a file's name is being read, whether the transcript's column isn't 0, the number of the line that is read, the reports so far, and
 -- whether token lines are left out.
 pub record Page : Type 0 where
   pub now : Tables
@@ -68,6 +69,7 @@ pub record Page : Type 0 where
   pub strings : List (List ℕ)
   pub macros : List (List Token)
   pub last : Seen
+  pub naming : Bool
   pub in_line : Bool
   pub line : ℕ
   pub reports : ℕ
@@ -84,6 +86,7 @@ page_of s = record {
   strings = s.strings;
   macros = s.macros;
   last = s.last;
+  naming = s.naming;
   in_line = s.in_line;
   line = s.pending.number;
   reports = s.reports;
@@ -191,6 +194,12 @@ csname_primitive = 56
 abbrev pub jobname_primitive : ℕ
 jobname_primitive = 61
 
+abbrev pub input_primitive : ℕ
+input_primitive = 63
+
+abbrev pub endinput_primitive : ℕ
+endinput_primitive = 64
+
 -- the primitives that are expanded, and the conditionals
 abbrev pub is_expandable_primitive : ℕ → Bool
 is_expandable_primitive number = is_between 54 84 number
@@ -200,11 +209,21 @@ abbrev pub job_in : List (List ℕ) → List ℕ
 job_in [] = []
 job_in (name ∷ strings) = name
 
--- an expansion begins its reading, which `\jobname` ends at once
+-- a `\relax` that no assignment changes
+abbrev pub frozen_relax : Token
+frozen_relax = token.Named (name.Frozen frozen.Relax)
+
+-- `\input`, by this token: a file's name is read. Where one is being read already it is put back, behind a frozen `\relax`, which ends that name.
+abbrev pub input_met : Page → Token → Call → List Move
+input_met page t c = if page.naming then put_one t ++ put_one frozen_relax else Begun (FileName c) ∷ NameInProgress true ∷ []
+
+-- An expansion begins its reading, which `\jobname` ends at once; by `\endinput` the innermost file is to end.
 abbrev pub expansion : Page → Token → ℕ → List Move
 expansion page t number =
     if number == csname_primitive then Begun (Spelling (call_of t number)) ∷ []
     else if number == jobname_primitive then begun t number ++ (put_characters (job_in page.strings) ++ Closed ∷ [])
+    else if number == input_primitive then input_met page t (call_of t number)
+    else if number == endinput_primitive then FileEnds ∷ []
     else begun t number
 
 -- GROUPS
@@ -354,9 +373,9 @@ abbrev pub check_noted : Scanned → List Move → List Move
 check_noted scanned.Use rest = Feeds Cut ∷ rest
 check_noted what rest = rest
 
--- where the file has ended
-abbrev pub without_file : Page → Page
-without_file page = record page { line = 0 }
+-- where a file has ended, and the one beneath it stands at this line
+abbrev pub at_line : ℕ → Page → Page
+at_line number page = record page { line = number }
 
 -- behind a text
 abbrev pub page_behind : Page → List ℕ → Page
@@ -397,7 +416,7 @@ handed page enters s onward (LexemeFrom x p) =
     ∷ (entered (new_name enters page.names x) ++ met page s onward (met_token page.now.meanings (token_of enters page.names x)))
 handed page enters s onward (LineTaken line p) = Settled ∷ Taken line ∷ []
 handed page enters s onward (InvalidMet p) = Settled ∷ Skipped ∷ reported page InvalidCharacter []
-handed page enters s onward (FileOver p) = Settled ∷ FileClosed ∷ checked (without_file page) s
+handed page enters s onward (FileOver p) = Settled ∷ FileClosed ∷ checked (at_line p.number page) s
 handed page enters s onward NothingLeft = Settled ∷ no_end page
 
 -- a raw reading enters names
@@ -559,10 +578,11 @@ newly_spelt names (c ∷ d ∷ cs) = new_among true names (c ∷ d ∷ cs)
 abbrev pub relax_if_undefined : List (Meaning (Option ℕ)) → Name → List Move
 relax_if_undefined meanings n = if is_undefined (seen_as (name_meaning meanings n)) then Assigned false n (means.Prim relax_primitive) ∷ [] else []
 
--- `\csname`: the name is entered where it is new, means `\relax` where it meant nothing, and is put in front
+-- `\csname`: the name is spelt, entered where it is new, means `\relax` where it meant nothing, and is put in front
 abbrev pub name_made : Page → (characters : List ℕ) → List Move
 name_made page characters =
-    entered (newly_spelt page.names characters)
+    Spelt characters
+    ∷ entered (newly_spelt page.names characters)
     ++ (relax_if_undefined page.now.meanings (spelt page.names characters) ++ put_one (token.Named (spelt page.names characters)))
 
 abbrev pub acts_on : Page → Call → Effect → List Token → List Move
@@ -571,13 +591,32 @@ acts_on page c effect.ErrorMessage ts = reported_as page ts (Closed ∷ [])
 acts_on page c effect.MakeName ts = and_closed (name_made page (character_codes ts))
 acts_on page c e ts = Closed ∷ []
 
+-- FILES THAT ARE OPENED
+
+-- a file that isn't held is reported, and the run ends
+abbrev pub unless_found : Page → (name : List ℕ) → Option (List ℕ) → List Move
+unless_found page name (Some bytes) = []
+unless_found page name None =
+    Written Transcript (missing_file_bytes (style_of page) page.in_line page.line name) ∷ Reported
+    ∷ behind_report (style_of page) page.reports (Written Transcript (emergency (style_of page) ++ no_file_line (style_of page)) ∷ Stopped (AtFatal NoFile) ∷ [])
+
+-- `\input` has read a file's name: the token behind it goes back, if it is to, the reading ends, and the file is opened. Its first line is the next step.
+abbrev pub input_begun : Files → Page → (give_back : Bool) → (name : List ℕ) → List Move
+input_begun files page back name =
+    given_back back page.last ++ (Spelt name ∷ Closed ∷ NameInProgress false ∷ Settled ∷ FileOpened name ∷ unless_found page name (files 0 name))
+
+-- what an act with a list comes to, where the files are these
+abbrev pub acts_in : Files → Page → Call → Effect → List Token → List Move
+acts_in files page c (effect.StartInput back) ts = input_begun files page back (file_name (character_codes ts))
+acts_in files page c e ts = acts_on page c e ts
+
 -- WHAT COMES OF AN ANSWER
 abbrev pub answered : State → List Reading → Reading → Ask → List Move
 answered s work r (More want) = handed (page_of s) (enters_names want) (scanning work s.gathered) (λ x. wanted (page_of s) want (feeding r x) x) (pulled s.groups.now.categories s.pending)
 answered s work r (Inner k begins) = inner_begun (Reads k) begins
 answered s work r (Done v back) = done (page_of s) r v back
 answered s work r (Acts c e) = acts (page_of s) c e
-answered s work r (ActsOn c e ts) = acts_on (page_of s) c e ts
+answered s work r (ActsOn c e ts) = acts_in s.files (page_of s) c e ts
 answered s work r (Defines c n ts) = macro_defined (page_of s) c n ts
 answered s work r Closes = Closed ∷ []
 answered s work r (Calls args) = called_with r.kind args
@@ -590,10 +629,15 @@ abbrev pub planned : State → List Reading → List Move
 planned s [] = handed (page_of s) false None (stomach (page_of s)) (pulled s.groups.now.categories s.pending)
 planned s (r ∷ rs) = answered s (r ∷ rs) r (ask r.kind r.fed)
 
+-- a file that was opened is begun with its first line, before all else
+abbrev pub ruled : State → Option (List ℕ) → List Move
+ruled s (Some bytes) = Settled ∷ FirstTaken (first_line bytes) ∷ []
+ruled s None = planned s s.work
+
 -- the moves of the next rule
 abbrev pub plan : State → Option Outcome → List Move
 plan s (Some o) = []
-plan s None = planned s s.work
+plan s None = ruled s s.pending.next
 
 pub data Next : Type 0 where
   Ends : Next
@@ -611,11 +655,6 @@ next_of s [] = first_of_plan s (plan s s.stopped)
 unfoldable pub next : State → Next
 next s = next_of s s.due
 
--- a job begins: its file, if there is one, is opened and not begun
-abbrev pub file_opened : Option (List ℕ) → List ℕ
-file_opened None = []
-file_opened (Some bytes) = bytes
-
 -- a job whose file isn't held
 abbrev pub no_file : Style → List ℕ → List Move
 no_file style file =
@@ -630,10 +669,6 @@ file_missing style file (Some bytes) = []
 abbrev pub job_due : Style → List ℕ → Option (List ℕ) → List Move
 job_due style file job = Kept (job_name file) ∷ file_missing style file job
 
-abbrev pub job_progress : Option (List ℕ) → Progress
-job_progress None = ClosedFile
-job_progress (Some bytes) = NotBegun
-
 -- THE FIRST STATE
 
 -- the primitives that mean something and are read by no row
@@ -641,15 +676,19 @@ abbrev pub is_rowless : ℕ → Bool
 is_rowless number =
     (number == relax_primitive) || (number == begingroup_primitive) || (number == endgroup_primitive) || (number == endcsname_primitive)
     || (number == par_primitive) || (number == end_primitive) || (number == csname_primitive) || (number == jobname_primitive)
+    || (number == input_primitive) || (number == endinput_primitive)
 
 -- the primitives that mean something
 abbrev pub is_known : ℕ → Bool
 is_known number = is_rowless number || has_row number
 
--- Where the job of a file begins, which has these bytes, if it is held: the primitives' names are entered, and this stands at all locations.
-abbrev pub first_state : Groups → Bool → List ℕ → Option (List ℕ) → State
-first_state groups quiet file job = record {
-  pending = record { puts = []; line = []; lex = NewLine; rest = file_opened job; file = job_progress job; number = 0 };
+-- Where the job of a file begins, which has these bytes, if it is held, and is opened then: the primitives' names are entered, and this stands
+-- at all locations. These are the files that may be opened.
+abbrev pub first_state : Groups → Bool → List ℕ → Option (List ℕ) → Files → State
+first_state groups quiet file job files = record {
+  pending = record bottom { next = job };
+  files = files;
+  naming = false;
   groups = groups;
   names = primitive_names;
   strings = [];

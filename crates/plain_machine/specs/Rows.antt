@@ -1,13 +1,13 @@
 -- The machine run on small files: what it writes to the transcript within so many moves, the names that it enters, its
 -- status, and where a table is full.
-use Rattle.std.specs.Prelude.{ℕ, zero, suc, ◌+◌, ◌≤◌, ◌⊎◌, Bool, false, List, [], ◌∷◌, ◌++◌, length, Option, Some, None, ◌≡◌, codes}
+use Rattle.std.specs.Prelude.{ℕ, zero, suc, ◌+◌, ◌≤◌, ◌⊎◌, Bool, false, List, [], ◌∷◌, ◌++◌, length, Option, Some, None, ◌≡◌, codes, bytes_eq, if◌then◌else◌}
 use Rattle.tex_syntax.specs.declared.words.Outcome.{Outcome}
 use Rattle.tex_syntax.specs.declared.words.Outcome.TheVariants.{Finished}
 use Rattle.tex_defs.specs.declared.Full.{Full}
 use Rattle.tex_defs.specs.declared.Sizes.{Sizes}
 use Rattle.prim_table.specs.Primitives.{primitive_names}
 use Rattle.equivalents.specs.Groups.{first_groups}
-use Rattle.plain_machine.specs.States.{State, Move, Written}
+use Rattle.plain_machine.specs.States.{State, Files, Move, Written}
 use Rattle.plain_machine.specs.Demands.{refusal}
 use Rattle.plain_machine.specs.Plan.{Next, Ends, Goes, next, next_of, first_state, is_known}
 use Rattle.plain_machine.specs.Runs.{step_of, steps, Moves, Trace}
@@ -44,9 +44,20 @@ unfoldable pub run_of : ℕ → State → Result
 run_of zero s = cut_short s
 run_of (suc n) s = went s (λ u. run_of n u) (next_of s s.due)
 
--- where the job of a file begins, which has this name and these bytes; of one without a name
+-- files by their names, the same at each opening
+abbrev pub found_in : List (List ℕ × List ℕ) → List ℕ → Option (List ℕ)
+found_in [] name = None
+found_in ((other, bytes) ∷ files) name = if bytes_eq name other then Some bytes else found_in files name
+
+abbrev pub files_of : List (List ℕ × List ℕ) → Files
+files_of files k name = found_in files name
+
+-- where the job of a file begins, which has this name and these bytes; beside other files; of one without a name
+abbrev pub job_beside : List (List ℕ × List ℕ) → (file : List ℕ) → List ℕ → State
+job_beside files file bytes = first_state (first_groups is_known) false file (Some bytes) (files_of files)
+
 abbrev pub named_job : (file : List ℕ) → List ℕ → State
-named_job file bytes = first_state (first_groups is_known) false file (Some bytes)
+named_job file bytes = job_beside [] file bytes
 
 abbrev pub job_state : List ℕ → State
 job_state bytes = named_job [] bytes
@@ -60,6 +71,14 @@ named_job_of file bytes = run_of 600 (named_job file bytes)
 -- `{`, `}`, `#` and `^` get their usual categories
 abbrev pub first_line_usual : List ℕ
 first_line_usual = codes "\\catcode`\\{=1 \\catcode`\\}=2 \\catcode`\\#=6 \\catcode`\\^=7\n"
+
+-- the run of a job beside other files, which has ended: what it writes, the steps, and its outcome
+unfoldable pub result_beside : List (List ℕ × List ℕ) → List ℕ → Result
+result_beside files bytes = run_of 600 (job_beside files [] bytes)
+
+abbrev pub RunsBeside : List (List ℕ × List ℕ) → List ℕ → List ℕ → ℕ → Outcome → Type 0
+RunsBeside files bytes text steps outcome =
+    ((result_beside files bytes).text ≡ text) × (((result_beside files bytes).steps ≡ steps) × ((result_beside files bytes).stopped ≡ Some outcome))
 
 abbrev pub Writes : List ℕ → List ℕ → Outcome → Type 0
 Writes file text outcome = ((job_of file).text ≡ text) × ((job_of file).stopped ≡ Some outcome)
@@ -106,12 +125,20 @@ full_in sizes (suc n) s = went_within sizes s (λ u. full_in sizes n u) (next_of
 unfoldable pub job_fills : Sizes → List ℕ → List ℕ → Option Full
 job_fills sizes name bytes = full_in sizes 600 (named_job name bytes)
 
+-- the same of a job beside other files
+abbrev pub FillsBeside : Sizes → List (List ℕ × List ℕ) → List ℕ → Full → Type 0
+FillsBeside sizes files bytes full = full_in sizes 600 (job_beside files [] bytes) ≡ Some full
+
 abbrev pub Fills : Sizes → List ℕ → Full → Type 0
 Fills sizes file full = job_fills sizes [] file ≡ Some full
 
 -- the table that is full within so many moves
 abbrev pub FillsWithin : ℕ → Sizes → List ℕ → Full → Type 0
 FillsWithin moves sizes file full = full_in sizes moves (job_state file) ≡ Some full
+
+-- a whole run beside other files has room
+abbrev pub FitsBeside : Sizes → List (List ℕ × List ℕ) → List ℕ → Type 0
+FitsBeside sizes files bytes = (full_in sizes 600 (job_beside files [] bytes) ≡ None) × ((result_beside files bytes).stopped ≡ Some Finished)
 
 -- the whole run has room
 abbrev pub Fits : Sizes → List ℕ → Type 0

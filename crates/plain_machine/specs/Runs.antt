@@ -1,14 +1,16 @@
 -- Runs of the machine, and what they write.
-use Rattle.std.specs.Prelude.{◌≡◌, ◌⊎◌, ℕ, ◌+◌, ◌≤◌, ◌<◌, ◌^◌, Bool, List, [], ◌∷◌, ◌++◌, if◌then◌else◌, Option}
+use Rattle.std.specs.Prelude.{◌≡◌, ◌⊎◌, ℕ, ◌+◌, ◌≤◌, ◌<◌, ◌^◌, Bool, List, [], ◌∷◌, ◌++◌, All, if◌then◌else◌, Option}
+use Rattle.plain_tokens.specs.Pending.{Pending}
 use Rattle.tex_defs.specs.Places.{Place, File, World, Later, is_at, grown}
 use Rattle.equivalents.specs.Groups.{Groups}
-use Rattle.plain_machine.specs.States.{State, Move, Handed, Taken, Written, made, column_after}
+use Rattle.plain_machine.specs.States.{State, Files, Move, Handed, Taken, FirstTaken, Written, made, column_after}
 use Rattle.plain_machine.specs.Plan.{Ends, Goes, next, first_state}
 
 -- a token handed on and a line taken are the steps
 abbrev pub step_of : Move → ℕ
 step_of (Handed t) = 1
 step_of (Taken line) = 1
+step_of (FirstTaken line) = 1
 step_of m = 0
 
 abbrev pub steps : List Move → ℕ
@@ -98,10 +100,15 @@ SumsOfSteps =
 -- where a rule begins, or a job
 pub data Begins (s : State) : Type 0 where
   AtRule : s.due ≡ [] → Begins s
-  AtJob : (groups : Groups) → (quiet : Bool) → (file : List ℕ) → (job : Option (List ℕ)) → s ≡ first_state groups quiet file job → Begins s
+  AtJob : (groups : Groups) → (quiet : Bool) → (file : List ℕ) → (job : Option (List ℕ)) → (files : Files) → s ≡ first_state groups quiet file job files → Begins s
 
--- The number of the line rises by no more than the steps, and by one where a line is taken: within fewer than 2^64 steps of a job, whose
--- first number is 0, no line's number stands still.
+-- no open file has come to a line with a greater number
+pub record AreAtMost (n : ℕ) (p : Pending) : Type 0 where
+  pub top : p.number ≤ n
+  pub outer : All (λ s. s.number ≤ n) p.outer
+
+-- The numbers of the lines rise by no more than the steps, and by one where a line is taken: within fewer than 2^64 steps of a job, at
+-- whose beginning no file has a line, no line's number stands still.
 pub record LinesAreCounted : Type 0 where
-  pub rises : (s t : State) (ms : List Move) → Begins s → Moves s ms t → t.pending.number ≤ s.pending.number + steps ms
-  pub counts : (s t u : State) (ms : List Move) (line : List ℕ) → Begins s → Moves s ms t → next t ≡ Goes (Taken line) u → s.pending.number + (steps ms + 1) < 2 ^ 64 → u.pending.number ≡ t.pending.number + 1
+  pub rises : (n : ℕ) (s t : State) (ms : List Move) → Begins s → AreAtMost n s.pending → Moves s ms t → AreAtMost (n + steps ms) t.pending
+  pub counts : (n : ℕ) (s t u : State) (ms : List Move) (line : List ℕ) → Begins s → AreAtMost n s.pending → Moves s ms t → next t ≡ Goes (Taken line) u → n + (steps ms + 1) < 2 ^ 64 → u.pending.number ≡ t.pending.number + 1

@@ -1,5 +1,5 @@
 -- The plain machine's state, and its moves.
-use Rattle.std.specs.Prelude.{ℕ, ◌+◌, Bool, true, List, [], ◌∷◌, ◌++◌, length, drop, Option, Some, None}
+use Rattle.std.specs.Prelude.{ℕ, suc, ◌+◌, Bool, true, List, [], ◌∷◌, ◌++◌, length, drop, Option, Some, None}
 use Rattle.tex_syntax.specs.declared.words.Outcome.{Outcome}
 use Rattle.tex_defs.specs.declared.Token.{Token}
 use Rattle.tex_defs.specs.declared.Token.TheVariants as token
@@ -14,7 +14,7 @@ use Rattle.equivalents.specs.Locations.{V}
 use Rattle.save_stack.specs.declared.GroupKind.{GroupKind}
 use Rattle.equivalents.specs.Groups.{Groups, entered, set, set_name, opened as group_opened, closed as group_closed, with_token}
 use Rattle.plain_tokens.specs.Puts.{Put as PutList, token_put, grow_first, grown_by, list_of_tokens}
-use Rattle.plain_tokens.specs.Pending.{Pending, pulled, after_pull, with_end, put_front, settle}
+use Rattle.plain_tokens.specs.Pending.{Pending, pulled, after_pull, with_end, put_front, settle, with_next, with_begun, ending}
 use Rattle.plain_state.specs.Reports.{in_line_after}
 use Rattle.rows.specs.declared.words.Value.{Value}
 use Rattle.rows.specs.Readings.{Fed, Tok, Val}
@@ -22,15 +22,23 @@ use Rattle.plain_readings.specs.Readings.{Kind, Reading, lists, fed_with, opened
 use Rattle.equivalents.specs.Parameters.{end_of_line}
 
 pub data Move : Type 0 where
-  -- the two steps: a token handed on, a line taken, which gets its end character then
+  -- the steps: a token handed on; a line taken, which gets its end character then; the first line of a file that was opened, which is the innermost then
   Handed : Token → Move
   Taken : List ℕ → Move
+  FirstTaken : List ℕ → Move
   -- a reading from pending or a push begins: the finished lists in front go
   Settled : Move
   -- an invalid character is skipped
   Skipped : Move
-  -- the file goes behind its last line
+  -- the innermost file goes behind its last line; it is to go behind its present one
   FileClosed : Move
+  FileEnds : Move
+  -- the file of this name is looked for, and opened if it is held
+  FileOpened : (name : List ℕ) → Move
+  -- a name is spelt behind the open lines in the buffer
+  Spelt : (name : List ℕ) → Move
+  -- a file's name is being read, or no more: TeX's `name_in_progress`
+  NameInProgress : Bool → Move
   -- a name is entered; another string is kept
   Entered : (name : List ℕ) → Move
   Kept : (bytes : List ℕ) → Move
@@ -73,8 +81,23 @@ pub data Move : Type 0 where
   Flawed : Move
   Stopped : Outcome → Move
 
+-- What each opening of a file to come, counted from 0, finds under each name. Of files that nobody else changes it is the same each time.
+abbrev pub Files : Type 0
+Files = ℕ → List ℕ → Option (List ℕ)
+
+-- no file is held
+abbrev pub no_files : Files
+no_files k name = None
+
+-- behind the next opening
+abbrev pub later : Files → Files
+later files k = files (suc k)
+
 pub record State : Type 0 where
   pub pending : Pending
+  pub files : Files
+  -- whether a file's name is being read
+  pub naming : Bool
   -- the names of two or more characters, in the order in which they were entered
   pub names : List (List ℕ)
   -- the other strings that are kept: the job's name
@@ -146,9 +169,14 @@ with_argument a (ts ∷ held) = list_of_tokens a ++ held
 abbrev pub made : Move → State → State
 made (Handed t) s = record s { pending = after_pull s.pending (pulled s.groups.now.categories s.pending) }
 made (Taken line) s = record s { pending = with_end (end_of_line s.groups.now) (after_pull s.pending (pulled s.groups.now.categories s.pending)) }
+made (FirstTaken line) s = record s { pending = with_end (end_of_line s.groups.now) (with_begun s.pending) }
 made Settled s = record s { pending = settle s.pending }
 made Skipped s = record s { pending = after_pull s.pending (pulled s.groups.now.categories s.pending) }
 made FileClosed s = record s { pending = after_pull s.pending (pulled s.groups.now.categories s.pending) }
+made FileEnds s = record s { pending = ending s.pending }
+made (FileOpened name) s = record s { pending = with_next (s.files 0 name) s.pending; files = later s.files }
+made (Spelt name) s = s
+made (NameInProgress naming) s = record s { naming = naming }
 made (Entered name) s = record s { names = s.names ++ name ∷ []; groups = entered s.groups }
 made (Kept bytes) s = record s { strings = s.strings ++ bytes ∷ [] }
 made (Grows t) s = record s { gathered = grow_first t s.gathered }

@@ -6,10 +6,10 @@
 ghost use Rattle.std.specs.Prelude.{codes, true, false, ◌++◌, ◌∷◌, [], replicate};
 ghost use Rattle.std.specs.List.{concat};
 ghost use Rattle.tex_syntax.specs.declared.words.Outcome.TheVariants.{Finished, AtFatal};
-ghost use Rattle.tex_defs.specs.declared.Fatal.TheVariants.{NoEnd, HundredErrors};
-ghost use Rattle.tex_defs.specs.declared.Table.TheVariants.{PoolSize, NumberOfStrings, HashSize, MainMemorySize, SaveSize, InputStackSize, ParameterStackSize, BufferSize, GroupingLevels, ExpansionDepth};
+ghost use Rattle.tex_defs.specs.declared.Fatal.TheVariants.{NoEnd, NoFile, HundredErrors};
+ghost use Rattle.tex_defs.specs.declared.Table.TheVariants.{PoolSize, NumberOfStrings, HashSize, MainMemorySize, SaveSize, InputStackSize, ParameterStackSize, TextInputLevels, BufferSize, GroupingLevels, ExpansionDepth};
 ghost use Rattle.tex_defs.specs.Sizes.{default_sizes};
-ghost use Rattle.plain_machine.specs.Rows.{Writes, WritesAs, Counts, Runs as RunsSo, Enters, Begins, RunsWithin, Fills, FillsWithin, Fits, RowsAreRuns, EndedRowsAreWhole, RefusalsAreRuns, first_line_usual};
+ghost use Rattle.plain_machine.specs.Rows.{Writes, WritesAs, Counts, Runs as RunsSo, RunsBeside, FillsBeside, FitsBeside, Enters, Begins, RunsWithin, Fills, FillsWithin, Fits, RowsAreRuns, EndedRowsAreWhole, RefusalsAreRuns, first_line_usual};
 ghost use Rattle.plain_machine.specs.Numbers.{NumbersAreFree};
 ghost use Rattle.plain_machine.specs.Extended.{ExtensionIsFree};
 ghost use Rattle.plain_machine.specs.Runs.{RunsAreOne, EachHasRun, SumsOfSteps, LinesAreCounted};
@@ -30,8 +30,8 @@ pub fn sums_of_steps()
     ensures { SumsOfSteps }
 {}
 
-/// The number of the line rises by no more than the steps that are taken, and by one with each line that is taken, as long as the
-/// steps are fewer than 2^64: no run that short comes to where it stands still.
+/// The numbers of the lines of all open files rise by no more than the steps that are taken, and the innermost one's by one with each
+/// line that is taken, as long as the steps are fewer than 2^64: no run that short comes to where it stands still.
 pub fn lines_are_counted()
     ensures { LinesAreCounted }
 {}
@@ -58,9 +58,9 @@ pub fn numbers_are_free()
     ensures { NumbersAreFree }
 {}
 
-/// What a file has behind its next line is seen by no rule. Where the next reading is known, whichever bytes follow in the file,
-/// the next rule does the same for all of them: its moves, done or cut off, write the same and lead to the same state, but for
-/// these bytes at the file's end, and it has as many steps.
+/// What files have behind their next lines is seen by no rule. Where the next reading is known, whichever bytes follow in the files, the
+/// next rule does the same for all of them: its moves, done or cut off, write the same and lead to the same state, but for these bytes
+/// at the files' ends, and it has as many steps. So does the rule by which a file that was opened is begun. An opening takes what it finds.
 pub fn later_bytes_are_free()
     ensures { ExtensionIsFree }
 {}
@@ -553,4 +553,48 @@ pub fn worked_group_sizes()
     ensures list_of_a_saved_value { Fills (record default_sizes { main_memory_size = 8 }) (first_line_usual ++ codes "\\def\\a{x}{\\def\\a{y}\\def\\b{z}") (record { table = MainMemorySize; used = 8; size = 8 }) }
     ensures list_of_a_saved_value_fits { Fits (record default_sizes { main_memory_size = 9 }) (first_line_usual ++ codes "\\def\\a{x}{\\def\\a{y}\\def\\b{z}\\end") }
     ensures list_let_go_behind_a_group { Fits (record default_sizes { main_memory_size = 6 }) (first_line_usual ++ codes "\\def\\a{x}{\\def\\a{y}}\\def\\b{z}\\end") }
+{}
+
+/// The machine run on small files that begin others.
+pub fn worked_files()
+    ensures beneath { RunsBeside ((codes "b.tex", codes "y\\endinput z\nq\n") ∷ []) (first_line_usual ++ codes "\\input b x\\input b \\end\n") (codes "{the letter y}\n{the letter z}\n{blank space  }\n{the letter x}\n{the letter y}\n{the letter z}\n{blank space  }\n") 48 Finished }
+    ensures missing { RunsBeside [] (first_line_usual ++ codes "\\input zz \\end\n") (codes "! I can't find file `zz.tex'.\nl.2\n! Emergency stop.\n*** (job aborted, file error in nonstop mode)\n") 34 (AtFatal NoFile) }
+    ensures other_extension { RunsBeside ((codes "b.c", codes "y\n") ∷ (codes "b.tex", codes "z\n") ∷ []) (first_line_usual ++ codes "\\input b.c \\end\n") (codes "{the letter y}\n{blank space  }\n") 39 Finished }
+    ensures files_within_files { RunsBeside ((codes "b.tex", codes "x\\input c y\n") ∷ (codes "c.tex", codes "z%\n") ∷ []) (first_line_usual ++ codes "\\input b \\end\n") (codes "{the letter x}\n{the letter z}\n{the letter y}\n{blank space  }\n") 43 Finished }
+    ensures line_numbers { RunsBeside ((codes "b.tex", codes "\n\\zz\n") ∷ []) (first_line_usual ++ codes "\\input b \\zz\\end\n") (codes "{\\par}\n! Undefined control sequence.\nl.2\n! Undefined control sequence.\nl.2\n") 39 Finished }
+    ensures empty { RunsBeside ((codes "e.tex", codes "") ∷ []) (first_line_usual ++ codes "\\input e \\end\n") (codes "{\\par}\n") 36 Finished }
+    ensures ended_use { RunsBeside ((codes "b.tex", codes "\\a x\n") ∷ []) (first_line_usual ++ codes "\\def\\a#1.{}\\input b \\end\n") (codes "Runaway argument?\nx \n! File ended while scanning use of \\a.\nl.2\n") 46 Finished }
+    ensures outer_behind_the_end { RunsBeside ((codes "b.tex", codes "\\a x\n") ∷ []) (first_line_usual ++ codes "\\outer\\def\\o{o}\\def\\a#1.{}\\input b \\o\\end\n") (codes "Runaway argument?\nx \n! File ended while scanning use of \\a.\nl.2\n{the letter o}\n") 54 Finished }
+    ensures ended_text { RunsBeside ((codes "b.tex", codes "\\message{x\n") ∷ []) (first_line_usual ++ codes "\\input b y\\end\n") (codes "Runaway text?\nx \n! File ended while scanning text of \\message.\nl.2\nx \n{the letter y}\n") 41 Finished }
+    ensures within_a_name { RunsBeside ((codes "b.tex", codes "x\n") ∷ (codes "c.tex", codes "y\n") ∷ []) (first_line_usual ++ codes "\\input b\\input c \\end\n") (codes "{the letter x}\n{blank space  }\n{the letter y}\n{blank space  }\n") 45 Finished }
+    ensures behind_a_token { RunsBeside ((codes "b.tex", codes "y\n") ∷ []) (first_line_usual ++ codes "\\expandafter x\\input b \\end\n") (codes "{the letter x}\n{the letter y}\n{blank space  }\n") 40 Finished }
+    ensures by_a_macro { RunsBeside ((codes "bc.tex", codes "y%\n") ∷ []) (first_line_usual ++ codes "\\def\\n{bc}\\input\\n\\relax x\\end\n") (codes "{the letter y}\n{the letter x}\n") 46 Finished }
+    ensures within_a_text { RunsBeside ((codes "b.tex", codes "y}\n") ∷ []) (first_line_usual ++ codes "\\message{x\\input b z\\end\n") (codes "xy\n{blank space  }\n{the letter z}\n") 42 Finished }
+    ensures ends_twice { RunsBeside ((codes "b.tex", codes "y\\endinput\\endinput z\nq\n") ∷ []) (first_line_usual ++ codes "\\input b \\end\n") (codes "{the letter y}\n{the letter z}\n{blank space  }\n") 40 Finished }
+    ensures job_ends { RunsBeside [] (first_line_usual ++ codes "\\endinput x\ny\\end\n") (codes "{the letter x}\n{blank space  }\n! Emergency stop.\n*** (job aborted, no legal \\end found)\n") 33 (AtFatal NoEnd) }
+    ensures job_ends_at_its_last_line { RunsBeside [] (first_line_usual ++ codes "\\endinput\\end\n") (codes "") 32 Finished }
+    ensures at_the_end_of_the_job { RunsBeside ((codes "b.tex", codes "y\n") ∷ []) (first_line_usual ++ codes "\\input b \\message{x}\\end") (codes "{the letter y}\n{blank space  }\nx\n") 41 Finished }
+    ensures last_in_the_job { RunsBeside ((codes "b.tex", codes "y\n") ∷ []) (first_line_usual ++ codes "\\input b") (codes "{the letter y}\n{blank space  }\n! Emergency stop.\n*** (job aborted, no legal \\end found)\n") 36 (AtFatal NoEnd) }
+    ensures levels { FillsBeside default_sizes ((codes "r.tex", codes "\\input r") ∷ []) (codes "\\input r") (record { table = TextInputLevels; used = 6; size = 6 }) }
+    ensures two_levels { FillsBeside (record default_sizes { text_input_levels = 1 }) ((codes "b.tex", codes "y") ∷ []) (codes "\\input b \\end") (record { table = TextInputLevels; used = 1; size = 1 }) }
+    ensures stack_level { FillsBeside (record default_sizes { input_stack_size = 1 }) ((codes "b.tex", codes "y") ∷ []) (codes "\\input b \\end") (record { table = InputStackSize; used = 1; size = 1 }) }
+    ensures long_line_beneath { FillsBeside (record default_sizes { buffer_size = 80 }) ((codes "b.tex", replicate 66 120) ∷ []) (first_line_usual ++ codes "\\input b \\end") (record { table = BufferSize; used = 14; size = 80 }) }
+    ensures long_name { FillsBeside (record default_sizes { buffer_size = 80 }) [] (first_line_usual ++ codes "\\csname " ++ replicate 29 120 ++ codes "\\endcsname\\end") (record { table = BufferSize; used = 52; size = 80 }) }
+    ensures long_name_fits { Fits (record default_sizes { buffer_size = 80 }) (first_line_usual ++ codes "\\csname " ++ replicate 28 120 ++ codes "\\endcsname\\end") }
+    ensures long_file_name { FillsBeside (record default_sizes { buffer_size = 80 }) [] (first_line_usual ++ codes "\\input " ++ replicate 33 120 ++ codes "\\end") (record { table = BufferSize; used = 45; size = 80 }) }
+{}
+
+/// Small files that begin others, within small sizes: text input levels and the buffer.
+pub fn worked_file_sizes()
+    ensures no_level { FillsBeside (record default_sizes { text_input_levels = 0 }) ((codes "b.tex", codes "y") ∷ []) (codes "\\input b \\end") (record { table = TextInputLevels; used = 1; size = 0 }) }
+    ensures no_level_for_a_missing_file { FillsBeside (record default_sizes { text_input_levels = 1 }) [] (codes "\\input b \\end") (record { table = TextInputLevels; used = 1; size = 1 }) }
+    ensures two_levels_fit { FitsBeside (record default_sizes { text_input_levels = 2 }) ((codes "b.tex", codes "y") ∷ []) (codes "\\input b \\input b \\end") }
+    ensures level_goes_with_its_file { FitsBeside (record default_sizes { text_input_levels = 2; input_stack_size = 2 }) ((codes "b.tex", codes "%") ∷ (codes "c.tex", codes "y%") ∷ []) (codes "\\input b \\input c \\input b \\end") }
+    ensures no_buffer { Fills (record default_sizes { buffer_size = 0 }) (codes "\\end") (record { table = BufferSize; used = 0; size = 0 }) }
+    ensures buffer_of_one { Fills (record default_sizes { buffer_size = 1 }) (codes "\\end") (record { table = BufferSize; used = 0; size = 1 }) }
+    ensures line_is_one_too_long { Fills (record default_sizes { buffer_size = 4 }) (codes "\\end") (record { table = BufferSize; used = 0; size = 4 }) }
+    ensures line_fits { Fits (record default_sizes { buffer_size = 5 }) (codes "\\end") }
+    ensures two_lines_fit { FitsBeside (record default_sizes { buffer_size = 19 }) ((codes "b.tex", codes "abcd") ∷ []) (codes "\\input b \\end") }
+    ensures two_lines_are_one_too_long { FillsBeside (record default_sizes { buffer_size = 19 }) ((codes "b.tex", codes "abcde") ∷ []) (codes "\\input b \\end") (record { table = BufferSize; used = 14; size = 19 }) }
+    ensures name_is_one_too_long { FillsBeside (record default_sizes { buffer_size = 18 }) ((codes "b.tex", codes "") ∷ []) (codes "\\input b \\end") (record { table = BufferSize; used = 14; size = 18 }) }
 {}

@@ -3,14 +3,15 @@ use Rattle.std.proofs.Common.{Bool, true, false, List, [], ◌∷◌}
 use Rattle.tex_defs.specs.declared.Name.{Name}
 use Rattle.plain_tokens.specs.Arguments as call
 use Rattle.plain_state.specs.Definitions as build
+use Rattle.tex_syntax.specs.declared.words.Want.TheVariants.{Nonblank}
 use Rattle.rows.specs.declared.words.Kind.TheVariants.{Command, Integer, Text, Definition}
 use Rattle.rows.specs.Readings.{Fed}
 use Rattle.plain_readings.specs.Lists.{build_ask, text, definition}
 use Rattle.plain_readings.specs.Calls.{call_ask, gathered}
-use Rattle.plain_readings.specs.Readings.{Kind, Reads, Spelling, Behind, Arguments, ask}
+use Rattle.plain_readings.specs.Readings.{Kind, Reads, Spelling, FileName, Behind, Arguments, ask}
 use Rattle.plain_readings.specs.Laws.{is_met, Lends}
 use Rattle.plain_readings.proofs.Lent.{row_lends}
-use Rattle.plain_readings.proofs.Steps.{integer_holds, spelling_holds}
+use Rattle.plain_readings.proofs.Steps.{integer_holds, spelling_holds, naming_holds}
 
 build_lends : (b : Bool) (a : build.Answer) → Lends b (build_ask a)
 build_lends b (build.More want list) = tt
@@ -28,6 +29,7 @@ lends (Reads Integer) fed = integer_holds (λ b a. Lends (is_met false fed) a) (
 lends (Reads (Text name expanded)) fed = build_lends (is_met false fed) (text name expanded fed)
 lends (Reads (Definition name expanded)) fed = build_lends (is_met false fed) (definition name expanded fed)
 lends (Spelling c) fed = spelling_holds (λ b a. Lends (is_met false fed) a) (λ b want. tt) (λ report back. tt) (λ b. tt) (λ b c ts. tt) c [] false fed
+lends (FileName c) fed = naming_holds (λ b a. Lends (is_met false fed) a) (λ b want. tt) (λ report back. tt) (λ b. tt) (λ b c back ts. tt) c Nonblank [] false fed
 lends (Behind c x) fed = tt
 lends (Arguments name long number ts) [] = tt
 lends (Arguments name long number ts) (y ∷ fed) = call_lends (is_met false (y ∷ fed)) name (gathered long ts (y ∷ fed))

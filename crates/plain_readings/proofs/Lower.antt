@@ -3,6 +3,7 @@ use Rattle.std.proofs.Common.{◌<◌, true, false, List, [], ◌∷◌}
 use Rattle.tex_defs.specs.declared.Name.{Name}
 use Rattle.plain_tokens.specs.Arguments as call
 use Rattle.plain_state.specs.Definitions as build
+use Rattle.tex_syntax.specs.declared.words.Want.TheVariants.{Nonblank}
 use Rattle.rows.specs.declared.words.Kind.{Kind as Begun}
 use Rattle.rows.specs.declared.words.Kind.TheVariants.{Command, Integer, Text, Definition}
 use Rattle.rows.specs.declared.stage.Note.{Note}
@@ -12,9 +13,9 @@ use Rattle.rows.specs.Run.{due}
 use Rattle.rows.proofs.Runs.{IsLow, row_holds}
 use Rattle.plain_readings.specs.Lists.{build_ask, text, definition}
 use Rattle.plain_readings.specs.Calls.{call_ask, gathered}
-use Rattle.plain_readings.specs.Readings.{Kind, Reads, Spelling, Behind, Arguments, ask}
+use Rattle.plain_readings.specs.Readings.{Kind, Reads, Spelling, FileName, Behind, Arguments, ask}
 use Rattle.plain_readings.specs.Laws.{BeginsLower, rank}
-use Rattle.plain_readings.proofs.Steps.{integer_holds, spelling_holds}
+use Rattle.plain_readings.proofs.Steps.{integer_holds, spelling_holds, naming_holds}
 
 due_low : (n : Note) → BeginsLower 1 (due n)
 due_low (note.Tells report back) = tt
@@ -41,6 +42,7 @@ lower (Reads Integer) fed = integer_holds (λ b a. BeginsLower 0 a) (λ b want. 
 lower (Reads (Text name expanded)) fed = build_lower (text name expanded fed)
 lower (Reads (Definition name expanded)) fed = build_lower (definition name expanded fed)
 lower (Spelling c) fed = spelling_holds (λ b a. BeginsLower 1 a) (λ b want. tt) (λ report back. tt) (λ b. tt) (λ b c ts. tt) c [] false fed
+lower (FileName c) fed = naming_holds (λ b a. BeginsLower 1 a) (λ b want. tt) (λ report back. tt) (λ b. tt) (λ b c back ts. tt) c Nonblank [] false fed
 lower (Behind c x) fed = tt
 lower (Arguments name long number ts) [] = tt
 lower (Arguments name long number ts) (y ∷ fed) = call_lower name (gathered long ts (y ∷ fed))

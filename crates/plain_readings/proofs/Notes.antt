@@ -5,6 +5,7 @@ use Rattle.tex_defs.specs.declared.Token.{Token}
 use Rattle.plain_tokens.specs.Arguments as call
 use Rattle.plain_tokens.specs.Arguments.{start_of, places_of}
 use Rattle.plain_state.specs.Definitions as build
+use Rattle.tex_syntax.specs.declared.words.Want.TheVariants.{Nonblank}
 use Rattle.rows.specs.declared.words.Kind.TheVariants.{Command, Integer, Text, Definition}
 use Rattle.rows.specs.declared.stage.Note.{Note}
 use Rattle.rows.specs.Laws.{is_told}
@@ -13,13 +14,13 @@ use Rattle.rows.specs.Run.{due}
 use Rattle.rows.proofs.Runs.{row_holds}
 use Rattle.plain_readings.specs.Lists.{build_ask, build_fed, manner, text, definition}
 use Rattle.plain_readings.specs.Calls.{call_ask, call_fed, gathered, mode_of}
-use Rattle.plain_readings.specs.Readings.{Kind, Reads, Spelling, Behind, Arguments, ask}
+use Rattle.plain_readings.specs.Readings.{Kind, Reads, Spelling, FileName, Behind, Arguments, ask}
 use Rattle.plain_readings.specs.Laws.{reports_due}
 use Rattle.plain_readings.proofs.Quiet as quiet
 use Rattle.plain_readings.proofs.Quiet.{parameters_quiet, first_quiet}
 use Rattle.plain_readings.proofs.Extra as extra
 use Rattle.plain_readings.proofs.Extra.{call_quiet}
-use Rattle.plain_readings.proofs.Steps.{integer_holds, spelling_holds}
+use Rattle.plain_readings.proofs.Steps.{integer_holds, spelling_holds, naming_holds}
 
 -- nothing is reported where a note came last
 abbrev IsQuiet : Bool → Ask → Type 0
@@ -94,5 +95,8 @@ told_quiet (Reads (Definition name expanded)) fed =
 told_quiet (Spelling c) fed =
     quiet_last (ask (Spelling c) (fed ++ Told ∷ [])) false fed
     (spelling_holds IsQuiet (λ b want. any b _ refl) (λ report back. tt) (λ b. any b _ refl) (λ b c ts. any b _ refl) c [] false (fed ++ Told ∷ []))
+told_quiet (FileName c) fed =
+    quiet_last (ask (FileName c) (fed ++ Told ∷ [])) false fed
+    (naming_holds IsQuiet (λ b want. any b _ refl) (λ report back. tt) (λ b. any b _ refl) (λ b c back ts. any b _ refl) c Nonblank [] false (fed ++ Told ∷ []))
 told_quiet (Behind c x) fed = refl
 told_quiet (Arguments name long number ts) fed = arguments_quiet name long number ts fed

@@ -10,7 +10,7 @@ use Rattle.rows.specs.declared.command.Call.{Call}
 use Rattle.rows.specs.Stages.{start}
 use Rattle.rows.specs.Table.{row_of, first_in, rest_in}
 use Rattle.rows.specs.Run.{started, behind, run, turned}
-use Rattle.plain_readings.specs.Readings.{Kind, Reads, Spelling, Behind, Arguments, ask}
+use Rattle.plain_readings.specs.Readings.{Kind, Reads, Spelling, FileName, Behind, Arguments, ask}
 use Rattle.plain_readings.specs.Laws.{IsRead, Starts, rank}
 
 abbrev IsLow : Start → Type 0
@@ -37,5 +37,6 @@ starts (Reads Integer) h = tt
 starts (Reads (Text name expanded)) h = tt
 starts (Reads (Definition name expanded)) h = tt
 starts (Spelling c) h = tt
+starts (FileName c) h = tt
 starts (Behind c x) h = absurd h
 starts (Arguments name long number ts) h = tt

@@ -1,5 +1,5 @@
--- A law of integers and of `\csname` is proved once, by induction over what they were fed with: it holds of all that they ask for, where it
--- holds of what each step of their definitions asks for.
+-- A law of integers, of `\csname` and of `\input` is proved once, by induction over what they were fed with: it holds of all that they ask for,
+-- where it holds of what each step of their definitions asks for.
 use Rattle.std.proofs.Common.{ℕ, ℤ, pos, ◌+◌, ◌*◌, Bool, true, false, not, List, [], ◌∷◌, ◌++◌, Option, Some, None}
 use Rattle.std.specs.Prelude.{if◌then◌else◌, nat_le}
 use Rattle.tex_defs.specs.declared.Token.{Token}
@@ -15,6 +15,7 @@ use Rattle.rows.specs.Laws.{is_told}
 use Rattle.rows.specs.Readings.{Fed, Tok, Told, Ask, More, Ends, Tells}
 use Rattle.plain_readings.specs.Integers.{ends_with, is_digit, digit_of, is_minus, is_plus, greatest_integer, signed, digits_dropped, too_big, digits, missing, first_digit, behind_number, behind_code, constant, code_of, improper_code, unsigned, integer}
 use Rattle.plain_readings.specs.Spelling.{is_endcsname, makes, endcsname_missing, spelling}
+use Rattle.plain_readings.specs.FileNames.{character_meant, is_blank, opens, named_on, file_naming}
 
 -- a law speaks of an answer, and of whether a note came last
 module _ (P : Bool → Ask → Type 0) (more : (b : Bool) (want : Want) → P b (More want)) (tell : (report : Report) (back : Bool) → P false (Tells report back)) where
@@ -91,3 +92,14 @@ module _ (P : Bool → Ask → Type 0) (more : (b : Bool) (want : Want) → P b 
     spelling_holds c ts b (Tok x ∷ fed) =
         if_holds _ (is_character x.token) _ _ (spelling_holds c (ts ++ x.token ∷ []) false fed) (if_holds _ (is_endcsname x) _ _ (make _ c ts) (endcsname_holds c ts fed))
     spelling_holds c ts b (y ∷ fed) = end _
+
+  module _ (end : (b : Bool) → P b Ends) (opened : (b : Bool) (c : Call) (back : Bool) (ts : List Token) → P b (opens c back ts)) where
+    named_holds : (c : Call) (ts : List Token) (b : Bool) (o : Option Token) (longer : List Token → Ask) → ((us : List Token) → P b (longer us)) → P b (named_on c ts o longer)
+    named_holds c ts b None longer h = opened b c true ts
+    named_holds c ts b (Some t) longer h = if_holds b (is_blank t) _ _ (opened b c false ts) (h (ts ++ t ∷ []))
+
+    pub naming_holds : (c : Call) (want : Want) (ts : List Token) (b : Bool) (fed : List Fed) → P (is_told b fed) (file_naming c want ts fed)
+    naming_holds c want ts b [] = more b want
+    naming_holds c want ts b (Tok x ∷ fed) =
+        named_holds c ts (is_told false fed) (character_meant x.meaning) (λ us. file_naming c Expanded us fed) (λ us. naming_holds c Expanded us false fed)
+    naming_holds c want ts b (y ∷ fed) = end _

@@ -3,6 +3,7 @@ use Rattle.std.proofs.Common.{Bool, true, false, List, [], ◌∷◌}
 use Rattle.tex_defs.specs.declared.Name.{Name}
 use Rattle.plain_tokens.specs.Arguments as call
 use Rattle.plain_state.specs.Definitions as build
+use Rattle.tex_syntax.specs.declared.words.Want.TheVariants.{Nonblank}
 use Rattle.rows.specs.declared.words.Kind.TheVariants.{Command, Integer, Text, Definition}
 use Rattle.rows.specs.declared.stage.Note.{Note}
 use Rattle.rows.specs.declared.stage.Note.TheVariants as note
@@ -12,10 +13,10 @@ use Rattle.rows.specs.Run.{due}
 use Rattle.rows.proofs.Runs.{row_holds}
 use Rattle.plain_readings.specs.Lists.{build_ask, built, text, definition, build_fed, manner}
 use Rattle.plain_readings.specs.Calls.{call_ask, gathered}
-use Rattle.plain_readings.specs.Readings.{Kind, Reads, Spelling, Behind, Arguments, ask, lists}
+use Rattle.plain_readings.specs.Readings.{Kind, Reads, Spelling, FileName, Behind, Arguments, ask, lists}
 use Rattle.plain_readings.specs.Laws.{GivesValue, EndsAs}
 use Rattle.plain_readings.proofs.Full.{EndsFull, parameters_full}
-use Rattle.plain_readings.proofs.Steps.{integer_holds, spelling_holds}
+use Rattle.plain_readings.proofs.Steps.{integer_holds, spelling_holds, naming_holds}
 
 due_valueless : (n : Note) → IsValueless (due n)
 due_valueless (note.Tells report back) = tt
@@ -44,6 +45,7 @@ values (Reads (Text name expanded)) fed = text_value name expanded (text name ex
 values (Reads (Definition name expanded)) fed =
     definition_value name expanded (definition name expanded fed) (parameters_full (manner name expanded) 0 [] (build_fed fed))
 values (Spelling c) fed = spelling_holds (λ b a. IsValueless a) (λ b want. tt) (λ report back. tt) (λ b. tt) (λ b c ts. tt) c [] false fed
+values (FileName c) fed = naming_holds (λ b a. IsValueless a) (λ b want. tt) (λ report back. tt) (λ b. tt) (λ b c back ts. tt) c Nonblank [] false fed
 values (Behind c x) fed = tt
 values (Arguments name long number ts) [] = tt
 values (Arguments name long number ts) (y ∷ fed) = call_valueless name (gathered long ts (y ∷ fed))

@@ -9,7 +9,7 @@ use Rattle.rows.specs.declared.command.Call.{Call}
 use Rattle.rows.specs.declared.command.Effect.{Effect}
 use Rattle.rows.specs.declared.command.Effect.TheVariants.{ExpandBehind}
 use Rattle.rows.specs.Readings.{Fed, Tok, Val, Told, Ask, More, Inner, Done, Acts, Tells, Inserts}
-use Rattle.plain_readings.specs.Readings.{Kind, Reads, Spelling, Behind, Arguments, ask, lists}
+use Rattle.plain_readings.specs.Readings.{Kind, Reads, Spelling, FileName, Behind, Arguments, ask, lists}
 use Rattle.plain_readings.specs.Laws.{IsRead, rank, Starts, BeginsLower, is_met, Lends, GivesValue, reports_due}
 use Rattle.plain_readings.specs.Weights.{frame_weight, value_weight, act_weight, behind_weight, effect_weight, end_weight, ask_weight, weight, IsReport}
 use Rattle.plain_readings.proofs.Starting.{starts}
@@ -116,6 +116,7 @@ told_light (Reads Integer) fed = value_note Integer fed (values (Reads Integer) 
 told_light (Reads (Text name expanded)) fed = value_note (Text name expanded) fed (values (Reads (Text name expanded)) (fed ++ Told ∷ [])) refl
 told_light (Reads (Definition name expanded)) fed = value_note (Definition name expanded) fed (values (Reads (Definition name expanded)) (fed ++ Told ∷ [])) refl
 told_light (Spelling c) fed = note_light (Spelling c) fed refl
+told_light (FileName c) fed = note_light (FileName c) fed refl
 told_light (Behind c x) fed = note_light (Behind c x) fed refl
 told_light (Arguments name long number ts) fed = note_light (Arguments name long number ts) fed refl
 

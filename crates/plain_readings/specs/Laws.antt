@@ -10,7 +10,7 @@ use Rattle.rows.specs.declared.words.Kind.TheVariants.{Command, Integer, Text, D
 use Rattle.rows.specs.declared.command.Call.{Call}
 use Rattle.rows.specs.Laws.{IsValueless}
 use Rattle.rows.specs.Readings.{Fed, Tok, Told, Ask, More, Inner, Done, ActsOn, Tells, Inserts}
-use Rattle.plain_readings.specs.Readings.{Kind, Reads, Spelling, Behind, ask, lists}
+use Rattle.plain_readings.specs.Readings.{Kind, Reads, Spelling, FileName, Behind, ask, lists}
 
 -- RANKS. A reading begins only readings of a lower rank.
 abbrev pub rank : Kind → ℕ
@@ -75,13 +75,14 @@ EndsAs k held a = IsValueless a
 abbrev pub ValuesAreTheirs : Type 0
 ValuesAreTheirs = (k : Kind) (fed : List Fed) → EndsAs k (lists k fed) (ask k fed)
 
--- NAMES. What `\csname` makes a name of is the list that it holds.
+-- NAMES. What `\csname` makes a name of, and `\input` a file's name, is the list that it holds.
 abbrev pub Spells : Call → List (List Token) → Ask → Type 0
 Spells c held (ActsOn d e ts) = (d ≡ c) × (held ≡ ts ∷ [])
 Spells c held a = Unit {0}
 
-abbrev pub NamesAreHeld : Type 0
-NamesAreHeld = (c : Call) (fed : List Fed) → Spells c (lists (Spelling c) fed) (ask (Spelling c) fed)
+pub record NamesAreHeld : Type 0 where
+  pub names : (c : Call) (fed : List Fed) → Spells c (lists (Spelling c) fed) (ask (Spelling c) fed)
+  pub files : (c : Call) (fed : List Fed) → Spells c (lists (FileName c) fed) (ask (FileName c) fed)
 
 -- NOTES. How many reports may come at once behind this one: none yet.
 abbrev pub after : Report → ℕ

@@ -2,6 +2,7 @@ pub mod Integers
 pub mod Lists
 pub mod Calls
 pub mod Spelling
+pub mod FileNames
 pub mod Readings
 pub mod Scanning
 pub mod Laws

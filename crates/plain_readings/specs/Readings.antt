@@ -4,6 +4,7 @@ use Rattle.tex_defs.specs.declared.Name.{Name}
 use Rattle.tex_defs.specs.declared.Token.{Token}
 use Rattle.tex_defs.specs.declared.Seen.{Seen}
 use Rattle.plain_tokens.specs.Puts.{list_of_tokens}
+use Rattle.tex_syntax.specs.declared.words.Want.TheVariants.{Nonblank}
 use Rattle.rows.specs.declared.words.Kind.{Kind as Begun}
 use Rattle.rows.specs.declared.words.Kind.TheVariants.{Command, Integer, Text, Definition}
 use Rattle.rows.specs.declared.command.Call.{Call}
@@ -14,12 +15,14 @@ use Rattle.plain_readings.specs.Integers.{integer}
 use Rattle.plain_readings.specs.Lists.{build_ask, built, text, definition}
 use Rattle.plain_readings.specs.Calls.{gathered, arguments, call_lists}
 use Rattle.plain_readings.specs.Spelling.{spelling, characters}
+use Rattle.plain_readings.specs.FileNames.{file_naming, file_characters}
 
--- What may be open: a command, or what a command begins; `\csname`; the token that `\expandafter` puts back, once what stood behind it is
--- expanded; the arguments of a call of the macro of this name, as it was written, with the macro's number and its list.
+-- What may be open: a command, or what a command begins; `\csname`; `\input`; the token that `\expandafter` puts back, once what stood behind
+-- it is expanded; the arguments of a call of the macro of this name, as it was written, with the macro's number and its list.
 pub data Kind : Type 0 where
   Reads : Begun → Kind
   Spelling : Call → Kind
+  FileName : Call → Kind
   Behind : Call → Seen → Kind
   Arguments : Name → (long : Bool) → (number : ℕ) → (text : List Token) → Kind
 
@@ -34,6 +37,7 @@ begun_ask (Definition name expanded) fed = build_ask (definition name expanded f
 abbrev pub ask : Kind → List Fed → Ask
 ask (Reads k) fed = begun_ask k fed
 ask (Spelling c) fed = spelling c [] fed
+ask (FileName c) fed = file_naming c Nonblank [] fed
 ask (Behind c x) fed = Acts c (PutBack x)
 ask (Arguments name long number ts) fed = arguments name long ts fed
 
@@ -54,6 +58,7 @@ begun_lists (Definition name expanded) fed = built (definition name expanded fed
 abbrev pub lists : Kind → List Fed → List (List Token)
 lists (Reads k) fed = begun_lists k fed
 lists (Spelling c) fed = characters fed ∷ []
+lists (FileName c) fed = file_characters fed ∷ []
 lists (Behind c x) fed = []
 lists (Arguments name long number ts) fed = call_lists (gathered long ts fed)
 

@@ -2,6 +2,7 @@
 use Rattle.std.specs.Prelude.{ℕ, zero, suc, pos, negsuc, ◌≡◌, true, false, List, [], ◌∷◌, Option, Some, None}
 use Rattle.tex_defs.specs.declared.Token.{Token}
 use Rattle.tex_defs.specs.declared.Token.TheVariants as token
+use Rattle.tex_defs.specs.declared.Name.TheVariants as name
 use Rattle.tex_defs.specs.declared.Meaning.TheVariants as means
 use Rattle.tex_defs.specs.declared.Seen.{Seen}
 use Rattle.tex_syntax.specs.declared.words.Want.TheVariants.{Raw, Expanded, Copied, Nonblank}
@@ -12,12 +13,12 @@ use Rattle.rows.specs.declared.words.Datum.TheVariants.{Number}
 use Rattle.rows.specs.declared.words.Value.TheVariants as value
 use Rattle.rows.specs.declared.words.Kind.TheVariants.{Command, Integer, Text, Definition}
 use Rattle.tex_syntax.specs.declared.words.Scanned.TheVariants as scanned
-use Rattle.rows.specs.declared.command.Effect.TheVariants.{MakeName, PutBack}
+use Rattle.rows.specs.declared.command.Effect.TheVariants.{MakeName, StartInput, PutBack}
 use Rattle.rows.specs.Worked.{character, primitive, call, asked, x, y, x_name, a_letter, a_space}
 use Rattle.rows.specs.Readings.{Fed, Tok, Val, Told, Cut, Ask, More, Done, Acts, ActsOn, Ends, Calls, Fails, RunsAway, Tells, Inserts}
 use Rattle.plain_readings.specs.Integers.{ends_with}
 use Rattle.plain_readings.specs.Calls.{par_token}
-use Rattle.plain_readings.specs.Readings.{Kind, Reads, Spelling, Behind, Arguments, Reading, ask, lists}
+use Rattle.plain_readings.specs.Readings.{Kind, Reads, Spelling, FileName, Behind, Arguments, Reading, ask, lists}
 use Rattle.plain_readings.specs.Scanning.{Scanning, scanning}
 
 -- what a reading asks for before each item and behind the last, and the lists that it holds then
@@ -94,6 +95,27 @@ pub record WorkedNames : Type 0 where
   pub missing_held :
       holds csname (Tok a_letter ∷ Tok (primitive 1) ∷ Told ∷ []) ≡
       ([] ∷ []) ∷ ((a_letter.token ∷ []) ∷ []) ∷ ((a_letter.token ∷ []) ∷ []) ∷ ((a_letter.token ∷ []) ∷ []) ∷ []
+
+-- `\input`
+
+abbrev pub input : Kind
+input = FileName (call 63)
+
+-- a name that means the letter `a`
+abbrev pub implicit_letter : Seen
+implicit_letter = record { token = token.Named x_name; meaning = means.Char letter 97 }
+
+-- `\input a` and a space, which goes; and `\relax`, which is given back; an implicit letter; a character 32 of category 12; an active character
+pub record WorkedFiles : Type 0 where
+  pub space : steps input (Tok a_letter ∷ Tok a_space ∷ []) ≡ More Nonblank ∷ More Expanded ∷ ActsOn (call 63) (StartInput false) (a_letter.token ∷ []) ∷ []
+  pub space_held : holds input (Tok a_letter ∷ Tok a_space ∷ []) ≡ ([] ∷ []) ∷ ((a_letter.token ∷ []) ∷ []) ∷ ((a_letter.token ∷ []) ∷ []) ∷ []
+  pub relax : steps input (Tok a_letter ∷ Tok (primitive 1) ∷ []) ≡ More Nonblank ∷ More Expanded ∷ ActsOn (call 63) (StartInput true) (a_letter.token ∷ []) ∷ []
+  pub relax_held : holds input (Tok a_letter ∷ Tok (primitive 1) ∷ []) ≡ ([] ∷ []) ∷ ((a_letter.token ∷ []) ∷ []) ∷ ((a_letter.token ∷ []) ∷ []) ∷ []
+  pub implicit : steps input (Tok implicit_letter ∷ Tok a_space ∷ []) ≡ More Nonblank ∷ More Expanded ∷ ActsOn (call 63) (StartInput false) (a_letter.token ∷ []) ∷ []
+  pub implicit_held : holds input (Tok implicit_letter ∷ []) ≡ ([] ∷ []) ∷ ((a_letter.token ∷ []) ∷ []) ∷ []
+  pub empty : steps input (Tok (character other 32) ∷ []) ≡ More Nonblank ∷ ActsOn (call 63) (StartInput false) [] ∷ []
+  pub active :
+      steps input (Tok (record { token = token.Named (name.Active 126); meaning = means.Undefined }) ∷ []) ≡ More Nonblank ∷ ActsOn (call 63) (StartInput true) [] ∷ []
 
 -- LISTS
 
@@ -194,6 +216,7 @@ pub record WorkedReadings : Type 0 where
   pub integers : WorkedIntegers
   pub reports : WorkedReports
   pub names : WorkedNames
+  pub files : WorkedFiles
   pub built : WorkedLists
   pub calls : WorkedCalls
   pub checks : WorkedChecks

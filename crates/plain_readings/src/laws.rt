@@ -23,7 +23,7 @@ pub fn values_are_theirs()
     ensures { ValuesAreTheirs }
 {}
 
-/// `\csname` makes a name of the characters that it holds.
+/// `\csname` makes a name of the characters that it holds, and `\input` opens the file of those that it holds.
 pub fn names_are_held()
     ensures { NamesAreHeld }
 {}

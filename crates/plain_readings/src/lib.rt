@@ -1,5 +1,5 @@
 //! What each reading of the plain machine asks for after all that it was fed with: `specs/Readings.antt`. Commands are rows; an
-//! integer, a balanced text, the list of a macro, the arguments of a call and `\csname` have their own definitions.
+//! integer, a balanced text, the list of a macro, the arguments of a call, `\csname` and `\input` have their own definitions.
 #![tactic(auto)]
 
 mod laws;

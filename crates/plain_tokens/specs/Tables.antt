@@ -2,13 +2,13 @@
 use Rattle.std.specs.Prelude.{ℕ, ◌+◌, ◌==◌, ◌||◌, Bool, false, List, [], ◌∷◌, ◌++◌, length, sum_by, nat_le, Option, Some, None, if◌then◌else◌}
 use Rattle.tex_defs.specs.declared.Token.{Token}
 use Rattle.tex_defs.specs.declared.Table.{Table}
-use Rattle.tex_defs.specs.declared.Table.TheVariants.{PoolSize, NumberOfStrings, HashSize, MainMemorySize, InputStackSize, ParameterStackSize, BufferSize}
+use Rattle.tex_defs.specs.declared.Table.TheVariants.{PoolSize, NumberOfStrings, HashSize, MainMemorySize, InputStackSize, ParameterStackSize, TextInputLevels, BufferSize}
 use Rattle.tex_defs.specs.declared.Full.{Full}
 use Rattle.tex_defs.specs.declared.Sizes.{Sizes}
 use Rattle.tex_defs.specs.Sizes.{size_of}
 use Rattle.plain_tokens.specs.Lines.{first_bytes}
 use Rattle.plain_tokens.specs.Puts.{Item, First, Put as PutList, Whole, Own, Macro, put_levels, put_parameters, list_of_tokens}
-use Rattle.plain_tokens.specs.Pending.{Pending, Progress, NotBegun, Begun as BegunFile}
+use Rattle.plain_tokens.specs.Pending.{Pending, Progress, Source, Begun as BegunFile, Closed as ClosedFile, all_puts}
 
 -- MAIN MEMORY: each list that is held takes one word, and one for each of its tokens.
 
@@ -50,24 +50,47 @@ is_put n [] = false
 is_put n (p ∷ ps) = is_whole n p.list || is_put n ps
 
 -- THE INPUT STACK: a level for each list in front with an item left, one for the argument within which such a list
--- stands, and one for a file that is begun.
+-- stands, and one for each file that is begun.
 
 abbrev pub file_levels : Progress → ℕ
 file_levels BegunFile = 1
-file_levels p = 0
+file_levels ClosedFile = 0
+
+-- the files beneath the innermost one
+abbrev pub outer_levels : List Source → ℕ
+outer_levels outer = sum_by (λ s. file_levels s.file) outer
+
+abbrev pub begun_files : Pending → ℕ
+begun_files p = file_levels p.file + outer_levels p.outer
 
 abbrev pub levels : Pending → ℕ
-levels p = put_levels p.puts + file_levels p.file
+levels p = put_levels (all_puts p) + begun_files p
+
+-- TEXT INPUT LEVELS: the files that are open, also one that isn't begun.
+
+abbrev pub opened_files : Option (List ℕ) → ℕ
+opened_files None = 0
+opened_files (Some bytes) = 1
+
+abbrev pub open_files : Pending → ℕ
+open_files p = opened_files p.next + begun_files p
 
 -- STRINGS: names and other strings, and their bytes.
 
 abbrev pub bytes_of : List (List ℕ) → ℕ
 bytes_of strings = sum_by length strings
 
--- THE BUFFER: the one open line is replaced by the next, so that none stands beneath a line that is taken.
+-- THE BUFFER: each open line, and 1. The next line of a file takes the place of the one before it.
 
-abbrev pub lines_beneath : ℕ
-lines_beneath = 0
+abbrev pub line_room : Progress → ℕ → ℕ
+line_room BegunFile whole = 1 + whole
+line_room ClosedFile whole = 0
+
+abbrev pub lines_beneath : List Source → ℕ
+lines_beneath outer = sum_by (λ s. line_room s.file s.whole) outer
+
+abbrev pub open_lines : Pending → ℕ
+open_lines p = line_room p.file p.whole + lines_beneath p.outer
 
 -- a line's bytes before its trailing spaces are cut, and 1
 abbrev pub line_need : List ℕ → ℕ
@@ -95,7 +118,7 @@ opened_level x p = []
 
 -- the arguments of a call
 abbrev pub parameters : PutList → Pending → Demand
-parameters x p = record { table = ParameterStackSize; used = put_parameters p.puts; need = length x.arguments }
+parameters x p = record { table = ParameterStackSize; used = put_parameters (all_puts p); need = length x.arguments }
 
 -- a string more, beside names and other strings
 abbrev pub string : List ℕ → (names strings : List (List ℕ)) → List Demand
@@ -109,16 +132,28 @@ hash names = record { table = HashSize; used = length names; need = 1 }
 abbrev pub new_name : List ℕ → (names strings : List (List ℕ)) → List Demand
 new_name name names strings = string name names strings ++ hash names ∷ []
 
-abbrev pub buffer : (rest : List ℕ) → Demand
-buffer rest = record { table = BufferSize; used = lines_beneath; need = line_need rest }
-
--- a file's level stands behind its first line
-abbrev pub file_level : Progress → Pending → List Demand
-file_level NotBegun p = level p ∷ []
-file_level f p = []
+-- bytes behind lines of which so much of the buffer is used
+abbrev pub buffer : (need used : ℕ) → Demand
+buffer need used = record { table = BufferSize; used = used; need = need }
 
 abbrev pub next_line : Pending → List Demand
-next_line p = buffer p.rest ∷ file_level p.file p
+next_line p = buffer (line_need p.rest) (lines_beneath p.outer) ∷ []
+
+-- of a file that was opened: the first line, and the file's level
+abbrev pub first_line_of : Option (List ℕ) → Pending → List Demand
+first_line_of None p = []
+first_line_of (Some bytes) p = buffer (line_need bytes) (open_lines p) ∷ level p ∷ []
+
+abbrev pub next_file : Pending → List Demand
+next_file p = first_line_of p.next p
+
+-- a file more
+abbrev pub text_level : Pending → Demand
+text_level p = record { table = TextInputLevels; used = open_files p; need = 1 }
+
+-- a name that is spelt behind the open lines
+abbrev pub spelt_name : List ℕ → Pending → Demand
+spelt_name name p = buffer (length name) (open_lines p)
 
 -- one more of what the table holds would pass its size
 abbrev pub full : Sizes → Demand → Full

@@ -26,13 +26,15 @@ use Rattle.row_frames.specs.Resumes.{within, resume_row, turn_of}
 use Rattle.plain_readings.specs.Lists.{built}
 use Rattle.plain_readings.specs.Readings.{Reading, lists, kept_list}
 use Rattle.reading_frames.specs.Sees.{Lists, top_list}
-use Rattle.reading_frames.specs.Resumes.{building, build_at, name_list_at, list_count, listed_count, listed_lists}
+use Rattle.reading_frames.specs.Resumes.{building, build_at, name_list_at, file_list_at, list_count, listed_count, listed_lists}
 use Rattle.reading_frames.specs.Stands.{FrameStands, AreHeld}
 use Rattle.reading_frames.specs.declared.command.CommandScan.TheVariants as command
 use Rattle.reading_frames.specs.declared.frame.Frame.{Frame}
-use Rattle.reading_frames.specs.declared.frame.Frame.TheVariants.{Command, Integer, Build, Spelling, Behind}
+use Rattle.reading_frames.specs.declared.frame.Frame.TheVariants.{Command, Integer, Build, Spelling, FileName, Behind}
 use Rattle.reading_frames.specs.declared.spelling.SpellPlace.{SpellPlace}
 use Rattle.reading_frames.specs.declared.spelling.SpellPlace.TheVariants as spell
+use Rattle.reading_frames.specs.declared.file_name.FilePlace.{FilePlace}
+use Rattle.reading_frames.specs.declared.file_name.FilePlace.TheVariants as file
 use Rattle.reading_frames.specs.declared.text.BuildPlace.{BuildPlace}
 use Rattle.reading_frames.specs.declared.text.BuildPlace.TheVariants as place
 
@@ -76,6 +78,7 @@ built_length (Command command.Ended p) held = refl
 built_length (Integer scan) held = refl
 built_length (Build scan) held = refl
 built_length (Spelling scan) held = refl
+built_length (FileName scan) held = refl
 built_length (Behind c x) held = refl
 
 -- WHAT THEY ARE
@@ -100,6 +103,11 @@ name_now : (p : SpellPlace) (list : List Token) → name_list_at p list [] ≡ l
 name_now spell.Inside list = append-nil list
 name_now p list = refl
 
+file_now : (p : FilePlace) (list : List Token) → file_list_at p list [] ≡ list
+file_now file.Before list = append-nil list
+file_now file.Inside list = append-nil list
+file_now p list = refl
+
 top_taken : (held : Lists) → 1 ≤ length held → top_list held ∷ [] ≡ take 1 held
 top_taken [] h = absurd (omega (arith, h))
 top_taken (list ∷ held) h = refl
@@ -117,6 +125,7 @@ built_now (Command command.Ended p) held h = refl
 built_now (Integer scan) held h = refl
 built_now (Build scan) held h = ap (λ (l : List Token). l ∷ []) (build_now scan.manner scan.place (top_list held)) ∙ top_taken held h
 built_now (Spelling scan) held h = ap (λ (l : List Token). l ∷ []) (name_now scan.place (top_list held)) ∙ top_taken held h
+built_now (FileName scan) held h = ap (λ (l : List Token). l ∷ []) (file_now scan.place (top_list held)) ∙ top_taken held h
 built_now (Behind c x) held h = refl
 
 lists_built : (f : Frame) (held : Lists) (r : Reading) → FrameStands f held r → lists r.kind r.fed ≡ building f held []

@@ -35,7 +35,7 @@ use Rattle.reading_frames.specs.declared.text.BuildPlace.{BuildPlace}
 use Rattle.reading_frames.specs.declared.text.BuildPlace.TheVariants as at
 use Rattle.reading_frames.specs.declared.text.BuildScan.{BuildScan}
 use Rattle.reading_frames.specs.declared.frame.Frame.{Frame}
-use Rattle.reading_frames.specs.declared.frame.Frame.TheVariants.{Command, Integer, Build, Spelling, Behind}
+use Rattle.reading_frames.specs.declared.frame.Frame.TheVariants.{Command, Integer, Build, Spelling, FileName, Behind}
 use Rattle.reading_frames.proofs.Rows.{told_holds, value_holds}
 
 -- ALL
@@ -219,6 +219,7 @@ value_light (Command s p) e = absurd (omega (arith, e))
 value_light (Integer s) e = integer_at s.negative s.place
 value_light (Build s) e = build_at_light s.manner s.place []
 value_light (Spelling s) e = absurd (omega (arith, e))
+value_light (FileName s) e = absurd (omega (arith, e))
 value_light (Behind c x) e = absurd (omega (arith, e))
 
 pub integer_light : (s : NumberScan) → asks_weight (Integer s) < frame_weight + value_weight
@@ -258,4 +259,5 @@ begun_with_light (opening.Reads kind.Integer) fs e = value_frames fs e
 begun_with_light (opening.Reads (kind.Text name expanded)) fs e = value_frames fs e
 begun_with_light (opening.Reads (kind.Definition name expanded)) fs e = value_frames fs e
 begun_with_light (opening.Spelling c) fs e = omega (arith, small fs)
+begun_with_light (opening.FileName c) fs e = omega (arith, small fs)
 begun_with_light (opening.Behind c x) fs e = omega (arith, small fs)

@@ -1,12 +1,11 @@
 -- The lists of a frame and those beneath it are all that are held.
-use Rattle.std.proofs.Common.{◌≡◌, ◌≤◌, ◌+◌, ℕ, zero, suc, List, [], ◌∷◌, ◌++◌, length, take, drop, arith, refl, sym, ap, ◌∙◌}
-use Rattle.tex_defs.specs.declared.Token.{Token}
-use Rattle.reading_frames.specs.Sees.{Lists, on_top}
-use Rattle.reading_frames.specs.Resumes.{building, list_count, below, token_count}
+use Rattle.std.proofs.Common.{◌≡◌, ◌≤◌, ℕ, zero, suc, List, [], ◌∷◌, ◌++◌, length, take, drop, arith, refl, sym, ap, ◌∙◌}
+use Rattle.reading_frames.specs.Sees.{Lists}
+use Rattle.reading_frames.specs.Resumes.{list_count}
 use Rattle.reading_frames.specs.Stack.{innermost_lists, innermost_count, lists_beneath}
 use Rattle.reading_frames.specs.Stands.{opened_lists}
 use Rattle.reading_frames.specs.declared.ask.Opening.{Opening}
-use Rattle.reading_frames.specs.declared.ask.Opening.TheVariants.{Reads, Spelling, Behind}
+use Rattle.reading_frames.specs.declared.ask.Opening.TheVariants.{Reads, Spelling, FileName, Behind}
 use Rattle.rows.specs.declared.words.Kind.TheVariants.{Command, Integer, Text, Definition}
 use Rattle.reading_frames.specs.declared.frame.Frame.{Frame}
 use Rattle.reading_frames.proofs.Held.{built_now}
@@ -29,3 +28,4 @@ opened_list (Behind c x) held h = absurd (omega (arith, h))
 opened_list (Reads (Text name expanded)) held h = refl
 opened_list (Reads (Definition name expanded)) held h = refl
 opened_list (Spelling c) held h = refl
+opened_list (FileName c) held h = refl

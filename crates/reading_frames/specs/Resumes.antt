@@ -5,6 +5,7 @@ use Rattle.tex_defs.specs.declared.Token.{Token}
 use Rattle.tex_syntax.specs.declared.words.Scanned.{Scanned}
 use Rattle.tex_syntax.specs.declared.words.Scanned.TheVariants as scanned
 use Rattle.tex_syntax.specs.declared.words.Manner.{Manner}
+use Rattle.tex_syntax.specs.declared.words.Want.TheVariants.{Expanded, Nonblank}
 use Rattle.plain_state.specs.Definitions as build
 use Rattle.list_builder.specs.Stages as stages
 use Rattle.list_builder.specs.Stages.{cell_count}
@@ -20,6 +21,7 @@ use Rattle.plain_readings.specs.Readings.{kept_list}
 use Rattle.plain_readings.specs.Scanning.{Status, Scans, Unguarded, Inherits, command_status}
 use Rattle.plain_readings.specs.Lists.{build_fed, build_ask, built}
 use Rattle.plain_readings.specs.Spelling.{spelling, characters, endcsname_missing, makes}
+use Rattle.plain_readings.specs.FileNames.{file_naming, file_characters, opens}
 use Rattle.scan_numbers.specs.Resumes as number
 use Rattle.reading_frames.specs.declared.ask.Ask.{Ask as Answer}
 use Rattle.reading_frames.specs.declared.ask.Ask.TheVariants as answer
@@ -29,11 +31,14 @@ use Rattle.reading_frames.specs.declared.command.CommandScan.TheVariants as comm
 use Rattle.reading_frames.specs.declared.spelling.SpellPlace.{SpellPlace}
 use Rattle.reading_frames.specs.declared.spelling.SpellPlace.TheVariants as spell
 use Rattle.reading_frames.specs.declared.spelling.SpellScan.{SpellScan}
+use Rattle.reading_frames.specs.declared.file_name.FilePlace.{FilePlace}
+use Rattle.reading_frames.specs.declared.file_name.FilePlace.TheVariants as file
+use Rattle.reading_frames.specs.declared.file_name.FileScan.{FileScan}
 use Rattle.reading_frames.specs.declared.text.BuildPlace.{BuildPlace}
 use Rattle.reading_frames.specs.declared.text.BuildPlace.TheVariants as place
 use Rattle.reading_frames.specs.declared.text.BuildScan.{BuildScan}
 use Rattle.reading_frames.specs.declared.frame.Frame.{Frame}
-use Rattle.reading_frames.specs.declared.frame.Frame.TheVariants.{Command, Integer, Build, Spelling, Behind}
+use Rattle.reading_frames.specs.declared.frame.Frame.TheVariants.{Command, Integer, Build, Spelling, FileName, Behind}
 use Rattle.reading_frames.specs.Sees.{Lists, top_list, kept_list_of}
 
 -- A command, and the list with which it is to do something
@@ -103,6 +108,26 @@ name_list_at p list fed = list
 abbrev pub name_list : SpellScan → List Token → List Fed → List Token
 name_list scan list fed = name_list_at scan.place list fed
 
+-- `\input`, behind the characters of this list
+
+abbrev pub file_at : Call → FilePlace → List Token → List Fed → Ask
+file_at c file.Before list fed = file_naming c Nonblank list fed
+file_at c file.Inside list fed = file_naming c Expanded list fed
+file_at c (file.Whole back) list fed = opens c back list
+file_at c file.Stopped list fed = Ends
+
+abbrev pub resume_file : FileScan → List Token → List Fed → Ask
+resume_file scan list fed = file_at scan.call scan.place list fed
+
+-- the characters of the name that it will have gathered
+abbrev pub file_list_at : FilePlace → List Token → List Fed → List Token
+file_list_at file.Before list fed = list ++ file_characters fed
+file_list_at file.Inside list fed = list ++ file_characters fed
+file_list_at p list fed = list
+
+abbrev pub file_list : FileScan → List Token → List Fed → List Token
+file_list scan list fed = file_list_at scan.place list fed
+
 -- A list that is built, as far as this
 
 abbrev pub build_at : Manner → BuildPlace → List Token → List Fed → build.Answer
@@ -129,6 +154,7 @@ resume (Command scan primitive) held fed = resume_command scan held fed
 resume (Integer scan) held fed = number.resume scan fed
 resume (Build scan) held fed = build_ask (resume_build scan (top_list held) fed)
 resume (Spelling scan) held fed = resume_name scan (top_list held) fed
+resume (FileName scan) held fed = resume_file scan (top_list held) fed
 resume (Behind c x) held fed = reading.Acts c (PutBack x)
 
 -- the lists that it will have built then
@@ -137,6 +163,7 @@ building (Command scan primitive) held fed = command_lists scan held fed
 building (Integer scan) held fed = []
 building (Build scan) held fed = built (resume_build scan (top_list held) fed) ∷ []
 building (Spelling scan) held fed = name_list scan (top_list held) fed ∷ []
+building (FileName scan) held fed = file_list scan (top_list held) fed ∷ []
 building (Behind c x) held fed = []
 
 -- how many lists of its own are held now
@@ -144,6 +171,7 @@ abbrev pub list_count : Frame → ℕ
 list_count (Command scan primitive) = command_count scan
 list_count (Build scan) = 1
 list_count (Spelling scan) = 1
+list_count (FileName scan) = 1
 list_count f = 0
 
 -- the lists of the frames beneath

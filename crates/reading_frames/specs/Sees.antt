@@ -6,7 +6,7 @@ use Rattle.rows.specs.Readings as reading
 use Rattle.plain_readings.specs.Readings.{Kind}
 use Rattle.plain_readings.specs.Readings as kind
 use Rattle.reading_frames.specs.declared.ask.Opening.{Opening}
-use Rattle.reading_frames.specs.declared.ask.Opening.TheVariants.{Reads, Spelling, Behind}
+use Rattle.reading_frames.specs.declared.ask.Opening.TheVariants.{Reads, Spelling, FileName, Behind}
 use Rattle.reading_frames.specs.declared.ask.Ask.{Ask}
 use Rattle.reading_frames.specs.declared.ask.Ask.TheVariants.{More, Inner, Done, Acts, ActsOn, Defines, Ends, Tells, Inserts}
 use Rattle.reading_frames.specs.declared.ask.Grown.{Grown}
@@ -44,6 +44,7 @@ grown g list = with_cell (with_cell list g.first) g.second
 abbrev pub kind_of : Opening → Kind
 kind_of (Reads k) = kind.Reads k
 kind_of (Spelling c) = kind.Spelling c
+kind_of (FileName c) = kind.FileName c
 kind_of (Behind c x) = kind.Behind c x
 
 abbrev pub ask_of : Lists → Ask → reading.Ask

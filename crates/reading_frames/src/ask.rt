@@ -3,11 +3,12 @@ use rows::{Call, Effect, Kind, Value};
 use tex_defs::{Name, Seen, Token};
 use tex_syntax::{Report, Want};
 
-/// What may be opened: a reading that a command is or begins, `\csname`, or the token that waits behind one that is expanded.
+/// What may be opened: a reading that a command is or begins, `\csname`, `\input`, or the token that waits behind one that is expanded.
 #[derive(Clone, Copy)]
 pub enum Opening {
     Reads(Kind),
     Spelling(Call),
+    FileName(Call),
     /// The command is `\expandafter`.
     Behind(Call, Seen),
 }

@@ -12,6 +12,7 @@ ghost use Rattle.scan_numbers.specs.Sees as numbers;
 
 use crate::ask::{Ask, Grown, Opening};
 use crate::command::CommandScan;
+use crate::file_name::FileScan;
 use crate::spelling::SpellScan;
 use crate::text::BuildScan;
 use row_frames::reads_under_normal;
@@ -30,6 +31,8 @@ pub enum Frame {
     Build(BuildScan),
     /// `\csname`.
     Spelling(SpellScan),
+    /// `\input`.
+    FileName(FileScan),
     /// A token that waits behind one that is expanded, and is put back then.
     Behind(Call, Seen),
 }
@@ -66,6 +69,7 @@ impl Frame {
                 Frame::Build(BuildScan::definition(name, expanded))
             }
             Opening::Spelling(call) => Frame::Spelling(SpellScan::new(call)),
+            Opening::FileName(call) => Frame::FileName(FileScan::new(call)),
             Opening::Behind(call, x) => Frame::Behind(call, x),
         }
     }
@@ -80,6 +84,7 @@ impl Frame {
             Frame::Integer(scan) => of_number(scan.ask()),
             Frame::Build(scan) => scan.ask(),
             Frame::Spelling(scan) => scan.ask(),
+            Frame::FileName(scan) => scan.ask(),
             Frame::Behind(call, x) => Ask::Acts(*call, Effect::PutBack(*x)),
         }
     }
@@ -108,6 +113,7 @@ impl Frame {
             }
             Frame::Build(scan) => scan.feed(x),
             Frame::Spelling(scan) => scan.feed(x),
+            Frame::FileName(scan) => scan.feed(x),
             Frame::Behind(..) => Grown::none(),
         }
     }
@@ -138,6 +144,10 @@ impl Frame {
                 scan.told();
                 Grown::none()
             }
+            Frame::FileName(scan) => {
+                scan.stop();
+                Grown::none()
+            }
             Frame::Behind(..) => Grown::none(),
         }
     }
@@ -166,6 +176,10 @@ impl Frame {
                 scan.stop();
                 false
             }
+            Frame::FileName(scan) => {
+                scan.stop();
+                false
+            }
             Frame::Build(_) | Frame::Behind(..) => false,
         }
     }
@@ -187,7 +201,7 @@ impl Frame {
     {
         match self {
             Frame::Command(scan, _) => { if scan.is_listed() { 1 } else { 0 } }
-            Frame::Build(_) | Frame::Spelling(_) => 1,
+            Frame::Build(_) | Frame::Spelling(_) | Frame::FileName(_) => 1,
             Frame::Integer(_) | Frame::Behind(..) => 0,
         }
     }

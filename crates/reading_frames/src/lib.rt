@@ -6,6 +6,7 @@
 
 mod ask;
 mod command;
+mod file_name;
 mod frame;
 mod laws;
 mod readings;
@@ -14,6 +15,7 @@ mod text;
 
 pub use ask::{Ask, Grown, Opening};
 pub use command::CommandScan;
+pub use file_name::{FilePlace, FileScan};
 pub use frame::Frame;
 pub use laws::{
     groups_have_braces, lists_are_held, readings_are_fed, readings_begin, readings_end,

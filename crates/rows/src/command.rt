@@ -127,6 +127,8 @@ pub enum Effect {
     MakeMeaning(Seen),
     /// The name of the list's characters is entered, means `\relax` in this group where it meant nothing, and is put in front.
     MakeName,
+    /// The file is opened whose name is the list's characters; the token behind the name, if it is to go back, goes back first.
+    StartInput(bool),
 }
 
 /// A command that is read: the number of its primitive, its name as it was written, and the prefixes that stood before it.

@@ -39,7 +39,7 @@ steps_at e None book work h = frame_steps e (with_work work book) h.0
 steps_at e (Some c) book [] h = absurd h
 steps_at e (Some c) book (r ∷ rs) h = rw (← h.0.asked) (call_steps e (with_work (r ∷ rs) book) (r ∷ rs) r c.name c.ask)
 
-plan_steps : (sizes : Sizes) (e : Engine) (book : Book) → AllStand sizes e book → steps (plan_of e book) ≡ one_if (stepping e)
+pub plan_steps : (sizes : Sizes) (e : Engine) (book : Book) → AllStand sizes e book → steps (plan_of e book) ≡ one_if (stepping e)
 plan_steps sizes e book h = steps_at e e.call book book.work h.all
 
 -- a rule that begins with no step has none
@@ -50,20 +50,20 @@ plan_silent sizes e g book h = plan_steps sizes e book h ∙ ap one_if g
 pub plan_one : (sizes : Sizes) (e : Engine) → stepping e ≡ true → (book : Book) → AllStand sizes e book → steps (plan_of e book) ≡ 1
 plan_one sizes e g book h = plan_steps sizes e book h ∙ ap one_if g
 
--- A STEP COMES
+-- A STEP COMES, where no file was opened
 
-call_needs : (sizes : Sizes) (e : Engine) (book : Book) (work : List Reading) (r : Reading) (name : Name) (a : CallAsk) → plan_of e book ≡ answered (state_of e book) work r (asks_by name a e.input.call) →
+call_needs : (sizes : Sizes) (e : Engine) (book : Book) (work : List Reading) (r : Reading) (name : Name) (a : CallAsk) → e.input.pending.next ≡ None → plan_of e book ≡ answered (state_of e book) work r (asks_by name a e.input.call) →
     (call_asks_more a && gives_step (pulled e.input.groups.now.categories e.input.pending)) ≡ true → StepComes sizes (state_of e book)
-call_needs sizes e book work r name call.More h g =
+call_needs sizes e book work r name call.More unopened h g =
     let page : Page = page_of (state_of e book) in
-    pulled_needs sizes e book page true (scanning work (gathered e.input)) (λ x. wanted page Raw (feeding r x) x) h g
-call_needs sizes e book work r name a h g = no g
+    pulled_needs sizes e book page true (scanning work (gathered e.input)) (λ x. wanted page Raw (feeding r x) x) unopened h g
+call_needs sizes e book work r name a unopened h g = no g
 
-needs_at : (sizes : Sizes) (e : Engine) (c : Option Call) (book : Book) (work : List Reading) → ReadingsStand c e book.number work → (all_want c (asked e) && gives_step (pulled e.input.groups.now.categories e.input.pending)) ≡ true → StepComes sizes (state_of e (with_work work book))
-needs_at sizes e None book work h g = frame_needs sizes e (with_work work book) h.0 g
-needs_at sizes e (Some c) book [] h g = absurd h
-needs_at sizes e (Some c) book (r ∷ rs) h g =
-    call_needs sizes e (with_work (r ∷ rs) book) (r ∷ rs) r c.name c.ask (ap (answered (state_of e (with_work (r ∷ rs) book)) (r ∷ rs) r) (sym h.0.asked)) g
+needs_at : (sizes : Sizes) (e : Engine) (c : Option Call) (book : Book) (work : List Reading) → e.input.pending.next ≡ None → ReadingsStand c e book.number work → (all_want c (asked e) && gives_step (pulled e.input.groups.now.categories e.input.pending)) ≡ true → StepComes sizes (state_of e (with_work work book))
+needs_at sizes e None book work unopened h g = frame_needs sizes e (with_work work book) unopened h.0 g
+needs_at sizes e (Some c) book [] unopened h g = absurd h
+needs_at sizes e (Some c) book (r ∷ rs) unopened h g =
+    call_needs sizes e (with_work (r ∷ rs) book) (r ∷ rs) r c.name c.ask unopened (ap (answered (state_of e (with_work (r ∷ rs) book)) (r ∷ rs) r) (sym h.0.asked)) g
 
-pub stepping_needs : (sizes : Sizes) (e : Engine) → stepping e ≡ true → (book : Book) → AllStand sizes e book → StepComes sizes (state_of e book)
-stepping_needs sizes e g book h = needs_at sizes e e.call book book.work h.all g
+pub stepping_needs : (sizes : Sizes) (e : Engine) → e.input.pending.next ≡ None → stepping e ≡ true → (book : Book) → AllStand sizes e book → StepComes sizes (state_of e book)
+stepping_needs sizes e unopened g book h = needs_at sizes e e.call book book.work unopened h.all g

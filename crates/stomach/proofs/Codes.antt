@@ -1,11 +1,12 @@
 -- The code that a command sets is one of its kind, of a character: its row has read both in their ranges. A parameter that is set by its place is one of the 55.
 use Rattle.std.proofs.Common.{◌≡◌, ℕ, ℤ, pos, negsuc, ◌≤◌, Bool, true, false, List, [], ◌∷◌, ◌++◌, refl, arith}
-use Rattle.std.specs.Prelude.{Option, Some, nat_le, nat_lt, ◌==◌, ◌&&◌, if◌then◌else◌}
+use Rattle.std.specs.Prelude.{Option, None, Some, nat_le, nat_lt, ◌==◌, ◌&&◌, if◌then◌else◌}
 use Rattle.std.proofs.lemmas.Bool.Decides.{nat_tests}
 use Rattle.tex_defs.specs.declared.Token.{Token}
 use Rattle.tex_defs.specs.declared.Seen.{Seen}
 use Rattle.tex_defs.specs.declared.Name.{Name}
 use Rattle.tex_syntax.specs.declared.words.Want.{Want}
+use Rattle.tex_syntax.specs.declared.words.Want.TheVariants.{Expanded, Nonblank}
 use Rattle.plain_state.specs.Definitions as build
 use Rattle.plain_tokens.specs.Arguments as call
 use Rattle.equivalents.specs.declared.values.CodeKind.{CodeKind}
@@ -40,7 +41,8 @@ use Rattle.rows.specs.Run.{Outcome, Asks, Takes, Passes, Gathers, Makes, Turns, 
 use Rattle.rows.specs.Stages.{number, number_in, start, on_token, on_value, on_datum, on_list}
 use Rattle.rows.specs.Table.{stages_in, stages_of, row_among, row_or_token, action_of}
 use Rattle.rows.specs.Tokens.{is_at_most, is_up_to, is_equals}
-use Rattle.plain_readings.specs.Readings.{Kind, Reads, Spelling, Behind, Arguments, ask}
+use Rattle.plain_readings.specs.FileNames.{character_meant, is_blank, opens, named_on, file_naming}
+use Rattle.plain_readings.specs.Readings.{Kind, Reads, Spelling, FileName, Behind, Arguments, ask}
 use Rattle.plain_readings.specs.Calls.{call_ask, gathered}
 use Rattle.plain_readings.specs.Lists.{build_ask, text, definition}
 use Rattle.plain_readings.proofs.Steps.{integer_holds, spelling_holds}
@@ -300,12 +302,25 @@ call_sets name call.Mismatch = tt
 call_sets name (call.Ended false args work) = tt
 call_sets name (call.Ended true args work) = tt
 
+named_sets : (c : Call) (ts : List Token) (meant : Option Token) (longer : List Token → Ask) → ((us : List Token) → SetsSmall (longer us)) → SetsSmall (named_on c ts meant longer)
+named_sets c ts None longer h = tt
+named_sets c ts (Some t) longer h = by (is_blank t) where
+  by : (b : Bool) → SetsSmall (if b then opens c false ts else longer (ts ++ t ∷ []))
+  by true = tt
+  by false = h (ts ++ t ∷ [])
+
+file_sets : (c : Call) (want : Want) (ts : List Token) (fed : List Fed) → SetsSmall (file_naming c want ts fed)
+file_sets c want ts [] = tt
+file_sets c want ts (Tok x ∷ fed) = named_sets c ts (character_meant x.meaning) (λ us. file_naming c Expanded us fed) (λ us. file_sets c Expanded us fed)
+file_sets c want ts (y ∷ fed) = tt
+
 pub sets_small : (k : Kind) (fed : List Fed) → SetsSmall (ask k fed)
 sets_small (Reads (Command c)) fed = row_sets c fed
 sets_small (Reads Integer) fed = integer_holds (λ b a. SetsSmall a) (λ b want. tt) (λ report back. tt) (λ b n back. tt) false false fed
 sets_small (Reads (Text name expanded)) fed = build_sets (text name expanded fed)
 sets_small (Reads (Definition name expanded)) fed = build_sets (definition name expanded fed)
 sets_small (Spelling c) fed = spelling_holds (λ b a. SetsSmall a) (λ b want. tt) (λ report back. tt) (λ b. tt) (λ b c ts. tt) c [] false fed
+sets_small (FileName c) fed = file_sets c Nonblank [] fed
 sets_small (Behind c x) fed = tt
 sets_small (Arguments name long number ts) [] = tt
 sets_small (Arguments name long number ts) (y ∷ fed) = call_sets name (gathered long ts (y ∷ fed))

@@ -1,7 +1,7 @@
 -- A macro is defined.
-use Rattle.std.proofs.Common.{◌≡◌, ℕ, zero, suc, ◌<◌, Bool, true, false, List, [], ◌∷◌, ◌++◌, length, drop, replicate, Option, Some, None, refl, sym, ap, ◌∙◌, subst, arith}
-use Rattle.std.specs.Prelude.{◌≢◌, slice_index_or}
-use Rattle.std.proofs.lemmas.Bool.{or_parts, true≢false}
+use Rattle.std.proofs.Common.{◌≡◌, ℕ, zero, suc, ◌<◌, Bool, true, false, List, [], ◌∷◌, ◌++◌, length, drop, map, replicate, Option, Some, None, refl, sym, ap, ap₂, ◌∙◌, subst, arith}
+use Rattle.std.specs.Prelude.{◌≢◌, ◌||◌, slice_index_or}
+use Rattle.std.proofs.lemmas.Bool.{or_parts}
 use Rattle.std.proofs.lemmas.List.{append-nil, length-append, get_or_append_left, length-replicate}
 use Rattle.tex_defs.specs.Places.{World}
 use Rattle.tex_defs.specs.declared.Full.{Full}
@@ -11,9 +11,9 @@ use Rattle.tex_defs.specs.declared.Name.{Name}
 use Rattle.tex_defs.specs.declared.Sizes.{Sizes}
 use Rattle.tex_defs.specs.declared.Token.{Token}
 use Rattle.plain_tokens.specs.Meanings.{is_listed, location}
-use Rattle.plain_tokens.specs.Pending.{with_puts}
+use Rattle.plain_tokens.specs.Pending.{Pending, Source, all_puts, outer_puts}
 use Rattle.plain_tokens.specs.Puts.{Put}
-use Rattle.plain_tokens.specs.Tables.{is_put, refused}
+use Rattle.plain_tokens.specs.Tables.{is_put, is_whole, refused}
 use Rattle.equivalents.specs.Groups.{Groups, set_name, name_demands}
 use Rattle.equivalents.specs.Holding.{lists_held}
 use Rattle.rows.specs.declared.command.Call.{Call}
@@ -24,13 +24,13 @@ use Rattle.reading_frames.specs.Stands as frames
 use Rattle.reading_frames.specs.Stands.{AreShallow}
 use Rattle.plain_machine.specs.States.{State, Move, Closed, Defined, made, beneath}
 use Rattle.plain_machine.specs.Does.{Did}
-use Rattle.plain_machine.specs.Numbers.{IsHeld, Tied, renumbered, groups_of, puts_of}
+use Rattle.plain_machine.specs.Numbers.{IsHeld, Tied, renumbered, groups_of, pending_of, source_of}
 use Rattle.plain_machine.specs.Plan.{Page, is_global, macro_defined, behind_assignment}
 use Rattle.plain_machine.specs.Runs.{steps}
 use Rattle.plain_machine.proofs.Doing.{did_one}
 use Rattle.plain_machine.proofs.GroupNumbers.{name_demands_of}
 use Rattle.plain_machine.proofs.Holders.{defined_free}
-use Rattle.plain_machine.proofs.Ties.{tied_defined, puts_defined}
+use Rattle.plain_machine.proofs.Ties.{tied_defined, puts_renumbered}
 use Rattle.meanings.specs.Kept.{IsPlaced}
 use Rattle.input_state.specs.Calls.{Defines}
 use Rattle.input_state.specs.HeldLists as held
@@ -135,7 +135,7 @@ module _ (sizes : Sizes) (e e' : Engine) (book : Book) (w : World) (r : Reading)
     lost_stands = record {
       sound = record {
         sized = stands.sound.sized;
-        tied = tied_more book.number book.macros ts (lists_held e'.input.groups) e'.input.pending.puts e'.input.lists stands.sound.tied;
+        tied = tied_more book.number book.macros ts (lists_held e'.input.groups) (all_puts e'.input.pending) e'.input.lists stands.sound.tied;
         bodies = bodies_more book.macros ts stands.sound.bodies some;
       };
       idle = stands.idle;
@@ -156,6 +156,27 @@ module _ (sizes : Sizes) (e e' : Engine) (book : Book) (w : World) (r : Reading)
           (quiet_here (Defined globally name c.long c.outer ts) w tt);
       count = refl;
     }
+
+-- WHAT IS PENDING keeps its numbers where one that it hasn't is another
+
+put_parts : (n : ℕ) (ps qs : List Put) → is_put n (ps ++ qs) ≡ false → (is_put n ps ≡ false) × (is_put n qs ≡ false)
+put_parts n [] qs h = (refl, h)
+put_parts n (p ∷ ps) qs h =
+    let parts : (is_whole n p.list ≡ false) × (is_put n (ps ++ qs) ≡ false) = or_parts (is_whole n p.list) (is_put n (ps ++ qs)) h in
+    let behind : (is_put n ps ≡ false) × (is_put n qs ≡ false) = put_parts n ps qs parts.1 in
+    (ap₂ (λ (a b : Bool). a || b) parts.0 behind.0, behind.1)
+
+module _ (number : ℕ → ℕ) (id new : ℕ) where
+  outer_renumbered : (outer : List Source) → is_put id (outer_puts outer) ≡ false → map (source_of (renumbered number id new)) outer ≡ map (source_of number) outer
+  outer_renumbered [] h = refl
+  outer_renumbered (s ∷ outer) h =
+      let parts : (is_put id s.puts ≡ false) × (is_put id (outer_puts outer) ≡ false) = put_parts id s.puts (outer_puts outer) h in
+      ap₂ (λ (ps : List Put) (ss : List Source). record s { puts = ps } ∷ ss) (puts_renumbered number id new s.puts parts.0) (outer_renumbered outer parts.1)
+
+  pending_renumbered : (p : Pending) → is_put id (all_puts p) ≡ false → pending_of (renumbered number id new) p ≡ pending_of number p
+  pending_renumbered p h =
+      let parts : (is_put id p.puts ≡ false) × (is_put id (outer_puts p.outer) ≡ false) = put_parts id p.puts (outer_puts p.outer) h in
+      ap₂ (λ (ps : List Put) (ss : List Source). record p { puts = ps; outer = ss }) (puts_renumbered number id new p.puts parts.0) (outer_renumbered p.outer parts.1)
 
 -- THE READING ENDS, and its list passes to the macro
 
@@ -184,8 +205,8 @@ module _ (sizes : Sizes) (e : Engine) (book : Book) (w : World) (r : Reading) (r
   abbrev own_meaning : Cell
   own_meaning = means.Macro c.long c.outer (Some (length book.macros))
 
-  module _ (number : ℕ → ℕ) (g : Groups) (lists : List (List Token)) (same : length g.now.meanings ≡ length e.input.groups.now.meanings) (tied : Tied number (book.macros ++ ts ∷ []) (lists_held g) e.input.pending.puts lists)
-      (puts : puts_of number e.input.pending.puts ≡ puts_of book.number e.input.pending.puts) (means_it : groups_of number g ≡ set_name global (groups_of book.number e.input.groups) name own_meaning) (fits : refused e.input.sizes (name_demands global e.input.groups name) ≡ None) where
+  module _ (number : ℕ → ℕ) (g : Groups) (lists : List (List Token)) (same : length g.now.meanings ≡ length e.input.groups.now.meanings) (tied : Tied number (book.macros ++ ts ∷ []) (lists_held g) (all_puts e.input.pending) lists)
+      (same_pending : pending_of number e.input.pending ≡ pending_of book.number e.input.pending) (means_it : groups_of number g ≡ set_name global (groups_of book.number e.input.groups) name own_meaning) (fits : refused e.input.sizes (name_demands global e.input.groups name) ≡ None) where
     abbrev then : Engine
     then = after g lists
 
@@ -215,14 +236,14 @@ module _ (sizes : Sizes) (e : Engine) (book : Book) (w : World) (r : Reading) (r
       uncalled = record { none = st.uncalled.none; input = st.uncalled.input };
     }
 
-    abbrev defined_state : List Put → Groups → List (List Token) → State
-    defined_state ps x l = record (made (Defined global name c.long c.outer ts) (state_of e here)) { pending = with_puts ps e.input.pending; groups = x; gathered = l }
+    abbrev defined_state : Pending → Groups → List (List Token) → State
+    defined_state p x l = record (made (Defined global name c.long c.outer ts) (state_of e here)) { pending = p; groups = x; gathered = l }
 
     macro_state : made (Defined global name c.long c.outer ts) (state_of e here) ≡ state_of then next
     macro_state =
-        ap (λ (l : List (List Token)). defined_state (puts_of book.number e.input.pending.puts) (set_name global (groups_of book.number e.input.groups) name own_meaning) l) (under g lists)
-        ∙ (ap (λ (x : Groups). defined_state (puts_of book.number e.input.pending.puts) x (gathered then.input)) (sym means_it)
-        ∙ ap (λ (ps : List Put). defined_state ps (groups_of number g) (gathered then.input)) (sym puts))
+        ap (λ (l : List (List Token)). defined_state (pending_of book.number e.input.pending) (set_name global (groups_of book.number e.input.groups) name own_meaning) l) (under g lists)
+        ∙ (ap (λ (x : Groups). defined_state (pending_of book.number e.input.pending) x (gathered then.input)) (sym means_it)
+        ∙ ap (λ (p : Pending). defined_state p (groups_of number g) (gathered then.input)) (sym same_pending))
 
     macro_did : Did sizes (state_of e here) (state_of then next) w w (Defined global name c.long c.outer ts ∷ [])
     macro_did = did_one sizes (Defined global name c.long c.outer ts) (state_of e here) (state_of then next) w w
@@ -233,14 +254,13 @@ module _ (sizes : Sizes) (e : Engine) (book : Book) (w : World) (r : Reading) (r
         (record { book' = next; stands = all_of sizes then next macro_stands; did = macro_did; count = refl })
 
   -- the name means it
-  placed_went : (g : Groups) (lists : List (List Token)) → Defines global e.input.groups g e.input.pending.puts e.input.lists lists ts name c.long c.outer → KeepsMacros e.input (after g lists).input →
+  placed_went : (g : Groups) (lists : List (List Token)) → Defines global e.input.groups g (all_puts e.input.pending) e.input.lists lists ts name c.long c.outer → KeepsMacros e.input (after g lists).input →
       refused e.input.sizes (name_demands global e.input.groups name) ≡ None → Went sizes (state_of e here) (after g lists) w w passes 0
   placed_went g lists d kept fits =
-      let puts = e.input.pending.puts in
+      let puts = all_puts e.input.pending in
       let old = e.input.groups in
       let id = d.id in
-      let fresh : IsHeld id (lists_held old) puts → ⊥ = λ i. true≢false (sym i ∙ d.free) in
-      let free : is_listed (lists_held old) id ≡ false = (or_parts (is_listed (lists_held old) id) (is_put id puts) d.free).0 in
+      let apart : (is_listed (lists_held old) id ≡ false) × (is_put id puts ≡ false) = or_parts (is_listed (lists_held old) id) (is_put id puts) d.free in
       let count = length e.input.lists in
       let more : List (List Token) = lists ++ replicate count [] in
       let number : ℕ → ℕ = renumbered book.number id (length book.macros) in
@@ -254,17 +274,17 @@ module _ (sizes : Sizes) (e : Engine) (book : Book) (w : World) (r : Reading) (r
       (λ n other held. nothing_more lists count n ∙ kept.tokens n (subst (λ (x : Groups). IsHeld n (lists_held x) puts) (sym d.means) held)) in
       macro_went number g lists (ap (λ (x : Groups). length x.now.meanings) d.means ∙ named_length global old name (means.Macro c.long c.outer (Some id)))
       (subst (λ (x : Groups). Tied number (book.macros ++ ts ∷ []) (lists_held x) puts lists) (sym d.means) (tied_fewer number (book.macros ++ ts ∷ []) ts (lists_held defined) puts lists count (bodies_more book.macros ts st.sound.bodies some) tied))
-      (puts_defined book.number id (length book.macros) (lists_held old) puts fresh)
-      (ap (groups_of number) d.means ∙ defined_free book.number id (length book.macros) global old free d.outside name c.long c.outer)
+      (pending_renumbered book.number id (length book.macros) e.input.pending apart.1)
+      (ap (groups_of number) d.means ∙ defined_free book.number id (length book.macros) global old apart.0 d.outside name c.long c.outer)
       fits
 
   -- by what the input says
   input_went : (i : Stored) → i ≡ record e.input { builds = drop 1 e.input.builds; groups = i.groups; lists = i.lists } →
-      Defines global e.input.groups i.groups e.input.pending.puts e.input.lists i.lists (held.first_list e.input.builds) name c.long c.outer → KeepsMacros e.input i →
+      Defines global e.input.groups i.groups (all_puts e.input.pending) e.input.lists i.lists (held.first_list e.input.builds) name c.long c.outer → KeepsMacros e.input i →
       refused e.input.sizes (name_demands global e.input.groups name) ≡ None → Went sizes (state_of e here) (record e { readings = stack; input = i }) w w passes 0
   input_went i is d kept fits =
-      let of_top : Defines global e.input.groups i.groups e.input.pending.puts e.input.lists i.lists ts name c.long c.outer =
-      subst (λ (us : List Token). Defines global e.input.groups i.groups e.input.pending.puts e.input.lists i.lists us name c.long c.outer) (first_is e.input.builds ∙ top) d in
+      let of_top : Defines global e.input.groups i.groups (all_puts e.input.pending) e.input.lists i.lists ts name c.long c.outer =
+      subst (λ (us : List Token). Defines global e.input.groups i.groups (all_puts e.input.pending) e.input.lists i.lists us name c.long c.outer) (first_is e.input.builds ∙ top) d in
       subst (λ (x : Stored). Went sizes (state_of e here) (record e { readings = stack; input = x }) w w passes 0) (sym is) (placed_went i.groups i.lists of_top (subst (KeepsMacros e.input) is kept) fits)
 
 -- the list on top
@@ -272,7 +292,7 @@ pub passed_went : (sizes : Sizes) (e : Engine) (book : Book) (w : World) (r : Re
     stack ≡ record { frames = drop 1 e.readings.frames; size = e.readings.size } →
     ((lists : List (List Token)) (work : List Reading) → frames.FramesStand e.readings.frames lists work → frames.FramesStand stack.frames (lists_beneath e.readings.frames lists) (drop 1 work)) →
     ((lists : List (List Token)) → AreShallow e.readings.frames lists → AreShallow stack.frames (lists_beneath e.readings.frames lists)) →
-    i ≡ record e.input { builds = drop 1 e.input.builds; groups = i.groups; lists = i.lists } → Defines global e.input.groups i.groups e.input.pending.puts e.input.lists i.lists (held.first_list e.input.builds) name c.long c.outer → KeepsMacros e.input i →
+    i ≡ record e.input { builds = drop 1 e.input.builds; groups = i.groups; lists = i.lists } → Defines global e.input.groups i.groups (all_puts e.input.pending) e.input.lists i.lists (held.first_list e.input.builds) name c.long c.outer → KeepsMacros e.input i →
     refused e.input.sizes (name_demands global e.input.groups name) ≡ None →
     Stands sizes e (with_work (r ∷ rs) book) → innermost_count e.readings.frames ≡ 1 →
     Went sizes (state_of e (with_work (r ∷ rs) book)) (record e { readings = stack; input = i }) w w (Defined (is_global (page_of e book) c) name c.long c.outer (top_list e.input.builds) ∷ []) 0

@@ -25,11 +25,13 @@ use Rattle.scan_numbers.specs.declared.number.Place.TheVariants as number
 use Rattle.scan_numbers.specs.Resumes.{resume_at}
 use Rattle.plain_readings.specs.Lists.{build_ask}
 use Rattle.reading_frames.specs.Sees.{Lists, top_list, kept_list_of}
-use Rattle.reading_frames.specs.Resumes.{resume, resume_build, name_at, list_count, listed_count}
+use Rattle.reading_frames.specs.Resumes.{resume, resume_build, name_at, file_at, list_count, listed_count}
 use Rattle.reading_frames.specs.Stack.{asks_in, innermost_count}
 use Rattle.reading_frames.specs.declared.command.CommandScan.TheVariants as command
+use Rattle.reading_frames.specs.declared.file_name.FilePlace.{FilePlace}
+use Rattle.reading_frames.specs.declared.file_name.FilePlace.TheVariants as file
 use Rattle.reading_frames.specs.declared.frame.Frame.{Frame}
-use Rattle.reading_frames.specs.declared.frame.Frame.TheVariants.{Command, Integer, Build, Spelling, Behind}
+use Rattle.reading_frames.specs.declared.frame.Frame.TheVariants.{Command, Integer, Build, Spelling, FileName, Behind}
 use Rattle.reading_frames.specs.declared.spelling.SpellPlace.{SpellPlace}
 use Rattle.reading_frames.specs.declared.spelling.SpellPlace.TheVariants as spell
 
@@ -98,6 +100,12 @@ name_modest c spell.NoEnd list = tt
 name_modest c spell.Whole list = tt
 name_modest c spell.Stopped list = tt
 
+file_modest : (c : Call) (p : FilePlace) (list : List Token) → IsModest (file_at c p list [])
+file_modest c file.Before list = tt
+file_modest c file.Inside list = tt
+file_modest c (file.Whole back) list = tt
+file_modest c file.Stopped list = tt
+
 not_so : (a b : Ask) → a ≡ b → IsModest a → IsModest b
 not_so a b is h = subst IsModest is h
 
@@ -111,6 +119,7 @@ begins_none (Command command.Ended p) held c is = cc
 begins_none (Integer scan) held c is = not_so _ _ is (number_modest scan.negative scan.place)
 begins_none (Build scan) held c is = not_so _ _ is (build_modest (resume_build scan (top_list held) []))
 begins_none (Spelling scan) held c is = not_so _ _ is (name_modest scan.call scan.place (top_list held))
+begins_none (FileName scan) held c is = not_so _ _ is (file_modest scan.call scan.place (top_list held))
 begins_none (Behind d x) held c is = cc
 
 -- A MACRO is defined with the frame's own list, where that has a token
@@ -127,6 +136,7 @@ defines_own (Command command.Ended p) held c n ts is some = absurd cc
 defines_own (Integer scan) held c n ts is some = absurd (not_so _ _ is (number_modest scan.negative scan.place))
 defines_own (Build scan) held c n ts is some = refl
 defines_own (Spelling scan) held c n ts is some = refl
+defines_own (FileName scan) held c n ts is some = refl
 defines_own (Behind d x) held c n ts is some = absurd cc
 
 -- the innermost

@@ -12,7 +12,7 @@ use Rattle.rows.specs.declared.words.Kind.TheVariants.{Command, Integer, Text, D
 use Rattle.rows.specs.declared.words.Value.{Value}
 use Rattle.rows.specs.Readings.{Tok, Val, Inner, Done}
 use Rattle.plain_readings.specs.Laws.{BeginsLower, rank}
-use Rattle.plain_readings.specs.Readings.{Kind, Reads, Spelling, Behind, Arguments, Reading, ask, lists, fed_with, opened, opened_with}
+use Rattle.plain_readings.specs.Readings.{Kind, Reads, Spelling, FileName, Behind, Arguments, Reading, ask, lists, fed_with, opened, opened_with}
 use Rattle.plain_readings.specs.Weights.{frame_weight, act_weight, value_weight}
 use Rattle.plain_readings.proofs.Lower.{lower}
 use Rattle.reading_frames.specs.Resumes.{resume}
@@ -52,6 +52,7 @@ low_rank (Reads Integer) = omega arith
 low_rank (Reads (Text name expanded)) = omega arith
 low_rank (Reads (Definition name expanded)) = omega arith
 low_rank (Spelling c) = omega arith
+low_rank (FileName c) = omega arith
 low_rank (Behind c x) = omega arith
 low_rank (Arguments name long number text) = omega arith
 

@@ -10,6 +10,7 @@ pub mod FrameAsks
 pub mod InnerBegun
 pub mod Telling
 pub mod SpeltNames
+pub mod FilesSought
 pub mod CallSteps
 pub mod GivenBytes
 pub mod Reading
@@ -22,3 +23,10 @@ pub mod RuleCloses
 pub mod RuleHalts
 pub mod ActsEnding
 pub mod Codes
+pub mod FilesClosed
+pub mod FilesKept
+pub mod FilesFound
+pub mod Known
+pub mod Knowing
+pub mod OneRule
+pub mod Opening

@@ -1,75 +1,87 @@
--- Bytes that come in, one piece behind another.
-use Rattle.std.proofs.Common.{◌≡◌, ℕ, ◌≤◌, List, [], ◌++◌, refl, sym, ap, ◌∙◌, subst, append_assoc, arith, true}
-use Rattle.std.specs.Prelude.{Option}
-use Rattle.world_io.specs.Told.{FilesTold, SameFiles, IsAtEnd}
-use Rattle.line_reader.specs.Reading.{CameIn}
-use Rattle.line_reader.specs.Readers.{OpenReader}
-use Rattle.line_reader.proofs.Parts.{came_none, came_more, came_same}
-use Rattle.stomach.specs.Read.{CameOn, MayLeave, ReadsTo}
+-- Files that are read on, opened and closed, one piece behind another.
+use Rattle.std.proofs.Common.{◌≡◌, ◌≤◌, ℕ, List, [], ◌∷◌, refl, ◌∙◌, subst, arith}
+use Rattle.tex_defs.specs.Places.{File}
+use Rattle.world_io.specs.Told.{FilesTold}
+use Rattle.line_reader.specs.Readers.{OpenReader, AreOpen, MayLeave, KnowEnds, LeftBefore, MightLeave}
+use Rattle.plain_machine.specs.States.{no_files}
+use Rattle.plain_machine.specs.Extended.{Rests}
+use Rattle.plain_machine.specs.Meaning.{AreHeldAs, IsHeldAs}
+use Rattle.stomach.specs.Read.{ReadsTo}
 
-pub on_none : (r : OpenReader) (f : FilesTold) → CameOn r r f f []
-on_none r f = record {
-  came = came_none r.id f;
-  id = refl;
-  none = λ h. (refl, h);
-  at_end = λ was. was;
-  read_faults = omega arith;
-  write_faults = refl;
-  wants = omega arith;
-}
+-- the same content is held by names that have it
+pub held_same : (f f' : FilesTold) (r : Rests) → ((name : List ℕ) → f'.file name ≡ f.file name) → AreHeldAs f'.file r.files → AreHeldAs f.file r.files
+held_same f f' r same h k name = subst (λ (x : File). IsHeldAs x (r.files k name)) (same name) (h k name)
 
--- a call that failed
-pub on_same : (r : OpenReader) (f f' : FilesTold) → SameFiles f f' → f.read_faults ≤ f'.read_faults → f'.write_faults ≡ f.write_faults → f.wants ≤ f'.wants → CameOn r r f f' []
-on_same r f f' same faults writes wants = record {
-  came = came_same r.id [] f f f' (came_none r.id f) same;
-  id = refl;
-  none = λ h. (refl, h);
-  at_end = λ was h. subst (λ (x : Option (List ℕ)). IsAtEnd x) (sym (same.rest r.id)) (was h);
-  read_faults = faults;
-  write_faults = writes;
-  wants = wants;
-}
+module _ (P : (all left : Rests) → Type 0) where
+  pub reads_none : (rs : List OpenReader) (f : FilesTold) → ((all : Rests) → P all all) → ReadsTo rs rs f f P
+  reads_none rs f h = record {
+    before = λ left. left;
+    holds = λ left may. h left;
+    may = λ left may. may;
+    told = λ read left told. told;
+    read = λ read. read;
+    file = λ name. refl;
+    read_faults = omega arith;
+    write_faults = refl;
+    wants = omega arith;
+  }
 
-module _ (r r' r'' : OpenReader) (f f' f'' : FilesTold) (got more : List ℕ) (a : CameOn r r' f f' got) (b : CameOn r' r'' f' f'' more) where
-  none_more : r.ended ≡ true → (got ++ more ≡ []) × (r''.ended ≡ true)
-  none_more h =
-      let x = a.none h in let y = b.none x.1 in
-      (ap (λ (xs : List ℕ). xs ++ more) x.0 ∙ y.0, y.1)
+  -- what was left before may be left too
+  pub reads_map : (rs rs' : List OpenReader) (f f' : FilesTold) (Q : (all left : Rests) → Type 0) → ReadsTo rs rs' f f' P →
+      ((all left : Rests) → MayLeave rs all.left → MayLeave rs' left.left → P all left → Q all left) → ReadsTo rs rs' f f' Q
+  reads_map rs rs' f f' Q a h = record {
+    before = a.before;
+    holds = λ left may. h (a.before left) left (a.may left may) may (a.holds left may);
+    may = a.may;
+    told = a.told;
+    read = a.read;
+    file = a.file;
+    read_faults = a.read_faults;
+    write_faults = a.write_faults;
+    wants = a.wants;
+  }
 
-  pub on_more : CameOn r r'' f f'' (got ++ more)
-  on_more = record {
-    came = came_more r.id got more f f' f'' a.came (subst (λ (id : ℕ). CameIn id more f' f'') a.id b.came);
-    id = b.id ∙ a.id;
-    none = none_more;
-    at_end = λ was. b.at_end (a.at_end was);
+  pub reads_then : (rs rs' rs'' : List OpenReader) (f f' f'' : FilesTold) (Q R : (all left : Rests) → Type 0) → ReadsTo rs rs' f f' P → ReadsTo rs' rs'' f' f'' Q →
+      ((all mid left : Rests) → P all mid → Q mid left → R all left) → ReadsTo rs rs'' f f'' R
+  reads_then rs rs' rs'' f f' f'' Q R a b h = record {
+    before = λ left. a.before (b.before left);
+    holds = λ left may. h (a.before (b.before left)) (b.before left) left (a.holds (b.before left) (b.may left may)) (b.holds left may);
+    may = λ left may. a.may (b.before left) (b.may left may);
+    told = λ read left told. a.told read (b.before left) (b.told (a.read read) left told);
+    read = λ read. b.read (a.read read);
+    file = λ name. b.file name ∙ a.file name;
     read_faults = omega (arith, a.read_faults, b.read_faults);
     write_faults = b.write_faults ∙ a.write_faults;
     wants = omega (arith, a.wants, b.wants);
   }
 
--- what was left then is what came in and what is left now
-pub may_leave : (r r' : OpenReader) (f f' : FilesTold) (got left : List ℕ) → CameOn r r' f f' got → MayLeave r' left → MayLeave r (got ++ left)
-may_leave r r' f f' got left a may h =
-    let x = a.none h in
-    ap (λ (xs : List ℕ). xs ++ left) x.0 ∙ may x.1
+-- A call on the innermost file, or one that failed: what the openings to come find is as it was.
+module _ (rs rs' : List OpenReader) (f f' : FilesTold) (P : (all left : Rests) → Type 0) (before : List (List ℕ) → List (List ℕ)) where
+  abbrev pub before_left : Rests → Rests
+  before_left r = record { left = before r.left; files = r.files }
 
-module _ (P : (all left : List ℕ) → Type 0) where
-  pub reads_none : (r : OpenReader) (f : FilesTold) → ((all : List ℕ) → P all all) → ReadsTo r r f f P
-  reads_none r f h = record { got = []; came = on_none r f; holds = λ left may. h left }
-
-  pub reads_map : (r r' : OpenReader) (f f' : FilesTold) (Q : (all left : List ℕ) → Type 0) → ReadsTo r r' f f' P → ((all left : List ℕ) → MayLeave r' left → P all left → Q all left) → ReadsTo r r' f f' Q
-  reads_map r r' f f' Q a h = record { got = a.got; came = a.came; holds = λ left may. h (a.got ++ left) left may (a.holds left may) }
-
-  pub reads_then : (r r' r'' : OpenReader) (f f' f'' : FilesTold) (Q R : (all left : List ℕ) → Type 0) → ReadsTo r r' f f' P → ReadsTo r' r'' f' f'' Q →
-      ((all mid left : List ℕ) → MayLeave r'' left → P all mid → Q mid left → R all left) → ReadsTo r r'' f f'' R
-  reads_then r r' r'' f f' f'' Q R a b h = record {
-    got = a.got ++ b.got;
-    came = on_more r r' r'' f f' f'' a.got b.got a.came b.came;
-    holds = λ left may.
-        subst (λ (all : List ℕ). R all left) (sym (append_assoc a.got b.got left))
-        (h (a.got ++ (b.got ++ left)) (b.got ++ left) left may (a.holds (b.got ++ left) (may_leave r' r'' f' f'' b.got left b.came may)) (b.holds left may));
+  pub reads_left : ((left : Rests) → P (before_left left) left) → LeftBefore before rs f rs' f' → MightLeave before rs rs' → (AreOpen rs' f') → (KnowEnds rs f → KnowEnds rs' f') →
+      ((name : List ℕ) → f'.file name ≡ f.file name) → f.read_faults ≤ f'.read_faults → f'.write_faults ≡ f.write_faults → f.wants ≤ f'.wants → ReadsTo rs rs' f f' P
+  reads_left holds told may is_open knows file faults writes wants = record {
+    before = before_left;
+    holds = λ left may. holds left;
+    may = λ left h. may left.left h;
+    told = λ read left h. record { left = told left.left h.left; files = held_same f f' left file h.files };
+    read = λ read. record { opened = is_open; ends = knows read.ends };
+    file = file;
+    read_faults = faults;
+    write_faults = writes;
+    wants = wants;
   }
 
--- the reader is open as it was
-pub still_open : (r r' : OpenReader) (f f' : FilesTold) (got : List ℕ) → CameOn r r' f f' got → f.reading r.id ≡ true → f'.reading r'.id ≡ true
-still_open r r' f f' got a h = ap (λ (id : ℕ). f'.reading id) a.id ∙ (a.came.only.reading r.id ∙ h)
+-- nothing is left, and no file is found
+abbrev pub no_left : Rests
+no_left = record { left = []; files = no_files }
+
+nothing_may : (rs : List OpenReader) → MayLeave rs []
+nothing_may [] = tt
+nothing_may (r ∷ rs) = (λ is. refl, nothing_may rs)
+
+-- so something is known of what was left before it
+pub reads_holds : (rs rs' : List OpenReader) (f f' : FilesTold) (P : (all left : Rests) → Type 0) → (a : ReadsTo rs rs' f f' P) → P (a.before no_left) no_left
+reads_holds rs rs' f f' P a = a.holds no_left (nothing_may rs')

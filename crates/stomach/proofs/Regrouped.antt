@@ -1,10 +1,8 @@
 -- What stands at the locations has changed, and with it what the memory holds; all else is as it was.
-use Rattle.std.proofs.Common.{◌≡◌, ℕ, List, ◌∷◌, [], length, true, Option, None, Some, refl, sym, ap, ◌∙◌}
+use Rattle.std.proofs.Common.{◌≡◌, ℕ, ◌∷◌, [], length, true, None}
 use Rattle.tex_defs.specs.Places.{World}
-use Rattle.tex_defs.specs.declared.Full.{Full}
 use Rattle.tex_defs.specs.declared.Sizes.{Sizes}
 use Rattle.plain_tokens.specs.Meanings.{is_listed}
-use Rattle.plain_tokens.specs.Tables.{Demand, refused}
 use Rattle.equivalents.specs.Groups.{Groups}
 use Rattle.equivalents.specs.Holding.{lists_held}
 use Rattle.plain_machine.specs.States.{Move, made}
@@ -12,12 +10,9 @@ use Rattle.plain_machine.specs.Demands.{refusal}
 use Rattle.plain_machine.specs.Does.{Did}
 use Rattle.plain_machine.specs.Numbers.{groups_of}
 use Rattle.input_state.specs.Stored.{Stored, KeepsMacros}
-use Rattle.engine_state.specs.declared.broken.Broken.TheVariants as broken
 use Rattle.engine_state.specs.declared.engine.Engine.{Engine}
 use Rattle.engine_state.specs.Book.{Book}
-use Rattle.engine_state.specs.Rules.{Cuts}
 use Rattle.engine_state.specs.Stands.{Stands, state_of}
-use Rattle.engine_state.proofs.Cutting.{full_cuts}
 use Rattle.engine_state.proofs.Grouping.{grouped_did, grouped_stands}
 use Rattle.engine_state.proofs.Joining.{IsQuiet}
 

@@ -4,14 +4,19 @@ use Rattle.std.specs.Prelude.{Option, Some, None, ◌&&◌}
 use Rattle.tex_syntax.specs.declared.words.Want.{Want}
 use Rattle.tex_defs.specs.declared.Sizes.{Sizes}
 use Rattle.plain_tokens.specs.Pending.{pulled}
+use Rattle.rows.specs.declared.command.Call.{Call as Command}
+use Rattle.rows.specs.declared.command.Effect.{Effect}
+use Rattle.rows.specs.declared.command.Effect.TheVariants as effect
 use Rattle.rows.specs.Readings as reading
+use Rattle.tex_defs.specs.declared.Token.{Token}
 use Rattle.plain_readings.specs.Readings.{Reading, ask}
 use Rattle.reading_frames.specs.Sees.{Lists, ask_of, kept_list_of}
 use Rattle.reading_frames.specs.Stack.{asked_in, asked_of, asks_in}
 use Rattle.reading_frames.specs.Stands as frames
 use Rattle.reading_frames.specs.declared.ask.Ask.{Ask}
-use Rattle.plain_machine.specs.States.{Move}
-use Rattle.plain_machine.specs.Plan.{answered}
+use Rattle.plain_machine.specs.States.{Move, Files}
+use Rattle.plain_machine.specs.Plan.{Page, acts_in, acts_on, answered}
+use Rattle.plain_machine.specs.Extended.{starts}
 use Rattle.world_io.specs.Told.{FilesTold, SinkTold}
 use Rattle.input_state.specs.Reads.{gives_step}
 use Rattle.engine_state.specs.declared.call.Call.{Call}
@@ -22,7 +27,7 @@ use Rattle.engine_state.specs.Book.{Book, with_work}
 use Rattle.engine_state.specs.CutReadings.{CutsIn}
 use Rattle.engine_state.specs.Rules.{WantsHere, Takes, world_of, plan_of, next_moves}
 use Rattle.engine_state.specs.Stands.{Stands, state_of}
-use Rattle.engine_state.specs.Steps.{asked, frames_want, all_want, stepping}
+use Rattle.engine_state.specs.Steps.{asked, asks_start, all_start, frames_want, all_want, stepping}
 use Rattle.engine_state.proofs.Uncalled.{all_of}
 use Rattle.stomach.specs.Halting.{DoesRuleIn}
 
@@ -90,6 +95,14 @@ by_none sizes e P asks stand none h book st = at book.work st (stand e.input.bui
 -- a token is wanted
 pub more_taken : (sizes : Sizes) (e : Engine) (want : Want) (book : Book) → e.call ≡ None → asked e ≡ Some (reading.More want) → Stands sizes e book → Takes sizes (Some want) e book
 more_taken sizes e want book none asks st = (subst (λ (c : Option Call). WantsHere c (Some want) e) (sym none) asks, all_of sizes e book st)
+
+-- an act with a list that opens no file
+pub not_started : (e : Engine) (a : reading.Ask) → e.call ≡ None → asked e ≡ Some a → all_start e.call (asked e) ≡ false → starts a ≡ false
+not_started e a none is h = ap asks_start (sym is) ∙ (ap (λ (c : Option Call). all_start c (asked e)) (sym none) ∙ h)
+
+pub acts_as : (files : Files) (page : Page) (c : Command) (e : Effect) (ts : List Token) → starts (reading.ActsOn c e ts) ≡ false → acts_in files page c e ts ≡ acts_on page c e ts
+acts_as files page c (effect.StartInput back) ts none = absurd cc
+acts_as files page c x ts none = refl
 
 -- WHETHER THE RULE HAS A STEP
 

@@ -19,7 +19,7 @@ use Rattle.rows.specs.Readings.{Ask}
 use Rattle.reading_frames.specs.Stack.{Stack, asks_in}
 use Rattle.reading_frames.specs.Weights.{innermost_weight, IsEnd}
 use Rattle.reading_frames.specs.declared.frame.Frame.{Frame}
-use Rattle.plain_machine.specs.States.{State, Move, Assigned, Closed, made}
+use Rattle.plain_machine.specs.States.{State, Move, Assigned, Closed, Spelt, made}
 use Rattle.plain_machine.specs.Plan.{Page, acts_on, entered, name_made, newly_spelt, put_one, relax_if_undefined, reported_as, spelt}
 use Rattle.plain_machine.specs.Runs.{steps}
 use Rattle.plain_machine.specs.Does.{Did}
@@ -122,9 +122,9 @@ relax_free meanings n = by _ where
 pub name_free : (page : Page) (characters : List ℕ) → steps (name_made page characters) ≡ 0
 name_free page characters =
     let n : Name = spelt page.names characters in
-    steps_join (entered (newly_spelt page.names characters)) (relax_if_undefined page.now.meanings n ++ put_one (token.Named n))
-    ∙ (let last : steps (relax_if_undefined page.now.meanings n ++ put_one (token.Named n)) ≡ 0 = steps_join (relax_if_undefined page.now.meanings n) (put_one (token.Named n)) ∙ omega (arith, relax_free page.now.meanings n) in
-    omega (arith, entered_free (newly_spelt page.names characters), last))
+    let last : steps (relax_if_undefined page.now.meanings n ++ put_one (token.Named n)) ≡ 0 = steps_join (relax_if_undefined page.now.meanings n) (put_one (token.Named n)) ∙ omega (arith, relax_free page.now.meanings n) in
+    steps_join (Spelt characters ∷ entered (newly_spelt page.names characters)) (relax_if_undefined page.now.meanings n ++ put_one (token.Named n))
+    ∙ omega (arith, entered_free (newly_spelt page.names characters), last)
 
 -- WHAT BECOMES LIGHTER
 

@@ -14,8 +14,6 @@ use Rattle.engine_state.specs.Calls.{AllStand, FramesOf}
 use Rattle.engine_state.specs.CutReadings.{CutsIn}
 use Rattle.engine_state.specs.Stands.{state_of}
 use Rattle.engine_state.specs.Rules.{world_of, plan_of, Halts, Went}
-use Rattle.stomach.specs.declared.buffer.NameBuffer.{NameBuffer}
-use Rattle.stomach.specs.Buffers.{HoldsAnyName}
 
 -- The machine has stopped, behind at most k steps: the engine stands for its last state, but for how it stopped, with these open readings.
 pub record HaltsIn (sizes : Sizes) (s : State) (e' : Engine) (w w' : World) (moves : List Move) (o : Outcome) (k : ℕ) : Type 0 where
@@ -30,11 +28,11 @@ DoesRuleIn sizes s e' w w' moves Free = Went sizes s e' w w' moves 0
 DoesRuleIn sizes s e' w w' moves (Halted o) = HaltsIn sizes s e' w w' moves o 1
 
 -- The rule that comes next does this, over any files.
-abbrev pub DoesPlanIn : NameBuffer → (e e' : Engine) → (before after : SinkTold) → Ruled → Type 0
-DoesPlanIn b e e' before after ruled = (sizes : Sizes) (f : FilesTold) (book : Book) → HoldsAnyName sizes b → AllStand sizes e book →
+abbrev pub DoesPlanIn : (e e' : Engine) → (before after : SinkTold) → Ruled → Type 0
+DoesPlanIn e e' before after ruled = (sizes : Sizes) (f : FilesTold) (book : Book) → AllStand sizes e book →
     DoesRuleIn sizes (state_of e book) e' (world_of f before e) (world_of f after e') (plan_of e book) ruled
 
 -- It is cut off.
-abbrev pub CutsPlanIn : NameBuffer → (e e' : Engine) → (before after : SinkTold) → Broken → Type 0
-CutsPlanIn b e e' before after broken = (sizes : Sizes) (f : FilesTold) (book : Book) → HoldsAnyName sizes b → AllStand sizes e book →
+abbrev pub CutsPlanIn : (e e' : Engine) → (before after : SinkTold) → Broken → Type 0
+CutsPlanIn e e' before after broken = (sizes : Sizes) (f : FilesTold) (book : Book) → AllStand sizes e book →
     CutsIn sizes (state_of e book) e' (world_of f before e) (world_of f after e') (plan_of e book) broken

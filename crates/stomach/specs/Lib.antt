@@ -1,7 +1,8 @@
 pub mod Ahead
-pub mod Buffers
 pub mod Effects
+pub mod Files
 pub mod Halting
+pub mod Naming
 pub mod Obeying
 pub mod Ran
 pub mod Read

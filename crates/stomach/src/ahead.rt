@@ -1,13 +1,14 @@
-// The job's file, read on where the next reading needs its bytes.
-ghost use Rattle.std.specs.Prelude.{◌≡◌, ◌<◌, true, IfErr, OnErr, OnOk, MatchBool};
+// The files, read on where the next rule needs their bytes.
+ghost use Rattle.std.specs.Prelude.{◌≡◌, ◌<◌, IfErr, OnErr, OnOk, MatchBool};
 ghost use Rattle.tex_defs.specs.Places.{Rose};
 ghost use Rattle.world_io.specs.declared.traits.Fault.TheVariants.{Failed, NoMemory};
+ghost use Rattle.line_reader.specs.Readers.{AreOpen, ids};
 ghost use Rattle.engine_state.specs.Steps.{all_want, asked};
-ghost use Rattle.stomach.specs.Read.{ReadsTo};
+ghost use Rattle.stomach.specs.Read.{ReadsTo, AreTied};
 ghost use Rattle.stomach.specs.Ahead.{IsGiven, Knows, Needs, read_weight};
 
 use engine_state::Engine;
-use line_reader::Reader;
+use line_reader::Readers;
 use reading_frames::Ask;
 use world_io::{Fault, Files};
 
@@ -26,30 +27,43 @@ pub fn wants_token(engine: &Engine) -> bool
     }
 }
 
-/// Whether the next rule needs bytes of the file that haven't come.
-fn needs_bytes(engine: &Engine, reader: &Reader) -> bool
-    ensures { MatchBool result (Needs engine.now reader.now) (Knows engine.now reader.now) }
+/// Whether the next rule needs bytes of a file that haven't come.
+fn needs_bytes(engine: &Engine, readers: &Readers) -> bool
+    ensures { MatchBool result (Needs engine.now readers.now.readers) (AreTied readers.now engine.now → Knows engine.now readers.now.readers) }
 {
-    !reader.is_ended() && wants_token(engine) && engine.input.needs_bytes()
+    if readers.count() == 0 || readers.is_ended() {
+        return false;
+    }
+    if engine.input.has_next() {
+        return engine.input.needs_first_bytes();
+    }
+    wants_token(engine) && engine.input.needs_bytes()
 }
 
-/// Reads the file's next bytes, or finds its end.
+/// Reads the innermost file's next bytes, or finds its end.
 fn read_window<F: Files>(
     engine: &mut Engine,
-    reader: &mut Reader,
+    readers: &mut Readers,
     files: &mut F,
 ) -> Result<(), Fault>
-    requires is_open { (F.told files.old).reading reader.old.id ≡ true }
-    requires needs { Needs engine.old reader.old }
-    ensures came { ReadsTo reader.old reader.new (F.told files.old) (F.told files.new) (λ all left. IsGiven all left engine.old engine.new) }
-    ensures less { OnOk result (read_weight engine.new reader.new < read_weight engine.old reader.old) }
-    ensures lacks { OnErr result (Needs engine.new reader.new) }
+    requires open { AreOpen readers.old.readers (F.told files.old) }
+    requires needs { Needs engine.old readers.old.readers }
+    ensures came { ReadsTo readers.old.readers readers.new.readers (F.told files.old) (F.told files.new) (λ all left. IsGiven all left engine.old engine.new) }
+    ensures less { OnOk result (read_weight engine.new readers.new.readers < read_weight engine.old readers.old.readers) }
+    ensures lacks { OnErr result (Needs engine.new readers.new.readers) }
+    ensures ids { ids readers.new.readers ≡ ids readers.old.readers }
+    ensures open { AreOpen readers.new.readers (F.told files.new) }
+    ensures tied { AreTied readers.old engine.old → AreTied readers.new engine.new }
     ensures fault { IfErr result (λ e. e ≡ Failed → Rose (F.told files.old).read_faults (F.told files.new).read_faults) }
     ensures want { IfErr result (λ e. e ≡ NoMemory → Rose (F.told files.old).wants (F.told files.new).wants) }
 {
     let mut window = [0; WINDOW];
-    let count = reader.read(files, &mut window)?;
-    engine.input.add_bytes(&window[..count]);
+    let count = readers.read(files, &mut window)?;
+    if engine.input.has_next() {
+        engine.input.add_first_bytes(&window[..count]);
+    } else {
+        engine.input.add_bytes(&window[..count]);
+    }
     Ok(())
 }
 
@@ -59,18 +73,21 @@ fn read_window<F: Files>(
 /// A read failed or wanted memory, where no line of the file is whole.
 pub fn read_ahead<F: Files>(
     engine: &mut Engine,
-    reader: &mut Reader,
+    readers: &mut Readers,
     files: &mut F,
 ) -> Result<(), Fault>
-    requires is_open { (F.told files.old).reading reader.old.id ≡ true }
-    ensures came { ReadsTo reader.old reader.new (F.told files.old) (F.told files.new) (λ all left. IsGiven all left engine.old engine.new) }
-    ensures knows { OnOk result (Knows engine.new reader.new) }
-    ensures lacks { OnErr result (Needs engine.new reader.new) }
+    requires open { AreOpen readers.old.readers (F.told files.old) }
+    ensures came { ReadsTo readers.old.readers readers.new.readers (F.told files.old) (F.told files.new) (λ all left. IsGiven all left engine.old engine.new) }
+    ensures knows { OnOk result (AreTied readers.new engine.new → Knows engine.new readers.new.readers) }
+    ensures lacks { OnErr result (Needs engine.new readers.new.readers) }
+    ensures ids { ids readers.new.readers ≡ ids readers.old.readers }
+    ensures open { AreOpen readers.new.readers (F.told files.new) }
+    ensures tied { AreTied readers.old engine.old → AreTied readers.new engine.new }
     ensures fault { IfErr result (λ e. e ≡ Failed → Rose (F.told files.old).read_faults (F.told files.new).read_faults) }
     ensures want { IfErr result (λ e. e ≡ NoMemory → Rose (F.told files.old).wants (F.told files.new).wants) }
 {
-    while needs_bytes(engine, reader) {
-        read_window(engine, reader, files)?;
+    while needs_bytes(engine, readers) {
+        read_window(engine, readers, files)?;
     }
     Ok(())
 }

@@ -7,7 +7,7 @@ use world_io::Fault;
 pub enum Early {
     /// A rule was cut off: a table has no room for the machine's next move, or a write failed or wanted memory.
     Broken(Broken),
-    /// The next bytes of the job's file were needed, and the read failed or wanted memory.
+    /// The next bytes of a file were needed, or a file was to be opened, and that failed or wanted memory.
     Unread(Fault),
 }
 

@@ -1,21 +1,22 @@
 // Names that are spelt. *The TeXbook*, chapter 7 (`\csname`); *TeX: The Program*, part 25.
-ghost use Rattle.std.specs.Prelude.{◌≡◌, List, [], ◌∷◌, ◌++◌, vec_capacity, IfOk, IfErr, OnOk, OnErr, None};
+ghost use Rattle.std.specs.Prelude.{◌≡◌, ◌≤◌, ◌+◌, List, [], ◌∷◌, ◌++◌, length, IfOk, IfErr, OnOk, OnErr, None};
 ghost use Rattle.tex_defs.specs.Places.{World};
 ghost use Rattle.tex_defs.specs.declared.Sizes.{Sizes};
 ghost use Rattle.plain_tokens.specs.Meanings.{name_meaning, seen_as};
 ghost use Rattle.plain_tokens.specs.Tokens.{character_codes, is_undefined as plain_undefined};
 ghost use Rattle.reading_frames.specs.Sees.{kept_list_of};
-ghost use Rattle.plain_machine.specs.States.{Move};
+ghost use Rattle.plain_tokens.specs.Tables.{open_lines};
+ghost use Rattle.plain_machine.specs.States.{Move, Spelt};
 ghost use Rattle.plain_machine.specs.Plan.{spelt, newly_spelt, relax_if_undefined as made_relax, name_made};
 ghost use Rattle.plain_machine.specs.Does.{Did};
 ghost use Rattle.engine_state.specs.Book.{Book};
 ghost use Rattle.engine_state.specs.Entering.{joined, with_names, EntryFits, EntryRefused};
+ghost use Rattle.input_state.specs.Stored.{spelt as spelt_in};
 ghost use Rattle.engine_state.specs.Stands.{Stands, IsSound, SameFrames, state_of, page_of};
 ghost use Rattle.engine_state.specs.Rules.{Cuts};
 ghost use Rattle.engine_state.specs.Steps.{pending_weight};
-ghost use Rattle.stomach.specs.Buffers.{HoldsAnyName};
+ghost use Rattle.stomach.specs.Naming.{IsTooLong, OnlySpelt};
 
-use crate::buffer::NameBuffer;
 use engine_state::{Broken, Engine, name};
 use name_table::NameTable;
 use tex_defs::{Full, Meaning, Name, Token};
@@ -38,32 +39,44 @@ fn spelt_name(names: &mut NameTable, codes: &[u8]) -> Result<Name, Full>
     }
 }
 
-/// The name of the characters of the list on top, if it is listed, and else of none. A new one of two or more is entered, and gets its location.
+/// The characters of the list on top, if it is listed, are spelt behind the open lines in the buffer; answers how many they are.
 ///
 /// # Errors
-/// There is no room for a new name; the engine has not changed.
-fn spell(engine: &mut Engine, buffer: &mut NameBuffer, listed: bool) -> Result<Name, Full>
-    ensures name { IfOk result (λ n. (sizes : Sizes) (book : Book) → HoldsAnyName sizes buffer.old → IsSound sizes engine.old book.number book.macros →
-        n ≡ spelt engine.old.names.names (character_codes (kept_list_of listed engine.old.input.builds))) }
-    ensures after { OnOk result ((sizes : Sizes) (book : Book) → HoldsAnyName sizes buffer.old → IsSound sizes engine.old book.number book.macros →
-        engine.new ≡ with_names (newly_spelt engine.old.names.names (character_codes (kept_list_of listed engine.old.input.builds))) engine.old) }
-    ensures fits { OnOk result ((sizes : Sizes) (book : Book) → HoldsAnyName sizes buffer.old → IsSound sizes engine.old book.number book.macros →
-        EntryFits engine.old.names (newly_spelt engine.old.names.names (character_codes (kept_list_of listed engine.old.input.builds)))) }
-    ensures refused { IfErr result (λ full. (sizes : Sizes) (book : Book) → HoldsAnyName sizes buffer.old → IsSound sizes engine.old book.number book.macros →
-        EntryRefused engine.old.names (newly_spelt engine.old.names.names (character_codes (kept_list_of listed engine.old.input.builds))) full) }
+/// There is no room for them; nothing has changed.
+pub(crate) fn spell_list(engine: &mut Engine, listed: bool) -> Result<usize, Broken>
+    ensures did { OnOk result ((sizes : Sizes) (w : World) (book : Book) → IsSound sizes engine.old book.number book.macros → Did sizes (state_of engine.old book) (state_of engine.new book) w w (Spelt (character_codes (kept_list_of listed engine.old.input.builds)) ∷ [])) }
+    ensures err { IfErr result (λ b. (sizes : Sizes) (w : World) (book : Book) (more : List Move) → IsSound sizes engine.old book.number book.macros → Cuts sizes (state_of engine.old book) engine.new book w w (Spelt (character_codes (kept_list_of listed engine.old.input.builds)) ∷ more) b) }
+    ensures codes { IfOk result (λ n. spelt_in engine.new.input n ≡ character_codes (kept_list_of listed engine.old.input.builds)) }
+    ensures length { IfOk result (λ n. n ≡ length (character_codes (kept_list_of listed engine.old.input.builds))) }
+    ensures room { IfOk result (λ n. open_lines engine.old.input.pending + n ≤ engine.old.input.sizes.buffer_size) }
+    ensures full { IfErr result (λ b. IsTooLong engine.old (character_codes (kept_list_of listed engine.old.input.builds)) b) }
+    ensures only { OnlySpelt engine.old engine.new }
+{
+    // The open lines are within the buffer.
+    let _open = engine.input.open_files();
+    if listed && engine.input.has_list() {
+        return Ok(engine.input.spell()?);
+    }
+    Ok(0)
+}
+
+/// The name of the characters that are spelt behind the open lines. A new one of two or more is entered, and gets its location.
+///
+/// # Errors
+/// There is no room for a new name; nothing has changed.
+fn enter_spelt(engine: &mut Engine, n: usize) -> Result<Name, Full>
+    requires { open_lines engine.old.input.pending + n ≤ engine.old.input.sizes.buffer_size }
+    ensures name { IfOk result (λ name. (sizes : Sizes) (book : Book) → IsSound sizes engine.old book.number book.macros → name ≡ spelt engine.old.names.names (spelt_in engine.old.input n)) }
+    ensures after { OnOk result ((sizes : Sizes) (book : Book) → IsSound sizes engine.old book.number book.macros → engine.new ≡ with_names (newly_spelt engine.old.names.names (spelt_in engine.old.input n)) engine.old) }
+    ensures fits { OnOk result ((sizes : Sizes) (book : Book) → IsSound sizes engine.old book.number book.macros → EntryFits engine.old.names (newly_spelt engine.old.names.names (spelt_in engine.old.input n))) }
+    ensures refused { IfErr result (λ full. (sizes : Sizes) (book : Book) → IsSound sizes engine.old book.number book.macros → EntryRefused engine.old.names (newly_spelt engine.old.names.names (spelt_in engine.old.input n)) full) }
     ensures err { OnErr result (engine.new ≡ engine.old) }
     ensures only { engine.new ≡ record engine.old { names = engine.new.names; input = record engine.old.input { groups = engine.new.input.groups } } }
     ensures frames { SameFrames engine.old engine.new }
     ensures idle { engine.new.input.making ≡ engine.old.input.making }
-    ensures capacity { vec_capacity buffer.new.text ≡ vec_capacity buffer.old.text }
 {
-    // What is used of the main memory is at most its size.
-    let _used = engine.input.words();
-    if !buffer.fill(&engine.input, listed) {
-        return Ok(Name::Empty);
-    }
     let known = engine.names.count();
-    let name = spelt_name(&mut engine.names, buffer.codes())?;
+    let name = spelt_name(&mut engine.names, engine.input.spelt(n))?;
     if engine.names.count() > known && engine.input.has_name_room() {
         engine.input.enter_name();
     }
@@ -98,25 +111,25 @@ fn relax_if_undefined(engine: &mut Engine, name: Name) -> Result<(), Broken>
     Ok(())
 }
 
-/// The name of the characters of the list on top, if it is listed, and else of none, is entered where it is new, becomes `\relax` where it means nothing,
+/// The name of the characters of the list on top, if it is listed, and else of none, is spelt, entered where it is new, becomes `\relax` where it means nothing,
 /// and is put in front.
 ///
 /// # Errors
-/// There is no room for a new name, in the save stack, in the main memory or on the input stack: what comes before is there.
-pub fn make_name(engine: &mut Engine, buffer: &mut NameBuffer, listed: bool) -> Result<(), Broken>
+/// There is no room for the name in the buffer, for a new name, in the save stack, in the main memory or on the input stack: what comes before is there.
+pub fn make_name(engine: &mut Engine, listed: bool) -> Result<(), Broken>
     requires idle { engine.old.input.making ≡ None }
-    ensures did { OnOk result ((sizes : Sizes) (w : World) (book : Book) → HoldsAnyName sizes buffer.old → Stands sizes engine.old book →
+    ensures did { OnOk result ((sizes : Sizes) (w : World) (book : Book) → Stands sizes engine.old book →
         Did sizes (state_of engine.old book) (state_of engine.new book) w w (name_made (page_of engine.old book) (character_codes (kept_list_of listed engine.old.input.builds)))) }
-    ensures err { IfErr result (λ b. (sizes : Sizes) (w : World) (book : Book) (more : List Move) → HoldsAnyName sizes buffer.old → Stands sizes engine.old book →
+    ensures err { IfErr result (λ b. (sizes : Sizes) (w : World) (book : Book) (more : List Move) → Stands sizes engine.old book →
         Cuts sizes (state_of engine.old book) engine.new book w w (name_made (page_of engine.old book) (character_codes (kept_list_of listed engine.old.input.builds)) ++ more) b) }
-    ensures stands { OnOk result ((sizes : Sizes) (book : Book) → HoldsAnyName sizes buffer.old → Stands sizes engine.old book → Stands sizes engine.new book) }
+    ensures stands { OnOk result ((sizes : Sizes) (book : Book) → Stands sizes engine.old book → Stands sizes engine.new book) }
     ensures frames { SameFrames engine.old engine.new }
     ensures column { engine.new.in_line ≡ engine.old.in_line }
     ensures light { OnOk result (pending_weight engine.new.input.pending ≡ pending_weight engine.old.input.pending) }
     ensures idle { OnOk result (engine.new.input.making ≡ None) }
-    ensures capacity { vec_capacity buffer.new.text ≡ vec_capacity buffer.old.text }
 {
-    let name = spell(engine, buffer, listed)?;
+    let count = spell_list(engine, listed)?;
+    let name = enter_spelt(engine, count)?;
     relax_if_undefined(engine, name)?;
     engine.put_one(Token::Named(name))?;
     Ok(())

@@ -1,5 +1,5 @@
 // The rules: what becomes of tokens, and of what the readings ask for.
-ghost use Rattle.std.specs.Prelude.{◌≡◌, ◌<◌, List, [], ◌∷◌, vec_capacity, IfOk, IfErr, OnOk, MatchResult, Some, None, true, false};
+ghost use Rattle.std.specs.Prelude.{◌≡◌, ◌<◌, List, [], ◌∷◌, IfOk, IfErr, OnOk, MatchResult, Some, None, true, false};
 ghost use Rattle.tex_defs.specs.declared.Sizes.{Sizes};
 ghost use Rattle.plain_tokens.specs.Pending.{pulled};
 ghost use Rattle.plain_readings.specs.Readings.{Reading};
@@ -15,11 +15,9 @@ ghost use Rattle.engine_state.specs.Book.{Book, with_work};
 ghost use Rattle.engine_state.specs.CutReadings.{CutsIn};
 ghost use Rattle.engine_state.specs.Stands.{Stands, SameReadings, state_of, page_of};
 ghost use Rattle.engine_state.specs.Rules.{world_of, plan_of, next_moves, Takes, DoesRule};
-ghost use Rattle.engine_state.specs.Steps.{stepping, stops_run, IsStep, IsFree, IsHalted, StepsIf, weight};
-ghost use Rattle.stomach.specs.Buffers.{HoldsAnyName};
+ghost use Rattle.engine_state.specs.Steps.{all_start, asked, stepping, stops_run, IsStep, IsFree, IsHalted, StepsIf, weight};
 ghost use Rattle.stomach.specs.Halting.{DoesRuleIn, DoesPlanIn, CutsPlanIn};
 
-use crate::buffer::NameBuffer;
 use crate::define::define;
 use crate::effects::act;
 use crate::ends::{begin_inner, done, tell};
@@ -88,26 +86,24 @@ fn report_list<S: Sink>(engine: &mut Engine, out: &mut S, listed: bool) -> Resul
 fn act_on<S: Sink>(
     engine: &mut Engine,
     out: &mut S,
-    buffer: &mut NameBuffer,
     call: Call,
     effect: Effect,
     listed: bool,
 ) -> Result<Ruled, Broken>
     requires idle { engine.old.input.making ≡ None }
     requires uncalled { engine.old.call ≡ None }
-    ensures rule { IfOk result (λ ruled. (sizes : Sizes) (f : FilesTold) (book : Book) (r : Reading) (rs : List Reading) → HoldsAnyName sizes buffer.old → Stands sizes engine.old (with_work (r ∷ rs) book) →
+    ensures rule { IfOk result (λ ruled. (sizes : Sizes) (f : FilesTold) (book : Book) (r : Reading) (rs : List Reading) → Stands sizes engine.old (with_work (r ∷ rs) book) →
         DoesRuleIn sizes (state_of engine.old (with_work (r ∷ rs) book)) engine.new (world_of f (S.told out.old) engine.old) (world_of f (S.told out.new) engine.new) (acts_on (page_of engine.old book) call effect (kept_list_of listed engine.old.input.builds)) ruled) }
-    ensures err { IfErr result (λ b. (sizes : Sizes) (f : FilesTold) (book : Book) (r : Reading) (rs : List Reading) → HoldsAnyName sizes buffer.old → Stands sizes engine.old (with_work (r ∷ rs) book) →
+    ensures err { IfErr result (λ b. (sizes : Sizes) (f : FilesTold) (book : Book) (r : Reading) (rs : List Reading) → Stands sizes engine.old (with_work (r ∷ rs) book) →
         CutsIn sizes (state_of engine.old (with_work (r ∷ rs) book)) engine.new (world_of f (S.told out.old) engine.old) (world_of f (S.told out.new) engine.new) (acts_on (page_of engine.old book) call effect (kept_list_of listed engine.old.input.builds)) b) }
     ensures step { IfOk result (λ ruled. IsStep ruled → ⊥) }
     ensures light { IfOk result (λ ruled. IsFree ruled → asks_in engine.old.readings.frames [] ≡ Some (ActsOn call effect []) → weight engine.new < weight engine.old) }
     ensures idle { OnOk result (engine.new.input.making ≡ None) }
-    ensures capacity { vec_capacity buffer.new.text ≡ vec_capacity buffer.old.text }
 {
     match effect {
         Effect::Message => engine.write_message(out, listed)?,
         Effect::ErrorMessage => return report_list(engine, out, listed),
-        Effect::MakeName => make_name(engine, buffer, listed)?,
+        Effect::MakeName => make_name(engine, listed)?,
         _ => {}
     }
     engine.close_reading();
@@ -115,25 +111,20 @@ fn act_on<S: Sink>(
 }
 
 /// Does the rule of what the innermost frame asks for, where no call gathers its arguments.
-fn ask_rule<S: Sink>(
-    engine: &mut Engine,
-    out: &mut S,
-    buffer: &mut NameBuffer,
-    ask: Ask,
-) -> Result<Ruled, Broken>
+fn ask_rule<S: Sink>(engine: &mut Engine, out: &mut S, ask: Ask) -> Result<Ruled, Broken>
     requires idle { engine.old.input.making ≡ None }
+    requires no_start { all_start engine.old.call (asked engine.old) ≡ false }
     requires uncalled { engine.old.call ≡ None }
     requires running { engine.old.stopped ≡ false }
     requires asks { (held : Lists) → asked_of held (Some ask) ≡ asks_in engine.old.readings.frames held }
     requires stands { (held : Lists) (work : List Reading) → frames.FramesStand engine.old.readings.frames held work → asked_of held (Some ask) ≡ asked_in work }
     ensures light { IfOk result (λ ruled. IsFree ruled → weight engine.new < weight engine.old) }
     ensures step { IfOk result (λ ruled. StepsIf ruled (stepping engine.old)) }
-    ensures rule { IfOk result (λ ruled. (sizes : Sizes) (f : FilesTold) (book : Book) → HoldsAnyName sizes buffer.old → Stands sizes engine.old book →
+    ensures rule { IfOk result (λ ruled. (sizes : Sizes) (f : FilesTold) (book : Book) → Stands sizes engine.old book →
         DoesRuleIn sizes (state_of engine.old book) engine.new (world_of f (S.told out.old) engine.old) (world_of f (S.told out.new) engine.new) (plan_of engine.old book) ruled) }
-    ensures err { IfErr result (λ b. (sizes : Sizes) (f : FilesTold) (book : Book) → HoldsAnyName sizes buffer.old → Stands sizes engine.old book →
+    ensures err { IfErr result (λ b. (sizes : Sizes) (f : FilesTold) (book : Book) → Stands sizes engine.old book →
         CutsIn sizes (state_of engine.old book) engine.new (world_of f (S.told out.old) engine.old) (world_of f (S.told out.new) engine.new) (plan_of engine.old book) b) }
     ensures idle { OnOk result (engine.new.input.making ≡ None) }
-    ensures capacity { vec_capacity buffer.new.text ≡ vec_capacity buffer.old.text }
 {
     match ask {
         Ask::More(want) => token_rule(engine, out, Some(want)),
@@ -146,7 +137,7 @@ fn ask_rule<S: Sink>(
             Ok(Ruled::Free)
         }
         Ask::Acts(call, effect) => act(engine, out, call, effect),
-        Ask::ActsOn(call, effect, listed) => act_on(engine, out, buffer, call, effect, listed),
+        Ask::ActsOn(call, effect, listed) => act_on(engine, out, call, effect, listed),
         Ask::Defines(call, name, listed) => {
             define(engine, call, name, listed)?;
             Ok(Ruled::Free)
@@ -161,52 +152,44 @@ fn ask_rule<S: Sink>(
 }
 
 /// The rule of the frames, where no call gathers its arguments.
-fn frame_rule<S: Sink>(
-    engine: &mut Engine,
-    out: &mut S,
-    buffer: &mut NameBuffer,
-) -> Result<Ruled, Broken>
+fn frame_rule<S: Sink>(engine: &mut Engine, out: &mut S) -> Result<Ruled, Broken>
     requires idle { engine.old.input.making ≡ None }
+    requires no_start { all_start engine.old.call (asked engine.old) ≡ false }
     requires uncalled { engine.old.call ≡ None }
     requires running { engine.old.stopped ≡ false }
     ensures light { IfOk result (λ ruled. IsFree ruled → weight engine.new < weight engine.old) }
     ensures step { IfOk result (λ ruled. StepsIf ruled (stepping engine.old)) }
-    ensures rule { IfOk result (λ ruled. (sizes : Sizes) (f : FilesTold) (book : Book) → HoldsAnyName sizes buffer.old → Stands sizes engine.old book →
+    ensures rule { IfOk result (λ ruled. (sizes : Sizes) (f : FilesTold) (book : Book) → Stands sizes engine.old book →
         DoesRuleIn sizes (state_of engine.old book) engine.new (world_of f (S.told out.old) engine.old) (world_of f (S.told out.new) engine.new) (plan_of engine.old book) ruled) }
-    ensures err { IfErr result (λ b. (sizes : Sizes) (f : FilesTold) (book : Book) → HoldsAnyName sizes buffer.old → Stands sizes engine.old book →
+    ensures err { IfErr result (λ b. (sizes : Sizes) (f : FilesTold) (book : Book) → Stands sizes engine.old book →
         CutsIn sizes (state_of engine.old book) engine.new (world_of f (S.told out.old) engine.old) (world_of f (S.told out.new) engine.new) (plan_of engine.old book) b) }
     ensures idle { OnOk result (engine.new.input.making ≡ None) }
-    ensures capacity { vec_capacity buffer.new.text ≡ vec_capacity buffer.old.text }
 {
     match engine.readings.ask() {
         None => token_rule(engine, out, None),
-        Some(ask) => ask_rule(engine, out, buffer, ask),
+        Some(ask) => ask_rule(engine, out, ask),
     }
 }
 
-/// Does one rule of the machine, with at most one step.
+/// Does one rule of the machine, with at most one step; it isn't one that opens or begins a file.
 ///
 /// # Errors
 /// There is no room for what comes, or a write failed: the engine stands for the moment before.
-pub(crate) fn rule<S: Sink>(
-    engine: &mut Engine,
-    out: &mut S,
-    buffer: &mut NameBuffer,
-) -> Result<Ruled, Broken>
+pub(crate) fn rule<S: Sink>(engine: &mut Engine, out: &mut S) -> Result<Ruled, Broken>
     requires idle { engine.old.input.making ≡ None }
+    requires no_start { all_start engine.old.call (asked engine.old) ≡ false }
     requires running { engine.old.stopped ≡ false }
     ensures light { IfOk result (λ ruled. IsFree ruled → weight engine.new < weight engine.old) }
     ensures step { IfOk result (λ ruled. StepsIf ruled (stepping engine.old)) }
-    ensures rule { IfOk result (λ ruled. DoesPlanIn buffer.old engine.old engine.new (S.told out.old) (S.told out.new) ruled) }
-    ensures err { IfErr result (λ b. CutsPlanIn buffer.old engine.old engine.new (S.told out.old) (S.told out.new) b) }
+    ensures rule { IfOk result (λ ruled. DoesPlanIn engine.old engine.new (S.told out.old) (S.told out.new) ruled) }
+    ensures err { IfErr result (λ b. CutsPlanIn engine.old engine.new (S.told out.old) (S.told out.new) b) }
     ensures idle { OnOk result (engine.new.input.making ≡ None) }
     ensures stopped { MatchResult result (λ ruled. engine.new.stopped ≡ stops_run ruled) (λ _. engine.new.stopped ≡ true) }
-    ensures capacity { vec_capacity buffer.new.text ≡ vec_capacity buffer.old.text }
 {
     match engine.call {
         Some(call) => gather(engine, out, call),
         None => {
-            let ruled = frame_rule(engine, out, buffer);
+            let ruled = frame_rule(engine, out);
             engine.stopped = stops(&ruled);
             ruled
         }

@@ -30,7 +30,7 @@ pub record ReadAlike (a a' f f' : FilesTold) : Type 0 where
   pub failed : Rose a.read_faults a'.read_faults → Rose f.read_faults f'.read_faults
   pub wanted : Rose a.wants a'.wants → Rose f.wants f'.wants
 
--- Where the run stopped because the file's next bytes didn't come, a read failed or memory was wanted.
+-- Where the run stopped because something of the files didn't come, a read or an opening failed or memory was wanted.
 pub record HasReadCause (early : Early) (w w' : World) : Type 0 where
   pub failed : early ≡ Unread Failed → Rose w.read_faults w'.read_faults
   pub wanted : early ≡ Unread NoMemory → Rose w.file_wants w'.file_wants

@@ -12,8 +12,8 @@ use crate::run::run_file;
 use crate::tell::{Telling, tell};
 use command_words::{Job, Unread, read_words};
 use engine_state::Engine;
+use line_reader::Readers;
 use std::alloc::Global;
-use stomach::NameBuffer;
 use tex_defs::Sizes;
 use world_io::{Files, Sink};
 
@@ -29,7 +29,7 @@ fn sizes(job: &Job) -> Sizes
     }
 }
 
-/// Runs the job of a file: the buffer and the engine are made before the file is opened.
+/// Runs the job of a file: the readers and the engine are made before the file is opened.
 fn run_job<F: Files, S: Sink>(alloc: Global, job: &Job, files: &mut F, out: &mut S) -> u8
     requires { is_in_range MainMemorySize job.now.main_memory_size ≡ true }
     ensures meaning { (b : Bool) × Means (spelt job.now) (F.told files.old).file (world (F.told files.old) (S.told out.old) false) (world (F.told files.new) (S.told out.new) b) result }
@@ -38,8 +38,8 @@ fn run_job<F: Files, S: Sink>(alloc: Global, job: &Job, files: &mut F, out: &mut
     ensures not_usage { result ≡ 9 → ⊥ }
 {
     let sizes = sizes(job);
-    let mut buffer = match NameBuffer::new(alloc, &sizes) {
-        Ok(buffer) => buffer,
+    let mut readers = match Readers::new(alloc, sizes.text_input_levels) {
+        Ok(readers) => readers,
         Err(_) => {
             tell(out, false, Telling::NoMemory);
             return 7;
@@ -54,7 +54,7 @@ fn run_job<F: Files, S: Sink>(alloc: Global, job: &Job, files: &mut F, out: &mut
     };
     let told = run_file(
         &mut engine,
-        &mut buffer,
+        &mut readers,
         job.file.as_slice(),
         files,
         job.steps,

@@ -1,5 +1,5 @@
 // The run of a job, and what is told of it.
-ghost use Rattle.std.specs.Prelude.{◌≡◌, ℕ, List, [], Some, None, false, true};
+ghost use Rattle.std.specs.Prelude.{◌≡◌, ◌≤◌, ◌<◌, ℕ, List, [], Some, None, false, true};
 ghost use Rattle.tex_defs.specs.Places.{Rose};
 ghost use Rattle.tex_defs.specs.declared.Sizes.{Sizes};
 ghost use Rattle.plain_machine.specs.States.{State};
@@ -7,21 +7,23 @@ ghost use Rattle.plain_machine.specs.Does.{CutAt};
 ghost use Rattle.plain_machine.specs.Meaning.{First, MeansRun};
 ghost use Rattle.world_io.specs.Told.{FilesTold, world};
 ghost use Rattle.world_io.specs.declared.traits.Fault.TheVariants.{Failed};
-ghost use Rattle.stomach.specs.Buffers.{HoldsAnyName};
 ghost use Rattle.stomach.specs.Ran.{UnreadBy, StoppedBy};
-ghost use Rattle.stomach.specs.Read.{ReadsTo};
+ghost use Rattle.stomach.specs.Read.{ReadsTo, AreTied};
+ghost use Rattle.line_reader.specs.Readers.{AreOpen};
+ghost use Rattle.plain_tokens.specs.Pending.{bottom};
+ghost use Rattle.plain_machine.specs.Extended.{Rests, first_left};
 ghost use Rattle.stomach.specs.declared.early.Early.TheVariants.{Unread};
 ghost use Rattle.tex_program.specs.Says.{SaysSo, ReadAlike, HasReadCause, end_status};
-ghost use Rattle.tex_program.specs.Named.{Named};
+ghost use Rattle.tex_program.specs.Named.{Named, Opened};
 ghost use Rattle.engine_state.specs.Faults.{why_of};
-ghost use Rattle.engine_state.specs.First.{Begins, IsUnread};
+ghost use Rattle.engine_state.specs.First.{Begins};
 ghost use Rattle.engine_state.specs.declared.engine.Engine.{Engine};
 
 use crate::tell::{Telling, tell};
 use command_words::job_name;
 use engine_state::{Broken, Engine};
-use line_reader::Reader;
-use stomach::{Early, Ended, NameBuffer, run_steps};
+use line_reader::Readers;
+use stomach::{Early, Ended, run_steps};
 use tex_syntax::Outcome;
 use world_io::{Fault, Files, Sink};
 
@@ -54,9 +56,9 @@ fn tell_broken<S: Sink>(out: &mut S, in_line: bool, broken: Broken) -> RunEnd
     }
 }
 
-/// Tells that the next bytes of the job's file were needed and didn't come.
+/// Tells that something of the files was needed and didn't come.
 fn tell_unread<S: Sink>(out: &mut S, in_line: bool, fault: Fault) -> RunEnd
-    ensures says { (sizes : Sizes) (f : FilesTold) (s : State) (n : ℕ) (w : _) (e : Engine) (left : List ℕ) → UnreadBy sizes s n e left w (world f (S.told out.old) in_line) →
+    ensures says { (sizes : Sizes) (f : FilesTold) (s : State) (n : ℕ) (w : _) (e : Engine) (left : Rests) → UnreadBy sizes s n e left w (world f (S.told out.old) in_line) →
         HasReadCause (Unread fault) w (world f (S.told out.old) in_line) → SaysSo sizes s n w (world f (S.told out.new) result.in_line) result.status }
     ensures read_fault { result.status ≡ 5 → fault ≡ Failed }
     ensures not_usage { result.status ≡ 9 → ⊥ }
@@ -75,7 +77,7 @@ fn tell_unread<S: Sink>(out: &mut S, in_line: bool, fault: Fault) -> RunEnd
 
 /// Tells of a run that stopped early.
 fn tell_early<S: Sink>(out: &mut S, in_line: bool, early: Early) -> RunEnd
-    ensures says { (sizes : Sizes) (f : FilesTold) (s : State) (n : ℕ) (w : _) (e : Engine) (left : List ℕ) → StoppedBy sizes s n e left w (world f (S.told out.old) in_line) early →
+    ensures says { (sizes : Sizes) (f : FilesTold) (s : State) (n : ℕ) (w : _) (e : Engine) (left : Rests) → StoppedBy sizes s n e left w (world f (S.told out.old) in_line) early →
         HasReadCause early w (world f (S.told out.old) in_line) → SaysSo sizes s n w (world f (S.told out.new) result.in_line) result.status }
     ensures read_fault { result.status ≡ 5 → early ≡ Unread Failed }
     ensures not_usage { result.status ≡ 9 → ⊥ }
@@ -100,21 +102,21 @@ fn status_of(outcome: Outcome, reports: u32, flawed: bool) -> u8
 /// Runs the job of a file that is open, by an engine that has kept the job's name.
 fn run_engine<F: Files, S: Sink>(
     engine: &mut Engine,
-    buffer: &mut NameBuffer,
-    reader: &mut Reader,
+    readers: &mut Readers,
     files: &mut F,
     steps: u64,
     out: &mut S,
 ) -> RunEnd
     requires idle { engine.old.input.making ≡ None }
     requires running { engine.old.stopped ≡ false }
-    requires is_open { (F.told files.old).reading reader.old.id ≡ true }
-    ensures says { ReadsTo reader.old reader.new (F.told files.old) (F.told files.new) (λ all left. (sizes : Sizes) (f f' : FilesTold) (quiet : _) (file : List ℕ) → ReadAlike (F.told files.old) (F.told files.new) f f' → HoldsAnyName sizes buffer.old → Named sizes engine.old quiet file (Some []) →
-        SaysSo sizes (First quiet file (Some all)) steps (world f (S.told out.old) false) (world f' (S.told out.new) result.in_line) result.status) }
+    requires open { AreOpen readers.old.readers (F.told files.old) }
+    ensures says { ReadsTo readers.old.readers readers.new.readers (F.told files.old) (F.told files.new) (λ all left. (sizes : Sizes) (f f' : FilesTold) (quiet : _) (file : List ℕ) → ReadAlike (F.told files.old) (F.told files.new) f f' → Opened sizes engine.old quiet file → AreTied readers.old engine.old →
+        SaysSo sizes (First quiet file (Some (first_left all.left)) all.files) steps (world f (S.told out.old) false) (world f' (S.told out.new) result.in_line) result.status) }
+    ensures open { AreOpen readers.new.readers (F.told files.new) }
     ensures read_fault { result.status ≡ 5 → Rose (F.told files.old).read_faults (F.told files.new).read_faults }
     ensures not_usage { result.status ≡ 9 → ⊥ }
 {
-    match run_steps(engine, buffer, reader, files, out, steps) {
+    match run_steps(engine, readers, files, out, steps) {
         Ok(Ended::Halted(outcome)) => RunEnd {
             in_line: engine.is_in_line(),
             status: status_of(outcome, engine.reports(), engine.flawed),
@@ -129,11 +131,11 @@ fn run_engine<F: Files, S: Sink>(
 
 /// Ends the job of a file that isn't held, by an engine that has kept the job's name.
 fn refuse_engine<S: Sink>(engine: &mut Engine, file: &[u8], out: &mut S) -> RunEnd
-    ensures says { (sizes : Sizes) (f : FilesTold) (quiet : _) (n : ℕ) → Named sizes engine.old quiet file.now None → SaysSo sizes (First quiet file.now None) n (world f (S.told out.old) false) (world f (S.told out.new) result.in_line) result.status }
+    ensures says { (sizes : Sizes) (f : FilesTold) (quiet : _) (all : _) (n : ℕ) → Named sizes engine.old quiet file.now → SaysSo sizes (First quiet file.now None all) n (world f (S.told out.old) false) (world f (S.told out.new) result.in_line) result.status }
     ensures no_read { result.status ≡ 5 → ⊥ }
     ensures not_usage { result.status ≡ 9 → ⊥ }
 {
-    match engine.refuse_job(out, file) {
+    match engine.refuse_file(out, file) {
         Ok(_) => RunEnd {
             in_line: engine.is_in_line(),
             status: 2,
@@ -145,7 +147,7 @@ fn refuse_engine<S: Sink>(engine: &mut Engine, file: &[u8], out: &mut S) -> RunE
 /// Opens the job's file and runs it, by an engine that has kept the job's name.
 fn run_named<F: Files, S: Sink>(
     engine: &mut Engine,
-    buffer: &mut NameBuffer,
+    readers: &mut Readers,
     file: &[u8],
     files: &mut F,
     steps: u64,
@@ -153,24 +155,24 @@ fn run_named<F: Files, S: Sink>(
 ) -> RunEnd
     requires idle { engine.old.input.making ≡ None }
     requires running { engine.old.stopped ≡ false }
-    requires is_unread { IsUnread engine.old }
-    ensures means { (sizes : Sizes) (quiet : _) → HoldsAnyName sizes buffer.old → Named sizes engine.old quiet file.now (Some []) →
-        MeansRun sizes quiet file.now ((F.told files.old).file file.now) steps (world (F.told files.old) (S.told out.old) false) (world (F.told files.new) (S.told out.new) result.in_line) result.status }
+    requires unopened { engine.old.input.pending ≡ bottom }
+    requires levels { 0 < engine.old.input.sizes.text_input_levels }
+    requires room { engine.old.input.sizes.text_input_levels ≤ readers.old.most }
+    requires none { readers.old.readers ≡ [] }
+    ensures means { (sizes : Sizes) (quiet : _) → Named sizes engine.old quiet file.now →
+        MeansRun sizes quiet file.now (F.told files.old).file steps (world (F.told files.old) (S.told out.old) false) (world (F.told files.new) (S.told out.new) result.in_line) result.status }
     ensures read_fault { result.status ≡ 5 → Rose (F.told files.old).read_faults (F.told files.new).read_faults }
-    ensures write_fault { (sizes : Sizes) (quiet : _) → HoldsAnyName sizes buffer.old → Named sizes engine.old quiet file.now (Some []) → result.status ≡ 6 → Rose (S.told out.old).faults (S.told out.new).faults }
+    ensures write_fault { (sizes : Sizes) (quiet : _) → Named sizes engine.old quiet file.now → result.status ≡ 6 → Rose (S.told out.old).faults (S.told out.new).faults }
     ensures not_usage { result.status ≡ 9 → ⊥ }
 {
-    match files.open_in(file) {
-        Ok(Some(id)) => {
-            let mut reader = Reader::new(id);
-            let told = run_engine(engine, buffer, &mut reader, files, steps, out);
-            files.close_in(id);
+    match readers.open(files, file) {
+        Ok(true) => {
+            engine.input.open_file();
+            let told = run_engine(engine, readers, files, steps, out);
+            readers.close_all(files);
             told
         }
-        Ok(None) => {
-            engine.input.drop_file();
-            refuse_engine(engine, file, out)
-        }
+        Ok(false) => refuse_engine(engine, file, out),
         Err(Fault::Failed) => RunEnd {
             in_line: tell(out, false, Telling::ReadFault),
             status: 5,
@@ -182,10 +184,10 @@ fn run_named<F: Files, S: Sink>(
     }
 }
 
-/// Keeps the job's name, opens its file and runs it, by an engine at its beginning and a buffer for names.
+/// Keeps the job's name, opens its file and runs it, by an engine at its beginning and as many readers as there may be open files.
 pub fn run_file<F: Files, S: Sink>(
     engine: &mut Engine,
-    buffer: &mut NameBuffer,
+    readers: &mut Readers,
     file: &[u8],
     files: &mut F,
     steps: u64,
@@ -193,15 +195,18 @@ pub fn run_file<F: Files, S: Sink>(
 ) -> RunEnd
     requires idle { engine.old.input.making ≡ None }
     requires running { engine.old.stopped ≡ false }
-    requires is_unread { IsUnread engine.old }
-    ensures means { (sizes : Sizes) (quiet : _) → HoldsAnyName sizes buffer.old → Begins sizes engine.old quiet (Some []) →
-        MeansRun sizes quiet file.now ((F.told files.old).file file.now) steps (world (F.told files.old) (S.told out.old) false) (world (F.told files.new) (S.told out.new) result.in_line) result.status }
+    requires unopened { engine.old.input.pending ≡ bottom }
+    requires levels { 0 < engine.old.input.sizes.text_input_levels }
+    requires room { engine.old.input.sizes.text_input_levels ≤ readers.old.most }
+    requires none { readers.old.readers ≡ [] }
+    ensures means { (sizes : Sizes) (quiet : _) → Begins sizes engine.old quiet →
+        MeansRun sizes quiet file.now (F.told files.old).file steps (world (F.told files.old) (S.told out.old) false) (world (F.told files.new) (S.told out.new) result.in_line) result.status }
     ensures read_fault { result.status ≡ 5 → Rose (F.told files.old).read_faults (F.told files.new).read_faults }
-    ensures write_fault { (sizes : Sizes) (quiet : _) → HoldsAnyName sizes buffer.old → Begins sizes engine.old quiet (Some []) → result.status ≡ 6 → Rose (S.told out.old).faults (S.told out.new).faults }
+    ensures write_fault { (sizes : Sizes) (quiet : _) → Begins sizes engine.old quiet → result.status ≡ 6 → Rose (S.told out.old).faults (S.told out.new).faults }
     ensures not_usage { result.status ≡ 9 → ⊥ }
 {
     if let Err(broken) = engine.keep_name(job_name(file)) {
         return tell_broken(out, engine.is_in_line(), broken);
     }
-    run_named(engine, buffer, file, files, steps, out)
+    run_named(engine, readers, file, files, steps, out)
 }

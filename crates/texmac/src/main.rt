@@ -7,6 +7,8 @@
 #[cfg(test)]
 mod command_tests;
 #[cfg(test)]
+mod file_tests;
+#[cfg(test)]
 mod group_tests;
 #[cfg(test)]
 mod macro_tests;

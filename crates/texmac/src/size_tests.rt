@@ -1,11 +1,11 @@
 // Runs within tables of given sizes.
-ghost use Rattle.std.specs.Prelude.{◌≡◌, None, false};
+ghost use Rattle.std.specs.Prelude.{◌≡◌, [], None, false};
 
 use crate::macro_tests::repeated;
 use engine_state::{Broken, Engine};
-use line_reader::Reader;
+use line_reader::Readers;
 use std::alloc::{AllocError, Global};
-use stomach::{Early, Ended, NameBuffer, run_steps};
+use stomach::{Early, Ended, run_steps};
 use tex_defs::{Full, Sizes, Table};
 use tex_syntax::Outcome;
 use world_io::{Fault, Files, MemFiles, MemSink};
@@ -30,19 +30,24 @@ const LEAST: Sizes = Sizes {
 /// Runs the file of this name.
 fn run(
     engine: &mut Engine,
-    buffer: &mut NameBuffer,
+    readers: &mut Readers,
     name: &[u8],
     files: &mut MemFiles,
     out: &mut MemSink,
 ) -> Result<Ended, Early>
     requires idle { engine.old.input.making ≡ None }
     requires running { engine.old.stopped ≡ false }
+    requires none { readers.old.readers ≡ [] }
 {
-    let Some(id) = files.open_in(name)? else {
-        return Err(Early::Unread(Fault::Failed));
-    };
     engine.keep_name(name)?;
-    run_steps(engine, buffer, &mut Reader::new(id), files, out, 1000000)
+    if engine.input.has_next() || engine.input.file_room().is_some() || !readers.has_room() {
+        return Err(Early::Unread(Fault::Failed));
+    }
+    if !readers.open(files, name)? {
+        return Err(Early::Unread(Fault::Failed));
+    }
+    engine.input.open_file();
+    run_steps(engine, readers, files, out, 1000000)
 }
 
 /// Whether the run came to where this table is full, or else to its end without a report.
@@ -54,33 +59,52 @@ fn came(engine: &Engine, ended: Result<Ended, Early>, full: Option<Full>) -> boo
     }
 }
 
-/// A job's name, and its text.
+/// A file's name, and its text.
 type Job<'a> = (&'a [u8], &'a [u8]);
 
-/// As `words_at`, over these files and this sink.
+/// As `words_with`, over these files and this sink.
 fn words_over(
     alloc: Global,
     sizes: &Sizes,
-    job: Job,
+    held: &[Job],
     expected: (&[u8], Option<Full>),
     files: &mut MemFiles,
     out: &mut MemSink,
 ) -> Result<Option<u32>, AllocError> {
+    let Some(job) = held.first() else {
+        return Ok(None);
+    };
     if sizes.check().is_err() {
         return Ok(None);
     }
-    files.add(job.0, job.1)?;
-    let mut buffer = NameBuffer::new(alloc, sizes)?;
+    for file in held {
+        files.add(file.0, file.1)?;
+    }
+    let mut readers = Readers::new(alloc, sizes.text_input_levels)?;
     let mut engine = Engine::new(alloc, sizes, true)?;
-    let ended = run(&mut engine, &mut buffer, job.0, files, out);
+    let ended = run(&mut engine, &mut readers, job.0, files, out);
     let came = came(&engine, ended, expected.1) && out.bytes() == expected.0;
     let words = engine.words();
     engine.close();
     Ok(came.then_some(words))
 }
 
-/// The words of main memory that are used where the job's run within these sizes, without token lines, has ended, if it has
-/// written so and came to where this table is full, or else to its end without a report.
+/// The words of main memory that are used where the run of the first of these files within these sizes, without token lines, has ended, if it
+/// has written so and came to where this table is full, or else to its end without a report.
+fn words_with(
+    alloc: Global,
+    sizes: &Sizes,
+    held: &[Job],
+    written: &[u8],
+    full: Option<Full>,
+) -> Option<u32> {
+    let mut files = MemFiles::new(alloc);
+    let mut out = MemSink::new(alloc);
+    let words = words_over(alloc, sizes, held, (written, full), &mut files, &mut out);
+    words.unwrap_or(None)
+}
+
+/// The same of a job that is the only file.
 fn words_at(
     alloc: Global,
     sizes: &Sizes,
@@ -88,10 +112,7 @@ fn words_at(
     written: &[u8],
     full: Option<Full>,
 ) -> Option<u32> {
-    let mut files = MemFiles::new(alloc);
-    let mut out = MemSink::new(alloc);
-    let words = words_over(alloc, sizes, job, (written, full), &mut files, &mut out);
-    words.unwrap_or(None)
+    words_with(alloc, sizes, &[job], written, full)
 }
 
 /// A message; a line of 79 bytes; a text of 99 tokens: each with what it writes.
@@ -258,6 +279,55 @@ const CALLS: [(Sizes, &[u8], Table, u32); 3] = [
 fn levels_and_arguments_are_refused_at_their_least_sizes(rt: HostRuntime) {
     for row in &CALLS {
         assert!(rt; words_where_full(rt.alloc(), &row.0, row.1, row.2, row.3).is_some());
+    }
+}
+
+/// Six files that may be open.
+const SIX_FILES: Sizes = Sizes {
+    text_input_levels: 6,
+    ..LEAST
+};
+
+/// A job and three files beneath it, each in a line of the one before it.
+const FOUR: [Job; 4] = [
+    (b"job", b"\\input a \\end\n"),
+    (b"a.tex", b"\\input b %\n"),
+    (b"b.tex", b"\\input c %\n"),
+    (b"c.tex", b"%\n"),
+];
+
+/// The same with one file more; and two beneath the job, of which each leaves a token put back behind its name.
+const MORE: [[Job; 5]; 2] = [
+    [
+        (b"job", b"\\input a \\end\n"),
+        (b"a.tex", b"\\input b %\n"),
+        (b"b.tex", b"\\input c %\n"),
+        (b"c.tex", b"\\input d %\n"),
+        (b"d.tex", b"%\n"),
+    ],
+    [
+        (b"job", b"\\input a\\end\n"),
+        (b"a.tex", b"\\input b\\relax\n"),
+        (b"b.tex", b"%\n"),
+        (b"c.tex", b"%\n"),
+        (b"d.tex", b"%\n"),
+    ],
+];
+
+#[test]
+fn each_file_has_a_level(rt: HostRuntime) {
+    let alloc = rt.alloc();
+    assert!(rt; words_with(alloc, &SIX_FILES, &FOUR, b"", None) == Some(0));
+    let full = Full {
+        table: Table::InputStackSize,
+        used: 4,
+        size: 4,
+    };
+    for (k, held) in MORE.iter().enumerate() {
+        assert!(rt;
+            words_with(alloc, &SIX_FILES, held, b"", Some(full)).is_some(),
+            "row {k}"
+        );
     }
 }
 

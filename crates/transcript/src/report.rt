@@ -282,7 +282,7 @@ pub fn write_error_message<S: Sink>(
     )
 }
 
-/// Writes the report that a file isn't held, with its name printed.
+/// Writes the report that a file isn't held, with its name printed, and the number of the line that is read.
 ///
 /// # Errors
 /// A write failed or wanted memory; the sink took a front of the report.
@@ -290,15 +290,16 @@ pub fn write_missing_file<S: Sink>(
     out: &mut S,
     in_line: &mut bool,
     view: View<'_>,
+    line: u64,
     file: &[u8],
 ) -> Result<(), Fault>
     requires { IsView view }
-    ensures ok { OnOk result (Took (S.told out.old) (S.told out.new) in_line.old in_line.new (missing_file_bytes (style_of view.entry) in_line.old 0 file.now)) }
-    ensures err { IfErr result (λ fault. TookFront (S.told out.old) (S.told out.new) in_line.old in_line.new (missing_file_bytes (style_of view.entry) in_line.old 0 file.now) fault) }
+    ensures ok { OnOk result (Took (S.told out.old) (S.told out.new) in_line.old in_line.new (missing_file_bytes (style_of view.entry) in_line.old line file.now)) }
+    ensures err { IfErr result (λ fault. TookFront (S.told out.old) (S.told out.new) in_line.old in_line.new (missing_file_bytes (style_of view.entry) in_line.old line file.now) fault) }
 {
     let mut before = report_mark(view.names.newline, *in_line);
     put_fixed(&mut before, view.names.newline, b"I can't find file `");
-    let behind = line_number(view.names.newline, b"'", 0);
+    let behind = line_number(view.names.newline, b"'", line);
     put_around(
         out,
         in_line,

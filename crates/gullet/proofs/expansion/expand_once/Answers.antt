@@ -2,7 +2,7 @@ use Rattle.std.proofs.Common.{[], ◌∷◌, sym, ap, subst, ◌∙◌}
 use Rattle.tex_syntax.specs.declared.words.Report.TheVariants.{UndefinedName}
 use Rattle.input_state.specs.Stored.{Stored}
 use Rattle.reading_frames.specs.Sees.{kind_of}
-use Rattle.plain_machine.specs.Plan.{reported, called, expanded}
+use Rattle.plain_machine.specs.Plan.{reported, called, input_met, expanded}
 use Rattle.plain_machine.specs.States.{Begun}
 use Rattle.engine_state.specs.declared.broken.Broken.TheVariants as broken
 use Rattle.engine_state.specs.Stands.{state_of, page_of}
@@ -72,6 +72,19 @@ returns-in_ok-put_job-in-JobName-clause-rule g c = let e = c.args.engine.now in 
     λ sizes f book moves st.
     went_by sizes (state_of e book) c.put_job.new.engine _ _ (job_moves (page_of e book) k) (expanded (page_of e book) c.args.seen moves) 0 (moves_as (page_of e book) c.args.seen moves c.in-JobName.is (c.expansion_of.ensures.to (page_of e book) moves))
     (column_went sizes (state_of e book) c.put_job.new.engine f _ e.in_line (job_moves (page_of e book) k) 0 c.put_job.ensures.column (n.ensures.rule sizes _ book st))
+
+pub returns-in_err-begin_input-in-Input-clause-err : goal.returns-in_err-begin_input-in-Input-clause-err
+returns-in_err-begin_input-in-Input-clause-err g c = let e = c.args.engine.now in let n = c.in_err-begin_input-in-Input in let i = c.in-Input in
+    same_err c.from_residual-in_err-begin_input-in-Input.result n.field-0.0 _ c.from_residual-in_err-begin_input-in-Input.ensures.1
+    (λ sizes f book moves st.
+    in_by sizes (state_of e book) c.begin_input.new.engine _ _ (input_met (page_of e book) i.token i.call) (expanded (page_of e book) c.args.seen moves) n.field-0.0 (moves_as (page_of e book) c.args.seen moves i.is (c.expansion_of.ensures.to (page_of e book) moves))
+    (column_in sizes (state_of e book) c.begin_input.new.engine f _ e.in_line (input_met (page_of e book) i.token i.call) n.field-0.0 c.begin_input.ensures.column (n.ensures.err sizes _ book st)))
+
+pub returns-in_ok-begin_input-in-Input-clause-rule : goal.returns-in_ok-begin_input-in-Input-clause-rule
+returns-in_ok-begin_input-in-Input-clause-rule g c = let e = c.args.engine.now in let n = c.in_ok-begin_input-in-Input in let i = c.in-Input in
+    λ sizes f book moves st.
+    went_by sizes (state_of e book) c.begin_input.new.engine _ _ (input_met (page_of e book) i.token i.call) (expanded (page_of e book) c.args.seen moves) 0 (moves_as (page_of e book) c.args.seen moves i.is (c.expansion_of.ensures.to (page_of e book) moves))
+    (column_went sizes (state_of e book) c.begin_input.new.engine f _ e.in_line (input_met (page_of e book) i.token i.call) 0 c.begin_input.ensures.column (n.ensures.rule sizes _ book st))
 
 pub returns-in-Unexpandable-clause-rule : goal.returns-in-Unexpandable-clause-rule
 returns-in-Unexpandable-clause-rule g c = let e = c.args.engine.now in

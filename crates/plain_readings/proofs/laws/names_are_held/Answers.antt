@@ -1,12 +1,15 @@
 -- By induction over the characters.
-use Rattle.std.proofs.Common.{Bool, true, false, List, [], ◌∷◌, ◌++◌, refl, ap, subst, append_assoc}
+use Rattle.std.proofs.Common.{Bool, true, false, List, [], ◌∷◌, ◌++◌, Option, Some, None, refl, ap, subst, append_assoc}
 use Rattle.std.proofs.lemmas.List.{append-nil}
 use Rattle.std.specs.Prelude.{if◌then◌else◌}
 use Rattle.tex_defs.specs.declared.Token.{Token}
+use Rattle.tex_syntax.specs.declared.words.Want.{Want}
+use Rattle.tex_syntax.specs.declared.words.Want.TheVariants.{Expanded, Nonblank}
 use Rattle.rows.specs.declared.command.Call.{Call}
 use Rattle.rows.specs.Tokens.{is_character}
 use Rattle.rows.specs.Readings.{Fed, Tok, Told, Ask}
 use Rattle.plain_readings.specs.Spelling.{is_endcsname, makes, endcsname_missing, spelling, characters}
+use Rattle.plain_readings.specs.FileNames.{character_meant, is_blank, opens, named_on, file_naming, character_before, file_characters}
 use Rattle.plain_readings.specs.Laws.{Spells}
 use Rattle.plain_readings.proofs.laws.names_are_held.Goals as goal
 
@@ -37,5 +40,24 @@ spelt c ts (Tok x ∷ fed) =
     (either (is_endcsname x) c (ts ++ []) _ _ (made c ts) (missing c ts fed))
 spelt c ts (y ∷ fed) = tt
 
+-- THE NAME OF A FILE
+
+opened : (c : Call) (back : Bool) (ts : List Token) → Held c (ts ++ []) (opens c back ts)
+opened c back ts = (refl, ap (λ (us : List Token). us ∷ []) (append-nil ts))
+
+blank : (b : Bool) (c : Call) (ts us : List Token) (t : Token) (p q : Ask) → Held c (ts ++ []) p → Held c ((ts ++ t ∷ []) ++ us) q → Held c (ts ++ (if b then [] else t ∷ us)) (if b then p else q)
+blank true c ts us t p q h i = h
+blank false c ts us t p q h i = subst (λ (held : List Token). Held c held q) (append_assoc ts (t ∷ []) us) i
+
+meant : (o : Option Token) (c : Call) (ts us : List Token) (longer : List Token → Ask) → ((vs : List Token) → Held c (vs ++ us) (longer vs)) →
+    Held c (ts ++ character_before o us) (named_on c ts o longer)
+meant None c ts us longer h = opened c true ts
+meant (Some t) c ts us longer h = blank (is_blank t) c ts us t _ _ (opened c false ts) (h (ts ++ t ∷ []))
+
+named : (c : Call) (want : Want) (ts : List Token) (fed : List Fed) → Held c (ts ++ file_characters fed) (file_naming c want ts fed)
+named c want ts [] = tt
+named c want ts (Tok x ∷ fed) = meant (character_meant x.meaning) c ts (file_characters fed) (λ us. file_naming c Expanded us fed) (λ us. named c Expanded us fed)
+named c want ts (y ∷ fed) = tt
+
 pub returns : goal.returns
-returns _ c fed = spelt c [] fed
+returns _ = record { names = λ c fed. spelt c [] fed; files = λ c fed. named c Nonblank [] fed }

@@ -7,6 +7,7 @@ returns c = record {
   integers = record { decimal = refl; octal = refl; hexadecimal = refl; code = refl; code_of_name = refl; signs = refl };
   reports = record { missing = refl; no_octal = refl; improper = refl; greatest = refl; too_big = refl };
   names = record { name = refl; name_held = refl; empty = refl; let_name = refl; missing = refl; missing_held = refl };
+  files = record { space = refl; space_held = refl; relax = refl; relax_held = refl; implicit = refl; implicit_held = refl; empty = refl; active = refl };
   built = record { text = refl; text_held = refl; raw_text = refl; brace = refl; message_held = refl; empty_message_held = refl; number_held = refl; def_held = refl; waiting = refl; waiting_held = refl; macro_held = refl };
   calls = record { arguments = refl; arguments_held = refl; empty = refl; empty_held = refl; extra = refl; paragraph = refl; checked = refl; checked_held = refl; mismatch = refl };
   checks = record { text = refl; number = refl; behind = refl; unguarded = refl; within_unguarded = refl; call = refl; argument = refl; command = refl; none = refl };

@@ -1,31 +1,34 @@
-use Rattle.std.proofs.Common.{◌∷◌, List, refl, ap, ◌∙◌, sym, subst}
+use Rattle.std.proofs.Common.{◌∷◌, List, ap, ◌∙◌, sym, subst}
 use Rattle.std.specs.Prelude.{Some}
 use Rattle.tex_defs.specs.declared.Token.{Token}
 use Rattle.rows.specs.Readings as reading
 use Rattle.reading_frames.specs.Weights.{IsReported}
 use Rattle.reading_frames.specs.declared.ask.Ask.TheVariants.{More, Inner, Done, Acts, ActsOn, Defines, Ends, Tells, Inserts}
+use Rattle.reading_frames.specs.Sees.{kept_list_of}
+use Rattle.plain_machine.specs.States.{no_files}
 use Rattle.engine_state.specs.Book.{with_work}
+use Rattle.engine_state.specs.Stands.{page_of}
 use Rattle.engine_state.specs.declared.outcome.Ruled.TheVariants.{Free}
 use Rattle.gullet.proofs.CallWeighing.{steps_as_one, free_steps}
 use Rattle.gullet.proofs.Ending.{no_ok, no_on}
 use Rattle.engine_state.proofs.Joining.{same_err, ok_to, ok_both, err_to, column_went}
-use Rattle.engine_state.proofs.CuttingReadings.{column_in}
-use Rattle.stomach.proofs.RuleAsks.{asked_bare, asked_cuts, asked_here, asked_rules, asked_steps, more_taken, none_kept}
+use Rattle.engine_state.proofs.CuttingReadings.{column_in, in_by}
+use Rattle.stomach.proofs.RuleAsks.{acts_as, asked_bare, asked_cuts, asked_here, asked_rules, asked_steps, more_taken, none_kept, not_started}
 use Rattle.stomach.proofs.RuleCloses.{closed_alone, closed_lighter}
-use Rattle.stomach.proofs.RuleHalts.{framed_rules}
+use Rattle.stomach.proofs.RuleHalts.{framed_rules, rules_by}
 use Rattle.stomach.proofs.rules.ask_rule.Goals as goal
 
 -- A TOKEN IS WANTED
 
 pub returns-in-More-clause-rule : goal.returns-in-More-clause-rule
 returns-in-More-clause-rule g c = let e = c.args.engine.now in let n = c.token_rule in let i = c.in-More in
-    ok_both n.result (λ ruled h same sizes f book roomy. asked_rules e n.new.engine _ _ c.args.ask (More i.want) ruled i.is c.requires.stands sizes f
+    ok_both n.result (λ ruled h same sizes f book. asked_rules e n.new.engine _ _ c.args.ask (More i.want) ruled i.is c.requires.stands sizes f
     (λ b r rs st. framed_rules sizes e n.new.engine (with_work (r ∷ rs) b) _ _ _ ruled st same
     (h sizes f (with_work (r ∷ rs) b) (more_taken sizes e i.want (with_work (r ∷ rs) b) c.requires.uncalled (asked_here e c.args.ask (More i.want) i.is c.requires.asks) st))) book) n.ensures.rule n.ensures.halts
 
 pub returns-in-More-clause-err : goal.returns-in-More-clause-err
 returns-in-More-clause-err g c = let e = c.args.engine.now in let n = c.token_rule in let i = c.in-More in
-    err_to n.result (λ why h sizes f book roomy. asked_cuts e n.new.engine _ _ c.args.ask (More i.want) why i.is c.requires.stands sizes f
+    err_to n.result (λ why h sizes f book. asked_cuts e n.new.engine _ _ c.args.ask (More i.want) why i.is c.requires.stands sizes f
     (λ b r rs st. h sizes f (with_work (r ∷ rs) b) (more_taken sizes e i.want (with_work (r ∷ rs) b) c.requires.uncalled (asked_here e c.args.ask (More i.want) i.is c.requires.asks) st)) book) n.ensures.err
 
 pub returns-in-More-clause-step : goal.returns-in-More-clause-step
@@ -36,12 +39,12 @@ returns-in-More-clause-step g c = let e = c.args.engine.now in let n = c.token_r
 
 pub returns-in_ok-begin_inner-in-Inner-clause-rule : goal.returns-in_ok-begin_inner-in-Inner-clause-rule
 returns-in_ok-begin_inner-in-Inner-clause-rule g c = let e = c.args.engine.now in let e' = c.begin_inner.new.engine in let i = c.in-Inner in let n = c.in_ok-begin_inner-in-Inner.ensures in let s = g.S.Sink.told c.args.out.now in
-    λ sizes f book roomy. asked_rules e e' s s c.args.ask (Inner i.kind i.begins) Free i.is c.requires.stands sizes f (λ b r rs st. column_went sizes _ e' f s e.in_line _ 0 n.column (n.rule sizes _ b r rs st (asked_here e c.args.ask (Inner i.kind i.begins) i.is c.requires.asks))) book
+    λ sizes f book. asked_rules e e' s s c.args.ask (Inner i.kind i.begins) Free i.is c.requires.stands sizes f (λ b r rs st. column_went sizes _ e' f s e.in_line _ 0 n.column (n.rule sizes _ b r rs st (asked_here e c.args.ask (Inner i.kind i.begins) i.is c.requires.asks))) book
 
 pub returns-in_err-begin_inner-in-Inner-clause-err : goal.returns-in_err-begin_inner-in-Inner-clause-err
 returns-in_err-begin_inner-in-Inner-clause-err g c = let e = c.args.engine.now in let e' = c.begin_inner.new.engine in let i = c.in-Inner in let n = c.in_err-begin_inner-in-Inner in let s = g.S.Sink.told c.args.out.now in
     same_err c.from_residual.result n.field-0.0 _ c.from_residual.ensures.1
-    (λ sizes f book roomy. asked_cuts e e' s s c.args.ask (Inner i.kind i.begins) n.field-0.0 i.is c.requires.stands sizes f (λ b r rs st. column_in sizes _ e' f s e.in_line _ n.field-0.0 n.ensures.column (n.ensures.err sizes _ b r rs st)) book)
+    (λ sizes f book. asked_cuts e e' s s c.args.ask (Inner i.kind i.begins) n.field-0.0 i.is c.requires.stands sizes f (λ b r rs st. column_in sizes _ e' f s e.in_line _ n.field-0.0 n.ensures.column (n.ensures.err sizes _ b r rs st)) book)
 
 pub returns-in_ok-begin_inner-in-Inner-clause-light : goal.returns-in_ok-begin_inner-in-Inner-clause-light
 returns-in_ok-begin_inner-in-Inner-clause-light g c free = let i = c.in-Inner in c.in_ok-begin_inner-in-Inner.ensures.light (asked_bare c.args.engine.now c.args.ask (Inner i.kind i.begins) i.is c.requires.asks)
@@ -51,12 +54,12 @@ returns-in_ok-begin_inner-in-Inner-clause-step g c = let e = c.args.engine.now i
 
 pub returns-in_ok-done-in-Done-clause-rule : goal.returns-in_ok-done-in-Done-clause-rule
 returns-in_ok-done-in-Done-clause-rule g c = let e = c.args.engine.now in let e' = c.done.new.engine in let i = c.in-Done in let n = c.in_ok-done-in-Done.ensures in let s = g.S.Sink.told c.args.out.now in
-    λ sizes f book roomy. asked_rules e e' s s c.args.ask (Done i.value i.back) Free i.is c.requires.stands sizes f (λ b r rs st. column_went sizes _ e' f s e.in_line _ 0 n.column (n.rule sizes _ b r rs st (asked_here e c.args.ask (Done i.value i.back) i.is c.requires.asks))) book
+    λ sizes f book. asked_rules e e' s s c.args.ask (Done i.value i.back) Free i.is c.requires.stands sizes f (λ b r rs st. column_went sizes _ e' f s e.in_line _ 0 n.column (n.rule sizes _ b r rs st (asked_here e c.args.ask (Done i.value i.back) i.is c.requires.asks))) book
 
 pub returns-in_err-done-in-Done-clause-err : goal.returns-in_err-done-in-Done-clause-err
 returns-in_err-done-in-Done-clause-err g c = let e = c.args.engine.now in let e' = c.done.new.engine in let i = c.in-Done in let n = c.in_err-done-in-Done in let s = g.S.Sink.told c.args.out.now in
     same_err c.from_residual-in_err-done-in-Done.result n.field-0.0 _ c.from_residual-in_err-done-in-Done.ensures.1
-    (λ sizes f book roomy. asked_cuts e e' s s c.args.ask (Done i.value i.back) n.field-0.0 i.is c.requires.stands sizes f (λ b r rs st. column_in sizes _ e' f s e.in_line _ n.field-0.0 n.ensures.column (n.ensures.err sizes _ b r rs st)) book)
+    (λ sizes f book. asked_cuts e e' s s c.args.ask (Done i.value i.back) n.field-0.0 i.is c.requires.stands sizes f (λ b r rs st. column_in sizes _ e' f s e.in_line _ n.field-0.0 n.ensures.column (n.ensures.err sizes _ b r rs st)) book)
 
 pub returns-in_ok-done-in-Done-clause-light : goal.returns-in_ok-done-in-Done-clause-light
 returns-in_ok-done-in-Done-clause-light g c free = let i = c.in-Done in c.in_ok-done-in-Done.ensures.light (asked_bare c.args.engine.now c.args.ask (Done i.value i.back) i.is c.requires.asks)
@@ -68,11 +71,11 @@ returns-in_ok-done-in-Done-clause-step g c = let e = c.args.engine.now in let i 
 
 pub returns-in-Acts-clause-rule : goal.returns-in-Acts-clause-rule
 returns-in-Acts-clause-rule g c = let e = c.args.engine.now in let n = c.act in let i = c.in-Acts in
-    ok_to n.result (λ ruled h sizes f book roomy. asked_rules e n.new.engine _ _ c.args.ask (Acts i.call i.effect) ruled i.is c.requires.stands sizes f (λ b r rs st. h sizes f b r rs st (asked_here e c.args.ask (Acts i.call i.effect) i.is c.requires.asks)) book) n.ensures.rule
+    ok_to n.result (λ ruled h sizes f book. asked_rules e n.new.engine _ _ c.args.ask (Acts i.call i.effect) ruled i.is c.requires.stands sizes f (λ b r rs st. h sizes f b r rs st (asked_here e c.args.ask (Acts i.call i.effect) i.is c.requires.asks)) book) n.ensures.rule
 
 pub returns-in-Acts-clause-err : goal.returns-in-Acts-clause-err
 returns-in-Acts-clause-err g c = let e = c.args.engine.now in let n = c.act in let i = c.in-Acts in
-    err_to n.result (λ why h sizes f book roomy. asked_cuts e n.new.engine _ _ c.args.ask (Acts i.call i.effect) why i.is c.requires.stands sizes f (λ b r rs st. h sizes f b r rs st (asked_here e c.args.ask (Acts i.call i.effect) i.is c.requires.asks)) book) n.ensures.err
+    err_to n.result (λ why h sizes f book. asked_cuts e n.new.engine _ _ c.args.ask (Acts i.call i.effect) why i.is c.requires.stands sizes f (λ b r rs st. h sizes f b r rs st (asked_here e c.args.ask (Acts i.call i.effect) i.is c.requires.asks)) book) n.ensures.err
 
 pub returns-in-Acts-clause-light : goal.returns-in-Acts-clause-light
 returns-in-Acts-clause-light g c = let e = c.args.engine.now in let n = c.act in let i = c.in-Acts in
@@ -84,11 +87,15 @@ returns-in-Acts-clause-step g c = let e = c.args.engine.now in let n = c.act in 
 
 pub returns-in-ActsOn-clause-rule : goal.returns-in-ActsOn-clause-rule
 returns-in-ActsOn-clause-rule g c = let e = c.args.engine.now in let n = c.act_on in let i = c.in-ActsOn in
-    ok_to n.result (λ ruled h sizes f book roomy. asked_rules e n.new.engine _ _ c.args.ask (ActsOn i.call i.effect i.listed) ruled i.is c.requires.stands sizes f (λ b r rs st. h sizes f b r rs roomy st) book) n.ensures.rule
+    let none = not_started e _ c.requires.uncalled (asked_here e c.args.ask (ActsOn i.call i.effect i.listed) i.is c.requires.asks) c.requires.no_start in
+    ok_to n.result (λ ruled h sizes f book. asked_rules e n.new.engine _ _ c.args.ask (ActsOn i.call i.effect i.listed) ruled i.is c.requires.stands sizes f
+    (λ b r rs st. rules_by sizes _ n.new.engine _ _ _ _ ruled (acts_as no_files (page_of e b) i.call i.effect (kept_list_of i.listed e.input.builds) none) (h sizes f b r rs st)) book) n.ensures.rule
 
 pub returns-in-ActsOn-clause-err : goal.returns-in-ActsOn-clause-err
 returns-in-ActsOn-clause-err g c = let e = c.args.engine.now in let n = c.act_on in let i = c.in-ActsOn in
-    err_to n.result (λ why h sizes f book roomy. asked_cuts e n.new.engine _ _ c.args.ask (ActsOn i.call i.effect i.listed) why i.is c.requires.stands sizes f (λ b r rs st. h sizes f b r rs roomy st) book) n.ensures.err
+    let none = not_started e _ c.requires.uncalled (asked_here e c.args.ask (ActsOn i.call i.effect i.listed) i.is c.requires.asks) c.requires.no_start in
+    err_to n.result (λ why h sizes f book. asked_cuts e n.new.engine _ _ c.args.ask (ActsOn i.call i.effect i.listed) why i.is c.requires.stands sizes f
+    (λ b r rs st. in_by sizes _ n.new.engine _ _ _ _ why (acts_as no_files (page_of e b) i.call i.effect (kept_list_of i.listed e.input.builds) none) (h sizes f b r rs st)) book) n.ensures.err
 
 pub returns-in-ActsOn-clause-light : goal.returns-in-ActsOn-clause-light
 returns-in-ActsOn-clause-light g c = let e = c.args.engine.now in let n = c.act_on in let i = c.in-ActsOn in
@@ -100,12 +107,12 @@ returns-in-ActsOn-clause-step g c = let e = c.args.engine.now in let n = c.act_o
 
 pub returns-in_ok-define-in-Defines-clause-rule : goal.returns-in_ok-define-in-Defines-clause-rule
 returns-in_ok-define-in-Defines-clause-rule g c = let e = c.args.engine.now in let e' = c.define.new.engine in let i = c.in-Defines in let n = c.in_ok-define-in-Defines.ensures in let s = g.S.Sink.told c.args.out.now in
-    λ sizes f book roomy. asked_rules e e' s s c.args.ask (Defines i.call i.name i.listed) Free i.is c.requires.stands sizes f (λ b r rs st. column_went sizes _ e' f s e.in_line _ 0 n.column (n.rule sizes _ b r rs st (asked_here e c.args.ask (Defines i.call i.name i.listed) i.is c.requires.asks))) book
+    λ sizes f book. asked_rules e e' s s c.args.ask (Defines i.call i.name i.listed) Free i.is c.requires.stands sizes f (λ b r rs st. column_went sizes _ e' f s e.in_line _ 0 n.column (n.rule sizes _ b r rs st (asked_here e c.args.ask (Defines i.call i.name i.listed) i.is c.requires.asks))) book
 
 pub returns-in_err-define-in-Defines-clause-err : goal.returns-in_err-define-in-Defines-clause-err
 returns-in_err-define-in-Defines-clause-err g c = let e = c.args.engine.now in let e' = c.define.new.engine in let i = c.in-Defines in let n = c.in_err-define-in-Defines in let s = g.S.Sink.told c.args.out.now in
     same_err c.from_residual-in_err-define-in-Defines.result n.field-0.0 _ c.from_residual-in_err-define-in-Defines.ensures.1
-    (λ sizes f book roomy. asked_cuts e e' s s c.args.ask (Defines i.call i.name i.listed) n.field-0.0 i.is c.requires.stands sizes f
+    (λ sizes f book. asked_cuts e e' s s c.args.ask (Defines i.call i.name i.listed) n.field-0.0 i.is c.requires.stands sizes f
     (λ b r rs st. column_in sizes _ e' f s e.in_line _ n.field-0.0 n.ensures.column (n.ensures.err sizes _ b r rs st (asked_here e c.args.ask (Defines i.call i.name i.listed) i.is c.requires.asks))) book)
 
 pub returns-in_ok-define-in-Defines-clause-light : goal.returns-in_ok-define-in-Defines-clause-light
@@ -117,7 +124,7 @@ returns-in_ok-define-in-Defines-clause-step g c = let e = c.args.engine.now in l
 
 pub returns-in-Ends-clause-rule : goal.returns-in-Ends-clause-rule
 returns-in-Ends-clause-rule g c = let e = c.args.engine.now in let e' = c.close_reading.new.self in let i = c.in-Ends in let n = c.close_reading.ensures in let s = g.S.Sink.told c.args.out.now in
-    λ sizes f book roomy. asked_rules e e' s s c.args.ask Ends Free i.is c.requires.stands sizes f (λ b r rs st. closed_alone e e' n.stands n.state n.same sizes b r rs f s st) book
+    λ sizes f book. asked_rules e e' s s c.args.ask Ends Free i.is c.requires.stands sizes f (λ b r rs st. closed_alone e e' n.stands n.state n.same sizes b r rs f s st) book
 
 pub returns-in-Ends-clause-light : goal.returns-in-Ends-clause-light
 returns-in-Ends-clause-light g c free = let e = c.args.engine.now in let i = c.in-Ends in let n = c.close_reading.ensures in
@@ -130,11 +137,11 @@ returns-in-Ends-clause-step g c = let e = c.args.engine.now in let i = c.in-Ends
 
 pub returns-in-Tells-clause-rule : goal.returns-in-Tells-clause-rule
 returns-in-Tells-clause-rule g c = let e = c.args.engine.now in let n = c.tell in let i = c.in-Tells in
-    ok_to n.result (λ ruled h sizes f book roomy. asked_rules e n.new.engine _ _ c.args.ask (Tells i.report i.back) ruled i.is c.requires.stands sizes f (λ b r rs st. h sizes f b r rs st) book) n.ensures.rule
+    ok_to n.result (λ ruled h sizes f book. asked_rules e n.new.engine _ _ c.args.ask (Tells i.report i.back) ruled i.is c.requires.stands sizes f (λ b r rs st. h sizes f b r rs st) book) n.ensures.rule
 
 pub returns-in-Tells-clause-err : goal.returns-in-Tells-clause-err
 returns-in-Tells-clause-err g c = let e = c.args.engine.now in let n = c.tell in let i = c.in-Tells in
-    err_to n.result (λ why h sizes f book roomy. asked_cuts e n.new.engine _ _ c.args.ask (Tells i.report i.back) why i.is c.requires.stands sizes f (λ b r rs st. h sizes f b r rs st) book) n.ensures.err
+    err_to n.result (λ why h sizes f book. asked_cuts e n.new.engine _ _ c.args.ask (Tells i.report i.back) why i.is c.requires.stands sizes f (λ b r rs st. h sizes f b r rs st) book) n.ensures.err
 
 pub returns-in-Tells-clause-light : goal.returns-in-Tells-clause-light
 returns-in-Tells-clause-light g c = let e = c.args.engine.now in let n = c.tell in let i = c.in-Tells in
@@ -146,11 +153,11 @@ returns-in-Tells-clause-step g c = let e = c.args.engine.now in let n = c.tell i
 
 pub returns-in-Inserts-clause-rule : goal.returns-in-Inserts-clause-rule
 returns-in-Inserts-clause-rule g c = let e = c.args.engine.now in let n = c.tell-in-Inserts in let i = c.in-Inserts in
-    ok_to n.result (λ ruled h sizes f book roomy. asked_rules e n.new.engine _ _ c.args.ask (Inserts i.token i.report i.back) ruled i.is c.requires.stands sizes f (λ b r rs st. h sizes f b r rs st) book) n.ensures.rule
+    ok_to n.result (λ ruled h sizes f book. asked_rules e n.new.engine _ _ c.args.ask (Inserts i.token i.report i.back) ruled i.is c.requires.stands sizes f (λ b r rs st. h sizes f b r rs st) book) n.ensures.rule
 
 pub returns-in-Inserts-clause-err : goal.returns-in-Inserts-clause-err
 returns-in-Inserts-clause-err g c = let e = c.args.engine.now in let n = c.tell-in-Inserts in let i = c.in-Inserts in
-    err_to n.result (λ why h sizes f book roomy. asked_cuts e n.new.engine _ _ c.args.ask (Inserts i.token i.report i.back) why i.is c.requires.stands sizes f (λ b r rs st. h sizes f b r rs st) book) n.ensures.err
+    err_to n.result (λ why h sizes f book. asked_cuts e n.new.engine _ _ c.args.ask (Inserts i.token i.report i.back) why i.is c.requires.stands sizes f (λ b r rs st. h sizes f b r rs st) book) n.ensures.err
 
 pub returns-in-Inserts-clause-light : goal.returns-in-Inserts-clause-light
 returns-in-Inserts-clause-light g c = let e = c.args.engine.now in let n = c.tell-in-Inserts in let i = c.in-Inserts in
@@ -168,41 +175,23 @@ returns-in-More-clause-light g c = c.token_rule.ensures.light
 pub returns-in-More-clause-idle : goal.returns-in-More-clause-idle
 returns-in-More-clause-idle g c = c.token_rule.ensures.idle
 
-pub returns-in-More-clause-capacity : goal.returns-in-More-clause-capacity
-returns-in-More-clause-capacity g c = refl
-
 pub returns-in-Acts-clause-idle : goal.returns-in-Acts-clause-idle
 returns-in-Acts-clause-idle g c = c.act.ensures.idle
-
-pub returns-in-Acts-clause-capacity : goal.returns-in-Acts-clause-capacity
-returns-in-Acts-clause-capacity g c = refl
 
 pub returns-in-ActsOn-clause-idle : goal.returns-in-ActsOn-clause-idle
 returns-in-ActsOn-clause-idle g c = c.act_on.ensures.idle
 
-pub returns-in-ActsOn-clause-capacity : goal.returns-in-ActsOn-clause-capacity
-returns-in-ActsOn-clause-capacity g c = c.act_on.ensures.capacity
-
 pub returns-in-Tells-clause-idle : goal.returns-in-Tells-clause-idle
 returns-in-Tells-clause-idle g c = c.tell.ensures.idle
 
-pub returns-in-Tells-clause-capacity : goal.returns-in-Tells-clause-capacity
-returns-in-Tells-clause-capacity g c = refl
-
 pub returns-in-Inserts-clause-idle : goal.returns-in-Inserts-clause-idle
 returns-in-Inserts-clause-idle g c = c.tell-in-Inserts.ensures.idle
-
-pub returns-in-Inserts-clause-capacity : goal.returns-in-Inserts-clause-capacity
-returns-in-Inserts-clause-capacity g c = refl
 
 pub returns-in_ok-begin_inner-in-Inner-clause-err : goal.returns-in_ok-begin_inner-in-Inner-clause-err
 returns-in_ok-begin_inner-in-Inner-clause-err g c = tt
 
 pub returns-in_ok-begin_inner-in-Inner-clause-idle : goal.returns-in_ok-begin_inner-in-Inner-clause-idle
 returns-in_ok-begin_inner-in-Inner-clause-idle g c = c.begin_inner.ensures.idle ∙ c.requires.idle
-
-pub returns-in_ok-begin_inner-in-Inner-clause-capacity : goal.returns-in_ok-begin_inner-in-Inner-clause-capacity
-returns-in_ok-begin_inner-in-Inner-clause-capacity g c = refl
 
 pub returns-in_err-begin_inner-in-Inner-clause-light : goal.returns-in_err-begin_inner-in-Inner-clause-light
 returns-in_err-begin_inner-in-Inner-clause-light g c = no_ok _ _ c.from_residual.result c.from_residual.ensures.1
@@ -216,17 +205,11 @@ returns-in_err-begin_inner-in-Inner-clause-rule g c = no_ok _ _ c.from_residual.
 pub returns-in_err-begin_inner-in-Inner-clause-idle : goal.returns-in_err-begin_inner-in-Inner-clause-idle
 returns-in_err-begin_inner-in-Inner-clause-idle g c = no_on _ _ c.from_residual.result c.from_residual.ensures.1
 
-pub returns-in_err-begin_inner-in-Inner-clause-capacity : goal.returns-in_err-begin_inner-in-Inner-clause-capacity
-returns-in_err-begin_inner-in-Inner-clause-capacity g c = refl
-
 pub returns-in_ok-done-in-Done-clause-err : goal.returns-in_ok-done-in-Done-clause-err
 returns-in_ok-done-in-Done-clause-err g c = tt
 
 pub returns-in_ok-done-in-Done-clause-idle : goal.returns-in_ok-done-in-Done-clause-idle
 returns-in_ok-done-in-Done-clause-idle g c = c.in_ok-done-in-Done.ensures.idle
-
-pub returns-in_ok-done-in-Done-clause-capacity : goal.returns-in_ok-done-in-Done-clause-capacity
-returns-in_ok-done-in-Done-clause-capacity g c = refl
 
 pub returns-in_err-done-in-Done-clause-light : goal.returns-in_err-done-in-Done-clause-light
 returns-in_err-done-in-Done-clause-light g c = no_ok _ _ c.from_residual-in_err-done-in-Done.result c.from_residual-in_err-done-in-Done.ensures.1
@@ -240,14 +223,8 @@ returns-in_err-done-in-Done-clause-rule g c = no_ok _ _ c.from_residual-in_err-d
 pub returns-in_err-done-in-Done-clause-idle : goal.returns-in_err-done-in-Done-clause-idle
 returns-in_err-done-in-Done-clause-idle g c = no_on _ _ c.from_residual-in_err-done-in-Done.result c.from_residual-in_err-done-in-Done.ensures.1
 
-pub returns-in_err-done-in-Done-clause-capacity : goal.returns-in_err-done-in-Done-clause-capacity
-returns-in_err-done-in-Done-clause-capacity g c = refl
-
 pub returns-in-Ends-clause-err : goal.returns-in-Ends-clause-err
 returns-in-Ends-clause-err g c = tt
 
 pub returns-in-Ends-clause-idle : goal.returns-in-Ends-clause-idle
 returns-in-Ends-clause-idle g c = c.close_reading.ensures.same.making ∙ c.requires.idle
-
-pub returns-in-Ends-clause-capacity : goal.returns-in-Ends-clause-capacity
-returns-in-Ends-clause-capacity g c = refl

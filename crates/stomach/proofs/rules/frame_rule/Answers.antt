@@ -1,4 +1,4 @@
-use Rattle.std.proofs.Common.{refl, sym}
+use Rattle.std.proofs.Common.{sym}
 use Rattle.std.specs.Prelude.{None}
 use Rattle.engine_state.specs.CutReadings.{CutsIn}
 use Rattle.engine_state.specs.Rules.{world_of}
@@ -13,12 +13,12 @@ use Rattle.stomach.proofs.rules.frame_rule.Goals as goal
 
 pub returns-in-None-clause-rule : goal.returns-in-None-clause-rule
 returns-in-None-clause-rule g c = let e = c.args.engine.now in let n = c.token_rule in let k = c.in-None.ensures in
-    ok_both n.result (λ ruled h same sizes f. λ book roomy. by_none sizes e (λ b plan. DoesRuleIn sizes (state_of e b) n.new.engine (world_of f (g.S.Sink.told c.args.out.now) e) (world_of f (g.S.Sink.told n.new.out) n.new.engine) plan ruled) k.asks k.stands c.requires.uncalled
+    ok_both n.result (λ ruled h same sizes f. λ book. by_none sizes e (λ b plan. DoesRuleIn sizes (state_of e b) n.new.engine (world_of f (g.S.Sink.told c.args.out.now) e) (world_of f (g.S.Sink.told n.new.out) n.new.engine) plan ruled) k.asks k.stands c.requires.uncalled
     (λ b t. framed_rules sizes e n.new.engine b _ _ _ ruled (framed sizes e b c.requires.uncalled t.1) same (h sizes f b t)) book) n.ensures.rule n.ensures.halts
 
 pub returns-in-None-clause-err : goal.returns-in-None-clause-err
 returns-in-None-clause-err g c = let e = c.args.engine.now in let n = c.token_rule in let k = c.in-None.ensures in
-    err_to n.result (λ why h sizes f. λ book roomy. by_none sizes e (λ b plan. CutsIn sizes (state_of e b) n.new.engine (world_of f (g.S.Sink.told c.args.out.now) e) (world_of f (g.S.Sink.told n.new.out) n.new.engine) plan why) k.asks k.stands c.requires.uncalled
+    err_to n.result (λ why h sizes f. λ book. by_none sizes e (λ b plan. CutsIn sizes (state_of e b) n.new.engine (world_of f (g.S.Sink.told c.args.out.now) e) (world_of f (g.S.Sink.told n.new.out) n.new.engine) plan why) k.asks k.stands c.requires.uncalled
     (λ b t. h sizes f b t) book) n.ensures.err
 
 pub returns-in-None-clause-step : goal.returns-in-None-clause-step
@@ -30,9 +30,6 @@ returns-in-None-clause-light g c = c.token_rule.ensures.light
 
 pub returns-in-None-clause-idle : goal.returns-in-None-clause-idle
 returns-in-None-clause-idle g c = c.token_rule.ensures.idle
-
-pub returns-in-None-clause-capacity : goal.returns-in-None-clause-capacity
-returns-in-None-clause-capacity g c = refl
 
 pub returns-in-Some-clause-rule : goal.returns-in-Some-clause-rule
 returns-in-Some-clause-rule g c = c.ask_rule.ensures.rule
@@ -48,6 +45,3 @@ returns-in-Some-clause-light g c = c.ask_rule.ensures.light
 
 pub returns-in-Some-clause-idle : goal.returns-in-Some-clause-idle
 returns-in-Some-clause-idle g c = c.ask_rule.ensures.idle
-
-pub returns-in-Some-clause-capacity : goal.returns-in-Some-clause-capacity
-returns-in-Some-clause-capacity g c = c.ask_rule.ensures.capacity

@@ -1,5 +1,6 @@
 use Rattle.std.proofs.Common.{◌≡◌, ◌≤◌, ◌-◌, false}
-use Rattle.std.specs.Prelude.{None, vec_capacity}
+use Rattle.std.specs.Prelude.{None}
+use Rattle.line_reader.specs.Readers.{AreOpen}
 use Rattle.stomach.specs.Read.{ReadsTo}
 use Rattle.stomach.proofs.Rounds.{CameTo}
 use Rattle.stomach.proofs.runs.make_run.Given as goal
@@ -7,8 +8,8 @@ use Rattle.stomach.proofs.runs.make_run.Given as goal
 abbrev pub invariant-loop-outcome : goal.invariant-loop-outcome
 invariant-loop-outcome g l =
     (l.taken ≤ l.n)
-    × ((((l.engine.input.making ≡ None) × (l.engine.stopped ≡ false)) × (vec_capacity l.buffer.text ≡ vec_capacity l.fn.buffer.text))
-    × ReadsTo l.fn.reader l.reader (g.F.Files.told l.fn.files) (g.F.Files.told l.files) (CameTo l.fn.buffer l.fn.engine (g.S.Sink.told l.fn.out) l.engine (g.S.Sink.told l.out) l.taken))
+    × ((((l.engine.input.making ≡ None) × (l.engine.stopped ≡ false)) × AreOpen l.readers.readers (g.F.Files.told l.files))
+    × ReadsTo l.fn.readers.readers l.readers.readers (g.F.Files.told l.fn.files) (g.F.Files.told l.files) (CameTo l.fn.readers l.fn.engine (g.S.Sink.told l.fn.out) l.readers l.engine (g.S.Sink.told l.out) l.taken))
 
 abbrev pub decreases-loop-outcome : goal.decreases-loop-outcome
 decreases-loop-outcome g l = l.n - l.taken

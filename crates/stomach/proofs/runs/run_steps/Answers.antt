@@ -6,9 +6,9 @@ use Rattle.stomach.proofs.runs.run_steps.Goals as goal
 pub returns-clause-run : goal.returns-clause-run
 returns-clause-run g c =
     let n = c.make_run-ended in
-    let b = c.args.buffer.now in
+    let rs = c.args.readers.now in
     let e = c.args.engine.now in
     let s = g.S.Sink.told c.args.out.now in
     let s' = g.S.Sink.told n.new.out in
-    reads_map _ c.args.reader.now n.new.reader _ _ _ n.ensures.run
-    (λ all left may h. match_to n.result (λ ended x. ran_noted true b e n.new.engine s s' c.args.n ended all left x) (λ y x. stopped_noted true b e n.new.engine s s' c.args.n y all left x) h)
+    reads_map _ rs.readers n.new.readers.readers _ _ _ n.ensures.run
+    (λ all left may may' h. match_to n.result (λ ended x. ran_noted true rs e n.new.engine s s' c.args.n ended all left x) (λ y x. stopped_noted true rs e n.new.engine s s' c.args.n y all left x) h)

@@ -1,126 +1,143 @@
-use Rattle.std.proofs.Common.{◌≡◌, ◌<◌, ◌∙◌, sym, ap, refl, false, [], arith}
+use Rattle.std.proofs.Common.{◌≡◌, ◌<◌, ◌∙◌, sym, ap, false, arith}
 use Rattle.std.proofs.lemmas.Grind.{common_steps}
+use Rattle.std.specs.Prelude.{Ok, Err}
 use Rattle.world_io.specs.declared.traits.Fault.TheVariants.{Failed, NoMemory}
+use Rattle.plain_machine.specs.Extended.{Rests}
 use Rattle.plain_machine.proofs.Doing.{rose_on}
-use Rattle.engine_state.specs.Steps.{weight, stepping, stops_run}
+use Rattle.engine_state.specs.Steps.{weight, stops_run}
 use Rattle.engine_state.proofs.Joining.{same_err}
 use Rattle.stomach.specs.declared.early.Early.{Early}
 use Rattle.stomach.specs.declared.early.Early.TheVariants as early
-use Rattle.stomach.proofs.CallSteps.{plan_silent}
+use Rattle.stomach.specs.Ahead.{IsGiven, needs_step}
+use Rattle.stomach.specs.Ran.{StoppedTo, RuledTo}
 use Rattle.stomach.proofs.Running.{when_free}
-use Rattle.stomach.proofs.Reading.{reads_none, reads_map, still_open}
-use Rattle.stomach.specs.Ran.{StoppedTo}
-use Rattle.stomach.proofs.Rounds.{CameTo, StopsTo, came_first, came_free, came_end, came_cut, idle_given, running_given, weight_given, same_fault, reads_err, reads_given, reads_unread}
+use Rattle.stomach.proofs.Reading.{no_left, reads_none, reads_then, reads_holds}
+use Rattle.stomach.proofs.Rounds.{CameTo, StopsTo, came_first, came_more, came_then, stops_then, stopped_then, idle_given, running_given, weight_given, same_fault, reads_err, ruled_end, ruled_err, ruled_free, unread_more}
 use Rattle.stomach.proofs.runs.run_to_step.Goals as goal
 
 pub loop-engine-init : goal.loop-engine-init
 loop-engine-init g c =
-    let b = c.args.buffer.now in
+    let rs = c.args.readers.now in
     let e = c.args.engine.now in
     let s = g.S.Sink.told c.args.out.now in
-    (((c.requires.idle, c.requires.running), refl), reads_none (CameTo b e s e s 0) c.args.reader.now (g.F.Files.told c.args.files.now) (λ all. came_first b e s all))
-
-pub read_ahead-requires : goal.read_ahead-requires
-read_ahead-requires g c =
-    let i = c.loop-engine.invariant.1 in
-    record { is_open = still_open c.args.reader.now c.loop-engine.reader _ _ i.got i.came c.requires.is_open }
+    (((c.requires.idle, c.requires.running), c.requires.open), reads_none (CameTo rs e s rs e s 0) rs.readers (g.F.Files.told c.args.files.now) (λ all. came_first rs e s all))
 
 pub returns-in_err-read_ahead-clause-run : goal.returns-in_err-read_ahead-clause-run
 returns-in_err-read_ahead-clause-run g c =
+    let l = c.loop-engine in
     let i = c.in_err-read_ahead in
     let x : Early = early.Unread i.field-0.0 in
-    reads_err c.from_residual.result x _ _ _ _ _ _ c.from_residual.ensures.1
-    (reads_unread c.args.buffer.now c.args.engine.now c.loop-engine.engine c.read_ahead.new.engine (g.S.Sink.told c.args.out.now) (g.S.Sink.told c.loop-engine.out) 0 0 i.field-0.0 c.args.reader.now c.loop-engine.reader c.read_ahead.new.reader
-    _ _ _ (omega arith) i.ensures.lacks c.loop-engine.invariant.1 i.ensures.came)
+    let rs0 = c.args.readers.now in
+    let e0 = c.args.engine.now in
+    let s0 = g.S.Sink.told c.args.out.now in
+    let s = g.S.Sink.told l.out in
+    let rs' = c.read_ahead.new.readers in
+    let e' = c.read_ahead.new.engine in
+    reads_err rs0 e0 s0 rs' e' s c.from_residual.result x _ _ c.from_residual.ensures.1
+    (reads_then (CameTo rs0 e0 s0 l.readers l.engine s 0) rs0.readers l.readers.readers rs'.readers _ _ _ (λ (all left : Rests). IsGiven all left l.engine e') (StoppedTo rs0 e0 s0 e' s 0 x) l.invariant.1 i.ensures.came
+    (λ all mid left a b. unread_more rs0 l.readers rs' e0 l.engine e' s0 s 0 0 i.field-0.0 all mid left (omega arith) i.ensures.lacks a b))
 
 pub returns-in_err-read_ahead-clause-fault : goal.returns-in_err-read_ahead-clause-fault
 returns-in_err-read_ahead-clause-fault g c =
     let i = c.in_err-read_ahead in
-    same_err c.from_residual.result (early.Unread i.field-0.0) _ c.from_residual.ensures.1 (λ is. rose_on _ _ _ c.loop-engine.invariant.1.came.read_faults (i.ensures.fault (same_fault i.field-0.0 Failed is)))
+    same_err c.from_residual.result (early.Unread i.field-0.0) _ c.from_residual.ensures.1 (λ is. rose_on _ _ _ c.loop-engine.invariant.1.read_faults (i.ensures.fault (same_fault i.field-0.0 Failed is)))
 
 pub returns-in_err-read_ahead-clause-want : goal.returns-in_err-read_ahead-clause-want
 returns-in_err-read_ahead-clause-want g c =
     let i = c.in_err-read_ahead in
-    same_err c.from_residual.result (early.Unread i.field-0.0) _ c.from_residual.ensures.1 (λ is. rose_on _ _ _ c.loop-engine.invariant.1.came.wants (i.ensures.want (same_fault i.field-0.0 NoMemory is)))
+    same_err c.from_residual.result (early.Unread i.field-0.0) _ c.from_residual.ensures.1 (λ is. rose_on _ _ _ c.loop-engine.invariant.1.wants (i.ensures.want (same_fault i.field-0.0 NoMemory is)))
 
 pub returns-then-needs_step-clause-run : goal.returns-then-needs_step-clause-run
 returns-then-needs_step-clause-run g c =
-    reads_given c.args.buffer.now c.args.engine.now c.loop-engine.engine c.read_ahead.new.engine (g.S.Sink.told c.args.out.now) (g.S.Sink.told c.loop-engine.out) 0 c.args.reader.now c.loop-engine.reader c.read_ahead.new.reader
-    _ _ _ c.loop-engine.invariant.1 c.in_ok-read_ahead.ensures.came
+    let l = c.loop-engine in
+    let i = c.in_ok-read_ahead.ensures in
+    let rs0 = c.args.readers.now in
+    let e0 = c.args.engine.now in
+    let s0 = g.S.Sink.told c.args.out.now in
+    let s = g.S.Sink.told l.out in
+    let rs' = c.read_ahead.new.readers in
+    let e' = c.read_ahead.new.engine in
+    reads_then (CameTo rs0 e0 s0 l.readers l.engine s 0) rs0.readers l.readers.readers rs'.readers _ _ _ (λ (all left : Rests). IsGiven all left l.engine e') (CameTo rs0 e0 s0 rs' e' s 0) l.invariant.1 i.came
+    (λ all mid left a b. came_more rs0 l.readers rs' e0 l.engine e' s0 s 0 all mid left i.tied a b)
 
 pub returns-then-needs_step-clause-idle : goal.returns-then-needs_step-clause-idle
-returns-then-needs_step-clause-idle g c =
-    let i = c.in_ok-read_ahead.ensures.came in
-    idle_given _ [] c.loop-engine.engine c.read_ahead.new.engine (i.holds [] (λ h. refl)) c.loop-engine.invariant.0.0.0
+returns-then-needs_step-clause-idle g c = idle_given _ no_left c.loop-engine.engine c.read_ahead.new.engine (reads_holds _ _ _ _ _ c.in_ok-read_ahead.ensures.came) c.loop-engine.invariant.0.0.0
 
 pub returns-then-needs_step-clause-runs : goal.returns-then-needs_step-clause-runs
-returns-then-needs_step-clause-runs g c =
-    let i = c.in_ok-read_ahead.ensures.came in
-    λ none. running_given _ [] c.loop-engine.engine c.read_ahead.new.engine (i.holds [] (λ h. refl)) c.loop-engine.invariant.0.0.1
+returns-then-needs_step-clause-runs g c = λ none. running_given _ no_left c.loop-engine.engine c.read_ahead.new.engine (reads_holds _ _ _ _ _ c.in_ok-read_ahead.ensures.came) c.loop-engine.invariant.0.0.1
 
-pub rule-requires : goal.rule-requires
-rule-requires g c =
-    let i = c.in_ok-read_ahead.ensures.came in
-    let given = i.holds [] (λ h. refl) in
-    record { idle = idle_given _ [] c.loop-engine.engine c.read_ahead.new.engine given c.loop-engine.invariant.0.0.0; running = running_given _ [] c.loop-engine.engine c.read_ahead.new.engine given c.loop-engine.invariant.0.0.1 }
+pub one_rule-requires : goal.one_rule-requires
+one_rule-requires g c =
+    let i = c.in_ok-read_ahead.ensures in
+    let given = reads_holds _ _ _ _ _ i.came in
+    record { idle = idle_given _ no_left c.loop-engine.engine c.read_ahead.new.engine given c.loop-engine.invariant.0.0.0; running = running_given _ no_left c.loop-engine.engine c.read_ahead.new.engine given c.loop-engine.invariant.0.0.1; «open» = i.open; knows = i.knows }
 
 pub returns-in_err-outcome-clause-run : goal.returns-in_err-outcome-clause-run
 returns-in_err-outcome-clause-run g c =
-    let i = c.in_err-outcome in
-    let b0 = c.args.buffer.now in
-    let b = c.loop-engine.buffer in
+    let l = c.loop-engine in
+    let i = c.in_ok-read_ahead.ensures in
+    let j = c.in_err-outcome in
+    let x : Early = j.field-0.0 in
+    let rs0 = c.args.readers.now in
     let e0 = c.args.engine.now in
-    let e = c.read_ahead.new.engine in
-    let e' = c.rule.new.engine in
     let s0 = g.S.Sink.told c.args.out.now in
-    let s = g.S.Sink.told c.loop-engine.out in
-    let s' = g.S.Sink.told c.rule.new.out in
-    let r = c.read_ahead.new.reader in
-    let silent : stepping e ≡ false = sym c.needs_step.ensures ∙ grind (arith, common_steps, c.if-needs_step.false) in
-    reads_err c.from_residual-in_err-outcome.result (early.Broken i.field-0.0) _ _ _ _ _ _ c.from_residual-in_err-outcome.ensures.1
-    (reads_map (CameTo b0 e0 s0 e s 0) c.args.reader.now r _ _ (StoppedTo b0 e0 s0 e' s' 0 (early.Broken i.field-0.0))
-    (reads_given b0 e0 c.loop-engine.engine e s0 s 0 c.args.reader.now c.loop-engine.reader r _ _ _ c.loop-engine.invariant.1 c.in_ok-read_ahead.ensures.came)
-    (λ all left may came. came_cut b0 b c.loop-engine.invariant.0.1 e0 e e' s0 s s' 0 r c.in_ok-read_ahead.ensures.knows all left may came 0 0 i.field-0.0 (omega arith) (λ sizes w h. omega (arith, plan_silent sizes e silent w h)) i.ensures.err))
+    let s = g.S.Sink.told l.out in
+    let rs = c.read_ahead.new.readers in
+    let e = c.read_ahead.new.engine in
+    let rs' = c.one_rule.new.readers in
+    let e' = c.one_rule.new.engine in
+    let s' = g.S.Sink.told c.one_rule.new.out in
+    let silent : needs_step e ≡ false = sym c.needs_step.ensures ∙ grind (arith, common_steps, c.if-needs_step.false) in
+    reads_err rs0 e0 s0 rs' e' s' c.from_residual-in_err-outcome.result x _ _ c.from_residual-in_err-outcome.ensures.1
+    (reads_then (CameTo rs0 e0 s0 rs e s 0) rs0.readers rs.readers rs'.readers _ _ _ (λ (all left : Rests). RuledTo rs e s rs' e' s' all left (Err x)) (StoppedTo rs0 e0 s0 e' s' 0 x)
+    (reads_then (CameTo rs0 e0 s0 l.readers l.engine s 0) rs0.readers l.readers.readers rs.readers _ _ _ (λ (all left : Rests). IsGiven all left l.engine e) (CameTo rs0 e0 s0 rs e s 0) l.invariant.1 i.came
+    (λ all mid left a b. came_more rs0 l.readers rs e0 l.engine e s0 s 0 all mid left i.tied a b)) j.ensures.rule
+    (λ all mid left a b. stopped_then rs0 rs rs' e0 e e' s0 s s' 0 all mid left a 0 0 x (omega arith) (ruled_err rs rs' e e' s s' mid left x false silent b)))
 
 pub returns-in-Halted-clause-run : goal.returns-in-Halted-clause-run
 returns-in-Halted-clause-run g c =
-    let i = c.in_ok-outcome.ensures in
+    let l = c.loop-engine in
+    let i = c.in_ok-read_ahead.ensures in
+    let j = c.in_ok-outcome in
     let o = c.in-Halted.outcome in
-    let b0 = c.args.buffer.now in
-    let b = c.loop-engine.buffer in
+    let rs0 = c.args.readers.now in
     let e0 = c.args.engine.now in
-    let e = c.read_ahead.new.engine in
-    let e' = c.rule.new.engine in
     let s0 = g.S.Sink.told c.args.out.now in
-    let s = g.S.Sink.told c.loop-engine.out in
-    let s' = g.S.Sink.told c.rule.new.out in
-    let r = c.read_ahead.new.reader in
-    let silent : stepping e ≡ false = sym c.needs_step.ensures ∙ grind (arith, common_steps, c.if-needs_step.false) in
-    reads_map (CameTo b0 e0 s0 e s 0) c.args.reader.now r _ _ (StopsTo b0 e0 s0 e' s' 0 o)
-    (reads_given b0 e0 c.loop-engine.engine e s0 s 0 c.args.reader.now c.loop-engine.reader r _ _ _ c.loop-engine.invariant.1 c.in_ok-read_ahead.ensures.came)
-    (λ all left may came. came_end b0 b c.loop-engine.invariant.0.1 e0 e e' s0 s s' 0 r c.in_ok-read_ahead.ensures.knows all left may came 0 o _ c.in-Halted.is (λ sizes w h. plan_silent sizes e silent w h) i.rule)
+    let s = g.S.Sink.told l.out in
+    let rs = c.read_ahead.new.readers in
+    let e = c.read_ahead.new.engine in
+    let rs' = c.one_rule.new.readers in
+    let e' = c.one_rule.new.engine in
+    let s' = g.S.Sink.told c.one_rule.new.out in
+    let silent : needs_step e ≡ false = sym c.needs_step.ensures ∙ grind (arith, common_steps, c.if-needs_step.false) in
+    reads_then (CameTo rs0 e0 s0 rs e s 0) rs0.readers rs.readers rs'.readers _ _ _ (λ (all left : Rests). RuledTo rs e s rs' e' s' all left (Ok j.field-0)) (StopsTo rs0 e0 s0 e' s' 0 o)
+    (reads_then (CameTo rs0 e0 s0 l.readers l.engine s 0) rs0.readers l.readers.readers rs.readers _ _ _ (λ (all left : Rests). IsGiven all left l.engine e) (CameTo rs0 e0 s0 rs e s 0) l.invariant.1 i.came
+    (λ all mid left a b. came_more rs0 l.readers rs e0 l.engine e s0 s 0 all mid left i.tied a b)) j.ensures.rule
+    (λ all mid left a b. stops_then rs0 rs rs' e0 e e' s0 s s' 0 all mid left a 0 o (ruled_end rs rs' e e' s s' mid left j.field-0 o false c.in-Halted.is silent b))
 
 pub loop-engine-smaller : goal.loop-engine-smaller
 loop-engine-smaller g c =
-    let i = c.in_ok-read_ahead.ensures.came in
-    let same : weight c.read_ahead.new.engine ≡ weight c.loop-engine.engine = weight_given _ [] c.loop-engine.engine c.read_ahead.new.engine (i.holds [] (λ h. refl)) in
-    let less : weight c.rule.new.engine < weight c.read_ahead.new.engine = c.in_ok-outcome.ensures.light (when_free _ c.in-Free.is) in
+    let same : weight c.read_ahead.new.engine ≡ weight c.loop-engine.engine = weight_given _ no_left c.loop-engine.engine c.read_ahead.new.engine (reads_holds _ _ _ _ _ c.in_ok-read_ahead.ensures.came) in
+    let less : weight c.one_rule.new.engine < weight c.read_ahead.new.engine = c.in_ok-outcome.ensures.light (when_free _ c.in-Free.is) in
     omega (arith, same, less)
 
 pub loop-engine-preserved : goal.loop-engine-preserved
 loop-engine-preserved g c =
-    let i = c.in_ok-outcome.ensures in
-    let b0 = c.args.buffer.now in
-    let b = c.loop-engine.buffer in
+    let l = c.loop-engine in
+    let i = c.in_ok-read_ahead.ensures in
+    let j = c.in_ok-outcome in
+    let rs0 = c.args.readers.now in
     let e0 = c.args.engine.now in
-    let e = c.read_ahead.new.engine in
-    let e' = c.rule.new.engine in
     let s0 = g.S.Sink.told c.args.out.now in
-    let s = g.S.Sink.told c.loop-engine.out in
-    let s' = g.S.Sink.told c.rule.new.out in
-    let r = c.read_ahead.new.reader in (
-      ((i.idle, i.stopped ∙ ap stops_run c.in-Free.is), i.capacity ∙ c.loop-engine.invariant.0.1),
-      reads_map (CameTo b0 e0 s0 e s 0) c.args.reader.now r _ _ (CameTo b0 e0 s0 e' s' 0)
-          (reads_given b0 e0 c.loop-engine.engine e s0 s 0 c.args.reader.now c.loop-engine.reader r _ _ _ c.loop-engine.invariant.1 c.in_ok-read_ahead.ensures.came)
-          (λ all left may came. came_free b0 b c.loop-engine.invariant.0.1 e0 e e' s0 s s' 0 r c.in_ok-read_ahead.ensures.knows all left may came _ c.in-Free.is i.rule),
+    let s = g.S.Sink.told l.out in
+    let rs = c.read_ahead.new.readers in
+    let e = c.read_ahead.new.engine in
+    let rs' = c.one_rule.new.readers in
+    let e' = c.one_rule.new.engine in
+    let s' = g.S.Sink.told c.one_rule.new.out in (
+      ((j.ensures.idle, j.ensures.running (ap stops_run c.in-Free.is)), j.ensures.open),
+      reads_then (CameTo rs0 e0 s0 rs e s 0) rs0.readers rs.readers rs'.readers _ _ _ (λ (all left : Rests). RuledTo rs e s rs' e' s' all left (Ok j.field-0)) (CameTo rs0 e0 s0 rs' e' s' 0)
+          (reads_then (CameTo rs0 e0 s0 l.readers l.engine s 0) rs0.readers l.readers.readers rs.readers _ _ _ (λ (all left : Rests). IsGiven all left l.engine e) (CameTo rs0 e0 s0 rs e s 0) l.invariant.1 i.came
+          (λ all mid left a b. came_more rs0 l.readers rs e0 l.engine e s0 s 0 all mid left i.tied a b)) j.ensures.rule
+          (λ all mid left a b. came_then rs0 rs rs' e0 e e' s0 s s' 0 all mid left a 0 (ruled_free rs rs' e e' s s' mid left j.field-0 c.in-Free.is b)),
     )

@@ -14,10 +14,10 @@ returns-clause-meaning g c =
     let told = c.run_file-told.result in
     let own = c.sizes-sizes.result in
     let sizes = sizes_of (record { steps = o.steps; main_memory_size = o.main_memory_size; quiet = o.quiet }) in
-    (told.in_line, rw same (means_by sizes own o.quiet name (f.file name) o.steps (world f s false) (world f' (g.S.Sink.told c.run_file-told.new.out) told.in_line) told.status c.sizes-sizes.ensures.sizes (c.run_file-told.ensures.means own o.quiet c.in-Ok.ensures c.in-Ok-new.ensures)))
+    (told.in_line, rw same (means_by sizes own o.quiet name f.file o.steps (world f s false) (world f' (g.S.Sink.told c.run_file-told.new.out) told.in_line) told.status c.sizes-sizes.ensures.sizes (c.run_file-told.ensures.means own o.quiet c.in-Ok-new.ensures)))
 
 pub returns-clause-write_fault : goal.returns-clause-write_fault
-returns-clause-write_fault g c = c.run_file-told.ensures.write_fault c.sizes-sizes.result c.args.job.now.quiet c.in-Ok.ensures c.in-Ok-new.ensures
+returns-clause-write_fault g c = c.run_file-told.ensures.write_fault c.sizes-sizes.result c.args.job.now.quiet c.in-Ok-new.ensures
 
 pub returns-in-Err-clause-meaning : goal.returns-in-Err-clause-meaning
 returns-in-Err-clause-meaning g c =
@@ -25,7 +25,7 @@ returns-in-Err-clause-meaning g c =
     let f = g.F.Files.told c.args.files.now in
     let s = g.S.Sink.told c.args.out.now in
     let sizes = sizes_of (record { steps = o.steps; main_memory_size = o.main_memory_size; quiet = o.quiet }) in
-    (t.result, means_no_room sizes o.quiet o.file.items (f.file o.file.items) o.steps (world f s false) (world f s false) (world f (g.S.Sink.told t.new.out) t.result) (wrote_none (world f s false)) (t.ensures.line f))
+    (t.result, means_no_room sizes o.quiet o.file.items f.file o.steps (world f s false) (world f s false) (world f (g.S.Sink.told t.new.out) t.result) (wrote_none (world f s false)) (t.ensures.line f))
 
 pub returns-in-Err-new-clause-meaning : goal.returns-in-Err-new-clause-meaning
 returns-in-Err-new-clause-meaning g c =
@@ -33,4 +33,4 @@ returns-in-Err-new-clause-meaning g c =
     let f = g.F.Files.told c.args.files.now in
     let s = g.S.Sink.told c.args.out.now in
     let sizes = sizes_of (record { steps = o.steps; main_memory_size = o.main_memory_size; quiet = o.quiet }) in
-    (t.result, means_no_room sizes o.quiet o.file.items (f.file o.file.items) o.steps (world f s false) (world f s false) (world f (g.S.Sink.told t.new.out) t.result) (wrote_none (world f s false)) (t.ensures.line f))
+    (t.result, means_no_room sizes o.quiet o.file.items f.file o.steps (world f s false) (world f s false) (world f (g.S.Sink.told t.new.out) t.result) (wrote_none (world f s false)) (t.ensures.line f))

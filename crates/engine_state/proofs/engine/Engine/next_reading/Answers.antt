@@ -87,12 +87,12 @@ pub returns-in_err-ruled-in-FileOver-clause-err : goal.returns-in_err-ruled-in-F
 returns-in_err-ruled-in-FileOver-clause-err g c = let e = c.args.self.now in let i = c.pull.new.self in let o = c.pull.ensures.others in let p = over_at _ _ c.args.self.now.input c.pull.new.self c.in_ok-token.ensures.ok c.in-FileOver.is in let n = c.in_err-ruled-in-FileOver in
     same_err c.from_residual-in_err-ruled-in-FileOver.result n.field-0.0 _ c.from_residual-in_err-ruled-in-FileOver.ensures.1
     (λ sizes f book want enters takes. closed_cuts sizes e i o book _ (page_of e book) want (scanning_of e book.work) (onward_of (page_of e book) want book.work) p _ c.check.new.self n.field-0.0
-    (in_by sizes _ c.check.new.self _ _ _ _ n.field-0.0 (checked_still sizes e i o book (file_gone sizes e i o book p)) (n.ensures.err sizes f book (want, takes_still sizes e i o want book (pull_store sizes e i o _ c.in_ok-token.ensures.ok c.pull.ensures.macros) takes))))
+    (in_by sizes _ c.check.new.self _ _ _ _ n.field-0.0 (checked_still sizes e i o book (file_gone sizes e i o book)) (n.ensures.err sizes f book (want, takes_still sizes e i o want book (pull_store sizes e i o _ c.in_ok-token.ensures.ok c.pull.ensures.macros) takes))))
 
 pub returns-in_ok-ruled-in-FileOver-clause-rule : goal.returns-in_ok-ruled-in-FileOver-clause-rule
 returns-in_ok-ruled-in-FileOver-clause-rule g c = let e = c.args.self.now in let i = c.pull.new.self in let o = c.pull.ensures.others in let p = over_at _ _ c.args.self.now.input c.pull.new.self c.in_ok-token.ensures.ok c.in-FileOver.is in let n = c.in_ok-ruled-in-FileOver in let e2 = c.check.new.self in
     λ sizes f book want enters takes. next_as sizes want _ e2 book _ _ _ (next_free n.ruled) _ c.skipping-in-FileOver.ensures (closed_nexts sizes e i o book _ (page_of e book) want (scanning_of e book.work) (onward_of (page_of e book) want book.work) p _ e2 n.ruled
-    (onward_by sizes _ e2 book _ _ _ _ n.ruled (checked_still sizes e i o book (file_gone sizes e i o book p)) (n.ensures.rule sizes f book (want, takes_still sizes e i o want book (pull_store sizes e i o _ c.in_ok-token.ensures.ok c.pull.ensures.macros) takes))))
+    (onward_by sizes _ e2 book _ _ _ _ n.ruled (checked_still sizes e i o book (file_gone sizes e i o book)) (n.ensures.rule sizes f book (want, takes_still sizes e i o want book (pull_store sizes e i o _ c.in_ok-token.ensures.ok c.pull.ensures.macros) takes))))
 
 pub returns-in_ok-ruled-in-FileOver-clause-step : goal.returns-in_ok-ruled-in-FileOver-clause-step
 returns-in_ok-ruled-in-FileOver-clause-step g c = let e = c.args.self.now in let i = c.pull.new.self in let o = c.pull.ensures.others in let p = over_at _ _ c.args.self.now.input c.pull.new.self c.in_ok-token.ensures.ok c.in-FileOver.is in

@@ -48,4 +48,4 @@ returns-in-Ok-clause-macros c =
     let xs = option_to_list i.making in
     let ys = reverse i.builds.items in
     let changed = begun i.lists c.begin.new.lists i.stack (named i.table i.call) xs ys b c.self.invariant.shared e.building e.fresh e.others e.account in
-    macros_view i.lists c.begin.new.lists i.stack (named i.table i.call) i.sizes i.making i.builds.items xs (b ∷ []) ys c.args.self.now changed c.self.invariant.shared.simple.single c.self.view_is
+    macros_view i.lists c.begin.new.lists i.stack (named i.table i.call) i.sizes i.making i.builds.items xs (b ∷ []) ys c.args.self.now changed c.self.view_is

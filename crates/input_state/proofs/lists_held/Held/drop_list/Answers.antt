@@ -3,7 +3,7 @@ use Rattle.std.specs.Prelude.{option_to_list}
 use Rattle.tex_defs.specs.declared.Token.{Token}
 use Rattle.input_stack.specs.View.{pending}
 use Rattle.input_state.specs.HeldLists.{HeldLists}
-use Rattle.input_state.specs.HeldViews.{named, calling_of, text, lists_of, fronts, made_text, line_of, texts}
+use Rattle.input_state.specs.HeldViews.{named, calling_of, text, lists_of, fronts, made_text, covers, texts}
 use Rattle.input_state.proofs.ListViews.{rest_view, macros_view, held_lists, reverse_push}
 use Rattle.input_state.proofs.Sounds.{gone, push_shared, push_building, changed_sound}
 use Rattle.input_state.proofs.lists_held.Held.drop_list.Goals as goal
@@ -38,7 +38,7 @@ returns-clause-after c =
     let was = push_building i.lists i.stack (named i.table i.call) i.making i.builds.items rest a c.in-Some.ensures.items c.self.invariant.shared in
     let changed = gone i.lists new i.stack (named i.table i.call) xs (reverse rest) a shared was e.others e.account in
     let p = pending i.lists i.stack in
-    let old : List (List Token) → HeldLists = λ us. held_lists (fronts i.lists p.puts) (made_text i.lists i.making) (calling_of i.lists i.call) us (line_of p.sources) i.table i.sizes (texts i.lists) in
+    let old : List (List Token) → HeldLists = λ us. held_lists (fronts i.lists p.puts) (made_text i.lists i.making) (calling_of i.lists i.call) us (covers i.lists p.sources) i.table i.sizes (texts i.lists) in
     let first : lists_of i.lists p i.making i.builds.items (named i.table i.call) i.sizes ≡ old (text i.lists a ∷ map (text i.lists) (reverse rest)) = ap (λ bs. old (map (text i.lists) bs)) (reverse_push i.builds.items rest a c.in-Some.ensures.items) in
     rest_view i.lists new i.stack (named i.table i.call) i.sizes i.making rest changed
     ∙ ap (λ (v : HeldLists). record v { builds = drop 1 v.builds; lists = texts new }) (sym first ∙ c.self.view_is)
@@ -54,4 +54,4 @@ returns-clause-macros c =
     let shared = push_shared i.lists i.stack (named i.table i.call) i.making i.builds.items rest a c.in-Some.ensures.items c.self.invariant.shared in
     let was = push_building i.lists i.stack (named i.table i.call) i.making i.builds.items rest a c.in-Some.ensures.items c.self.invariant.shared in
     let changed = gone i.lists new i.stack (named i.table i.call) xs (reverse rest) a shared was e.others e.account in
-    macros_view i.lists new i.stack (named i.table i.call) i.sizes i.making i.builds.items xs [] (reverse rest) c.args.self.now changed shared.simple.single c.self.view_is
+    macros_view i.lists new i.stack (named i.table i.call) i.sizes i.making i.builds.items xs [] (reverse rest) c.args.self.now changed c.self.view_is

@@ -1,7 +1,7 @@
 use Rattle.input_stack.specs.View.{pending}
 use Rattle.input_state.specs.HeldViews.{named}
-use Rattle.input_state.proofs.Sounds.{line_sound, end_simple, end_fewer}
-use Rattle.input_state.proofs.FileLines.{file_on_top, end_view}
+use Rattle.input_state.proofs.Sounds.{line_sound, end_puts}
+use Rattle.input_state.proofs.FileLines.{file_on_top, none_in_front, end_view}
 use Rattle.input_state.proofs.lists_held.Held.end_file.Goals as goal
 
 pub end_file-id-requires : goal.end_file-id-requires
@@ -14,9 +14,10 @@ invariant_of-self c =
     let i = c.self.inside in
     let e = c.end_file-id.ensures in
     let s = c.self.invariant.shared in
-    line_sound i.lists i.stack c.end_file-id.new.self i.making i.builds.items (named i.table i.call) i.sizes _ c.self.invariant (e.stands i.lists s.stands) e.held e.size e.parameter_size (end_simple (pending i.lists i.stack) (pending i.lists c.end_file-id.new.self) c.end_file-id.result s.simple (e.after i.lists)) (end_fewer (pending i.lists i.stack) (pending i.lists c.end_file-id.new.self) c.end_file-id.result s.simple (e.after i.lists))
+    let none = none_in_front i.lists i.making i.builds.items (named i.table i.call) i.sizes i.stack c.args.self.now c.self.view_is c.requires.front in
+    line_sound i.lists i.stack c.end_file-id.new.self i.making i.builds.items (named i.table i.call) i.sizes _ c.self.invariant (e.stands i.lists s.stands) e.held e.size e.parameter_size (end_puts (pending i.lists i.stack) (pending i.lists c.end_file-id.new.self) c.end_file-id.result none (e.after i.lists))
 
 pub returns : goal.returns
 returns c =
     let i = c.self.inside in
-    end_view i.lists i.making i.builds.items (named i.table i.call) i.sizes (pending i.lists i.stack) (pending i.lists c.end_file-id.new.self) c.end_file-id.result c.args.self.now c.self.invariant.shared.simple.single (c.end_file-id.ensures.after i.lists) c.self.view_is c.requires.front
+    end_view i.lists i.making i.builds.items (named i.table i.call) i.sizes (pending i.lists i.stack) (pending i.lists c.end_file-id.new.self) c.end_file-id.result c.args.self.now (c.end_file-id.ensures.after i.lists) c.self.view_is

@@ -10,7 +10,7 @@ use Rattle.token_lists.specs.Ids.{build_id}
 use Rattle.token_lists.specs.Table.{tokens_at}
 use Rattle.input_stack.specs.View.{pending}
 use Rattle.input_state.specs.HeldLists.{HeldLists, words_held}
-use Rattle.input_state.specs.HeldViews.{named, calling_of, text, lists_of, fronts, made_text, line_of, texts}
+use Rattle.input_state.specs.HeldViews.{named, calling_of, text, lists_of, fronts, made_text, covers, texts}
 use Rattle.input_state.proofs.ListViews.{first_view, same_first, macros_view, held_lists, reverse_push}
 use Rattle.input_state.proofs.Sounds.{grown, push_builds, push_shared, push_building, changed_sound, fits_now, full_now, match_of, ok_of, err_of}
 use Rattle.input_state.proofs.lists_held.Held.grow_list.Goals as goal
@@ -56,7 +56,7 @@ returns-clause-ok c =
     let was = push_building i.lists i.stack (named i.table i.call) i.making i.builds.items rest a c.in-Some.ensures.items c.self.invariant.shared in
     let changed = grown i.lists new i.stack (named i.table i.call) xs (reverse rest) b a shared was e.same e.building e.others e.account in
     let p = pending i.lists i.stack in
-    let old : List (List Token) → HeldLists = λ us. held_lists (fronts i.lists p.puts) (made_text i.lists i.making) (calling_of i.lists i.call) us (line_of p.sources) i.table i.sizes (texts i.lists) in
+    let old : List (List Token) → HeldLists = λ us. held_lists (fronts i.lists p.puts) (made_text i.lists i.making) (calling_of i.lists i.call) us (covers i.lists p.sources) i.table i.sizes (texts i.lists) in
     let first : lists_of i.lists p i.making i.builds.items (named i.table i.call) i.sizes ≡ old (text i.lists a ∷ map (text i.lists) (reverse rest)) = ap (λ bs. old (map (text i.lists) bs)) (reverse_push i.builds.items rest a c.in-Some.ensures.items) in
     ok_of c.append-grown.result (tokens_at new (build_id a) ≡ ts) _ e.grown (λ is.
     first_view i.lists new i.stack (named i.table i.call) i.sizes i.making c.push_reserved.new.self.items rest b ts changed c.push_reserved.ensures.items (ap (tokens_at new) e.same ∙ is)
@@ -81,4 +81,4 @@ returns-clause-macros c =
     let shared = push_shared i.lists i.stack (named i.table i.call) i.making i.builds.items rest a c.in-Some.ensures.items c.self.invariant.shared in
     let was = push_building i.lists i.stack (named i.table i.call) i.making i.builds.items rest a c.in-Some.ensures.items c.self.invariant.shared in
     let changed = grown i.lists new i.stack (named i.table i.call) xs (reverse rest) b a shared was e.same e.building e.others e.account in
-    macros_view i.lists new i.stack (named i.table i.call) i.sizes i.making i.builds.items xs (b ∷ []) (reverse rest) c.args.self.now changed shared.simple.single c.self.view_is
+    macros_view i.lists new i.stack (named i.table i.call) i.sizes i.making i.builds.items xs (b ∷ []) (reverse rest) c.args.self.now changed c.self.view_is

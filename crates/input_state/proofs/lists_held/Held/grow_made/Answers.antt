@@ -73,4 +73,4 @@ returns-clause-macros c =
     let some : i.making ≡ Some a = sym c.take.ensures.value ∙ c.in-Some.is in
     let shared : IsShared i.lists i.stack (a ∷ ys) (named i.table i.call) = subst (λ (m : Option Build). IsShared i.lists i.stack (all_builds m i.builds.items) (named i.table i.call)) some c.self.invariant.shared in
     let changed = grown i.lists new i.stack (named i.table i.call) [] ys b a shared (All-head (IsBuilding i.lists) a ys shared.building) e.same e.building e.others e.account in
-    macros_view i.lists new i.stack (named i.table i.call) i.sizes i.making i.builds.items [] (b ∷ []) ys c.args.self.now changed shared.simple.single c.self.view_is
+    macros_view i.lists new i.stack (named i.table i.call) i.sizes i.making i.builds.items [] (b ∷ []) ys c.args.self.now changed c.self.view_is

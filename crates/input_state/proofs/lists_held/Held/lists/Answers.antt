@@ -2,7 +2,7 @@ use Rattle.std.proofs.Common.{◌++◌, sym, ◌∙◌, ap, subst}
 use Rattle.std.specs.Prelude.{option_to_list}
 use Rattle.equivalents.specs.Holding.{lists_held}
 use Rattle.input_state.specs.Counted.{HaveHolders}
-use Rattle.input_state.specs.HeldLists.{HeldLists, words_held, gathered_held}
+use Rattle.input_state.specs.HeldLists.{HeldLists, puts_held, words_held, gathered_held}
 use Rattle.input_state.specs.HeldViews.{named}
 use Rattle.input_state.specs.Macros.{list_at}
 use Rattle.input_state.proofs.Sharing.{text_at}
@@ -21,5 +21,5 @@ returns-clause-tokens c = λ id. sym (text_at c.self.inside.lists id) ∙ ap (λ
 pub returns-clause-counts : goal.returns-clause-counts
 returns-clause-counts c =
     let i = c.self.inside in
-    subst (λ (w : HeldLists). HaveHolders i.lists (lists_held w.groups) w.puts (option_to_list w.making ++ gathered_held w)) c.self.view_is
+    subst (λ (w : HeldLists). HaveHolders i.lists (lists_held w.groups) (puts_held w) (option_to_list w.making ++ gathered_held w)) c.self.view_is
     (holders_are i.lists i.stack i.making i.builds.items (named i.table i.call) c.self.invariant.shared c.self.invariant.call)

@@ -53,4 +53,4 @@ returns-in-None-clause-macros c =
     let none : i.making ≡ None = sym c.replace.ensures.value ∙ c.in-None.is in
     let shared : IsShared i.lists i.stack ys (named i.table i.call) = subst (λ (m : Option Build). IsShared i.lists i.stack (all_builds m i.builds.items) (named i.table i.call)) none c.self.invariant.shared in
     let changed = begun i.lists new i.stack (named i.table i.call) [] ys b shared e.building e.fresh e.others e.account in
-    macros_view i.lists new i.stack (named i.table i.call) i.sizes i.making i.builds.items [] (b ∷ []) ys c.args.self.now changed shared.simple.single c.self.view_is
+    macros_view i.lists new i.stack (named i.table i.call) i.sizes i.making i.builds.items [] (b ∷ []) ys c.args.self.now changed c.self.view_is

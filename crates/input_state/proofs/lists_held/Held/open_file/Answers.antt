@@ -15,13 +15,13 @@ pub invariant_of-self : goal.invariant_of-self
 invariant_of-self c =
     let i = c.self.inside in
     let e = c.push_file.ensures in
-    open_sound i.lists c.push_file.new.lists i.stack c.push_file.new.self i.making i.builds.items (named i.table i.call) i.sizes _ c.self.invariant e.stands e.account e.kept e.lasting e.size e.parameter_size c.args.self.now c.self.view_is c.requires.front c.requires.closed _ c.args.line c.push_file.result e.ok e.err
+    open_sound i.lists c.push_file.new.lists i.stack c.push_file.new.self i.making i.builds.items (named i.table i.call) i.sizes _ c.self.invariant e.stands e.account e.kept e.lasting e.size e.parameter_size c.args.self.now c.self.view_is c.requires.settled _ c.args.line c.push_file.result e.ok e.err
 
 pub returns-clause-refused : goal.returns-clause-refused
 returns-clause-refused c =
     let i = c.self.inside in
     let same =
-    levels_refused i.sizes (used_levels (pending i.lists i.stack)) _ i.stack.size (levels_used i.lists (pending i.lists i.stack) c.self.invariant.shared.simple.single) c.self.invariant.sized.levels
+    levels_refused i.sizes (used_levels (pending i.lists i.stack)) _ i.stack.size (levels_used i.lists (pending i.lists i.stack)) c.self.invariant.sized.levels
     ∙ ap (λ (v : HeldLists). refused v.sizes (level_held v ∷ [])) c.self.view_is in
     subst (λ (o : Option Full). MatchResult c.push_file.result (λ _. o ≡ None) (λ f. o ≡ Some f)) same c.push_file.ensures.refused
 
@@ -29,16 +29,16 @@ pub returns-clause-ok : goal.returns-clause-ok
 returns-clause-ok c =
     let i = c.self.inside in
     let e = c.push_file.ensures in
-    open_ok i.lists c.push_file.new.lists i.stack c.push_file.new.self i.making i.builds.items (named i.table i.call) i.sizes _ c.self.invariant e.stands e.account e.kept e.lasting e.size e.parameter_size c.args.self.now c.self.view_is c.requires.front c.requires.closed _ c.args.line c.push_file.result e.ok e.err
+    open_ok i.lists c.push_file.new.lists i.stack c.push_file.new.self i.making i.builds.items (named i.table i.call) i.sizes _ c.self.invariant e.stands e.account e.kept e.lasting e.size e.parameter_size c.args.self.now c.self.view_is c.requires.settled _ c.args.line c.push_file.result e.ok e.err
 
 pub returns-clause-err : goal.returns-clause-err
 returns-clause-err c =
     let i = c.self.inside in
     let e = c.push_file.ensures in
-    open_err i.lists c.push_file.new.lists i.stack c.push_file.new.self i.making i.builds.items (named i.table i.call) i.sizes _ c.self.invariant e.stands e.account e.kept e.lasting e.size e.parameter_size c.args.self.now c.self.view_is c.requires.front c.requires.closed _ c.args.line c.push_file.result e.ok e.err
+    open_err i.lists c.push_file.new.lists i.stack c.push_file.new.self i.making i.builds.items (named i.table i.call) i.sizes _ c.self.invariant e.stands e.account e.kept e.lasting e.size e.parameter_size c.args.self.now c.self.view_is c.requires.settled _ c.args.line c.push_file.result e.ok e.err
 
 pub returns-clause-macros : goal.returns-clause-macros
 returns-clause-macros c =
     let i = c.self.inside in
     let e = c.push_file.ensures in
-    open_macros i.lists c.push_file.new.lists i.stack c.push_file.new.self i.making i.builds.items (named i.table i.call) i.sizes _ c.self.invariant e.stands e.account e.kept e.lasting e.size e.parameter_size c.args.self.now c.self.view_is c.requires.front c.requires.closed _ c.args.line c.push_file.result e.ok e.err
+    open_macros i.lists c.push_file.new.lists i.stack c.push_file.new.self i.making i.builds.items (named i.table i.call) i.sizes _ c.self.invariant e.stands e.account e.kept e.lasting e.size e.parameter_size c.args.self.now c.self.view_is c.requires.settled _ c.args.line c.push_file.result e.ok e.err

@@ -25,7 +25,7 @@ pub returns-clause-refused : goal.returns-clause-refused
 returns-clause-refused c =
     let i = c.self.inside in
     c.room.ensures.refused
-    ∙ levels_refused i.sizes (used_levels (pending i.lists i.stack)) _ i.stack.size (levels_used i.lists (pending i.lists i.stack) c.self.invariant.shared.simple.single) c.self.invariant.sized.levels
+    ∙ levels_refused i.sizes (used_levels (pending i.lists i.stack)) _ i.stack.size (levels_used i.lists (pending i.lists i.stack)) c.self.invariant.sized.levels
     ∙ ap (λ (v : HeldLists). refused v.sizes (level_held v ∷ [])) c.self.view_is
 
 pub returns-clause-macros : goal.returns-clause-macros

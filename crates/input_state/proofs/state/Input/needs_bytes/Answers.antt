@@ -13,6 +13,6 @@ pub returns-in-End : goal.returns-in-End
 returns-in-End c =
     let i = c.self.inside in
     record {
-      ready = λ e. knows_next i.held i.buffer.items i.file c.args.self.now c.self.view_is c.self.invariant.file_size (sym c.lacks_line.ensures ∙ e);
-      needs = λ e. needs_bytes i.held i.buffer.items i.file c.args.self.now c.self.view_is c.self.invariant.file_size (sym c.looks.ensures.ahead ∙ c.in-End.is) (sym c.lacks_line.ensures ∙ e);
+      ready = λ e. knows_next i.held i.buffer.items i.files c.args.self.now c.self.view_is c.self.invariant.file_size (sym c.lacks_next.ensures ∙ e);
+      needs = λ e. needs_bytes i.held i.buffer.items i.files c.args.self.now c.self.view_is c.self.invariant.file_size (sym c.looks.ensures.ahead ∙ c.in-End.is) (sym c.lacks_next.ensures ∙ e);
     }

@@ -1,23 +1,35 @@
-use Rattle.std.proofs.Common.{◌≡◌, ℕ, List, length, sym, ap, ◌∙◌, subst}
-use Rattle.std.specs.Prelude.{◌==◌}
-use Rattle.plain_tokens.specs.Pending.{Progress, line_taken, from_file}
-use Rattle.input_state.specs.FileViews.{progress_of}
+use Rattle.std.proofs.Common.{◌∙◌, sym, ap, subst}
+use Rattle.plain_tokens.specs.Pending.{FileOver, beneath}
+use Rattle.input_state.specs.declared.file.Step.{Step}
+use Rattle.equivalents.specs.Parameters.{end_of_line}
 use Rattle.input_state.specs.Stored.{Stored}
-use Rattle.input_state.proofs.TakenLines.{begun_gives, first_gives, line_refused}
-use Rattle.input_state.proofs.state.Input.pull_file.Goals.{in_default-via-in-Begun+else-is_empty, in_default-via-in_default}
+use Rattle.input_state.proofs.Readies.{GivesStep, step_gives}
+use Rattle.input_state.proofs.Behind.{still_put, over_puts, over_keeps, taken_puts}
 use Rattle.input_state.proofs.state.Input.pull_file.Goals as goal
 
-pub returns-in_err-take_line-in_default-clause-err : goal.returns-in_err-take_line-in_default-clause-err
-returns-in_err-take_line-in_default-clause-err c =
-    let f = c.self.inside.file in
-    let e = c.in_err-take_line-in_default.ensures in
-    let gives : from_file f.file f.number f.rest ≡ line_taken f.number f.rest = elim c.in_default.branch [
-      | in_default-via-in-Begun+else-is_empty w ↦
-          ap (λ (p : Progress). from_file p f.number f.rest) (sym c.progress.ensures ∙ ap progress_of w.in-Begun.is)
-          ∙ begun_gives f.number f.rest (ap (λ (bytes : List ℕ). length bytes == 0) (sym w.rest.ensures) ∙ sym w.is_empty.ensures ∙ w.if-is_empty.false)
-      | in_default-via-in_default w ↦
-          ap (λ (p : Progress). from_file p f.number f.rest) (sym c.progress.ensures)
-          ∙ first_gives f.number f.rest c.progress.result w.in_default.not-Begun w.in_default.not-Closed
-    ] in
-    let given = subst (λ (v : Stored). from_file v.pending.file v.pending.number v.pending.rest ≡ line_taken v.pending.number v.pending.rest) c.self.view_is gives in
-    line_refused c.from_residual.result c.in_err-take_line-in_default.field-0.0 c.args.self.now c.take_line.new.self c.from_residual.ensures.1 given e.refused e.err c.requires.settled
+pub returns-in-Nothing-clause-ok : goal.returns-in-Nothing-clause-ok
+returns-in-Nothing-clause-ok c =
+    let i = c.self.inside in
+    let s = c.args.self.now in
+    (subst (λ (x : Step). GivesStep x s.pending) c.in-Nothing.is (step_gives i.held i.buffer.items i.files s c.step.result c.self.view_is c.step.ensures), sym c.requires.settled)
+
+pub returns-in-Over-clause-ok : goal.returns-in-Over-clause-ok
+returns-in-Over-clause-ok c =
+    let i = c.self.inside in
+    let s = c.args.self.now in
+    let gives = subst (λ (x : Step). GivesStep x s.pending) c.in-Over.is (step_gives i.held i.buffer.items i.files s c.step.result c.self.view_is c.step.ensures) in
+    gives.0
+    ∙ ap (λ ss. FileOver (beneath ss)) (sym c.drop_front.ensures.outer)
+    ∙ sym (ap (λ (v : Stored). FileOver v.pending) c.end_file.ensures)
+
+pub returns-in-Over-clause-macros : goal.returns-in-Over-clause-macros
+returns-in-Over-clause-macros c = over_keeps c.args.self.now c.drop_front.new.self c.end_file.new.self c.drop_front.ensures.macros c.drop_front.ensures.front c.end_file.ensures
+
+pub returns-in_ok-take_line-in-Line-clause-puts : goal.returns-in_ok-take_line-in-Line-clause-puts
+returns-in_ok-take_line-in-Line-clause-puts c = λ id.
+    let s = c.args.self.now in
+    still_put id s.pending c.take_line.new.self.pending (taken_puts (end_of_line s.groups.now) s.pending c.take_line.new.self.pending c.in_ok-take_line-in-Line.ensures.ok)
+
+pub returns-in-Over-clause-puts : goal.returns-in-Over-clause-puts
+returns-in-Over-clause-puts c = λ id.
+    still_put id c.args.self.now.pending c.end_file.new.self.pending (over_puts c.args.self.now.pending c.drop_front.new.self.pending c.end_file.new.self.pending c.drop_front.ensures.outer (ap (λ (v : Stored). v.pending) c.end_file.ensures))

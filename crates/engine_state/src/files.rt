@@ -1,0 +1,142 @@
+// Files that are begun, that are to end, and that aren't held. *TeX: The Program*, parts 23 and 29.
+ghost use Rattle.std.specs.Prelude.{◌≡◌, ◌≤◌, ◌+◌, [], ◌∷◌, List, IfOk, IfErr, IsSome, OnOk, Some, None, true};
+ghost use Rattle.tex_syntax.specs.declared.words.Outcome.TheVariants.{AtFatal};
+ghost use Rattle.tex_defs.specs.Places.{World};
+ghost use Rattle.tex_defs.specs.declared.Fatal.{Fatal};
+ghost use Rattle.tex_defs.specs.declared.Sizes.{Sizes};
+ghost use Rattle.plain_tokens.specs.Pending.{settle, with_begun, with_end, ending};
+ghost use Rattle.plain_tokens.specs.Tables.{open_lines};
+ghost use Rattle.input_state.specs.Stored.{spelt};
+ghost use Rattle.equivalents.specs.Parameters.{end_of_line};
+ghost use Rattle.plain_machine.specs.States.{FileEnds};
+ghost use Rattle.plain_machine.specs.Plan.{ruled, reports_room, unless_found};
+ghost use Rattle.engine_state.specs.Begins.{no_file_end};
+ghost use Rattle.plain_machine.specs.Does.{Did};
+ghost use Rattle.world_io.specs.Told.{FilesTold};
+ghost use Rattle.engine_state.specs.Book.{Book};
+ghost use Rattle.engine_state.specs.Calls.{AllStand};
+ghost use Rattle.engine_state.specs.Stands.{IsSound, SameFrames, state_of, page_of};
+ghost use Rattle.engine_state.specs.Rules.{world_of, counted, Cuts, Halts};
+ghost use Rattle.engine_state.specs.Steps.{all_start, asked};
+
+use crate::broken::Broken;
+use crate::engine::Engine;
+use crate::views::view_of;
+use reading_frames::Ask;
+use rows::Effect;
+use tex_defs::{Fatal, Sizes};
+use tex_syntax::Outcome;
+use transcript::{no_file_lines, write_missing_file};
+use world_io::Sink;
+
+impl Engine {
+    /// Whether the next rule opens a file: `\\input` has read its name.
+    pub fn asks_input(&self) -> bool
+        ensures { result ≡ all_start self.now.call (asked self.now) }
+    {
+        if self.call.is_some() {
+            return false;
+        }
+        matches!(
+            self.readings.ask(),
+            Some(Ask::ActsOn(_, Effect::StartInput(_), _))
+        )
+    }
+
+    /// The file that was opened is begun with its first line, a step. *TeX: The Program*, part 29 (`start_input`).
+    ///
+    /// # Errors
+    /// The line has no room in the buffer, or else the file's level none on the input stack; nothing has changed but that the finished lists in front have gone.
+    pub fn begin_file(&mut self) -> Result<(), Broken>
+        requires opened { IsSome self.old.input.pending.next }
+        ensures did { OnOk result ((sizes : Sizes) (w : World) (book : Book) → IsSound sizes self.old book.number book.macros → Did sizes (state_of self.old book) (state_of self.new book) w w (ruled (state_of self.old book) self.old.input.pending.next)) }
+        ensures err { IfErr result (λ b. (sizes : Sizes) (w : World) (book : Book) → IsSound sizes self.old book.number book.macros → Cuts sizes (state_of self.old book) self.new book w w (ruled (state_of self.old book) self.old.input.pending.next) b) }
+        ensures stands { (sizes : Sizes) (book : Book) → AllStand sizes self.old book → AllStand sizes self.new book }
+        ensures pending { OnOk result (self.new.input.pending ≡ with_end (end_of_line self.old.input.groups.now) (with_begun (settle self.old.input.pending))) }
+        ensures frames { SameFrames self.old self.new }
+        ensures only { self.new ≡ record self.old { input = record self.old.input { pending = self.new.input.pending; buffer = self.new.input.buffer; lists = self.new.input.lists } } }
+    {
+        self.input.settle();
+        self.input.begin_file()?;
+        Ok(())
+    }
+
+    /// The innermost file is to end behind its present line. *The TeXbook*, chapter 20 (`\\endinput`).
+    pub fn end_input(&mut self)
+        ensures did { (sizes : Sizes) (w : World) (book : Book) → Did sizes (state_of self.old book) (state_of self.new book) w w (FileEnds ∷ []) }
+        ensures stands { (sizes : Sizes) (book : Book) → AllStand sizes self.old book → AllStand sizes self.new book }
+        ensures only { self.new ≡ record self.old { input = record self.old.input { pending = ending self.old.input.pending } } }
+    {
+        self.input.end_input();
+    }
+
+    /// The report that a file isn't held, and the end of the run.
+    ///
+    /// # Errors
+    /// A write failed or wanted memory: a front of the text was written.
+    pub fn refuse_file<S: Sink>(&mut self, out: &mut S, name: &[u8]) -> Result<Outcome, Broken>
+        ensures run { IfOk result (λ o. (sizes : Sizes) (f : FilesTold) (book : Book) →
+            Halts sizes (state_of self.old book) self.new book (world_of f (S.told out.old) self.old) (world_of f (S.told out.new) self.new) (unless_found (page_of self.old book) name.now None) o 0) }
+        ensures err { IfErr result (λ b. (sizes : Sizes) (f : FilesTold) (book : Book) → self.old.reports ≤ reports_room →
+            Cuts sizes (state_of self.old book) self.new book (world_of f (S.told out.old) self.old) (world_of f (S.told out.new) self.new) (unless_found (page_of self.old book) name.now None) b) }
+        ensures frames { SameFrames self.old self.new }
+        ensures input { self.new.input ≡ self.old.input }
+        ensures fatal { IfOk result (λ o. (fatal : Fatal) × (o ≡ AtFatal fatal)) }
+        ensures stopped { self.new.stopped ≡ true }
+    {
+        let line = self.input.line_number();
+        let view = view_of(self.input.lists(), &self.input, &self.names);
+        let written = write_missing_file(out, &mut self.in_line, view, line, name);
+        self.stopped = true;
+        written?;
+        self.end_refused(out)
+    }
+
+    /// The same of a file whose name is spelt behind the open lines in the buffer, with so many bytes.
+    ///
+    /// # Errors
+    /// A write failed or wanted memory: a front of the text was written.
+    pub fn refuse_spelt<S: Sink>(&mut self, out: &mut S, count: usize) -> Result<Outcome, Broken>
+        requires { open_lines self.old.input.pending + count ≤ self.old.input.sizes.buffer_size }
+        ensures run { IfOk result (λ o. (sizes : Sizes) (f : FilesTold) (book : Book) →
+            Halts sizes (state_of self.old book) self.new book (world_of f (S.told out.old) self.old) (world_of f (S.told out.new) self.new) (unless_found (page_of self.old book) (spelt self.old.input count) None) o 0) }
+        ensures err { IfErr result (λ b. (sizes : Sizes) (f : FilesTold) (book : Book) → self.old.reports ≤ reports_room →
+            Cuts sizes (state_of self.old book) self.new book (world_of f (S.told out.old) self.old) (world_of f (S.told out.new) self.new) (unless_found (page_of self.old book) (spelt self.old.input count) None) b) }
+        ensures frames { SameFrames self.old self.new }
+        ensures input { self.new.input ≡ self.old.input }
+        ensures fatal { IfOk result (λ o. (fatal : Fatal) × (o ≡ AtFatal fatal)) }
+        ensures stopped { self.new.stopped ≡ true }
+    {
+        let line = self.input.line_number();
+        let view = view_of(self.input.lists(), &self.input, &self.names);
+        let written = write_missing_file(
+            out,
+            &mut self.in_line,
+            view,
+            line,
+            self.input.spelt(count),
+        );
+        self.stopped = true;
+        written?;
+        self.end_refused(out)
+    }
+
+    /// The report that a file isn't held was written: it is counted, and the run ends.
+    fn end_refused<S: Sink>(&mut self, out: &mut S) -> Result<Outcome, Broken>
+        ensures run { IfOk result (λ o. (sizes : Sizes) (f : FilesTold) (book : Book) →
+            Halts sizes (state_of self.old book) self.new book (world_of f (S.told out.old) self.old) (world_of f (S.told out.new) self.new) (counted (page_of self.old book) (no_file_end (page_of self.old book))) o 0) }
+        ensures err { IfErr result (λ b. (sizes : Sizes) (f : FilesTold) (book : Book) → self.old.reports ≤ reports_room →
+            Cuts sizes (state_of self.old book) self.new book (world_of f (S.told out.old) self.old) (world_of f (S.told out.new) self.new) (counted (page_of self.old book) (no_file_end (page_of self.old book))) b) }
+        ensures frames { SameFrames self.old self.new }
+        ensures input { self.new.input ≡ self.old.input }
+        ensures fatal { IfOk result (λ o. (fatal : Fatal) × (o ≡ AtFatal fatal)) }
+        ensures stopped { self.new.stopped ≡ self.old.stopped }
+    {
+        if !self.count_report(out)? {
+            return Ok(Outcome::AtFatal(Fatal::HundredErrors));
+        }
+        let text = no_file_lines(view_of(self.input.lists(), &self.input, &self.names));
+        self.write_text(out, text.bytes())?;
+        Ok(Outcome::AtFatal(Fatal::NoFile))
+    }
+}

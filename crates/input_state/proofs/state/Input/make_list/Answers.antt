@@ -1,0 +1,12 @@
+use Rattle.input_state.proofs.Joined.{keeps, memory_refused, refused_same}
+use Rattle.input_state.proofs.state.Input.make_list.Goals as goal
+
+pub returns-clause-macros : goal.returns-clause-macros
+returns-clause-macros c =
+    let i = c.self.inside in
+    keeps i.held c.make_list.new.self i.buffer.items i.buffer.items i.files i.files c.args.self.now c.self.view_is c.make_list.ensures.macros
+
+pub returns-clause-refused : goal.returns-clause-refused
+returns-clause-refused c =
+    let i = c.self.inside in
+    refused_same c.make_list.result _ _ (memory_refused i.held i.buffer.items i.files c.args.self.now c.self.view_is 1) c.make_list.ensures.refused
