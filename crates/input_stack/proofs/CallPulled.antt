@@ -137,8 +137,20 @@ front_no_gap (Later n t ∷ xs) = refl
 front_no_gap (Gap ∷ xs) = front_no_gap xs
 
 -- the items of a call without an open argument
-closed_items : (table : List (Option Entry)) (c : Call) → c.argument ≡ None → items_of table c ≡ substituted (arguments_in table c.args) (rest table c.body)
+pub closed_items : (table : List (Option Entry)) (c : Call) → c.argument ≡ None → items_of table c ≡ substituted (arguments_in table c.args) (rest table c.body)
 closed_items table c is = ap (λ (o : Option Reader). open_items table o ++ substituted (arguments_in table c.args) (rest table c.body)) is
+
+-- a token that stands for itself is handed on
+pub itself : (table : List (Option Entry)) (t : Token) → Hands table table (Text t) [] t None
+itself table t = record {
+  token = refl;
+  left = refl;
+  reading = refl;
+  levels = refl;
+  at_next = tt;
+  holds = λ h. refl;
+  shares = record { size = refl; tokens = λ h. refl; places = λ h. refl; holders = λ h. omega arith; held = λ h some. absurd (omega (arith, some)) };
+}
 
 -- gone behind the gaps and one token on
 module _ (table : List (Option Entry)) (c : Call) (us vs : List Token) (t : Token) (is : c.argument ≡ None) (behind : substituted (arguments_in table c.args) us ≡ without_gaps (substituted (arguments_in table c.args) (rest table c.body))) (at : us ≡ t ∷ vs) where

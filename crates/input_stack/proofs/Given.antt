@@ -156,12 +156,12 @@ shares_stay old new more f covers s = record {
   held = λ h some. omega (arith, some, covers h, s.holders h);
 }
 
-module _ (old new : List (Option Entry)) (c b d : List ℕ) (l l' : Level) (xs ys ls : List Level) (r : Pulled) (is : xs ≡ l ∷ ls) (at : ys ≡ l' ∷ ls) (h : LevelPulls old new c b d l l' r) (a : AreRead old xs) (u : AreUnfinished old xs) where
+module _ (old new : List (Option Entry)) (c b d : List ℕ) (l l' : Level) (xs ys ls : List Level) (r : Pulled) (is : xs ≡ l ∷ ls) (at : ys ≡ l' ∷ ls) (h : LevelPulls old new c b d l l' r) (a : AreRead old xs) where
   whole : AreRead old (l ∷ ls)
   whole = subst (AreRead old) is a
 
   below : AreUnfinished old ls
-  below = All-tail (IsUnfinished old) l ls (subst (AreUnfinished old) is u)
+  below = whole.below
 
   stays : Stay old new (held_in ls)
   stays = shares_stay old new (opened (level_item old l)) (held_in ls) (λ k. omega (arith, whole.covers k, held_cons l ls k)) (level_shares old new c b d l l' r h)

@@ -19,3 +19,4 @@ pub mod Ready
 pub mod Helds
 pub mod Lasting
 pub mod Bounds
+pub mod AtOnce

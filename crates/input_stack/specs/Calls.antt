@@ -1,5 +1,5 @@
 -- What a macro call puts: its body with the arguments in their places (The TeXbook, chapter 20).
-use Rattle.std.specs.Prelude.{ℕ, ◌-◌, List, [], ◌∷◌, ◌++◌, map, Option, None, Some, true, slice_get}
+use Rattle.std.specs.Prelude.{◌≡◌, ℕ, ◌-◌, List, [], ◌∷◌, ◌++◌, map, Option, None, Some, true, slice_get}
 use Rattle.tex_defs.specs.declared.Token.{Token}
 use Rattle.tex_defs.specs.declared.Token.TheVariants.{Number, EndPlaces}
 use Rattle.input_stack.specs.Puts.{Item, Text, First, Later, Gap, Put}
@@ -34,6 +34,10 @@ placed_argument n (Some a) = argument_items a
 abbrev pub token_items : List (Option Argument) → Token → List Item
 token_items arguments (Number n) = placed_argument n (slice_get arguments (n - 1))
 token_items arguments t = Text t ∷ []
+
+-- no parameter number: it stands for itself in each body
+abbrev pub IsText : Token → Type 0
+IsText t = (n : ℕ) → t ≡ Number n → ⊥
 
 -- the body's tokens, each parameter number replaced by its argument, of which the first has the number 1
 abbrev pub substituted : List (Option Argument) → List Token → List Item

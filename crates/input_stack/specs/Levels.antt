@@ -16,7 +16,7 @@ use Rattle.input_stack.specs.Rest.{rest, number, IsAt}
 use Rattle.input_stack.specs.Pulls.{LineGives, token_in}
 use Rattle.input_stack.specs.declared.call.Call.{Call}
 use Rattle.input_stack.specs.Puts.{Item, Text, first, without_gaps, is_empty}
-use Rattle.input_stack.specs.CallViews.{items_of, CallGives, Closes}
+use Rattle.input_stack.specs.CallViews.{items_of, met_of, opens, CallGives, Closes}
 
 pub record ListGives (table after_table : List (Option Entry)) (old new : List ℕ) (r : Reader) (after : Level) (result : Pulled) : Type 0 where
   pub reader : Reader
@@ -74,6 +74,14 @@ abbrev pub is_level_passed : List (Option Entry) → Level → Bool
 is_level_passed table (level.List r) = is_empty (map Text (rest table r))
 is_level_passed table (level.Call c) = is_empty (without_gaps (items_of table c))
 is_level_passed table (level.Source s) = false
+
+-- The next item is handed on, no argument's level opens, and the lists and the bytes stay.
+pub record HandsAtOnce (table : List (Option Entry)) (l l' : Level) (t : Token) : Type 0 where
+  pub item : Item
+  pub next : level_item table l ≡ Some item
+  pub closed : opens (met_of item) ≡ false
+  pub more : is_level_passed table l ≡ false
+  pub pulls : (categories bytes : List ℕ) → LevelPulls table table categories bytes bytes l l' (pulled_as.Token t)
 
 -- an argument's level on a call goes, where no token is left of it
 abbrev pub LevelCloses : (table after_table : List (Option Entry)) → Level → Level → Bool → Type 0

@@ -11,3 +11,4 @@ pub mod View
 pub mod Standing
 pub mod Lasting
 pub mod Pushes
+pub mod AtOnce

@@ -1,13 +1,13 @@
 // A macro call that is being read.
-ghost use Rattle.std.specs.Prelude.{◌≡◌, ◌+◌, ◌<◌, ◌^◌, Some, None, IfSome, false, drop, length, slice_get};
+ghost use Rattle.std.specs.Prelude.{◌≡◌, ◌+◌, ◌<◌, ◌^◌, Some, None, IfSome, IsSome, IsTrue, MatchOption, is_some, false, drop, length, slice_get};
 ghost use Rattle.token_lists.specs.Table.{IsHeld, tokens_at, holders_at};
 ghost use Rattle.token_lists.specs.Ids.{id_of};
 ghost use Rattle.token_lists.specs.Accounts.{IsReading, Moves, Keeps, Covers, none, holds};
 ghost use Rattle.macro_args.specs.Args.{IsFilled};
 ghost use Rattle.input_stack.specs.Puts.{first, without_gaps, is_empty};
-ghost use Rattle.input_stack.specs.Calls.{substituted, token_items};
+ghost use Rattle.input_stack.specs.Calls.{IsText, substituted, token_items};
 ghost use Rattle.input_stack.specs.Rest.{IsAt, rest, number};
-ghost use Rattle.input_stack.specs.CallViews.{arguments_in, open_tokens, open_number, open_holds, items_of, call_holds, call_open, met, is_gap, IsCall, IsSettled, IsCountable, CallPulls, AreHeld, Shares, HandsOn, Closes};
+ghost use Rattle.input_stack.specs.CallViews.{arguments_in, open_tokens, open_number, open_holds, items_of, call_holds, call_open, met, is_gap, is_opening, IsCall, IsSettled, IsCountable, CallPulls, AreHeld, Shares, HandsOn, Closes};
 ghost use Rattle.input_stack.specs.Lasting.{Lasts};
 
 use crate::met::Met;
@@ -106,6 +106,16 @@ fn hand_on(lists: &mut Lists, args: &Args, token: Token) -> (Token, Option<Reade
     (token, None)
 }
 
+// Whether a token comes that is no parameter number.
+fn is_text(next: Option<Token>) -> bool
+    ensures { IsTrue result → MatchOption next ⊥ IsText }
+{
+    match next {
+        None | Some(Token::Number(_)) => false,
+        Some(_) => true,
+    }
+}
+
 impl Call {
     /// A call that reads what is left of its macro's list.
     pub fn new(body: Reader, args: Args) -> Call
@@ -178,6 +188,26 @@ impl Call {
         }
     }
 
+    // Whether the next item is at hand: a further token of the open argument, or a token of the body that is no parameter
+    // number.
+    fn is_at_hand(&self, lists: &Lists) -> bool
+        requires { IsCall lists.now self.now }
+        ensures { IsTrue result → IsSome (first (without_gaps (items_of lists.now self.now))) }
+    {
+        match &self.argument {
+            Some(argument) => argument.is_left(lists),
+            None => is_text(self.body.peek(lists)),
+        }
+    }
+
+    /// Whether an item is left that is no gap.
+    pub fn is_left(&self, lists: &Lists) -> bool
+        requires { IsCall lists.now self.now }
+        ensures { result ≡ is_some (first (without_gaps (items_of lists.now self.now))) }
+    {
+        self.is_at_hand(lists) || self.next(lists).is_some()
+    }
+
     /// Whether nothing is left of it.
     pub fn is_finished(&self, lists: &Lists) -> bool
         requires { IsCall lists.now self.now }
@@ -200,6 +230,20 @@ impl Call {
         let went = argument.is_some();
         let_level_go(lists, argument);
         went
+    }
+
+    /// The next item, where it is at hand: a further token of the open argument, or a token of the body that is no
+    /// parameter number.
+    pub fn quick(&mut self, lists: &Lists) -> Option<Token>
+        requires { IsCall lists.now self.old }
+        ensures pulls { IfSome result (λ t. CallPulls lists.now lists.now self.old self.new (without_gaps (items_of lists.now self.old)) (Some t)) }
+        ensures closed { IfSome result (λ _. is_opening (met (first (without_gaps (items_of lists.now self.old)))) ≡ false) }
+        ensures stays { result ≡ None → self.new ≡ self.old }
+    {
+        match &mut self.argument {
+            Some(argument) => argument.pull(lists),
+            None => self.body.pull_text(lists),
+        }
     }
 
     /// Passes over the gaps in front, and hands on the item behind them.

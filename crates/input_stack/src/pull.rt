@@ -1,12 +1,14 @@
 // What one level gives.
-ghost use Rattle.std.specs.Prelude.{◌≡◌, length, false};
+ghost use Rattle.std.specs.Prelude.{◌≡◌, length, false, None, Some, IfSome, cond};
+ghost use Rattle.line_lexer.specs.declared.Ahead.TheVariants as ahead;
 ghost use Rattle.input_stack.specs.Pulls.{answer_of};
 ghost use Rattle.input_stack.specs.Standing.{IsLevel, IsUnfinished};
 ghost use Rattle.input_stack.specs.CallViews.{IsCountable};
-ghost use Rattle.input_stack.specs.Levels.{LevelPulls, IsLevelInBuffer, level_item, is_level_passed, level_looks, is_ahead};
+ghost use Rattle.input_stack.specs.Levels.{LevelPulls, HandsAtOnce, IsLevelInBuffer, level_item, is_level_passed, level_looks, is_ahead};
 
 use crate::level::{Level, Pulled};
 use line_lexer::{Ahead, Lexed, looks, next};
+use tex_defs::Token;
 use token_lists::Lists;
 use world_io::InId;
 
@@ -19,6 +21,19 @@ fn line_answer(id: Option<InId>, lexed: Lexed) -> Pulled
             None => Pulled::ReadEnd,
         },
         other => Pulled::Lexed(other),
+    }
+}
+
+/// The next item of a list or a call, where it is a token at hand that opens no level.
+pub fn quick_level(level: &mut Level, lists: &Lists) -> Option<Token>
+    requires { IsLevel lists.now level.old }
+    ensures gives { IfSome result (λ t. HandsAtOnce lists.now level.old level.new t) }
+    ensures stays { result ≡ None → level.new ≡ level.old }
+{
+    match level {
+        Level::List(reader) => reader.pull(lists),
+        Level::Call(call) => call.quick(lists),
+        Level::Source(_) => None,
     }
 }
 
@@ -53,6 +68,13 @@ pub fn pull_level(
     }
 }
 
+// A token comes, or nothing of this level.
+fn token_if(left: bool) -> Option<Ahead>
+    ensures { result ≡ cond left (Some ahead.Token) None }
+{
+    if left { Some(Ahead::Token) } else { None }
+}
+
 /// What an unfinished level gives next, where it gives something.
 pub fn level_looks(
     level: &Level,
@@ -65,14 +87,8 @@ pub fn level_looks(
     ensures { result ≡ level_looks lists.now categories.now bytes.now level.now }
 {
     match level {
-        Level::List(reader) => match reader.peek(lists) {
-            Some(_) => Some(Ahead::Token),
-            None => None,
-        },
-        Level::Call(call) => match call.next(lists) {
-            Some(_) => Some(Ahead::Token),
-            None => None,
-        },
+        Level::List(reader) => token_if(reader.is_left(lists)),
+        Level::Call(call) => token_if(call.is_left(lists)),
         Level::Source(source) => Some(looks(bytes, &source.line, categories)),
     }
 }

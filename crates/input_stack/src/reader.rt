@@ -1,10 +1,10 @@
 // A list that is being read.
-ghost use Rattle.std.specs.Prelude.{◌≡◌, ℕ, ◌<◌, ◌+◌, [], ◌∷◌, MatchOption, IsSome, drop, slice_get};
+ghost use Rattle.std.specs.Prelude.{◌≡◌, ℕ, ◌<◌, ◌+◌, [], ◌∷◌, None, MatchOption, IsSome, IfSome, is_some, drop, slice_get};
 ghost use Rattle.token_lists.specs.Table.{IsHeld, tokens_at};
 ghost use Rattle.token_lists.specs.Ids.{id_of};
 ghost use Rattle.token_lists.specs.Accounts.{IsReading};
 ghost use Rattle.input_stack.specs.Rest.{IsAt, rest, number};
-ghost use Rattle.input_stack.specs.Calls.{body_of};
+ghost use Rattle.input_stack.specs.Calls.{IsText, body_of};
 
 use mem_words::Place;
 use tex_defs::Token;
@@ -48,6 +48,15 @@ impl Reader {
         }
     }
 
+    /// Whether a token is left.
+    pub fn is_left(&self, lists: &Lists) -> bool
+        requires { IsAt lists.now self.now }
+        ensures { result ≡ is_some (slice_get (rest lists.now self.now) 0) }
+    {
+        let _lists = lists;
+        self.at.is_some()
+    }
+
     /// Reads the next token, if one is left.
     pub fn pull(&mut self, lists: &Lists) -> Option<Token>
         requires { IsAt lists.now self.old }
@@ -59,6 +68,28 @@ impl Reader {
     {
         let Some(place) = self.at else { return None };
         let token = lists.token(place);
+        // No list is longer than the words in use, so that the count goes on.
+        let _words = lists.used();
+        self.at = lists.next(place);
+        self.read += 1;
+        Some(token)
+    }
+
+    /// Reads the next token, if one is left that is no parameter number.
+    pub fn pull_text(&mut self, lists: &Lists) -> Option<Token>
+        requires { IsAt lists.now self.old }
+        ensures same { number self.new ≡ number self.old }
+        ensures list { self.new.list ≡ self.old.list }
+        ensures at_next { IsAt lists.now self.new }
+        ensures token { IfSome result (λ t. rest lists.now self.old ≡ t ∷ rest lists.now self.new) }
+        ensures text { IfSome result (λ t. IsText t) }
+        ensures stays { result ≡ None → self.new ≡ self.old }
+    {
+        let Some(place) = self.at else { return None };
+        let token = lists.token(place);
+        if let Token::Number(_) = token {
+            return None;
+        }
         // No list is longer than the words in use, so that the count goes on.
         let _words = lists.used();
         self.at = lists.next(place);

@@ -14,6 +14,7 @@ ghost use Rattle.input_stack.specs.View.{pending, held, innermost, IsSourceOnTop
 ghost use Rattle.input_stack.specs.Pulls.{Pulls, PullsTop, Passes, IsInBuffer, looks, is_ready, is_line_end};
 ghost use Rattle.input_stack.specs.Standing.{Stands, Fits, IsSized, AreUnfinished, AreRead};
 ghost use Rattle.input_stack.specs.Lasting.{Lasts, LastsBut};
+ghost use Rattle.input_stack.specs.AtOnce.{PullsAtOnce};
 
 use crate::call::Call;
 use crate::level::{Begun, Level, Pulled, Source};
@@ -21,7 +22,7 @@ use crate::levels::{
     argument_levels, arguments, close_argument, is_finished, is_passed, next_item, release,
 };
 use crate::met::is_opening;
-use crate::pull::{is_token, level_looks, pull_level};
+use crate::pull::{is_token, level_looks, pull_level, quick_level};
 use crate::reader::Reader;
 use crate::release::let_go;
 use line_lexer::{Ahead, Line};
@@ -486,12 +487,55 @@ impl InputStack {
         }
     }
 
+    /// The next item, where it is a token at hand: of a list, of an open argument, or of a body, no parameter number.
+    pub fn quick(&mut self, lists: &Lists) -> Option<Token>
+        requires { Stands lists.now self.old }
+        ensures gives { IfSome result (λ t. PullsAtOnce (pending lists.now self.old) (pending lists.now self.new) t) }
+        ensures stays { result ≡ None → pending lists.now self.new ≡ pending lists.now self.old }
+        ensures stands { Stands lists.now self.new }
+        ensures held { (h : ℕ) → held self.new h ≡ held self.old h }
+        ensures size { self.new.size ≡ self.old.size }
+        ensures parameter_size { self.new.parameter_size ≡ self.old.parameter_size }
+    {
+        let count = self.levels.len();
+        if count == 0 {
+            return None;
+        }
+        quick_level(&mut self.levels[count - 1], lists)
+    }
+
     /// What is next: a token of a list in front, else what the innermost line gives by these category codes. The line
     /// stands in `bytes`.
     ///
     /// # Errors
     /// An argument's first token is next, and its level would be one more than the size of the input stack.
     pub fn pull(
+        &mut self,
+        lists: &mut Lists,
+        bytes: &mut [u8],
+        categories: &[u8; 256],
+    ) -> Result<Pulled, Full>
+        requires stands { Stands lists.old self.old }
+        requires in_buffer { IsInBuffer (pending lists.old self.old).sources (length bytes.old) }
+        requires countable { IsCountable lists.old (next_item (pending lists.old self.old).puts) }
+        ensures stands { Stands lists.new self.new }
+        ensures in_buffer { IsInBuffer (pending lists.new self.new).sources (length bytes.new) }
+        ensures line_end { IsTrue (is_line_end result) → IsSourceOnTop (innermost self.new) }
+        ensures pulls { Pulls self.old.size categories.now bytes.old bytes.new (pending lists.old self.old) (pending lists.new self.new) result }
+        ensures account { Moves lists.old lists.new (held self.old) (held self.new) }
+        ensures kept { Keeps lists.old lists.new (held self.old) }
+        ensures lasting { LastsBut lists.old lists.new (opened (next_item (pending lists.old self.old).puts)) }
+        ensures size { self.new.size ≡ self.old.size }
+        ensures parameter_size { self.new.parameter_size ≡ self.old.parameter_size }
+    {
+        match self.quick(lists) {
+            Some(token) => Ok(Pulled::Token(token)),
+            None => self.pull_settled(lists, bytes, categories),
+        }
+    }
+
+    // What is next, where it may be that lists have to go first, that a level opens, or that the line gives it.
+    fn pull_settled(
         &mut self,
         lists: &mut Lists,
         bytes: &mut [u8],

@@ -1,26 +1,15 @@
-use Rattle.std.proofs.Common.{◌≡◌, true≢false, ◌∙◌, sym, ap, ap₂, refl, subst, List, [], ℕ, Option, map, None, Some, arith}
+use Rattle.std.proofs.Common.{◌≡◌, true≢false, ◌∙◌, sym, ap, ap₂, refl, subst, List, ℕ, Option, map, None, Some}
 use Rattle.tex_defs.specs.declared.Token.{Token}
 use Rattle.tex_defs.specs.declared.Token.TheVariants.{Char, Named, Marked, Place, Number, EndPlaces}
 use Rattle.token_lists.specs.Ids.{id_of}
 use Rattle.token_lists.specs.Table.{Entry, tokens_at}
 use Rattle.token_lists.specs.Accounts.{holds}
-use Rattle.input_stack.specs.Puts.{Item, Text, Later, first}
+use Rattle.input_stack.specs.Puts.{Item, Later, first}
 use Rattle.input_stack.specs.Calls.{Argument, token_items}
-use Rattle.input_stack.specs.CallViews.{Hands, HandsOn, IsCountable, arguments_in, is_gap}
+use Rattle.input_stack.specs.CallViews.{HandsOn, IsCountable, arguments_in, is_gap}
 use Rattle.input_stack.proofs.CallItems.{argument_counts, item_is, item_past, first_met, empty_met}
+use Rattle.input_stack.proofs.CallPulled.{itself}
 use Rattle.input_stack.proofs.call.hand_on.Goals as goal
-
--- a token that stands for itself is handed on
-itself : (table : List (Option Entry)) (t : Token) → Hands table table (Text t) [] t None
-itself table t = record {
-  token = refl;
-  left = refl;
-  reading = refl;
-  levels = refl;
-  at_next = tt;
-  holds = λ h. refl;
-  shares = record { size = refl; tokens = λ h. refl; places = λ h. refl; holders = λ h. omega arith; held = λ h some. absurd (omega (arith, some)) };
-}
 
 no_number : (table : List (Option Entry)) (args : List (Option Argument)) (t : Token) → ((n : ℕ) → t ≡ Number n → ⊥) → HandsOn table table (token_items args t) t None
 no_number table args (Char cat code) not = itself table (Char cat code)

@@ -86,7 +86,7 @@ returns-clause-stands c =
     let t = ap {B = ℕ} (λ (x : Bool). cond x 1 0) (c.requires.opening ∙ ap (λ (o : Option Item). is_opening (met o)) next) in
     let more = level_opens old new cs b d l m r h in
     record {
-      read = top_read old new cs b d l m (innermost s) _ ls r e f h c.requires.stands.read c.requires.unfinished;
+      read = top_read old new cs b d l m (innermost s) _ ls r e f h c.requires.stands.read;
       fits = fits_changed s _ l m ls c.requires.stands.fits e f (opening_fits c.args.opening (length s.levels.items) s.argument_levels s.size c.one_if.result _ c.one_if.ensures c.requires.room c.requires.stands.fits.within (length-set s.levels.items (n - 1) m)) (omega (arith, more, t, c.one_if.ensures)) (level_counts old new cs b d l m r h) refl (record { size = refl; parameter_size = refl; capacity = refl });
     }
 
@@ -108,7 +108,7 @@ returns-clause-pulls c =
     let f = top_set s.levels.items n m (omega (arith, c.len-count.ensures, s.levels.ok)) c.if-count-eq0.false in
     let h = c.pull_level.ensures.pulls in
     let next = top_next old (innermost s) ls l e passed in
-    top_gives old new cs b d l m (innermost s) _ ls r e f (beneath_stays old new cs b d l m (innermost s) _ ls r e f h c.requires.stands.read c.requires.unfinished) h
+    top_gives old new cs b d l m (innermost s) _ ls r e f (beneath_stays old new cs b d l m (innermost s) _ ls r e f h c.requires.stands.read) h
 
 pub returns-clause-shares : goal.returns-clause-shares
 returns-clause-shares c =
@@ -148,7 +148,7 @@ returns-clause-held c = λ k.
     let f = top_set s.levels.items n m (omega (arith, c.len-count.ensures, s.levels.ok)) c.if-count-eq0.false in
     let h = c.pull_level.ensures.pulls in
     let next = top_next old (innermost s) ls l e passed in
-    top_held old new cs b d l m (innermost s) _ ls r e f h c.requires.stands.read c.requires.unfinished k ∙ ap (λ (o : Option Item). held_in (innermost s) k + opened o k) (sym next)
+    top_held old new cs b d l m (innermost s) _ ls r e f h c.requires.stands.read k ∙ ap (λ (o : Option Item). held_in (innermost s) k + opened o k) (sym next)
 
 pub returns-then-count-eq0-clause-pulls : goal.returns-then-count-eq0-clause-pulls
 returns-then-count-eq0-clause-pulls c =
