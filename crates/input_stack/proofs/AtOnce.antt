@@ -1,5 +1,5 @@
 -- What is handed on at once is what is pulled.
-use Rattle.std.proofs.Common.{◌≡◌, ℕ, List, [], ◌∷◌, ◌++◌, map, length, Option, None, Some, Bool, false, cond, refl, sym, ap, ◌∙◌, subst, arith}
+use Rattle.std.proofs.Common.{◌≡◌, ℕ, List, [], ◌∷◌, ◌++◌, map, length, Option, None, Some, Bool, true, false, cond, refl, sym, ap, ◌∙◌, subst, arith}
 use Rattle.std.specs.Prelude.{IfSome, IsSome, IsTrue, MatchOption, Ok, is_some, slice_get}
 use Rattle.std.proofs.lemmas.Option.{none-some}
 use Rattle.tex_defs.specs.declared.Token.{Token}
@@ -16,7 +16,7 @@ use Rattle.input_stack.specs.Puts.{Item, Text, First, Later, Gap, first, without
 use Rattle.input_stack.specs.Calls.{Argument, IsText, token_items, substituted}
 use Rattle.input_stack.specs.Rest.{number, rest, IsAt}
 use Rattle.input_stack.specs.CallViews.{arguments_in, open_items, open_number, items_of, met, met_of, opens, is_opening, opened, IsCall, IsSettled, CallPulls}
-use Rattle.input_stack.specs.Levels.{HandsAtOnce, LevelPulls}
+use Rattle.input_stack.specs.Levels.{HandsAtOnce, LevelPulls, level_item, is_level_passed}
 use Rattle.input_stack.specs.Pending.{Pending, with_puts}
 use Rattle.input_stack.specs.Pulls.{Pulls, PullsTop, PullsItem, HandsOn, refused_at, token_in}
 use Rattle.input_stack.specs.View.{innermost, pending, pending_in, held, held_in, level_open, level_arguments}
@@ -88,6 +88,29 @@ argument_at_hand table c r b is at some =
 pub body_at_hand : (table : List (Option Entry)) (c : Call) (p : Option Token) (b : Bool) → c.argument ≡ None → p ≡ slice_get (rest table c.body) 0 → (IsTrue b → MatchOption p ⊥ IsText) → IsTrue b → IsSome (first (without_gaps (items_of table c)))
 body_at_hand table c None b is at text some = absurd (text some)
 body_at_hand table c (Some t) b is at text some = subst (λ (xs : List Item). IsSome (first xs)) (sym (text_front table c _ t is (get_drop (rest table c.body) 0 t (sym at)) (text some))) refl
+
+text_at_hand : (ts : List Token) → is_some (slice_get ts 0) ≡ true → IsSome (first (map Text ts))
+text_at_hand [] is = cc
+text_at_hand (t ∷ ts) is = refl
+
+pub list_at_hand : (table : List (Option Entry)) (l : Level) (r : Reader) (b : Bool) → l ≡ level.List r → b ≡ is_some (slice_get (rest table r) 0) → IsTrue b → IsSome (level_item table l)
+list_at_hand table l r b is at some = subst (λ (k : Level). IsSome (level_item table k)) (sym is) (text_at_hand (rest table r) (sym at ∙ true_is b some))
+
+item_some : (l : Level) (table : List (Option Entry)) → IsSome (level_item table l) → is_level_passed table l ≡ false
+item_some (level.List r) table some = some_front (rest table r) some
+  where
+    some_front : (ts : List Token) → IsSome (first (map Text ts)) → is_empty (map Text ts) ≡ false
+    some_front [] is = cc
+    some_front (t ∷ ts) is = refl
+item_some (level.Call c) table some = some_items (without_gaps (items_of table c)) some
+  where
+    some_items : (xs : List Item) → IsSome (first xs) → is_empty xs ≡ false
+    some_items [] is = cc
+    some_items (x ∷ xs) is = refl
+item_some (level.Source s) table some = refl
+
+pub stack_at_hand : (table : List (Option Entry)) (xs ls : List Level) (l : Level) → xs ≡ l ∷ ls → IsSome (level_item table l) → IsSome (next_item (pending_in table xs).puts)
+stack_at_hand table xs ls l is some = subst (λ (o : Option Item). IsSome o) (sym (top_next table xs ls l is (item_some l table some))) some
 
 -- IT IS PULLED
 

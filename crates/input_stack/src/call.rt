@@ -188,9 +188,9 @@ impl Call {
         }
     }
 
-    // Whether the next item is at hand: a further token of the open argument, or a token of the body that is no parameter
-    // number.
-    fn is_at_hand(&self, lists: &Lists) -> bool
+    /// Whether the next item is at hand: a further token of the open argument, or a token of the body that is no parameter
+    /// number.
+    pub fn is_at_hand(&self, lists: &Lists) -> bool
         requires { IsCall lists.now self.now }
         ensures { IsTrue result → IsSome (first (without_gaps (items_of lists.now self.now))) }
     {

@@ -1,5 +1,5 @@
 // What one level gives.
-ghost use Rattle.std.specs.Prelude.{◌≡◌, length, false, None, Some, IfSome, cond};
+ghost use Rattle.std.specs.Prelude.{◌≡◌, length, false, None, Some, IfSome, IsSome, IsTrue, cond};
 ghost use Rattle.line_lexer.specs.declared.Ahead.TheVariants as ahead;
 ghost use Rattle.input_stack.specs.Pulls.{answer_of};
 ghost use Rattle.input_stack.specs.Standing.{IsLevel, IsUnfinished};
@@ -34,6 +34,18 @@ pub fn quick_level(level: &mut Level, lists: &Lists) -> Option<Token>
         Level::List(reader) => reader.pull(lists),
         Level::Call(call) => call.quick(lists),
         Level::Source(_) => None,
+    }
+}
+
+/// Whether the next item of a list or a call is a token at hand.
+pub fn is_at_hand(level: &Level, lists: &Lists) -> bool
+    requires { IsLevel lists.now level.now }
+    ensures { IsTrue result → IsSome (level_item lists.now level.now) }
+{
+    match level {
+        Level::List(reader) => reader.is_left(lists),
+        Level::Call(call) => call.is_at_hand(lists),
+        Level::Source(_) => false,
     }
 }
 

@@ -1,4 +1,4 @@
-ghost use Rattle.std.specs.Prelude.{◌≡◌, ℕ, ◌+◌, ◌≤◌, ◌<◌, List, Option, [], ◌∷◌, IfOk, IfErr, MatchOption, MatchResult, OnOk, OnErr, None, Some, map, false, cond, IfSome, IsTrue, length, vec_capacity};
+ghost use Rattle.std.specs.Prelude.{◌≡◌, ℕ, ◌+◌, ◌≤◌, ◌<◌, List, Option, [], ◌∷◌, IfOk, IfErr, MatchOption, MatchResult, OnOk, OnErr, None, Some, map, false, cond, IfSome, IsSome, IsTrue, length, vec_capacity};
 ghost use Rattle.token_lists.specs.Table.{Entry, IsHeld, tokens_at, entry_at};
 ghost use Rattle.token_lists.specs.Ids.{id_of};
 ghost use Rattle.token_lists.specs.Accounts.{Moves, Keeps, Covers, none, holds};
@@ -22,7 +22,7 @@ use crate::levels::{
     argument_levels, arguments, close_argument, is_finished, is_passed, next_item, release,
 };
 use crate::met::is_opening;
-use crate::pull::{is_token, level_looks, pull_level, quick_level};
+use crate::pull::{is_at_hand, is_token, level_looks, pull_level, quick_level};
 use crate::reader::Reader;
 use crate::release::let_go;
 use line_lexer::{Ahead, Line};
@@ -561,6 +561,15 @@ impl InputStack {
         }
         self.pass_gaps(lists);
         Ok(self.pull_top(lists, bytes, categories, opening))
+    }
+
+    /// Whether the next item is a token at hand. Nothing changes.
+    pub fn is_at_hand(&self, lists: &Lists) -> bool
+        requires { Stands lists.now self.now }
+        ensures { IsTrue result → IsSome (next_item (pending lists.now self.now).puts) }
+    {
+        let count = self.levels.len();
+        count > 0 && is_at_hand(&self.levels[count - 1], lists)
     }
 
     /// What the next pull gives: a token of a list or of the line, an invalid character, or nothing more of the line.
