@@ -132,7 +132,7 @@ pub front_refused : (h : HeldLists) (b : List ℕ) (file : FilesLeft) (old : Sto
 front_refused h b file old is tied r why = subst (λ (v : Stored). MatchResult r (λ _. pull_refusal v ≡ None) (λ full. pull_refusal v ≡ Some full)) is (why file.files file.next tied)
 
 -- what is given and has room is read; no line is taken where something is left in front of the file
-reads_of : (q : plain.Pulled) (x : Pulled) (sizes : Sizes) (end : ℤ) (p new : Pending) (bytes : List ℕ) → takes_file q ≡ false →
+pub reads_of : (q : plain.Pulled) (x : Pulled) (sizes : Sizes) (end : ℤ) (p new : Pending) (bytes : List ℕ) → takes_file q ≡ false →
     Gives q x p new bytes → refused sizes (step_demands q p) ≡ None → Reads q x sizes end p new bytes
 reads_of q (answer.Token t) sizes end p new bytes left h room = (h, sym (ap (λ (o : plain.Pulled). refused sizes (step_demands o p)) h) ∙ room)
 reads_of q (answer.Lexeme l) sizes end p new bytes left h room = h

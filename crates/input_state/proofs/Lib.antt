@@ -43,3 +43,4 @@ pub mod Grouping
 pub mod Closing
 pub mod Walking
 pub mod ListNumbers
+pub mod AtOnce

@@ -177,7 +177,7 @@ pull_outer t size c b d p q r n fs h inside = item_outer t size c b d p q (next_
 
 module _ (t s : List (Option Entry)) (c b d : List ℕ) (ls : List Level) (q : Pending) (sizes : Sizes) (files : List FileLeft) (opened : Option (List ℕ)) (more : ahead_of c (seen t (pending_in s ls) b files opened) ≢ ahead.End) (same : length d ≡ length b) where
   -- an item is handed on that has room
-  item_seen : (x : Item) (r : Result Given Full) → next_item (pending_in s ls).puts ≡ Some x → r ≡ Ok (given_as.Token (token_in x)) → q ≡ with_puts (pulled (pending_in s ls).puts) (pending_in s ls) → d ≡ b → IsRead c d sizes (seen t (pending_in s ls) b files opened) (seen t q d files opened) r
+  pub item_seen : (x : Item) (r : Result Given Full) → next_item (pending_in s ls).puts ≡ Some x → r ≡ Ok (given_as.Token (token_in x)) → q ≡ with_puts (pulled (pending_in s ls).puts) (pending_in s ls) → d ≡ b → IsRead c d sizes (seen t (pending_in s ls) b files opened) (seen t q d files opened) r
   item_seen x r next answer_is after bytes =
       let pp = seen t (pending_in s ls) b files opened in
       let k = next_some t (pending_in s ls).puts x next in
@@ -245,7 +245,7 @@ module _ (t s : List (Option Entry)) (c b d : List ℕ) (ls : List Level) (q : P
     IsRefused (Ok g) = refused sizes (step_demands (plain.pulled c (seen t (pending_in s ls) b files opened)) (seen t (pending_in s ls) b files opened)) ≡ None
     IsRefused (Err f) = refused sizes (step_demands (plain.pulled c (seen t (pending_in s ls) b files opened)) (seen t (pending_in s ls) b files opened)) ≡ Some f
 
-    item_needs : (size : ℕ) (x : Item) → size ≡ sizes.input_stack_size → next_item (pending_in s ls).puts ≡ Some x → refused sizes (step_demands (plain.pulled c (seen t (pending_in s ls) b files opened)) (seen t (pending_in s ls) b files opened)) ≡ refused_at size x (pending_in s ls)
+    pub item_needs : (size : ℕ) (x : Item) → size ≡ sizes.input_stack_size → next_item (pending_in s ls).puts ≡ Some x → refused sizes (step_demands (plain.pulled c (seen t (pending_in s ls) b files opened)) (seen t (pending_in s ls) b files opened)) ≡ refused_at size x (pending_in s ls)
     item_needs size x same is =
         let pp = seen t (pending_in s ls) b files opened in
         let k = next_some t (pending_in s ls).puts x is in

@@ -16,3 +16,4 @@ pub mod Calls
 pub mod Changes
 pub mod Given
 pub mod Walks
+pub mod AtOnce

@@ -37,6 +37,7 @@ ghost use Rattle.macro_call.specs.Modes.{mode_of};
 ghost use Rattle.std.specs.Option.{option_map};
 ghost use Rattle.input_state.specs.Changes.{IsOnly};
 ghost use Rattle.input_state.specs.Reads.{GivesTo, step_demands};
+ghost use Rattle.input_state.specs.AtOnce.{GivesAtOnce};
 ghost use Rattle.input_state.specs.Given.{GivesMore, GivesOrRefuses, answer_of, told};
 
 use crate::gathering::{Gathering, begin as begin_call, feed};
@@ -426,6 +427,23 @@ impl Held {
     {
         self.stack
             .looks(&self.lists, bytes, self.table.categories())
+    }
+
+    /// Whether the next token of a list in front is at hand. Nothing changes.
+    pub fn is_at_hand(&self) -> bool
+        ensures { IsTrue result → (bytes : List ℕ) (files : List FileLeft) (next : Option (List ℕ)) → ahead_of self.now.groups.now.categories (pending_of self.now bytes files next) ≡ ahead.Token }
+    {
+        self.stack.is_at_hand(&self.lists)
+    }
+
+    /// The next token of a list in front, where it is at hand: no list has to go first, and no argument's level opens.
+    pub fn quick(&mut self) -> Option<Token>
+        ensures gives { IfSome result (λ t. GivesAtOnce self.old self.new t) }
+        ensures stays { result ≡ None → self.new ≡ self.old }
+        ensures others { self.new ≡ record self.old { puts = self.new.puts } }
+        ensures macros { KeepsHeld self.old self.new }
+    {
+        self.stack.quick(&self.lists)
     }
 
     /// The next token of a list in front, or what the line gives, where it isn't used up.

@@ -1,5 +1,5 @@
 // The input of a run.
-ghost use Rattle.std.specs.Prelude.{◌≡◌, ◌≢◌, ℕ, true, false, ◌≤◌, ◌<◌, ◌+◌, ◌^◌, ◌++◌, [], ◌∷◌, None, Some, IsSome, IfSome, IfOk, IfErr, OnOk, OnErr, MatchResult, MatchBool, MatchOption, length, drop, replicate, vec_capacity, slice_index_or, pos};
+ghost use Rattle.std.specs.Prelude.{◌≡◌, ◌≢◌, ℕ, true, false, ◌≤◌, ◌<◌, ◌+◌, ◌^◌, ◌++◌, [], ◌∷◌, None, Some, IsSome, IfSome, IsTrue, IfOk, IfErr, OnOk, OnErr, MatchResult, MatchBool, MatchOption, length, drop, replicate, vec_capacity, slice_index_or, pos};
 ghost use Rattle.std.specs.Bool.{OnTrue};
 ghost use Rattle.std.specs.Option.{option_map};
 ghost use Rattle.tex_defs.specs.Sizes.{first_out_of_range};
@@ -36,6 +36,7 @@ ghost use Rattle.input_state.specs.Counted.{AreCounted};
 ghost use Rattle.input_state.specs.Stored.{KeepsMacros, call_refusal, put_refusal, words, spelt};
 ghost use Rattle.input_state.specs.Walks.{to_come};
 ghost use Rattle.equivalents.specs.Parameters.{integer_in, end_of_line};
+ghost use Rattle.input_state.specs.declared.answer.Pulled.TheVariants as answer;
 ghost use Rattle.input_state.specs.Reads.{GivesTo, TakesLine, Pulls, pull_refusal, RefusesLine, gives_step};
 
 use crate::file::{Files, Step};
@@ -433,6 +434,17 @@ impl Input {
         }
     }
 
+    // The next token of a list in front, where it is at hand.
+    fn quick(&mut self) -> Option<Token>
+        ensures gives { IfSome result (λ t. Pulls (pulled self.old.groups.now.categories self.old.pending) (answer.Token t) self.old self.new) }
+        ensures room { IsSome result → pull_refusal self.old ≡ None }
+        ensures stays { result ≡ None → self.new ≡ self.old }
+        ensures others { self.new ≡ record self.old { pending = self.new.pending } }
+        ensures macros { KeepsMacros self.old self.new }
+    {
+        self.held.quick()
+    }
+
     /// The next token of a list in front, character or name of the line, or line of the file.
     /// *The TeXbook*, chapters 7 and 8; *TeX: The Program*, part 24 (`get_next`).
     ///
@@ -446,6 +458,20 @@ impl Input {
         ensures refused { MatchResult result (λ _. pull_refusal self.old ≡ None) (λ full. pull_refusal self.old ≡ Some full) }
         ensures err { OnErr result (self.new.pending ≡ settle self.old.pending) }
     {
+        match self.quick() {
+            Some(token) => Ok(Pulled::Token(token)),
+            None => self.pull_looked(),
+        }
+    }
+
+    // The same, where it may be that lists have to go first, that a level opens, or that a line or the file gives it.
+    fn pull_looked(&mut self) -> Result<Pulled, Full>
+        ensures ok { IfOk result (λ r. Pulls (pulled self.old.groups.now.categories self.old.pending) r self.old self.new) }
+        ensures others { self.new ≡ record self.old { pending = self.new.pending; buffer = self.new.buffer; lists = self.new.lists } }
+        ensures macros { KeepsMacros self.old self.new }
+        ensures refused { MatchResult result (λ _. pull_refusal self.old ≡ None) (λ full. pull_refusal self.old ≡ Some full) }
+        ensures err { OnErr result (self.new.pending ≡ settle self.old.pending) }
+    {
         match self.looks() {
             Ahead::Token | Ahead::Invalid => self.read_front(),
             Ahead::End => {
@@ -453,6 +479,15 @@ impl Input {
                 self.pull_file()
             }
         }
+    }
+
+    /// Whether the next token of a list in front is at hand: then the next reading gives it, and no byte of the file is needed
+    /// for it. Nothing changes.
+    pub fn is_at_hand(&self) -> bool
+        ensures knows { IsTrue result → KnowsNext self.now }
+        ensures step { IsTrue result → gives_step (pulled self.now.groups.now.categories self.now.pending) ≡ true }
+    {
+        self.held.is_at_hand()
     }
 
     /// Whether the next reading gives a token, a name or a line. Nothing changes.

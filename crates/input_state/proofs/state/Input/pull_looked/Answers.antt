@@ -4,7 +4,7 @@ use Rattle.input_state.specs.Stored.{Stored}
 use Rattle.input_state.specs.HeldLists.{ahead_of}
 use Rattle.input_state.proofs.Readies.{no_end}
 use Rattle.input_state.proofs.Files.{keeps_twice, settled_twice, ahead_settled, front_ok, pull_ok, pull_refused, pull_err}
-use Rattle.input_state.proofs.state.Input.pull.Goals as goal
+use Rattle.input_state.proofs.state.Input.pull_looked.Goals as goal
 
 pub returns-in-Token-clause-ok : goal.returns-in-Token-clause-ok
 returns-in-Token-clause-ok c =
