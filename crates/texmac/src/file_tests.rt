@@ -405,3 +405,29 @@ fn a_file_that_fails_ends_the_run_behind_what_was_written(rt: HostRuntime) {
         assert!(rt; matches!(failed, Ok(true)), "call {call}");
     }
 }
+
+/// What is written by the run that opens a file of 10^6 lines, within one step less than it has: 29 of the job's first line, 6 of its second, 1 of each
+/// line of the file, and 1 of the name on the last.
+const MILLION_LINES: &[u8] =
+    b"! Undefined control sequence.\nl.1000000\n! Undefined control sequence.\nl.2\n! Step limit reached [steps=1000035].\n";
+
+/// The words of that run.
+const WITHIN_A_MILLION: &[&str] = &["texmac", "init", "job", "--steps", "1000035"];
+
+/// Whether the run does so. On the file's last line stands a name that means nothing, and on the job's behind it; then the job has its `\end`.
+fn does_with_many_lines(alloc: Global) -> Result<bool, AllocError> {
+    let lines = repeated(alloc, b"%%\n", 999_999, b"\\foo%\n")?;
+    let job = repeated(alloc, USUAL, 1, b"\\input b \\foo\\end\n")?;
+    let held = [
+        (b"job.tex".as_slice(), job.as_slice()),
+        (b"b.tex".as_slice(), lines.as_slice()),
+    ];
+    Ok(does(alloc, &held, WITHIN_A_MILLION, 0, (MILLION_LINES, 4)))
+}
+
+#[test]
+fn a_file_may_have_a_million_lines(rt: HostRuntime) {
+    let done = does_with_many_lines(rt.alloc());
+    // within a step less the second report wouldn't come, and within a step more the run would end
+    assert!(rt; matches!(done, Ok(true)));
+}
