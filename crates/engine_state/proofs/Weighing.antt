@@ -11,9 +11,10 @@ use Rattle.rows.specs.declared.command.Call.{Call}
 use Rattle.rows.specs.declared.command.Effect.TheVariants.{ExpandBehind}
 use Rattle.rows.specs.Readings.{Ask, Inner, Done, Acts}
 use Rattle.plain_readings.specs.Readings.{Kind, Reads, Spelling, FileName, Behind, Arguments, Reading, ask}
-use Rattle.plain_readings.specs.Laws.{BeginsLower, rank}
+use Rattle.plain_readings.specs.Laws.{BeginsNoCommand, rank}
 use Rattle.plain_readings.specs.Weights.{frame_weight, value_weight, act_weight}
 use Rattle.plain_readings.proofs.Lower.{lower}
+use Rattle.plain_readings.proofs.Weights.{no_command_low}
 use Rattle.reading_frames.specs.Resumes.{resume}
 use Rattle.reading_frames.specs.Stack.{asks_in}
 use Rattle.reading_frames.specs.Stands as frames
@@ -32,23 +33,13 @@ lighter e e' none none' same less =
 
 -- WHAT BEGINS WITHIN ANOTHER isn't a command
 
-low_rank : (k : Kind) → rank k ≤ 1
-low_rank (Reads (Command c)) = omega arith
-low_rank (Reads Integer) = omega arith
-low_rank (Reads (Text name expanded)) = omega arith
-low_rank (Reads (Definition name expanded)) = omega arith
-low_rank (Spelling c) = omega arith
-low_rank (FileName c) = omega arith
-low_rank (Behind c x) = omega arith
-low_rank (Arguments name long number text) = omega arith
-
 begun_low : (k : Begun) → rank (Reads k) < 1 → begun_weight (opening.Reads k) ≡ 0
 begun_low (Command c) h = absurd (omega (arith, h))
 begun_low Integer h = refl
 begun_low (Text name expanded) h = refl
 begun_low (Definition name expanded) h = refl
 
-with_low : (k : Begun) → rank (Reads k) < 1 → begun_with_weight (opening.Reads k) ≡ 11
+with_low : (k : Begun) → rank (Reads k) < 1 → begun_with_weight (opening.Reads k) ≡ 19
 with_low (Command c) h = absurd (omega (arith, h))
 with_low Integer h = refl
 with_low (Text name expanded) h = refl
@@ -60,8 +51,7 @@ inner_low (f ∷ fs) held [] k begins st asks = absurd st
 inner_low (f ∷ fs) held (r ∷ rs) k begins st asks =
     let now : ask r.kind r.fed ≡ resume f held [] = ap (ask r.kind) (sym (append-nil r.fed)) ∙ st.0.goes_on [] in
     let is : resume f held [] ≡ Inner k begins = cc asks in
-    let low : BeginsLower (rank r.kind) (Inner k begins) = subst (BeginsLower (rank r.kind)) (now ∙ is) (lower r.kind r.fed) in
-    omega (arith, low, low_rank r.kind)
+    no_command_low k begins (subst BeginsNoCommand (now ∙ is) (lower r.kind r.fed))
 
 -- EACH RULE, by what the calls say
 
@@ -88,14 +78,14 @@ module _ (e e' : Engine) (none : e.call ≡ None) (none' : e'.call ≡ None) (sa
   acted_lighter a asks end least count light = lighter e e' none none' same ((falls e.readings e'.readings).acted (ends_heavy e.readings.frames a asks end) least count light)
 
   -- one acts, and another begins in its place
-  pub begun_by_act_lighter : (a : Ask) → asks_in e.readings.frames [] ≡ Some a → IsEnd a → length e'.readings.frames ≡ length e.readings.frames → innermost_weight e'.readings.frames ≤ 7 → weight e' < weight e
+  pub begun_by_act_lighter : (a : Ask) → asks_in e.readings.frames [] ≡ Some a → IsEnd a → length e'.readings.frames ≡ length e.readings.frames → innermost_weight e'.readings.frames ≤ 11 → weight e' < weight e
   begun_by_act_lighter a asks end count light = lighter e e' none none' same ((falls e.readings e'.readings).begun_by_act (ends_heavy e.readings.frames a asks end) count light)
 
   -- `\expandafter` ends: its token waits in its place, perhaps with an expansion above it
   pub waits_lighter : (c : Call) (x y : Seen) → asks_in e.readings.frames [] ≡ Some (Acts c (ExpandBehind x y)) → length e'.readings.frames ≡ length e.readings.frames → innermost_weight e'.readings.frames ≤ act_weight → weight e' < weight e
   waits_lighter c x y asks count light = lighter e e' none none' same ((falls e.readings e'.readings).waits c x y asks count light)
 
-  pub expanded_lighter : (c : Call) (x y : Seen) → asks_in e.readings.frames [] ≡ Some (Acts c (ExpandBehind x y)) → length e'.readings.frames ≡ length e.readings.frames + 1 → innermost_weight e'.readings.frames ≤ 7 → weight e' < weight e
+  pub expanded_lighter : (c : Call) (x y : Seen) → asks_in e.readings.frames [] ≡ Some (Acts c (ExpandBehind x y)) → length e'.readings.frames ≡ length e.readings.frames + 1 → innermost_weight e'.readings.frames ≤ 11 → weight e' < weight e
   expanded_lighter c x y asks count light = lighter e e' none none' same ((falls e.readings e'.readings).expanded_behind c x y asks count light)
 
   -- the note of a report

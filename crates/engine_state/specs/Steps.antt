@@ -6,7 +6,7 @@ use Rattle.tex_defs.specs.declared.Seen.{Seen}
 use Rattle.plain_tokens.specs.Pending.{Pending, Source, Progress, Begun, Closed, pulled}
 use Rattle.plain_machine.specs.Extended.{starts}
 use Rattle.rows.specs.Readings as reading
-use Rattle.plain_readings.specs.Weights.{frame_weight}
+use Rattle.plain_readings.specs.Weights.{frame_weight, act_weight}
 use Rattle.reading_frames.specs.Stack.{asks_in}
 use Rattle.reading_frames.specs.Weights.{stack_weight}
 use Rattle.input_state.specs.Reads.{gives_step}
@@ -74,8 +74,8 @@ pending_weight p = (length p.line + file_weight p.file) + outer_weight p.outer
 -- a call: as much as a reading, and what it asks for
 abbrev pub call_weight : CallAsk → ℕ
 call_weight call.More = 0
-call_weight call.ExtraBrace = 14
-call_weight a = 13
+call_weight call.ExtraBrace = act_weight + 1
+call_weight a = act_weight
 
 -- the open readings: a call stands above the frames
 abbrev pub readings_weight : Option Call → Engine → ℕ

@@ -2,7 +2,10 @@
 ghost use Rattle.std.specs.Prelude.{◌≡◌, ◌<◌, ◌≤◌, ◌+◌, ◌-◌, List, [], ◌∷◌, length, drop, IfErr, OnOk, OnErr, Some, None, IsSome};
 ghost use Rattle.tex_defs.specs.Places.{World};
 ghost use Rattle.tex_defs.specs.declared.Sizes.{Sizes};
-ghost use Rattle.rows.specs.Readings.{Tok, Told, Val, Done};
+ghost use Rattle.equivalents.specs.Groups.{IsLocation};
+ghost use Rattle.equivalents.specs.Locations.{value_seen};
+ghost use Rattle.equivalents.specs.Tables.{get};
+ghost use Rattle.rows.specs.Readings.{Tok, Told, Fetched, Val, Done, Fetches};
 ghost use Rattle.plain_readings.specs.Readings.{Reading, fed_with, opened, opened_with, lists};
 ghost use Rattle.plain_readings.specs.Weights.{frame_weight as reading_weight, value_weight, act_weight};
 ghost use Rattle.plain_tokens.specs.Tables.{memory, refused};
@@ -13,19 +16,20 @@ ghost use Rattle.input_state.specs.Callings.{NotCalling};
 ghost use Rattle.input_state.specs.Stored.{KeepsMacros, words as stored_words};
 ghost use Rattle.reading_frames.specs.Weights.{innermost_weight, begun_weight, begun_with_weight, IsReported};
 ghost use Rattle.reading_frames.specs.Stack.{asks_in};
-ghost use Rattle.plain_machine.specs.States.{Begun, BegunWith, Closed, Ended, made};
+ghost use Rattle.plain_machine.specs.States.{Begun, BegunWith, Closed, Ended, Feeds, made};
 ghost use Rattle.plain_machine.specs.Demands.{refusal};
 ghost use Rattle.plain_machine.specs.Plan.{noting, value_tokens};
 ghost use Rattle.plain_machine.specs.Does.{Did};
 ghost use Rattle.engine_state.specs.Book.{Book, with_work};
 ghost use Rattle.engine_state.specs.CutReadings.{CutsIn, with_token};
 ghost use Rattle.engine_state.specs.Feeding.{HasTop, IsKept, TokensFit, TokensCut, with_tokens};
-ghost use Rattle.engine_state.specs.Stands.{Stands, Counts, IsSound, SameBut, state_of, depth, depth_full};
+ghost use Rattle.engine_state.specs.Stands.{Stands, Counts, IsSound, SameBut, state_of, page_of, depth, depth_full};
 ghost use Rattle.engine_state.specs.Rules.{feeds_of};
 ghost use Rattle.engine_state.specs.Steps.{asked};
 ghost use Rattle.engine_state.specs.declared.broken.Broken.TheVariants as broken;
 
 use crate::engine::Engine;
+use equivalents::Loc;
 use reading_frames::{Frame, Grown, Opening};
 use rows::{Kind, Value};
 use tex_defs::{Full, Seen, Sizes, Table, Token};
@@ -183,6 +187,19 @@ impl Engine {
             return Err(full);
         }
         Ok(())
+    }
+
+    /// The innermost frame takes what stands at the location for which it asked. *TeX: The Program*, part 26 (`scan_something_internal`).
+    pub fn fetch(&mut self, loc: Loc)
+        requires within { IsLocation self.old.input.groups loc }
+        ensures stands { (sizes : Sizes) (book : Book) → Stands sizes self.old book → Stands sizes self.new (with_work (fed_with (Fetched (value_seen (get (page_of self.old book).now loc))) book.work) book) }
+        ensures state { (sizes : Sizes) (book : Book) → Stands sizes self.old book → made (Feeds (Fetched (value_seen (get (page_of self.old book).now loc)))) (state_of self.old book) ≡ state_of self.new (with_work (fed_with (Fetched (value_seen (get (page_of self.old book).now loc))) book.work) book) }
+        ensures same { SameBut self.old self.new }
+        ensures weight { asks_in self.old.readings.frames [] ≡ Some (Fetches loc) → innermost_weight self.new.readings.frames < innermost_weight self.old.readings.frames }
+        ensures count { length self.new.readings.frames ≡ length self.old.readings.frames }
+    {
+        let value = self.input.value(loc);
+        self.readings.fetched(value);
     }
 
     /// Ends the innermost reading with this value, with which the one beneath is fed; its list, where it has one with a token, goes there too.

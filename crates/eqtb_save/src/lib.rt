@@ -17,7 +17,7 @@ ghost use Rattle.plain_tokens.specs.Tables.{refused};
 ghost use Rattle.std.specs.Option.{option_map};
 ghost use Rattle.equivalents.specs.declared.values.Loc.TheVariants as loc;
 ghost use Rattle.equivalents.specs.Tables.{get};
-ghost use Rattle.equivalents.specs.Locations.{Suits, index, locations_without_names};
+ghost use Rattle.equivalents.specs.Locations.{Suits, index, locations_without_names, value_seen};
 ghost use Rattle.equivalents.specs.Groups.{saves, kind_of, depth as groups_depth, set_demands, group_demands, token_demands, IsLocation};
 ghost use Rattle.equivalents.specs.Holding.{list_of, value_list, lists_held, lists_outside};
 ghost use Rattle.equivalents.specs.Laws.{AreAlike};
@@ -41,7 +41,7 @@ use std::marker::Model;
 use tex_defs::{Full, Meaning, Name, Seen, Sizes, Table, Token};
 use token_lists::{ListRef, Lists};
 pub use values::Value;
-use values::{category_of, index, meant, number, release, share};
+use values::{category_of, index, meant, number, release, share, value_seen};
 
 /// One table of all current values, with the values that the open groups saved.
 #[must_use]
@@ -328,6 +328,14 @@ impl Eqtb {
         ensures { result ≡ slice_index_or self.now.groups.now.integers i (pos 0) }
     {
         number(self.get(Loc::Integer(i)))
+    }
+
+    /// What stands at a location, without its list.
+    pub fn value(&self, loc: Loc) -> Val<()>
+        requires { IsLocation self.now.groups loc }
+        ensures { result ≡ value_seen (get self.now.groups.now loc) }
+    {
+        value_seen(self.get(loc))
     }
 
     // NAMES

@@ -4,7 +4,7 @@ ghost use Rattle.token_lists.specs.Table.{IsHeld, holders_at};
 ghost use Rattle.token_lists.specs.Accounts.{Moves, Keeps, none};
 ghost use Rattle.token_lists.specs.Ids.{id_of};
 ghost use Rattle.equivalents.specs.declared.values.Val.TheVariants as val;
-ghost use Rattle.equivalents.specs.Locations.{category_of, number_of, first_code, first_register, index, IsMeaning};
+ghost use Rattle.equivalents.specs.Locations.{category_of, number_of, first_code, first_register, index, value_seen, IsMeaning};
 ghost use Rattle.equivalents.specs.Holding.{value_list};
 ghost use Rattle.meanings.specs.Kept.{numbered as numbered_meaning};
 ghost use Rattle.meanings.specs.Holding.{with_holder, without_holder, Lasts};
@@ -12,7 +12,7 @@ ghost use Rattle.eqtb_save.specs.Values.{numbered};
 ghost use Rattle.eqtb_save.specs.Holding.{val_holds};
 
 use equivalents::{CodeKind, Loc, Val};
-use meanings::Kept;
+use meanings::{Kept, seen};
 use tex_defs::RegisterKind;
 use token_lists::{ListRef, Lists};
 
@@ -77,6 +77,18 @@ pub fn meant(value: &Value) -> Option<&Kept>
     match value {
         Val::Meant(kept) => Some(kept),
         _ => None,
+    }
+}
+
+// A value as readings see it: without its list.
+pub fn value_seen(value: &Value) -> Val<()>
+    ensures { result ≡ value_seen (numbered value.now) }
+{
+    match value {
+        Val::Number(n) => Val::Number(*n),
+        Val::Skip(glue) => Val::Skip(*glue),
+        Val::Meant(kept) => Val::Meant(seen(kept)),
+        Val::Tokens(_) => Val::Tokens(()),
     }
 }
 

@@ -4,6 +4,7 @@ use Rattle.tex_defs.specs.declared.Meaning.{Meaning}
 use Rattle.tex_defs.specs.declared.Meaning.TheVariants as means
 use Rattle.tex_defs.specs.declared.RegisterKind.{RegisterKind}
 use Rattle.tex_defs.specs.declared.RegisterKind.TheVariants as register
+use Rattle.plain_tokens.specs.Meanings.{seen_as}
 use Rattle.equivalents.specs.declared.values.CodeKind.{CodeKind}
 use Rattle.equivalents.specs.declared.values.CodeKind.TheVariants as code
 use Rattle.equivalents.specs.declared.values.Glue.{Glue}
@@ -89,6 +90,16 @@ tokens_of v = None
 abbrev pub meaning_of : V → Meaning (Option ℕ)
 meaning_of (val.Meant m) = m
 meaning_of v = means.Undefined
+
+-- a value as readings see it: without its list
+abbrev pub SeenValue : Type 0
+SeenValue = Val Unit
+
+abbrev pub value_seen : V → SeenValue
+value_seen (val.Number n) = val.Number n
+value_seen (val.Skip g) = val.Skip g
+value_seen (val.Meant m) = val.Meant (seen_as m)
+value_seen (val.Tokens list) = val.Tokens tt
 
 -- the value is of the kind that its location has
 abbrev pub IsCategory : ℤ → Type 0

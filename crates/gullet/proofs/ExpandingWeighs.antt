@@ -35,7 +35,7 @@ module _ (e : Engine) (none : e.call ≡ None) (light : innermost_weight e.readi
       omega (arith, is, frames, left, light)
 
   -- a reading more
-  pub begun_light : (e' : Engine) (n : ℕ) → e'.call ≡ e.call → length e'.readings.frames ≡ length e.readings.frames + 1 → innermost_weight e'.readings.frames ≤ n → n ≤ 7 → e'.input.pending ≡ e.input.pending → weight e' ≤ most
+  pub begun_light : (e' : Engine) (n : ℕ) → e'.call ≡ e.call → length e'.readings.frames ≡ length e.readings.frames + 1 → innermost_weight e'.readings.frames ≤ n → n ≤ 11 → e'.input.pending ≡ e.input.pending → weight e' ≤ most
   begun_light e' n call count begun few same =
       let is : readings_weight e'.call e' ≡ stack_weight e'.readings = ap (λ (c : Option Call). readings_weight c e') (call ∙ none) in
       let left : pending_weight e'.input.pending ≡ pending_weight e.input.pending = ap pending_weight same in

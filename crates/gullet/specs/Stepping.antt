@@ -56,7 +56,7 @@ ExpandsTo by.EndInput page others moves = moves ≡ FileEnds ∷ []
 
 -- what begins weighs little
 abbrev pub IsLight : Expansion → Type 0
-IsLight (by.Begin o) = begun_weight o ≤ 7
+IsLight (by.Begin o) = begun_weight o ≤ 11
 IsLight e = Unit {0}
 
 abbrev pub is_expansion : Expansion → Bool

@@ -5,7 +5,8 @@ ghost use Rattle.tex_defs.specs.declared.Meaning.TheVariants as means;
 ghost use Rattle.plain_tokens.specs.Meanings.{is_listed, location, name_meaning, seen, met, meaning_to_let};
 ghost use Rattle.equivalents.specs.declared.values.Loc.TheVariants as loc;
 ghost use Rattle.equivalents.specs.declared.values.Val.TheVariants as val;
-ghost use Rattle.equivalents.specs.Locations.{Suits};
+ghost use Rattle.equivalents.specs.Locations.{Suits, value_seen};
+ghost use Rattle.equivalents.specs.Tables.{get};
 ghost use Rattle.equivalents.specs.Groups.{first_groups, entered, set, set_name, set_demands, name_demands, group_demands, token_demands, opened, with_token, closed, tokens_after, kind_of, depth, IsLocation};
 ghost use Rattle.equivalents.specs.Parameters.{integer_in};
 ghost use Rattle.equivalents.specs.Holding.{lists_held, lists_outside};
@@ -761,6 +762,14 @@ impl Held {
         ensures { result ≡ integer_in self.now.groups.now i }
     {
         self.table.integer(i)
+    }
+
+    /// What stands at a location, without its list.
+    pub fn value(&self, loc: Loc) -> Val<()>
+        requires { IsLocation self.now.groups loc }
+        ensures { result ≡ value_seen (get self.now.groups.now loc) }
+    {
+        self.table.value(loc)
     }
 
     /// The token behind so many of the list of the macro that a name means, and how many then stand in front.

@@ -7,7 +7,8 @@ ghost use Rattle.tex_defs.specs.declared.Meaning.TheVariants as means;
 ghost use Rattle.plain_tokens.specs.Tokens.{character_codes};
 ghost use Rattle.plain_tokens.specs.Meanings.{is_listed, location, name_meaning, seen, met, meaning_to_let};
 ghost use Rattle.equivalents.specs.declared.values.Val.TheVariants as val;
-ghost use Rattle.equivalents.specs.Locations.{Suits};
+ghost use Rattle.equivalents.specs.Locations.{Suits, value_seen};
+ghost use Rattle.equivalents.specs.Tables.{get};
 ghost use Rattle.equivalents.specs.Groups.{first_groups, entered, set, set_name, set_demands, name_demands, group_demands, token_demands, opened, with_token, closed as group_closed, tokens_after, kind_of, depth, IsLocation};
 ghost use Rattle.equivalents.specs.Holding.{lists_held, lists_outside};
 ghost use Rattle.equivalents.specs.Laws.{AreAlike};
@@ -44,7 +45,7 @@ use crate::lines::{first_line, put_bytes, put_line};
 use crate::lists_held::Held;
 use crate::places::{spell, spelt_length};
 use crate::{CallKind, CallTold, Pulled, Walk};
-use eqtb_save::{GroupKind, Loc};
+use eqtb_save::{GroupKind, Loc, Val};
 use line_lexer::{Ahead, Line, LineState};
 use std::alloc::{AllocError, Global};
 use std::marker::Model;
@@ -806,6 +807,14 @@ impl Input {
         ensures { result ≡ integer_in self.now.groups.now i }
     {
         self.held.integer(i)
+    }
+
+    /// What stands at a location, without its list.
+    pub fn value(&self, loc: Loc) -> Val<()>
+        requires { IsLocation self.now.groups loc }
+        ensures { result ≡ value_seen (get self.now.groups.now loc) }
+    {
+        self.held.value(loc)
     }
 
     /// A walk at the first token of the list of the macro that a name means: at its end where the name means none.

@@ -132,6 +132,19 @@ fn are_empty(eqtb: &Eqtb) -> bool {
         && is_no_list(eqtb.get(Loc::Tokens(7)))
 }
 
+// Whether values are seen without their lists.
+fn are_seen(eqtb: &Eqtb) -> bool {
+    let code = Loc::Code {
+        kind: CodeKind::Category,
+        code: 13,
+    };
+    eqtb.value(code) == Val::Number(5)
+        && eqtb.value(Loc::Integer(1)) == Val::Number(10000)
+        && eqtb.value(Loc::Dimension(20)) == Val::Number(0)
+        && eqtb.value(Loc::Tokens(7)) == Val::Tokens(())
+        && matches!(eqtb.value(Loc::Glue(17)), Val::Skip(glue) if glue.width == 0)
+}
+
 // A token, and what it is met as where the primitives 1, 30 and 54 alone mean something: `\relax`, `\let` and `\expandafter`.
 const MET: [(Token, Seen); 6] = [
     (
@@ -209,8 +222,9 @@ fn is_first(alloc: Global, lists: &mut Lists) -> bool {
     };
     let numbers = are_codes(&eqtb, &CODES) && are_integers(&eqtb, &INTEGERS);
     let others = are_empty(&eqtb) && are_known(&eqtb) && is_outermost(&eqtb);
+    let seen = are_seen(&eqtb);
     eqtb.close(lists);
-    numbers && others
+    numbers && others && seen
 }
 
 #[test]

@@ -3,10 +3,10 @@
 ghost use Rattle.std.specs.Prelude.{◌≡◌, None};
 ghost use Rattle.input_state.specs.Callings.{NotCalling};
 
-use eqtb_save::GroupKind;
+use eqtb_save::{GroupKind, Loc, Val};
 use input_state::Input;
 use std::alloc::Global;
-use tex_defs::{Full, Meaning, Name, Seen, Sizes, Token};
+use tex_defs::{Full, Meaning, Name, RegisterKind, Seen, Sizes, Token};
 
 const A: Name = Name::Single(97);
 
@@ -142,4 +142,28 @@ fn is_given_back(alloc: Global) -> bool {
 #[test]
 fn a_group_gives_back_what_held(rt: HostRuntime) {
     assert!(rt; is_given_back(rt.alloc()));
+}
+
+// `\count1=5`: whether it is 5 then, and `\count2` and the last integer parameter are what they were.
+fn is_assigned(input: &mut Input) -> Result<bool, Full> {
+    let kind = RegisterKind::Count;
+    input.set_number(Loc::Register { kind, no: 1 }, 5, false)?;
+    let assigned = input.value(Loc::Register { kind, no: 1 }) == Val::Number(5);
+    let others = input.value(Loc::Register { kind, no: 2 }) == Val::Number(0)
+        && input.value(Loc::Integer(54)) == Val::Number(0);
+    Ok(assigned && others)
+}
+
+fn is_read_back(alloc: Global) -> bool {
+    let Ok(mut input) = Input::new(alloc, &Sizes::DEFAULT, &[]) else {
+        return false;
+    };
+    let assigned = is_assigned(&mut input);
+    input.close();
+    matches!(assigned, Ok(true))
+}
+
+#[test]
+fn what_stands_at_a_location_is_read(rt: HostRuntime) {
+    assert!(rt; is_read_back(rt.alloc()));
 }

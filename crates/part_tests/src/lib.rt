@@ -25,7 +25,11 @@ mod mem_words_tests;
 #[cfg(test)]
 mod prim_table_tests;
 #[cfg(test)]
+mod rows_tests;
+#[cfg(test)]
 mod scaled_arith_tests;
+#[cfg(test)]
+mod scan_numbers_tests;
 #[cfg(test)]
 mod signals;
 #[cfg(test)]

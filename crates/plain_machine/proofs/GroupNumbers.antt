@@ -20,12 +20,12 @@ use Rattle.equivalents.specs.declared.values.CodeKind.TheVariants as code
 use Rattle.equivalents.specs.declared.values.Loc.{Loc}
 use Rattle.equivalents.specs.declared.values.Loc.TheVariants as loc
 use Rattle.equivalents.specs.declared.values.Val.TheVariants as val
-use Rattle.equivalents.specs.Locations.{V, index, category_of, glue_of, tokens_of, meaning_of as meaning_in, number_of as number_in}
+use Rattle.equivalents.specs.Locations.{V, index, category_of, glue_of, tokens_of, meaning_of as meaning_in, number_of as number_in, value_seen}
 use Rattle.equivalents.specs.Tables.{Tables, put, get, longer}
 use Rattle.equivalents.specs.First.{first_tables}
 use Rattle.equivalents.specs.Groups.{Groups, level_of, depth, is_present, entry_for, put_all, set_local, set_global, set, placed, place_of, set_placed, set_name, all_longer, entered, opened, uncovered, beneath, closed, with_token, tokens_after, kind_of, saves, save, set_demands, placed_demands, name_demands, group_demands, token_demands, first_groups}
 use Rattle.plain_machine.specs.Numbers.{number_of, meaning_of, meanings_of, value_of, tables_of, saved_of, groups_of}
-use Rattle.plain_machine.proofs.Renumbering.{meaning_to_let_of}
+use Rattle.plain_machine.proofs.Renumbering.{seen_as_of, meaning_to_let_of}
 
 module _ (number : ℕ → ℕ) where
   -- VALUES
@@ -98,6 +98,16 @@ module _ (number : ℕ → ℕ) where
   get_of m (loc.Register register.Dimen n) = refl
   get_of m (loc.Register register.Skip n) = refl
   get_of m (loc.Register register.Muskip n) = refl
+
+  value_same : (v : V) → value_seen (value_of number v) ≡ value_seen v
+  value_same (val.Number n) = refl
+  value_same (val.Skip g) = refl
+  value_same (val.Meant m) = ap (λ (seen : Meaning Unit). val.Meant seen) (seen_as_of number m)
+  value_same (val.Tokens list) = refl
+
+  -- as readings see what stands at a location
+  pub fetched_same : (m : Tables) (l : Loc) → value_seen (get (tables_of number m) l) ≡ value_seen (get m l)
+  fetched_same m l = ap value_seen (get_of m l) ∙ value_same (get m l)
 
   longer_of : (m : Tables) → longer (tables_of number m) ≡ tables_of number (longer m)
   longer_of m = λ i. record (tables_of number m) { meanings = sym (map-append (meaning_of number) m.meanings (means.Undefined ∷ [])) i }

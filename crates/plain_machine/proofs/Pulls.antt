@@ -27,7 +27,6 @@ use Rattle.plain_tokens.specs.Arguments.{has_parameters, arguments_in, work_in}
 use Rattle.plain_tokens.specs.Arguments as call
 use Rattle.save_stack.specs.declared.GroupKind.{GroupKind}
 use Rattle.save_stack.specs.declared.GroupKind.TheVariants.{Simple, SemiSimple}
-use Rattle.equivalents.specs.declared.values.Loc.TheVariants as loc
 use Rattle.equivalents.specs.declared.values.Val.TheVariants as val
 use Rattle.plain_state.specs.Reports.{string_text, hundred_line, emergency, no_file_line, token_line_bytes}
 use Rattle.rows.specs.declared.command.Call.{Call}
@@ -35,13 +34,13 @@ use Rattle.rows.specs.declared.command.Effect.{Effect}
 use Rattle.rows.specs.declared.command.Effect.TheVariants as effect
 use Rattle.rows.specs.declared.words.Value.{Value}
 use Rattle.rows.specs.Table.{has_row}
-use Rattle.rows.specs.Readings.{Fed, Tok, Told, Ask, More, Inner, Done, Acts, ActsOn, Defines, Ends as Closes, Calls, Fails, RunsAway, Tells, Inserts}
+use Rattle.rows.specs.Readings.{Fed, Tok, Told, Ask, More, Inner, Done, Acts, ActsOn, Defines, Ends as Closes, Calls, Fails, RunsAway, Tells, Inserts, Fetches}
 use Rattle.plain_readings.specs.Calls.{gathered}
 use Rattle.plain_readings.specs.Spelling.{endcsname_primitive}
 use Rattle.plain_readings.specs.Readings.{Kind, Reads, Spelling, FileName, Arguments, Reading, lists}
 use Rattle.plain_readings.specs.Scanning.{Scanning, scanning}
 use Rattle.plain_machine.specs.States.{State, Files, Move, Handed, Taken, FirstTaken, Settled, Skipped, FileClosed, FileEnds, FileOpened, Spelt, NameInProgress, Grows, Feeds, Completed, ListGrown, Set, Assigned, Defined, GroupOpened, Begun, Ended, Closed, Written, Stopped}
-use Rattle.plain_machine.specs.Plan.{Page, page_of, style_of, met, met_outer, entered, checked, check_noted, ran_away, away_text, page_behind, reported, reported_as, behind_report, reports_room, told, put_inserted, put_one, put_made, put_text, put_characters, noting, noting_kind, token_line, finish, command, primitive, call_of, begun, csname_primitive, jobname_primitive, input_primitive, endinput_primitive, input_met, frozen_relax, is_expandable_primitive, job_in, expansion, begingroup_primitive, endgroup_primitive, put_each, group_ended, brace_met, endgroup_met, character, unless_expanded, called, called_meaning, called_list, put_body, body_put, stomach, wanted, expanded, expanded_as, feeding_kind, grown_and_fed, first_list, grown_to, opened, in_place, argument_fed, call_fed, inner_begun, given_back, value_tokens, done, arguments_put, called_with, failed, failed_away, is_global, natural, behind_assignment, assigned, kept_for_group, acts, acts_on, acts_in, and_closed, meaning_characters, macro_defined, name_made, unless_found, input_begun, relax_if_undefined, spelt, newly_spelt, answered}
+use Rattle.plain_machine.specs.Plan.{Page, page_of, style_of, met, met_outer, entered, checked, check_noted, ran_away, away_text, page_behind, reported, reported_as, behind_report, reports_room, told, put_inserted, put_one, put_made, put_text, put_characters, noting, noting_kind, token_line, finish, command, primitive, call_of, begun, csname_primitive, jobname_primitive, input_primitive, endinput_primitive, input_met, frozen_relax, is_expandable_primitive, job_in, expansion, begingroup_primitive, endgroup_primitive, put_each, group_ended, brace_met, endgroup_met, character, unless_expanded, called, called_meaning, called_list, put_body, body_put, stomach, wanted, expanded, expanded_as, feeding_kind, grown_and_fed, first_list, grown_to, opened, in_place, argument_fed, call_fed, inner_begun, given_back, value_tokens, done, arguments_put, called_with, failed, failed_away, is_global, behind_assignment, assigned, kept_for_group, acts, acts_on, acts_in, and_closed, meaning_characters, macro_defined, name_made, unless_found, input_begun, relax_if_undefined, spelt, newly_spelt, answered}
 use Rattle.plain_machine.specs.Runs.{step_of, steps}
 
 -- The moves that pull: they read what is pending, or open a file.
@@ -377,8 +376,7 @@ acts_none page c (effect.Let n x) = closed_assigned page (Assigned (is_global pa
 acts_none page c (effect.FutureLet n x y) =
     let m : Move = Assigned (is_global page c) n (meaning_to_let page.now.meanings y) in
     and_closed_none (put_one y.token ++ (put_one x.token ++ assigned page m)) (future_none page x.token y.token m refl)
-acts_none page c (effect.SetCode kind char value) = closed_assigned page (Set (is_global page c) (loc.Code kind (natural char)) (val.Number value)) refl
-acts_none page c (effect.SetInteger i value) = closed_assigned page (Set (is_global page c) (loc.Integer i) (val.Number value)) refl
+acts_none page c (effect.SetNumber l value) = closed_assigned page (Set (is_global page c) l (val.Number value)) refl
 acts_none page c (effect.AfterGroup x) = and_closed_none (kept_for_group page.group x.token) (kept_for_group_none page.group x.token)
 acts_none page c (effect.ExpandBehind x y) = omega (arith, expanded_none page y (put_one y.token) refl)
 acts_none page c (effect.MakeNumber n) = and_closed_none (put_characters (whole_number n)) (characters_none (whole_number n))
@@ -430,6 +428,7 @@ answered_none s work r (Fails report) h = failed_none (page_of s) report
 answered_none s work r (RunsAway report) h = failed_away_none (page_of s) report (scanning work s.gathered)
 answered_none s work r (Tells report back) h = told_none (page_of s) report None back r
 answered_none s work r (Inserts t report back) h = told_none (page_of s) report (Some t) back r
+answered_none s work r (Fetches l) h = refl
 
 -- A FILE THAT IS BEGUN BY ITS NAME opens it, and reads nothing.
 

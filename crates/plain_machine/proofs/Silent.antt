@@ -28,8 +28,9 @@ use Rattle.plain_tokens.specs.Pending.{Pending, Source, Progress, Begun as Begun
 use Rattle.plain_tokens.specs.Arguments.{has_parameters}
 use Rattle.save_stack.specs.declared.GroupKind.{GroupKind}
 use Rattle.save_stack.specs.declared.GroupKind.TheVariants.{Simple, SemiSimple}
-use Rattle.equivalents.specs.declared.values.Loc.TheVariants as loc
 use Rattle.equivalents.specs.declared.values.Val.TheVariants as val
+use Rattle.equivalents.specs.Locations.{value_seen}
+use Rattle.equivalents.specs.Tables.{get}
 use Rattle.command_words.specs.Words.{file_name}
 use Rattle.plain_state.specs.Reports.{missing_file_bytes, emergency, no_file_line, report_bytes, error_message_bytes, fresh_line, string_text, message_bytes, hundred_line, token_line_bytes}
 use Rattle.rows.specs.declared.words.Value.{Value}
@@ -39,14 +40,14 @@ use Rattle.rows.specs.declared.command.Call.{Call}
 use Rattle.rows.specs.declared.command.Effect.{Effect}
 use Rattle.rows.specs.declared.command.Effect.TheVariants as effect
 use Rattle.rows.specs.Table.{has_row}
-use Rattle.rows.specs.Readings.{Fed, Val, Told, Cut, Ask, More, Inner, Done, Acts, ActsOn, Defines, Ends as Closes, Calls, Fails, RunsAway, Tells, Inserts}
+use Rattle.rows.specs.Readings.{Fed, Val, Told, Cut, Ask, More, Inner, Done, Acts, ActsOn, Defines, Ends as Closes, Calls, Fails, RunsAway, Tells, Inserts, Fetches}
 use Rattle.plain_readings.specs.Readings.{Kind, Reads, Spelling, FileName, Arguments, Behind, Reading, ask, lists, fed_with}
 use Rattle.plain_readings.specs.Spelling.{endcsname_primitive}
 use Rattle.plain_readings.specs.Scanning.{Scanning, scanning}
 use Rattle.plain_readings.specs.Laws.{IsRead}
 use Rattle.plain_readings.specs.Weights.{frame_weight, value_weight, act_weight, end_weight, ask_weight, weight, IsReport, WeightsFall}
 use Rattle.plain_machine.specs.States.{State, Files, Move, Settled, Skipped, FileClosed, FileEnds, FileOpened, Spelt, NameInProgress, Entered, Kept as KeptBytes, Grows, Feeds, Completed, Opened, ListBegun, ListGrown, Put, ListDropped, Called, Set, Assigned, Defined, GroupOpened, GroupClosed, KeptForGroup, KeptForAssignment, Written, Begun, Ended, Closed, Reported, Flawed, Stopped, Handed, made}
-use Rattle.plain_machine.specs.Plan.{Page, page_of, style_of, plan, ruled, planned, answered, handed, checked, at_line, check_noted, inserted_at, away_text, ran_away, page_behind, reported, behind_report, reports_room, finish, groups_left, stomach, command, primitive, begingroup_primitive, endgroup_primitive, right_brace, put_each, group_ended, brace_met, endgroup_met, character, expansion, expanded, expanded_as, csname_primitive, jobname_primitive, input_primitive, endinput_primitive, input_met, frozen_relax, unless_found, input_begun, is_expandable_primitive, job_in, begun, call_of, called_meaning, put_body, body_put, token_line, wanted, enters_names, feeding, given_back, grown_to, first_list, noting, noting_kind, put_one, put_text, put_made, put_characters, put_inserted, arguments_put, called_with, failed, failed_away, inner_begun, done, value_tokens, told, and_closed, expanded_behind, marked, meaning_characters, shown, is_global, natural, behind_assignment, assigned, kept_for_group, acts, macro_defined, newly_spelt, spelt, relax_if_undefined, name_made, entered, acts_on, acts_in}
+use Rattle.plain_machine.specs.Plan.{Page, page_of, style_of, plan, ruled, planned, answered, handed, checked, at_line, check_noted, inserted_at, away_text, ran_away, page_behind, reported, behind_report, reports_room, finish, groups_left, stomach, command, primitive, begingroup_primitive, endgroup_primitive, right_brace, put_each, group_ended, brace_met, endgroup_met, character, expansion, expanded, expanded_as, csname_primitive, jobname_primitive, input_primitive, endinput_primitive, input_met, frozen_relax, unless_found, input_begun, is_expandable_primitive, job_in, begun, call_of, called_meaning, put_body, body_put, token_line, wanted, enters_names, feeding, given_back, grown_to, first_list, noting, noting_kind, put_one, put_text, put_made, put_characters, put_inserted, arguments_put, called_with, failed, failed_away, inner_begun, done, value_tokens, told, and_closed, expanded_behind, marked, meaning_characters, shown, is_global, behind_assignment, assigned, kept_for_group, acts, macro_defined, newly_spelt, spelt, relax_if_undefined, name_made, entered, acts_on, acts_in}
 use Rattle.plain_machine.specs.Runs.{step_of, all_made}
 use Rattle.plain_machine.proofs.Settling.{pulled_settled}
 
@@ -77,7 +78,7 @@ pending_weight p = length p.line + file_weight p.file + outer_weight p.outer
 
 -- where the file ends a call may be fed with the note of a check
 abbrev pub check_weight : ℕ
-check_weight = 19
+check_weight = frame_weight + act_weight
 
 abbrev pub weight_of : Option Outcome → List Reading → Pending → ℕ
 weight_of (Some o) work p = 0
@@ -613,8 +614,7 @@ module _ (falls : WeightsFall) (s : State) (k : Kind) (fed : List Fed) (rs : Lis
       by (effect.FutureLet n x y) is h =
           let m : Move = Assigned (is_global page c) n (meaning_to_let page.now.meanings y) in
           rule_closed h (put_one y.token ++ (put_one x.token ++ assigned page m)) (plain_future page x.token y.token m refl)
-      by (effect.SetCode kind char value) is h = rule_assigned h page (Set (is_global page c) (loc.Code kind (natural char)) (val.Number value)) refl
-      by (effect.SetInteger i value) is h = rule_assigned h page (Set (is_global page c) (loc.Integer i) (val.Number value)) refl
+      by (effect.SetNumber l value) is h = rule_assigned h page (Set (is_global page c) l (val.Number value)) refl
       by (effect.AfterGroup x) is h = rule_closed h (kept_for_group page.group x.token) (plain_kept page.group x.token)
       by (effect.AfterAssignment x) is h = rule_closed h (KeptForAssignment (Some x.token) ∷ []) (refl, tt)
       by (effect.ExpandBehind x y) is h = rule_behind page c x y is
@@ -672,6 +672,7 @@ module _ (falls : WeightsFall) (s : State) (k : Kind) (fed : List Fed) (rs : Lis
   rule_asked (RunsAway report) is = rule_away (heavy_as _ is (omega arith)) (page_of s) report (scanning (reading ∷ rs) s.gathered)
   rule_asked (Tells report back) is = rule_told (subst IsReport (sym is) tt) (page_of s) report None back
   rule_asked (Inserts t report back) is = rule_told (subst IsReport (sym is) tt) (page_of s) report (Some t) back
+  rule_asked (Fetches l) is = Falls (rw (e, w) (omega (arith, falls.fetched k fed l (value_seen (get s.groups.now l)) is)))
 
 rule_work : WeightsFall → (s : State) (work : List Reading) → s.stopped ≡ None → s.work ≡ work → Rule s (planned s work)
 rule_work falls s [] e w = rule_handed falls s false None (stomach (page_of s)) e

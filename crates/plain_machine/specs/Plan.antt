@@ -23,13 +23,13 @@ use Rattle.plain_tokens.specs.Categories.{begin_group, end_group, is_between}
 use Rattle.plain_tokens.specs.Names.{name_of, means_relax, relax_primitive, par_primitive, end_primitive}
 use Rattle.plain_tokens.specs.Tokens.{is_space, is_outer, is_undefined, space_token, made_text, character_codes}
 use Rattle.plain_tokens.specs.Meanings.{name_meaning, met as met_token, meaning_to_let, seen_as}
-use Rattle.equivalents.specs.declared.values.Loc.TheVariants as loc
 use Rattle.equivalents.specs.declared.values.Val.TheVariants as val
 use Rattle.equivalents.specs.First.{global_definitions}
 use Rattle.save_stack.specs.declared.GroupKind.{GroupKind}
 use Rattle.save_stack.specs.declared.GroupKind.TheVariants.{Simple, SemiSimple}
 use Rattle.equivalents.specs.Groups.{Groups, depth, kind_of, tokens_after}
-use Rattle.equivalents.specs.Tables.{Tables}
+use Rattle.equivalents.specs.Locations.{value_seen}
+use Rattle.equivalents.specs.Tables.{Tables, get}
 use Rattle.plain_tokens.specs.Puts.{Item, Put as PutList, call_put}
 use Rattle.plain_tokens.specs.Lookup.{token_of, new_name, name_among, new_among}
 use Rattle.plain_tokens.specs.Printed.{Style, meaning_text, meaning_tokens}
@@ -47,7 +47,7 @@ use Rattle.rows.specs.declared.command.Call.{Call}
 use Rattle.rows.specs.declared.command.Effect.{Effect}
 use Rattle.rows.specs.declared.command.Effect.TheVariants as effect
 use Rattle.rows.specs.Table.{has_row}
-use Rattle.rows.specs.Readings.{Fed, Tok, Told, Cut, Ask, More, Inner, Done, Acts, ActsOn, Defines, Ends as Closes, Calls, Fails, RunsAway, Tells, Inserts}
+use Rattle.rows.specs.Readings.{Fed, Tok, Told, Cut, Fetched, Ask, More, Inner, Done, Acts, ActsOn, Defines, Ends as Closes, Calls, Fails, RunsAway, Tells, Inserts, Fetches}
 use Rattle.plain_readings.specs.Calls.{gathered, par_token}
 use Rattle.plain_readings.specs.Spelling.{endcsname_primitive}
 use Rattle.plain_readings.specs.Readings.{Kind, Reads, Spelling, FileName, Arguments, Behind, Reading, ask, lists}
@@ -532,18 +532,12 @@ abbrev pub kept_for_group : Option GroupKind → Token → List Move
 kept_for_group None t = []
 kept_for_group (Some kind) t = KeptForGroup t ∷ []
 
--- a number that has been found in its range
-abbrev pub natural : ℤ → ℕ
-natural (pos n) = n
-natural (negsuc n) = 0
-
 abbrev pub acts : Page → Call → Effect → List Move
 acts page c (effect.Obey x) = Closed ∷ command page x.token x.meaning
 acts page c (effect.Show x) = and_closed (shown page x)
 acts page c (effect.Let n x) = and_closed (assigned page (Assigned (is_global page c) n (meaning_to_let page.now.meanings x)))
 acts page c (effect.FutureLet n x y) = and_closed (put_one y.token ++ (put_one x.token ++ assigned page (Assigned (is_global page c) n (meaning_to_let page.now.meanings y))))
-acts page c (effect.SetCode kind char value) = and_closed (assigned page (Set (is_global page c) (loc.Code kind (natural char)) (val.Number value)))
-acts page c (effect.SetInteger i value) = and_closed (assigned page (Set (is_global page c) (loc.Integer i) (val.Number value)))
+acts page c (effect.SetNumber l value) = and_closed (assigned page (Set (is_global page c) l (val.Number value)))
 acts page c (effect.AfterGroup x) = and_closed (kept_for_group page.group x.token)
 acts page c (effect.AfterAssignment x) = and_closed (KeptForAssignment (Some x.token) ∷ [])
 acts page c (effect.ExpandBehind x y) = expanded_behind page c x y
@@ -624,6 +618,7 @@ answered s work r (Fails report) = failed (page_of s) report
 answered s work r (RunsAway report) = failed_away (page_of s) report (scanning work s.gathered)
 answered s work r (Tells report back) = told (page_of s) report None back r
 answered s work r (Inserts t report back) = told (page_of s) report (Some t) back r
+answered s work r (Fetches l) = Feeds (Fetched (value_seen (get s.groups.now l))) ∷ []
 
 abbrev pub planned : State → List Reading → List Move
 planned s [] = handed (page_of s) false None (stomach (page_of s)) (pulled s.groups.now.categories s.pending)

@@ -44,7 +44,7 @@ pub data Move : Type 0 where
   Kept : (bytes : List ℕ) → Move
   -- the list that the innermost reading builds gets a token
   Grows : Token → Move
-  -- the innermost reading is fed with a token, with the note that its report was written, or with the note that a check came
+  -- the innermost reading is fed with a token, with the note that its report was written or that a check came, or with what stands at a location
   Feeds : Fed → Move
   -- in a call: an argument is whole, and its outer braces have gone; the list of the next one is begun
   Completed : List Token → Move

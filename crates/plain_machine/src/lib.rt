@@ -535,6 +535,49 @@ pub fn worked_parameters()
     ensures none_global { Writes (first_line_usual ++ codes "\\def\\a{x}\\globaldefs=-1 {\\gdef\\a{y}}\\message{\\meaning\\a}\\end\n") (codes "macro:->x\n") Finished }
 {}
 
+/// The machine run on small files with integers that are read from where they stand, registers of `\count`, integer parameters and codes, some of
+/// them within small sizes.
+pub fn worked_internal_integers()
+    ensures register { RunsSo (first_line_usual ++ codes "\\count1=5 \\end\n") (codes "") 37 Finished }
+    ensures without_an_equals_sign { RunsSo (first_line_usual ++ codes "\\count1 5 \\end\n") (codes "") 36 Finished }
+    ensures written { RunsSo (first_line_usual ++ codes "\\count1=5 \\message{\\number\\count1}\\end\n") (codes "5\n") 45 Finished }
+    ensures copied { RunsSo (first_line_usual ++ codes "\\count1=7 \\count2=\\count1 \\message{\\number\\count2}\\end\n") (codes "7\n") 52 Finished }
+    ensures of_a_register_as_number { RunsSo (first_line_usual ++ codes "\\count1=5 \\count\\count1=7 \\message{\\number\\count5}\\end\n") (codes "7\n") 52 Finished }
+    ensures one_within_another { Writes (first_line_usual ++ codes "\\count1=2 \\count2=3 \\count3=9 \\message{\\number\\count\\count\\count1}\\end\n") (codes "9\n") Finished }
+    ensures parameter { RunsSo (first_line_usual ++ codes "\\tolerance=7 \\end\n") (codes "") 35 Finished }
+    ensures of_a_parameter { RunsSo (first_line_usual ++ codes "\\tolerance=\\pretolerance\\end\n") (codes "") 34 Finished }
+    ensures no_space_behind { RunsSo (first_line_usual ++ codes "\\def\\s{ }\\count1=\\tolerance\\s\\end\n") (codes "{blank space  }\n") 43 Finished }
+    ensures space_behind_digits { Writes (first_line_usual ++ codes "\\def\\s{ }\\count1=5\\s\\end\n") (codes "") Finished }
+    ensures signs { Writes (first_line_usual ++ codes "\\count1=5 \\message{\\number-\\count1,\\number- -\\count1}\\end\n") (codes "-5,5\n") Finished }
+    ensures sign_turned { Writes (first_line_usual ++ codes "\\count1=5 \\count1=-\\count1 \\message{\\number\\count1}\\end\n") (codes "-5\n") Finished }
+    ensures least { Writes (first_line_usual ++ codes "\\count1=2147483647 \\count2=-\\count1\\message{\\number\\count2}\\end\n") (codes "-2147483647\n") Finished }
+    ensures codes_read { Writes (first_line_usual ++ codes "\\message{\\number\\catcode`\\{,\\number\\lccode`A,\\number\\uccode`a,\\number\\sfcode`A,\\number\\mathcode`A,\\number\\delcode`a}\\end\n") (codes "1,97,65,999,28993,-1\n") Finished }
+    ensures first_values { Writes (first_line_usual ++ codes "\\message{\\number\\year,\\number\\month,\\number\\day,\\number\\time,\\number\\tolerance,\\number\\mag,\\number\\maxdeadcycles,\\number\\hangafter,\\number\\escapechar,\\number\\endlinechar}\\end\n") (codes "1776,7,4,720,10000,1000,25,1,92,13\n") Finished }
+    ensures bad_register { RunsSo (first_line_usual ++ codes "\\count256=7 \\message{\\number\\count0}\\end\n") (codes "! Bad register code (256).\nl.2\n7\n") 47 Finished }
+    ensures bad_register_read { Writes (first_line_usual ++ codes "\\count0=3 \\message{\\number\\count256 }\\end\n") (codes "! Bad register code (256).\nl.2\n3\n") Finished }
+    ensures register_below_zero { Writes (first_line_usual ++ codes "\\count-1=7 \\message{\\number\\count-1 }\\end\n") (codes "! Bad register code (-1).\nl.2\n! Bad register code (-1).\nl.2\n7\n") Finished }
+    ensures bad_register_as_value { Writes (first_line_usual ++ codes "\\count1=\\count256=7 \\message{\\number\\count1}\\end\n") (codes "! Bad register code (256).\nl.2\n{the character =}\n{the character 7}\n{blank space  }\n0\n") Finished }
+    ensures bad_character_read { Writes (first_line_usual ++ codes "\\message{\\number\\catcode256 }\\end\n") (codes "! Bad character code (256).\nl.2\n9\n") Finished }
+    ensures no_register { Writes (first_line_usual ++ codes "\\count\\relax=5 \\end\n") (codes "! Missing number, treated as zero.\nl.2\n! Missing number, treated as zero.\nl.2\n{the character =}\n{the character 5}\n{blank space  }\n") Finished }
+    ensures invalid_code { Writes (first_line_usual ++ codes "\\count1=65 \\catcode`\\%=\\count1 \\message{\\number\\catcode`\\%}\\end\n") (codes "! Invalid code (65), should be in the range 0..15.\nl.2\n0\n") Finished }
+    ensures character_by_a_register { Writes (first_line_usual ++ codes "\\count1=126 \\catcode\\count1=13 \\message{\\number\\catcode126 }\\end\n") (codes "13\n") Finished }
+    ensures parameter_taken_back { Writes (first_line_usual ++ codes "\\tolerance=5 {\\tolerance=7 \\message{\\number\\tolerance}}\\message{\\number\\tolerance}\\end\n") (codes "7 5\n") Finished }
+    ensures register_taken_back { Writes (first_line_usual ++ codes "{\\count1=5 \\message{\\number\\count1}}\\message{\\number\\count1}\\end\n") (codes "5 0\n") Finished }
+    ensures global { Writes (first_line_usual ++ codes "{\\global\\count1=5 }\\message{\\number\\count1}\\end\n") (codes "5\n") Finished }
+    ensures all_global { Writes (first_line_usual ++ codes "\\globaldefs=1 {\\count1=5 }\\message{\\number\\count1}\\end\n") (codes "5\n") Finished }
+    ensures none_global { Writes (first_line_usual ++ codes "\\globaldefs=-1 {\\global\\count1=5 }\\message{\\number\\count1}\\end\n") (codes "0\n") Finished }
+    ensures by_other_names { Writes (first_line_usual ++ codes "\\let\\a=\\tolerance \\let\\b=\\count \\b1=\\a\\message{\\number\\count1}\\end\n") (codes "10000\n") Finished }
+    ensures of_a_macro { Writes (first_line_usual ++ codes "\\def\\n{1}\\count\\n2=5 \\message{\\number\\count12 }\\end\n") (codes "5\n") Finished }
+    ensures roman { Writes (first_line_usual ++ codes "\\count1=1987 \\message{\\romannumeral\\count1}\\end\n") (codes "mcmlxxxvii\n") Finished }
+    ensures in_an_expanded_body { Writes (first_line_usual ++ codes "\\count1=5 \\edef\\a{\\number\\count1 \\number-\\count1}\\count1=6 \\message{\\a}\\end\n") (codes "5-5\n") Finished }
+    ensures behind_an_assignment { Writes (first_line_usual ++ codes "\\afterassignment x\\count1=5y\\end\n") (codes "{the letter x}\n{the letter y}\n") Finished }
+    ensures behind_long { Writes (first_line_usual ++ codes "\\long\\count1=5 \\message{\\number\\count1}\\end\n") (codes "! You can't use `\\long' or `\\outer' with `\\count'.\nl.2\n5\n") Finished }
+    ensures depth { Fills (record default_sizes { expansion_depth = 3 }) (first_line_usual ++ codes "\\count\\count\\count1=1 \\end") (record { table = ExpansionDepth; used = 3; size = 3 }) }
+    ensures depth_fits { Fits (record default_sizes { expansion_depth = 4 }) (first_line_usual ++ codes "\\count\\count\\count1=1 \\end") }
+    ensures saved_value { Fills (record default_sizes { save_size = 1 }) (first_line_usual ++ codes "{\\count1=5 ") (record { table = SaveSize; used = 1; size = 1 }) }
+    ensures saved_once { Fits (record default_sizes { save_size = 2 }) (first_line_usual ++ codes "{\\count1=5 \\count1=6 }\\end") }
+{}
+
 /// Small files with groups within small sizes: levels, saved values and tokens, and lists that are held.
 pub fn worked_group_sizes()
     ensures levels { Fills (record default_sizes { grouping_levels = 1 }) (first_line_usual ++ codes "{{") (record { table = GroupingLevels; used = 1; size = 1 }) }

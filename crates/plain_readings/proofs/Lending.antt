@@ -25,7 +25,7 @@ call_lends b name a = tt
 
 pub lends : (k : Kind) (fed : List Fed) → Lends (is_met false fed) (ask k fed)
 lends (Reads (Command c)) fed = row_lends c fed
-lends (Reads Integer) fed = integer_holds (λ b a. Lends (is_met false fed) a) (λ b want. tt) (λ report back. tt) (λ b n back. tt) false false fed
+lends (Reads Integer) fed = integer_holds (λ b a. Lends (is_met false fed) a) (λ b want. tt) (λ report back. tt) (λ b n back. tt) (λ b. tt) (λ b l. tt) false false fed
 lends (Reads (Text name expanded)) fed = build_lends (is_met false fed) (text name expanded fed)
 lends (Reads (Definition name expanded)) fed = build_lends (is_met false fed) (definition name expanded fed)
 lends (Spelling c) fed = spelling_holds (λ b a. Lends (is_met false fed) a) (λ b want. tt) (λ report back. tt) (λ b. tt) (λ b c ts. tt) c [] false fed

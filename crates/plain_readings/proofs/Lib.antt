@@ -8,4 +8,5 @@ pub mod Lower
 pub mod Lending
 pub mod Values
 pub mod Notes
+pub mod IntegerWeights
 pub mod Weights

@@ -9,7 +9,7 @@ use Rattle.tex_syntax.specs.declared.words.Want.TheVariants.{Nonblank}
 use Rattle.rows.specs.declared.words.Kind.TheVariants.{Command, Integer, Text, Definition}
 use Rattle.rows.specs.declared.stage.Note.{Note}
 use Rattle.rows.specs.Laws.{is_told}
-use Rattle.rows.specs.Readings.{Fed, Tok, Val, Told, Cut, Ask}
+use Rattle.rows.specs.Readings.{Fed, Tok, Val, Told, Fetched, Cut, Ask}
 use Rattle.rows.specs.Run.{due}
 use Rattle.rows.proofs.Runs.{row_holds}
 use Rattle.plain_readings.specs.Lists.{build_ask, build_fed, manner, text, definition}
@@ -32,6 +32,7 @@ told_last b [] = refl
 told_last b (Told ∷ fed) = told_last true fed
 told_last b (Tok x ∷ fed) = told_last false fed
 told_last b (Val v ts ∷ fed) = told_last false fed
+told_last b (Fetched v ∷ fed) = told_last false fed
 told_last b (Cut ∷ fed) = told_last false fed
 
 quiet_last : (a : Ask) (b : Bool) (fed : List Fed) → IsQuiet (is_told b (fed ++ Told ∷ [])) a → reports_due a ≡ 0
@@ -49,6 +50,7 @@ build_last [] = refl
 build_last (Tok x ∷ fed) = rw (build_last fed) refl
 build_last (Told ∷ fed) = rw (build_last fed) refl
 build_last (Val v ts ∷ fed) = build_last fed
+build_last (Fetched v ∷ fed) = build_last fed
 build_last (Cut ∷ fed) = build_last fed
 
 call_last : (fed : List Fed) → call_fed (fed ++ Told ∷ []) ≡ extra.noted (call_fed fed)
@@ -57,6 +59,7 @@ call_last (Tok x ∷ fed) = rw (call_last fed) refl
 call_last (Told ∷ fed) = rw (call_last fed) refl
 call_last (Cut ∷ fed) = rw (call_last fed) refl
 call_last (Val v ts ∷ fed) = call_last fed
+call_last (Fetched v ∷ fed) = call_last fed
 
 build_quiet : (a : build.Answer) → quiet.IsQuiet a → reports_due (build_ask a) ≡ 0
 build_quiet (build.More want list) h = refl
@@ -85,7 +88,7 @@ told_quiet (Reads (Command c)) fed =
     (fed ++ Told ∷ []))
 told_quiet (Reads Integer) fed =
     quiet_last (ask (Reads Integer) (fed ++ Told ∷ [])) false fed
-    (integer_holds IsQuiet (λ b want. any b _ refl) (λ report back. tt) (λ b n back. any b _ refl) false false (fed ++ Told ∷ []))
+    (integer_holds IsQuiet (λ b want. any b _ refl) (λ report back. tt) (λ b n back. any b _ refl) (λ b. any b _ refl) (λ b l. any b _ refl) false false (fed ++ Told ∷ []))
 told_quiet (Reads (Text name expanded)) fed =
     build_quiet (text name expanded (fed ++ Told ∷ []))
     (subst (λ (fed : List build.Fed). quiet.IsQuiet (build.text (manner name expanded) fed)) (sym (build_last fed)) (first_quiet (manner name expanded) [] (build_fed fed)))

@@ -7,13 +7,21 @@ use Rattle.tex_defs.specs.declared.Seen.{Seen}
 use Rattle.tex_syntax.specs.declared.words.Want.{Want}
 use Rattle.tex_syntax.specs.declared.words.Want.TheVariants.{Raw, Expanded, Nonblank}
 use Rattle.tex_syntax.specs.declared.words.Report.{Report}
-use Rattle.tex_syntax.specs.declared.words.Report.TheVariants.{MissingNumber, ImproperConstant, NumberTooBig, MissingEndcsname}
+use Rattle.tex_syntax.specs.declared.words.Report.TheVariants.{MissingNumber, ImproperConstant, NumberTooBig, IncompatibleUnits, MissingEndcsname}
 use Rattle.plain_tokens.specs.Tokens.{is_other, is_space}
+use Rattle.equivalents.specs.declared.values.Loc.{Loc}
+use Rattle.rows.specs.declared.words.Datum.TheVariants as datum
+use Rattle.rows.specs.declared.words.Value.TheVariants as value
+use Rattle.rows.specs.declared.words.Kind.TheVariants.{Integer}
+use Rattle.rows.specs.declared.internal.Bank.{Bank}
+use Rattle.rows.specs.declared.internal.Internal.{Internal}
+use Rattle.rows.specs.declared.internal.Internal.TheVariants as internal
+use Rattle.rows.specs.Internal.{byte_of, location_in, bad_number, internal_of, integer_of, with_sign, is_mu}
 use Rattle.rows.specs.declared.command.Call.{Call}
-use Rattle.rows.specs.Tokens.{is_character}
+use Rattle.rows.specs.Tokens.{is_character, is_at_most}
 use Rattle.rows.specs.Laws.{is_told}
-use Rattle.rows.specs.Readings.{Fed, Tok, Told, Ask, More, Ends, Tells}
-use Rattle.plain_readings.specs.Integers.{ends_with, is_digit, digit_of, is_minus, is_plus, greatest_integer, signed, digits_dropped, too_big, digits, missing, first_digit, behind_number, behind_code, constant, code_of, improper_code, unsigned, integer}
+use Rattle.rows.specs.Readings.{Fed, Tok, Val, Told, Fetched, Ask, More, Inner, Ends, Tells, Fetches}
+use Rattle.plain_readings.specs.Integers.{ends_with, is_digit, digit_of, is_minus, is_plus, greatest_integer, signed, digits_dropped, too_big, digits, missing, first_digit, behind_number, behind_code, constant, code_of, improper_code, mu_found, fetched, bad_numbered, with_number, numbered, internal_integer, by_meaning, unsigned, integer}
 use Rattle.plain_readings.specs.Spelling.{is_endcsname, makes, endcsname_missing, spelling}
 use Rattle.plain_readings.specs.FileNames.{character_meant, is_blank, opens, named_on, file_naming}
 
@@ -23,63 +31,102 @@ module _ (P : Bool → Ask → Type 0) (more : (b : Bool) (want : Want) → P b 
   if_holds b true p q h i = h
   if_holds b false p q h i = i
 
-  module _ (done : (b : Bool) (n : ℤ) (back : Bool) → P b (ends_with n back)) where
-    dropped_holds : (negative : Bool) (radix : ℕ) (b : Bool) (fed : List Fed) → P (is_told b fed) (digits_dropped negative radix fed)
-    dropped_holds negative radix b [] = more b Expanded
-    dropped_holds negative radix b (Tok x ∷ fed) =
-        if_holds _ (is_digit radix x) _ _ (dropped_holds negative radix false fed) (done _ (signed negative greatest_integer) (not (is_space x)))
-    dropped_holds negative radix b (y ∷ fed) = done _ (pos 0) false
+  module _
+      (done : (b : Bool) (n : ℤ) (back : Bool) → P b (ends_with n back))
+      (begin : (b : Bool) → P b (Inner Integer false))
+      (fetch : (b : Bool) (l : Loc) → P b (Fetches l))
+    where
+      dropped_holds : (negative : Bool) (radix : ℕ) (b : Bool) (fed : List Fed) → P (is_told b fed) (digits_dropped negative radix fed)
+      dropped_holds negative radix b [] = more b Expanded
+      dropped_holds negative radix b (Tok x ∷ fed) =
+          if_holds _ (is_digit radix x) _ _ (dropped_holds negative radix false fed) (done _ (signed negative greatest_integer) (not (is_space x)))
+      dropped_holds negative radix b (y ∷ fed) = done _ (pos 0) false
 
-    too_big_holds : (negative : Bool) (radix : ℕ) (fed : List Fed) → P (is_told false fed) (too_big negative radix fed)
-    too_big_holds negative radix [] = tell NumberTooBig false
-    too_big_holds negative radix (Told ∷ fed) = dropped_holds negative radix true fed
-    too_big_holds negative radix (y ∷ fed) = done _ (pos 0) false
+      too_big_holds : (negative : Bool) (radix : ℕ) (fed : List Fed) → P (is_told false fed) (too_big negative radix fed)
+      too_big_holds negative radix [] = tell NumberTooBig false
+      too_big_holds negative radix (Told ∷ fed) = dropped_holds negative radix true fed
+      too_big_holds negative radix (y ∷ fed) = done _ (pos 0) false
 
-    digits_hold : (negative : Bool) (radix n : ℕ) (b : Bool) (fed : List Fed) → P (is_told b fed) (digits negative radix n fed)
-    digits_hold negative radix n b [] = more b Expanded
-    digits_hold negative radix n b (Tok x ∷ fed) =
-        if_holds _ (is_digit radix x) _ _
-        (if_holds _ (nat_le (n * radix + digit_of x.token) greatest_integer) _ _ (digits_hold negative radix (n * radix + digit_of x.token) false fed) (too_big_holds negative radix fed))
-        (done _ (signed negative n) (not (is_space x)))
-    digits_hold negative radix n b (y ∷ fed) = done _ (pos 0) false
+      digits_hold : (negative : Bool) (radix n : ℕ) (b : Bool) (fed : List Fed) → P (is_told b fed) (digits negative radix n fed)
+      digits_hold negative radix n b [] = more b Expanded
+      digits_hold negative radix n b (Tok x ∷ fed) =
+          if_holds _ (is_digit radix x) _ _
+          (if_holds _ (nat_le (n * radix + digit_of x.token) greatest_integer) _ _ (digits_hold negative radix (n * radix + digit_of x.token) false fed) (too_big_holds negative radix fed))
+          (done _ (signed negative n) (not (is_space x)))
+      digits_hold negative radix n b (y ∷ fed) = done _ (pos 0) false
 
-    missing_holds : (n : ℤ) (report : Report) (fed : List Fed) → P (is_told false fed) (missing n report fed)
-    missing_holds n report [] = tell report true
-    missing_holds n report (Told ∷ fed) = done _ n false
-    missing_holds n report (y ∷ fed) = done _ (pos 0) false
+      missing_holds : (n : ℤ) (report : Report) (fed : List Fed) → P (is_told false fed) (missing n report fed)
+      missing_holds n report [] = tell report true
+      missing_holds n report (Told ∷ fed) = done _ n false
+      missing_holds n report (y ∷ fed) = done _ (pos 0) false
 
-    first_holds : (negative : Bool) (radix : ℕ) (fed : List Fed) → P (is_told false fed) (first_digit negative radix fed)
-    first_holds negative radix [] = more false Expanded
-    first_holds negative radix (Tok x ∷ fed) =
-        if_holds _ (is_digit radix x) _ _ (digits_hold negative radix (digit_of x.token) false fed) (missing_holds (pos 0) MissingNumber fed)
-    first_holds negative radix (y ∷ fed) = done _ (pos 0) false
+      first_holds : (negative : Bool) (radix : ℕ) (fed : List Fed) → P (is_told false fed) (first_digit negative radix fed)
+      first_holds negative radix [] = more false Expanded
+      first_holds negative radix (Tok x ∷ fed) =
+          if_holds _ (is_digit radix x) _ _ (digits_hold negative radix (digit_of x.token) false fed) (missing_holds (pos 0) MissingNumber fed)
+      first_holds negative radix (y ∷ fed) = done _ (pos 0) false
 
-    behind_holds : (negative : Bool) (n : ℕ) (fed : List Fed) → P (is_told false fed) (behind_number negative n fed)
-    behind_holds negative n [] = more false Expanded
-    behind_holds negative n (Tok x ∷ fed) = done _ (signed negative n) (not (is_space x))
-    behind_holds negative n (y ∷ fed) = done _ (pos 0) false
+      behind_holds : (negative : Bool) (n : ℕ) (fed : List Fed) → P (is_told false fed) (behind_number negative n fed)
+      behind_holds negative n [] = more false Expanded
+      behind_holds negative n (Tok x ∷ fed) = done _ (signed negative n) (not (is_space x))
+      behind_holds negative n (y ∷ fed) = done _ (pos 0) false
 
-    code_holds : (negative : Bool) (o : Option ℕ) (fed : List Fed) → P (is_told false fed) (behind_code negative o fed)
-    code_holds negative None fed = missing_holds (signed negative improper_code) ImproperConstant fed
-    code_holds negative (Some c) fed = behind_holds negative c fed
+      code_holds : (negative : Bool) (o : Option ℕ) (fed : List Fed) → P (is_told false fed) (behind_code negative o fed)
+      code_holds negative None fed = missing_holds (signed negative improper_code) ImproperConstant fed
+      code_holds negative (Some c) fed = behind_holds negative c fed
 
-    constant_holds : (negative : Bool) (fed : List Fed) → P (is_told false fed) (constant negative fed)
-    constant_holds negative [] = more false Raw
-    constant_holds negative (Tok x ∷ fed) = code_holds negative (code_of x.token) fed
-    constant_holds negative (y ∷ fed) = done _ (pos 0) false
+      constant_holds : (negative : Bool) (fed : List Fed) → P (is_told false fed) (constant negative fed)
+      constant_holds negative [] = more false Raw
+      constant_holds negative (Tok x ∷ fed) = code_holds negative (code_of x.token) fed
+      constant_holds negative (y ∷ fed) = done _ (pos 0) false
 
-    unsigned_holds : (negative : Bool) (x : Seen) (fed : List Fed) → P (is_told false fed) (unsigned negative x fed)
-    unsigned_holds negative x fed =
-        if_holds _ (is_other 96 x.token) _ _ (constant_holds negative fed)
-        (if_holds _ (is_other 39 x.token) _ _ (first_holds negative 8 fed)
-        (if_holds _ (is_other 34 x.token) _ _ (first_holds negative 16 fed)
-        (if_holds _ (is_digit 10 x) _ _ (digits_hold negative 10 (digit_of x.token) false fed) (missing_holds (pos 0) MissingNumber fed))))
+      mu_holds : (n : ℤ) (fed : List Fed) → P (is_told false fed) (mu_found n fed)
+      mu_holds n [] = tell IncompatibleUnits false
+      mu_holds n (Told ∷ fed) = done _ n false
+      mu_holds n (y ∷ fed) = done _ (pos 0) false
 
-    pub integer_holds : (negative b : Bool) (fed : List Fed) → P (is_told b fed) (integer negative fed)
-    integer_holds negative b [] = more b Nonblank
-    integer_holds negative b (Tok x ∷ fed) =
-        if_holds _ (is_minus x) _ _ (integer_holds (not negative) false fed) (if_holds _ (is_plus x) _ _ (integer_holds negative false fed) (unsigned_holds negative x fed))
-    integer_holds negative b (y ∷ fed) = done _ (pos 0) false
+      fetched_holds : (negative : Bool) (l : Loc) (b : Bool) (fed : List Fed) → P (is_told b fed) (fetched negative l fed)
+      fetched_holds negative l b [] = fetch b l
+      fetched_holds negative l b (Fetched v ∷ fed) =
+          if_holds _ (is_mu l) _ _ (mu_holds (with_sign negative (integer_of v)) fed) (done _ (with_sign negative (integer_of v)) false)
+      fetched_holds negative l b (y ∷ fed) = done _ (pos 0) false
+
+      bad_holds : (negative : Bool) (k : Bank) (n : ℤ) (fed : List Fed) → P (is_told false fed) (bad_numbered negative k n fed)
+      bad_holds negative k n [] = tell (bad_number k n) false
+      bad_holds negative k n (Told ∷ fed) = fetched_holds negative (location_in k 0) true fed
+      bad_holds negative k n (y ∷ fed) = done _ (pos 0) false
+
+      number_holds : (negative : Bool) (k : Bank) (n : ℤ) (fed : List Fed) → P (is_told false fed) (with_number negative k n fed)
+      number_holds negative k n fed =
+          if_holds _ (is_at_most 255 n) _ _ (fetched_holds negative (location_in k (byte_of n)) false fed) (bad_holds negative k n fed)
+
+      numbered_holds : (negative : Bool) (k : Bank) (fed : List Fed) → P (is_told false fed) (numbered negative k fed)
+      numbered_holds negative k [] = begin false
+      numbered_holds negative k (Val (value.Plain (datum.Number n)) ts ∷ fed) = number_holds negative k n fed
+      numbered_holds negative k (y ∷ fed) = done _ (pos 0) false
+
+      internal_holds : (negative : Bool) (i : Internal) (fed : List Fed) → P (is_told false fed) (internal_integer negative i fed)
+      internal_holds negative (internal.Given n) fed = done _ (with_sign negative (pos n)) false
+      internal_holds negative (internal.At l) fed = fetched_holds negative l false fed
+      internal_holds negative (internal.Numbered k) fed = numbered_holds negative k fed
+
+      meaning_holds : (negative : Bool) (o : Option Internal) (x : Seen) (fed : List Fed) → P (is_told false fed) (by_meaning negative o x fed)
+      meaning_holds negative (Some i) x fed = internal_holds negative i fed
+      meaning_holds negative None x fed =
+          if_holds _ (is_digit 10 x) _ _ (digits_hold negative 10 (digit_of x.token) false fed) (missing_holds (pos 0) MissingNumber fed)
+
+      unsigned_holds : (negative : Bool) (x : Seen) (fed : List Fed) → P (is_told false fed) (unsigned negative x fed)
+      unsigned_holds negative x fed =
+          if_holds _ (is_other 96 x.token) _ _ (constant_holds negative fed)
+          (if_holds _ (is_other 39 x.token) _ _ (first_holds negative 8 fed)
+          (if_holds _ (is_other 34 x.token) _ _ (first_holds negative 16 fed)
+          (meaning_holds negative (internal_of x.meaning) x fed)))
+
+      pub integer_holds : (negative b : Bool) (fed : List Fed) → P (is_told b fed) (integer negative fed)
+      integer_holds negative b [] = more b Nonblank
+      integer_holds negative b (Tok x ∷ fed) =
+          if_holds _ (is_minus x) _ _ (integer_holds (not negative) false fed) (if_holds _ (is_plus x) _ _ (integer_holds negative false fed) (unsigned_holds negative x fed))
+      integer_holds negative b (y ∷ fed) = done _ (pos 0) false
 
   module _ (end : (b : Bool) → P b Ends) (make : (b : Bool) (c : Call) (ts : List Token) → P b (makes c ts)) where
     endcsname_holds : (c : Call) (ts : List Token) (fed : List Fed) → P (is_told false fed) (endcsname_missing c ts fed)

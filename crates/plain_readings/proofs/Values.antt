@@ -1,5 +1,5 @@
 -- Integers end with numbers, texts and definitions with the lists that they hold, and nothing else with a value.
-use Rattle.std.proofs.Common.{Bool, true, false, List, [], ◌∷◌}
+use Rattle.std.proofs.Common.{Bool, true, false, List, [], ◌∷◌, refl}
 use Rattle.tex_defs.specs.declared.Name.{Name}
 use Rattle.plain_tokens.specs.Arguments as call
 use Rattle.plain_state.specs.Definitions as build
@@ -40,7 +40,7 @@ call_valueless name a = tt
 pub values : (k : Kind) (fed : List Fed) → EndsAs k (lists k fed) (ask k fed)
 values (Reads (Command c)) fed =
     row_holds (λ b a. IsValueless a) (λ b want. tt) (λ b k begins low. tt) (λ b c e. tt) (λ b c e ts. tt) (λ b c n ts. tt) (λ b. tt) due_valueless c fed
-values (Reads Integer) fed = integer_holds (λ b a. GivesValue Integer [] a) (λ b want. tt) (λ report back. tt) (λ b n back. tt) false false fed
+values (Reads Integer) fed = integer_holds (λ b a. GivesValue Integer [] a) (λ b want. tt) (λ report back. tt) (λ b n back. tt) (λ b. (refl, refl)) (λ b l. tt) false false fed
 values (Reads (Text name expanded)) fed = text_value name expanded (text name expanded fed)
 values (Reads (Definition name expanded)) fed =
     definition_value name expanded (definition name expanded fed) (parameters_full (manner name expanded) 0 [] (build_fed fed))

@@ -2,16 +2,24 @@
 use Rattle.std.proofs.Common.{◌≡◌, ◌≤◌, ◌<◌, ℕ, ◌+◌, Bool, true, false, List, [], ◌∷◌, ◌++◌, refl, sym, subst, arith}
 use Rattle.tex_defs.specs.declared.Token.{Token}
 use Rattle.tex_defs.specs.declared.Seen.{Seen}
+use Rattle.plain_state.specs.Definitions as build
+use Rattle.tex_syntax.specs.declared.words.Report.{Report}
+use Rattle.tex_syntax.specs.declared.words.Report.TheVariants.{BadCharacterCode, BadRegisterCode}
+use Rattle.equivalents.specs.declared.values.Loc.{Loc}
+use Rattle.equivalents.specs.Locations.{SeenValue}
 use Rattle.rows.specs.declared.words.Value.{Value}
 use Rattle.rows.specs.declared.words.Kind.{Kind as Begun}
 use Rattle.rows.specs.declared.words.Kind.TheVariants.{Command, Integer, Text, Definition}
 use Rattle.rows.specs.declared.command.Call.{Call}
 use Rattle.rows.specs.declared.command.Effect.{Effect}
 use Rattle.rows.specs.declared.command.Effect.TheVariants.{ExpandBehind}
-use Rattle.rows.specs.Readings.{Fed, Tok, Val, Told, Ask, More, Inner, Done, Acts, Tells, Inserts}
+use Rattle.rows.specs.Readings.{Fed, Tok, Val, Told, Fetched, Ask, More, Inner, Done, Acts, Tells, Inserts, Fetches}
+use Rattle.rows.specs.Laws.{IsValueless}
 use Rattle.plain_readings.specs.Readings.{Kind, Reads, Spelling, FileName, Behind, Arguments, ask, lists}
-use Rattle.plain_readings.specs.Laws.{IsRead, rank, Starts, BeginsLower, is_met, Lends, GivesValue, reports_due}
-use Rattle.plain_readings.specs.Weights.{frame_weight, value_weight, act_weight, behind_weight, effect_weight, end_weight, ask_weight, weight, IsReport}
+use Rattle.plain_readings.specs.Lists.{build_ask, text, definition}
+use Rattle.plain_readings.specs.Laws.{IsRead, rank, Starts, BeginsNoCommand, is_met, Lends, GivesValue, reports_due}
+use Rattle.plain_readings.specs.Weights.{frame_weight, value_weight, act_weight, behind_weight, effect_weight, end_weight, fetching_behind, ask_weight, weight, IsReport}
+use Rattle.plain_readings.proofs.IntegerWeights.{Wants, integer_falls}
 use Rattle.plain_readings.proofs.Starting.{starts}
 use Rattle.plain_readings.proofs.Lower.{lower}
 use Rattle.plain_readings.proofs.Lending.{lends}
@@ -28,14 +36,22 @@ pub effect_light : (e : Effect) → effect_weight e ≤ behind_weight
 effect_light (ExpandBehind x y) = omega arith
 effect_light e = omega arith
 
+pub fetching_light : (report : Report) → fetching_behind report ≤ 2
+fetching_light (BadCharacterCode n) = omega arith
+fetching_light (BadRegisterCode n) = omega arith
+fetching_light report = omega arith
+
 -- those of a reading that has a value
-value_light : (k : Begun) (held : List (List Token)) (n : ℕ) (a : Ask) → n ≡ value_weight → GivesValue k held a → ask_weight n a ≤ 11
+value_light : (k : Begun) (held : List (List Token)) (n : ℕ) (a : Ask) → n ≡ value_weight → GivesValue k held a → ask_weight n a ≤ 19
 value_light k held n (More want) e h = omega arith
-value_light k held n (Tells report back) e h = omega (arith, e)
+value_light k held n (Tells report back) e h = omega (arith, e, fetching_light report)
 value_light k held n (Done v back) e h = omega arith
+value_light k held n (Fetches l) e h = omega (arith, e)
+value_light k held n (Inner j false) e h = omega arith
+value_light Integer held n (Inner j true) e (is, begins) = absurd cc
 value_light k held n a e h = absurd h
 
-pub low_light : (k : Begun) (fed : List Fed) → rank (Reads k) < 1 → weight (Reads k) fed ≤ 11
+pub low_light : (k : Begun) (fed : List Fed) → rank (Reads k) < 1 → weight (Reads k) fed ≤ 19
 low_light (Command c) fed low = omega (arith, low)
 low_light Integer fed low = value_light Integer (lists (Reads Integer) fed) value_weight (ask (Reads Integer) fed) refl (values (Reads Integer) fed)
 low_light (Text name expanded) fed low =
@@ -50,36 +66,39 @@ end_light (Reads k) = omega arith
 end_light k = omega arith
 
 -- any, but for a reading that begins with a token
-unlent_light : (n : ℕ) (a : Ask) → n ≤ behind_weight → Lends false a → ask_weight n a ≤ 15
+unlent_light : (n : ℕ) (a : Ask) → n ≤ behind_weight → Lends false a → ask_weight n a ≤ 25
 unlent_light n (Inner j true) e h = absurd cc
 unlent_light n (Inner j false) e h = omega arith
 unlent_light n (Acts c f) e h = omega (arith, effect_light f)
-unlent_light n (Tells report back) e h = omega (arith, e)
-unlent_light n (Inserts t report back) e h = omega (arith, e)
+unlent_light n (Tells report back) e h = omega (arith, e, fetching_light report)
+unlent_light n (Inserts t report back) e h = omega (arith, e, fetching_light report)
+unlent_light n (Fetches l) e h = omega (arith, e)
 unlent_light n a e h = omega arith
 
-pub any_light : (n : ℕ) (a : Ask) → n ≤ behind_weight → ask_weight n a ≤ 18
+pub any_light : (n : ℕ) (a : Ask) → n ≤ behind_weight → ask_weight n a ≤ 30
 any_light n (Inner j true) e = omega arith
 any_light n (Inner j false) e = omega arith
 any_light n (Acts c f) e = omega (arith, effect_light f)
-any_light n (Tells report back) e = omega (arith, e)
-any_light n (Inserts t report back) e = omega (arith, e)
+any_light n (Tells report back) e = omega (arith, e, fetching_light report)
+any_light n (Inserts t report back) e = omega (arith, e, fetching_light report)
+any_light n (Fetches l) e = omega (arith, e)
 any_light n a e = omega arith
 
--- what doesn't report, nor begins with a token, weighs no more than an end
-quiet_light : (n : ℕ) (a : Ask) → Lends false a → reports_due a ≡ 0 → ask_weight n a ≤ behind_weight
-quiet_light n (Inner j true) h q = absurd cc
-quiet_light n (Inner j false) h q = omega arith
-quiet_light n (Acts c f) h q = effect_light f
-quiet_light n (Tells report back) h q = omega (arith, q)
-quiet_light n (Inserts t report back) h q = omega (arith, q)
-quiet_light n a h q = omega arith
+-- what doesn't report nor begin with a token, and has no value, weighs no more than an end
+quiet_light : (n : ℕ) (a : Ask) → Lends false a → IsValueless a → reports_due a ≡ 0 → ask_weight n a ≤ behind_weight
+quiet_light n (Inner j true) h v q = absurd cc
+quiet_light n (Inner j false) h v q = omega arith
+quiet_light n (Acts c f) h v q = effect_light f
+quiet_light n (Tells report back) h v q = omega (arith, q)
+quiet_light n (Inserts t report back) h v q = omega (arith, q)
+quiet_light n (Fetches l) h v q = absurd v
+quiet_light n a h v q = omega arith
 
-value_quiet : (k : Begun) (held : List (List Token)) (n : ℕ) (a : Ask) → GivesValue k held a → reports_due a ≡ 0 → ask_weight n a ≤ value_weight
-value_quiet k held n (More want) h q = omega arith
-value_quiet k held n (Tells report back) h q = omega (arith, q)
-value_quiet k held n (Done v back) h q = omega arith
-value_quiet k held n a h q = absurd h
+-- nor does what builds a list
+built_quiet : (n : ℕ) (a : build.Answer) → reports_due (build_ask a) ≡ 0 → ask_weight n (build_ask a) ≤ value_weight
+built_quiet n (build.More want list) q = omega arith
+built_quiet n (build.Tells report back list) q = omega (arith, q)
+built_quiet n (build.Done list) q = omega arith
 
 pub report_heavy : (n : ℕ) (a : Ask) → IsReport a → n < ask_weight n a
 report_heavy n (Tells report back) h = omega arith
@@ -101,36 +120,59 @@ met_last y h b (z ∷ fed) = met_last y h false fed
 unlent : (k : Kind) (fed : List Fed) (y : Fed) → IsNoToken y → Lends false (ask k (fed ++ y ∷ []))
 unlent k fed y h = subst (λ (b : Bool). Lends b (ask k (fed ++ y ∷ []))) (met_last y h false fed) (lends k (fed ++ y ∷ []))
 
--- behind its note a reading weighs no more than its end, where nothing begins with a token
-note_light : (k : Kind) (fed : List Fed) → end_weight k ≡ behind_weight → weight k (fed ++ Told ∷ []) ≤ end_weight k
-note_light k fed e = omega (arith, e, quiet_light (end_weight k) (ask k (fed ++ Told ∷ [])) (unlent k fed Told tt) (told_quiet k fed))
+-- behind its note a reading weighs no more than its end, where nothing begins with a token; an integer may ask for a value then
+note_light : (k : Kind) (fed : List Fed) → end_weight k ≡ behind_weight → IsValueless (ask k (fed ++ Told ∷ [])) → weight k (fed ++ Told ∷ []) ≤ end_weight k
+note_light k fed e v = omega (arith, e, quiet_light (end_weight k) (ask k (fed ++ Told ∷ [])) (unlent k fed Told tt) v (told_quiet k fed))
 
-value_note : (j : Begun) (fed : List Fed) → GivesValue j (lists (Reads j) (fed ++ Told ∷ [])) (ask (Reads j) (fed ++ Told ∷ [])) → end_weight (Reads j) ≡ value_weight →
-    weight (Reads j) (fed ++ Told ∷ []) ≤ end_weight (Reads j)
-value_note j fed h e =
-    omega (arith, e, value_quiet j (lists (Reads j) (fed ++ Told ∷ [])) (end_weight (Reads j)) (ask (Reads j) (fed ++ Told ∷ [])) h (told_quiet (Reads j) fed))
+noted_if_light : (k : Kind) (fed : List Fed) → IsReport (ask k fed) → weight k (fed ++ Told ∷ []) ≤ end_weight k → weight k (fed ++ Told ∷ []) < weight k fed
+noted_if_light k fed h light = omega (arith, light, report_heavy (end_weight k) (ask k fed) h)
 
-told_light : (k : Kind) (fed : List Fed) → weight k (fed ++ Told ∷ []) ≤ end_weight k
-told_light (Reads (Command c)) fed = note_light (Reads (Command c)) fed refl
-told_light (Reads Integer) fed = value_note Integer fed (values (Reads Integer) (fed ++ Told ∷ [])) refl
-told_light (Reads (Text name expanded)) fed = value_note (Text name expanded) fed (values (Reads (Text name expanded)) (fed ++ Told ∷ [])) refl
-told_light (Reads (Definition name expanded)) fed = value_note (Definition name expanded) fed (values (Reads (Definition name expanded)) (fed ++ Told ∷ [])) refl
-told_light (Spelling c) fed = note_light (Spelling c) fed refl
-told_light (FileName c) fed = note_light (FileName c) fed refl
-told_light (Behind c x) fed = note_light (Behind c x) fed refl
-told_light (Arguments name long number ts) fed = note_light (Arguments name long number ts) fed refl
+report_told : (a : Ask) → IsReport a → Wants a Told
+report_told (Tells report back) h = tt
+report_told (Inserts t report back) h = tt
+report_told a h = absurd h
+
+pub noted : (k : Kind) (fed : List Fed) → IsReport (ask k fed) → weight k (fed ++ Told ∷ []) < weight k fed
+noted (Reads (Command c)) fed h = noted_if_light (Reads (Command c)) fed h (note_light (Reads (Command c)) fed refl (values (Reads (Command c)) (fed ++ Told ∷ [])))
+noted (Reads Integer) fed h = integer_falls Told false fed (report_told (ask (Reads Integer) fed) h)
+noted (Reads (Text name expanded)) fed h =
+    noted_if_light (Reads (Text name expanded)) fed h (built_quiet value_weight (text name expanded (fed ++ Told ∷ [])) (told_quiet (Reads (Text name expanded)) fed))
+noted (Reads (Definition name expanded)) fed h =
+    noted_if_light (Reads (Definition name expanded)) fed h (built_quiet value_weight (definition name expanded (fed ++ Told ∷ [])) (told_quiet (Reads (Definition name expanded)) fed))
+noted (Spelling c) fed h = noted_if_light (Spelling c) fed h (note_light (Spelling c) fed refl (values (Spelling c) (fed ++ Told ∷ [])))
+noted (FileName c) fed h = noted_if_light (FileName c) fed h (note_light (FileName c) fed refl (values (FileName c) (fed ++ Told ∷ [])))
+noted (Behind c x) fed h = noted_if_light (Behind c x) fed h (note_light (Behind c x) fed refl (values (Behind c x) (fed ++ Told ∷ [])))
+noted (Arguments name long number ts) fed h =
+    noted_if_light (Arguments name long number ts) fed h (note_light (Arguments name long number ts) fed refl (values (Arguments name long number ts) (fed ++ Told ∷ [])))
+
+-- only an integer asks for what stands at a location
+valueless_fetches : (a : Ask) (l : Loc) → IsValueless a → a ≡ Fetches l → ⊥
+valueless_fetches a l v e = subst (λ (a : Ask). IsValueless a) e v
+
+built_fetches : (a : build.Answer) (l : Loc) → build_ask a ≡ Fetches l → ⊥
+built_fetches (build.More want list) l e = cc
+built_fetches (build.Tells report back list) l e = cc
+built_fetches (build.Done list) l e = cc
+
+pub fetched : (k : Kind) (fed : List Fed) (l : Loc) (v : SeenValue) → ask k fed ≡ Fetches l → weight k (fed ++ Fetched v ∷ []) < weight k fed
+fetched (Reads (Command c)) fed l v e = absurd (valueless_fetches (ask (Reads (Command c)) fed) l (values (Reads (Command c)) fed) e)
+fetched (Reads Integer) fed l v e = integer_falls (Fetched v) false fed (subst (λ (a : Ask). Wants a (Fetched v)) (sym e) tt)
+fetched (Reads (Text name expanded)) fed l v e = absurd (built_fetches (text name expanded fed) l e)
+fetched (Reads (Definition name expanded)) fed l v e = absurd (built_fetches (definition name expanded fed) l e)
+fetched (Spelling c) fed l v e = absurd (valueless_fetches (ask (Spelling c) fed) l (values (Spelling c) fed) e)
+fetched (FileName c) fed l v e = absurd (valueless_fetches (ask (FileName c) fed) l (values (FileName c) fed) e)
+fetched (Behind c x) fed l v e = absurd (valueless_fetches (ask (Behind c x) fed) l (values (Behind c x) fed) e)
+fetched (Arguments name long number ts) fed l v e =
+    absurd (valueless_fetches (ask (Arguments name long number ts) fed) l (values (Arguments name long number ts) fed) e)
 
 -- THE RULES
 
-rank_small : (k : Kind) → rank k ≤ 1
-rank_small (Reads (Command c)) = omega arith
-rank_small (Reads k) = omega arith
-rank_small k = omega arith
+pub no_command_low : (j : Begun) (b : Bool) → BeginsNoCommand (Inner j b) → rank (Reads j) < 1
+no_command_low (Command c) b h = absurd h
+no_command_low j b h = omega arith
 
 begun_low : (k : Kind) (fed : List Fed) (j : Begun) (b : Bool) → ask k fed ≡ Inner j b → rank (Reads j) < 1
-begun_low k fed j b e =
-    let low : rank (Reads j) < rank k = subst (λ (a : Ask). BeginsLower (rank k) a) e (lower k fed) in
-    omega (arith, low, rank_small k)
+begun_low k fed j b e = no_command_low j b (subst (λ (a : Ask). BeginsNoCommand a) e (lower k fed))
 
 -- a reading that has a value asks for a token at first
 first_light : (j : Begun) → rank (Reads j) < 1 → weight (Reads j) [] ≡ 0
@@ -139,23 +181,23 @@ first_light Integer low = refl
 first_light (Text name expanded) low = refl
 first_light (Definition name expanded) low = refl
 
-start_light : (m n : ℕ) (a : Ask) → Starts n a → ask_weight m a ≤ 7
+start_light : (m n : ℕ) (a : Ask) → Starts n a → ask_weight m a ≤ 11
 start_light m n (More want) h = omega arith
 start_light m n (Inner j false) h = omega arith
 start_light m n (Inner j true) h = absurd cc
 start_light m n a h = absurd h
 
-pub begins_light : (k : Kind) → IsRead k → weight k [] ≤ 7
+pub begins_light : (k : Kind) → IsRead k → weight k [] ≤ 11
 begins_light k h = start_light (end_weight k) (rank k) (ask k []) (starts k h)
 
 pub begun : (k : Kind) (fed : List Fed) (j : Begun) → ask k fed ≡ Inner j false → frame_weight + weight (Reads j) [] < weight k fed
 begun k fed j e =
-    let heavy : weight k fed ≡ 7 = subst (λ (a : Ask). ask_weight (end_weight k) a ≡ 7) (sym e) refl in
+    let heavy : weight k fed ≡ 11 = subst (λ (a : Ask). ask_weight (end_weight k) a ≡ 11) (sym e) refl in
     omega (arith, heavy, first_light j (begun_low k fed j false e))
 
 pub begun_with : (k : Kind) (fed : List Fed) (j : Begun) (x : Seen) → ask k fed ≡ Inner j true → frame_weight + weight (Reads j) (Tok x ∷ []) < weight k fed
 begun_with k fed j x e =
-    let heavy : weight k fed ≡ 18 = subst (λ (a : Ask). ask_weight (end_weight k) a ≡ 18) (sym e) refl in
+    let heavy : weight k fed ≡ 30 = subst (λ (a : Ask). ask_weight (end_weight k) a ≡ 30) (sym e) refl in
     omega (arith, heavy, low_light j (Tok x ∷ []) (begun_low k fed j true e))
 
 pub valued : (k : Kind) (fed : List Fed) (v : Value) (ts : List Token) → weight k (fed ++ Val v ts ∷ []) < frame_weight + value_weight
@@ -178,6 +220,3 @@ waits k fed c d x y z e = omega (arith, behind_heavy k fed c x y e)
 
 pub expanded_behind : (k : Kind) (fed : List Fed) (c : Call) (x y : Seen) (j : Kind) → ask k fed ≡ Acts c (ExpandBehind x y) → IsRead j → frame_weight + weight j [] < weight k fed
 expanded_behind k fed c x y j e h = omega (arith, behind_heavy k fed c x y e, begins_light j h)
-
-pub noted : (k : Kind) (fed : List Fed) → IsReport (ask k fed) → weight k (fed ++ Told ∷ []) < weight k fed
-noted k fed h = omega (arith, told_light k fed, report_heavy (end_weight k) (ask k fed) h)

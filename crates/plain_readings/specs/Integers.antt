@@ -1,4 +1,5 @@
--- Integers: signs, then a constant or digits, then one space. The TeXbook, chapter 24; TeX: The Program, part 26 (`scan_int`).
+-- Integers: signs, then a constant, digits or an internal integer; one space behind all but the last. The TeXbook, chapter 24; TeX: The
+-- Program, part 26 (`scan_int`, `scan_something_internal`).
 use Rattle.std.specs.Prelude.{ℕ, ℤ, pos, ◌-ℤ◌, ◌+◌, ◌-◌, ◌*◌, ◌==◌, ◌&&◌, ◌||◌, nat_le, Bool, true, false, not, if◌then◌else◌, List, [], ◌∷◌, Option, Some, None}
 use Rattle.tex_defs.specs.declared.Token.{Token}
 use Rattle.tex_defs.specs.declared.Token.TheVariants as token
@@ -7,12 +8,19 @@ use Rattle.tex_defs.specs.declared.Name.TheVariants as name
 use Rattle.tex_defs.specs.declared.Seen.{Seen}
 use Rattle.tex_syntax.specs.declared.words.Want.TheVariants.{Raw, Expanded, Nonblank}
 use Rattle.tex_syntax.specs.declared.words.Report.{Report}
-use Rattle.tex_syntax.specs.declared.words.Report.TheVariants.{ImproperConstant, MissingNumber, NumberTooBig}
+use Rattle.tex_syntax.specs.declared.words.Report.TheVariants.{ImproperConstant, MissingNumber, NumberTooBig, IncompatibleUnits}
 use Rattle.plain_tokens.specs.Categories.{letter, other, is_between}
 use Rattle.plain_tokens.specs.Tokens.{is_other, is_space}
+use Rattle.equivalents.specs.declared.values.Loc.{Loc}
 use Rattle.rows.specs.declared.words.Datum.TheVariants as datum
 use Rattle.rows.specs.declared.words.Value.TheVariants as value
-use Rattle.rows.specs.Readings.{Fed, Tok, Told, Ask, More, Done, Tells}
+use Rattle.rows.specs.declared.words.Kind.TheVariants as kind
+use Rattle.rows.specs.declared.internal.Bank.{Bank}
+use Rattle.rows.specs.declared.internal.Internal.{Internal}
+use Rattle.rows.specs.declared.internal.Internal.TheVariants as internal
+use Rattle.rows.specs.Tokens.{is_at_most}
+use Rattle.rows.specs.Internal.{byte_of, location_in, bad_number, internal_of, integer_of, with_sign, is_mu}
+use Rattle.rows.specs.Readings.{Fed, Tok, Val, Told, Fetched, Ask, More, Inner, Done, Tells, Fetches}
 
 -- it ends with this number, and the token behind it may be given back
 abbrev pub ends_with : ℤ → (give_back : Bool) → Ask
@@ -126,14 +134,56 @@ constant negative [] = More Raw
 constant negative (Tok x ∷ fed) = behind_code negative (code_of x.token) fed
 constant negative (y ∷ fed) = senseless
 
+-- INTERNAL INTEGERS: no space is read behind one
+
+-- glue in mu is reported, and its width taken
+abbrev pub mu_found : ℤ → List Fed → Ask
+mu_found n [] = Tells IncompatibleUnits false
+mu_found n (Told ∷ fed) = ends_with n false
+mu_found n (y ∷ fed) = senseless
+
+-- what stands at a location
+abbrev pub fetched : (negative : Bool) → Loc → List Fed → Ask
+fetched negative l [] = Fetches l
+fetched negative l (Fetched v ∷ fed) =
+    if is_mu l then mu_found (with_sign negative (integer_of v)) fed else ends_with (with_sign negative (integer_of v)) false
+fetched negative l (y ∷ fed) = senseless
+
+-- another number than that of a register or a character is reported, and number 0 taken
+abbrev pub bad_numbered : (negative : Bool) → Bank → ℤ → List Fed → Ask
+bad_numbered negative b n [] = Tells (bad_number b n) false
+bad_numbered negative b n (Told ∷ fed) = fetched negative (location_in b 0) fed
+bad_numbered negative b n (y ∷ fed) = senseless
+
+abbrev pub with_number : (negative : Bool) → Bank → ℤ → List Fed → Ask
+with_number negative b n fed = if is_at_most 255 n then fetched negative (location_in b (byte_of n)) fed else bad_numbered negative b n fed
+
+-- the number of the register or of the character comes
+abbrev pub numbered : (negative : Bool) → Bank → List Fed → Ask
+numbered negative b [] = Inner kind.Integer false
+numbered negative b (Val (value.Plain (datum.Number n)) ts ∷ fed) = with_number negative b n fed
+numbered negative b (y ∷ fed) = senseless
+
+abbrev pub internal_integer : (negative : Bool) → Internal → List Fed → Ask
+internal_integer negative (internal.Given n) fed = ends_with (with_sign negative (pos n)) false
+internal_integer negative (internal.At l) fed = fetched negative l fed
+internal_integer negative (internal.Numbered b) fed = numbered negative b fed
+
+-- digits, where the token stands for no internal integer
+abbrev pub plain_integer : (negative : Bool) → Seen → List Fed → Ask
+plain_integer negative x fed = if is_digit 10 x then digits negative 10 (digit_of x.token) fed else missing (pos 0) MissingNumber fed
+
+abbrev pub by_meaning : (negative : Bool) → Option Internal → Seen → List Fed → Ask
+by_meaning negative (Some i) x fed = internal_integer negative i fed
+by_meaning negative None x fed = plain_integer negative x fed
+
 -- the first token behind the signs
 abbrev pub unsigned : (negative : Bool) → Seen → List Fed → Ask
 unsigned negative x fed =
     if is_other 96 x.token then constant negative fed
     else if is_other 39 x.token then first_digit negative 8 fed
     else if is_other 34 x.token then first_digit negative 16 fed
-    else if is_digit 10 x then digits negative 10 (digit_of x.token) fed
-    else missing (pos 0) MissingNumber fed
+    else by_meaning negative (internal_of x.meaning) x fed
 
 -- with the sign so far
 abbrev pub integer : (negative : Bool) → List Fed → Ask

@@ -9,10 +9,10 @@ use Rattle.rows.specs.declared.words.Kind.{Kind as Begun}
 use Rattle.rows.specs.declared.words.Kind.TheVariants.{Command, Integer, Text, Definition}
 use Rattle.rows.specs.declared.command.Call.{Call}
 use Rattle.rows.specs.Laws.{IsValueless}
-use Rattle.rows.specs.Readings.{Fed, Tok, Told, Ask, More, Inner, Done, ActsOn, Tells, Inserts}
+use Rattle.rows.specs.Readings.{Fed, Tok, Told, Ask, More, Inner, Done, ActsOn, Tells, Inserts, Fetches}
 use Rattle.plain_readings.specs.Readings.{Kind, Reads, Spelling, FileName, Behind, ask, lists}
 
--- RANKS. A reading begins only readings of a lower rank.
+-- RANKS. A reading that was fed with nothing begins only readings of a lower rank.
 abbrev pub rank : Kind → ℕ
 rank (Reads (Command c)) = 1
 rank (Reads k) = 0
@@ -31,13 +31,13 @@ IsRead k = Unit {0}
 abbrev pub ReadingsStart : Type 0
 ReadingsStart = (k : Kind) → IsRead k → Starts (rank k) (ask k [])
 
--- whatever it was fed with
-abbrev pub BeginsLower : ℕ → Ask → Type 0
-BeginsLower n (Inner k begins) = rank (Reads k) < n
-BeginsLower n a = Unit {0}
+-- Whatever it was fed with, it begins no command.
+abbrev pub BeginsNoCommand : Ask → Type 0
+BeginsNoCommand (Inner (Command c) begins) = ⊥
+BeginsNoCommand a = Unit {0}
 
-abbrev pub ReadingsBeginLower : Type 0
-ReadingsBeginLower = (k : Kind) (fed : List Fed) → BeginsLower (rank k) (ask k fed)
+abbrev pub ReadingsBeginNoCommand : Type 0
+ReadingsBeginNoCommand = (k : Kind) (fed : List Fed) → BeginsNoCommand (ask k fed)
 
 -- A TOKEN THAT A READING LOOKED AT begins an inner one only directly behind it.
 abbrev pub is_met : Bool → List Fed → Bool
@@ -60,11 +60,14 @@ IsValue (Text name expanded) value.List (ts ∷ []) = Unit {0}
 IsValue (Definition name expanded) value.List (ts ∷ []) = ts ≢ []
 IsValue k v held = ⊥
 
--- What has a value asks for a token or reports until it ends with it. Nothing else has a value.
+-- What has a value asks for a token or reports until it ends with it; an integer also begins another, the number of a register or of a
+-- character, or asks for what stands at a location. Nothing else has a value.
 abbrev pub GivesValue : Begun → List (List Token) → Ask → Type 0
 GivesValue k held (More want) = Unit {0}
 GivesValue k held (Tells report back) = Unit {0}
 GivesValue k held (Done v back) = IsValue k v held
+GivesValue Integer held (Inner j begins) = (j ≡ Integer) × (begins ≡ false)
+GivesValue Integer held (Fetches l) = Unit {0}
 GivesValue k held a = ⊥
 
 abbrev pub EndsAs : Kind → List (List Token) → Ask → Type 0
@@ -84,7 +87,7 @@ pub record NamesAreHeld : Type 0 where
   pub names : (c : Call) (fed : List Fed) → Spells c (lists (Spelling c) fed) (ask (Spelling c) fed)
   pub files : (c : Call) (fed : List Fed) → Spells c (lists (FileName c) fed) (ask (FileName c) fed)
 
--- NOTES. How many reports may come at once behind this one: none yet.
+-- NOTES. How many reports may come at once behind this one: none yet. (Behind what is fetched one more may come.)
 abbrev pub after : Report → ℕ
 after report = 0
 

@@ -3,29 +3,33 @@
 use Rattle.std.specs.Prelude.{ℕ, ◌+◌, ◌<◌, ◌≤◌, ◌≡◌, true, false, List, [], ◌∷◌, ◌++◌}
 use Rattle.tex_defs.specs.declared.Token.{Token}
 use Rattle.tex_defs.specs.declared.Seen.{Seen}
+use Rattle.tex_syntax.specs.declared.words.Report.{Report}
+use Rattle.tex_syntax.specs.declared.words.Report.TheVariants.{BadCharacterCode, BadRegisterCode}
+use Rattle.equivalents.specs.declared.values.Loc.{Loc}
+use Rattle.equivalents.specs.Locations.{SeenValue}
 use Rattle.rows.specs.declared.words.Value.{Value}
 use Rattle.rows.specs.declared.words.Kind.{Kind as Begun}
 use Rattle.rows.specs.declared.words.Kind.TheVariants.{Command}
 use Rattle.rows.specs.declared.command.Call.{Call}
 use Rattle.rows.specs.declared.command.Effect.{Effect}
 use Rattle.rows.specs.declared.command.Effect.TheVariants.{ExpandBehind}
-use Rattle.rows.specs.Readings.{Fed, Tok, Val, Told, Ask, More, Inner, Done, Acts, Tells, Inserts}
+use Rattle.rows.specs.Readings.{Fed, Tok, Val, Told, Fetched, Ask, More, Inner, Done, Acts, Tells, Inserts, Fetches}
 use Rattle.plain_readings.specs.Readings.{Kind, Reads, Behind, ask}
 use Rattle.plain_readings.specs.Laws.{IsRead, after}
 
 -- what an open reading weighs, what its end with a value does, what an act or another end does, and what `\expandafter` does, which
 -- ends, and has a token wait in its place and perhaps an expansion begin above that
 abbrev pub frame_weight : ℕ
-frame_weight = 6
+frame_weight = 10
 
 abbrev pub value_weight : ℕ
-value_weight = 10
+value_weight = 16
 
 abbrev pub act_weight : ℕ
-act_weight = 13
+act_weight = 21
 
 abbrev pub behind_weight : ℕ
-behind_weight = 14
+behind_weight = 22
 
 abbrev pub effect_weight : Effect → ℕ
 effect_weight (ExpandBehind x y) = behind_weight
@@ -37,16 +41,24 @@ end_weight (Reads (Command c)) = behind_weight
 end_weight (Reads k) = value_weight
 end_weight k = behind_weight
 
+-- behind the number of a register or of a character that is out of its range something is fetched
+abbrev pub fetching_behind : Report → ℕ
+fetching_behind (BadCharacterCode n) = 2
+fetching_behind (BadRegisterCode n) = 2
+fetching_behind report = 0
+
 -- A token weighs nothing, since it is a step. A reading begun weighs more than it does then, also where it reports the token that it begins
--- with. A report weighs more than the end behind it, and than the reports that may follow it.
+-- with. A report weighs more than the end behind it, than the reports that may follow it, and than what is fetched behind it; and that weighs
+-- more than the report of glue in mu, which may come then.
 abbrev pub ask_weight : (end : ℕ) → Ask → ℕ
 ask_weight end (More want) = 0
-ask_weight end (Inner j false) = 7
-ask_weight end (Inner j true) = 18
+ask_weight end (Inner j false) = 11
+ask_weight end (Inner j true) = 30
 ask_weight end (Done v back) = value_weight
 ask_weight end (Acts c e) = effect_weight e
-ask_weight end (Tells report back) = end + 1 + after report
-ask_weight end (Inserts t report back) = end + 1 + after report
+ask_weight end (Tells report back) = end + 1 + after report + fetching_behind report
+ask_weight end (Inserts t report back) = end + 1 + after report + fetching_behind report
+ask_weight end (Fetches l) = end + 2
 ask_weight end a = act_weight
 
 -- what a reading weighs that was fed with this
@@ -60,7 +72,7 @@ IsReport a = ⊥
 
 -- A reading is begun, alone or with a token; one that has a value ends, and the one beneath is fed with it; one acts or ends, and any may stand
 -- beneath it; one that acts has another begun in its place; where `\expandafter` ends, its token waits, and perhaps an expansion begins above
--- that; a report's note comes.
+-- that; a report's note comes; and what stands at a location.
 pub record WeightsFall : Type 0 where
   pub begun : (k : Kind) (fed : List Fed) (j : Begun) → ask k fed ≡ Inner j false → frame_weight + weight (Reads j) [] < weight k fed
   pub begun_with : (k : Kind) (fed : List Fed) (j : Begun) (x : Seen) → ask k fed ≡ Inner j true → frame_weight + weight (Reads j) (Tok x ∷ []) < weight k fed
@@ -71,3 +83,4 @@ pub record WeightsFall : Type 0 where
   pub waits : (k : Kind) (fed : List Fed) (c d : Call) (x y z : Seen) → ask k fed ≡ Acts c (ExpandBehind x y) → weight (Behind d z) [] < weight k fed
   pub expanded_behind : (k : Kind) (fed : List Fed) (c : Call) (x y : Seen) (j : Kind) → ask k fed ≡ Acts c (ExpandBehind x y) → IsRead j → frame_weight + weight j [] < weight k fed
   pub noted : (k : Kind) (fed : List Fed) → IsReport (ask k fed) → weight k (fed ++ Told ∷ []) < weight k fed
+  pub fetched : (k : Kind) (fed : List Fed) (l : Loc) (v : SeenValue) → ask k fed ≡ Fetches l → weight k (fed ++ Fetched v ∷ []) < weight k fed

@@ -4,18 +4,25 @@ use Rattle.tex_defs.specs.declared.Token.{Token}
 use Rattle.tex_defs.specs.declared.Token.TheVariants as token
 use Rattle.tex_defs.specs.declared.Name.TheVariants as name
 use Rattle.tex_defs.specs.declared.Meaning.TheVariants as means
+use Rattle.tex_defs.specs.declared.Meaning.{Meaning}
+use Rattle.tex_defs.specs.declared.RegisterKind.TheVariants as register
 use Rattle.tex_defs.specs.declared.Seen.{Seen}
 use Rattle.tex_syntax.specs.declared.words.Want.TheVariants.{Raw, Expanded, Copied, Nonblank}
 use Rattle.tex_syntax.specs.declared.words.Want.TheVariants as want
-use Rattle.tex_syntax.specs.declared.words.Report.TheVariants.{ImproperConstant, MissingNumber, NumberTooBig, MissingBrace, MissingEndcsname, ExtraBrace, ParagraphEnded, UseMismatch}
+use Rattle.tex_syntax.specs.declared.words.Report.TheVariants.{ImproperConstant, MissingNumber, NumberTooBig, BadCharacterCode, BadRegisterCode, IncompatibleUnits, MissingBrace, MissingEndcsname, ExtraBrace, ParagraphEnded, UseMismatch}
 use Rattle.plain_tokens.specs.Categories.{begin_group, end_group, parameter, letter, other}
 use Rattle.rows.specs.declared.words.Datum.TheVariants.{Number}
 use Rattle.rows.specs.declared.words.Value.TheVariants as value
 use Rattle.rows.specs.declared.words.Kind.TheVariants.{Command, Integer, Text, Definition}
 use Rattle.tex_syntax.specs.declared.words.Scanned.TheVariants as scanned
 use Rattle.rows.specs.declared.command.Effect.TheVariants.{MakeName, StartInput, PutBack}
-use Rattle.rows.specs.Worked.{character, primitive, call, asked, x, y, x_name, a_letter, a_space}
-use Rattle.rows.specs.Readings.{Fed, Tok, Val, Told, Cut, Ask, More, Done, Acts, ActsOn, Ends, Calls, Fails, RunsAway, Tells, Inserts}
+use Rattle.equivalents.specs.declared.values.CodeKind.TheVariants as code
+use Rattle.equivalents.specs.declared.values.Glue.{Glue}
+use Rattle.equivalents.specs.declared.values.Loc.{Loc}
+use Rattle.equivalents.specs.declared.values.Loc.TheVariants as loc
+use Rattle.equivalents.specs.declared.values.Val.TheVariants as val
+use Rattle.rows.specs.Worked.{character, primitive, call, asked, number, x, y, x_name, a_letter, a_space}
+use Rattle.rows.specs.Readings.{Fed, Tok, Val, Told, Fetched, Cut, Ask, More, Inner, Done, Acts, ActsOn, Ends, Calls, Fails, RunsAway, Tells, Inserts, Fetches}
 use Rattle.plain_readings.specs.Integers.{ends_with}
 use Rattle.plain_readings.specs.Calls.{par_token}
 use Rattle.plain_readings.specs.Readings.{Kind, Reads, Spelling, FileName, Behind, Arguments, Reading, ask, lists}
@@ -70,6 +77,74 @@ pub record WorkedReports : Type 0 where
   pub too_big :
       steps (Reads Integer) (others (50 ∷ 49 ∷ 52 ∷ 55 ∷ 52 ∷ 56 ∷ 51 ∷ 54 ∷ 52 ∷ 56 ∷ []) (Told ∷ Tok (character other 57) ∷ Tok a_space ∷ [])) ≡
       More Nonblank ∷ expanded 9 (Tells NumberTooBig false ∷ More Expanded ∷ More Expanded ∷ ends_with (pos 2147483647) false ∷ [])
+
+-- INTERNAL INTEGERS
+
+-- a name that means this
+abbrev pub named : Meaning Unit → Fed
+named m = Tok (record { token = token.Named x_name; meaning = m })
+
+-- glue of 3 mu, 1 fil and 2
+abbrev pub a_glue : Glue
+a_glue = record { width = pos 196608; stretch = pos 65536; stretch_order = 1; shrink = pos 2; shrink_order = 0 }
+
+-- behind a parameter, or a register's name, which stands there
+abbrev pub fetches : Loc → List Ask → List Ask
+fetches l asks = More Nonblank ∷ Fetches l ∷ asks
+
+-- behind the name of registers or of codes, whose number comes
+abbrev pub numbers : List Ask → List Ask
+numbers asks = More Nonblank ∷ Inner Integer false ∷ asks
+
+-- `\count 3`; `-\count 0`; a value of -2^31; the first and the last integer parameter, and the first and the last dimension parameter
+pub record WorkedNumbers : Type 0 where
+  pub count :
+      steps (Reads Integer) (Tok (primitive 41) ∷ number (pos 3) ∷ Fetched (val.Number (pos 7)) ∷ []) ≡ numbers (Fetches (loc.Register register.Count 3) ∷ ends_with (pos 7) false ∷ [])
+  pub negative :
+      steps (Reads Integer) (others (45 ∷ []) (Tok (primitive 41) ∷ number (pos 0) ∷ Fetched (val.Number (negsuc 4)) ∷ [])) ≡
+      More Nonblank ∷ numbers (Fetches (loc.Register register.Count 0) ∷ ends_with (pos 5) false ∷ [])
+  pub least : steps (Reads Integer) (Tok (primitive 85) ∷ Fetched (val.Number (negsuc 2147483647)) ∷ []) ≡ fetches (loc.Integer 0) (ends_with (negsuc 2147483646) false ∷ [])
+  pub last : steps (Reads Integer) (Tok (primitive 139) ∷ Fetched (val.Number (pos 1)) ∷ []) ≡ fetches (loc.Integer 54) (ends_with (pos 1) false ∷ [])
+  pub dimension : steps (Reads Integer) (Tok (primitive 140) ∷ Fetched (val.Number (pos 65536)) ∷ []) ≡ fetches (loc.Dimension 0) (ends_with (pos 65536) false ∷ [])
+  pub last_dimension : steps (Reads Integer) (Tok (primitive 160) ∷ Fetched (val.Number (pos 2)) ∷ []) ≡ fetches (loc.Dimension 20) (ends_with (pos 2) false ∷ [])
+  pub dimen :
+      steps (Reads Integer) (Tok (primitive 42) ∷ number (pos 255) ∷ Fetched (val.Number (pos 9)) ∷ []) ≡ numbers (Fetches (loc.Register register.Dimen 255) ∷ ends_with (pos 9) false ∷ [])
+
+-- `\skip 0`; the first parameter that is glue, the last that isn't in mu, and the first that is; `-\muskip 0`, and `\muskip 256`, which comes to
+-- two reports
+pub record WorkedGlue : Type 0 where
+  pub skip : steps (Reads Integer) (Tok (primitive 43) ∷ number (pos 0) ∷ Fetched (val.Skip a_glue) ∷ []) ≡ numbers (Fetches (loc.Register register.Skip 0) ∷ ends_with (pos 196608) false ∷ [])
+  pub first : steps (Reads Integer) (Tok (primitive 161) ∷ Fetched (val.Skip a_glue) ∷ []) ≡ fetches (loc.Glue 0) (ends_with (pos 196608) false ∷ [])
+  pub last : steps (Reads Integer) (Tok (primitive 175) ∷ Fetched (val.Skip a_glue) ∷ []) ≡ fetches (loc.Glue 14) (ends_with (pos 196608) false ∷ [])
+  pub mu : steps (Reads Integer) (Tok (primitive 176) ∷ Fetched (val.Skip a_glue) ∷ Told ∷ []) ≡ fetches (loc.Glue 15) (Tells IncompatibleUnits false ∷ ends_with (pos 196608) false ∷ [])
+  pub negative_mu :
+      steps (Reads Integer) (others (45 ∷ []) (Tok (primitive 44) ∷ number (pos 0) ∷ Fetched (val.Skip a_glue) ∷ Told ∷ [])) ≡
+      More Nonblank ∷ numbers (Fetches (loc.Register register.Muskip 0) ∷ Tells IncompatibleUnits false ∷ ends_with (negsuc 196607) false ∷ [])
+  pub no_register :
+      steps (Reads Integer) (Tok (primitive 44) ∷ number (pos 256) ∷ Told ∷ Fetched (val.Skip a_glue) ∷ Told ∷ []) ≡
+      numbers (Tells (BadRegisterCode (pos 256)) false ∷ Fetches (loc.Register register.Muskip 0) ∷ Tells IncompatibleUnits false ∷ ends_with (pos 196608) false ∷ [])
+
+-- `\catcode 65` and `\delcode 255`; `\catcode -1`; names of `\chardef`, of `\mathchardef` behind a sign, and of `\countdef`; `\toks`, the first token
+-- parameter and a name of `\toksdef`, which are no numbers
+pub record WorkedMeanings : Type 0 where
+  pub category :
+      steps (Reads Integer) (Tok (primitive 35) ∷ number (pos 65) ∷ Fetched (val.Number (pos 11)) ∷ []) ≡ numbers (Fetches (loc.Code code.Category 65) ∷ ends_with (pos 11) false ∷ [])
+  pub delimiter :
+      steps (Reads Integer) (Tok (primitive 40) ∷ number (pos 255) ∷ Fetched (val.Number (negsuc 0)) ∷ []) ≡ numbers (Fetches (loc.Code code.Delimiter 255) ∷ ends_with (negsuc 0) false ∷ [])
+  pub no_character :
+      steps (Reads Integer) (Tok (primitive 35) ∷ number (negsuc 0) ∷ Told ∷ Fetched (val.Number (pos 9)) ∷ []) ≡
+      numbers (Tells (BadCharacterCode (negsuc 0)) false ∷ Fetches (loc.Code code.Category 0) ∷ ends_with (pos 9) false ∷ [])
+  pub chardef : steps (Reads Integer) (named (means.CharGiven 65) ∷ []) ≡ More Nonblank ∷ ends_with (pos 65) false ∷ []
+  pub mathchardef : steps (Reads Integer) (others (45 ∷ []) (named (means.MathGiven 32767) ∷ [])) ≡ More Nonblank ∷ More Nonblank ∷ ends_with (negsuc 32766) false ∷ []
+  pub countdef : steps (Reads Integer) (named (means.Register register.Count 9) ∷ Fetched (val.Number (pos 4)) ∷ []) ≡ fetches (loc.Register register.Count 9) (ends_with (pos 4) false ∷ [])
+  pub toks : steps (Reads Integer) (Tok (primitive 45) ∷ Told ∷ []) ≡ More Nonblank ∷ Tells MissingNumber true ∷ ends_with (pos 0) false ∷ []
+  pub everypar : steps (Reads Integer) (Tok (primitive 179) ∷ []) ≡ More Nonblank ∷ Tells MissingNumber true ∷ []
+  pub toksdef : steps (Reads Integer) (named (means.Register register.Toks 1) ∷ []) ≡ More Nonblank ∷ Tells MissingNumber true ∷ []
+
+pub record WorkedInternals : Type 0 where
+  pub plain : WorkedNumbers
+  pub glue : WorkedGlue
+  pub others : WorkedMeanings
 
 -- `\csname`
 
@@ -214,6 +289,7 @@ pub record WorkedChecks : Type 0 where
 
 pub record WorkedReadings : Type 0 where
   pub integers : WorkedIntegers
+  pub internals : WorkedInternals
   pub reports : WorkedReports
   pub names : WorkedNames
   pub files : WorkedFiles

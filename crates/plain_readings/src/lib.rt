@@ -5,6 +5,6 @@
 mod laws;
 
 pub use laws::{
-    names_are_held, notes_fall, readings_begin_lower, readings_start, tokens_are_lent,
+    names_are_held, notes_fall, readings_begin_no_command, readings_start, tokens_are_lent,
     values_are_theirs, weights_fall, worked_readings,
 };

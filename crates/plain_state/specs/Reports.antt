@@ -4,7 +4,7 @@ use Rattle.std.specs.Fmt.{signed_decimal}
 use Rattle.tex_syntax.specs.declared.words.Scanned.{Scanned}
 use Rattle.tex_syntax.specs.declared.words.Scanned.TheVariants as scanned
 use Rattle.tex_syntax.specs.declared.words.Report.{Report}
-use Rattle.tex_syntax.specs.declared.words.Report.TheVariants.{UndefinedName, InvalidCharacter, ImproperConstant, MissingNumber, NumberTooBig, BadCharacterCode, InvalidCode, CodeTooGreat, MissingBrace, FileEnded, Forbidden, MissingName, NotConsecutive, AlreadyNine, IllegalNumber, UseMismatch, ExtraBrace, ParagraphEnded, PrefixWith, LongOrOuterWith, MissingEndcsname, ExtraEndcsname, TooManyBraces, ForgottenEndgroup, ExtraEndgroup, MissingRightBrace}
+use Rattle.tex_syntax.specs.declared.words.Report.TheVariants.{UndefinedName, InvalidCharacter, ImproperConstant, MissingNumber, NumberTooBig, BadCharacterCode, BadRegisterCode, IncompatibleUnits, InvalidCode, CodeTooGreat, MissingBrace, FileEnded, Forbidden, MissingName, NotConsecutive, AlreadyNine, IllegalNumber, UseMismatch, ExtraBrace, ParagraphEnded, PrefixWith, LongOrOuterWith, MissingEndcsname, ExtraEndcsname, TooManyBraces, ForgottenEndgroup, ExtraEndgroup, MissingRightBrace}
 use Rattle.tex_defs.specs.declared.Token.{Token}
 use Rattle.tex_defs.specs.declared.Token.TheVariants.{Char, Named, Marked}
 use Rattle.tex_defs.specs.declared.Name.{Name}
@@ -28,6 +28,8 @@ report_text style ImproperConstant = codes "Improper alphabetic constant"
 report_text style MissingNumber = codes "Missing number, treated as zero"
 report_text style NumberTooBig = codes "Number too big"
 report_text style (BadCharacterCode n) = codes "Bad character code (" ++ (signed_decimal n ++ codes ")")
+report_text style (BadRegisterCode n) = codes "Bad register code (" ++ (signed_decimal n ++ codes ")")
+report_text style IncompatibleUnits = codes "Incompatible glue units"
 report_text style (InvalidCode n greatest) = codes "Invalid code (" ++ (signed_decimal n ++ (codes "), should be in the range 0.." ++ decimal greatest))
 report_text style (CodeTooGreat n greatest) = codes "Invalid code (" ++ (signed_decimal n ++ (codes "), should be at most " ++ decimal greatest))
 report_text style MissingBrace = codes "Missing { inserted"

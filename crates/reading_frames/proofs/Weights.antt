@@ -8,12 +8,13 @@ use Rattle.list_builder.specs.declared.stage.Stage.TheVariants as stage
 use Rattle.list_builder.specs.Stages as stages
 use Rattle.plain_state.specs.Definitions as build
 use Rattle.rows.specs.declared.words.Value.{Value}
+use Rattle.rows.specs.declared.internal.Bank.TheVariants as bank
 use Rattle.rows.specs.Readings.{Val, Told, Ask}
 use Rattle.row_frames.specs.declared.frame.RowFrame.{RowFrame}
 use Rattle.row_frames.specs.Resumes as row
 use Rattle.plain_readings.specs.Lists.{build_ask}
 use Rattle.plain_readings.specs.Weights.{frame_weight, value_weight, act_weight, behind_weight, ask_weight, IsReport}
-use Rattle.plain_readings.proofs.Weights.{effect_light, any_light, report_heavy}
+use Rattle.plain_readings.proofs.Weights.{effect_light, fetching_light, any_light, report_heavy}
 use Rattle.scan_numbers.specs.Resumes as number
 use Rattle.scan_numbers.specs.declared.number.Place.{Place}
 use Rattle.scan_numbers.specs.declared.number.Place.TheVariants as place
@@ -45,7 +46,7 @@ end_light (Integer scan) = omega arith
 end_light (Build scan) = omega arith
 end_light f = omega arith
 
-pub all_light : (f : Frame) → asks_weight f ≤ 18
+pub all_light : (f : Frame) → asks_weight f ≤ 30
 all_light f = any_light (frame_end f) (resume f [] []) (end_light f)
 
 pub small : (fs : List Frame) → innermost_weight fs < frame_weight + act_weight
@@ -65,10 +66,10 @@ row_told f =
     told_holds (λ (a : Ask). ask_weight behind_weight a ≤ behind_weight) (λ want. omega arith) (λ k. omega arith) (λ c e. effect_light e) (λ c e ts. omega arith) (λ c n ts. omega arith)
     (omega arith) f
 
-row_valued : (f : RowFrame) (v : Value) (ts : List Token) → ask_weight behind_weight (row.resume f (Val v ts ∷ [])) ≤ 15
+row_valued : (f : RowFrame) (v : Value) (ts : List Token) → ask_weight behind_weight (row.resume f (Val v ts ∷ [])) ≤ 25
 row_valued f v ts =
-    value_holds (λ (a : Ask). ask_weight behind_weight a ≤ 15) (λ want. omega arith) (λ k. omega arith) (λ c e. omega (arith, effect_light e)) (λ c e ts. omega arith)
-    (λ c n ts. omega arith) (omega arith) (λ report. omega arith) v ts f
+    value_holds (λ (a : Ask). ask_weight behind_weight a ≤ 25) (λ want. omega arith) (λ k. omega arith) (λ c e. omega (arith, effect_light e)) (λ c e ts. omega arith)
+    (λ c n ts. omega arith) (omega arith) (λ report. omega (arith, fetching_light report)) v ts f
 
 pub command_told : (s : CommandScan) → IsReport (resume_command s [] []) → ask_weight behind_weight (resume_command s [] (Told ∷ [])) < ask_weight behind_weight (resume_command s [] [])
 command_told (command.Reads f) h = omega (arith, row_told f, report_heavy behind_weight (row.resume f []) h)
@@ -77,7 +78,7 @@ command_told (command.ActsOn c e b) h = absurd h
 command_told (command.Defines c n b) h = absurd h
 command_told command.Ended h = absurd h
 
-command_valued : (s : CommandScan) (v : Value) (ts : List Token) → ask_weight behind_weight (resume_command s [] (Val v ts ∷ [])) ≤ 15
+command_valued : (s : CommandScan) (v : Value) (ts : List Token) → ask_weight behind_weight (resume_command s [] (Val v ts ∷ [])) ≤ 25
 command_valued (command.Reads f) v ts = row_valued f v ts
 command_valued (command.Acts c e) v ts = omega (arith, effect_light e)
 command_valued (command.ActsOn c e b) v ts = omega arith
@@ -109,7 +110,7 @@ command_light s v b new held e =
 
 -- INTEGERS
 
-integer_at : (negative : Bool) (p : Place) → ask_weight value_weight (number.resume_at negative p []) ≤ 11
+integer_at : (negative : Bool) (p : Place) → ask_weight value_weight (number.resume_at negative p []) ≤ 19
 integer_at negative place.Signs = omega arith
 integer_at negative place.Quote = omega arith
 integer_at negative (place.First radix) = omega arith
@@ -119,6 +120,11 @@ integer_at negative (place.Dropped radix) = omega arith
 integer_at negative (place.Behind code) = omega arith
 integer_at negative place.NoNumber = omega arith
 integer_at negative place.NoCode = omega arith
+integer_at negative (place.Numbered b) = omega arith
+integer_at negative (place.BadNumber (bank.Codes kind) n) = omega arith
+integer_at negative (place.BadNumber (bank.Registers kind) n) = omega arith
+integer_at negative (place.Fetching l) = omega arith
+integer_at negative (place.MuFound n) = omega arith
 integer_at negative (place.Ended n back) = omega arith
 
 told_at : (negative : Bool) (p : Place) → IsReport (number.resume_at negative p []) → ask_weight value_weight (number.resume_at negative p (Told ∷ [])) < ask_weight value_weight (number.resume_at negative p [])
@@ -131,6 +137,11 @@ told_at negative (place.Dropped radix) h = absurd h
 told_at negative (place.Behind code) h = absurd h
 told_at negative place.NoNumber h = omega arith
 told_at negative place.NoCode h = omega arith
+told_at negative (place.Numbered b) h = absurd h
+told_at negative (place.BadNumber (bank.Codes kind) n) h = omega arith
+told_at negative (place.BadNumber (bank.Registers kind) n) h = omega arith
+told_at negative (place.Fetching l) h = absurd h
+told_at negative (place.MuFound n) h = omega arith
 told_at negative (place.Ended n back) h = absurd h
 
 pub integer_told : (s : NumberScan) → IsReport (number.resume s []) → ask_weight value_weight (number.resume s (Told ∷ [])) < ask_weight value_weight (number.resume s [])
@@ -138,7 +149,7 @@ integer_told s h = told_at s.negative s.place h
 
 -- LISTS
 
-stage_at : (m : Manner) (s : Stage) (list : List Token) → ask_weight value_weight (build_ask (stages.resume m s list [])) ≤ 11
+stage_at : (m : Manner) (s : Stage) (list : List Token) → ask_weight value_weight (build_ask (stages.resume m s list [])) ≤ 19
 stage_at m stage.First list = omega arith
 stage_at m stage.FirstMissing list = omega arith
 stage_at m (stage.Parameters count) list = omega arith
@@ -150,7 +161,7 @@ stage_at m (stage.InBody b depth) list = omega arith
 stage_at m (stage.Reference b depth character) list = omega arith
 stage_at m (stage.Illegal b depth character) list = omega arith
 
-build_at_light : (m : Manner) (p : BuildPlace) (list : List Token) → ask_weight value_weight (build_ask (build_at m p list [])) ≤ 11
+build_at_light : (m : Manner) (p : BuildPlace) (list : List Token) → ask_weight value_weight (build_ask (build_at m p list [])) ≤ 19
 build_at_light m (at.At s) list = stage_at m s list
 build_at_light m at.Whole list = omega arith
 
@@ -206,7 +217,7 @@ name_told_at c spell.Stopped h = absurd h
 pub name_told : (s : SpellScan) → IsReport (resume_name s [] []) → ask_weight behind_weight (resume_name s [] (Told ∷ [])) < ask_weight behind_weight (resume_name s [] [])
 name_told s h = name_told_at s.call s.place h
 
-name_light_at : (c : Call) (p : SpellPlace) → ask_weight behind_weight (name_at c p [] []) ≤ 15
+name_light_at : (c : Call) (p : SpellPlace) → ask_weight behind_weight (name_at c p [] []) ≤ 25
 name_light_at c spell.Inside = omega arith
 name_light_at c spell.NoEnd = omega arith
 name_light_at c spell.Whole = omega arith
@@ -214,7 +225,7 @@ name_light_at c spell.Stopped = omega arith
 
 -- WHAT HAS A VALUE, AND WHAT IS NO COMMAND
 
-pub value_light : (f : Frame) → frame_end f ≡ value_weight → asks_weight f ≤ 11
+pub value_light : (f : Frame) → frame_end f ≡ value_weight → asks_weight f ≤ 19
 value_light (Command s p) e = absurd (omega (arith, e))
 value_light (Integer s) e = integer_at s.negative s.place
 value_light (Build s) e = build_at_light s.manner s.place []
@@ -249,7 +260,7 @@ build_falls f s new list is e =
 
 -- A READING THAT BEGINS WITH A TOKEN
 
-value_frames : (fs : List Frame) → innermost_end fs ≡ value_weight → innermost_weight fs ≤ 11
+value_frames : (fs : List Frame) → innermost_end fs ≡ value_weight → innermost_weight fs ≤ 19
 value_frames [] e = omega arith
 value_frames (f ∷ fs) e = value_light f e
 

@@ -2,13 +2,14 @@
 use Rattle.std.specs.Prelude.{Bool, true, false, List, [], ◌∷◌, ◌++◌, drop, Option, Some, None}
 use Rattle.tex_defs.specs.declared.Token.{Token}
 use Rattle.plain_state.specs.Definitions.{with_cell}
+use Rattle.rows.specs.Internal.{IsFetchable}
 use Rattle.rows.specs.Readings as reading
 use Rattle.plain_readings.specs.Readings.{Kind}
 use Rattle.plain_readings.specs.Readings as kind
 use Rattle.reading_frames.specs.declared.ask.Opening.{Opening}
 use Rattle.reading_frames.specs.declared.ask.Opening.TheVariants.{Reads, Spelling, FileName, Behind}
 use Rattle.reading_frames.specs.declared.ask.Ask.{Ask}
-use Rattle.reading_frames.specs.declared.ask.Ask.TheVariants.{More, Inner, Done, Acts, ActsOn, Defines, Ends, Tells, Inserts}
+use Rattle.reading_frames.specs.declared.ask.Ask.TheVariants.{More, Inner, Done, Acts, ActsOn, Defines, Ends, Tells, Inserts, Fetches}
 use Rattle.reading_frames.specs.declared.ask.Grown.{Grown}
 
 -- The lists that open readings hold, that of the innermost first, and of each reading the last one first.
@@ -57,3 +58,9 @@ ask_of held (Defines c n listed) = reading.Defines c n (kept_list_of listed held
 ask_of held Ends = reading.Ends
 ask_of held (Tells report back) = reading.Tells report back
 ask_of held (Inserts t report back) = reading.Inserts t report back
+ask_of held (Fetches l) = reading.Fetches l
+
+-- what is fetched stands at a location that is there
+abbrev pub IsFetchedAt : Ask → Type 0
+IsFetchedAt (Fetches l) = IsFetchable l
+IsFetchedAt a = Unit {0}

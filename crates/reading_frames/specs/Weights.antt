@@ -46,14 +46,14 @@ opening_end o = behind_weight
 
 -- the most that a reading asks for at first weighs, and behind the token with which it begins
 abbrev pub begun_weight : Opening → ℕ
-begun_weight (Reads (Command c)) = 7
+begun_weight (Reads (Command c)) = 11
 begun_weight (Behind c x) = act_weight
 begun_weight o = 0
 
 abbrev pub begun_with_weight : Opening → ℕ
-begun_with_weight (Reads (Command c)) = 18
-begun_with_weight (Reads k) = 11
-begun_with_weight o = 18
+begun_with_weight (Reads (Command c)) = 30
+begun_with_weight (Reads k) = 19
+begun_with_weight o = 30
 
 abbrev pub IsReported : Option Ask → Type 0
 IsReported None = ⊥
@@ -66,19 +66,19 @@ pub record StacksFall (old new : Stack) : Type 0 where
   pub begun :
       (k : Kind) → asks_in old.frames [] ≡ Some (Inner k false) → length new.frames ≡ length old.frames + 1 → innermost_weight new.frames ≤ 0 → stack_weight new < stack_weight old
   pub begun_with :
-      (k : Kind) → asks_in old.frames [] ≡ Some (Inner k true) → length new.frames ≡ length old.frames + 1 → innermost_weight new.frames ≤ 11 → stack_weight new < stack_weight old
+      (k : Kind) → asks_in old.frames [] ≡ Some (Inner k true) → length new.frames ≡ length old.frames + 1 → innermost_weight new.frames ≤ 19 → stack_weight new < stack_weight old
   pub valued :
       (v : Value) (back : Bool) → asks_in old.frames [] ≡ Some (Done v back) → 1 ≤ length old.frames → length new.frames ≡ length old.frames - 1 →
       innermost_weight new.frames < frame_weight + value_weight → stack_weight new < stack_weight old
   pub acted :
       act_weight ≤ innermost_weight old.frames → 1 ≤ length old.frames → length new.frames ≡ length old.frames - 1 →
       innermost_weight new.frames < frame_weight + act_weight → stack_weight new < stack_weight old
-  pub begun_by_act : act_weight ≤ innermost_weight old.frames → length new.frames ≡ length old.frames → innermost_weight new.frames ≤ 7 → stack_weight new < stack_weight old
+  pub begun_by_act : act_weight ≤ innermost_weight old.frames → length new.frames ≡ length old.frames → innermost_weight new.frames ≤ 11 → stack_weight new < stack_weight old
   pub waits :
       (c : Call) (x y : Seen) → asks_in old.frames [] ≡ Some (Acts c (ExpandBehind x y)) → length new.frames ≡ length old.frames → innermost_weight new.frames ≤ act_weight →
       stack_weight new < stack_weight old
   pub expanded_behind :
-      (c : Call) (x y : Seen) → asks_in old.frames [] ≡ Some (Acts c (ExpandBehind x y)) → length new.frames ≡ length old.frames + 1 → innermost_weight new.frames ≤ 7 →
+      (c : Call) (x y : Seen) → asks_in old.frames [] ≡ Some (Acts c (ExpandBehind x y)) → length new.frames ≡ length old.frames + 1 → innermost_weight new.frames ≤ 11 →
       stack_weight new < stack_weight old
   pub noted : innermost_weight new.frames < innermost_weight old.frames → length new.frames ≡ length old.frames → stack_weight new < stack_weight old
 

@@ -1,4 +1,5 @@
 // What may be opened, what an open reading asks for, and what goes onto its list.
+use equivalents::Loc;
 use rows::{Call, Effect, Kind, Value};
 use tex_defs::{Name, Seen, Token};
 use tex_syntax::{Report, Want};
@@ -33,6 +34,8 @@ pub enum Ask {
     Tells(Report, bool),
     /// A token that is inserted, the report behind it, and whether the last token is put back before.
     Inserts(Token, Report, bool),
+    /// What stands at a location.
+    Fetches(Loc),
 }
 
 /// The tokens that go onto the list on top, the first one first.

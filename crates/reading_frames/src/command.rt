@@ -2,16 +2,17 @@
 ghost use Rattle.std.specs.Prelude.{◌≡◌, ◌+◌, List, [], ◌∷◌, IfSome, None, true, false};
 ghost use Rattle.tex_defs.specs.declared.Token.{Token};
 ghost use Rattle.rows.specs.declared.words.Value.TheVariants as value_of;
-ghost use Rattle.rows.specs.Readings.{Fed, Tok, Told, Val};
+ghost use Rattle.rows.specs.Readings.{Fed, Tok, Told, Fetched, Val};
 ghost use Rattle.rows.specs.Run.{row, due};
 ghost use Rattle.row_frames.specs.Sees as rows_see;
 ghost use Rattle.row_frames.specs.Resumes as rows_resume;
 ghost use Rattle.plain_readings.specs.Readings.{kept_list};
-ghost use Rattle.reading_frames.specs.Sees.{ask_of, has_no_token, kept_list_of, Lists};
+ghost use Rattle.reading_frames.specs.Sees.{ask_of, IsFetchedAt, has_no_token, kept_list_of, Lists};
 ghost use Rattle.reading_frames.specs.Resumes.{resume_command, command_lists, command_count, has_list, listed_count, with_list, IsOver, Owns};
 ghost use Rattle.reading_frames.specs.Resumes as resumes;
 
 use crate::ask::Ask;
+use equivalents::Val as StoredValue;
 use row_frames::{Kept, RowFrame};
 use rows::{Call, Effect, Note, Value};
 use tex_defs::{Name, Seen};
@@ -31,6 +32,7 @@ pub enum CommandScan {
 fn of_row(asked: row_frames::Ask) -> Ask
     ensures is { (held : Lists) → ask_of held result ≡ rows_see.ask_of [] asked }
     ensures owns { Owns result 0 }
+    ensures found { IsFetchedAt result }
 {
     match asked {
         row_frames::Ask::More(want) => Ask::More(want),
@@ -50,6 +52,7 @@ fn of_row(asked: row_frames::Ask) -> Ask
 fn of_note(note: Note) -> Ask
     ensures is { (held : Lists) → ask_of held result ≡ due note }
     ensures owns { Owns result 0 }
+    ensures found { IsFetchedAt result }
 {
     match note {
         Note::Tells(report, back) => Ask::Tells(report, back),
@@ -61,6 +64,7 @@ fn of_note(note: Note) -> Ask
 fn asked_in(row: &RowFrame) -> Ask
     ensures is { (held : Lists) → ask_of held result ≡ rows_resume.resume row.now [] }
     ensures owns { Owns result 0 }
+    ensures found { IsFetchedAt result }
 {
     if row.left.is_none() {
         let mut at_end = *row;
@@ -116,6 +120,7 @@ impl CommandScan {
     pub fn ask(&self) -> Ask
         ensures is { (held : Lists) → ask_of held result ≡ resume_command self.now held [] }
         ensures owns { Owns result (command_count self.now) }
+        ensures found { IsFetchedAt result }
     {
         match self {
             CommandScan::Reads(row) => asked_in(row),
@@ -164,6 +169,24 @@ impl CommandScan {
                 Some(over) => *self = over,
                 None => {}
             },
+            CommandScan::Acts(..) | CommandScan::ActsOn(..) => {}
+            CommandScan::Defines(..) | CommandScan::Ended => {}
+        }
+    }
+
+    /// What stands at a location came, for which it never asks.
+    pub fn fetched(&mut self, value: StoredValue<()>)
+        ensures asks { (held : Lists) (fed : List Fed) → resume_command self.old held (Fetched value ∷ fed) ≡ resume_command self.new held fed }
+        ensures lists { (held : Lists) (fed : List Fed) → command_lists self.old held (Fetched value ∷ fed) ≡ command_lists self.new held fed }
+        ensures count { command_count self.new ≡ command_count self.old }
+    {
+        match self {
+            CommandScan::Reads(row) => {
+                match over_behind(row, row_frames::Fed::Fetched(value), false) {
+                    Some(over) => *self = over,
+                    None => {}
+                }
+            }
             CommandScan::Acts(..) | CommandScan::ActsOn(..) => {}
             CommandScan::Defines(..) | CommandScan::Ended => {}
         }

@@ -3,10 +3,11 @@ ghost use Rattle.std.specs.Prelude.{◌≡◌, List, [], ◌∷◌};
 ghost use Rattle.tex_defs.specs.declared.Token.{Token};
 ghost use Rattle.tex_syntax.specs.declared.words.Want.TheVariants.{Nonblank};
 ghost use Rattle.rows.specs.declared.words.Value.{Value};
-ghost use Rattle.rows.specs.Readings.{Fed, Tok, Told, Val};
+ghost use Rattle.equivalents.specs.Locations.{SeenValue};
+ghost use Rattle.rows.specs.Readings.{Fed, Tok, Told, Val, Fetched};
 ghost use Rattle.plain_readings.specs.FileNames as names;
 ghost use Rattle.plain_readings.specs.FileNames.{file_naming, file_characters};
-ghost use Rattle.reading_frames.specs.Sees.{ask_of, grown, Lists, top_list};
+ghost use Rattle.reading_frames.specs.Sees.{ask_of, IsFetchedAt, grown, Lists, top_list};
 ghost use Rattle.reading_frames.specs.Resumes.{resume_file, file_list, Owns};
 
 use crate::ask::{Ask, Grown};
@@ -79,6 +80,7 @@ impl FileScan {
     pub fn ask(&self) -> Ask
         ensures is { (held : Lists) → ask_of held result ≡ resume_file self.now (top_list held) [] }
         ensures owns { Owns result 1 }
+        ensures found { IsFetchedAt result }
     {
         match self.place {
             FilePlace::Before => Ask::More(Want::Nonblank),
@@ -110,13 +112,15 @@ impl FileScan {
         Grown::none()
     }
 
-    /// A note or a value came, for which it never asks.
+    /// A note, a value or what stands at a location came, for which it never asks.
     #[tactic(auto, using(crate::proofs::Growing::append_nil))]
     pub fn stop(&mut self)
         ensures told { (list : List Token) (fed : List Fed) → resume_file self.old list (Told ∷ fed) ≡ resume_file self.new list fed }
         ensures told_builds { (list : List Token) (fed : List Fed) → file_list self.old list (Told ∷ fed) ≡ file_list self.new list fed }
         ensures asks { (v : Value) (ts list : List Token) (fed : List Fed) → resume_file self.old list (Val v ts ∷ fed) ≡ resume_file self.new list fed }
         ensures builds { (v : Value) (ts list : List Token) (fed : List Fed) → file_list self.old list (Val v ts ∷ fed) ≡ file_list self.new list fed }
+        ensures fetched { (v : SeenValue) (list : List Token) (fed : List Fed) → resume_file self.old list (Fetched v ∷ fed) ≡ resume_file self.new list fed }
+        ensures fetched_builds { (v : SeenValue) (list : List Token) (fed : List Fed) → file_list self.old list (Fetched v ∷ fed) ≡ file_list self.new list fed }
     {
         match self.place {
             FilePlace::Before | FilePlace::Inside => self.place = FilePlace::Stopped,

@@ -2,8 +2,9 @@
 ghost use Rattle.std.specs.Prelude.{◌≡◌, ◌≤◌, ◌<◌, ◌+◌, ◌^◌, List, [], ◌∷◌, length, true, false};
 ghost use Rattle.tex_defs.specs.declared.Token.{Token};
 ghost use Rattle.rows.specs.declared.words.Value.TheVariants as value_of;
-ghost use Rattle.rows.specs.Readings.{Fed, Tok, Told, Val};
-ghost use Rattle.reading_frames.specs.Sees.{ask_of, has_no_token, kind_of, Lists, on_top, top_list};
+ghost use Rattle.equivalents.specs.declared.values.Loc.{Loc as Location};
+ghost use Rattle.rows.specs.Readings.{Fed, Tok, Told, Val, Fetched, Fetches};
+ghost use Rattle.reading_frames.specs.Sees.{ask_of, has_no_token, kind_of, IsFetchedAt, Lists, on_top, top_list};
 ghost use Rattle.reading_frames.specs.Stands.{Begins, opened_lists};
 ghost use Rattle.reading_frames.specs.Resumes.{resume, building, list_count, below, frame_status, groups, read_at, reads_unguarded, token_count, with_list, Owns};
 ghost use Rattle.reading_frames.specs.Weights.{asks_weight, begun_weight, frame_end, opening_end};
@@ -15,6 +16,7 @@ use crate::command::CommandScan;
 use crate::file_name::FileScan;
 use crate::spelling::SpellScan;
 use crate::text::BuildScan;
+use equivalents::Val as StoredValue;
 use row_frames::reads_under_normal;
 use rows::{Call, Datum, Effect, Kind, Value};
 use scan_numbers::NumberScan;
@@ -41,9 +43,12 @@ pub enum Frame {
 fn of_number(asked: scan_numbers::Ask) -> Ask
     ensures is { (held : Lists) → ask_of held result ≡ numbers.ask_of asked }
     ensures owns { Owns result 0 }
+    ensures found { numbers.IsFetchedAt asked → IsFetchedAt result }
 {
     match asked {
         scan_numbers::Ask::More(want) => Ask::More(want),
+        scan_numbers::Ask::Begins => Ask::Inner(Kind::Integer, false),
+        scan_numbers::Ask::Fetches(loc) => Ask::Fetches(loc),
         scan_numbers::Ask::Tells(report, back) => Ask::Tells(report, back),
         scan_numbers::Ask::Done(n, back) => Ask::Done(Value::Plain(Datum::Number(n)), back),
     }
@@ -78,6 +83,7 @@ impl Frame {
     pub fn ask(&self) -> Ask
         ensures is { (held : Lists) → ask_of held result ≡ resume self.now held [] }
         ensures owns { Owns result (list_count self.now) }
+        ensures found { IsFetchedAt result }
     {
         match self {
             Frame::Command(scan, _) => scan.ask(),
@@ -169,7 +175,7 @@ impl Frame {
         match self {
             Frame::Command(scan, _) => scan.feed_value(value, is_empty),
             Frame::Integer(scan) => {
-                scan.stop();
+                scan.feed_value(value);
                 false
             }
             Frame::Spelling(scan) => {
@@ -181,6 +187,24 @@ impl Frame {
                 false
             }
             Frame::Build(_) | Frame::Behind(..) => false,
+        }
+    }
+
+    /// Takes what stands at the location for which it asked.
+    pub fn fetched(&mut self, value: StoredValue<()>)
+        ensures weight { (loc : Location) → resume self.old [] [] ≡ Fetches loc → asks_weight self.new < asks_weight self.old }
+        ensures asks { (held : Lists) (fed : List Fed) → resume self.old held (Fetched value ∷ fed) ≡ resume self.new held fed }
+        ensures builds { (held : Lists) (fed : List Fed) → building self.old held (Fetched value ∷ fed) ≡ building self.new held fed }
+        ensures count { list_count self.new ≡ list_count self.old }
+        ensures checks { frame_status self.new ≡ frame_status self.old }
+        ensures groups { groups self.new ≡ groups self.old }
+    {
+        match self {
+            Frame::Command(scan, _) => scan.fetched(value),
+            Frame::Integer(scan) => scan.fetched(value),
+            Frame::Spelling(scan) => scan.stop(),
+            Frame::FileName(scan) => scan.stop(),
+            Frame::Build(_) | Frame::Behind(..) => {}
         }
     }
 

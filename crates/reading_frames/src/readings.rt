@@ -2,11 +2,12 @@
 ghost use Rattle.std.specs.Prelude.{◌≡◌, ◌≤◌, ◌<◌, ◌+◌, ◌-◌, ◌*◌, ◌^◌, List, [], ◌∷◌, ◌++◌, drop, length, reverse, true, false, IfOk, IfErr, IfSome, OnOk, MatchBool};
 ghost use Rattle.tex_defs.specs.declared.Token.{Token};
 ghost use Rattle.rows.specs.declared.words.Value.TheVariants as value_of;
-ghost use Rattle.rows.specs.Readings.{Fed, Tok, Told, Val};
+ghost use Rattle.equivalents.specs.declared.values.Loc.{Loc};
+ghost use Rattle.rows.specs.Readings.{Fed, Tok, Told, Val, Fetched, Fetches};
 ghost use Rattle.plain_readings.specs.Readings.{Reading, lists, opened, opened_with, fed_with};
 ghost use Rattle.plain_readings.specs.Scanning.{scanning};
 ghost use Rattle.plain_readings.specs.Weights.{frame_weight, value_weight, act_weight};
-ghost use Rattle.reading_frames.specs.Sees.{has_no_token, kind_of, Lists, on_top};
+ghost use Rattle.reading_frames.specs.Sees.{has_no_token, kind_of, IsFetchedAt, Lists, on_top};
 ghost use Rattle.reading_frames.specs.Resumes.{with_list, listed_count, token_count, Owns};
 ghost use Rattle.reading_frames.specs.Stands.{FramesStand, AreShallow, opened_lists};
 ghost use Rattle.reading_frames.specs.Stack.{Stack, depth_full, asks_in, asked_in, asked_of, innermost_groups, innermost_count, innermost_lists, innermost_of, with_innermost, lists_beneath, found_in, innermost_found, scanning_of};
@@ -14,6 +15,7 @@ ghost use Rattle.reading_frames.specs.Weights.{innermost_weight, innermost_end, 
 
 use crate::ask::{Ask, Grown, Opening};
 use crate::frame::Frame;
+use equivalents::Val as StoredValue;
 use rows::Value;
 use std::alloc::{AllocError, Global};
 use std::marker::Model;
@@ -126,6 +128,7 @@ impl Readings {
         ensures stands { (held : Lists) (work : List Reading) → FramesStand self.now.frames held work → asked_of held result ≡ asked_in work }
         ensures least { IfSome result (λ a. 1 ≤ length self.now.frames) }
         ensures owns { IfSome result (λ a. Owns a (innermost_count self.now.frames)) }
+        ensures found { IfSome result (λ a. IsFetchedAt a) }
     {
         match &self.innermost {
             None => None,
@@ -250,6 +253,21 @@ impl Readings {
         match self.innermost.as_mut() {
             None => false,
             Some(frame) => frame.feed_value(value, is_empty),
+        }
+    }
+
+    /// The innermost takes what stands at the location for which it asked.
+    pub fn fetched(&mut self, value: StoredValue<()>)
+        ensures weight { (l : Loc) → asks_in self.old.frames [] ≡ Some (Fetches l) → innermost_weight self.new.frames < innermost_weight self.old.frames }
+        ensures stands { (held : Lists) (work : List Reading) → FramesStand self.old.frames held work → FramesStand self.new.frames held (fed_with (Fetched value) work) }
+        ensures count { length self.new.frames ≡ length self.old.frames }
+        ensures size { self.new.size ≡ self.old.size }
+        ensures shallow { (held : Lists) → AreShallow self.old.frames held → AreShallow self.new.frames held }
+        ensures rest { drop 1 self.new.frames ≡ drop 1 self.old.frames }
+        ensures beneath { (held : Lists) → lists_beneath self.new.frames held ≡ lists_beneath self.old.frames held }
+    {
+        if let Some(frame) = self.innermost.as_mut() {
+            frame.fetched(value);
         }
     }
 

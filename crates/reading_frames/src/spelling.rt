@@ -2,11 +2,12 @@
 ghost use Rattle.std.specs.Prelude.{◌≡◌, List, [], ◌∷◌};
 ghost use Rattle.tex_defs.specs.declared.Token.{Token};
 ghost use Rattle.rows.specs.declared.words.Value.{Value};
-ghost use Rattle.rows.specs.Readings.{Fed, Tok, Told, Val};
+ghost use Rattle.equivalents.specs.Locations.{SeenValue};
+ghost use Rattle.rows.specs.Readings.{Fed, Tok, Told, Val, Fetched};
 ghost use Rattle.rows.specs.Tokens as tokens;
 ghost use Rattle.plain_readings.specs.Spelling as names;
 ghost use Rattle.plain_readings.specs.Spelling.{spelling, characters};
-ghost use Rattle.reading_frames.specs.Sees.{ask_of, grown, Lists, top_list};
+ghost use Rattle.reading_frames.specs.Sees.{ask_of, IsFetchedAt, grown, Lists, top_list};
 ghost use Rattle.reading_frames.specs.Resumes.{resume_name, name_list, Owns};
 
 use crate::ask::{Ask, Grown};
@@ -73,6 +74,7 @@ impl SpellScan {
     pub fn ask(&self) -> Ask
         ensures is { (held : Lists) → ask_of held result ≡ resume_name self.now (top_list held) [] }
         ensures owns { Owns result 1 }
+        ensures found { IsFetchedAt result }
     {
         match self.place {
             SpellPlace::Inside => Ask::More(Want::Expanded),
@@ -118,11 +120,13 @@ impl SpellScan {
         }
     }
 
-    /// A value came, for which it never asks.
+    /// A value came, or what stands at a location, for which it never asks.
     #[tactic(auto, using(crate::proofs::Growing::append_nil))]
     pub fn stop(&mut self)
         ensures asks { (v : Value) (ts list : List Token) (fed : List Fed) → resume_name self.old list (Val v ts ∷ fed) ≡ resume_name self.new list fed }
         ensures builds { (v : Value) (ts list : List Token) (fed : List Fed) → name_list self.old list (Val v ts ∷ fed) ≡ name_list self.new list fed }
+        ensures fetched { (v : SeenValue) (list : List Token) (fed : List Fed) → resume_name self.old list (Fetched v ∷ fed) ≡ resume_name self.new list fed }
+        ensures fetched_builds { (v : SeenValue) (list : List Token) (fed : List Fed) → name_list self.old list (Fetched v ∷ fed) ≡ name_list self.new list fed }
     {
         match self.place {
             SpellPlace::Inside | SpellPlace::NoEnd => self.place = SpellPlace::Stopped,

@@ -7,7 +7,7 @@ ghost use Rattle.rows.specs.Readings.{Fed, Tok, Told, Val};
 ghost use Rattle.plain_readings.specs.Lists as lists;
 ghost use Rattle.plain_readings.specs.Lists.{build_ask, build_fed};
 ghost use Rattle.list_builder.specs.Stages as stages;
-ghost use Rattle.reading_frames.specs.Sees.{ask_of, grown, Lists, top_list};
+ghost use Rattle.reading_frames.specs.Sees.{ask_of, IsFetchedAt, grown, Lists, top_list};
 ghost use Rattle.reading_frames.specs.Resumes.{resume_build, groups_in, built_as, token_count, Owns};
 
 use crate::ask::{Ask, Grown};
@@ -77,6 +77,7 @@ impl BuildScan {
     pub fn ask(&self) -> Ask
         ensures is { (held : Lists) → ask_of held result ≡ build_ask (resume_build self.now (top_list held) []) }
         ensures owns { Owns result 1 }
+        ensures found { IsFetchedAt result }
     {
         match self.place {
             BuildPlace::At(stage) => match stage.due(self.manner) {

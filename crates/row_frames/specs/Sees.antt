@@ -12,6 +12,7 @@ abbrev pub fed_of : List Token → Fed → reading.Fed
 fed_of ts (fed.Token x) = reading.Tok x
 fed_of ts (fed.Value v) = reading.Val v ts
 fed_of ts fed.Told = reading.Told
+fed_of ts (fed.Fetched v) = reading.Fetched v
 
 -- a token given back, and one with which an inner reading begins, is the last one
 abbrev pub ask_of : List Token → Ask → reading.Ask

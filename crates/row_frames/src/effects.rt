@@ -5,7 +5,8 @@ ghost use Rattle.rows.specs.Table as table;
 ghost use Rattle.row_frames.specs.Data.{values};
 
 use crate::data::{Data, name, number, token};
-use rows::{Action, Call, Effect, row_of};
+use equivalents::Loc;
+use rows::{Action, Call, Effect, byte_of, row_of};
 
 /// What an action comes to with what was read.
 fn comes_to(action: Action, read: &Data) -> Effect
@@ -23,8 +24,15 @@ fn comes_to(action: Action, read: &Data) -> Effect
         Action::DefineGlobally => Effect::Nothing,
         Action::Let => Effect::Let(name(first), token(second)),
         Action::FutureLet => Effect::FutureLet(name(first), token(second), token(read.third())),
-        Action::SetCode(kind) => Effect::SetCode(kind, number(first), number(second)),
-        Action::SetInteger(i) => Effect::SetInteger(i, number(first)),
+        Action::SetCode(kind) => {
+            let code = byte_of(number(first));
+            Effect::SetNumber(Loc::Code { kind, code }, number(second))
+        }
+        Action::SetInteger(i) => Effect::SetNumber(Loc::Integer(i), number(first)),
+        Action::SetRegister(kind) => {
+            let no = byte_of(number(first));
+            Effect::SetNumber(Loc::Register { kind, no }, number(second))
+        }
         Action::AfterGroup => Effect::AfterGroup(token(first)),
         Action::AfterAssignment => Effect::AfterAssignment(token(first)),
         Action::ExpandBehind => Effect::ExpandBehind(token(first), token(second)),

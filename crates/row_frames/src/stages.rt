@@ -97,6 +97,7 @@ fn ranged(complaint: Complaint, greatest: u32, n: i32) -> Got
     }
     let report = match complaint {
         Complaint::BadCharacterCode => Report::BadCharacterCode(n),
+        Complaint::BadRegisterCode => Report::BadRegisterCode(n),
         Complaint::InvalidCode => Report::InvalidCode(n, greatest),
     };
     Got::Tells(report, Next::Takes(Datum::Number(0)))

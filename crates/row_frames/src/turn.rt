@@ -14,6 +14,7 @@ ghost use Rattle.row_frames.specs.Resumes.{within, IsTurn};
 
 use crate::data::Data;
 use crate::stages::{on_token, on_value, start};
+use equivalents::Val as StoredValue;
 use rows::{Call, Datum, Effect, Got, Kind, Met, Next, Note, Stage, Start, Value};
 use tex_defs::{Name, Seen, Token};
 use tex_syntax::{Report, Want};
@@ -26,6 +27,8 @@ pub enum Fed {
     Value(Value),
     /// A report was written.
     Told,
+    /// What stands at a location, which no command asks for.
+    Fetched(StoredValue<()>),
 }
 
 /// What a command asks for.
@@ -155,6 +158,7 @@ fn looked(stage: Stage, call: Call, want: Want, y: Fed) -> Turn
         Fed::Token(x) => look(stage, call, want, x),
         Fed::Value(_) => Turn::Ends,
         Fed::Told => Turn::Ends,
+        Fed::Fetched(_) => Turn::Ends,
     }
 }
 
@@ -166,6 +170,7 @@ fn begun(stage: Stage, kind: Kind, y: Fed) -> Turn
         Fed::Token(x) => Turn::Stays(Kept::Within(kind), Ask::Inner(kind, Some(x))),
         Fed::Value(value) => gain(on_value(stage, value), value),
         Fed::Told => Turn::Ends,
+        Fed::Fetched(_) => Turn::Ends,
     }
 }
 
@@ -177,6 +182,7 @@ fn behind(stage: Stage, kind: Kind, y: Fed) -> Turn
         Fed::Value(value) => gain(on_value(stage, value), value),
         Fed::Token(_) => Turn::Ends,
         Fed::Told => Turn::Ends,
+        Fed::Fetched(_) => Turn::Ends,
     }
 }
 
@@ -188,6 +194,7 @@ fn told(note: Note, next: Next, y: Fed) -> Turn
         Fed::Told => behind_note(next),
         Fed::Token(_) => Turn::Ends,
         Fed::Value(_) => Turn::Ends,
+        Fed::Fetched(_) => Turn::Ends,
     }
 }
 
@@ -199,6 +206,7 @@ fn retold(stage: Stage, call: Call, want: Want, note: Note, y: Fed) -> Turn
         Fed::Told => Turn::Stays(Kept::Looking(call, want), Ask::More(want)),
         Fed::Token(_) => Turn::Ends,
         Fed::Value(_) => Turn::Ends,
+        Fed::Fetched(_) => Turn::Ends,
     }
 }
 

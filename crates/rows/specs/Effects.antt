@@ -1,11 +1,13 @@
 -- What a command does with what it has read.
 use Rattle.std.specs.Prelude.{Bool, true, false, ◌||◌, List}
+use Rattle.equivalents.specs.declared.values.Loc.TheVariants as loc
 use Rattle.rows.specs.declared.words.Datum.{Datum}
 use Rattle.rows.specs.declared.command.Action.{Action}
 use Rattle.rows.specs.declared.command.Action.TheVariants as action
 use Rattle.rows.specs.declared.command.Effect.{Effect}
 use Rattle.rows.specs.declared.command.Effect.TheVariants as effect
 use Rattle.rows.specs.declared.command.Call.{Call}
+use Rattle.rows.specs.Internal.{byte_of}
 use Rattle.rows.specs.Stages.{number, name, token_read}
 use Rattle.rows.specs.Table.{action_of}
 
@@ -19,8 +21,9 @@ comes_to action.Define ds = effect.Nothing
 comes_to action.DefineGlobally ds = effect.Nothing
 comes_to action.Let ds = effect.Let (name 0 ds) (token_read 1 ds)
 comes_to action.FutureLet ds = effect.FutureLet (name 0 ds) (token_read 1 ds) (token_read 2 ds)
-comes_to (action.SetCode kind) ds = effect.SetCode kind (number 0 ds) (number 1 ds)
-comes_to (action.SetInteger i) ds = effect.SetInteger i (number 0 ds)
+comes_to (action.SetCode kind) ds = effect.SetNumber (loc.Code kind (byte_of (number 0 ds))) (number 1 ds)
+comes_to (action.SetInteger i) ds = effect.SetNumber (loc.Integer i) (number 0 ds)
+comes_to (action.SetRegister kind) ds = effect.SetNumber (loc.Register kind (byte_of (number 0 ds))) (number 1 ds)
 comes_to action.AfterGroup ds = effect.AfterGroup (token_read 0 ds)
 comes_to action.AfterAssignment ds = effect.AfterAssignment (token_read 0 ds)
 comes_to action.ExpandBehind ds = effect.ExpandBehind (token_read 0 ds) (token_read 1 ds)

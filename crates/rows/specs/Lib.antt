@@ -1,4 +1,5 @@
 pub mod Tokens
+pub mod Internal
 pub mod Table
 pub mod Readings
 pub mod Stages

@@ -21,7 +21,7 @@ use Rattle.rows.specs.declared.words.Kind.TheVariants as kind
 use Rattle.rows.specs.declared.stage.Stage.{Stage}
 use Rattle.rows.specs.declared.stage.Stage.TheVariants.{Number, NumberTo, NumberUpTo, Equals, ControlSequence, LetEquals, Space, AnyToken, NonblankToken, Text, MacroText, Prefixes}
 use Rattle.rows.specs.declared.stage.Complaint.{Complaint}
-use Rattle.rows.specs.declared.stage.Complaint.TheVariants.{BadCharacterCode, InvalidCode}
+use Rattle.rows.specs.declared.stage.Complaint.TheVariants.{BadCharacterCode, BadRegisterCode, InvalidCode}
 use Rattle.rows.specs.declared.stage.Start.{Start}
 use Rattle.rows.specs.declared.stage.Start.TheVariants.{Looks, Begins}
 use Rattle.rows.specs.declared.stage.Met.{Met}
@@ -76,6 +76,7 @@ token_read i ds = token_in (datum_at i ds)
 -- a number out of its range
 abbrev pub out_of_range : Complaint → ℕ → ℤ → Report
 out_of_range BadCharacterCode greatest n = report.BadCharacterCode n
+out_of_range BadRegisterCode greatest n = report.BadRegisterCode n
 out_of_range InvalidCode greatest n = report.InvalidCode n greatest
 
 -- is reported, and 0 taken

@@ -1,19 +1,22 @@
 -- The rows are those of the table of constants, by the numbers of the primitives.
-use Rattle.std.specs.Prelude.{ℕ, ◌==◌, Bool, true, false, Option, Some, None, List, [], ◌∷◌, if◌then◌else◌}
+use Rattle.std.specs.Prelude.{ℕ, ◌-◌, ◌==◌, Bool, true, false, Option, Some, None, List, [], ◌∷◌, if◌then◌else◌}
 use Rattle.rows.specs.declared.stage.Stage.{Stage}
-use Rattle.rows.specs.declared.stage.Stage.TheVariants.{AnyToken}
+use Rattle.rows.specs.declared.stage.Stage.TheVariants.{AnyToken, Equals, Number}
 use Rattle.rows.specs.declared.command.Row.{Row}
 use Rattle.rows.specs.declared.command.Row.TheVariants.{One, Two, Three, Four}
 use Rattle.rows.specs.declared.command.Action.{Action}
 use Rattle.rows.specs.declared.command.Action.TheVariants as action
+use Rattle.plain_tokens.specs.Categories.{is_between}
 use Rattle.rows.specs.declared.command.TheConstants.{SYNTAX}
+use Rattle.rows.specs.Internal.{first_integer, last_integer}
 
 abbrev pub row_among : ℕ → List (ℕ × Row × Action) → Option (Row × Action)
 row_among n [] = None
 row_among n (row ∷ rows) = if row.0 == n then Some (row.1, row.2) else row_among n rows
 
+-- an integer parameter gets a value, behind an optional `=`; the other primitives have their rows in the table
 abbrev pub find_row : ℕ → Option (Row × Action)
-find_row n = row_among n SYNTAX.now
+find_row n = if is_between first_integer last_integer n then Some (Two Equals Number, action.SetInteger (n - first_integer)) else row_among n SYNTAX.now
 
 abbrev pub has_row_in : Option (Row × Action) → Bool
 has_row_in None = false

@@ -1,5 +1,5 @@
 -- Rows worked out: what each command asks for, item by item, as it is fed.
-use Rattle.std.specs.Prelude.{ℕ, ℤ, pos, negsuc, ◌≡◌, true, false, List, [], ◌∷◌, map, codes}
+use Rattle.std.specs.Prelude.{ℕ, ℤ, pos, negsuc, ◌≡◌, ◌==◌, ◌&&◌, Bool, true, false, List, [], ◌∷◌, map, codes}
 use Rattle.tex_defs.specs.declared.Token.{Token}
 use Rattle.tex_defs.specs.declared.Token.TheVariants as token
 use Rattle.tex_defs.specs.declared.Name.{Name}
@@ -9,7 +9,7 @@ use Rattle.tex_defs.specs.declared.Meaning.TheVariants as means
 use Rattle.tex_defs.specs.declared.Seen.{Seen}
 use Rattle.tex_syntax.specs.declared.words.Want.TheVariants.{Raw, Nonblank}
 use Rattle.tex_syntax.specs.declared.words.Want.TheVariants as want
-use Rattle.tex_syntax.specs.declared.words.Report.TheVariants.{BadCharacterCode, InvalidCode, CodeTooGreat, MissingName, PrefixWith, LongOrOuterWith}
+use Rattle.tex_syntax.specs.declared.words.Report.TheVariants.{BadCharacterCode, BadRegisterCode, InvalidCode, CodeTooGreat, MissingName, PrefixWith, LongOrOuterWith}
 use Rattle.plain_tokens.specs.Categories.{space, letter, other}
 use Rattle.prim_table.specs.Primitives.{primitive_name}
 use Rattle.rows.specs.declared.words.Datum.TheVariants.{Number}
@@ -17,9 +17,18 @@ use Rattle.rows.specs.declared.words.Value.TheVariants as value
 use Rattle.rows.specs.declared.words.Kind.TheVariants.{Integer, Text, Definition}
 use Rattle.rows.specs.declared.command.Call.{Call}
 use Rattle.equivalents.specs.declared.values.CodeKind.TheVariants as code
+use Rattle.equivalents.specs.declared.values.Loc.TheVariants as loc
+use Rattle.tex_defs.specs.declared.RegisterKind.TheVariants as register
 use Rattle.rows.specs.declared.command.Effect.TheVariants as effect
 use Rattle.rows.specs.Tokens.{inaccessible}
-use Rattle.rows.specs.Table.{reads_under_normal}
+use Rattle.rows.specs.declared.stage.Stage.{Stage}
+use Rattle.rows.specs.declared.stage.Stage.TheVariants.{NumberTo, Equals}
+use Rattle.rows.specs.declared.stage.Complaint.TheVariants as complaint
+use Rattle.rows.specs.declared.command.Action.{Action}
+use Rattle.rows.specs.declared.command.Action.TheVariants as action
+use Rattle.rows.specs.declared.command.Row.{Row}
+use Rattle.rows.specs.declared.command.TheConstants.{SYNTAX}
+use Rattle.rows.specs.Table.{reads_under_normal, stages_in}
 use Rattle.rows.specs.Readings.{Fed, Tok, Val, Told, Ask, More, Inner, Acts, ActsOn, Defines, Ends, Tells, Inserts}
 use Rattle.rows.specs.Run.{row}
 
@@ -110,10 +119,10 @@ pub record WorkedPrefixes : Type 0 where
       More want.Command ∷ More Raw ∷ Inner (Definition x_name true) false ∷ Defines (record (call 28) { outer = true }) x_name text ∷ []
   pub global :
       steps 25 (Tok (primitive 35) ∷ number (pos 65) ∷ Tok equals ∷ number (pos 11) ∷ []) ≡
-      More want.Command ∷ Inner Integer false ∷ More Nonblank ∷ Inner Integer false ∷ Acts (record (call 35) { global = true }) (effect.SetCode code.Category (pos 65) (pos 11)) ∷ []
+      More want.Command ∷ Inner Integer false ∷ More Nonblank ∷ Inner Integer false ∷ Acts (record (call 35) { global = true }) (effect.SetNumber (loc.Code code.Category 65) (pos 11)) ∷ []
   pub long_catcode :
       steps 23 (Tok (primitive 35) ∷ Told ∷ number (pos 65) ∷ Tok equals ∷ number (pos 11) ∷ []) ≡
-      More want.Command ∷ Tells (LongOrOuterWith (means.Prim 35)) false ∷ Inner Integer false ∷ More Nonblank ∷ Inner Integer false ∷ Acts (call 35) (effect.SetCode code.Category (pos 65) (pos 11)) ∷ []
+      More want.Command ∷ Tells (LongOrOuterWith (means.Prim 35)) false ∷ Inner Integer false ∷ More Nonblank ∷ Inner Integer false ∷ Acts (call 35) (effect.SetNumber (loc.Code code.Category 65) (pos 11)) ∷ []
   pub outer_let :
       steps 24 (Tok (primitive 25) ∷ Tok (primitive 30) ∷ Told ∷ Tok x ∷ Tok y ∷ []) ≡
       More want.Command ∷ More want.Command ∷ Tells (LongOrOuterWith (means.Prim 30)) false ∷ More Raw ∷ More Raw ∷ Acts (record (call 30) { global = true }) (effect.Let x_name y) ∷ []
@@ -135,50 +144,60 @@ pub record WorkedMeanings : Type 0 where
 -- `\catcode 65=11`, `\catcode 65 11`, where the second number begins with its first digit, and `\catcode 256=16` and `\catcode -1=-1` with their reports
 pub record WorkedCategories : Type 0 where
   pub sets :
-      steps 35 (number (pos 65) ∷ Tok equals ∷ number (pos 11) ∷ []) ≡ Inner Integer false ∷ More Nonblank ∷ Inner Integer false ∷ Acts (call 35) (effect.SetCode code.Category (pos 65) (pos 11)) ∷ []
+      steps 35 (number (pos 65) ∷ Tok equals ∷ number (pos 11) ∷ []) ≡ Inner Integer false ∷ More Nonblank ∷ Inner Integer false ∷ Acts (call 35) (effect.SetNumber (loc.Code code.Category 65) (pos 11)) ∷ []
   pub begins :
-      steps 35 (number (pos 65) ∷ Tok digit ∷ number (pos 11) ∷ []) ≡ Inner Integer false ∷ More Nonblank ∷ Inner Integer true ∷ Acts (call 35) (effect.SetCode code.Category (pos 65) (pos 11)) ∷ []
+      steps 35 (number (pos 65) ∷ Tok digit ∷ number (pos 11) ∷ []) ≡ Inner Integer false ∷ More Nonblank ∷ Inner Integer true ∷ Acts (call 35) (effect.SetNumber (loc.Code code.Category 65) (pos 11)) ∷ []
   pub too_great :
       steps 35 (number (pos 256) ∷ Told ∷ Tok equals ∷ number (pos 16) ∷ Told ∷ []) ≡
-      Inner Integer false ∷ Tells (BadCharacterCode (pos 256)) false ∷ More Nonblank ∷ Inner Integer false ∷ Tells (InvalidCode (pos 16) 15) false ∷ Acts (call 35) (effect.SetCode code.Category (pos 0) (pos 0)) ∷ []
+      Inner Integer false ∷ Tells (BadCharacterCode (pos 256)) false ∷ More Nonblank ∷ Inner Integer false ∷ Tells (InvalidCode (pos 16) 15) false ∷ Acts (call 35) (effect.SetNumber (loc.Code code.Category 0) (pos 0)) ∷ []
   pub negative :
       steps 35 (number (negsuc 0) ∷ Told ∷ Tok digit ∷ number (negsuc 0) ∷ Told ∷ []) ≡
-      Inner Integer false ∷ Tells (BadCharacterCode (negsuc 0)) false ∷ More Nonblank ∷ Inner Integer true ∷ Tells (InvalidCode (negsuc 0) 15) false ∷ Acts (call 35) (effect.SetCode code.Category (pos 0) (pos 0)) ∷ []
+      Inner Integer false ∷ Tells (BadCharacterCode (negsuc 0)) false ∷ More Nonblank ∷ Inner Integer true ∷ Tells (InvalidCode (negsuc 0) 15) false ∷ Acts (call 35) (effect.SetNumber (loc.Code code.Category 0) (pos 0)) ∷ []
   pub greatest :
-      steps 35 (number (pos 255) ∷ Tok equals ∷ number (pos 15) ∷ []) ≡ Inner Integer false ∷ More Nonblank ∷ Inner Integer false ∷ Acts (call 35) (effect.SetCode code.Category (pos 255) (pos 15)) ∷ []
+      steps 35 (number (pos 255) ∷ Tok equals ∷ number (pos 15) ∷ []) ≡ Inner Integer false ∷ More Nonblank ∷ Inner Integer false ∷ Acts (call 35) (effect.SetNumber (loc.Code code.Category 255) (pos 15)) ∷ []
 
 -- `\lccode 65=97`, `\uccode 97=256`, `\sfcode 65=32768`, `\mathcode 65=32768` and `=32769`, `\delcode 40=-1` and `=16777216`
 pub record WorkedCodes : Type 0 where
   pub lowercase :
-      steps 36 (number (pos 65) ∷ Tok equals ∷ number (pos 97) ∷ []) ≡ Inner Integer false ∷ More Nonblank ∷ Inner Integer false ∷ Acts (call 36) (effect.SetCode code.Lowercase (pos 65) (pos 97)) ∷ []
+      steps 36 (number (pos 65) ∷ Tok equals ∷ number (pos 97) ∷ []) ≡ Inner Integer false ∷ More Nonblank ∷ Inner Integer false ∷ Acts (call 36) (effect.SetNumber (loc.Code code.Lowercase 65) (pos 97)) ∷ []
   pub uppercase :
       steps 37 (number (pos 97) ∷ Tok equals ∷ number (pos 256) ∷ Told ∷ []) ≡
-      Inner Integer false ∷ More Nonblank ∷ Inner Integer false ∷ Tells (InvalidCode (pos 256) 255) false ∷ Acts (call 37) (effect.SetCode code.Uppercase (pos 97) (pos 0)) ∷ []
+      Inner Integer false ∷ More Nonblank ∷ Inner Integer false ∷ Tells (InvalidCode (pos 256) 255) false ∷ Acts (call 37) (effect.SetNumber (loc.Code code.Uppercase 97) (pos 0)) ∷ []
   pub space_factor :
       steps 38 (number (pos 65) ∷ Tok equals ∷ number (pos 32768) ∷ Told ∷ []) ≡
-      Inner Integer false ∷ More Nonblank ∷ Inner Integer false ∷ Tells (InvalidCode (pos 32768) 32767) false ∷ Acts (call 38) (effect.SetCode code.SpaceFactor (pos 65) (pos 0)) ∷ []
+      Inner Integer false ∷ More Nonblank ∷ Inner Integer false ∷ Tells (InvalidCode (pos 32768) 32767) false ∷ Acts (call 38) (effect.SetNumber (loc.Code code.SpaceFactor 65) (pos 0)) ∷ []
   pub math :
-      steps 39 (number (pos 65) ∷ Tok equals ∷ number (pos 32768) ∷ []) ≡ Inner Integer false ∷ More Nonblank ∷ Inner Integer false ∷ Acts (call 39) (effect.SetCode code.Math (pos 65) (pos 32768)) ∷ []
+      steps 39 (number (pos 65) ∷ Tok equals ∷ number (pos 32768) ∷ []) ≡ Inner Integer false ∷ More Nonblank ∷ Inner Integer false ∷ Acts (call 39) (effect.SetNumber (loc.Code code.Math 65) (pos 32768)) ∷ []
   pub math_too_great :
       steps 39 (number (pos 65) ∷ Tok equals ∷ number (pos 32769) ∷ Told ∷ []) ≡
-      Inner Integer false ∷ More Nonblank ∷ Inner Integer false ∷ Tells (InvalidCode (pos 32769) 32768) false ∷ Acts (call 39) (effect.SetCode code.Math (pos 65) (pos 0)) ∷ []
+      Inner Integer false ∷ More Nonblank ∷ Inner Integer false ∷ Tells (InvalidCode (pos 32769) 32768) false ∷ Acts (call 39) (effect.SetNumber (loc.Code code.Math 65) (pos 0)) ∷ []
   pub delimiter :
-      steps 40 (number (pos 40) ∷ Tok equals ∷ number (negsuc 0) ∷ []) ≡ Inner Integer false ∷ More Nonblank ∷ Inner Integer false ∷ Acts (call 40) (effect.SetCode code.Delimiter (pos 40) (negsuc 0)) ∷ []
+      steps 40 (number (pos 40) ∷ Tok equals ∷ number (negsuc 0) ∷ []) ≡ Inner Integer false ∷ More Nonblank ∷ Inner Integer false ∷ Acts (call 40) (effect.SetNumber (loc.Code code.Delimiter 40) (negsuc 0)) ∷ []
   pub delimiter_too_great :
       steps 40 (number (pos 40) ∷ Tok equals ∷ number (pos 16777216) ∷ Told ∷ []) ≡
-      Inner Integer false ∷ More Nonblank ∷ Inner Integer false ∷ Tells (CodeTooGreat (pos 16777216) 16777215) false ∷ Acts (call 40) (effect.SetCode code.Delimiter (pos 40) (pos 0)) ∷ []
+      Inner Integer false ∷ More Nonblank ∷ Inner Integer false ∷ Tells (CodeTooGreat (pos 16777216) 16777215) false ∷ Acts (call 40) (effect.SetNumber (loc.Code code.Delimiter 40) (pos 0)) ∷ []
 
 -- `\escapechar=33`, `\globaldefs 1`, where the number begins with its first digit, and `\endlinechar=-1`; `\global\newlinechar=10`; `\aftergroup\x`
 -- and `\afterassignment\x`
 pub record WorkedParameters : Type 0 where
-  pub equals_number : steps 130 (Tok equals ∷ number (pos 33) ∷ []) ≡ More Nonblank ∷ Inner Integer false ∷ Acts (call 130) (effect.SetInteger 45 (pos 33)) ∷ []
-  pub begins : steps 128 (Tok digit ∷ number (pos 1) ∷ []) ≡ More Nonblank ∷ Inner Integer true ∷ Acts (call 128) (effect.SetInteger 43 (pos 1)) ∷ []
-  pub negative : steps 133 (Tok equals ∷ number (negsuc 0) ∷ []) ≡ More Nonblank ∷ Inner Integer false ∷ Acts (call 133) (effect.SetInteger 48 (negsuc 0)) ∷ []
+  pub equals_number : steps 130 (Tok equals ∷ number (pos 33) ∷ []) ≡ More Nonblank ∷ Inner Integer false ∷ Acts (call 130) (effect.SetNumber (loc.Integer 45) (pos 33)) ∷ []
+  pub begins : steps 128 (Tok digit ∷ number (pos 1) ∷ []) ≡ More Nonblank ∷ Inner Integer true ∷ Acts (call 128) (effect.SetNumber (loc.Integer 43) (pos 1)) ∷ []
+  pub negative : steps 133 (Tok equals ∷ number (negsuc 0) ∷ []) ≡ More Nonblank ∷ Inner Integer false ∷ Acts (call 133) (effect.SetNumber (loc.Integer 48) (negsuc 0)) ∷ []
   pub global :
       steps 25 (Tok (primitive 134) ∷ Tok equals ∷ number (pos 10) ∷ []) ≡
-      More want.Command ∷ More Nonblank ∷ Inner Integer false ∷ Acts (record (call 134) { global = true }) (effect.SetInteger 49 (pos 10)) ∷ []
+      More want.Command ∷ More Nonblank ∷ Inner Integer false ∷ Acts (record (call 134) { global = true }) (effect.SetNumber (loc.Integer 49) (pos 10)) ∷ []
+  pub last : steps 139 (Tok equals ∷ number (pos 7) ∷ []) ≡ More Nonblank ∷ Inner Integer false ∷ Acts (call 139) (effect.SetNumber (loc.Integer 54) (pos 7)) ∷ []
   pub aftergroup : steps 15 (Tok x ∷ []) ≡ More Raw ∷ Acts (call 15) (effect.AfterGroup x) ∷ []
   pub afterassignment : steps 16 (Tok x ∷ []) ≡ More Raw ∷ Acts (call 16) (effect.AfterAssignment x) ∷ []
+
+-- `\count 7=-1`; `\count 256 1`, with its report, where the second number begins with its first digit
+pub record WorkedRegisters : Type 0 where
+  pub sets :
+      steps 41 (number (pos 7) ∷ Tok equals ∷ number (negsuc 0) ∷ []) ≡
+      Inner Integer false ∷ More Nonblank ∷ Inner Integer false ∷ Acts (call 41) (effect.SetNumber (loc.Register register.Count 7) (negsuc 0)) ∷ []
+  pub too_great :
+      steps 41 (number (pos 256) ∷ Told ∷ Tok digit ∷ number (pos 1) ∷ []) ≡
+      Inner Integer false ∷ Tells (BadRegisterCode (pos 256)) false ∷ More Nonblank ∷ Inner Integer true ∷ Acts (call 41) (effect.SetNumber (loc.Register register.Count 0) (pos 1)) ∷ []
 
 -- `\expandafter`, `\noexpand`, `\number`, `\romannumeral`, `\string` and `\meaning`, and which of them read under normal status
 pub record WorkedExpansions : Type 0 where
@@ -190,18 +209,33 @@ pub record WorkedExpansions : Type 0 where
   pub meaning : steps 60 (Tok x ∷ []) ≡ More Raw ∷ Acts (call 60) (effect.MakeMeaning x) ∷ []
   pub statuses : map reads_under_normal (54 ∷ 55 ∷ 57 ∷ 58 ∷ 59 ∷ 60 ∷ 30 ∷ []) ≡ false ∷ true ∷ false ∷ false ∷ true ∷ true ∷ false ∷ []
 
+-- EACH ROW that sets a code or a register begins with the character's or the register's number, from 0 to 255; a category code is at most 15.
+abbrev pub is_whole : Action → List Stage → Bool
+is_whole (action.SetCode code.Category) (NumberTo n complaint.BadCharacterCode ∷ Equals ∷ NumberTo m complaint.InvalidCode ∷ []) = (n == 255) && (m == 15)
+is_whole (action.SetCode code.Category) ss = false
+is_whole (action.SetCode kind) (NumberTo n complaint.BadCharacterCode ∷ Equals ∷ ss) = n == 255
+is_whole (action.SetCode kind) ss = false
+is_whole (action.SetRegister kind) (NumberTo n complaint.BadRegisterCode ∷ Equals ∷ ss) = n == 255
+is_whole (action.SetRegister kind) ss = false
+is_whole a ss = true
+
+abbrev pub are_whole : List (ℕ × Row × Action) → Bool
+are_whole [] = true
+are_whole (first ∷ rows) = is_whole first.2 (stages_in first.1) && are_whole rows
+
 -- the numbers above, and the names of their primitives
 abbrev pub numbers : List ℕ
-numbers = 8 ∷ 9 ∷ 10 ∷ 11 ∷ 15 ∷ 16 ∷ 23 ∷ 24 ∷ 25 ∷ 26 ∷ 27 ∷ 28 ∷ 29 ∷ 30 ∷ 31 ∷ 35 ∷ 36 ∷ 37 ∷ 38 ∷ 39 ∷ 40 ∷ 54 ∷ 55 ∷ 57 ∷ 58 ∷ 59 ∷ 60 ∷ 128 ∷ 130 ∷ 133 ∷ 134 ∷ []
+numbers = 8 ∷ 9 ∷ 10 ∷ 11 ∷ 15 ∷ 16 ∷ 23 ∷ 24 ∷ 25 ∷ 26 ∷ 27 ∷ 28 ∷ 29 ∷ 30 ∷ 31 ∷ 35 ∷ 36 ∷ 37 ∷ 38 ∷ 39 ∷ 40 ∷ 41 ∷ 54 ∷ 55 ∷ 57 ∷ 58 ∷ 59 ∷ 60 ∷ 128 ∷ 130 ∷ 133 ∷ 134 ∷ 139 ∷ []
 
 abbrev pub commands : List (List ℕ)
 commands =
     codes "ignorespaces" ∷ codes "message" ∷ codes "errmessage" ∷ codes "show" ∷ codes "aftergroup" ∷ codes "afterassignment" ∷ codes "long" ∷ codes "outer" ∷ codes "global" ∷ codes "def" ∷ codes "gdef" ∷ codes "edef" ∷ codes "xdef" ∷
-    codes "let" ∷ codes "futurelet" ∷ codes "catcode" ∷ codes "lccode" ∷ codes "uccode" ∷ codes "sfcode" ∷ codes "mathcode" ∷ codes "delcode" ∷ codes "expandafter" ∷ codes "noexpand" ∷ codes "number" ∷ codes "romannumeral" ∷ codes "string" ∷ codes "meaning" ∷
-    codes "globaldefs" ∷ codes "escapechar" ∷ codes "endlinechar" ∷ codes "newlinechar" ∷ []
+    codes "let" ∷ codes "futurelet" ∷ codes "catcode" ∷ codes "lccode" ∷ codes "uccode" ∷ codes "sfcode" ∷ codes "mathcode" ∷ codes "delcode" ∷ codes "count" ∷ codes "expandafter" ∷ codes "noexpand" ∷ codes "number" ∷ codes "romannumeral" ∷ codes "string" ∷ codes "meaning" ∷
+    codes "globaldefs" ∷ codes "escapechar" ∷ codes "endlinechar" ∷ codes "newlinechar" ∷ codes "errorcontextlines" ∷ []
 
 pub record WorkedRows : Type 0 where
   pub names : map primitive_name numbers ≡ commands
+  pub whole : are_whole SYNTAX.now ≡ true
   pub commands_worked : WorkedCommands
   pub definitions : WorkedDefinitions
   pub prefixes : WorkedPrefixes
@@ -209,4 +243,5 @@ pub record WorkedRows : Type 0 where
   pub categories : WorkedCategories
   pub codes : WorkedCodes
   pub parameters : WorkedParameters
+  pub registers : WorkedRegisters
   pub expansions : WorkedExpansions

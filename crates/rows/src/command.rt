@@ -2,7 +2,7 @@
 ghost use Rattle.std.specs.Prelude.{◌≡◌};
 ghost use Rattle.rows.specs.Table as table;
 
-use crate::stage::Complaint::{BadCharacterCode, InvalidCode};
+use crate::stage::Complaint::{BadCharacterCode, BadRegisterCode, InvalidCode};
 use crate::stage::Stage;
 use crate::stage::Stage::{
     AnyToken, ControlSequence, Equals, LetEquals, MacroText, NonblankToken, Number, NumberTo,
@@ -11,12 +11,12 @@ use crate::stage::Stage::{
 use Action::{
     AfterAssignment, AfterGroup, Define, DefineGlobally, ErrorMessage, ExpandBehind, FutureLet,
     Let, MakeMeaning, MakeNumber, MakeRoman, MakeString, Message, Nothing, Obey, PutMarked,
-    SetCode, SetInteger, Show,
+    SetCode, SetInteger, SetRegister, Show,
 };
 use Row::{Four, One, Three, Two};
-use equivalents::CodeKind;
 use equivalents::CodeKind::{Category, Delimiter, Lowercase, Math, SpaceFactor, Uppercase};
-use tex_defs::{Name, Seen};
+use equivalents::{CodeKind, Loc};
+use tex_defs::{Name, RegisterKind, Seen};
 
 /// A prefix of an assignment.
 #[derive(Clone, Copy)]
@@ -77,6 +77,8 @@ pub enum Action {
     SetCode(CodeKind),
     /// The integer parameter at this place gets a value.
     SetInteger(u8),
+    /// A register of this kind gets a number.
+    SetRegister(RegisterKind),
     AfterGroup,
     AfterAssignment,
     ExpandBehind,
@@ -103,10 +105,8 @@ pub enum Effect {
     Let(Name, Seen),
     /// Both tokens are put back, and the name means what the second one means.
     FutureLet(Name, Seen, Seen),
-    /// The character, the first number, gets the second as its code of this kind.
-    SetCode(CodeKind, i32, i32),
-    /// The integer parameter at this place gets the number as its value.
-    SetInteger(u8, i32),
+    /// The location gets the number as its value.
+    SetNumber(Loc, i32),
     /// The token is kept for the end of the innermost group, if one is open.
     AfterGroup(Seen),
     /// The token is kept for the end of the next assignment.
@@ -147,22 +147,18 @@ const CHARACTER_CODE: Stage = NumberTo(255, BadCharacterCode);
 /// A character's category.
 const CATEGORY: Stage = NumberTo(15, InvalidCode);
 
+/// A register's number.
+const REGISTER: Stage = NumberTo(255, BadRegisterCode);
+
 /// A small or a capital letter of a character, or 0.
 const OTHER_CASE: Stage = NumberTo(255, InvalidCode);
 
-/// The place of `\globaldefs` among the integer parameters, from 0.
-const GLOBAL_DEFINITIONS: u8 = 43;
+/// The first and the last of the integer parameters.
+const FIRST_INTEGER: u16 = 85;
 
-/// The place of `\escapechar`.
-const ESCAPE_CHARACTER: u8 = 45;
+const LAST_INTEGER: u16 = 139;
 
-/// The place of `\endlinechar`.
-const END_LINE_CHARACTER: u8 = 48;
-
-/// The place of `\newlinechar`.
-const NEW_LINE_CHARACTER: u8 = 49;
-
-/// What the primitives read, by their numbers, and what they do then.
+/// What the primitives read, by their numbers, and what they do then; the integer parameters, which all read the same, are left out.
 pub const SYNTAX: &[(u16, Row, Action)] = &[
     (8, One(NonblankToken), Obey),
     (9, One(Text(true)), Message),
@@ -209,16 +205,17 @@ pub const SYNTAX: &[(u16, Row, Action)] = &[
         Three(CHARACTER_CODE, Equals, NumberUpTo(16777215)),
         SetCode(Delimiter),
     ),
+    (
+        41,
+        Three(REGISTER, Equals, Number),
+        SetRegister(RegisterKind::Count),
+    ),
     (54, Two(AnyToken, AnyToken), ExpandBehind),
     (55, One(AnyToken), PutMarked),
     (57, One(Number), MakeNumber),
     (58, One(Number), MakeRoman),
     (59, One(AnyToken), MakeString),
     (60, One(AnyToken), MakeMeaning),
-    (128, Two(Equals, Number), SetInteger(GLOBAL_DEFINITIONS)),
-    (130, Two(Equals, Number), SetInteger(ESCAPE_CHARACTER)),
-    (133, Two(Equals, Number), SetInteger(END_LINE_CHARACTER)),
-    (134, Two(Equals, Number), SetInteger(NEW_LINE_CHARACTER)),
 ];
 
 /// The row of a primitive and what it does, among these.
@@ -238,6 +235,10 @@ fn find_among(number: u16, rows: &[(u16, Row, Action)]) -> Option<(Row, Action)>
 pub fn find_row(number: u16) -> Option<(Row, Action)>
     ensures { result ≡ table.find_row number }
 {
+    if (FIRST_INTEGER..=LAST_INTEGER).contains(&number) {
+        let place = (number - FIRST_INTEGER) as u8;
+        return Some((Two(Equals, Number), SetInteger(place)));
+    }
     find_among(number, SYNTAX)
 }
 

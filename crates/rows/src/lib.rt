@@ -5,11 +5,13 @@
 #![tactic(auto)]
 
 mod command;
+mod internal;
 mod laws;
 mod stage;
 mod words;
 
 pub use command::{Action, Call, Effect, Prefix, Row, SYNTAX, find_row, row_of};
+pub use internal::{Bank, Internal, byte_of, internal_of, is_mu};
 pub use laws::{
     macros_have_bodies, notes_are_single, readings_begin_lower, readings_start, rows_have_no_value,
     worked_rows,

@@ -8,6 +8,7 @@ use tex_syntax::{Report, Want};
 #[derive(Clone, Copy)]
 pub enum Complaint {
     BadCharacterCode,
+    BadRegisterCode,
     InvalidCode,
 }
 

@@ -1,13 +1,17 @@
 -- What the scanner's words stand for, and the range of its values.
-use Rattle.std.specs.Prelude.{ℕ, ℤ, pos, negsuc, ◌≤ℤ◌}
+use Rattle.std.specs.Prelude.{ℕ, ℤ, pos, negsuc, ◌≤ℤ◌, false}
+use Rattle.rows.specs.declared.words.Kind.TheVariants as kind
+use Rattle.equivalents.specs.declared.values.Loc.{Loc}
+use Rattle.equivalents.specs.declared.values.Loc.TheVariants as loc
+use Rattle.rows.specs.Internal.{IsFetchable}
 use Rattle.rows.specs.Readings as reading
 use Rattle.plain_readings.specs.Integers.{ends_with}
 use Rattle.scan_numbers.specs.declared.digits.Radix.{Radix}
 use Rattle.scan_numbers.specs.declared.digits.Radix.TheVariants.{Octal, Decimal, Hexadecimal}
 use Rattle.scan_numbers.specs.declared.number.Ask.{Ask}
-use Rattle.scan_numbers.specs.declared.number.Ask.TheVariants.{More, Tells, Done}
+use Rattle.scan_numbers.specs.declared.number.Ask.TheVariants.{More, Begins, Fetches, Tells, Done}
 use Rattle.scan_numbers.specs.declared.number.Place.{Place}
-use Rattle.scan_numbers.specs.declared.number.Place.TheVariants.{Digits, Ended}
+use Rattle.scan_numbers.specs.declared.number.Place.TheVariants.{Digits, Fetching, MuFound, Ended}
 
 abbrev pub radix_number : Radix → ℕ
 radix_number Octal = 8
@@ -16,6 +20,8 @@ radix_number Hexadecimal = 16
 
 abbrev pub ask_of : Ask → reading.Ask
 ask_of (More want) = reading.More want
+ask_of Begins = reading.Inner kind.Integer false
+ask_of (Fetches l) = reading.Fetches l
 ask_of (Tells report back) = reading.Tells report back
 ask_of (Done n back) = ends_with n back
 
@@ -28,6 +34,15 @@ abbrev pub EndsInRange : Ask → Type 0
 EndsInRange (Done n back) = IsInRange n
 EndsInRange a = Unit {0}
 
+-- what is fetched stands at a location that is there
+abbrev pub IsFetchedAt : Ask → Type 0
+IsFetchedAt (Fetches l) = IsFetchable l
+IsFetchedAt a = Unit {0}
+
+abbrev pub location_at : Place → Loc
+location_at (Fetching l) = l
+location_at p = loc.Integer 0
+
 -- the number that the digits so far spell, and the value at the end
 abbrev pub digits_value : Place → ℕ
 digits_value (Digits radix n) = n
@@ -35,4 +50,5 @@ digits_value p = 0
 
 abbrev pub end_value : Place → ℤ
 end_value (Ended n back) = n
+end_value (MuFound n) = n
 end_value p = pos 0

@@ -1,14 +1,18 @@
 // Digits, character codes and signed values.
 ghost use Rattle.std.specs.Prelude.{◌≡◌, ◌≤◌, MatchOption, true, false};
 ghost use Rattle.plain_tokens.specs.Tokens as tokens;
+ghost use Rattle.rows.specs.Internal as internals;
 ghost use Rattle.plain_readings.specs.Integers as integers;
 ghost use Rattle.plain_readings.specs.Integers.{greatest_integer, is_digit, digit_of};
 ghost use Rattle.scan_numbers.specs.Sees.{radix_number, IsInRange};
 
+use equivalents::Val;
 use tex_defs::{Meaning, Name, Seen, Token};
 
 /// The greatest integer.
 pub const GREATEST: u32 = 2147483647;
+
+const GREATEST_INTEGER: i32 = 2147483647;
 
 /// The base of a number's digits.
 #[derive(Clone, Copy)]
@@ -83,6 +87,29 @@ pub fn code_of(token: Token) -> Option<u8>
         Token::Marked(Name::Active(code)) | Token::Marked(Name::Single(code)) => Some(code),
         _ => None,
     }
+}
+
+/// A value as an integer: a dimension in sp, glue by its width. The least 32-bit integer, which no assignment gives, counts as the
+/// next one.
+pub fn integer_of(value: Val<()>) -> i32
+    ensures value { result ≡ internals.integer_of value }
+    ensures range { IsInRange result }
+{
+    let n = match value {
+        Val::Number(n) => n,
+        Val::Skip(glue) => glue.width,
+        _ => 0,
+    };
+    if n == i32::MIN { -GREATEST_INTEGER } else { n }
+}
+
+/// An integer behind signs.
+pub fn with_sign(negative: bool, n: i32) -> i32
+    requires { IsInRange n }
+    ensures value { result ≡ internals.with_sign negative n }
+    ensures range { IsInRange result }
+{
+    if negative { 0 - n } else { n }
 }
 
 /// The integer with its sign.

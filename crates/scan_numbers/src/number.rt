@@ -1,9 +1,12 @@
 // The scanner of an integer. *The TeXbook*, chapter 24; *TeX: The Program*, part 26 (`scan_int`).
-ghost use Rattle.std.specs.Prelude.{◌≤◌};
+ghost use Rattle.std.specs.Prelude.{◌≤◌, ◌≡◌, true};
 ghost use Rattle.plain_readings.specs.Integers.{greatest_integer};
-ghost use Rattle.scan_numbers.specs.Sees.{IsInRange, digits_value, end_value};
+ghost use Rattle.rows.specs.Internal.{is_fetchable};
+ghost use Rattle.scan_numbers.specs.Sees.{IsInRange, digits_value, end_value, location_at};
 
-use crate::digits::{GREATEST, Radix, code_of, is_other, is_space, signed};
+use crate::digits::{GREATEST, Radix, code_of, integer_of, is_other, is_space, signed, with_sign};
+use equivalents::{Loc, Val as StoredValue};
+use rows::{Bank, Datum, Internal, Value, byte_of, internal_of, is_mu};
 use tex_defs::Seen;
 use tex_syntax::{Report, Want};
 
@@ -15,6 +18,10 @@ const IMPROPER_CODE: u32 = 48;
 #[derive(Clone, Copy)]
 pub enum Ask {
     More(Want),
+    /// Another integer, the number of a register or of a character.
+    Begins,
+    /// What stands at a location.
+    Fetches(Loc),
     /// A report, and whether the last token is put back before it.
     Tells(Report, bool),
     /// It is done, with this value, and whether the last token is put back.
@@ -42,6 +49,14 @@ pub enum Place {
     NoNumber,
     /// Before the report that no token gives a code.
     NoCode,
+    /// Before the number of a register or of a character.
+    Numbered(Bank),
+    /// Before the report that this is no such number.
+    BadNumber(Bank, i32),
+    /// Before what stands at a location.
+    Fetching(Loc),
+    /// Before the report of glue in mu, of this width.
+    MuFound(i32),
     /// At its end: the value, and whether the last token is put back.
     Ended(i32, bool),
 }
@@ -54,15 +69,17 @@ pub struct NumberScan {
     pub place: Place,
     ghost fits: { digits_value place ≤ greatest_integer },
     ghost range: { IsInRange (end_value place) },
+    ghost found: { is_fetchable (location_at place) ≡ true },
 }
 
 impl NumberScan {
     ghost use Rattle.std.specs.Prelude.{◌≡◌, List, [], ◌∷◌, false};
     ghost use Rattle.tex_defs.specs.declared.Token.{Token};
     ghost use Rattle.rows.specs.declared.words.Value.{Value};
-    ghost use Rattle.rows.specs.Readings.{Fed, Tok, Told, Val, Cut};
-    ghost use Rattle.plain_readings.specs.Integers.{integer, constant, first_digit, digits, number_ended};
-    ghost use Rattle.scan_numbers.specs.Sees.{radix_number, ask_of, EndsInRange};
+    ghost use Rattle.rows.specs.Readings.{Fed, Tok, Told, Val, Fetched, Cut};
+    ghost use Rattle.plain_readings.specs.Integers.{integer, constant, first_digit, digits, number_ended, fetched, with_number, by_meaning};
+    ghost use Rattle.rows.specs.Internal as internals;
+    ghost use Rattle.scan_numbers.specs.Sees.{radix_number, ask_of, EndsInRange, IsFetchedAt};
     ghost use Rattle.scan_numbers.specs.Resumes.{resume};
 
     /// An integer begins.
@@ -79,6 +96,7 @@ impl NumberScan {
     pub fn ask(&self) -> Ask
         ensures answer { ask_of result ≡ resume self.now [] }
         ensures range { EndsInRange result }
+        ensures found { IsFetchedAt result }
     {
         match self.place {
             Place::Signs => Ask::More(Want::Nonblank),
@@ -89,6 +107,10 @@ impl NumberScan {
             Place::TooBig(_) => Ask::Tells(Report::NumberTooBig, false),
             Place::NoNumber => Ask::Tells(Report::MissingNumber, true),
             Place::NoCode => Ask::Tells(Report::ImproperConstant, true),
+            Place::Numbered(_) => Ask::Begins,
+            Place::BadNumber(bank, n) => Ask::Tells(bank.complaint(n), false),
+            Place::Fetching(loc) => Ask::Fetches(loc),
+            Place::MuFound(_) => Ask::Tells(Report::IncompatibleUnits, false),
             Place::Ended(value, back) => Ask::Done(value, back),
         }
     }
@@ -107,10 +129,8 @@ impl NumberScan {
                 None => self.end(GREATEST, seen),
             },
             Place::Behind(code) => self.end(u32::from(code), seen),
-            Place::TooBig(_) | Place::NoNumber | Place::NoCode => {
-                self.place = Place::Ended(0, false);
-            }
             Place::Ended(..) => {}
+            _ => self.place = Place::Ended(0, false),
         }
     }
 
@@ -123,19 +143,82 @@ impl NumberScan {
             Place::NoCode => {
                 self.place = Place::Ended(signed(self.negative, IMPROPER_CODE), false);
             }
+            Place::BadNumber(bank, _) => self.place = Place::Fetching(bank.location(0)),
+            Place::MuFound(width) => self.place = Place::Ended(width, false),
             Place::Ended(..) => {}
             _ => self.place = Place::Ended(0, false),
         }
     }
 
-    /// A value or the note of a check came, which no integer asks for.
+    /// Takes the value of the integer that it began, or another, for which it never asks.
+    pub fn feed_value(&mut self, value: Value)
+        ensures { (ts : List Token) (fed : List Fed) → resume self.old (Val value ts ∷ fed) ≡ resume self.new fed }
+    {
+        match (self.place, value) {
+            (Place::Ended(..), _) => {}
+            (Place::Numbered(bank), Value::Plain(Datum::Number(n))) => self.feed_number(bank, n),
+            _ => self.place = Place::Ended(0, false),
+        }
+    }
+
+    /// Takes what stands at the location for which it asked.
+    pub fn fetched(&mut self, value: StoredValue<()>)
+        ensures { (fed : List Fed) → resume self.old (Fetched value ∷ fed) ≡ resume self.new fed }
+    {
+        match self.place {
+            Place::Fetching(loc) => {
+                let n = with_sign(self.negative, integer_of(value));
+                self.place = if is_mu(loc) {
+                    Place::MuFound(n)
+                } else {
+                    Place::Ended(n, false)
+                };
+            }
+            Place::Ended(..) => {}
+            _ => self.place = Place::Ended(0, false),
+        }
+    }
+
+    /// The note of a check came, which no integer asks for.
     pub fn stop(&mut self)
-        ensures value { (v : Value) (ts : List Token) (fed : List Fed) → resume self.old (Val v ts ∷ fed) ≡ resume self.new fed }
-        ensures check { (fed : List Fed) → resume self.old (Cut ∷ fed) ≡ resume self.new fed }
+        ensures { (fed : List Fed) → resume self.old (Cut ∷ fed) ≡ resume self.new fed }
     {
         match self.place {
             Place::Ended(..) => {}
             _ => self.place = Place::Ended(0, false),
+        }
+    }
+
+    /// Behind the number of a register or of a character.
+    fn feed_number(&mut self, bank: Bank, n: i32)
+        ensures { (fed : List Fed) → with_number self.old.negative bank n fed ≡ resume self.new fed }
+    {
+        self.place = if 0 <= n && n <= 255 {
+            Place::Fetching(bank.location(byte_of(n)))
+        } else {
+            Place::BadNumber(bank, n)
+        };
+    }
+
+    /// It asks for what stands at a location.
+    fn fetch(&mut self, loc: Loc)
+        requires { is_fetchable loc ≡ true }
+        ensures { (fed : List Fed) → fetched self.old.negative loc fed ≡ resume self.new fed }
+    {
+        self.place = Place::Fetching(loc);
+    }
+
+    /// The first token behind the signs, which is no constant.
+    fn feed_meaning(&mut self, x: Seen)
+        ensures { (fed : List Fed) → by_meaning self.old.negative (internals.internal_of x.meaning) x fed ≡ resume self.new fed }
+    {
+        match internal_of(x.meaning) {
+            Some(Internal::Given(n)) => {
+                self.place = Place::Ended(with_sign(self.negative, i32::from(n)), false);
+            }
+            Some(Internal::At(loc)) => self.fetch(loc),
+            Some(Internal::Numbered(bank)) => self.place = Place::Numbered(bank),
+            None => self.feed_first(Radix::Decimal, x),
         }
     }
 
@@ -155,7 +238,7 @@ impl NumberScan {
         } else if is_other(x, 34) {
             self.place = Place::First(Radix::Hexadecimal);
         } else {
-            self.feed_first(Radix::Decimal, x);
+            self.feed_meaning(x);
         }
     }
 

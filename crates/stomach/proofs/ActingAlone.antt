@@ -153,13 +153,12 @@ front_stands sizes e e' book front idle st = name_stands sizes e e' book front.f
 
 -- another effect is what is put in front
 pub put_alone : (page : Page) (c : Call) (x : Effect) → ((s : Seen) → x ≡ effect.Show s → ⊥) → ((n : Name) (s : Seen) → x ≡ effect.Let n s → ⊥) → ((n : Name) (s t : Seen) → x ≡ effect.FutureLet n s t → ⊥) →
-    ((kind : CodeKind) (char value : ℤ) → x ≡ effect.SetCode kind char value → ⊥) → ((i : ℕ) (value : ℤ) → x ≡ effect.SetInteger i value → ⊥) → ((s : Seen) → x ≡ effect.AfterGroup s → ⊥) → ((s : Seen) → x ≡ effect.AfterAssignment s → ⊥) →
+    ((l : Loc) (value : ℤ) → x ≡ effect.SetNumber l value → ⊥) → ((s : Seen) → x ≡ effect.AfterGroup s → ⊥) → ((s : Seen) → x ≡ effect.AfterAssignment s → ⊥) →
     done_alone page c x ≡ put_by page x
-put_alone page c (effect.Show s) shows lets later codes integers groups behind = absurd (shows s refl)
-put_alone page c (effect.Let n s) shows lets later codes integers groups behind = absurd (lets n s refl)
-put_alone page c (effect.FutureLet n s t) shows lets later codes integers groups behind = absurd (later n s t refl)
-put_alone page c (effect.SetCode kind char value) shows lets later codes integers groups behind = absurd (codes kind char value refl)
-put_alone page c (effect.SetInteger i value) shows lets later codes integers groups behind = absurd (integers i value refl)
-put_alone page c (effect.AfterGroup s) shows lets later codes integers groups behind = absurd (groups s refl)
-put_alone page c (effect.AfterAssignment s) shows lets later codes integers groups behind = absurd (behind s refl)
-put_alone page c x shows lets later codes integers groups behind = refl
+put_alone page c (effect.Show s) shows lets later numbers groups behind = absurd (shows s refl)
+put_alone page c (effect.Let n s) shows lets later numbers groups behind = absurd (lets n s refl)
+put_alone page c (effect.FutureLet n s t) shows lets later numbers groups behind = absurd (later n s t refl)
+put_alone page c (effect.SetNumber l value) shows lets later numbers groups behind = absurd (numbers l value refl)
+put_alone page c (effect.AfterGroup s) shows lets later numbers groups behind = absurd (groups s refl)
+put_alone page c (effect.AfterAssignment s) shows lets later numbers groups behind = absurd (behind s refl)
+put_alone page c x shows lets later numbers groups behind = refl

@@ -1,5 +1,5 @@
--- The code that a command sets is one of its kind, of a character: its row has read both in their ranges. A parameter that is set by its place is one of the 55.
-use Rattle.std.proofs.Common.{◌≡◌, ℕ, ℤ, pos, negsuc, ◌≤◌, Bool, true, false, List, [], ◌∷◌, ◌++◌, refl, arith}
+-- A number that a command sets stands at a location that is there, and that has such numbers: a category code was read in its range.
+use Rattle.std.proofs.Common.{◌≡◌, ℕ, ℤ, pos, negsuc, ◌-◌, ◌<◌, Bool, true, false, List, [], ◌∷◌, ◌++◌, refl, arith}
 use Rattle.std.specs.Prelude.{Option, None, Some, nat_le, nat_lt, ◌==◌, ◌&&◌, if◌then◌else◌}
 use Rattle.std.proofs.lemmas.Bool.Decides.{nat_tests}
 use Rattle.tex_defs.specs.declared.Token.{Token}
@@ -9,7 +9,8 @@ use Rattle.tex_syntax.specs.declared.words.Want.{Want}
 use Rattle.tex_syntax.specs.declared.words.Want.TheVariants.{Expanded, Nonblank}
 use Rattle.plain_state.specs.Definitions as build
 use Rattle.plain_tokens.specs.Arguments as call
-use Rattle.equivalents.specs.declared.values.CodeKind.{CodeKind}
+use Rattle.tex_defs.specs.declared.RegisterKind.{RegisterKind}
+use Rattle.tex_defs.specs.declared.RegisterKind.TheVariants as register
 use Rattle.equivalents.specs.declared.values.CodeKind.TheVariants as code
 use Rattle.equivalents.specs.Locations.{IsCategory}
 use Rattle.rows.specs.declared.words.Datum.{Datum}
@@ -19,7 +20,7 @@ use Rattle.rows.specs.declared.words.Value.TheVariants as value
 use Rattle.rows.specs.declared.words.Kind.{Kind as Begun}
 use Rattle.rows.specs.declared.words.Kind.TheVariants.{Command, Integer, Text, Definition}
 use Rattle.rows.specs.declared.stage.Stage.{Stage}
-use Rattle.rows.specs.declared.stage.Stage.TheVariants.{NumberTo, NumberUpTo, Equals, MacroText}
+use Rattle.rows.specs.declared.stage.Stage.TheVariants.{Number, NumberTo, NumberUpTo, Equals, MacroText}
 use Rattle.rows.specs.declared.stage.Start.{Start}
 use Rattle.rows.specs.declared.stage.Start.TheVariants.{Looks, Begins}
 use Rattle.rows.specs.declared.stage.Met.{Met}
@@ -34,8 +35,11 @@ use Rattle.rows.specs.declared.command.Action.{Action}
 use Rattle.rows.specs.declared.command.Action.TheVariants as action
 use Rattle.rows.specs.declared.command.Call.{Call}
 use Rattle.rows.specs.declared.command.Row.{Row}
+use Rattle.rows.specs.declared.command.Row.TheVariants.{Two}
 use Rattle.rows.specs.declared.command.TheConstants.{SYNTAX}
 use Rattle.rows.specs.Effects.{comes_to}
+use Rattle.rows.specs.Internal.{byte_of, first_integer, last_integer}
+use Rattle.plain_tokens.specs.Categories.{is_between}
 use Rattle.rows.specs.Readings.{Fed, Tok, Val, Told, Ask, Acts}
 use Rattle.rows.specs.Run.{Outcome, Asks, Takes, Passes, Gathers, Makes, Turns, comes, due, noted, valued, inner, begins, met_with, looks, again, started, behind, run, no_turn, turned, row}
 use Rattle.rows.specs.Stages.{number, number_in, start, on_token, on_value, on_datum, on_list}
@@ -46,10 +50,9 @@ use Rattle.plain_readings.specs.Readings.{Kind, Reads, Spelling, FileName, Behin
 use Rattle.plain_readings.specs.Calls.{call_ask, gathered}
 use Rattle.plain_readings.specs.Lists.{build_ask, text, definition}
 use Rattle.plain_readings.proofs.Steps.{integer_holds, spelling_holds}
-use Rattle.plain_machine.specs.Plan.{natural}
 use Rattle.stomach.specs.Effects.{IsSmall}
 
--- what a command is to do has a code of its kind, of a character, and a parameter one of the 55
+-- what a command is to set may stand where it is set
 abbrev pub SetsSmall : Ask → Type 0
 SetsSmall (Acts c e) = IsSmall e
 SetsSmall a = Unit {0}
@@ -224,15 +227,20 @@ module _ (turn : Call → List Fed → Ask) (turns : (c : Call) (fed : List Fed)
 
 -- THE TABLE, of which each row is tried
 
-abbrev is_code_row : CodeKind → List Stage → Bool
-is_code_row code.Category (NumberTo m first ∷ Equals ∷ NumberTo n second ∷ []) = nat_le m 255 && nat_le n 15
-is_code_row code.Category ss = false
-is_code_row kind (NumberTo m first ∷ Equals ∷ s ∷ []) = nat_le m 255
-is_code_row kind ss = false
+abbrev is_category_row : List Stage → Bool
+is_category_row (NumberTo m first ∷ Equals ∷ NumberTo n second ∷ []) = nat_le n 15
+is_category_row ss = false
+
+-- registers of numbers
+abbrev is_numbers : RegisterKind → Bool
+is_numbers register.Count = true
+is_numbers register.Dimen = true
+is_numbers kind = false
 
 abbrev reads_if_set : Action → List Stage → Bool
-reads_if_set (action.SetCode kind) ss = is_code_row kind ss
+reads_if_set (action.SetCode code.Category) ss = is_category_row ss
 reads_if_set (action.SetInteger i) ss = nat_lt i 55
+reads_if_set (action.SetRegister kind) ss = is_numbers kind
 reads_if_set a ss = true
 
 abbrev all_read : List (ℕ × Row × Action) → Bool
@@ -242,31 +250,35 @@ all_read (first ∷ rows) = reads_if_set first.2 (stages_in first.1) && all_read
 table_reads : all_read SYNTAX.now ≡ true
 table_reads = refl
 
-most : (greatest bound : ℕ) (n : ℤ) → is_at_most greatest n ≡ true → nat_le greatest bound ≡ true → natural n ≤ bound
-most greatest bound (pos n) h i = grind (arith, nat_tests, h, i)
-most greatest bound (negsuc n) h i = omega arith
-
 category : (greatest : ℕ) (n : ℤ) → is_at_most greatest n ≡ true → nat_le greatest 15 ≡ true → IsCategory n
 category greatest (pos n) h i = grind (arith, nat_tests, h, i)
 category greatest (negsuc n) h i = absurd cc
 
-code_reads : (kind : CodeKind) (ss : List Stage) → is_code_row kind ss ≡ true → ReadsSmall (action.SetCode kind) ss []
-code_reads code.Category (NumberTo m first ∷ Equals ∷ NumberTo n second ∷ []) h =
-    let code : nat_le m 255 ≡ true = grind (arith, nat_tests, h) in let least : nat_le n 15 ≡ true = grind (arith, nat_tests, h) in
-    (λ a in_a. (λ b no. absurd no, λ pass. (λ d in_d. (most m 255 (number_in a) in_a code, category n (number_in d) in_d least), λ no. absurd no)), λ no. absurd no)
-code_reads code.Category ss h = absurd cc
-code_reads kind (NumberTo m first ∷ Equals ∷ s ∷ []) h =
-    (λ a in_a. (λ b no. absurd no, λ pass. (λ d in_d. (most m 255 (number_in a) in_a h, tt), λ passes. (most m 255 (number_in a) in_a h, tt))), λ no. absurd no)
-code_reads kind ss h = absurd cc
+byte_if : (b : Bool) (n : ℕ) → nat_le n 255 ≡ b → (if b then n else 0) < 256
+byte_if true n is = grind (arith, nat_tests, is)
+byte_if false n is = omega arith
+
+byte_small : (n : ℤ) → byte_of n < 256
+byte_small (pos n) = byte_if (nat_le n 255) n refl
+byte_small (negsuc n) = omega arith
 
 -- whatever is read
 any_reads : (a : Action) → ((ds : List Datum) → IsSmall (comes_to a ds)) → (ss : List Stage) (ds : List Datum) → ReadsSmall a ss ds
 any_reads a h [] ds = h ds
 any_reads a h (s ∷ ss) ds = (λ d read. any_reads a h ss (ds ++ d ∷ []), λ pass. any_reads a h ss ds)
 
+category_reads : (ss : List Stage) → is_category_row ss ≡ true → ReadsSmall (action.SetCode code.Category) ss []
+category_reads (NumberTo m first ∷ Equals ∷ NumberTo n second ∷ []) h =
+    (λ a in_a. (λ b no. absurd no, λ pass. (λ d in_d. (byte_small (number_in a), category n (number_in d) in_d h), λ no. absurd no)), λ no. absurd no)
+category_reads ss h = absurd cc
+
 row_reads : (a : Action) (ss : List Stage) → reads_if_set a ss ≡ true → ReadsSmall a ss []
-row_reads (action.SetCode kind) ss h = code_reads kind ss h
-row_reads (action.SetInteger i) ss h = any_reads (action.SetInteger i) (λ ds. grind (arith, nat_tests, h)) ss []
+row_reads (action.SetCode code.Category) ss h = category_reads ss h
+row_reads (action.SetCode kind) ss h = any_reads (action.SetCode kind) (λ ds. (byte_small (number 0 ds), tt)) ss []
+row_reads (action.SetInteger i) ss h = any_reads (action.SetInteger i) (λ ds. (grind (arith, nat_tests, h), tt)) ss []
+row_reads (action.SetRegister register.Count) ss h = any_reads (action.SetRegister register.Count) (λ ds. (byte_small (number 0 ds), tt)) ss []
+row_reads (action.SetRegister register.Dimen) ss h = any_reads (action.SetRegister register.Dimen) (λ ds. (byte_small (number 0 ds), tt)) ss []
+row_reads (action.SetRegister kind) ss h = absurd cc
 row_reads a ss h = any_reads a (λ ds. tt) ss []
 
 abbrev found_reads : Option (Row × Action) → Bool
@@ -280,8 +292,14 @@ among_reads : (n : ℕ) (rows : List (ℕ × Row × Action)) → all_read rows �
 among_reads n [] h = refl
 among_reads n (first ∷ rows) h = found_if (first.0 == n) (all_read rows) (first.1, first.2) (row_among n rows) h (among_reads n rows)
 
+-- an integer parameter is one of the 55
+parameter_reads : (b : Bool) (n : ℕ) (o : Option (Row × Action)) → is_between first_integer last_integer n ≡ b → found_reads o ≡ true →
+    found_reads (if b then Some (Two Equals Number, action.SetInteger (n - first_integer)) else o) ≡ true
+parameter_reads true n o is h = grind (arith, nat_tests, is)
+parameter_reads false n o is h = h
+
 reads_small : (n : ℕ) → ReadsSmall (action_of n) (stages_of n) []
-reads_small n = row_reads (action_of n) (stages_of n) (among_reads n SYNTAX.now table_reads)
+reads_small n = row_reads (action_of n) (stages_of n) (parameter_reads (is_between first_integer last_integer n) n (row_among n SYNTAX.now) refl (among_reads n SYNTAX.now table_reads))
 
 row_sets : (c : Call) (fed : List Fed) → SetsSmall (row c fed)
 row_sets c fed =
@@ -316,7 +334,7 @@ file_sets c want ts (y ∷ fed) = tt
 
 pub sets_small : (k : Kind) (fed : List Fed) → SetsSmall (ask k fed)
 sets_small (Reads (Command c)) fed = row_sets c fed
-sets_small (Reads Integer) fed = integer_holds (λ b a. SetsSmall a) (λ b want. tt) (λ report back. tt) (λ b n back. tt) false false fed
+sets_small (Reads Integer) fed = integer_holds (λ b a. SetsSmall a) (λ b want. tt) (λ report back. tt) (λ b n back. tt) (λ b. tt) (λ b l. tt) false false fed
 sets_small (Reads (Text name expanded)) fed = build_sets (text name expanded fed)
 sets_small (Reads (Definition name expanded)) fed = build_sets (definition name expanded fed)
 sets_small (Spelling c) fed = spelling_holds (λ b a. SetsSmall a) (λ b want. tt) (λ report back. tt) (λ b. tt) (λ b c ts. tt) c [] false fed

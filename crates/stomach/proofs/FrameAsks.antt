@@ -87,6 +87,10 @@ number_modest negative (number.Dropped radix) = tt
 number_modest negative (number.Behind code) = tt
 number_modest negative number.NoNumber = tt
 number_modest negative number.NoCode = tt
+number_modest negative (number.Numbered b) = tt
+number_modest negative (number.BadNumber b n) = tt
+number_modest negative (number.Fetching l) = tt
+number_modest negative (number.MuFound n) = tt
 number_modest negative (number.Ended n back) = tt
 
 build_modest : (a : build.Answer) → IsModest (build_ask a)

@@ -11,7 +11,7 @@ use Rattle.rows.specs.declared.words.Kind.{Kind as Begun}
 use Rattle.rows.specs.declared.words.Kind.TheVariants.{Command, Integer, Text, Definition}
 use Rattle.rows.specs.declared.words.Value.{Value}
 use Rattle.rows.specs.Readings.{Tok, Val, Inner, Done}
-use Rattle.plain_readings.specs.Laws.{BeginsLower, rank}
+use Rattle.plain_readings.specs.Laws.{BeginsNoCommand}
 use Rattle.plain_readings.specs.Readings.{Kind, Reads, Spelling, FileName, Behind, Arguments, Reading, ask, lists, fed_with, opened, opened_with}
 use Rattle.plain_readings.specs.Weights.{frame_weight, act_weight, value_weight}
 use Rattle.plain_readings.proofs.Lower.{lower}
@@ -46,24 +46,13 @@ use Rattle.stomach.proofs.FrameAsks.{asks_least, innermost_begins_none}
 
 -- NO COMMAND BEGINS WITHIN A FRAME that stands for a reading
 
-low_rank : (k : Kind) → rank k ≤ 1
-low_rank (Reads (Command c)) = omega arith
-low_rank (Reads Integer) = omega arith
-low_rank (Reads (Text name expanded)) = omega arith
-low_rank (Reads (Definition name expanded)) = omega arith
-low_rank (Spelling c) = omega arith
-low_rank (FileName c) = omega arith
-low_rank (Behind c x) = omega arith
-low_rank (Arguments name long number text) = omega arith
-
 no_command : (fs : List Frame) (held : List (List Token)) (work : List Reading) (c : Call) (begins : Bool) → frames.FramesStand fs held work → asks_in fs held ≡ Some (Inner (Command c) begins) → ⊥
 no_command [] held work c begins st asks = cc
 no_command (f ∷ fs) held [] c begins st asks = st
 no_command (f ∷ fs) held (r ∷ rs) c begins st asks =
     let now : ask r.kind r.fed ≡ resume f held [] = ap (ask r.kind) (sym (append-nil r.fed)) ∙ st.0.goes_on [] in
     let is : resume f held [] ≡ Inner (Command c) begins = cc asks in
-    let low : BeginsLower (rank r.kind) (Inner (Command c) begins) = subst (BeginsLower (rank r.kind)) (now ∙ is) (lower r.kind r.fed) in
-    omega (arith, low, low_rank r.kind)
+    subst BeginsNoCommand (now ∙ is) (lower r.kind r.fed)
 
 pub asks_no_command : {A : Type 0} → (sizes : Sizes) (e : Engine) (book : Book) (k : Begun) (c : Call) (begins : Bool) → k ≡ Command c → Stands sizes e book → asked e ≡ Some (Inner k begins) → A
 asks_no_command sizes e book k c begins is st asks =
@@ -115,7 +104,7 @@ begun_least Integer h = refl
 begun_least (Text name expanded) h = refl
 begun_least (Definition name expanded) h = refl
 
-with_least : (k : Begun) → ((c : Call) → k ≡ Command c → ⊥) → begun_with_weight (opening.Reads k) ≡ 11
+with_least : (k : Begun) → ((c : Call) → k ≡ Command c → ⊥) → begun_with_weight (opening.Reads k) ≡ 19
 with_least (Command c) h = absurd (h c refl)
 with_least Integer h = refl
 with_least (Text name expanded) h = refl

@@ -4,7 +4,6 @@ pub mod TokensObeyed
 pub mod Regrouped
 pub mod ActingAlone
 pub mod Assigning
-pub mod Naturals
 pub mod Defining
 pub mod FrameAsks
 pub mod InnerBegun
@@ -20,6 +19,7 @@ pub mod RunsStopping
 pub mod Unread
 pub mod RuleAsks
 pub mod RuleCloses
+pub mod Fetching
 pub mod RuleHalts
 pub mod ActsEnding
 pub mod Codes

@@ -16,5 +16,5 @@ is_dropped want x = false
 
 -- Behind a token that was obeyed: the reading of a command has begun, or the frames are as they were.
 pub data Obeys (e e' : Engine) : Type 0 where
-  HasBegun : length e'.readings.frames ≡ length e.readings.frames + 1 → innermost_weight e'.readings.frames ≤ 7 → Obeys e e'
+  HasBegun : length e'.readings.frames ≡ length e.readings.frames + 1 → innermost_weight e'.readings.frames ≤ 11 → Obeys e e'
   HasNotBegun : e'.readings.frames ≡ e.readings.frames → Obeys e e'

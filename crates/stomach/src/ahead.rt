@@ -1,11 +1,11 @@
 // The files, read on where the next rule needs their bytes.
-ghost use Rattle.std.specs.Prelude.{◌≡◌, ◌<◌, IfErr, OnErr, OnOk, MatchBool};
+ghost use Rattle.std.specs.Prelude.{◌≡◌, ◌<◌, true, List, IfErr, OnErr, OnOk, IsTrue, MatchBool};
 ghost use Rattle.tex_defs.specs.Places.{Rose};
 ghost use Rattle.world_io.specs.declared.traits.Fault.TheVariants.{Failed, NoMemory};
-ghost use Rattle.line_reader.specs.Readers.{AreOpen, ids};
+ghost use Rattle.line_reader.specs.Readers.{OpenReader, AreOpen, ids};
 ghost use Rattle.engine_state.specs.Steps.{all_want, asked};
 ghost use Rattle.stomach.specs.Read.{ReadsTo, AreTied};
-ghost use Rattle.stomach.specs.Ahead.{IsGiven, Knows, Needs, read_weight};
+ghost use Rattle.stomach.specs.Ahead.{IsGiven, Knows, Needs, needs_step, read_weight};
 
 use engine_state::Engine;
 use line_reader::Readers;
@@ -25,6 +25,14 @@ pub fn wants_token(engine: &Engine) -> bool
         (None, Some(Ask::More(_))) => true,
         (None, Some(_)) => false,
     }
+}
+
+/// Whether the next rule is the step of a token at hand. Then no byte of a file is needed for it.
+pub fn has_token(engine: &Engine) -> bool
+    ensures knows { IsTrue result → (rs : List OpenReader) → Knows engine.now rs }
+    ensures step { IsTrue result → needs_step engine.now ≡ true }
+{
+    engine.input.is_at_hand() && !engine.input.has_next() && wants_token(engine)
 }
 
 /// Whether the next rule needs bytes of a file that haven't come.

@@ -1,17 +1,17 @@
 // What a command does, and its reading ends.
-ghost use Rattle.std.specs.Prelude.{◌≡◌, ◌<◌, ◌≤◌, ℕ, List, [], ◌∷◌, ◌++◌, IfOk, IfErr, OnOk, MatchBool, Some, None};
+ghost use Rattle.std.specs.Prelude.{◌≡◌, ◌<◌, List, [], ◌∷◌, ◌++◌, IfOk, IfErr, OnOk, MatchBool, Some, None};
 ghost use Rattle.tex_defs.specs.Places.{World};
 ghost use Rattle.tex_defs.specs.declared.Sizes.{Sizes};
 ghost use Rattle.plain_tokens.specs.Meanings.{meaning_to_let};
 ghost use Rattle.equivalents.specs.declared.values.Loc.TheVariants as loc;
 ghost use Rattle.equivalents.specs.declared.values.Val.TheVariants as val;
-ghost use Rattle.equivalents.specs.Locations.{Suits};
+ghost use Rattle.equivalents.specs.Locations.{IsInRow, Suits};
 ghost use Rattle.plain_readings.specs.Readings.{Reading};
 ghost use Rattle.rows.specs.Readings.{Acts};
 ghost use Rattle.rows.specs.declared.command.Effect.TheVariants as effects;
 ghost use Rattle.reading_frames.specs.Stack.{asks_in};
 ghost use Rattle.plain_machine.specs.States.{Move, Set, Assigned};
-ghost use Rattle.plain_machine.specs.Plan.{acts, is_global as plain_global, marked as plain_marked, natural, put_one};
+ghost use Rattle.plain_machine.specs.Plan.{acts, is_global as plain_global, marked as plain_marked, put_one};
 ghost use Rattle.plain_machine.specs.Does.{Did};
 ghost use Rattle.world_io.specs.Told.{FilesTold};
 ghost use Rattle.engine_state.specs.Book.{Book, with_work};
@@ -29,7 +29,7 @@ use equivalents::{CodeKind, Loc};
 use gullet::{Once, expand_once};
 use reading_frames::Opening;
 use rows::{Call, Effect};
-use tex_defs::{Name, Seen, Token};
+use tex_defs::{Name, RegisterKind, Seen, Token};
 use world_io::Sink;
 
 /// A name as a marked one; another token as it is.
@@ -61,8 +61,10 @@ fn put_effect(engine: &mut Engine, effect: Effect) -> Result<(), Broken>
     }
 }
 
-/// How many integer parameters there are.
+/// How many integer parameters there are, and how many dimension parameters.
 const INTEGER_PARAMETERS: u8 = 55;
+
+const DIMENSION_PARAMETERS: u8 = 21;
 
 /// The place of `\globaldefs` among the integer parameters.
 const GLOBAL_DEFINITIONS: u8 = 43;
@@ -122,58 +124,39 @@ fn assign_behind(
     Ok(())
 }
 
-/// Whether a code of this kind may have this value.
-fn may_be(kind: CodeKind, value: i32) -> bool
-    ensures { MatchBool result ((char : ℕ) → Suits (loc.Code kind char) (val.Number value)) ((char : ℕ) → Suits (loc.Code kind char) (val.Number value) → ⊥) }
+/// Whether a number may stand at a location, which is there.
+fn takes_number(loc: Loc, value: i32) -> bool
+    ensures { MatchBool result ((IsInRow loc) × Suits loc (val.Number value)) ((IsInRow loc) × Suits loc (val.Number value) → ⊥) }
 {
-    match kind {
-        CodeKind::Category => (0..16).contains(&value),
-        _ => true,
+    match loc {
+        Loc::Code {
+            kind: CodeKind::Category,
+            code: _,
+        } => (0..16).contains(&value),
+        Loc::Code { .. } => true,
+        Loc::Integer(i) => i < INTEGER_PARAMETERS,
+        Loc::Dimension(i) => i < DIMENSION_PARAMETERS,
+        Loc::Register {
+            kind: RegisterKind::Count | RegisterKind::Dimen,
+            no: _,
+        } => true,
+        _ => false,
     }
 }
 
-/// The character of this code gets this value as its code of this kind, if they are a character's code and one of this kind.
+/// The location gets this number, if it may stand there.
 ///
 /// # Errors
 /// The save stack is full; nothing has changed.
-fn set_code(
-    engine: &mut Engine,
-    kind: CodeKind,
-    char: i32,
-    value: i32,
-    global: bool,
-) -> Result<(), Broken>
-    ensures did { OnOk result (natural char ≤ 255 → Suits (loc.Code kind (natural char)) (val.Number value) → (sizes : Sizes) (w : World) (book : Book) → Stands sizes engine.old book → Did sizes (state_of engine.old book) (state_of engine.new book) w w (Set global (loc.Code kind (natural char)) (val.Number value) ∷ [])) }
-    ensures err { IfErr result (λ b. (sizes : Sizes) (w : World) (book : Book) (more : List Move) → Stands sizes engine.old book → Cuts sizes (state_of engine.old book) engine.new book w w (Set global (loc.Code kind (natural char)) (val.Number value) ∷ more) b) }
+fn set_number(engine: &mut Engine, loc: Loc, value: i32, global: bool) -> Result<(), Broken>
+    ensures did { OnOk result (IsInRow loc → Suits loc (val.Number value) → (sizes : Sizes) (w : World) (book : Book) → Stands sizes engine.old book → Did sizes (state_of engine.old book) (state_of engine.new book) w w (Set global loc (val.Number value) ∷ [])) }
+    ensures err { IfErr result (λ b. (sizes : Sizes) (w : World) (book : Book) (more : List Move) → Stands sizes engine.old book → Cuts sizes (state_of engine.old book) engine.new book w w (Set global loc (val.Number value) ∷ more) b) }
     ensures stands { OnOk result ((sizes : Sizes) (book : Book) → Stands sizes engine.old book → Stands sizes engine.new book) }
     ensures frames { SameFrames engine.old engine.new }
     ensures only { engine.new ≡ record engine.old { input = record engine.old.input { groups = engine.new.input.groups; lists = engine.new.input.lists } } }
 {
-    let char = char.max(0);
-    if char > 255 || !may_be(kind, value) {
-        return Ok(());
-    }
-    let loc = Loc::Code {
-        kind,
-        code: char as u8,
-    };
-    engine.input.set_number(loc, value, global)?;
-    Ok(())
-}
-
-/// The integer parameter at this place gets this value, if there is one.
-///
-/// # Errors
-/// The save stack is full; nothing has changed.
-fn set_integer(engine: &mut Engine, i: u8, value: i32, global: bool) -> Result<(), Broken>
-    ensures did { OnOk result (i < 55 → (sizes : Sizes) (w : World) (book : Book) → Stands sizes engine.old book → Did sizes (state_of engine.old book) (state_of engine.new book) w w (Set global (loc.Integer i) (val.Number value) ∷ [])) }
-    ensures err { IfErr result (λ b. (sizes : Sizes) (w : World) (book : Book) (more : List Move) → Stands sizes engine.old book → Cuts sizes (state_of engine.old book) engine.new book w w (Set global (loc.Integer i) (val.Number value) ∷ more) b) }
-    ensures stands { OnOk result ((sizes : Sizes) (book : Book) → Stands sizes engine.old book → Stands sizes engine.new book) }
-    ensures frames { SameFrames engine.old engine.new }
-    ensures only { engine.new ≡ record engine.old { input = record engine.old.input { groups = engine.new.input.groups; lists = engine.new.input.lists } } }
-{
-    if i < INTEGER_PARAMETERS {
-        engine.input.set_number(Loc::Integer(i), value, global)?;
+    if takes_number(loc, value) {
+        engine.input.set_number(loc, value, global)?;
     }
     Ok(())
 }
@@ -210,14 +193,9 @@ fn act_alone<S: Sink>(
             assign_behind(engine, name, x, y, global)?;
             engine.put_after()
         }
-        Effect::SetCode(kind, char, value) => {
+        Effect::SetNumber(loc, value) => {
             let global = is_global(engine, call);
-            set_code(engine, kind, char, value, global)?;
-            engine.put_after()
-        }
-        Effect::SetInteger(i, value) => {
-            let global = is_global(engine, call);
-            set_integer(engine, i, value, global)?;
+            set_number(engine, loc, value, global)?;
             engine.put_after()
         }
         Effect::AfterGroup(x) => engine.keep_for_group(x.token),

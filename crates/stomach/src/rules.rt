@@ -4,7 +4,7 @@ ghost use Rattle.tex_defs.specs.declared.Sizes.{Sizes};
 ghost use Rattle.plain_tokens.specs.Pending.{pulled};
 ghost use Rattle.plain_readings.specs.Readings.{Reading};
 ghost use Rattle.rows.specs.Readings.{ActsOn};
-ghost use Rattle.reading_frames.specs.Sees.{Lists, kept_list_of};
+ghost use Rattle.reading_frames.specs.Sees.{IsFetchedAt, Lists, kept_list_of};
 ghost use Rattle.reading_frames.specs.Stack.{asked_in, asked_of, asks_in};
 ghost use Rattle.reading_frames.specs.Stands as frames;
 ghost use Rattle.plain_machine.specs.Plan.{acts_on, reported_as};
@@ -118,6 +118,7 @@ fn ask_rule<S: Sink>(engine: &mut Engine, out: &mut S, ask: Ask) -> Result<Ruled
     requires running { engine.old.stopped ≡ false }
     requires asks { (held : Lists) → asked_of held (Some ask) ≡ asks_in engine.old.readings.frames held }
     requires stands { (held : Lists) (work : List Reading) → frames.FramesStand engine.old.readings.frames held work → asked_of held (Some ask) ≡ asked_in work }
+    requires found { IsFetchedAt ask }
     ensures light { IfOk result (λ ruled. IsFree ruled → weight engine.new < weight engine.old) }
     ensures step { IfOk result (λ ruled. StepsIf ruled (stepping engine.old)) }
     ensures rule { IfOk result (λ ruled. (sizes : Sizes) (f : FilesTold) (book : Book) → Stands sizes engine.old book →
@@ -148,6 +149,10 @@ fn ask_rule<S: Sink>(engine: &mut Engine, out: &mut S, ask: Ask) -> Result<Ruled
         }
         Ask::Tells(report, back) => tell(engine, out, report, None, back),
         Ask::Inserts(token, report, back) => tell(engine, out, report, Some(token), back),
+        Ask::Fetches(loc) => {
+            engine.fetch(loc);
+            Ok(Ruled::Free)
+        }
     }
 }
 

@@ -9,7 +9,7 @@ ghost use Rattle.stomach.specs.Ahead.{Knows, needs_step as plain_needs_step};
 ghost use Rattle.stomach.specs.Read.{ReadsTo, AreTied};
 ghost use Rattle.stomach.specs.Ran.{RuledTo, FreeTo, RanTo, StoppedTo};
 
-use crate::ahead::{read_ahead, wants_token};
+use crate::ahead::{has_token, read_ahead, wants_token};
 use crate::early::Early;
 use crate::files::{close_ended, open_file};
 use crate::rules::rule;
@@ -84,6 +84,9 @@ fn run_to_step<F: Files, S: Sink>(
     ensures idle { OnOk result (engine.new.input.making ≡ None) }
 {
     loop {
+        if has_token(engine) {
+            return Ok(None);
+        }
         read_ahead(engine, readers, files)?;
         if needs_step(engine) {
             return Ok(None);

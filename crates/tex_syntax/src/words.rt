@@ -50,6 +50,10 @@ pub enum Report {
     NumberTooBig,
     /// "Bad character code (n)".
     BadCharacterCode(i32),
+    /// "Bad register code (n)".
+    BadRegisterCode(i32),
+    /// "Incompatible glue units": glue in mu, where a number or other glue is read.
+    IncompatibleUnits,
     /// "Invalid code (n), should be in the range 0..m": the code, and the greatest of its range.
     InvalidCode(i32, u32),
     /// "Invalid code (n), should be at most m": the code, and the greatest that may be.

@@ -1,5 +1,7 @@
 // Commands that are read by rows, and expansions.
 use crate::tests::{Row, job_with, named_job, rows_hold};
+use std::alloc::Global;
+use std::process::Abort;
 
 /// Expansions: `\expandafter`, `\noexpand`, `\string`, `\meaning` and `\romannumeral`.
 const EXPANSIONS: [Row; 24] = [
@@ -480,10 +482,10 @@ fn the_job_has_its_name(rt: HostRuntime) {
 }
 
 /// A file, the bound at which its run needs one step more and what it writes then, and the bound that is enough, what it writes and its status.
-struct Counted {
-    text: &'static [u8],
-    under: (&'static str, &'static [u8]),
-    enough: (&'static str, &'static [u8], u8),
+pub struct Counted {
+    pub text: &'static [u8],
+    pub under: (&'static str, &'static [u8]),
+    pub enough: (&'static str, &'static [u8], u8),
 }
 
 /// Files whose steps are counted.
@@ -548,30 +550,25 @@ const COUNTED: [Counted; 9] = [
     },
 ];
 
+/// Whether a file takes so many steps.
+fn is_counted(alloc: Global, row: &Counted) -> bool {
+    let (under, enough) = (row.under, row.enough);
+    let short = ["texmac", "init", under.0, "job"];
+    let long = ["texmac", "init", enough.0, "job"];
+    job_with(alloc, &short, row.text, under.1, 4)
+        && job_with(alloc, &long, row.text, enough.1, enough.2)
+}
+
+/// Each of the files takes so many steps; the row that doesn't is named.
+pub fn steps_hold(rt: &impl Abort, alloc: Global, rows: &[Counted]) {
+    for (k, row) in rows.iter().enumerate() {
+        assert!(rt; is_counted(alloc, row), "row {k}");
+    }
+}
+
 #[test]
 fn commands_take_so_many_steps(rt: HostRuntime) {
-    let alloc = rt.alloc();
-    for row in &COUNTED {
-        let (under, enough) = (row.under, row.enough);
-        assert!(rt;
-            job_with(
-                alloc,
-                &["texmac", "init", under.0, "job"],
-                row.text,
-                under.1,
-                4
-            )
-        );
-        assert!(rt;
-            job_with(
-                alloc,
-                &["texmac", "init", enough.0, "job"],
-                row.text,
-                enough.1,
-                enough.2
-            )
-        );
-    }
+    steps_hold(&rt, rt.alloc(), &COUNTED);
 }
 
 /// A number that calls itself: each reading has its place in the table.

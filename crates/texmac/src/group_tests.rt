@@ -2,6 +2,7 @@
 use crate::macro_tests::repeated;
 use crate::tests::{Row, job_with, rows_hold};
 use std::alloc::{AllocError, Global};
+use std::process::Abort;
 
 /// What holds in a group, and what behind it.
 const NESTED: [Row; 15] = [
@@ -1251,12 +1252,12 @@ fn full_tables_end_groups_that_never_end(rt: HostRuntime) {
 }
 
 /// What stands first in a file, what follows so many times, and what stands last; what the file writes, and its status.
-struct Long {
-    first: &'static [u8],
-    text: (&'static [u8], usize),
-    last: &'static [u8],
-    written: &'static [u8],
-    status: u8,
+pub struct Long {
+    pub first: &'static [u8],
+    pub text: (&'static [u8], usize),
+    pub last: &'static [u8],
+    pub written: &'static [u8],
+    pub status: u8,
 }
 
 /// What an `\end` in one group writes.
@@ -1316,9 +1317,14 @@ fn long_job(alloc: Global, long: &Long) -> Result<bool, AllocError> {
     Ok(job_with(alloc, &words, whole.as_slice(), long.written, long.status))
 }
 
+/// Each of the files does so; the row that doesn't is named.
+pub fn long_jobs_hold(rt: &impl Abort, alloc: Global, rows: &[Long]) {
+    for (k, long) in rows.iter().enumerate() {
+        assert!(rt; matches!(long_job(alloc, long), Ok(true)), "row {k}");
+    }
+}
+
 #[test]
 fn full_tables_end_a_run_at_their_sizes(rt: HostRuntime) {
-    for (k, long) in LONG.iter().enumerate() {
-        assert!(rt; matches!(long_job(rt.alloc(), long), Ok(true)), "row {k}");
-    }
+    long_jobs_hold(&rt, rt.alloc(), &LONG);
 }

@@ -11,6 +11,8 @@ mod file_tests;
 #[cfg(test)]
 mod group_tests;
 #[cfg(test)]
+mod integer_tests;
+#[cfg(test)]
 mod macro_tests;
 #[cfg(test)]
 mod size_tests;

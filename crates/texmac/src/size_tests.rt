@@ -332,7 +332,7 @@ fn each_file_has_a_level(rt: HostRuntime) {
 }
 
 /// Groups within the least sizes: each with what it writes, and the words that are used in the end.
-const GROUPS: [(&[u8], &[u8], u32); 9] = [
+const GROUPS: [(&[u8], &[u8], u32); 10] = [
     (
         b"\\catcode`\\{=1 \\catcode`\\}=2\n{\\let\\a=x\\let\\a=y\\global\\let\\b=z}\\end\n",
         b"",
@@ -378,6 +378,11 @@ const GROUPS: [(&[u8], &[u8], u32); 9] = [
         b"",
         3,
     ),
+    (
+        b"\\catcode`\\{=1 \\catcode`\\}=2\n{\\count1=1 \\count1=2 \\global\\count2=3 }\\end\n",
+        b"",
+        0,
+    ),
 ];
 
 /// What an `\end` in one group writes.
@@ -401,7 +406,7 @@ const SAVED: Full = Full {
 };
 
 /// The same with one more: each with the table that is full.
-const TOO_MUCH: [(&[u8], Full); 8] = [
+const TOO_MUCH: [(&[u8], Full); 10] = [
     (
         b"\\begingroup\\begingroup\\end\n",
         Full {
@@ -429,6 +434,8 @@ const TOO_MUCH: [(&[u8], Full); 8] = [
         b"\\begingroup\\csname aa\\endcsname\\csname ab\\endcsname\\end\n",
         SAVED,
     ),
+    (b"\\begingroup\\aftergroup\\relax\\count1=5 \\end\n", SAVED),
+    (b"\\begingroup\\count1=5 \\tolerance=5 \\end\n", SAVED),
 ];
 
 #[test]
@@ -455,6 +462,47 @@ fn saved_lists_are_held(rt: HostRuntime) {
     assert!(rt; words_at(alloc, &sizes, (b"job", SAVED_TWICE), IN_GROUP, None) == Some(9));
     // the list for which there is no room is still that of the definition
     assert!(rt; words_where_full(alloc, &LEAST, SAVED_TWICE, Table::SaveSize, 2) == Some(9));
+}
+
+/// A register that is assigned in a group, globally and in the group again: both old values are saved.
+const REGISTER_SAVED_TWICE: &[u8] = b"\\begingroup\\count1=2 \\global\\count1=3 \\count1=4 \\end\n";
+
+#[test]
+fn saved_numbers_have_entries(rt: HostRuntime) {
+    let alloc = rt.alloc();
+    let sizes = Sizes {
+        save_size: 3,
+        ..LEAST
+    };
+    let text = REGISTER_SAVED_TWICE;
+    assert!(rt; words_at(alloc, &sizes, (b"job", text), IN_GROUP, None) == Some(0));
+    assert!(rt; words_where_full(alloc, &LEAST, text, Table::SaveSize, 2) == Some(0));
+}
+
+/// Whether a register's number behind so many names of `\count` is read within so many readings, or else finds no room for one more.
+fn is_nested(alloc: Global, count: usize, size: u32, fits: bool) -> bool {
+    let sizes = Sizes {
+        expansion_depth: size,
+        ..LEAST
+    };
+    let Ok(text) = repeated(alloc, b"\\count", count, b"1=5 \\end\n") else {
+        return false;
+    };
+    let full = Full {
+        table: Table::ExpansionDepth,
+        used: size,
+        size,
+    };
+    let full = (!fits).then_some(full);
+    words_at(alloc, &sizes, (b"job", text.as_slice()), b"", full).is_some()
+}
+
+#[test]
+fn numbers_of_registers_are_readings(rt: HostRuntime) {
+    let alloc = rt.alloc();
+    assert!(rt; is_nested(alloc, 7, 8, true));
+    assert!(rt; is_nested(alloc, 8, 8, false));
+    assert!(rt; is_nested(alloc, 8, 9, true));
 }
 
 /// The words where a group ends behind which so many tokens come, if the run comes to where this table is full, or else to

@@ -5,7 +5,7 @@ use Rattle.std.specs.Fmt.{decimal}
 use Rattle.std.proofs.lemmas.List.{append-nil}
 use Rattle.std.proofs.lemmas.Grind.{flat_map-append}
 use Rattle.tex_syntax.specs.declared.words.Report.{Report}
-use Rattle.tex_syntax.specs.declared.words.Report.TheVariants.{UndefinedName, InvalidCharacter, ImproperConstant, MissingNumber, NumberTooBig, BadCharacterCode, InvalidCode, CodeTooGreat, MissingBrace, FileEnded, Forbidden, MissingName, NotConsecutive, AlreadyNine, IllegalNumber, UseMismatch, ExtraBrace, ParagraphEnded, PrefixWith, LongOrOuterWith, MissingEndcsname, ExtraEndcsname, TooManyBraces, ForgottenEndgroup, ExtraEndgroup, MissingRightBrace}
+use Rattle.tex_syntax.specs.declared.words.Report.TheVariants.{UndefinedName, InvalidCharacter, ImproperConstant, MissingNumber, NumberTooBig, BadCharacterCode, BadRegisterCode, IncompatibleUnits, InvalidCode, CodeTooGreat, MissingBrace, FileEnded, Forbidden, MissingName, NotConsecutive, AlreadyNine, IllegalNumber, UseMismatch, ExtraBrace, ParagraphEnded, PrefixWith, LongOrOuterWith, MissingEndcsname, ExtraEndcsname, TooManyBraces, ForgottenEndgroup, ExtraEndgroup, MissingRightBrace}
 use Rattle.tex_syntax.specs.declared.words.Scanned.{Scanned}
 use Rattle.tex_syntax.specs.declared.words.Scanned.TheVariants as scanned
 use Rattle.tex_defs.specs.declared.Name.{Name}
@@ -99,6 +99,8 @@ report_is style ImproperConstant = refl
 report_is style MissingNumber = refl
 report_is style NumberTooBig = refl
 report_is style (BadCharacterCode n) = append-nil (opening style (BadCharacterCode n))
+report_is style (BadRegisterCode n) = append-nil (opening style (BadRegisterCode n))
+report_is style IncompatibleUnits = refl
 report_is style (InvalidCode n greatest) = append-nil (opening style (InvalidCode n greatest))
 report_is style (CodeTooGreat n greatest) = append-nil (opening style (CodeTooGreat n greatest))
 report_is style MissingBrace = refl

@@ -1,7 +1,7 @@
 -- What the engine's reports stand for, and the parts in which their texts and those of `\show` are written.
 use Rattle.std.specs.Prelude.{ℕ, List, [], ◌++◌, codes}
 use Rattle.tex_syntax.specs.declared.words.Report.{Report}
-use Rattle.tex_syntax.specs.declared.words.Report.TheVariants.{BadCharacterCode, InvalidCode, CodeTooGreat, FileEnded, Forbidden, IllegalNumber, UseMismatch, ExtraBrace, ParagraphEnded, PrefixWith, LongOrOuterWith, MissingEndcsname, ExtraEndcsname, ForgottenEndgroup, ExtraEndgroup}
+use Rattle.tex_syntax.specs.declared.words.Report.TheVariants.{BadCharacterCode, BadRegisterCode, InvalidCode, CodeTooGreat, FileEnded, Forbidden, IllegalNumber, UseMismatch, ExtraBrace, ParagraphEnded, PrefixWith, LongOrOuterWith, MissingEndcsname, ExtraEndcsname, ForgottenEndgroup, ExtraEndgroup}
 use Rattle.tex_syntax.specs.declared.words.Scanned.{Scanned}
 use Rattle.tex_defs.specs.declared.Token.{Token}
 use Rattle.tex_defs.specs.declared.Token.TheVariants.{Named, Marked}
@@ -34,6 +34,7 @@ opening style r = report_text style r
 -- no number and no escape character stands in it
 abbrev pub IsFixed : Report → Type 0
 IsFixed (BadCharacterCode n) = ⊥
+IsFixed (BadRegisterCode n) = ⊥
 IsFixed (InvalidCode n greatest) = ⊥
 IsFixed (CodeTooGreat n greatest) = ⊥
 IsFixed (LongOrOuterWith m) = ⊥

@@ -41,6 +41,16 @@ fn put_bad_code(text: &mut Text, newline: i32, n: i32)
     put_fixed(text, newline, b")");
 }
 
+// Puts the report of a register's number.
+fn put_bad_register(text: &mut Text, newline: i32, n: i32)
+    requires { length text.old ≤ 3 }
+    ensures { (style : Style) → text.new ≡ text.old ++ all_printed newline (opening style (Report.BadRegisterCode n)) }
+{
+    put_fixed(text, newline, b"Bad register code (");
+    put_signed(text, newline, n);
+    put_fixed(text, newline, b")");
+}
+
 // Puts the report of a code that is out of the range 0 to `greatest`.
 fn put_invalid_code(text: &mut Text, newline: i32, n: i32, greatest: u32)
     requires { length text.old ≤ 3 }
@@ -128,6 +138,7 @@ fn fixed_opening(report: Report) -> &'static [u8]
         Report::ImproperConstant => b"Improper alphabetic constant",
         Report::MissingNumber => b"Missing number, treated as zero",
         Report::NumberTooBig => b"Number too big",
+        Report::IncompatibleUnits => b"Incompatible glue units",
         Report::MissingBrace => b"Missing { inserted",
         Report::FileEnded(what, _) => ended_while(what),
         Report::Forbidden(what, _) => forbidden_while(what),
@@ -142,6 +153,7 @@ fn fixed_opening(report: Report) -> &'static [u8]
         Report::TooManyBraces => b"Too many }'s",
         Report::MissingRightBrace => b"Missing } inserted",
         Report::BadCharacterCode(_)
+        | Report::BadRegisterCode(_)
         | Report::InvalidCode(_, _)
         | Report::CodeTooGreat(_, _)
         | Report::LongOrOuterWith(_)
@@ -160,6 +172,7 @@ fn put_opening(text: &mut Text, view: View<'_>, report: Report)
 {
     match report {
         Report::BadCharacterCode(n) => put_bad_code(text, view.names.newline, n),
+        Report::BadRegisterCode(n) => put_bad_register(text, view.names.newline, n),
         Report::InvalidCode(n, greatest) => put_invalid_code(text, view.names.newline, n, greatest),
         Report::CodeTooGreat(n, greatest) => put_great_code(text, view.names.newline, n, greatest),
         Report::LongOrOuterWith(_) => put_prefix(text, view),

@@ -5,6 +5,11 @@ use Rattle.plain_readings.proofs.laws.worked_readings.Goals as goal
 pub returns : goal.returns
 returns c = record {
   integers = record { decimal = refl; octal = refl; hexadecimal = refl; code = refl; code_of_name = refl; signs = refl };
+  internals = record {
+    plain = record { count = refl; negative = refl; least = refl; last = refl; dimension = refl; last_dimension = refl; dimen = refl };
+    glue = record { skip = refl; first = refl; last = refl; mu = refl; negative_mu = refl; no_register = refl };
+    others = record { category = refl; delimiter = refl; no_character = refl; chardef = refl; mathchardef = refl; countdef = refl; toks = refl; everypar = refl; toksdef = refl };
+  };
   reports = record { missing = refl; no_octal = refl; improper = refl; greatest = refl; too_big = refl };
   names = record { name = refl; name_held = refl; empty = refl; let_name = refl; missing = refl; missing_held = refl };
   files = record { space = refl; space_held = refl; relax = refl; relax_held = refl; implicit = refl; implicit_held = refl; empty = refl; active = refl };

@@ -11,12 +11,14 @@ names = refl
 pub returns : goal.returns
 returns c = record {
   names = names;
+  whole = refl;
   commands_worked = record { ignorespaces = refl; message = refl; errmessage = refl; show = refl };
   definitions = record { def = refl; gdef = refl; edef = refl; xdef = refl; missing = refl };
   prefixes = record { long_global = refl; outer = refl; global = refl; long_catcode = refl; outer_let = refl; refused = refl; no_assignment = refl };
   meanings = record { let_token = refl; let_equals = refl; let_space = refl; let_second = refl; futurelet = refl };
   categories = record { sets = refl; begins = refl; too_great = refl; negative = refl; greatest = refl };
   codes = record { lowercase = refl; uppercase = refl; space_factor = refl; math = refl; math_too_great = refl; delimiter = refl; delimiter_too_great = refl };
-  parameters = record { equals_number = refl; begins = refl; negative = refl; global = refl; aftergroup = refl; afterassignment = refl };
+  parameters = record { equals_number = refl; begins = refl; negative = refl; global = refl; last = refl; aftergroup = refl; afterassignment = refl };
+  registers = record { sets = refl; too_great = refl };
   expansions = record { expandafter = refl; noexpand = refl; number_made = refl; romannumeral = refl; string = refl; meaning = refl; statuses = refl };
 }

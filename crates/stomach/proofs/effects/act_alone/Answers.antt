@@ -1,10 +1,9 @@
 use Rattle.std.proofs.Common.{◌≡◌, List, [], ◌∷◌, ◌++◌, Bool, ap, sym, subst, rules, w32, FitsSigned}
 use Rattle.std.proofs.lemmas.Int.{to_z-of_z}
 use Rattle.plain_tokens.specs.Meanings.{meaning_to_let}
-use Rattle.equivalents.specs.declared.values.Loc.TheVariants as loc
 use Rattle.equivalents.specs.declared.values.Val.TheVariants as val
 use Rattle.plain_machine.specs.States.{Move, Set, Assigned}
-use Rattle.plain_machine.specs.Plan.{natural, is_global, put_one, behind_assignment}
+use Rattle.plain_machine.specs.Plan.{is_global, put_one, behind_assignment}
 use Rattle.plain_machine.specs.Does.{Did}
 use Rattle.engine_state.specs.Rules.{world_of}
 use Rattle.engine_state.specs.Stands.{state_of, page_of}
@@ -103,93 +102,49 @@ pub returns-in_ok-assign_behind-in-FutureLet-clause-stands : goal.returns-in_ok-
 returns-in_ok-assign_behind-in-FutureLet-clause-stands g c = let n = c.in_ok-assign_behind-in-FutureLet.ensures in let p = c.put_after-in-FutureLet in let s = p.ensures in
     on_ok p.result (λ idle sizes book st. behind_stands sizes c.assign_behind.new.engine p.new.self book s.frames s.others s.store idle (n.stands sizes book st)) s.idle
 
-pub returns-in_err-set_code-in-SetCode-clause-err : goal.returns-in_err-set_code-in-SetCode-clause-err
-returns-in_err-set_code-in-SetCode-clause-err g c =
-    let e = c.args.engine.now in let e1 = c.set_code.new.engine in let t = g.S.Sink.told c.args.out.now in let d = c.in-SetCode in let is = c.is_global-global-in-SetCode in
-    let n = c.in_err-set_code-in-SetCode in let r = c.from_residual-in_err-set_code-in-SetCode in
-    let char : FitsSigned w32 d.char = search rules in let value : FitsSigned w32 d.value = search rules in
-    let column : e1.in_line ≡ e.in_line = search (rules, c.set_code.ensures.only) in
-    rw d.is
-    (same_err r.result n.field-0.0 _ r.ensures.1 (λ small sizes f book more st.
-    set_cuts sizes e e1 book f t (λ (b : Bool). Set b (loc.Code d.kind (natural d.char)) (val.Number d.value) ∷ [])
-    is.result (is_global (page_of e book) c.args.call) (is.ensures book) column
-    n.field-0.0 more ((rw (to_z-of_z w32 d.char char, to_z-of_z w32 d.value value) at n.ensures.err) sizes (world_of f t e) book (behind_assignment e.after ++ more) st)))
-
-pub returns-in_ok-set_code-in-SetCode-clause-did : goal.returns-in_ok-set_code-in-SetCode-clause-did
-returns-in_ok-set_code-in-SetCode-clause-did g c =
-    let e = c.args.engine.now in let e1 = c.set_code.new.engine in let t = g.S.Sink.told c.args.out.now in let d = c.in-SetCode in let is = c.is_global-global-in-SetCode in
-    let n = c.in_ok-set_code-in-SetCode.ensures in let p = c.put_after-in-SetCode in
-    let char : FitsSigned w32 d.char = search rules in let value : FitsSigned w32 d.value = search rules in
-    let column : e1.in_line ≡ e.in_line = search (rules, c.set_code.ensures.only) in
-    let after : e1.after ≡ e.after = search (rules, c.set_code.ensures.only) in
-    rw d.is
-    (on_ok p.result (λ h small sizes f book st.
-    behind_did sizes e e1 book f t (λ (b : Bool). Set b (loc.Code d.kind (natural d.char)) (val.Number d.value) ∷ [])
-    is.result (is_global (page_of e book) c.args.call) (is.ensures book) column
-    p.new.self p.ensures.others after ((rw (to_z-of_z w32 d.char char, to_z-of_z w32 d.value value) at n.did) small.0 small.1 sizes (world_of f t e) book st)
-    (h sizes (world_of f t e) book (counts_of sizes e1 book (n.stands sizes book st)))) p.ensures.did)
-
-pub returns-in_ok-set_code-in-SetCode-clause-err : goal.returns-in_ok-set_code-in-SetCode-clause-err
-returns-in_ok-set_code-in-SetCode-clause-err g c =
-    let e = c.args.engine.now in let e1 = c.set_code.new.engine in let t = g.S.Sink.told c.args.out.now in let d = c.in-SetCode in let is = c.is_global-global-in-SetCode in
-    let n = c.in_ok-set_code-in-SetCode.ensures in let p = c.put_after-in-SetCode in
-    let char : FitsSigned w32 d.char = search rules in let value : FitsSigned w32 d.value = search rules in
-    let column : e1.in_line ≡ e.in_line = search (rules, c.set_code.ensures.only) in
-    let after : e1.after ≡ e.after = search (rules, c.set_code.ensures.only) in
-    rw d.is
-    (err_to p.result (λ b h small sizes f book more st.
-    behind_cuts sizes e e1 book f t (λ (b : Bool). Set b (loc.Code d.kind (natural d.char)) (val.Number d.value) ∷ [])
-    is.result (is_global (page_of e book) c.args.call) (is.ensures book) column
-    p.new.self p.ensures.others after ((rw (to_z-of_z w32 d.char char, to_z-of_z w32 d.value value) at n.did) small.0 small.1 sizes (world_of f t e) book st) b more
-    (h sizes (world_of f t e) book more (counts_of sizes e1 book (n.stands sizes book st)))) p.ensures.err)
-
-pub returns-in_ok-set_code-in-SetCode-clause-stands : goal.returns-in_ok-set_code-in-SetCode-clause-stands
-returns-in_ok-set_code-in-SetCode-clause-stands g c = let n = c.in_ok-set_code-in-SetCode.ensures in let p = c.put_after-in-SetCode in let s = p.ensures in
-    on_ok p.result (λ idle sizes book st. behind_stands sizes c.set_code.new.engine p.new.self book s.frames s.others s.store idle (n.stands sizes book st)) s.idle
-
-pub returns-in_err-set_integer-in-SetInteger-clause-err : goal.returns-in_err-set_integer-in-SetInteger-clause-err
-returns-in_err-set_integer-in-SetInteger-clause-err g c =
-    let e = c.args.engine.now in let e1 = c.set_integer.new.engine in let t = g.S.Sink.told c.args.out.now in let d = c.in-SetInteger in let is = c.is_global-global-in-SetInteger in
-    let n = c.in_err-set_integer-in-SetInteger in let r = c.from_residual-in_err-set_integer-in-SetInteger in
+pub returns-in_err-set_number-in-SetNumber-clause-err : goal.returns-in_err-set_number-in-SetNumber-clause-err
+returns-in_err-set_number-in-SetNumber-clause-err g c =
+    let e = c.args.engine.now in let e1 = c.set_number.new.engine in let t = g.S.Sink.told c.args.out.now in let d = c.in-SetNumber in let is = c.is_global-global-in-SetNumber in
+    let n = c.in_err-set_number-in-SetNumber in let r = c.from_residual-in_err-set_number-in-SetNumber in
     let value : FitsSigned w32 d.value = search rules in
-    let column : e1.in_line ≡ e.in_line = search (rules, c.set_integer.ensures.only) in
+    let column : e1.in_line ≡ e.in_line = search (rules, c.set_number.ensures.only) in
     rw d.is
     (same_err r.result n.field-0.0 _ r.ensures.1 (λ small sizes f book more st.
-    set_cuts sizes e e1 book f t (λ (b : Bool). Set b (loc.Integer d.i) (val.Number d.value) ∷ [])
+    set_cuts sizes e e1 book f t (λ (b : Bool). Set b d.loc (val.Number d.value) ∷ [])
     is.result (is_global (page_of e book) c.args.call) (is.ensures book) column
     n.field-0.0 more ((rw (to_z-of_z w32 d.value value) at n.ensures.err) sizes (world_of f t e) book (behind_assignment e.after ++ more) st)))
 
-pub returns-in_ok-set_integer-in-SetInteger-clause-did : goal.returns-in_ok-set_integer-in-SetInteger-clause-did
-returns-in_ok-set_integer-in-SetInteger-clause-did g c =
-    let e = c.args.engine.now in let e1 = c.set_integer.new.engine in let t = g.S.Sink.told c.args.out.now in let d = c.in-SetInteger in let is = c.is_global-global-in-SetInteger in
-    let n = c.in_ok-set_integer-in-SetInteger.ensures in let p = c.put_after-in-SetInteger in
+pub returns-in_ok-set_number-in-SetNumber-clause-did : goal.returns-in_ok-set_number-in-SetNumber-clause-did
+returns-in_ok-set_number-in-SetNumber-clause-did g c =
+    let e = c.args.engine.now in let e1 = c.set_number.new.engine in let t = g.S.Sink.told c.args.out.now in let d = c.in-SetNumber in let is = c.is_global-global-in-SetNumber in
+    let n = c.in_ok-set_number-in-SetNumber.ensures in let p = c.put_after-in-SetNumber in
     let value : FitsSigned w32 d.value = search rules in
-    let column : e1.in_line ≡ e.in_line = search (rules, c.set_integer.ensures.only) in
-    let after : e1.after ≡ e.after = search (rules, c.set_integer.ensures.only) in
+    let column : e1.in_line ≡ e.in_line = search (rules, c.set_number.ensures.only) in
+    let after : e1.after ≡ e.after = search (rules, c.set_number.ensures.only) in
     rw d.is
     (on_ok p.result (λ h small sizes f book st.
-    behind_did sizes e e1 book f t (λ (b : Bool). Set b (loc.Integer d.i) (val.Number d.value) ∷ [])
+    behind_did sizes e e1 book f t (λ (b : Bool). Set b d.loc (val.Number d.value) ∷ [])
     is.result (is_global (page_of e book) c.args.call) (is.ensures book) column
-    p.new.self p.ensures.others after ((rw (to_z-of_z w32 d.value value) at n.did) small sizes (world_of f t e) book st)
+    p.new.self p.ensures.others after ((rw (to_z-of_z w32 d.value value) at n.did) small.0 small.1 sizes (world_of f t e) book st)
     (h sizes (world_of f t e) book (counts_of sizes e1 book (n.stands sizes book st)))) p.ensures.did)
 
-pub returns-in_ok-set_integer-in-SetInteger-clause-err : goal.returns-in_ok-set_integer-in-SetInteger-clause-err
-returns-in_ok-set_integer-in-SetInteger-clause-err g c =
-    let e = c.args.engine.now in let e1 = c.set_integer.new.engine in let t = g.S.Sink.told c.args.out.now in let d = c.in-SetInteger in let is = c.is_global-global-in-SetInteger in
-    let n = c.in_ok-set_integer-in-SetInteger.ensures in let p = c.put_after-in-SetInteger in
+pub returns-in_ok-set_number-in-SetNumber-clause-err : goal.returns-in_ok-set_number-in-SetNumber-clause-err
+returns-in_ok-set_number-in-SetNumber-clause-err g c =
+    let e = c.args.engine.now in let e1 = c.set_number.new.engine in let t = g.S.Sink.told c.args.out.now in let d = c.in-SetNumber in let is = c.is_global-global-in-SetNumber in
+    let n = c.in_ok-set_number-in-SetNumber.ensures in let p = c.put_after-in-SetNumber in
     let value : FitsSigned w32 d.value = search rules in
-    let column : e1.in_line ≡ e.in_line = search (rules, c.set_integer.ensures.only) in
-    let after : e1.after ≡ e.after = search (rules, c.set_integer.ensures.only) in
+    let column : e1.in_line ≡ e.in_line = search (rules, c.set_number.ensures.only) in
+    let after : e1.after ≡ e.after = search (rules, c.set_number.ensures.only) in
     rw d.is
     (err_to p.result (λ b h small sizes f book more st.
-    behind_cuts sizes e e1 book f t (λ (b : Bool). Set b (loc.Integer d.i) (val.Number d.value) ∷ [])
+    behind_cuts sizes e e1 book f t (λ (b : Bool). Set b d.loc (val.Number d.value) ∷ [])
     is.result (is_global (page_of e book) c.args.call) (is.ensures book) column
-    p.new.self p.ensures.others after ((rw (to_z-of_z w32 d.value value) at n.did) small sizes (world_of f t e) book st) b more
+    p.new.self p.ensures.others after ((rw (to_z-of_z w32 d.value value) at n.did) small.0 small.1 sizes (world_of f t e) book st) b more
     (h sizes (world_of f t e) book more (counts_of sizes e1 book (n.stands sizes book st)))) p.ensures.err)
 
-pub returns-in_ok-set_integer-in-SetInteger-clause-stands : goal.returns-in_ok-set_integer-in-SetInteger-clause-stands
-returns-in_ok-set_integer-in-SetInteger-clause-stands g c = let n = c.in_ok-set_integer-in-SetInteger.ensures in let p = c.put_after-in-SetInteger in let s = p.ensures in
-    on_ok p.result (λ idle sizes book st. behind_stands sizes c.set_integer.new.engine p.new.self book s.frames s.others s.store idle (n.stands sizes book st)) s.idle
+pub returns-in_ok-set_number-in-SetNumber-clause-stands : goal.returns-in_ok-set_number-in-SetNumber-clause-stands
+returns-in_ok-set_number-in-SetNumber-clause-stands g c = let n = c.in_ok-set_number-in-SetNumber.ensures in let p = c.put_after-in-SetNumber in let s = p.ensures in
+    on_ok p.result (λ idle sizes book st. behind_stands sizes c.set_number.new.engine p.new.self book s.frames s.others s.store idle (n.stands sizes book st)) s.idle
 
 pub returns-in-AfterGroup-clause-did : goal.returns-in-AfterGroup-clause-did
 returns-in-AfterGroup-clause-did g c = let e = c.args.engine.now in let k = c.keep_for_group in let t = g.S.Sink.told c.args.out.now in
@@ -207,8 +162,7 @@ pub returns-in_default-clause-did : goal.returns-in_default-clause-did
 returns-in_default-clause-did g c = let e = c.args.engine.now in let e1 = c.put_effect.new.engine in let t = g.S.Sink.told c.args.out.now in let o = c.in_default in
     on_ok c.put_effect.result (λ h small sizes f book st.
     did_still sizes (state_of e book) (state_of e1 book) e e1 f t (done_alone (page_of e book) c.args.call c.args.effect) c.put_effect.ensures.front.others.in_line
-    (subst (λ (ms : List Move). Did sizes (state_of e book) (state_of e1 book) (world_of f t e) (world_of f t e) ms) (sym (put_alone (page_of e book) c.args.call c.args.effect o.not-Show o.not-Let o.not-FutureLet o.not-SetCode
-    o.not-SetInteger o.not-AfterGroup o.not-AfterAssignment))
+    (subst (λ (ms : List Move). Did sizes (state_of e book) (state_of e1 book) (world_of f t e) (world_of f t e) ms) (sym (put_alone (page_of e book) c.args.call c.args.effect o.not-Show o.not-Let o.not-FutureLet o.not-SetNumber o.not-AfterGroup o.not-AfterAssignment))
     (h sizes (world_of f t e) book (counts_of sizes e book st)))) c.put_effect.ensures.did
 
 pub returns-in_default-clause-err : goal.returns-in_default-clause-err
@@ -216,8 +170,7 @@ returns-in_default-clause-err g c = let e = c.args.engine.now in let e1 = c.put_
     err_to c.put_effect.result (λ b h small sizes f book more st.
     cuts_still sizes (state_of e book) e e1 book f t (done_alone (page_of e book) c.args.call c.args.effect ++ more) b c.put_effect.ensures.front.others.in_line
     (cuts_by sizes (state_of e book) e1 book (world_of f t e) (world_of f t e) (put_by (page_of e book) c.args.effect ++ more) (done_alone (page_of e book) c.args.call c.args.effect ++ more) b
-    (ap (λ (ms : List Move). ms ++ more) (put_alone (page_of e book) c.args.call c.args.effect o.not-Show o.not-Let o.not-FutureLet o.not-SetCode
-    o.not-SetInteger o.not-AfterGroup o.not-AfterAssignment))
+    (ap (λ (ms : List Move). ms ++ more) (put_alone (page_of e book) c.args.call c.args.effect o.not-Show o.not-Let o.not-FutureLet o.not-SetNumber o.not-AfterGroup o.not-AfterAssignment))
     (h sizes (world_of f t e) book more (counts_of sizes e book st)))) c.put_effect.ensures.err
 
 pub returns-in_default-clause-stands : goal.returns-in_default-clause-stands

@@ -3,8 +3,8 @@ use Rattle.std.specs.Prelude.{Some}
 use Rattle.tex_defs.specs.declared.Token.{Token}
 use Rattle.rows.specs.Readings as reading
 use Rattle.reading_frames.specs.Weights.{IsReported}
-use Rattle.reading_frames.specs.declared.ask.Ask.TheVariants.{More, Inner, Done, Acts, ActsOn, Defines, Ends, Tells, Inserts}
-use Rattle.reading_frames.specs.Sees.{kept_list_of}
+use Rattle.reading_frames.specs.declared.ask.Ask.TheVariants.{More, Inner, Done, Acts, ActsOn, Defines, Ends, Tells, Inserts, Fetches}
+use Rattle.reading_frames.specs.Sees.{IsFetchedAt, kept_list_of}
 use Rattle.plain_machine.specs.States.{no_files}
 use Rattle.engine_state.specs.Book.{with_work}
 use Rattle.engine_state.specs.Stands.{page_of}
@@ -13,7 +13,9 @@ use Rattle.gullet.proofs.CallWeighing.{steps_as_one, free_steps}
 use Rattle.gullet.proofs.Ending.{no_ok, no_on}
 use Rattle.engine_state.proofs.Joining.{same_err, ok_to, ok_both, err_to, column_went}
 use Rattle.engine_state.proofs.CuttingReadings.{column_in, in_by}
+use Rattle.engine_state.proofs.Weighing.{noted_lighter}
 use Rattle.stomach.proofs.RuleAsks.{acts_as, asked_bare, asked_cuts, asked_here, asked_rules, asked_steps, more_taken, none_kept, not_started}
+use Rattle.stomach.proofs.Fetching.{fetchable, fetched_alone}
 use Rattle.stomach.proofs.RuleCloses.{closed_alone, closed_lighter}
 use Rattle.stomach.proofs.RuleHalts.{framed_rules, rules_by}
 use Rattle.stomach.proofs.rules.ask_rule.Goals as goal
@@ -132,6 +134,28 @@ returns-in-Ends-clause-light g c free = let e = c.args.engine.now in let i = c.i
 
 pub returns-in-Ends-clause-step : goal.returns-in-Ends-clause-step
 returns-in-Ends-clause-step g c = let e = c.args.engine.now in let i = c.in-Ends in asked_steps e _ c.requires.uncalled (asked_here e c.args.ask Ends i.is c.requires.asks)
+
+-- A VALUE IS FETCHED
+
+pub fetch-requires : goal.fetch-requires
+fetch-requires g c = let i = c.in-Fetches in record { within = fetchable c.args.engine.now.input.groups i.loc (subst IsFetchedAt i.is c.requires.found) }
+
+pub returns-in-Fetches-clause-rule : goal.returns-in-Fetches-clause-rule
+returns-in-Fetches-clause-rule g c = let e = c.args.engine.now in let e' = c.fetch.new.self in let i = c.in-Fetches in let n = c.fetch.ensures in let s = g.S.Sink.told c.args.out.now in
+    λ sizes f book. asked_rules e e' s s c.args.ask (Fetches i.loc) Free i.is c.requires.stands sizes f (λ b r rs st. fetched_alone e e' i.loc n.stands n.state n.same sizes b r rs f s st) book
+
+pub returns-in-Fetches-clause-light : goal.returns-in-Fetches-clause-light
+returns-in-Fetches-clause-light g c free = let e = c.args.engine.now in let i = c.in-Fetches in let n = c.fetch.ensures in
+    noted_lighter e c.fetch.new.self c.requires.uncalled (n.same.others.call ∙ c.requires.uncalled) n.same.pending (n.weight (asked_bare e c.args.ask (Fetches i.loc) i.is c.requires.asks)) n.count
+
+pub returns-in-Fetches-clause-step : goal.returns-in-Fetches-clause-step
+returns-in-Fetches-clause-step g c = let e = c.args.engine.now in let i = c.in-Fetches in asked_steps e _ c.requires.uncalled (asked_here e c.args.ask (Fetches i.loc) i.is c.requires.asks)
+
+pub returns-in-Fetches-clause-err : goal.returns-in-Fetches-clause-err
+returns-in-Fetches-clause-err g c = tt
+
+pub returns-in-Fetches-clause-idle : goal.returns-in-Fetches-clause-idle
+returns-in-Fetches-clause-idle g c = c.fetch.ensures.same.making ∙ c.requires.idle
 
 -- A READING REPORTS
 

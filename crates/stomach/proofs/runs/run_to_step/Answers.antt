@@ -141,3 +141,9 @@ loop-engine-preserved g c =
           (λ all mid left a b. came_more rs0 l.readers rs e0 l.engine e s0 s 0 all mid left i.tied a b)) j.ensures.rule
           (λ all mid left a b. came_then rs0 rs rs' e0 e e' s0 s s' 0 all mid left a 0 (ruled_free rs rs' e e' s s' mid left j.field-0 c.in-Free.is b)),
     )
+
+pub returns-then-has_token-clause-run : goal.returns-then-has_token-clause-run
+returns-then-has_token-clause-run g c = c.loop-engine.invariant.1
+
+pub returns-then-has_token-clause-knows : goal.returns-then-has_token-clause-knows
+returns-then-has_token-clause-knows g c = λ none tied. c.has_token.ensures.knows c.if-has_token.true c.loop-engine.readers.readers

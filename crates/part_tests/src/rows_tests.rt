@@ -1,0 +1,139 @@
+//! What meanings stand for where a number is read.
+
+use equivalents::{CodeKind, Loc};
+use rows::{Bank, Internal, byte_of, internal_of, is_mu};
+use tex_defs::{Meaning, RegisterKind};
+use tex_syntax::Report;
+
+/// The location of a register.
+fn register(kind: RegisterKind, no: u8) -> Loc {
+    Loc::Register { kind, no }
+}
+
+/// The location for which a meaning stands by itself, if it does.
+fn own_location(meaning: Meaning<()>) -> Option<Loc> {
+    match internal_of(meaning) {
+        Some(Internal::At(loc)) => Some(loc),
+        _ => None,
+    }
+}
+
+/// The location for which a primitive stands with this number behind it, if it does.
+fn numbered_location(primitive: u16, n: u8) -> Option<Loc> {
+    match internal_of(Meaning::Prim(primitive)) {
+        Some(Internal::Numbered(bank)) => Some(bank.location(n)),
+        _ => None,
+    }
+}
+
+/// The first and the last parameters of each kind that is a number, what stands around them, and other meanings.
+const OWN: [(Meaning<()>, Option<Loc>); 12] = [
+    (Meaning::Prim(84), None),
+    (Meaning::Prim(85), Some(Loc::Integer(0))),
+    (Meaning::Prim(139), Some(Loc::Integer(54))),
+    (Meaning::Prim(140), Some(Loc::Dimension(0))),
+    (Meaning::Prim(160), Some(Loc::Dimension(20))),
+    (Meaning::Prim(161), Some(Loc::Glue(0))),
+    (Meaning::Prim(178), Some(Loc::Glue(17))),
+    (Meaning::Prim(179), None),
+    (
+        Meaning::Register {
+            kind: RegisterKind::Dimen,
+            no: 7,
+        },
+        Some(Loc::Register {
+            kind: RegisterKind::Dimen,
+            no: 7,
+        }),
+    ),
+    (
+        Meaning::Register {
+            kind: RegisterKind::Toks,
+            no: 7,
+        },
+        None,
+    ),
+    (Meaning::Undefined, None),
+    (Meaning::Char { cat: 12, code: 48 }, None),
+];
+
+fn stand_there(rows: &[(Meaning<()>, Option<Loc>)]) -> bool {
+    for (meaning, wanted) in rows {
+        if own_location(*meaning) != *wanted {
+            return false;
+        }
+    }
+    true
+}
+
+#[test]
+fn parameters_stand_at_their_places(rt: HostRuntime) {
+    assert!(rt; stand_there(&OWN));
+}
+
+/// The primitives whose names have a number behind them: the tables of codes, and the registers that are numbers.
+const CODES: [(u16, CodeKind); 6] = [
+    (35, CodeKind::Category),
+    (36, CodeKind::Lowercase),
+    (37, CodeKind::Uppercase),
+    (38, CodeKind::SpaceFactor),
+    (39, CodeKind::Math),
+    (40, CodeKind::Delimiter),
+];
+
+const REGISTERS: [(u16, RegisterKind); 4] = [
+    (41, RegisterKind::Count),
+    (42, RegisterKind::Dimen),
+    (43, RegisterKind::Skip),
+    (44, RegisterKind::Muskip),
+];
+
+fn are_numbered(n: u8) -> bool {
+    for (primitive, kind) in &CODES {
+        let wanted = Loc::Code {
+            kind: *kind,
+            code: n,
+        };
+        if numbered_location(*primitive, n) != Some(wanted) {
+            return false;
+        }
+    }
+    for (primitive, kind) in &REGISTERS {
+        if numbered_location(*primitive, n) != Some(register(*kind, n)) {
+            return false;
+        }
+    }
+    numbered_location(34, n).is_none() && numbered_location(45, n).is_none()
+}
+
+#[test]
+fn numbers_stand_behind_names(rt: HostRuntime) {
+    assert!(rt; are_numbered(0) && are_numbered(255));
+}
+
+/// Whether the value of `\chardef` or `\mathchardef` is given.
+fn is_given(meaning: Meaning<()>, n: u16) -> bool {
+    matches!(internal_of(meaning), Some(Internal::Given(found)) if found == n)
+}
+
+#[test]
+fn given_numbers_are_their_own(rt: HostRuntime) {
+    assert!(rt;
+        is_given(Meaning::CharGiven(255), 255) && is_given(Meaning::MathGiven(32767), 32767)
+    );
+}
+
+#[test]
+fn numbers_out_of_range_have_reports(rt: HostRuntime) {
+    let code = Bank::Codes(CodeKind::Math).complaint(256);
+    let register = Bank::Registers(RegisterKind::Muskip).complaint(-1);
+    assert!(rt; code == Report::BadCharacterCode(256) && register == Report::BadRegisterCode(-1));
+    assert!(rt; [byte_of(-1), byte_of(0), byte_of(255), byte_of(256)] == [0, 0, 255, 0]);
+}
+
+#[test]
+fn glue_in_mu_is_told_apart(rt: HostRuntime) {
+    let mu = is_mu(Loc::Glue(15)) && is_mu(register(RegisterKind::Muskip, 0));
+    let other = is_mu(Loc::Glue(14)) || is_mu(register(RegisterKind::Skip, 0));
+    assert!(rt; mu && !other);
+}

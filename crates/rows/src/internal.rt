@@ -1,0 +1,123 @@
+// What a token stands for where a number is read.
+ghost use Rattle.std.specs.Prelude.{◌≡◌, ◌-◌, ◌≤◌, ◌<◌};
+ghost use Rattle.rows.specs.Internal as internal;
+
+use equivalents::{CodeKind, Loc};
+use tex_defs::{Meaning, RegisterKind};
+use tex_syntax::Report;
+
+/// Locations that are told by a number from 0 to 255 behind a name. *The TeXbook*, chapters 7 and 15.
+#[derive(Clone, Copy)]
+pub enum Bank {
+    /// The codes of characters.
+    Codes(CodeKind),
+    Registers(RegisterKind),
+}
+
+/// What a token stands for where a number is read.
+#[derive(Clone, Copy)]
+pub enum Internal {
+    /// This number: a name of `\chardef` or `\mathchardef`.
+    Given(u16),
+    /// What stands at this location: a parameter, or a register by its name.
+    At(Loc),
+    /// What stands at the location of the number behind it.
+    Numbered(Bank),
+}
+
+impl Bank {
+    /// The location of this number.
+    pub fn location(self, n: u8) -> Loc
+        ensures is { result ≡ internal.location_in self n }
+        ensures found { internal.IsFetchable result }
+    {
+        match self {
+            Bank::Codes(kind) => Loc::Code { kind, code: n },
+            Bank::Registers(kind) => Loc::Register { kind, no: n },
+        }
+    }
+
+    /// The report of another number.
+    pub fn complaint(self, n: i32) -> Report
+        ensures { result ≡ internal.bad_number self n }
+    {
+        match self {
+            Bank::Codes(_) => Report::BadCharacterCode(n),
+            Bank::Registers(_) => Report::BadRegisterCode(n),
+        }
+    }
+}
+
+/// A number from 0 to 255; another counts as 0.
+pub fn byte_of(n: i32) -> u8
+    ensures { result ≡ internal.byte_of n }
+{
+    if 0 <= n && n <= 255 { n as u8 } else { 0 }
+}
+
+/// The parameters that are integers, dimensions or glue.
+fn internal_parameter(number: u16) -> Option<Internal>
+    ensures is { result ≡ internal.internal_parameter number }
+    ensures found { internal.IsFound result }
+{
+    let loc = match number {
+        85..=139 => Loc::Integer((number - 85) as u8),
+        140..=160 => Loc::Dimension((number - 140) as u8),
+        161..=178 => Loc::Glue((number - 161) as u8),
+        _ => return None,
+    };
+    Some(Internal::At(loc))
+}
+
+/// What a primitive stands for where a number is read.
+fn internal_primitive(number: u16) -> Option<Internal>
+    ensures is { result ≡ internal.internal_primitive number }
+    ensures found { internal.IsFound result }
+{
+    let bank = match number {
+        35 => Bank::Codes(CodeKind::Category),
+        36 => Bank::Codes(CodeKind::Lowercase),
+        37 => Bank::Codes(CodeKind::Uppercase),
+        38 => Bank::Codes(CodeKind::SpaceFactor),
+        39 => Bank::Codes(CodeKind::Math),
+        40 => Bank::Codes(CodeKind::Delimiter),
+        41 => Bank::Registers(RegisterKind::Count),
+        42 => Bank::Registers(RegisterKind::Dimen),
+        43 => Bank::Registers(RegisterKind::Skip),
+        44 => Bank::Registers(RegisterKind::Muskip),
+        _ => return internal_parameter(number),
+    };
+    Some(Internal::Numbered(bank))
+}
+
+/// What a meaning stands for where a number is read; a list of tokens is no number.
+pub fn internal_of(meaning: Meaning<()>) -> Option<Internal>
+    ensures is { result ≡ internal.internal_of meaning }
+    ensures found { internal.IsFound result }
+{
+    match meaning {
+        Meaning::CharGiven(code) => Some(Internal::Given(u16::from(code))),
+        Meaning::MathGiven(code) => Some(Internal::Given(code)),
+        Meaning::Register {
+            kind: RegisterKind::Toks,
+            no: _,
+        } => None,
+        Meaning::Register { kind, no } => Some(Internal::At(Loc::Register { kind, no })),
+        Meaning::Prim(number) => internal_primitive(number),
+        _ => None,
+    }
+}
+
+/// Whether glue that stands there is in mu.
+pub fn is_mu(loc: Loc) -> bool
+    ensures { result ≡ internal.is_mu loc }
+{
+    match loc {
+        Loc::Register {
+            kind: RegisterKind::Muskip,
+            no: _,
+        } => true,
+        Loc::Glue(i) => i >= 15,
+        _ => false,
+    }
+}
